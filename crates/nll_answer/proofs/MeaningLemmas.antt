@@ -24,11 +24,13 @@ pub same_head : (x y : List ℕ) (xs ys : List (List ℕ)) → x ∷ xs ≡ y �
 same_head x y xs ys e = cc
 
 -- a text has one first line
-pub header_of : (text header : List ℕ) (body : List (List ℕ)) → lines_of text ≡ header ∷ body → IsMir text → IsMirHeader header
+pub header_of : (text header : List ℕ) (body : List (List ℕ)) → lines_of text ≡ header ∷ body → IsMir text
+    → IsMirHeader header
 header_of text header body cut of = subst IsMirHeader (same_head of.0 header of.1 body (sym of.2 ∙ cut)) of.3
 
 -- errors as those of a facts text, of a MIR text and of its body
-pub as_facts : (text : List ℕ) (e : AnswerError) → (IsMir text → ⊥) → IsErrorOf (IsFactsFault text) e → IsAnswerError text e
+pub as_facts : (text : List ℕ) (e : AnswerError) → (IsMir text → ⊥) → IsErrorOf (IsFactsFault text) e
+    → IsAnswerError text e
 as_facts text (Text error) other h = inr (other, h)
 as_facts text (Rule error) other h = absurd h
 as_facts text (Run error) other h = absurd h
@@ -40,7 +42,8 @@ as_mir text (Rule error) of h = absurd h
 as_mir text (Run error) of h = absurd h
 as_mir text Memory of h = tt
 
-pub as_body : (text : List ℕ) (body : BodyText) (e : AnswerError) → IsBodyOf text body → IsBodyError body e → IsAnswerError text e
+pub as_body : (text : List ℕ) (body : BodyText) (e : AnswerError) → IsBodyOf text body → IsBodyError body e
+    → IsAnswerError text e
 as_body text body (Text error) means h = absurd h
 as_body text body (Rule error) means h = (body, means, h)
 as_body text body (Run error) means h = absurd h
@@ -87,7 +90,8 @@ told_err IsFaultAt (Err error) r ok err h =
     subst (λ x. IfErr x (IsErrorOf IsFaultAt)) (sym err) (text_error IsFaultAt error h (error_of_text error) refl)
 
 -- the error of a body, as an answer tells it
-pub body_error : (body : BodyText) (error : RuleError) (told : AnswerError) → told ≡ error_of_body error → IsRuleError body error → IsBodyError body told
+pub body_error : (body : BodyText) (error : RuleError) (told : AnswerError) → told ≡ error_of_body error
+    → IsRuleError body error → IsBodyError body told
 body_error body error told is h = subst (IsBodyError body) (sym is) (as_told error h)
   where
     as_told : (e : RuleError) → IsRuleError body e → IsBodyError body (error_of_body e)
@@ -102,18 +106,25 @@ module _ {F : Type 0} (problem_in : F → Problem) (labels_in : F → Labels) (b
   abbrev IsUnlabelled : Result Problem RuleError → Result F AnswerError → Type 0
   IsUnlabelled made r = IfErr made (λ e. r ≡ Err (error_of_body e))
 
-  pub labelled_ok : (made : Result Problem RuleError) (r : Result F AnswerError) → IsLabelled made r → IsUnlabelled made r
-      → IfOk made (IsProblemOf body) → IfOk made (λ _. HasTooMany body → ⊥) → IfOk r (λ f. HasProblem body (problem_in f) (labels_in f))
-  labelled_ok (Ok q) (Ok f) ok err is few = record { problem = subst (IsProblemOf body) (sym ok.0) is; few = few; labels = ok.1 }
+  pub labelled_ok : (made : Result Problem RuleError) (r : Result F AnswerError) → IsLabelled made r
+      → IsUnlabelled made r
+      → IfOk made (IsProblemOf body) → IfOk made (λ _. HasTooMany body → ⊥)
+      → IfOk r (λ f. HasProblem body (problem_in f) (labels_in f))
+  labelled_ok (Ok q) (Ok f) ok err is few =
+      record { problem = subst (IsProblemOf body) (sym ok.0) is; few = few; labels = ok.1 }
   labelled_ok (Ok q) (Err e) ok err is few = tt
-  labelled_ok (Err e) r ok err is few = subst (λ x. IfOk x (λ f. HasProblem body (problem_in f) (labels_in f))) (sym err) tt
+  labelled_ok (Err e) r ok err is few =
+      subst (λ x. IfOk x (λ f. HasProblem body (problem_in f) (labels_in f))) (sym err) tt
 
-  pub labelled_err : (made : Result Problem RuleError) (r : Result F AnswerError) → IsLabelled made r → IsUnlabelled made r
+  pub labelled_err : (made : Result Problem RuleError) (r : Result F AnswerError) → IsLabelled made r
+      → IsUnlabelled made r
       → IfErr made (IsRuleError body) → IfErr r (IsBodyError body)
   labelled_err (Ok q) (Ok f) ok err h = tt
   labelled_err (Ok q) (Err e) ok err h = absurd ok
-  labelled_err (Err e) r ok err h = subst (λ x. IfErr x (IsBodyError body)) (sym err) (body_error body e (error_of_body e) refl h)
+  labelled_err (Err e) r ok err h =
+      subst (λ x. IfErr x (IsBodyError body)) (sym err) (body_error body e (error_of_body e) refl h)
 
 -- the labels of a body name each region of its problem
-pub named : (body : BodyText) (q : Problem) (labels : Labels) → HasProblem body q labels → length labels.names ≡ q.regions
+pub named : (body : BodyText) (q : Problem) (labels : Labels) → HasProblem body q labels
+    → length labels.names ≡ q.regions
 named body q labels h = ap (λ (l : Labels). length l.names) h.labels ∙ sym h.problem.regions

@@ -45,7 +45,8 @@ later x xs b h = (suc h.0, omega (arith, h.1), h.2)
 kept : (ks xs : List ℕ) (b : ℕ) → Contains (fold (λ ys y. put ys y) ks xs) b → Contains ks b ⊎ Contains xs b
 kept ks [] b h = inl h
 kept ks (x ∷ xs) b h = ⊎_elim
-    (λ there. ⊎_elim inl (λ is. inr (subst (λ y. Contains (y ∷ xs) b) (sym is) (here b xs))) (((adds_number ks x).each b).0 there))
+    (λ there. ⊎_elim inl (λ is. inr (subst (λ y. Contains (y ∷ xs) b) (sym is) (here b xs)))
+    (((adds_number ks x).each b).0 there))
     (λ more. inr (later x xs b more))
     (kept (put ks x) xs b h)
 
@@ -53,8 +54,11 @@ kept ks (x ∷ xs) b h = ⊎_elim
 once_push : (front : List ℕ) (b : ℕ) → once (front ++ b ∷ []) ≡ put (once front) b
 once_push front b = fold-append (λ ys y. put ys y) [] front (b ∷ [])
 
-pub once_more : (front : List ℕ) (b : ℕ) → (Contains front b → ⊥) → length (once (front ++ b ∷ [])) ≡ length (once front) + 1
-once_more front b absent = rw (once_push front b) ((adds_number (once front) b).counted (λ h. ⊎_elim (λ none. none_there none) absent (kept [] front b h)))
+pub once_more : (front : List ℕ) (b : ℕ) → (Contains front b → ⊥)
+    → length (once (front ++ b ∷ [])) ≡ length (once front) + 1
+once_more front b absent =
+    rw (once_push front b) ((adds_number (once front) b).counted
+    (λ h. ⊎_elim (λ none. none_there none) absent (kept [] front b h)))
   where
     none_there : Contains [] b → ⊥
     none_there h = absurd (omega (arith, h.1))
@@ -87,12 +91,17 @@ pub pair : (a c d e : ℕ) → a ≡ d → c ≡ e → ◌≡◌ {A = ℕ × ℕ
 pair a c d e h k = cc
 
 -- the edge to one more block
-pub targets_step : (starts : List ℕ) (p : ℕ) (front : List ℕ) (b q : ℕ) (old mid new : Graph) → AddsTargets starts p front old mid → AddsFact mid.edges new.edges (p, q) → new ≡ record mid { edges = new.edges } → slice_get starts b ≡ Some q → AddsTargets starts p (front ++ b ∷ []) old new
+pub targets_step : (starts : List ℕ) (p : ℕ) (front : List ℕ) (b q : ℕ) (old mid new : Graph)
+    → AddsTargets starts p front old mid → AddsFact mid.edges new.edges (p, q) → new ≡ record mid { edges = new.edges }
+    → slice_get starts b ≡ Some q → AddsTargets starts p (front ++ b ∷ []) old new
 targets_step starts p front b q old mid new before adds same at = record {
   others = same ∙ ap (λ (g : Graph). record g { edges = new.edges }) before.others;
   next = λ r s. (
     λ h. ⊎_elim
-        (λ there. ⊎_elim inl (λ led. inr (led.0, (led.1.0, Contains-append_left front (b ∷ []) led.1.0 led.1.1, led.1.2))) ((before.next r s).0 there))
+        (λ there. ⊎_elim inl (λ led. inr (
+          led.0,
+          (led.1.0, Contains-append_left front (b ∷ []) led.1.0 led.1.1, led.1.2),
+        )) ((before.next r s).0 there))
         (λ is. inr (pair_left p q r s is, (b, Contains-push front b, at ∙ ap Some (pair_right p q r s is))))
         ((adds.each (r, s)).0 h),
     λ h. (adds.each (r, s)).1 (⊎_elim
@@ -106,35 +115,64 @@ targets_step starts p front b q old mid new before adds same at = record {
   counted = by (list_any (λ c. nat_eq b c) front) refl;
 }
   where
-    by : (t : Bool) → list_any (λ c. nat_eq b c) front ≡ t → length new.edges ≤ length old.edges + length (once (front ++ b ∷ []))
+    by : (t : Bool) → list_any (λ c. nat_eq b c) front ≡ t
+        → length new.edges ≤ length old.edges + length (once (front ++ b ∷ []))
     by true h =
         let there : IsNext mid p q = (before.next p q).1 (inr (refl, (b, (number_found front b).0 h, at))) in
         rw (adds.repeated there) (omega (arith, before.counted, once_less front b))
-    by false h = omega (arith, before.counted, one_more mid.edges new.edges (p, q) adds, once_more front b (λ n. false≢true (sym h ∙ (number_found front b).1 n)))
+    by false h =
+        omega (
+          arith,
+          before.counted,
+          one_more mid.edges new.edges (p, q) adds,
+          once_more front b (λ n. false≢true (sym h ∙ (number_found front b).1 n)),
+        )
 
 -- there is room for the edge to one more block
-pub targets_room : (starts : List ℕ) (p : ℕ) (front back : List ℕ) (b q : ℕ) (old mid : Graph) → AddsTargets starts p front old mid → slice_get starts b ≡ Some q → length old.edges + length (once ((front ++ b ∷ []) ++ back)) ≤ most_edges → (IsNext mid p q → ⊥) → length mid.edges < most_edges
+pub targets_room : (starts : List ℕ) (p : ℕ) (front back : List ℕ) (b q : ℕ) (old mid : Graph)
+    → AddsTargets starts p front old mid → slice_get starts b ≡ Some q
+    → length old.edges + length (once ((front ++ b ∷ []) ++ back)) ≤ most_edges → (IsNext mid p q → ⊥)
+    → length mid.edges < most_edges
 targets_room starts p front back b q old mid before at room absent =
-    omega (arith, room, before.counted, once_front (front ++ b ∷ []) back, once_more front b (λ h. absent ((before.next p q).1 (inr (refl, (b, h, at))))))
+    omega (
+      arith,
+      room,
+      before.counted,
+      once_front (front ++ b ∷ []) back,
+      once_more front b (λ h. absent ((before.next p q).1 (inr (refl, (b, h, at))))),
+    )
 
 -- what stands at a place of a list is in it
 pub item_in : (xs : List ℕ) (k : ℕ) → k < length xs → Contains xs (get_or xs k 0)
 item_in xs k within = (k, within, get_or_default xs k (get_or xs k 0) 0 within)
 
 -- a loop over the blocks: the first point of the next one
-pub next_led : (starts blocks : List ℕ) (k : ℕ) → k < length blocks → get_or blocks k 0 < length starts → LeadsTo starts blocks (get_or starts (get_or blocks k 0) 0)
-next_led starts blocks k within start = (get_or blocks k 0, item_in blocks k within, slice_get-get_or starts (get_or blocks k 0) 0 start)
+pub next_led : (starts blocks : List ℕ) (k : ℕ) → k < length blocks → get_or blocks k 0 < length starts
+    → LeadsTo starts blocks (get_or starts (get_or blocks k 0) 0)
+next_led starts blocks k within start =
+    (get_or blocks k 0, item_in blocks k within, slice_get-get_or starts (get_or blocks k 0) 0 start)
 
 -- and its edge
-pub next_room : (starts : List ℕ) (p : ℕ) (blocks : List ℕ) (k : ℕ) (old mid : Graph) → k < length blocks → get_or blocks k 0 < length starts → AddsTargets starts p (take k blocks) old mid → length old.edges + length (once blocks) ≤ most_edges → (IsNext mid p (get_or starts (get_or blocks k 0) 0) → ⊥) → length mid.edges < most_edges
+pub next_room : (starts : List ℕ) (p : ℕ) (blocks : List ℕ) (k : ℕ) (old mid : Graph) → k < length blocks
+    → get_or blocks k 0 < length starts → AddsTargets starts p (take k blocks) old mid
+    → length old.edges + length (once blocks) ≤ most_edges → (IsNext mid p (get_or starts (get_or blocks k 0) 0) → ⊥)
+    → length mid.edges < most_edges
 next_room starts p blocks k old mid within start before room =
-    targets_room starts p (take k blocks) (drop (k + 1) blocks) (get_or blocks k 0) (get_or starts (get_or blocks k 0) 0) old mid before (slice_get-get_or starts (get_or blocks k 0) 0 start)
-    (subst (λ (xs : List ℕ). length old.edges + length (once xs) ≤ most_edges) (sym (ap (λ (xs : List ℕ). xs ++ drop (k + 1) blocks) (sym (take_more blocks k 0 within)) ∙ take-append-drop (k + 1) blocks)) room)
+    targets_room starts p (take k blocks) (drop (k + 1) blocks) (get_or blocks k 0)
+    (get_or starts (get_or blocks k 0) 0) old mid before (slice_get-get_or starts (get_or blocks k 0) 0 start)
+    (subst (λ (xs : List ℕ). length old.edges + length (once xs) ≤ most_edges)
+    (sym (ap (λ (xs : List ℕ). xs ++ drop (k + 1) blocks) (sym (take_more blocks k 0 within))
+    ∙ take-append-drop (k + 1) blocks)) room)
 
-pub next_step : (starts : List ℕ) (p : ℕ) (blocks : List ℕ) (k : ℕ) (old mid new : Graph) → k < length blocks → get_or blocks k 0 < length starts → AddsTargets starts p (take k blocks) old mid → AddsFact mid.edges new.edges (p, get_or starts (get_or blocks k 0) 0) → new ≡ record mid { edges = new.edges } → AddsTargets starts p (take (k + 1) blocks) old new
+pub next_step : (starts : List ℕ) (p : ℕ) (blocks : List ℕ) (k : ℕ) (old mid new : Graph) → k < length blocks
+    → get_or blocks k 0 < length starts → AddsTargets starts p (take k blocks) old mid
+    → AddsFact mid.edges new.edges (p, get_or starts (get_or blocks k 0) 0) → new ≡ record mid { edges = new.edges }
+    → AddsTargets starts p (take (k + 1) blocks) old new
 next_step starts p blocks k old mid new within start before adds same =
     subst (λ (xs : List ℕ). AddsTargets starts p xs old new) (sym (take_more blocks k 0 within))
-    (targets_step starts p (take k blocks) (get_or blocks k 0) (get_or starts (get_or blocks k 0) 0) old mid new before adds same (slice_get-get_or starts (get_or blocks k 0) 0 start))
+    (targets_step starts p (take k blocks) (get_or blocks k 0)
+    (get_or starts (get_or blocks k 0) 0) old mid new before adds same
+    (slice_get-get_or starts (get_or blocks k 0) 0 start))
 
 -- no target yet
 pub targets_none : (starts : List ℕ) (p : ℕ) (g : Graph) → AddsTargets starts p [] g g

@@ -6,11 +6,13 @@ use Rattle.nll_types.specs.Operands.{Operand}
 use Rattle.nll_statements.specs.Statements.{Statement, map_statement, return, assign, borrow, make, read, live, dead, nop, goto, switch, drop, call, stop}
 use Rattle.nll_statements.specs.Effects.{operands_of, place_in, is_projected, variables_used, defined, dropped}
 
-operands_same : {T U : Type 0} (g : T → U) (args : List (Operand × T)) → operands_of (map (λ a. (a.0, g a.1)) args) ≡ operands_of args
+operands_same : {T U : Type 0} (g : T → U) (args : List (Operand × T))
+    → operands_of (map (λ a. (a.0, g a.1)) args) ≡ operands_of args
 operands_same g [] = refl
 operands_same g (a ∷ args) = ap (λ (ops : List Operand). a.0 ∷ ops) (operands_same g args)
 
-pub same_used : {R S T U : Type 0} (f : R → S) (g : T → U) (i : Statement R T) → variables_used (map_statement f g i) ≡ variables_used i
+pub same_used : {R S T U : Type 0} (f : R → S) (g : T → U) (i : Statement R T)
+    → variables_used (map_statement f g i) ≡ variables_used i
 same_used f g (assign p op) = refl
 same_used f g (borrow p r m q) = refl
 same_used f g (make p t ops) = refl
@@ -21,11 +23,14 @@ same_used f g nop = refl
 same_used f g (goto b) = refl
 same_used f g (switch op bs) = refl
 same_used f g (drop x b unwind) = refl
-same_used f g (call p args t wheres b unwind) = ap (λ (ops : List Operand). map (λ q. q.variable) (flat_map place_in ops ++ filter is_projected (p ∷ []))) (operands_same g args)
+same_used f g (call p args t wheres b unwind) =
+    ap (λ (ops : List Operand). map (λ q. q.variable) (flat_map place_in ops ++ filter is_projected (p ∷ [])))
+    (operands_same g args)
 same_used f g return = refl
 same_used f g stop = refl
 
-pub same_defined : {R S T U : Type 0} (f : R → S) (g : T → U) (i : Statement R T) → defined (map_statement f g i) ≡ defined i
+pub same_defined : {R S T U : Type 0} (f : R → S) (g : T → U) (i : Statement R T)
+    → defined (map_statement f g i) ≡ defined i
 same_defined f g (assign p op) = refl
 same_defined f g (borrow p r m q) = refl
 same_defined f g (make p t ops) = refl
@@ -40,7 +45,8 @@ same_defined f g (call p args t wheres b unwind) = refl
 same_defined f g return = refl
 same_defined f g stop = refl
 
-pub same_dropped : {R S T U : Type 0} (f : R → S) (g : T → U) (i : Statement R T) → dropped (map_statement f g i) ≡ dropped i
+pub same_dropped : {R S T U : Type 0} (f : R → S) (g : T → U) (i : Statement R T)
+    → dropped (map_statement f g i) ≡ dropped i
 same_dropped f g (assign p op) = refl
 same_dropped f g (borrow p r m q) = refl
 same_dropped f g (make p t ops) = refl

@@ -20,7 +20,8 @@ none_there : {X : Type 0} (x : X) → Contains [] x → ⊥
 none_there x h = absurd (omega (arith, h.1))
 
 -- nothing yet
-pub points_none : (starts : List ℕ) (count : ℕ) (stand : List (Statement ℕ TypeTree)) → HasPoints starts count stand 0 (bare_graph (length stand) count)
+pub points_none : (starts : List ℕ) (count : ℕ) (stand : List (Statement ℕ TypeTree))
+    → HasPoints starts count stand 0 (bare_graph (length stand) count)
 points_none starts count stand = record {
   points = refl;
   universals = refl;
@@ -33,14 +34,21 @@ some_same : (i j : Statement ℕ TypeTree) → Some i ≡ Some j → i ≡ j
 some_same i j h = cc
 
 -- one point more
-pub points_step : (starts : List ℕ) (count : ℕ) (stand : List (Statement ℕ TypeTree)) (k : ℕ) (i : Statement ℕ TypeTree) (old new : Graph) → HasPoints starts count stand k old → slice_get stand k ≡ Some i → AddsPoint starts k i old new → HasPoints starts count stand (k + 1) new
+pub points_step : (starts : List ℕ) (count : ℕ) (stand : List (Statement ℕ TypeTree)) (k : ℕ) (i : Statement ℕ TypeTree)
+    (old new : Graph) → HasPoints starts count stand k old → slice_get stand k ≡ Some i → AddsPoint starts k i old new
+    → HasPoints starts count stand (k + 1) new
 points_step starts count stand k i old new has at adds = record {
   points = adds.points ∙ has.points;
   universals = adds.universals ∙ has.universals;
   next = λ p q. (
     λ h. ⊎_elim
         (λ there. let before = (has.next p q).0 there in (omega (arith, before.0), before.1, before.2, before.3))
-        (λ here. (omega (arith, here.0), i, ap (slice_get stand) here.0 ∙ at, subst (λ r. LeavesTo starts r i q) (sym here.0) here.1))
+        (λ here. (
+          omega (arith, here.0),
+          i,
+          ap (slice_get stand) here.0 ∙ at,
+          subst (λ r. LeavesTo starts r i q) (sym here.0) here.1,
+        ))
         ((adds.next p q).0 h),
     λ h. (adds.next p q).1 (⊎_elim
         (λ low. inl ((has.next p q).1 (low, h.1, h.2, h.3)))
@@ -69,14 +77,17 @@ points_step starts count stand k i old new has at adds = record {
 }
 
 -- there is room for the edges of one point more
-pub points_room : (starts : List ℕ) (count : ℕ) (stand : List (Statement ℕ TypeTree)) (k : ℕ) (i : Statement ℕ TypeTree) (old : Graph) → HasPoints starts count stand k old → slice_get stand k ≡ Some i → edge_count stand ≤ most_edges → length old.edges + edges_from i ≤ most_edges
+pub points_room : (starts : List ℕ) (count : ℕ) (stand : List (Statement ℕ TypeTree)) (k : ℕ) (i : Statement ℕ TypeTree)
+    (old : Graph) → HasPoints starts count stand k old → slice_get stand k ≡ Some i → edge_count stand ≤ most_edges
+    → length old.edges + edges_from i ≤ most_edges
 points_room starts count stand k i old has at room =
     let more = sum_by_more_le edges_from stand k i (slice_get_within stand k i at) in
     let last : get_or stand k i ≡ i = get_or_from_slice_get stand k i i at in
     omega (arith, has.counted, more, ap edges_from last, room)
 
 -- the graph after all points is the body's
-pub graph_shown : (body : BodyText) (graph : Graph) → HasPoints body.starts body.universals body.points (length body.points) graph → IsGraphOf body graph
+pub graph_shown : (body : BodyText) (graph : Graph)
+    → HasPoints body.starts body.universals body.points (length body.points) graph → IsGraphOf body graph
 graph_shown body graph has = record {
   points = has.points;
   universals = has.universals;
@@ -91,9 +102,12 @@ graph_shown body graph has = record {
 }
 
 -- what stands at a point of the code stands there as it is meant
-pub stands : (points : List (Kept ℕ Ty)) (k : ℕ) (x : Kept ℕ Ty) → k < length points → x ≡ get_or points k x → slice_get (map meant points) k ≡ Some (meant x)
-stands points k x within is = slice_get-map meant points k ∙ ap (option_map meant) (slice_get_read points (length points) k x refl within is)
+pub stands : (points : List (Kept ℕ Ty)) (k : ℕ) (x : Kept ℕ Ty) → k < length points → x ≡ get_or points k x
+    → slice_get (map meant points) k ≡ Some (meant x)
+stands points k x within is = slice_get-map meant points k
+    ∙ ap (option_map meant) (slice_get_read points (length points) k x refl within is)
 
 -- and nothing else does
-pub stands_alone : (points : List (Kept ℕ Ty)) (k : ℕ) (x : Kept ℕ Ty) (i : Statement ℕ TypeTree) → k < length points → x ≡ get_or points k x → slice_get (map meant points) k ≡ Some i → meant x ≡ i
+pub stands_alone : (points : List (Kept ℕ Ty)) (k : ℕ) (x : Kept ℕ Ty) (i : Statement ℕ TypeTree) → k < length points
+    → x ≡ get_or points k x → slice_get (map meant points) k ≡ Some i → meant x ≡ i
 stands_alone points k x i within is at = some_same (meant x) i (sym (stands points k x within is) ∙ at)

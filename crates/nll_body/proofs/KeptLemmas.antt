@@ -17,19 +17,33 @@ use Rattle.nll_body.specs.Kept.{kept_body, IsKept}
 use Rattle.nll_body.specs.Sound.{IsSound}
 use Rattle.nll_body.specs.Views.{meant}
 
-module _ (names : List (List ℕ)) (universals : ℕ) (outlives asserts : List (ℕ × ℕ)) (structs : List Declaration) (variables : List Ty) (starts : List ℕ) (points : List (Kept ℕ Ty)) where
+module _ (names : List (List ℕ)) (universals : ℕ) (outlives asserts : List (ℕ × ℕ)) (structs : List Declaration)
+    (variables : List Ty) (starts : List ℕ) (points : List (Kept ℕ Ty)) where
   -- the body of these parts
   abbrev made : BodyText
-  made = record { names = names; universals = universals; outlives = outlives; asserts = asserts; structs = structs_of structs; variables = map tree variables; starts = starts; points = map meant points }
+  made = record {
+    names = names;
+    universals = universals;
+    outlives = outlives;
+    asserts = asserts;
+    structs = structs_of structs;
+    variables = map tree variables;
+    starts = starts;
+    points = map meant points;
+  }
 
-  pub kept_same : (labels : Labels) (graph : Graph) → labels ≡ record { names = names; points = blocks starts } → graph.universals ≡ universals → kept_body labels outlives asserts structs variables points graph ≡ made
+  pub kept_same : (labels : Labels) (graph : Graph) → labels ≡ record { names = names; points = blocks starts }
+      → graph.universals ≡ universals → kept_body labels outlives asserts structs variables points graph ≡ made
   kept_same labels graph named count =
       ap (λ (l : Labels). kept_body l outlives asserts structs variables points graph) named
       ∙ ap (λ (n : ℕ). record made { universals = n }) count
 
-  pub kept_made : (labels : Labels) (graph : Graph) → labels ≡ record { names = names; points = blocks starts } → IsGraphOf made graph → IsSound made → IsKept (kept_body labels outlives asserts structs variables points graph) labels graph
+  pub kept_made : (labels : Labels) (graph : Graph) → labels ≡ record { names = names; points = blocks starts }
+      → IsGraphOf made graph → IsSound made
+      → IsKept (kept_body labels outlives asserts structs variables points graph) labels graph
   kept_made labels graph named shown sound =
-      subst (λ (b : BodyText). IsKept b labels graph) (sym (kept_same labels graph named shown.universals)) (record { named = named; shown = shown; sound = sound })
+      subst (λ (b : BodyText). IsKept b labels graph) (sym (kept_same labels graph named shown.universals))
+      (record { named = named; shown = shown; sound = sound })
 
 -- ---- types of variables
 
@@ -41,11 +55,19 @@ pub one_type : (body : BodyText) (x : ℕ) (t u : TypeTree) → HasType body x t
 one_type body x t u h k = some_same t u (sym h ∙ k)
 
 -- it keeps to what is declared
-pub good_type : (body : BodyText) → IsSound body → (x : ℕ) (t : TypeTree) → HasType body x t → IsWellFormed body.structs (length body.names) 0 t
-good_type body sound x t h = subst (IsWellFormed body.structs (length body.names) 0) (get_or_from_slice_get body.variables x t t h) (sound.types x t (slice_get_within body.variables x t h))
+pub good_type : (body : BodyText) → IsSound body → (x : ℕ) (t : TypeTree) → HasType body x t
+    → IsWellFormed body.structs (length body.names) 0 t
+good_type body sound x t h =
+    subst (IsWellFormed body.structs (length body.names) 0) (get_or_from_slice_get body.variables x t t h)
+    (sound.types x t (slice_get_within body.variables x t h))
 
 -- a type of the code is that of its variable
-pub typed : (labels : Labels) (outlives asserts : List (ℕ × ℕ)) (structs : List Declaration) (variables : List Ty) (points : List (Kept ℕ Ty)) (graph : Graph) (body : BodyText) → kept_body labels outlives asserts structs variables points graph ≡ body → (x : ℕ) (t : Ty) → x < length body.variables → t ≡ get_or variables x t → HasType body x (tree t)
+pub typed : (labels : Labels) (outlives asserts : List (ℕ × ℕ)) (structs : List Declaration) (variables : List Ty)
+    (points : List (Kept ℕ Ty)) (graph : Graph) (body : BodyText)
+    → kept_body labels outlives asserts structs variables points graph ≡ body → (x : ℕ) (t : Ty)
+    → x < length body.variables → t ≡ get_or variables x t → HasType body x (tree t)
 typed labels outlives asserts structs variables points graph body is x t within at =
     let low : x < length (map tree variables) = subst (λ (b : BodyText). x < length b.variables) (sym is) within in
-    subst (λ b. HasType b x (tree t)) is (slice_get-map tree variables x ∙ ap (option_map tree) (slice_get_read variables (length variables) x t refl (omega (arith, low, length-map variables tree)) at))
+    subst (λ b. HasType b x (tree t)) is
+    (slice_get-map tree variables x ∙ ap (option_map tree)
+    (slice_get_read variables (length variables) x t refl (omega (arith, low, length-map variables tree)) at))

@@ -16,7 +16,8 @@ use Rattle.nll_body.specs.Views.{meant}
 use Rattle.nll_body.proofs.EdgeLemmas.{one_more, pair, pair_left, pair_right}
 
 -- other regions and types leave the end of a block as it is
-pub same_end : {R S T U : Type 0} (f : R → S) (g : T → U) (i : Statement R T) → is_terminator (map_statement f g i) ≡ is_terminator i
+pub same_end : {R S T U : Type 0} (f : R → S) (g : T → U) (i : Statement R T)
+    → is_terminator (map_statement f g i) ≡ is_terminator i
 same_end f g (assign p op) = refl
 same_end f g (borrow p r m q) = refl
 same_end f g (make p t ops) = refl
@@ -32,7 +33,8 @@ same_end f g return = refl
 same_end f g stop = refl
 
 -- and its targets
-pub same_targets : {R S T U : Type 0} (f : R → S) (g : T → U) (i : Statement R T) → targets (map_statement f g i) ≡ targets i
+pub same_targets : {R S T U : Type 0} (f : R → S) (g : T → U) (i : Statement R T)
+    → targets (map_statement f g i) ≡ targets i
 same_targets f g (assign p op) = refl
 same_targets f g (borrow p r m q) = refl
 same_targets f g (make p t ops) = refl
@@ -70,11 +72,13 @@ nowhere starts q led = none_there led.1
     none_there h = absurd (omega (arith, h.1))
 
 -- the edge behind a statement
-pub statement_edge : (starts : List ℕ) (p : ℕ) (i : Statement ℕ TypeTree) (old new : Graph) → is_terminator i ≡ false → AddsFact old.edges new.edges (p, p + 1) → new ≡ record old { edges = new.edges } → AddsEdges starts p i old new
+pub statement_edge : (starts : List ℕ) (p : ℕ) (i : Statement ℕ TypeTree) (old new : Graph) → is_terminator i ≡ false
+    → AddsFact old.edges new.edges (p, p + 1) → new ≡ record old { edges = new.edges } → AddsEdges starts p i old new
 statement_edge starts p i old new plain adds same = record {
   others = same;
   next = λ r q. (
-    λ h. ⊎_elim inl (λ is. inr (pair_left p (p + 1) r q is, inl (plain, sym (pair_right p (p + 1) r q is)))) ((adds.each (r, q)).0 h),
+    λ h. ⊎_elim inl (λ is. inr (pair_left p (p + 1) r q is, inl (plain, sym (pair_right p (p + 1) r q is))))
+        ((adds.each (r, q)).0 h),
     λ h. (adds.each (r, q)).1 (⊎_elim inl (λ leaves. inr (⊎_elim
         (λ behind. pair p (p + 1) r q (sym leaves.0) (sym behind.1))
         (λ led. absurd (nowhere starts q (subst (λ bs. LeadsTo starts bs q) (no_targets i plain) led)))
@@ -84,7 +88,8 @@ statement_edge starts p i old new plain adds same = record {
 }
 
 -- the edges behind a terminator
-pub terminator_edges : (starts : List ℕ) (p : ℕ) (i : Statement ℕ TypeTree) (old new : Graph) → is_terminator i ≡ true → AddsTargets starts p (targets i) old new → AddsEdges starts p i old new
+pub terminator_edges : (starts : List ℕ) (p : ℕ) (i : Statement ℕ TypeTree) (old new : Graph) → is_terminator i ≡ true
+    → AddsTargets starts p (targets i) old new → AddsEdges starts p i old new
 terminator_edges starts p i old new ends adds = record {
   others = adds.others;
   next = λ r q. (
@@ -98,7 +103,9 @@ terminator_edges starts p i old new ends adds = record {
 }
 
 -- a return point
-pub return_point : (starts : List ℕ) (p : ℕ) (i : Statement ℕ TypeTree) (old mid new : Graph) → AddsEdges starts p i old mid → i ≡ return → AddsFact mid.returns new.returns p → new ≡ record mid { returns = new.returns } → AddsPoint starts p i old new
+pub return_point : (starts : List ℕ) (p : ℕ) (i : Statement ℕ TypeTree) (old mid new : Graph)
+    → AddsEdges starts p i old mid → i ≡ return → AddsFact mid.returns new.returns p
+    → new ≡ record mid { returns = new.returns } → AddsPoint starts p i old new
 return_point starts p i old mid new adds is returned same =
     let edges : new.edges ≡ mid.edges = ap (λ (g : Graph). g.edges) same in
     let before : mid.returns ≡ old.returns = ap (λ (g : Graph). g.returns) adds.others in
@@ -107,14 +114,17 @@ return_point starts p i old mid new adds is returned same =
       universals = ap (λ (g : Graph). g.universals) same ∙ ap (λ (g : Graph). g.universals) adds.others;
       next = λ r q. rw edges (adds.next r q);
       returns = λ r. (
-        λ h. ⊎_elim (λ there. inl (subst (λ xs. Contains xs r) before there)) (λ here. inr (sym here, is)) ((returned.each r).0 h),
-        λ h. (returned.each r).1 (⊎_elim (λ there. inl (subst (λ xs. Contains xs r) (sym before) there)) (λ here. inr (sym here.0)) h),
+        λ h. ⊎_elim (λ there. inl (subst (λ xs. Contains xs r) before there)) (λ here. inr (sym here, is))
+            ((returned.each r).0 h),
+        λ h. (returned.each r).1 (⊎_elim (λ there. inl (subst (λ xs. Contains xs r) (sym before) there))
+            (λ here. inr (sym here.0)) h),
       );
       counted = rw edges adds.counted;
     }
 
 -- any other point
-pub other_point : (starts : List ℕ) (p : ℕ) (i : Statement ℕ TypeTree) (old new : Graph) → AddsEdges starts p i old new → (i ≡ return → ⊥) → AddsPoint starts p i old new
+pub other_point : (starts : List ℕ) (p : ℕ) (i : Statement ℕ TypeTree) (old new : Graph) → AddsEdges starts p i old new
+    → (i ≡ return → ⊥) → AddsPoint starts p i old new
 other_point starts p i old new adds isnt =
     let before : new.returns ≡ old.returns = ap (λ (g : Graph). g.returns) adds.others in
     record {
@@ -129,5 +139,7 @@ other_point starts p i old new adds isnt =
     }
 
 -- the targets, put into an empty list
-pub targets_listed : (i : Kept ℕ Ty) (empty filled listed : List ℕ) → listed ≡ filled → filled ≡ empty ++ targets (statement_of i) → empty ≡ [] → listed ≡ targets (meant i)
-targets_listed i empty filled listed same put none = same ∙ put ∙ ap (λ (xs : List ℕ). xs ++ targets (statement_of i)) none ∙ sym (same_targets (λ r. r) tree (statement_of i))
+pub targets_listed : (i : Kept ℕ Ty) (empty filled listed : List ℕ) → listed ≡ filled
+    → filled ≡ empty ++ targets (statement_of i) → empty ≡ [] → listed ≡ targets (meant i)
+targets_listed i empty filled listed same put none = same ∙ put
+    ∙ ap (λ (xs : List ℕ). xs ++ targets (statement_of i)) none ∙ sym (same_targets (λ r. r) tree (statement_of i))

@@ -11,7 +11,8 @@ use Rattle.nll_types.specs.declared.place.Projection.TheVariants.{Field}
 use Rattle.nll_types.proofs.WellFormedLemmas.{well_formed_at, place_good}
 
 mutual
-  pub region_within : (structs : List Struct) (n : ℕ) (t : TypeTree) → IsWellFormed structs n 0 t → (r : ℕ) → HasRegion t r → r < n
+  pub region_within : (structs : List Struct) (n : ℕ) (t : TypeTree) → IsWellFormed structs n 0 t → (r : ℕ)
+      → HasRegion t r → r < n
   region_within structs n int w r h = absurd h
   region_within structs n (parameter k) w r h = absurd h
   region_within structs n (reference q m t) w r (inl h) = subst (λ x. x < n) h w.0
@@ -22,15 +23,18 @@ mutual
   region_within structs n (function ts t) w r (inl h) = any_within structs n ts w.0 r h
   region_within structs n (function ts t) w r (inr h) = region_within structs n t w.1 r h
 
-  any_within : (structs : List Struct) (n : ℕ) (ts : TypeTrees) → AreWellFormed structs n 0 ts → (r : ℕ) → AnyHasRegion ts r → r < n
+  any_within : (structs : List Struct) (n : ℕ) (ts : TypeTrees) → AreWellFormed structs n 0 ts → (r : ℕ)
+      → AnyHasRegion ts r → r < n
   any_within structs n none w r h = absurd h
   any_within structs n (more t ts) w r (inl h) = region_within structs n t w.0 r h
   any_within structs n (more t ts) w r (inr h) = any_within structs n ts w.1 r h
 
 module _ (structs : List Struct) (order : AreInOrder structs) (n : ℕ) (some : 0 < n) where
-  pub part_good : (t u : TypeTree) (k : ℕ) → IsWellFormed structs n 0 t → behind structs (Field k) t ≡ Some u → IsWellFormed structs n 0 u
+  pub part_good : (t u : TypeTree) (k : ℕ) → IsWellFormed structs n 0 t → behind structs (Field k) t ≡ Some u
+      → IsWellFormed structs n 0 u
   part_good t u k w h =
-      place_good structs order n 0 some (t ∷ []) (All-cons (IsWellFormed structs n 0) t [] w (All-nil (IsWellFormed structs n 0)))
+      place_good structs order n 0 some (t ∷ [])
+      (All-cons (IsWellFormed structs n 0) t [] w (All-nil (IsWellFormed structs n 0)))
       (record { variable = 0; projections = Field k ∷ [] }) u (ap (option_and_then (behind_all structs [])) h)
 
   drops_good : (t u : TypeTree) → IsWellFormed structs n 0 t → Drops structs t u → IsWellFormed structs n 0 u
@@ -41,7 +45,8 @@ module _ (structs : List Struct) (order : AreInOrder structs) (n : ℕ) (some : 
   drops_good (tuple ts) u w h = part_good (tuple ts) u h.0 w h.1
   drops_good (named s rs ts) u w h = part_good (named s rs ts) u h.0 w h.1
 
-  leads_good : (t : TypeTree) (way : List TypeTree) (u : TypeTree) → IsWellFormed structs n 0 t → LeadsTo structs t way u → IsWellFormed structs n 0 u
+  leads_good : (t : TypeTree) (way : List TypeTree) (u : TypeTree) → IsWellFormed structs n 0 t
+      → LeadsTo structs t way u → IsWellFormed structs n 0 u
   leads_good t [] u w h = subst (IsWellFormed structs n 0) h w
   leads_good t (next ∷ way) u w h = leads_good next way u (drops_good t next w h.0) h.1
 
@@ -49,6 +54,7 @@ module _ (structs : List Struct) (order : AreInOrder structs) (n : ℕ) (some : 
   drop_region_within t w r h =
       let good = leads_good t h.0 (named h.1 h.2 h.3) w h.4 in
       ⊎_elim
-      (λ own. subst (λ x. x < n) (get_or_from_slice_get h.2 own.0 r r own.1) (good.3 own.0 r (slice_get_within h.2 own.0 r own.1)))
+      (λ own. subst (λ x. x < n) (get_or_from_slice_get h.2 own.0 r r own.1)
+      (good.3 own.0 r (slice_get_within h.2 own.0 r own.1)))
       (λ own. region_within structs n own.1 (well_formed_at structs n 0 h.3 own.0 own.1 good.4 own.2) r own.4)
       h.5.1

@@ -36,11 +36,15 @@ later y xs x h = (suc h.0, omega (arith, h.1), h.2)
 abbrev both : ℕ × ℕ → List ℕ
 both w = w.0 ∷ w.1 ∷ []
 
-bound_there : (wheres : List (ℕ × ℕ)) (x : ℕ × ℕ) (k : ℕ) → k < length wheres → get_or wheres k x ≡ x → Contains (flat_map both wheres) x.0 × Contains (flat_map both wheres) x.1
+bound_there : (wheres : List (ℕ × ℕ)) (x : ℕ × ℕ) (k : ℕ) → k < length wheres → get_or wheres k x ≡ x
+    → Contains (flat_map both wheres) x.0 × Contains (flat_map both wheres) x.1
 bound_there [] x k l e = absurd (omega (arith, l))
 bound_there (w ∷ wheres) x zero l e =
-    subst (λ (y : ℕ × ℕ). Contains (w.0 ∷ w.1 ∷ flat_map both wheres) y.0 × Contains (w.0 ∷ w.1 ∷ flat_map both wheres) y.1) e
-    (first w.0 (w.1 ∷ flat_map both wheres), later w.0 (w.1 ∷ flat_map both wheres) w.1 (first w.1 (flat_map both wheres)))
+    subst (λ (y : ℕ × ℕ). Contains (w.0 ∷ w.1 ∷ flat_map both wheres) y.0
+    × Contains (w.0 ∷ w.1 ∷ flat_map both wheres) y.1) e (
+      first w.0 (w.1 ∷ flat_map both wheres),
+      later w.0 (w.1 ∷ flat_map both wheres) w.1 (first w.1 (flat_map both wheres)),
+    )
 bound_there (w ∷ wheres) x (suc k) l e =
     let r = bound_there wheres x k (omega (arith, l)) e in (
       later w.0 (w.1 ∷ flat_map both wheres) x.0 (later w.1 (flat_map both wheres) x.0 r.0),
@@ -51,9 +55,11 @@ bound_there (w ∷ wheres) x (suc k) l e =
 abbrev type_in : Operand × TypeTree → TypeTree
 type_in a = a.1
 
-argument_there : (args : List (Operand × TypeTree)) (result : TypeTree) (k : ℕ) (op : Operand) (u : TypeTree) → slice_get args k ≡ Some (op, u) → Contains (map type_in args ++ result ∷ []) u
+argument_there : (args : List (Operand × TypeTree)) (result : TypeTree) (k : ℕ) (op : Operand) (u : TypeTree)
+    → slice_get args k ≡ Some (op, u) → Contains (map type_in args ++ result ∷ []) u
 argument_there args result k op u at =
-    Contains-append_left (map type_in args) (result ∷ []) u (there (map type_in args) k u (slice_get-map type_in args k ∙ ap (option_map type_in) at))
+    Contains-append_left (map type_in args) (result ∷ []) u
+    (there (map type_in args) k u (slice_get-map type_in args k ∙ ap (option_map type_in) at))
 
 -- ---- positions
 
@@ -97,7 +103,8 @@ module _ (body : BodyText) (sound : IsSound body) where
   AreOfBody x = (x.0 < length body.names) × (x.1 < length body.names)
 
   place : (p : PlacePath) (t : TypeTree) → type_of body.structs body.variables p ≡ Some t → IsGood t
-  place p t e = place_good body.structs sound.in_order (length body.names) 0 some_region body.variables sound.types p t e
+  place p t e =
+      place_good body.structs sound.in_order (length body.names) 0 some_region body.variables sound.types p t e
 
   operand : (op : Operand) (t : TypeTree) → operand_type body.structs body.variables op ≡ Some t → IsGood t
   operand constant t e = (let s : int ≡ t = cc in subst IsGood s tt)
@@ -105,7 +112,8 @@ module _ (body : BodyText) (sound : IsSound body) where
   operand (moved p) t e = place p t e
 
   -- the types that meet in a statement keep to what is declared
-  subtypes : (i : Statement ℕ TypeTree) (p : ℕ) → StandsAt body p i → (t u : TypeTree) → Meet body.structs body.variables i t u → IsGood t × IsGood u
+  subtypes : (i : Statement ℕ TypeTree) (p : ℕ) → StandsAt body p i → (t u : TypeTree)
+      → Meet body.structs body.variables i t u → IsGood t × IsGood u
   subtypes (assign q op) p at t u h = (operand op t h.0, place q u h.1)
   subtypes (borrow q r m b) p at t u h =
       let region : r < length body.names = sound.written_regions p r (borrow q r m b) at (first r []) in
@@ -113,13 +121,23 @@ module _ (body : BodyText) (sound : IsSound body) where
   subtypes (make q made ops) p at t u h =
       let good : IsGood made = sound.written_types p made (make q made ops) at (first made []) in
       ⊎_elim
-      (λ w. (operand w.1 t w.3, part_good body.structs sound.in_order (length body.names) some_region made u w.0 good w.4))
+      (λ w. (
+        operand w.1 t w.3,
+        part_good body.structs sound.in_order
+            (length body.names) some_region made u w.0 good w.4,
+      ))
       (λ w. (subst IsGood (sym w.0) good, place q u w.1))
       h
   subtypes (call q args result wheres b unwind) p at t u h =
-      let good : IsGood result = sound.written_types p result (call q args result wheres b unwind) at (Contains-push (map type_in args) result) in
+      let good : IsGood result =
+      sound.written_types p result (call q args result wheres b unwind) at
+      (Contains-push (map type_in args) result) in
       ⊎_elim
-      (λ w. (operand w.1 t w.3, sound.written_types p u (call q args result wheres b unwind) at (argument_there args result w.0 w.1 u w.2)))
+      (λ w. (
+        operand w.1 t w.3,
+        sound.written_types p u (call q args result wheres b unwind) at
+            (argument_there args result w.0 w.1 u w.2),
+      ))
       (λ w. (subst IsGood (sym w.0) good, place q u w.1))
       h
   subtypes (read q) p at t u h = absurd h
@@ -136,7 +154,8 @@ module _ (body : BodyText) (sound : IsSound body) where
   rests_below : (q : PlacePath) (a : ℕ) → RestsOn body.structs body.variables q a → a < length body.names
   rests_below q a h = (place (prefix h.0 q) (reference a h.1 h.2.1) h.2.2).0
 
-  pairs : (i : Statement ℕ TypeTree) (p : ℕ) → StandsAt body p i → (x : ℕ × ℕ) → AsksPair body.structs body.variables i x → AreOfBody x
+  pairs : (i : Statement ℕ TypeTree) (p : ℕ) → StandsAt body p i → (x : ℕ × ℕ)
+      → AsksPair body.structs body.variables i x → AreOfBody x
   pairs (borrow q r m b) p at x h =
       let region : r < length body.names = sound.written_regions p r (borrow q r m b) at (first r []) in
       (rests_below b x.0 h.0, subst (λ (n : ℕ). n < length body.names) (sym h.1) region)
@@ -166,8 +185,10 @@ module _ (body : BodyText) (sound : IsSound body) where
       h.5
 
   -- what stands at a point asks pairs of regions of the body
-  pub asks_below : (p : ℕ) (i : Statement ℕ TypeTree) → StandsAt body p i → (x : ℕ × ℕ) → Asks body.structs body.variables i x → (x.0 < length body.names) × (x.1 < length body.names)
+  pub asks_below : (p : ℕ) (i : Statement ℕ TypeTree) → StandsAt body p i → (x : ℕ × ℕ)
+      → Asks body.structs body.variables i x → (x.0 < length body.names) × (x.1 < length body.names)
   asks_below p i at x h = ⊎_elim
-      (λ w. (let good = subtypes i p at w.0 w.1 ((pairs_meet body.structs body.variables i w.0 w.1).0 w.2) in subtype_below w.0 w.1 good.0 good.1 x w.3))
+      (λ w. (let good = subtypes i p at w.0 w.1 ((pairs_meet body.structs body.variables i w.0 w.1).0 w.2) in
+      subtype_below w.0 w.1 good.0 good.1 x w.3))
       (λ w. pairs i p at x w)
       h

@@ -23,7 +23,8 @@ pub record AreSteps (body : BodyText) (graph : Graph) (counted known based : Pro
   pub bases : (r p : ℕ) → Contains based.bases (r, p) ↔ IsBaseOf body r p
 
 -- what the first two of them leave as it was
-module _ (body : BodyText) (graph : Graph) (counted known : Problem) (shown : IsGraphOf body graph) (regions : counted ≡ record (bare_problem graph) { regions = length body.names })
+module _ (body : BodyText) (graph : Graph) (counted known : Problem) (shown : IsGraphOf body graph)
+    (regions : counted ≡ record (bare_problem graph) { regions = length body.names })
     (outlives : AddsOutlives body.outlives counted known) where
   pub known_graph : known.graph ≡ graph
   known_graph = ap (λ (q : Problem). q.graph) outlives.others ∙ ap (λ (q : Problem). q.graph) regions
@@ -40,18 +41,22 @@ module _ (body : BodyText) (graph : Graph) (counted known : Problem) (shown : Is
   pub known_constraints : known.constraints ≡ []
   known_constraints = ap (λ (q : Problem). q.constraints) outlives.others ∙ ap (λ (q : Problem). q.constraints) regions
 
-module _ (body : BodyText) (graph : Graph) (counted known based : Problem) (steps : AreSteps body graph counted known based) where
+module _ (body : BodyText) (graph : Graph) (counted known based : Problem)
+    (steps : AreSteps body graph counted known based) where
   based_graph : based.graph ≡ graph
-  based_graph = ap (λ (q : Problem). q.graph) steps.others ∙ known_graph body graph counted known steps.shown steps.regions steps.outlives
+  based_graph = ap (λ (q : Problem). q.graph) steps.others
+      ∙ known_graph body graph counted known steps.shown steps.regions steps.outlives
 
   pub based_points : based.graph.points ≡ length body.points
   based_points = ap (λ (g : Graph). g.points) based_graph ∙ steps.shown.points
 
   pub based_regions : based.regions ≡ length body.names
-  based_regions = ap (λ (q : Problem). q.regions) steps.others ∙ known_regions body graph counted known steps.shown steps.regions steps.outlives
+  based_regions = ap (λ (q : Problem). q.regions) steps.others
+      ∙ known_regions body graph counted known steps.shown steps.regions steps.outlives
 
   based_constraints : based.constraints ≡ []
-  based_constraints = ap (λ (q : Problem). q.constraints) steps.others ∙ known_constraints body graph counted known steps.shown steps.regions steps.outlives
+  based_constraints = ap (λ (q : Problem). q.constraints) steps.others
+      ∙ known_constraints body graph counted known steps.shown steps.regions steps.outlives
 
   -- the whole problem
   pub whole : (q : Problem) → AddsConstraints (IsConstraint body) based q → IsProblemOf body q
@@ -65,8 +70,11 @@ module _ (body : BodyText) (graph : Graph) (counted known based : Problem) (step
         );
     constraints = only_new based.constraints q.constraints (IsConstraint body) based_constraints asked.each;
     outlives = λ x.
-        let same : q.outlives ≡ known.outlives = ap (λ (z : Problem). z.outlives) asked.others ∙ ap (λ (z : Problem). z.outlives) steps.others in
-        let new = only_new counted.outlives known.outlives (Contains body.outlives) (ap (λ (z : Problem). z.outlives) steps.regions) steps.outlives.each x in (
+        let same : q.outlives ≡ known.outlives = ap (λ (z : Problem). z.outlives) asked.others
+        ∙ ap (λ (z : Problem). z.outlives) steps.others in
+        let new =
+        only_new counted.outlives known.outlives (Contains body.outlives)
+        (ap (λ (z : Problem). z.outlives) steps.regions) steps.outlives.each x in (
           λ h. new.0 (subst (λ (xs : List (ℕ × ℕ)). Contains xs x) same h),
           λ h. subst (λ (xs : List (ℕ × ℕ)). Contains xs x) (sym same) (new.1 h),
         );
@@ -87,13 +95,19 @@ module _ (body : BodyText) (graph : Graph) (counted known based : Problem) (step
   ))
 
 -- a finished problem is the body's where the builder's was
-pub finished_is : (body : BodyText) (p q : Problem) → IsProblemOf body p → SameProblem p q → q ≡ record p { bases = q.bases; outlives = q.outlives } → IsProblemOf body q
+pub finished_is : (body : BodyText) (p q : Problem) → IsProblemOf body p → SameProblem p q
+    → q ≡ record p { bases = q.bases; outlives = q.outlives } → IsProblemOf body q
 finished_is body p q h same others = record {
   graph = subst (IsGraphOf body) (sym (ap (λ (z : Problem). z.graph) others)) h.graph;
   regions = ap (λ (z : Problem). z.regions) others ∙ h.regions;
   bases = λ r e. (λ c. (h.bases r e).0 ((same.bases (r, e)).1 c), λ b. (same.bases (r, e)).0 ((h.bases r e).1 b));
-  constraints = λ c. (λ there. (h.constraints c).0 ((same.constraints c).1 there), λ k. (same.constraints c).0 ((h.constraints c).1 k));
-  outlives = λ x. (λ there. (h.outlives x).0 ((same.outlives x).1 there), λ k. (same.outlives x).0 ((h.outlives x).1 k));
+  constraints =
+      λ c. (
+        λ there. (h.constraints c).0 ((same.constraints c).1 there),
+        λ k. (same.constraints c).0 ((h.constraints c).1 k),
+      );
+  outlives =
+      λ x. (λ there. (h.outlives x).0 ((same.outlives x).1 there), λ k. (same.outlives x).0 ((h.outlives x).1 k));
 }
 
 -- what is told by the same facts is the same

@@ -15,20 +15,28 @@ Text = List ℕ
 
 -- the line has what is asked and what the options give, which are those of its task
 abbrev pub IsLineOf : Said → Line → Asked → Type 0
-IsLineOf said l a = (l.task ≡ a.task) × (string_bytes l.file ≡ string_bytes a.file) × (said_by l ≡ said) × Suits a.task said
+IsLineOf said l a =
+    (l.task ≡ a.task) × (string_bytes l.file ≡ string_bytes a.file) × (said_by l ≡ said) × Suits a.task said
 
 -- why there is no line of what is asked: want of memory, or options of another task
 abbrev pub IsLost : Said → LineError → Asked → Type 0
 IsLost said e a = (e ≡ Memory) ⊎ ((e ≡ Usage) × (Suits a.task said → ⊥))
 
-module _ (said : Said) (words others : List Text) (read : AreRead words others said) (just : AreReadJust words others said) (r : Result Line LineError) (a : Result Asked LineError)
-    (of : IfOk r (λ l. IsOkAnd a (IsLineOf said l))) (err : IfErr r (λ e. (a ≡ Err e) ⊎ IsOkAnd a (IsLost said e))) where
-  pub line_ok : IfOk a (λ x. IsLine x.task (string_bytes x.file) others) → IfOk r (λ l. (os : List Text) × AreRead words os (said_by l) × IsLine l.task (string_bytes l.file) os × Suits l.task (said_by l))
+module _ (said : Said) (words others : List Text) (read : AreRead words others said)
+    (just : AreReadJust words others said) (r : Result Line LineError) (a : Result Asked LineError)
+    (of : IfOk r (λ l. IsOkAnd a (IsLineOf said l)))
+    (err : IfErr r (λ e. (a ≡ Err e) ⊎ IsOkAnd a (IsLost said e))) where
+  pub line_ok : IfOk a (λ x. IsLine x.task (string_bytes x.file) others)
+      → IfOk r (λ l. (os : List Text) × AreRead words os (said_by l) × IsLine l.task (string_bytes l.file) os
+      × Suits l.task (said_by l))
   line_ok line = go r a of line
     where
-      go : (r : Result Line LineError) (a : Result Asked LineError) → IfOk r (λ l. IsOkAnd a (IsLineOf said l)) → IfOk a (λ x. IsLine x.task (string_bytes x.file) others)
-          → IfOk r (λ l. (os : List Text) × AreRead words os (said_by l) × IsLine l.task (string_bytes l.file) os × Suits l.task (said_by l))
-      go (Ok l) (Ok x) of line = (others, subst (AreRead words others) (sym of.2) read, rw (of.0, of.1) line, rw (of.0, of.2) of.3)
+      go : (r : Result Line LineError) (a : Result Asked LineError) → IfOk r (λ l. IsOkAnd a (IsLineOf said l))
+          → IfOk a (λ x. IsLine x.task (string_bytes x.file) others)
+          → IfOk r (λ l. (os : List Text) × AreRead words os (said_by l) × IsLine l.task (string_bytes l.file) os
+          × Suits l.task (said_by l))
+      go (Ok l) (Ok x) of line =
+          (others, subst (AreRead words others) (sym of.2) read, rw (of.0, of.1) line, rw (of.0, of.2) of.3)
       go (Ok l) (Err e) of line = absurd of
       go (Err e) a of line = tt
 
@@ -37,24 +45,29 @@ module _ (said : Said) (words others : List Text) (read : AreRead words others s
       → MatchResult r (λ l. (l.task ≡ task) × (string_bytes l.file ≡ file) × (said_by l ≡ s)) (λ e. e ≡ Memory)
   line_plain task file os s h suits m = let same = just os s h in go r a of err (m same.0) same.1
     where
-      go : (r : Result Line LineError) (a : Result Asked LineError) → IfOk r (λ l. IsOkAnd a (IsLineOf said l)) → IfErr r (λ e. (a ≡ Err e) ⊎ IsOkAnd a (IsLost said e))
+      go : (r : Result Line LineError) (a : Result Asked LineError) → IfOk r (λ l. IsOkAnd a (IsLineOf said l))
+          → IfErr r (λ e. (a ≡ Err e) ⊎ IsOkAnd a (IsLost said e))
           → MatchResult a (λ l. (l.task ≡ task) × (string_bytes l.file ≡ file)) (λ e. e ≡ Memory) → s ≡ said
           → MatchResult r (λ l. (l.task ≡ task) × (string_bytes l.file ≡ file) × (said_by l ≡ s)) (λ e. e ≡ Memory)
       go (Ok l) (Ok x) of err m is = (of.0 ∙ m.0, of.1 ∙ m.1, of.2 ∙ sym is)
       go (Ok l) (Err e) of err m is = absurd of
       go (Err e) (Err x) of err m is = ⊎_elim
-          (λ same. subst (λ (y : Result Asked LineError). MatchResult y (λ l. (l.task ≡ task) × (string_bytes l.file ≡ file)) (λ e. e ≡ Memory)) same m)
+          (λ same. subst (λ (y : Result Asked LineError).
+          MatchResult y (λ l. (l.task ≡ task) × (string_bytes l.file ≡ file)) (λ e. e ≡ Memory)) same m)
           (λ h. absurd h)
           err
       go (Err e) (Ok x) of err m is = ⊎_elim
-          (λ same. subst (λ (y : Result Asked LineError). MatchResult y (λ l. (l.task ≡ task) × (string_bytes l.file ≡ file)) (λ e. e ≡ Memory)) same m)
+          (λ same. subst (λ (y : Result Asked LineError).
+          MatchResult y (λ l. (l.task ≡ task) × (string_bytes l.file ≡ file)) (λ e. e ≡ Memory)) same m)
           (λ h. ⊎_elim (λ memory. memory) (λ unfit. absurd (unfit.1 (rw (m.0, ← is) suits))) h)
           err
 
-  pub line_help : (os : List Text) (s : Said) → AreRead words os s → (os ≡ others → MatchResult a (λ _. ⊥) (IsHelpFor os)) → MatchResult r (λ _. ⊥) (IsHelpFor os)
+  pub line_help : (os : List Text) (s : Said) → AreRead words os s
+      → (os ≡ others → MatchResult a (λ _. ⊥) (IsHelpFor os)) → MatchResult r (λ _. ⊥) (IsHelpFor os)
   line_help os s h m = go r a of err (m (just os s h).0)
     where
-      go : (r : Result Line LineError) (a : Result Asked LineError) → IfOk r (λ l. IsOkAnd a (IsLineOf said l)) → IfErr r (λ e. (a ≡ Err e) ⊎ IsOkAnd a (IsLost said e))
+      go : (r : Result Line LineError) (a : Result Asked LineError) → IfOk r (λ l. IsOkAnd a (IsLineOf said l))
+          → IfErr r (λ e. (a ≡ Err e) ⊎ IsOkAnd a (IsLost said e))
           → MatchResult a (λ _. ⊥) (IsHelpFor os) → MatchResult r (λ _. ⊥) (IsHelpFor os)
       go (Ok l) (Ok x) of err m = m
       go (Ok l) (Err e) of err m = absurd of
@@ -65,15 +78,18 @@ module _ (said : Said) (words others : List Text) (read : AreRead words others s
           err
 
   -- usage is told of a line whose task the options don't suit
-  unsuited : (x : Asked) → ((task : Task) (file : Text) → IsPlainLine task file others → x.task ≡ task) → (AsksForHelpAlone others → ⊥) → (Suits x.task said → ⊥) → IsWordsError words Usage
+  unsuited : (x : Asked) → ((task : Task) (file : Text) → IsPlainLine task file others → x.task ≡ task)
+      → (AsksForHelpAlone others → ⊥) → (Suits x.task said → ⊥) → IsWordsError words Usage
   unsuited x plain alone unfit os s there =
       let same = just os s there in (
-        λ task file line suits. unfit (rw (plain task file (subst (IsPlainLine task file) same.0 line), ← same.1) suits),
+        λ task file line suits. unfit (rw (plain task file (subst (IsPlainLine task file) same.0 line), ← same.1)
+            suits),
         λ asks. alone (subst AsksForHelpAlone same.0 asks),
       )
 
   pub line_err : IfErr a (IsLineError others) → (IsOk a → AsksForHelpAlone others → ⊥)
-      → ((task : Task) (file : Text) → IsPlainLine task file others → MatchResult a (λ l. (l.task ≡ task) × (string_bytes l.file ≡ file)) (λ e. e ≡ Memory))
+      → ((task : Task) (file : Text) → IsPlainLine task file others
+      → MatchResult a (λ l. (l.task ≡ task) × (string_bytes l.file ≡ file)) (λ e. e ≡ Memory))
       → IfErr r (IsWordsError words)
   line_err m taken plain = go r a err m taken plain
     where
@@ -84,8 +100,11 @@ module _ (said : Said) (words others : List Text) (read : AreRead words others s
           (λ task file line suits. here.0 task file line, here.1)
       told Memory h = tt
 
-      go : (r : Result Line LineError) (a : Result Asked LineError) → IfErr r (λ e. (a ≡ Err e) ⊎ IsOkAnd a (IsLost said e)) → IfErr a (IsLineError others) → (IsOk a → AsksForHelpAlone others → ⊥)
-          → ((task : Task) (file : Text) → IsPlainLine task file others → MatchResult a (λ l. (l.task ≡ task) × (string_bytes l.file ≡ file)) (λ e. e ≡ Memory))
+      go : (r : Result Line LineError) (a : Result Asked LineError)
+          → IfErr r (λ e. (a ≡ Err e) ⊎ IsOkAnd a (IsLost said e)) → IfErr a (IsLineError others)
+          → (IsOk a → AsksForHelpAlone others → ⊥)
+          → ((task : Task) (file : Text) → IsPlainLine task file others
+          → MatchResult a (λ l. (l.task ≡ task) × (string_bytes l.file ≡ file)) (λ e. e ≡ Memory))
           → IfErr r (IsWordsError words)
       go (Ok l) a err m taken plain = tt
       go (Err e) (Err x) err m taken plain = ⊎_elim
@@ -96,11 +115,13 @@ module _ (said : Said) (words others : List Text) (read : AreRead words others s
           (λ same. told e (subst (λ (y : Result Asked LineError). IfErr y (IsLineError others)) same m))
           (λ h. ⊎_elim
           (λ memory. subst (IsWordsError words) (sym memory) tt)
-          (λ unfit. subst (IsWordsError words) (sym unfit.0) (unsuited x (λ task file line. (plain task file line).0) (taken refl) unfit.1)) h)
+          (λ unfit. subst (IsWordsError words) (sym unfit.0)
+          (unsuited x (λ task file line. (plain task file line).0) (taken refl) unfit.1)) h)
           err
 
 -- of words that can't be read
-pub unread_words : (words : List Text) (e : LineError) → (e ≡ Memory) ⊎ ((e ≡ Usage) × AreUnreadable words) → IsWordsError words e
+pub unread_words : (words : List Text) (e : LineError) → (e ≡ Memory) ⊎ ((e ≡ Usage) × AreUnreadable words)
+    → IsWordsError words e
 unread_words words e = ⊎_elim
     (λ memory. subst (IsWordsError words) (sym memory) tt)
     (λ h. subst (IsWordsError words) (sym h.0) (λ others said read. absurd (h.1 others said read)))

@@ -36,14 +36,16 @@ is_refused name walk word = is_none (word_fault (shape_for name) [] false idle w
 
 module _ (name : Text) where
   long_is_refused : (o : Option Text) (long : Text) (x : Bool) → bytes_eq (codes "help") long ≡ x → (v : Option Text)
-      → is_none (long_fault (shape_for name).rules false (arg_by_long (shape_for name).rules long) v (at o).held) ≡ false
+      → is_none (long_fault (shape_for name).rules false (arg_by_long (shape_for name).rules long) v (at o).held)
+      ≡ false
   long_is_refused o long false e v = simp e
   long_is_refused o long true e (Some v) = simp e
   long_is_refused None long true e None = simp e
   long_is_refused (Some file) long true e None = simp e
 
   module _ (w : Text) (dashes : bytes_eq w (codes "--") ≡ false) where
-    by_letter : (o : Option Text) (flags : Text) (x : ℕ) (is_h : Bool) → long_of w ≡ None → short_of w ≡ Some flags → slice_get (chars flags) 0 ≡ Some x
+    by_letter : (o : Option Text) (flags : Text) (x : ℕ) (is_h : Bool) → long_of w ≡ None → short_of w ≡ Some flags
+        → slice_get (chars flags) 0 ≡ Some x
         → nat_eq 104 x ≡ is_h → (is_refused name (at o) w ≡ false) ⊎ IsPlain name (at o) w
     unfolding flags_fault bundle_met
     by_letter None [] x is_h l s first e = inr (simp (dashes, l, s), simp (dashes, l, s))
@@ -53,24 +55,28 @@ module _ (name : Text) where
     by_letter (Some file) (f ∷ fs) x true l s first e = inl (simp (dashes, l, s, first, e))
     by_letter (Some file) (f ∷ fs) x false l s first e = inl (simp (dashes, l, s, first, e))
 
-    no_letter : (o : Option Text) (flags : Text) → long_of w ≡ None → short_of w ≡ Some flags → slice_get (chars flags) 0 ≡ None → IsPlain name (at o) w
+    no_letter : (o : Option Text) (flags : Text) → long_of w ≡ None → short_of w ≡ Some flags
+        → slice_get (chars flags) 0 ≡ None → IsPlain name (at o) w
     unfolding flags_fault bundle_met
     no_letter None [] l s first = (simp (dashes, l, s), simp (dashes, l, s))
     no_letter None (f ∷ fs) l s first = (simp (dashes, l, s, first), simp (dashes, l, s, first))
     no_letter (Some file) [] l s first = (simp (dashes, l, s), simp (dashes, l, s))
     no_letter (Some file) (f ∷ fs) l s first = (simp (dashes, l, s, first), simp (dashes, l, s, first))
 
-    by_first : (o : Option Text) (flags : Text) (first : Option ℕ) → slice_get (chars flags) 0 ≡ first → long_of w ≡ None → short_of w ≡ Some flags
+    by_first : (o : Option Text) (flags : Text) (first : Option ℕ) → slice_get (chars flags) 0 ≡ first
+        → long_of w ≡ None → short_of w ≡ Some flags
         → (is_refused name (at o) w ≡ false) ⊎ IsPlain name (at o) w
     by_first o flags None first l s = inr (no_letter o flags l s first)
     by_first o flags (Some x) first l s = by_letter o flags x (nat_eq 104 x) l s first refl
 
-    by_short : (o : Option Text) (short : Option Text) → short_of w ≡ short → long_of w ≡ None → (is_refused name (at o) w ≡ false) ⊎ IsPlain name (at o) w
+    by_short : (o : Option Text) (short : Option Text) → short_of w ≡ short → long_of w ≡ None
+        → (is_refused name (at o) w ≡ false) ⊎ IsPlain name (at o) w
     by_short None None s l = inr (simp (dashes, l, s), simp (dashes, l, s))
     by_short (Some file) None s l = inr (simp (dashes, l, s), simp (dashes, l, s))
     by_short o (Some flags) s l = by_first o flags (slice_get (chars flags) 0) refl l s
 
-    by_long : (o : Option Text) (long : Option (Text × Option Text)) → long_of w ≡ long → (is_refused name (at o) w ≡ false) ⊎ IsPlain name (at o) w
+    by_long : (o : Option Text) (long : Option (Text × Option Text)) → long_of w ≡ long
+        → (is_refused name (at o) w ≡ false) ⊎ IsPlain name (at o) w
     by_long o None l = by_short o (short_of w) refl l
     by_long o (Some p) l = inl (simp (dashes, l) (long_is_refused o p.0 (bytes_eq (codes "help") p.0) refl p.1))
 
@@ -79,7 +85,8 @@ module _ (name : Text) where
     word_kinds o = by_long o (long_of w) refl
 
 -- behind the file each word but `--` is refused
-second_is_refused : (name file w : Text) → bytes_eq w (codes "--") ≡ false → is_none (turn_fault (shape_for name) [] (at (Some file)) w) ≡ false
+second_is_refused : (name file w : Text) → bytes_eq w (codes "--") ≡ false
+    → is_none (turn_fault (shape_for name) [] (at (Some file)) w) ≡ false
 second_is_refused name file w dashes = elim (word_kinds name w dashes (Some file)) [
   | inl refused ↦ or_else-left (word_fault (shape_for name) [] false idle w (at (Some file)).held) _ refused
   | inr plain ↦ or_else-right (word_fault (shape_for name) [] false idle w (at (Some file)).held) _
@@ -87,9 +94,11 @@ second_is_refused name file w dashes = elim (word_kinds name w dashes (Some file
 ]
 
 -- a plain first word is the file
-file_walked : (name file : Text) → IsPlain name (walk_from nothing_held) file → walked (shape_for name).rules [] (walk_from nothing_held) file ≡ at (Some file)
+file_walked : (name file : Text) → IsPlain name (walk_from nothing_held) file
+    → walked (shape_for name).rules [] (walk_from nothing_held) file ≡ at (Some file)
 unfolding walked
-file_walked name file plain = ap (λ (m : Held × Step). after_step (shape_for name).rules file (walk_from nothing_held) m.0 m.1) plain.1
+file_walked name file plain =
+    ap (λ (m : Held × Step). after_step (shape_for name).rules file (walk_from nothing_held) m.0 m.1) plain.1
 
 abbrev pub level : Text → List Text → Kinds
 level name rest = level_fault (shape_for name) [] nothing_held rest false []
@@ -106,7 +115,8 @@ two_after_dashes : (name f g : Text) (more : List Text) → is_none (level name 
 unfolding clap_on_literals
 two_after_dashes name f g more = refl
 
-first_refused : (name w : Text) (more : List Text) → is_refused name (walk_from nothing_held) w ≡ false → is_none (level name (w ∷ more)) ≡ false
+first_refused : (name w : Text) (more : List Text) → is_refused name (walk_from nothing_held) w ≡ false
+    → is_none (level name (w ∷ more)) ≡ false
 unfolding walk_fault
 first_refused name w more h =
     or_else-left _ _ (or_else-left (turn_fault (shape_for name) [] (walk_from nothing_held) w) _
@@ -114,17 +124,21 @@ first_refused name w more h =
 
 -- what is refused behind a plain first word
 behind_file : (name file : Text) (more : List Text) → IsPlain name (walk_from nothing_held) file
-    → is_none (walk_fault (shape_for name) [] (at (Some file)) more) ≡ false → is_none (level name (file ∷ more)) ≡ false
+    → is_none (walk_fault (shape_for name) [] (at (Some file)) more) ≡ false
+    → is_none (level name (file ∷ more)) ≡ false
 unfolding walk_fault
 behind_file name file more plain h =
     or_else-left _ _ (or_else-right (turn_fault (shape_for name) [] (walk_from nothing_held) file) _
     (ap (λ w. is_none (walk_fault (shape_for name) [] w more)) (file_walked name file plain) ∙ h))
 
-second_refused : (name file w : Text) (more : List Text) → bytes_eq w (codes "--") ≡ false → is_none (walk_fault (shape_for name) [] (at (Some file)) (w ∷ more)) ≡ false
+second_refused : (name file w : Text) (more : List Text) → bytes_eq w (codes "--") ≡ false
+    → is_none (walk_fault (shape_for name) [] (at (Some file)) (w ∷ more)) ≡ false
 unfolding walk_fault
-second_refused name file w more dashes = or_else-left (turn_fault (shape_for name) [] (at (Some file)) w) _ (second_is_refused name file w dashes)
+second_refused name file w more dashes =
+    or_else-left (turn_fault (shape_for name) [] (at (Some file)) w) _ (second_is_refused name file w dashes)
 
-third_refused : (name file w : Text) (more : List Text) → is_none (walk_fault (shape_for name) [] (at (Some file)) (codes "--" ∷ w ∷ more)) ≡ false
+third_refused : (name file w : Text) (more : List Text)
+    → is_none (walk_fault (shape_for name) [] (at (Some file)) (codes "--" ∷ w ∷ more)) ≡ false
 unfolding walk_fault walked
 third_refused name file w more = refl
 
@@ -133,31 +147,38 @@ abbrev pub file_in : List Text → Option Text
 file_in rest = first_of (codes "FILE") (rows_after rules_for [] rest)
 
 found_alone : (name file : Text) → IsPlain name (walk_from nothing_held) file → file_in (file ∷ []) ≡ Some file
-found_alone name file plain = ap (λ (w : Walk). first_of (codes "FILE") (finished rules_for w.held)) (file_walked name file plain)
+found_alone name file plain =
+    ap (λ (w : Walk). first_of (codes "FILE") (finished rules_for w.held)) (file_walked name file plain)
 
-found_before : (name file : Text) → IsPlain name (walk_from nothing_held) file → file_in (file ∷ codes "--" ∷ []) ≡ Some file
+found_before : (name file : Text) → IsPlain name (walk_from nothing_held) file
+    → file_in (file ∷ codes "--" ∷ []) ≡ Some file
 unfolding walked
 found_before name file plain =
-    ap (λ (w : Walk). first_of (codes "FILE") (finished rules_for (walked rules_for [] w (codes "--")).held)) (file_walked name file plain)
+    ap (λ (w : Walk). first_of (codes "FILE") (finished rules_for (walked rules_for [] w (codes "--")).held))
+    (file_walked name file plain)
 
 found_after : (file : Text) → file_in (codes "--" ∷ file ∷ []) ≡ Some file
 unfolding clap_on_literals
 found_after file = refl
 
 -- words that a command takes name a file, and that is what it finds
-pub takes_file : (name : Text) (rest : List Text) → is_none (level name rest) ≡ true → (file : Text) × NamesFile file rest × (file_in rest ≡ Some file)
+pub takes_file : (name : Text) (rest : List Text) → is_none (level name rest) ≡ true
+    → (file : Text) × NamesFile file rest × (file_in rest ≡ Some file)
 takes_file name [] h = absurd (true≢false (sym h ∙ no_file name))
 takes_file name (w ∷ more) h = by_dashes (bytes_eq w (codes "--")) refl more h
   where
-    behind : (d : Bool) (plain : IsPlain name (walk_from nothing_held) w) (v : Text) (others : List Text) → bytes_eq v (codes "--") ≡ d
-        → is_none (level name (w ∷ v ∷ others)) ≡ true → (file : Text) × NamesFile file (w ∷ v ∷ others) × (file_in (w ∷ v ∷ others) ≡ Some file)
+    behind : (d : Bool) (plain : IsPlain name (walk_from nothing_held) w) (v : Text) (others : List Text)
+        → bytes_eq v (codes "--") ≡ d
+        → is_none (level name (w ∷ v ∷ others)) ≡ true
+        → (file : Text) × NamesFile file (w ∷ v ∷ others) × (file_in (w ∷ v ∷ others) ≡ Some file)
     behind true plain v [] dashes h =
         let is : w ∷ v ∷ [] ≡ w ∷ codes "--" ∷ [] = ap (λ x. w ∷ x ∷ []) (bytes_are _ _ dashes) in
         (w, inr (inr is), ap file_in is ∙ found_before name w plain)
     behind true plain v (u ∷ others) dashes h =
         absurd (true≢false (sym h ∙ ap (λ x. is_none (level name (w ∷ x ∷ u ∷ others))) (bytes_are _ _ dashes)
         ∙ behind_file name w _ plain (third_refused name w u others)))
-    behind false plain v others dashes h = absurd (true≢false (sym h ∙ behind_file name w _ plain (second_refused name w v others dashes)))
+    behind false plain v others dashes h =
+        absurd (true≢false (sym h ∙ behind_file name w _ plain (second_refused name w v others dashes)))
 
     plain_first : (rest : List Text) → is_none (level name (w ∷ rest)) ≡ true → IsPlain name (walk_from nothing_held) w
         → (file : Text) × NamesFile file (w ∷ rest) × (file_in (w ∷ rest) ≡ Some file)
@@ -166,12 +187,14 @@ takes_file name (w ∷ more) h = by_dashes (bytes_eq w (codes "--")) refl more h
 
     dashes_first : (rest : List Text) → bytes_eq w (codes "--") ≡ true → is_none (level name (w ∷ rest)) ≡ true
         → (file : Text) × NamesFile file (w ∷ rest) × (file_in (w ∷ rest) ≡ Some file)
-    dashes_first [] dashes h = absurd (true≢false (sym h ∙ ap (λ x. is_none (level name (x ∷ []))) (bytes_are _ _ dashes) ∙ only_dashes name))
+    dashes_first [] dashes h =
+        absurd (true≢false (sym h ∙ ap (λ x. is_none (level name (x ∷ []))) (bytes_are _ _ dashes) ∙ only_dashes name))
     dashes_first (f ∷ []) dashes h =
         let is : w ∷ f ∷ [] ≡ codes "--" ∷ f ∷ [] = ap (λ x. x ∷ f ∷ []) (bytes_are _ _ dashes) in
         (f, inr (inl is), ap file_in is ∙ found_after f)
     dashes_first (f ∷ g ∷ others) dashes h =
-        absurd (true≢false (sym h ∙ ap (λ x. is_none (level name (x ∷ f ∷ g ∷ others))) (bytes_are _ _ dashes) ∙ two_after_dashes name f g others))
+        absurd (true≢false (sym h ∙ ap (λ x. is_none (level name (x ∷ f ∷ g ∷ others))) (bytes_are _ _ dashes)
+        ∙ two_after_dashes name f g others))
 
     by_dashes : (d : Bool) → bytes_eq w (codes "--") ≡ d → (rest : List Text) → is_none (level name (w ∷ rest)) ≡ true
         → (file : Text) × NamesFile file (w ∷ rest) × (file_in (w ∷ rest) ≡ Some file)

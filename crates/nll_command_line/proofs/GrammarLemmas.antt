@@ -32,7 +32,8 @@ line_of_found-Some name f task file bytes named given same =
 pub line_of_found-some : (name : Text) (f : Found) (task : Task) (file : Text) → Some task ≡ task_named name
     → Some file ≡ first_value f (codes "FILE") → line_of_found (name, rows_of f) ≢ None
 line_of_found-some name f task file named given none =
-    let bad : ◌≡◌ {A = Option (Task × Text)} (Some (task, file)) None = sym (line_of_found-Some name f task file file named given refl) ∙ none in cc
+    let bad : ◌≡◌ {A = Option (Task × Text)} (Some (task, file)) None =
+    sym (line_of_found-Some name f task file file named given refl) ∙ none in cc
 
 pub line_of_found-None : (name : Text) (f : Found) (task : Task) → Some task ≡ task_named name
     → None ≡ first_value f (codes "FILE") → line_of_found (name, rows_of f) ≡ None
@@ -41,12 +42,16 @@ line_of_found-None name f task named given =
     rw (← named, ← read) refl
 
 -- the answer of a line that the matches have is that line, or want of memory
-pub plain_result : (r : Result Asked LineError) (task : Task) (file : Text) {o : Option (Task × Text)} → Some (task, file) ≡ o
-    → IfOk r (λ l. o ≡ Some (l.task, string_bytes l.file)) → IfErr r (λ e. ((e ≡ Memory) × (o ≢ None)) ⊎ ((e ≡ Usage) × (o ≡ None)))
+pub plain_result : (r : Result Asked LineError) (task : Task) (file : Text) {o : Option (Task × Text)}
+    → Some (task, file) ≡ o
+    → IfOk r (λ l. o ≡ Some (l.task, string_bytes l.file))
+    → IfErr r (λ e. ((e ≡ Memory) × (o ≢ None)) ⊎ ((e ≡ Usage) × (o ≡ None)))
     → MatchResult r (λ l. (l.task ≡ task) × (string_bytes l.file ≡ file)) (λ e. e ≡ Memory)
 plain_result (Ok l) task file is ok err =
-    let same : Some (task, file) ≡ Some (l.task, string_bytes l.file) = is ∙ ok in
-    (ap (λ (o : Option (Task × Text)). (unwrap_or o (task, file)).0) (sym same), ap (λ (o : Option (Task × Text)). (unwrap_or o (task, file)).1) (sym same))
+    let same : Some (task, file) ≡ Some (l.task, string_bytes l.file) = is ∙ ok in (
+      ap (λ (o : Option (Task × Text)). (unwrap_or o (task, file)).0) (sym same),
+      ap (λ (o : Option (Task × Text)). (unwrap_or o (task, file)).1) (sym same),
+    )
 plain_result (Err e) task file is ok err = elim err [
   | inl memory ↦ memory.0
   | inr none ↦ let bad : ◌≡◌ {A = Option (Task × Text)} (Some (task, file)) None = is ∙ none.1 in cc

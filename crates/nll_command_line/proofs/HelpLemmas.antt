@@ -48,9 +48,11 @@ top_walks Check rest = stopped_fault top names start (codes "check", []) rest
 top_walks Replay rest = stopped_fault top names start (codes "replay", []) rest
 
 -- so what the command finds is told
-below : (task : Task) (rest : List Text) → level (name_of task) rest ≡ DisplayHelp ∷ [] → AsksForHelpAlone (name_of task ∷ rest)
+below : (task : Task) (rest : List Text) → level (name_of task) rest ≡ DisplayHelp ∷ []
+    → AsksForHelpAlone (name_of task ∷ rest)
 below task rest asks =
-    second_kind (walk_fault top names start (name_of task ∷ rest)) (entered_fault (built program) (stop_after top.rules names (name_of task ∷ rest))) _ DisplayHelp
+    second_kind (walk_fault top names start (name_of task ∷ rest))
+    (entered_fault (built program) (stop_after top.rules names (name_of task ∷ rest))) _ DisplayHelp
     (top_walks task rest) (ap (entered_fault (built program)) (stops task rest) ∙ entered_fault-named task rest ∙ asks)
 
 long_second : (task : Task) (rest : List Text) → level (name_of task) (codes "--help" ∷ rest) ≡ DisplayHelp ∷ []
@@ -65,7 +67,8 @@ short_second Values rest = refl
 short_second Check rest = refl
 short_second Replay rest = refl
 
-second : (task : Task) (word : Text) (rest : List Text) → IsHelpWord word → level (name_of task) (word ∷ rest) ≡ DisplayHelp ∷ []
+second : (task : Task) (word : Text) (rest : List Text) → IsHelpWord word
+    → level (name_of task) (word ∷ rest) ≡ DisplayHelp ∷ []
 second task word rest asks = elim asks [
   | inl long ↦ ap (λ w. level (name_of task) (w ∷ rest)) long ∙ long_second task rest
   | inr short ↦ ap (λ w. level (name_of task) (w ∷ rest)) short ∙ short_second task rest
@@ -73,7 +76,8 @@ second task word rest asks = elim asks [
 
 -- ---- help behind a file
 
-long_byte : (task : Task) (b : ℕ) (rest : List Text) (x : Bool) → nat_eq b 45 ≡ x → level (name_of task) ((b ∷ []) ∷ codes "--help" ∷ rest) ≡ DisplayHelp ∷ []
+long_byte : (task : Task) (b : ℕ) (rest : List Text) (x : Bool) → nat_eq b 45 ≡ x
+    → level (name_of task) ((b ∷ []) ∷ codes "--help" ∷ rest) ≡ DisplayHelp ∷ []
 unfolding clap_on_literals
 long_byte Values b rest true e = simp e
 long_byte Values b rest false e = simp e
@@ -82,7 +86,8 @@ long_byte Replay b rest true e = simp e
 long_byte Check b rest false e = simp e
 long_byte Replay b rest false e = simp e
 
-long_third : (task : Task) (file : Text) (rest : List Text) → begins_as_option file ≡ false → level (name_of task) (file ∷ codes "--help" ∷ rest) ≡ DisplayHelp ∷ []
+long_third : (task : Task) (file : Text) (rest : List Text) → begins_as_option file ≡ false
+    → level (name_of task) (file ∷ codes "--help" ∷ rest) ≡ DisplayHelp ∷ []
 unfolding clap_on_literals
 long_third Values [] rest h = refl
 long_third Check [] rest h = refl
@@ -92,7 +97,8 @@ long_third Values (b ∷ c ∷ more) rest h = simp h
 long_third Check (b ∷ c ∷ more) rest h = simp h
 long_third Replay (b ∷ c ∷ more) rest h = simp h
 
-short_byte : (task : Task) (b : ℕ) (rest : List Text) (x : Bool) → nat_eq b 45 ≡ x → level (name_of task) ((b ∷ []) ∷ codes "-h" ∷ rest) ≡ DisplayHelp ∷ []
+short_byte : (task : Task) (b : ℕ) (rest : List Text) (x : Bool) → nat_eq b 45 ≡ x
+    → level (name_of task) ((b ∷ []) ∷ codes "-h" ∷ rest) ≡ DisplayHelp ∷ []
 unfolding clap_on_literals
 short_byte Values b rest true e = simp e
 short_byte Values b rest false e = simp e
@@ -101,7 +107,8 @@ short_byte Replay b rest true e = simp e
 short_byte Check b rest false e = simp e
 short_byte Replay b rest false e = simp e
 
-short_third : (task : Task) (file : Text) (rest : List Text) → begins_as_option file ≡ false → level (name_of task) (file ∷ codes "-h" ∷ rest) ≡ DisplayHelp ∷ []
+short_third : (task : Task) (file : Text) (rest : List Text) → begins_as_option file ≡ false
+    → level (name_of task) (file ∷ codes "-h" ∷ rest) ≡ DisplayHelp ∷ []
 unfolding clap_on_literals
 short_third Values [] rest h = refl
 short_third Check [] rest h = refl
@@ -111,7 +118,8 @@ short_third Values (b ∷ c ∷ more) rest h = simp h
 short_third Check (b ∷ c ∷ more) rest h = simp h
 short_third Replay (b ∷ c ∷ more) rest h = simp h
 
-third : (task : Task) (file word : Text) (rest : List Text) → begins_as_option file ≡ false → IsHelpWord word → level (name_of task) (file ∷ word ∷ rest) ≡ DisplayHelp ∷ []
+third : (task : Task) (file word : Text) (rest : List Text) → begins_as_option file ≡ false → IsHelpWord word
+    → level (name_of task) (file ∷ word ∷ rest) ≡ DisplayHelp ∷ []
 third task file word rest plain asks = elim asks [
   | inl long ↦ ap (λ w. level (name_of task) (file ∷ w ∷ rest)) long ∙ long_third task file rest plain
   | inr short ↦ ap (λ w. level (name_of task) (file ∷ w ∷ rest)) short ∙ short_third task file rest plain
@@ -119,11 +127,14 @@ third task file word rest plain asks = elim asks [
 
 -- ---- the three
 
-behind : (front : List Text) (word : Text) (rest : List Text) → MayStandBeforeHelp front → IsHelpWord word → AsksForHelpAlone (front ++ word ∷ rest)
+behind : (front : List Text) (word : Text) (rest : List Text) → MayStandBeforeHelp front → IsHelpWord word
+    → AsksForHelpAlone (front ++ word ∷ rest)
 behind [] word rest before asks = first word rest asks
-behind (name ∷ []) word rest (task, is) asks = subst (λ n. AsksForHelpAlone (n ∷ word ∷ rest)) (sym is) (below task _ (second task word rest asks))
+behind (name ∷ []) word rest (task, is) asks =
+    subst (λ n. AsksForHelpAlone (n ∷ word ∷ rest)) (sym is) (below task _ (second task word rest asks))
 behind (name ∷ file ∷ []) word rest ((task, is), plain) asks =
-    subst (λ n. AsksForHelpAlone (n ∷ file ∷ word ∷ rest)) (sym is) (below task _ (third task file word rest plain asks))
+    subst (λ n. AsksForHelpAlone (n ∷ file ∷ word ∷ rest)) (sym is)
+    (below task _ (third task file word rest plain asks))
 behind (name ∷ file ∷ other ∷ more) word rest before asks = absurd before
 
 asks_alone : (words : List Text) → AsksPlainlyForHelp words → AsksForHelpAlone words
@@ -138,7 +149,8 @@ pub help_is_not_taken : (words : List Text) → fault_of program words ≡ [] �
 help_is_not_taken words none h = help_alone_is_not_taken words none (asks_alone words h)
 
 -- the error of words that ask for help
-pub help_given : (words : List Text) (e : LineError) → AsksPlainlyForHelp words → IsLineError words e → IsHelpFor words e
+pub help_given : (words : List Text) (e : LineError) → AsksPlainlyForHelp words → IsLineError words e
+    → IsHelpFor words e
 help_given words (Help text) h told = told.2
 help_given words Usage h told = told.1 (asks_alone words h)
 help_given words Memory h told = tt

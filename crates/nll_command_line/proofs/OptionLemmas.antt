@@ -25,29 +25,35 @@ some_of (Some x) h = (x, refl)
 -- ---- one more option
 
 -- an option of another kind gives nothing
-same : {Y : Type 0} (h : Given → Option Y) (given : List Given) (g : Given) (ys : List Y) → h g ≡ None → filter_map h given ≡ ys → filter_map h (given ++ g ∷ []) ≡ ys
+same : {Y : Type 0} (h : Given → Option Y) (given : List Given) (g : Given) (ys : List Y) → h g ≡ None
+    → filter_map h given ≡ ys → filter_map h (given ++ g ∷ []) ≡ ys
 same {Y = Y} h given g ys nothing e =
-    filter_map-append h given (g ∷ []) ∙ (ap (λ xs. filter_map h given ++ xs) one ∙ (append-nil (filter_map h given) ∙ e))
+    filter_map-append h given (g ∷ []) ∙
+    (ap (λ xs. filter_map h given ++ xs) one ∙ (append-nil (filter_map h given) ∙ e))
   where
     one : filter_map h (g ∷ []) ≡ []
     one = rw nothing refl
 
 -- one of the kind gives its value
-more : {Y : Type 0} (h : Given → Option Y) (given : List Given) (g : Given) (y : Y) (o : Option Y) → h g ≡ Some y → o ≡ None → filter_map h given ≡ option_to_list o → filter_map h (given ++ g ∷ []) ≡ y ∷ []
+more : {Y : Type 0} (h : Given → Option Y) (given : List Given) (g : Given) (y : Y) (o : Option Y) → h g ≡ Some y
+    → o ≡ None → filter_map h given ≡ option_to_list o → filter_map h (given ++ g ∷ []) ≡ y ∷ []
 more h given g y o gives empty e =
     let before : filter_map h given ≡ [] = e ∙ ap option_to_list empty in
     let last : filter_map h (g ∷ []) ≡ y ∷ [] = rw gives refl in
     filter_map-append h given (g ∷ []) ∙ (ap (λ xs. xs ++ filter_map h (g ∷ [])) before ∙ last)
 
 -- two options of one kind give two values
-two : {Y : Type 0} (h : Given → Option Y) (given : List Given) (g : Given) (later : List Given) (y z : Y) (o all : Option Y) → h g ≡ Some z → o ≡ Some y → filter_map h given ≡ option_to_list o → filter_map h (given ++ g ∷ later) ≡ option_to_list all → ⊥
+two : {Y : Type 0} (h : Given → Option Y) (given : List Given) (g : Given) (later : List Given) (y z : Y)
+    (o all : Option Y) → h g ≡ Some z → o ≡ Some y → filter_map h given ≡ option_to_list o
+    → filter_map h (given ++ g ∷ later) ≡ option_to_list all → ⊥
 two {Y = Y} h given g later y z o all gives there e f = at_most all (sym two_values ∙ f)
   where
     two_values : filter_map h (given ++ g ∷ later) ≡ y ∷ z ∷ filter_map h later
     two_values =
         let before : filter_map h given ≡ y ∷ [] = e ∙ ap option_to_list there in
         let last : filter_map h (g ∷ later) ≡ z ∷ filter_map h later = rw gives refl in
-        filter_map-append h given (g ∷ later) ∙ (ap (λ xs. xs ++ filter_map h (g ∷ later)) before ∙ ap (λ xs. y ∷ xs) last)
+        filter_map-append h given (g ∷ later)
+        ∙ (ap (λ xs. xs ++ filter_map h (g ∷ later)) before ∙ ap (λ xs. y ∷ xs) last)
 
     at_most : (o : Option Y) → y ∷ z ∷ filter_map h later ≡ option_to_list o → ⊥
     at_most None e = cc
@@ -81,7 +87,8 @@ module _ (given : List Given) (said : Said) (s : Says given said) where
     schedule = same schedule_in given (cut file) _ refl s.schedule;
   }
 
-  pub more_mail : (kind : MailKind) → said.mail ≡ None → Says (given ++ mail kind ∷ []) (record said { mail = Some kind })
+  pub more_mail : (kind : MailKind) → said.mail ≡ None
+      → Says (given ++ mail kind ∷ []) (record said { mail = Some kind })
   more_mail kind empty = record {
     owners = same owners_in given (mail kind) _ refl s.owners;
     deal = same deal_in given (mail kind) _ refl s.deal;
@@ -90,7 +97,8 @@ module _ (given : List Given) (said : Said) (s : Says given said) where
     schedule = same schedule_in given (mail kind) _ refl s.schedule;
   }
 
-  pub more_schedule : (file : List ℕ) → said.schedule ≡ None → Says (given ++ schedule file ∷ []) (record said { schedule = Some file })
+  pub more_schedule : (file : List ℕ) → said.schedule ≡ None
+      → Says (given ++ schedule file ∷ []) (record said { schedule = Some file })
   more_schedule file empty = record {
     owners = same owners_in given (schedule file) _ refl s.owners;
     deal = same deal_in given (schedule file) _ refl s.deal;
@@ -101,18 +109,23 @@ module _ (given : List Given) (said : Said) (s : Says given said) where
 
   -- ---- an option that is there already, or of a value that is none
 
-  pub no_more_owners : (value : List ℕ) → ((n : ℕ) → value ≡ decimal n → 0 < n → n ≤ 64 → (m : ℕ) × (said.owners ≡ Some m)) → IsUnfit given key.Owners value
+  pub no_more_owners : (value : List ℕ)
+      → ((n : ℕ) → value ≡ decimal n → 0 < n → n ≤ 64 → (m : ℕ) × (said.owners ≡ Some m))
+      → IsUnfit given key.Owners value
   no_more_owners value there (owners n) later all is_key is_value lawful says =
-      let m = there n (sym is_value) lawful.0 lawful.1 in two owners_in given (owners n) later m.0 n said.owners all.owners refl m.1 s.owners says.owners
+      let m = there n (sym is_value) lawful.0 lawful.1 in
+      two owners_in given (owners n) later m.0 n said.owners all.owners refl m.1 s.owners says.owners
   no_more_owners value there (deal how) later all is_key is_value lawful says = cc
   no_more_owners value there (cut file) later all is_key is_value lawful says = cc
   no_more_owners value there (mail kind) later all is_key is_value lawful says = cc
   no_more_owners value there (schedule file) later all is_key is_value lawful says = cc
 
-  pub no_more_deal : (value : List ℕ) → ((how : Deal) → value ≡ value_of (deal how) → (d : Deal) × (said.deal ≡ Some d)) → IsUnfit given key.Deal value
+  pub no_more_deal : (value : List ℕ) → ((how : Deal) → value ≡ value_of (deal how) → (d : Deal) × (said.deal ≡ Some d))
+      → IsUnfit given key.Deal value
   no_more_deal value there (owners n) later all is_key is_value lawful says = cc
   no_more_deal value there (deal how) later all is_key is_value lawful says =
-      let m = there how (sym is_value) in two deal_in given (deal how) later m.0 how said.deal all.deal refl m.1 s.deal says.deal
+      let m = there how (sym is_value) in
+      two deal_in given (deal how) later m.0 how said.deal all.deal refl m.1 s.deal says.deal
   no_more_deal value there (cut file) later all is_key is_value lawful says = cc
   no_more_deal value there (mail kind) later all is_key is_value lawful says = cc
   no_more_deal value there (schedule file) later all is_key is_value lawful says = cc
@@ -120,16 +133,20 @@ module _ (given : List Given) (said : Said) (s : Says given said) where
   pub no_more_cut : (value file : List ℕ) → said.cut ≡ Some file → IsUnfit given key.Cut value
   no_more_cut value there is (owners n) later all is_key is_value lawful says = cc
   no_more_cut value there is (deal how) later all is_key is_value lawful says = cc
-  no_more_cut value there is (cut file) later all is_key is_value lawful says = two cut_in given (cut file) later there file said.cut all.cut refl is s.cut says.cut
+  no_more_cut value there is (cut file) later all is_key is_value lawful says =
+      two cut_in given (cut file) later there file said.cut all.cut refl is s.cut says.cut
   no_more_cut value there is (mail kind) later all is_key is_value lawful says = cc
   no_more_cut value there is (schedule file) later all is_key is_value lawful says = cc
 
-  pub no_more_mail : (value : List ℕ) → ((kind : MailKind) → value ≡ value_of (mail kind) → (k : MailKind) × (said.mail ≡ Some k)) → IsUnfit given key.Mail value
+  pub no_more_mail : (value : List ℕ)
+      → ((kind : MailKind) → value ≡ value_of (mail kind) → (k : MailKind) × (said.mail ≡ Some k))
+      → IsUnfit given key.Mail value
   no_more_mail value there (owners n) later all is_key is_value lawful says = cc
   no_more_mail value there (deal how) later all is_key is_value lawful says = cc
   no_more_mail value there (cut file) later all is_key is_value lawful says = cc
   no_more_mail value there (mail kind) later all is_key is_value lawful says =
-      let m = there kind (sym is_value) in two mail_in given (mail kind) later m.0 kind said.mail all.mail refl m.1 s.mail says.mail
+      let m = there kind (sym is_value) in
+      two mail_in given (mail kind) later m.0 kind said.mail all.mail refl m.1 s.mail says.mail
   no_more_mail value there (schedule file) later all is_key is_value lawful says = cc
 
   pub no_more_schedule : (value file : List ℕ) → said.schedule ≡ Some file → IsUnfit given key.Schedule value
@@ -144,7 +161,8 @@ module _ (given : List Given) (said : Said) (s : Says given said) where
 
 -- an option is pinned by its word and its value
 pub same_option : (g h : Given) → IsLawful g → IsLawful h → key_of g ≡ key_of h → value_of g ≡ value_of h → g ≡ h
-same_option (owners m) (owners n) a b k v = ap owners (decimal_injective m n (omega (arith, a.1)) (omega (arith, b.1)) v)
+same_option (owners m) (owners n) a b k v =
+    ap owners (decimal_injective m n (omega (arith, a.1)) (omega (arith, b.1)) v)
 same_option (deal Round) (deal Round) a b k v = refl
 same_option (deal Round) (deal Blocks) a b k v = cc
 same_option (deal Blocks) (deal Round) a b k v = cc
@@ -192,4 +210,5 @@ same_said given a b s t =
     ∙ (ap (λ d. said_with b.owners d a.cut a.mail a.schedule) (one_list a.deal b.deal (sym s.deal ∙ t.deal))
     ∙ (ap (λ c. said_with b.owners b.deal c a.mail a.schedule) (one_list a.cut b.cut (sym s.cut ∙ t.cut))
     ∙ (ap (λ m. said_with b.owners b.deal b.cut m a.schedule) (one_list a.mail b.mail (sym s.mail ∙ t.mail))
-    ∙ ap (λ f. said_with b.owners b.deal b.cut b.mail f) (one_list a.schedule b.schedule (sym s.schedule ∙ t.schedule)))))
+    ∙ ap (λ f. said_with b.owners b.deal b.cut b.mail f)
+    (one_list a.schedule b.schedule (sym s.schedule ∙ t.schedule)))))

@@ -29,20 +29,29 @@ placed_none _ _ _ no_words e = (refl, refl)
 placed_none _ _ _ (unread first rest begins) e = cc
 placed_none _ _ _ (behind given first others rest plain h) e = cc
 
-placed_unread : (gs : List Given) (os ws : List Text) → ArePlaced gs os ws → (first : Text) (rest : List Text) → ws ≡ first ∷ rest → begins_as_option first ≡ true → (gs ≡ []) × (os ≡ first ∷ rest)
+placed_unread : (gs : List Given) (os ws : List Text) → ArePlaced gs os ws → (first : Text) (rest : List Text)
+    → ws ≡ first ∷ rest → begins_as_option first ≡ true → (gs ≡ []) × (os ≡ first ∷ rest)
 placed_unread _ _ _ no_words first rest e begins = cc
 placed_unread _ _ _ (unread word words h) first rest e begins = (refl, e)
-placed_unread _ _ _ (behind given word others words plain h) first rest e begins = absurd (true≢false (sym begins ∙ (ap begins_as_option (sym (head e)) ∙ plain)))
+placed_unread _ _ _ (behind given word others words plain h) first rest e begins =
+    absurd (true≢false (sym begins ∙ (ap begins_as_option (sym (head e)) ∙ plain)))
 
-placed_behind : (gs : List Given) (os ws : List Text) → ArePlaced gs os ws → (first : Text) (rest : List Text) → ws ≡ first ∷ rest → begins_as_option first ≡ false → (more : List Text) × (os ≡ first ∷ more) × HasOptions gs more rest
+placed_behind : (gs : List Given) (os ws : List Text) → ArePlaced gs os ws → (first : Text) (rest : List Text)
+    → ws ≡ first ∷ rest → begins_as_option first ≡ false
+    → (more : List Text) × (os ≡ first ∷ more) × HasOptions gs more rest
 placed_behind _ _ _ no_words first rest e plain = cc
-placed_behind _ _ _ (unread word words begins) first rest e plain = absurd (true≢false (sym begins ∙ (ap begins_as_option (head e) ∙ plain)))
-placed_behind _ _ _ (behind given word others words p h) first rest e plain = (others, ap (λ (x : Text). x ∷ others) (head e), subst (λ (xs : List Text). HasOptions given others xs) (tail e) h)
+placed_behind _ _ _ (unread word words begins) first rest e plain =
+    absurd (true≢false (sym begins ∙ (ap begins_as_option (head e) ∙ plain)))
+placed_behind _ _ _ (behind given word others words p h) first rest e plain =
+    (others, ap (λ (x : Text). x ∷ others) (head e), subst (λ (xs : List Text). HasOptions given others xs) (tail e) h)
 
 -- where all options are among those behind the first word, so is what they give
-just_said : (given : List Given) (said : Said) (words others : List Text) → Says given said → ((gs : List Given) (os : List Text) → ArePlaced gs os words → (gs ≡ given) × (os ≡ others)) → AreReadJust words others said
+just_said : (given : List Given) (said : Said) (words others : List Text) → Says given said
+    → ((gs : List Given) (os : List Text) → ArePlaced gs os words → (gs ≡ given) × (os ≡ others))
+    → AreReadJust words others said
 just_said given said words others says just os s r =
-    let h = just r.given os r.placed in (h.1, same_said given s said (subst (λ (gs : List Given). Says gs s) h.0 r.says) says)
+    let h = just r.given os r.placed in
+    (h.1, same_said given s said (subst (λ (gs : List Given). Says gs s) h.0 r.says) says)
 
 empty_list : {X : Type 0} (o : Option X) → option_to_list o ≡ [] → o ≡ None
 empty_list None e = refl
@@ -67,14 +76,19 @@ module _ (words : List Text) (said : Said) (says : Says [] said) where
     unread_read = record { given = []; placed = rw e (unread first rest begins); says = says; one_cut = nothing_cut }
 
     pub unread_read_just : AreReadJust words words said
-    unread_read_just = just_said [] said words words says (λ gs os h. let t = placed_unread gs os words h first rest e begins in (t.0, t.1 ∙ sym e))
+    unread_read_just =
+        just_said [] said words words says (λ gs os h. let t = placed_unread gs os words h first rest e begins in
+        (t.0, t.1 ∙ sym e))
 
 -- ---- a first word that does not
 
-module _ (words : List Text) (first : Text) (rest : List Text) (e : words ≡ first ∷ rest) (plain : begins_as_option first ≡ false) where
+module _ (words : List Text) (first : Text) (rest : List Text) (e : words ≡ first ∷ rest)
+    (plain : begins_as_option first ≡ false) where
   module _ (given : List Given) (others : List Text) (said : Said) (says : Says given said) where
-    pub behind_read : HasOptions given others rest → (said.deal ≡ None) ⊎ (said.cut ≡ None) → AreRead words (first ∷ others) said
-    behind_read h one = record { given = given; placed = rw e (behind given first others rest plain h); says = says; one_cut = one }
+    pub behind_read : HasOptions given others rest → (said.deal ≡ None) ⊎ (said.cut ≡ None)
+        → AreRead words (first ∷ others) said
+    behind_read h one =
+        record { given = given; placed = rw e (behind given first others rest plain h); says = says; one_cut = one }
 
     pub behind_read_just : HasJust given others rest → AreReadJust words (first ∷ others) said
     behind_read_just just = just_said given said words (first ∷ others) says (λ gs os h.
@@ -85,20 +99,24 @@ module _ (words : List Text) (first : Text) (rest : List Text) (e : words ≡ fi
     pub behind_two_cuts : HasJust given others rest → said.deal ≢ None → said.cut ≢ None → AreUnreadable words
     behind_two_cuts just dealt cut os s r =
         let same : s ≡ said = (behind_read_just just os s r).1 in
-        ⊎_elim (λ h. dealt (sym (ap (λ (x : Said). x.deal) same) ∙ h)) (λ h. cut (sym (ap (λ (x : Said). x.cut) same) ∙ h)) r.one_cut
+        ⊎_elim (λ h. dealt (sym (ap (λ (x : Said). x.deal) same) ∙ h))
+        (λ h. cut (sym (ap (λ (x : Said). x.cut) same) ∙ h)) r.one_cut
 
   pub behind_none : HasNone rest → AreUnreadable words
-  behind_none nothing os s r = let t = placed_behind r.given os words r.placed first rest e plain in nothing r.given t.0 s t.2 r.says
+  behind_none nothing os s r = let t = placed_behind r.given os words r.placed first rest e plain in
+      nothing r.given t.0 s t.2 r.says
 
 -- ---- there is one reading
 
-pub read_in_one_way : (words others : List Text) (said : Said) → AreRead words others said → AreReadJust words others said
+pub read_in_one_way : (words others : List Text) (said : Said) → AreRead words others said
+    → AreReadJust words others said
 read_in_one_way words others said read = at read.given others words read.placed read.says
   where
     at : (gs : List Given) (os ws : List Text) → ArePlaced gs os ws → Says gs said → AreReadJust ws os said
     at _ _ _ no_words says = none_read_just [] said says refl
     at _ _ _ (unread first rest begins) says = unread_read_just (first ∷ rest) said says first rest refl begins
-    at _ _ _ (behind given first others rest plain h) says = behind_read_just (first ∷ rest) first rest refl plain given others said says (one_way given others rest h)
+    at _ _ _ (behind given first others rest plain h) says =
+        behind_read_just (first ∷ rest) first rest refl plain given others said says (one_way given others rest h)
 
 -- ---- words without options
 
@@ -130,7 +148,8 @@ dashes = record { begins = refl; alone = no_key; joined = no_joined }
 plain_placed : (task : Task) (file : Text) (words : List Text) → IsPlainLine task file words → ArePlaced [] words words
 plain_placed task file words (inl h) = rw h.0 (behind [] _ _ _ (named task) (other [] file [] [] h.1 none))
 plain_placed task file words (inr (inl h)) = rw h (behind [] _ _ _ (named task) (ends _ _ dashes))
-plain_placed task file words (inr (inr h)) = rw h.0 (behind [] _ _ _ (named task) (other [] file _ _ h.1 (ends _ _ dashes)))
+plain_placed task file words (inr (inr h)) =
+    rw h.0 (behind [] _ _ _ (named task) (other [] file _ _ h.1 (ends _ _ dashes)))
 
 help_key : (w : Text) → IsHelpWord w → (k : Key) → w ≡ word_of k → ⊥
 help_key w (inl h) key.Owners e = differ (codes "--help") (word_of key.Owners) refl (sym h ∙ e)
@@ -163,10 +182,12 @@ help_begins w (inr h) = rw h refl
 help_ends : (w : Text) → IsHelpWord w → EndsOptions w
 help_ends w h = record { begins = help_begins w h; alone = help_key w h; joined = help_joined w h }
 
-by_front : (front : List Text) (w : Text) (rest : List Text) → MayStandBeforeHelp front → IsHelpWord w → ArePlaced [] (front ++ w ∷ rest) (front ++ w ∷ rest)
+by_front : (front : List Text) (w : Text) (rest : List Text) → MayStandBeforeHelp front → IsHelpWord w
+    → ArePlaced [] (front ++ w ∷ rest) (front ++ w ∷ rest)
 by_front [] w rest before h = unread w rest (help_begins w h)
 by_front (name ∷ []) w rest before h = behind [] name _ _ (rw before.1 (named before.0)) (ends w rest (help_ends w h))
-by_front (name ∷ file ∷ []) w rest before h = behind [] name _ _ (rw before.0.1 (named before.0.0)) (other [] file _ _ before.1 (ends w rest (help_ends w h)))
+by_front (name ∷ file ∷ []) w rest before h =
+    behind [] name _ _ (rw before.0.1 (named before.0.0)) (other [] file _ _ before.1 (ends w rest (help_ends w h)))
 by_front (name ∷ file ∷ more ∷ others) w rest before h = absurd before
 
 help_placed : (words : List Text) → AsksPlainlyForHelp words → ArePlaced [] words words
@@ -175,8 +196,10 @@ help_placed words h = rw h.are (by_front h.front h.word h.rest h.before h.asks)
 nothing_said : Says [] no_options
 nothing_said = record { owners = refl; deal = refl; cut = refl; mail = refl; schedule = refl }
 
-pub plain_read : (task : Task) (file : Text) (words : List Text) → IsPlainLine task file words → AreRead words words no_options
-plain_read task file words h = record { given = []; placed = plain_placed task file words h; says = nothing_said; one_cut = inl refl }
+pub plain_read : (task : Task) (file : Text) (words : List Text) → IsPlainLine task file words
+    → AreRead words words no_options
+plain_read task file words h =
+    record { given = []; placed = plain_placed task file words h; says = nothing_said; one_cut = inl refl }
 
 pub help_read : (words : List Text) → AsksPlainlyForHelp words → AreRead words words no_options
 help_read words h = record { given = []; placed = help_placed words h; says = nothing_said; one_cut = inl refl }

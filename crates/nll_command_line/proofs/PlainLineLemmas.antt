@@ -18,7 +18,8 @@ takes-byte Check b false e = simp e
 takes-byte Replay b false e = simp e
 
 -- a file alone, whose first byte is a hyphen only where it is the last
-takes-alone : (task : Task) (file : Text) → begins_as_option file ≡ false → takes program (name_of task ∷ file ∷ []) ≡ true
+takes-alone : (task : Task) (file : Text) → begins_as_option file ≡ false
+    → takes program (name_of task ∷ file ∷ []) ≡ true
 unfolding clap_on_literals
 takes-alone Values [] h = refl
 takes-alone Check [] h = refl
@@ -29,7 +30,8 @@ takes-alone Check (b ∷ c ∷ rest) h = simp h
 takes-alone Replay (b ∷ c ∷ rest) h = simp h
 
 -- a file before the end of the options
-takes-before-byte : (task : Task) (b : ℕ) (x : Bool) → nat_eq b 45 ≡ x → takes program (name_of task ∷ (b ∷ []) ∷ codes "--" ∷ []) ≡ true
+takes-before-byte : (task : Task) (b : ℕ) (x : Bool) → nat_eq b 45 ≡ x
+    → takes program (name_of task ∷ (b ∷ []) ∷ codes "--" ∷ []) ≡ true
 unfolding clap_on_literals
 takes-before-byte Values b true e = simp e
 takes-before-byte Values b false e = simp e
@@ -38,7 +40,8 @@ takes-before-byte Replay b true e = simp e
 takes-before-byte Check b false e = simp e
 takes-before-byte Replay b false e = simp e
 
-takes-before : (task : Task) (file : Text) → begins_as_option file ≡ false → takes program (name_of task ∷ file ∷ codes "--" ∷ []) ≡ true
+takes-before : (task : Task) (file : Text) → begins_as_option file ≡ false
+    → takes program (name_of task ∷ file ∷ codes "--" ∷ []) ≡ true
 unfolding clap_on_literals
 takes-before Values [] h = refl
 takes-before Check [] h = refl
@@ -55,7 +58,8 @@ takes-after Values file = refl
 takes-after Check file = refl
 takes-after Replay file = refl
 
-line-byte : (task : Task) (b : ℕ) (x : Bool) → nat_eq b 45 ≡ x → line_by_grammar (name_of task ∷ (b ∷ []) ∷ []) ≡ Some (task, b ∷ [])
+line-byte : (task : Task) (b : ℕ) (x : Bool) → nat_eq b 45 ≡ x
+    → line_by_grammar (name_of task ∷ (b ∷ []) ∷ []) ≡ Some (task, b ∷ [])
 unfolding clap_on_literals
 line-byte Values b true e = simp e
 line-byte Values b false e = simp e
@@ -64,7 +68,8 @@ line-byte Replay b true e = simp e
 line-byte Check b false e = simp e
 line-byte Replay b false e = simp e
 
-line-alone : (task : Task) (file : Text) → begins_as_option file ≡ false → line_by_grammar (name_of task ∷ file ∷ []) ≡ Some (task, file)
+line-alone : (task : Task) (file : Text) → begins_as_option file ≡ false
+    → line_by_grammar (name_of task ∷ file ∷ []) ≡ Some (task, file)
 unfolding clap_on_literals
 line-alone Values [] h = refl
 line-alone Check [] h = refl
@@ -74,7 +79,8 @@ line-alone Values (b ∷ c ∷ rest) h = simp h
 line-alone Check (b ∷ c ∷ rest) h = simp h
 line-alone Replay (b ∷ c ∷ rest) h = simp h
 
-line-before-byte : (task : Task) (b : ℕ) (x : Bool) → nat_eq b 45 ≡ x → line_by_grammar (name_of task ∷ (b ∷ []) ∷ codes "--" ∷ []) ≡ Some (task, b ∷ [])
+line-before-byte : (task : Task) (b : ℕ) (x : Bool) → nat_eq b 45 ≡ x
+    → line_by_grammar (name_of task ∷ (b ∷ []) ∷ codes "--" ∷ []) ≡ Some (task, b ∷ [])
 unfolding clap_on_literals
 line-before-byte Values b true e = simp e
 line-before-byte Values b false e = simp e
@@ -83,7 +89,8 @@ line-before-byte Replay b true e = simp e
 line-before-byte Check b false e = simp e
 line-before-byte Replay b false e = simp e
 
-line-before : (task : Task) (file : Text) → begins_as_option file ≡ false → line_by_grammar (name_of task ∷ file ∷ codes "--" ∷ []) ≡ Some (task, file)
+line-before : (task : Task) (file : Text) → begins_as_option file ≡ false
+    → line_by_grammar (name_of task ∷ file ∷ codes "--" ∷ []) ≡ Some (task, file)
 unfolding clap_on_literals
 line-before Values [] h = refl
 line-before Check [] h = refl
@@ -99,7 +106,8 @@ line-after Values file = refl
 line-after Check file = refl
 line-after Replay file = refl
 
-pub takes-plain : (task : Task) (file : Text) (words : List Text) → IsPlainLine task file words → takes program words ≡ true
+pub takes-plain : (task : Task) (file : Text) (words : List Text) → IsPlainLine task file words
+    → takes program words ≡ true
 takes-plain task file words h = elim h [
   | inl alone ↦ ap (takes program) alone.0 ∙ takes-alone task file alone.1
   | inr behind ↦ elim behind [
@@ -108,7 +116,8 @@ takes-plain task file words h = elim h [
   ]
 ]
 
-pub line_by_grammar-plain : (task : Task) (file : Text) (words : List Text) → IsPlainLine task file words → line_by_grammar words ≡ Some (task, file)
+pub line_by_grammar-plain : (task : Task) (file : Text) (words : List Text) → IsPlainLine task file words
+    → line_by_grammar words ≡ Some (task, file)
 line_by_grammar-plain task file words h = elim h [
   | inl alone ↦ ap line_by_grammar alone.0 ∙ line-alone task file alone.1
   | inr behind ↦ elim behind [

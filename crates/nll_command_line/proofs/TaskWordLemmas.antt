@@ -44,20 +44,24 @@ long_is_refused name false e v = simp e
 long_is_refused name true e None = simp e
 long_is_refused name true e (Some v) = simp e
 
-module _ (w : Text) (values : bytes_eq (codes "values") w ≡ false) (check : bytes_eq (codes "check") w ≡ false) (replay : bytes_eq (codes "replay") w ≡ false) (dashes : bytes_eq w (codes "--") ≡ false) where
-  by_short_name : (flags : Text) (x : ℕ) (is_h : Bool) → long_of w ≡ None → short_of w ≡ Some flags → slice_get (chars flags) 0 ≡ Some x → nat_eq 104 x ≡ is_h
+module _ (w : Text) (values : bytes_eq (codes "values") w ≡ false) (check : bytes_eq (codes "check") w ≡ false)
+    (replay : bytes_eq (codes "replay") w ≡ false) (dashes : bytes_eq w (codes "--") ≡ false) where
+  by_short_name : (flags : Text) (x : ℕ) (is_h : Bool) → long_of w ≡ None → short_of w ≡ Some flags
+      → slice_get (chars flags) 0 ≡ Some x → nat_eq 104 x ≡ is_h
       → is_none (turn_fault top names start w) ≡ false
   unfolding flags_fault bundle_met
   by_short_name [] x is_h l s first e = simp (values, check, replay, dashes, l, s)
   by_short_name (f ∷ fs) x true l s first e = simp (values, check, replay, dashes, l, s, first, e)
   by_short_name (f ∷ fs) x false l s first e = simp (values, check, replay, dashes, l, s, first, e)
 
-  no_short_name : (flags : Text) → long_of w ≡ None → short_of w ≡ Some flags → slice_get (chars flags) 0 ≡ None → is_none (turn_fault top names start w) ≡ false
+  no_short_name : (flags : Text) → long_of w ≡ None → short_of w ≡ Some flags → slice_get (chars flags) 0 ≡ None
+      → is_none (turn_fault top names start w) ≡ false
   unfolding flags_fault bundle_met
   no_short_name [] l s first = simp (values, check, replay, dashes, l, s)
   no_short_name (f ∷ fs) l s first = simp (values, check, replay, dashes, l, s, first)
 
-  by_first : (flags : Text) (o : Option ℕ) → slice_get (chars flags) 0 ≡ o → long_of w ≡ None → short_of w ≡ Some flags → is_none (turn_fault top names start w) ≡ false
+  by_first : (flags : Text) (o : Option ℕ) → slice_get (chars flags) 0 ≡ o → long_of w ≡ None → short_of w ≡ Some flags
+      → is_none (turn_fault top names start w) ≡ false
   by_first flags None first l s = no_short_name flags l s first
   by_first flags (Some x) first l s = by_short_name flags x (nat_eq 104 x) l s first refl
 
@@ -86,25 +90,33 @@ no_words : is_none (fault_of program []) ≡ false
 unfolding clap_on_literals
 no_words = refl
 
-refused_first : (w : Text) (rest : List Text) → is_none (turn_fault top names start w) ≡ false → is_none (fault_of program (w ∷ rest)) ≡ false
+refused_first : (w : Text) (rest : List Text) → is_none (turn_fault top names start w) ≡ false
+    → is_none (fault_of program (w ∷ rest)) ≡ false
 unfolding walk_fault
 refused_first w rest h = or_else-left _ _ (or_else-left (turn_fault top names start w) _ h)
 
 pub bytes_are : (a b : Text) → bytes_eq a b ≡ true → a ≡ b
 bytes_are a b e = (bytes_eq-Decides a b).0 e
 
-pub task_first : (words : List Text) → is_none (fault_of program words) ≡ true → (task : Task) × (rest : List Text) × (words ≡ name_of task ∷ rest)
+pub task_first : (words : List Text) → is_none (fault_of program words) ≡ true
+    → (task : Task) × (rest : List Text) × (words ≡ name_of task ∷ rest)
 task_first [] h = absurd (true≢false (sym h ∙ no_words))
-task_first (w ∷ rest) h = by_name (bytes_eq (codes "values") w) (bytes_eq (codes "check") w) (bytes_eq (codes "replay") w) (bytes_eq w (codes "--")) refl refl refl refl
+task_first (w ∷ rest) h =
+    by_name (bytes_eq (codes "values") w) (bytes_eq (codes "check") w) (bytes_eq (codes "replay") w)
+    (bytes_eq w (codes "--")) refl refl refl refl
   where
-    by_name : (v k r d : Bool) → bytes_eq (codes "values") w ≡ v → bytes_eq (codes "check") w ≡ k → bytes_eq (codes "replay") w ≡ r → bytes_eq w (codes "--") ≡ d
+    by_name : (v k r d : Bool) → bytes_eq (codes "values") w ≡ v → bytes_eq (codes "check") w ≡ k
+        → bytes_eq (codes "replay") w ≡ r → bytes_eq w (codes "--") ≡ d
         → (task : Task) × (others : List Text) × (w ∷ rest ≡ name_of task ∷ others)
     by_name true k r d values check replay dashes = (Values, rest, ap (λ x. x ∷ rest) (sym (bytes_are _ _ values)))
     by_name false true r d values check replay dashes = (Check, rest, ap (λ x. x ∷ rest) (sym (bytes_are _ _ check)))
-    by_name false false true d values check replay dashes = (Replay, rest, ap (λ x. x ∷ rest) (sym (bytes_are _ _ replay)))
+    by_name false false true d values check replay dashes =
+        (Replay, rest, ap (λ x. x ∷ rest) (sym (bytes_are _ _ replay)))
     by_name false false false true values check replay dashes =
-        absurd (true≢false (sym h ∙ ap (λ x. is_none (fault_of program (x ∷ rest))) (bytes_are _ _ dashes) ∙ after_dashes rest))
-    by_name false false false false values check replay dashes = absurd (true≢false (sym h ∙ refused_first w rest (turn_is_refused w values check replay dashes)))
+        absurd (true≢false (sym h ∙ ap (λ x. is_none (fault_of program (x ∷ rest))) (bytes_are _ _ dashes)
+        ∙ after_dashes rest))
+    by_name false false false false values check replay dashes =
+        absurd (true≢false (sym h ∙ refused_first w rest (turn_is_refused w values check replay dashes)))
 
 -- the arguments of a command, as built
 abbrev pub first_shape : List Shape → Shape
@@ -114,16 +126,19 @@ first_shape (s ∷ rest) = s
 abbrev pub rules_for : List Rule
 rules_for = (first_shape (built program).subs).rules
 
-pub stops : (task : Task) (rest : List Text) → stop_after top.rules names (name_of task ∷ rest) ≡ Some (name_of task, rest)
+pub stops : (task : Task) (rest : List Text)
+    → stop_after top.rules names (name_of task ∷ rest) ≡ Some (name_of task, rest)
 unfolding walked
 stops Values rest = ap (λ (w : Walk). w.stopped) (sym (walk_stopped top.rules names start (codes "values") [] rest))
 stops Check rest = ap (λ (w : Walk). w.stopped) (sym (walk_stopped top.rules names start (codes "check") [] rest))
 stops Replay rest = ap (λ (w : Walk). w.stopped) (sym (walk_stopped top.rules names start (codes "replay") [] rest))
 
-enters : (task : Task) (rest : List Text) → entered (built program) (Some (name_of task, rest)) ≡ Some (name_of task, rows_after rules_for [] rest)
+enters : (task : Task) (rest : List Text)
+    → entered (built program) (Some (name_of task, rest)) ≡ Some (name_of task, rows_after rules_for [] rest)
 enters Values rest = refl
 enters Check rest = refl
 enters Replay rest = refl
 
-pub subcommand_of-named : (task : Task) (rest : List Text) → subcommand_of program (name_of task ∷ rest) ≡ Some (name_of task, rows_after rules_for [] rest)
+pub subcommand_of-named : (task : Task) (rest : List Text)
+    → subcommand_of program (name_of task ∷ rest) ≡ Some (name_of task, rows_after rules_for [] rest)
 subcommand_of-named task rest = ap (entered (built program)) (stops task rest) ∙ enters task rest

@@ -16,13 +16,19 @@ pair_of a b c d h k = cc
 module _ (kind : ℕ → ℕ → Type 0) where
   -- none at the start
   pub lists_first : ListsUpTo kind [] 0 0
-  lists_first x y = (λ h. absurd (omega (arith, h.1)), λ h. absurd (⊎_elim (λ less. omega (arith, less)) (λ same. omega (arith, same.1)) h.1))
+  lists_first x y = (
+    λ h. absurd (omega (arith, h.1)),
+    λ h.
+        absurd (⊎_elim (λ less. omega (arith, less)) (λ same. omega (arith, same.1)) h.1),
+  )
 
   -- a pair of the kind is added
-  pub lists_added : (pairs new : List (ℕ × ℕ)) (a b : ℕ) → ListsUpTo kind pairs a b → ((x : ℕ × ℕ) → Contains new x ↔ (Contains pairs x ⊎ ((a, b) ≡ x))) → kind a b → ListsUpTo kind new a (b + 1)
+  pub lists_added : (pairs new : List (ℕ × ℕ)) (a b : ℕ) → ListsUpTo kind pairs a b
+      → ((x : ℕ × ℕ) → Contains new x ↔ (Contains pairs x ⊎ ((a, b) ≡ x))) → kind a b → ListsUpTo kind new a (b + 1)
   lists_added pairs new a b lists adds h x y = (
     λ k. ⊎_elim
-        (λ old. let before = (lists x y).0 old in (before.0, ⊎_elim inl (λ same. inr (same.0, omega (arith, same.1))) before.1))
+        (λ old. let before = (lists x y).0 old in
+        (before.0, ⊎_elim inl (λ same. inr (same.0, omega (arith, same.1))) before.1))
         (λ is. let at : a ≡ x = ap (λ (z : ℕ × ℕ). z.0) is in let also : b ≡ y = ap (λ (z : ℕ × ℕ). z.1) is in
         (subst (λ (z : ℕ × ℕ). kind z.0 z.1) is h, inr (sym at, omega arith)))
         ((adds (x, y)).0 k),
@@ -36,7 +42,8 @@ module _ (kind : ℕ → ℕ → Type 0) where
   )
 
   -- one that isn't of the kind is passed over
-  pub lists_skipped : (pairs : List (ℕ × ℕ)) (a b : ℕ) → ListsUpTo kind pairs a b → (kind a b → ⊥) → ListsUpTo kind pairs a (b + 1)
+  pub lists_skipped : (pairs : List (ℕ × ℕ)) (a b : ℕ) → ListsUpTo kind pairs a b → (kind a b → ⊥)
+      → ListsUpTo kind pairs a (b + 1)
   lists_skipped pairs a b lists absent x y = (
     λ k. let before = (lists x y).0 k in (before.0, ⊎_elim inl (λ same. inr (same.0, omega (arith, same.1))) before.1),
     λ k. (lists x y).1 (
@@ -54,7 +61,8 @@ module _ (kind : ℕ → ℕ → Type 0) where
     -- a row is at its end
     pub lists_row : (pairs : List (ℕ × ℕ)) (a : ℕ) → ListsUpTo kind pairs a n → ListsUpTo kind pairs (a + 1) 0
     lists_row pairs a lists x y = (
-      λ k. let before = (lists x y).0 k in (before.0, inl (⊎_elim (λ less. omega (arith, less)) (λ same. omega (arith, same.0)) before.1)),
+      λ k. let before = (lists x y).0 k in
+          (before.0, inl (⊎_elim (λ less. omega (arith, less)) (λ same. omega (arith, same.0)) before.1)),
       λ k. (lists x y).1 (
         k.0,
         ⊎_elim
@@ -72,7 +80,8 @@ module _ (kind : ℕ → ℕ → Type 0) where
 
 module _ (q : Problem) (values : List (List Bool)) where
   -- a region that holds the end of no other has no fault, since each outlives itself
-  pub no_fault : (a : ℕ) → ((b : ℕ) → IsUniversal q b → b ≢ a → holds values a (end_of q b) ≡ false) → (b : ℕ) → IsFault q (IsHeld values) a b → ⊥
+  pub no_fault : (a : ℕ) → ((b : ℕ) → IsUniversal q b → b ≢ a → holds values a (end_of q b) ≡ false) → (b : ℕ)
+      → IsFault q (IsHeld values) a b → ⊥
   no_fault a none b fault = ⊎_elim
       (λ same. fault.3 ([], (tt, sym same)))
       (λ other. false≢true (sym (none b fault.1 other) ∙ fault.2))
@@ -81,27 +90,37 @@ module _ (q : Problem) (values : List (List Bool)) where
   pub finds_first : FindsUpTo q values [] 0 0
   finds_first = record { each = lists_first (IsFault q (IsHeld values)); ordered = λ i j d l h. absurd (omega arith) }
 
-  pub finds_added : (faults : List (ℕ × ℕ)) (a b : ℕ) → FindsUpTo q values faults a b → IsFault q (IsHeld values) a b → FindsUpTo q values (faults ++ (a, b) ∷ []) a (b + 1)
+  pub finds_added : (faults : List (ℕ × ℕ)) (a b : ℕ) → FindsUpTo q values faults a b → IsFault q (IsHeld values) a b
+      → FindsUpTo q values (faults ++ (a, b) ∷ []) a (b + 1)
   finds_added faults a b f fault = record {
     each = lists_added (IsFault q (IsHeld values)) faults (faults ++ (a, b) ∷ []) a b f.each
-        (λ x. (Contains-push_cases faults (a, b) x, ⊎_elim (Contains-append_left faults ((a, b) ∷ []) x) (λ is. subst (Contains (faults ++ (a, b) ∷ [])) is (Contains-push faults (a, b)))))
+        (λ x. (
+          Contains-push_cases faults (a, b) x,
+          ⊎_elim (Contains-append_left faults ((a, b) ∷ []) x)
+              (λ is. subst (Contains (faults ++ (a, b) ∷ [])) is (Contains-push faults (a, b))),
+        ))
         fault;
     ordered = all_pairs_push IsEarlier faults (a, b) f.ordered
         (λ k d h. ((f.each (get_or faults k d).0 (get_or faults k d).1).0 (Contains-get_or faults k d h)).1);
   }
 
-  pub finds_skipped : (faults : List (ℕ × ℕ)) (a b : ℕ) → FindsUpTo q values faults a b → (IsFault q (IsHeld values) a b → ⊥) → FindsUpTo q values faults a (b + 1)
-  finds_skipped faults a b f absent = record { each = lists_skipped (IsFault q (IsHeld values)) faults a b f.each absent; ordered = f.ordered }
+  pub finds_skipped : (faults : List (ℕ × ℕ)) (a b : ℕ) → FindsUpTo q values faults a b
+      → (IsFault q (IsHeld values) a b → ⊥) → FindsUpTo q values faults a (b + 1)
+  finds_skipped faults a b f absent =
+      record { each = lists_skipped (IsFault q (IsHeld values)) faults a b f.each absent; ordered = f.ordered }
 
   -- where a region has no fault its row is passed over
-  pub finds_no_row : (faults : List (ℕ × ℕ)) (a : ℕ) → FindsUpTo q values faults a 0 → ((b : ℕ) → IsFault q (IsHeld values) a b → ⊥) → FindsUpTo q values faults (a + 1) 0
+  pub finds_no_row : (faults : List (ℕ × ℕ)) (a : ℕ) → FindsUpTo q values faults a 0
+      → ((b : ℕ) → IsFault q (IsHeld values) a b → ⊥) → FindsUpTo q values faults (a + 1) 0
   finds_no_row faults a f absent = record {
     each = λ x y. (
-      λ k. let before = (f.each x y).0 k in (before.0, ⊎_elim (λ less. inl (omega (arith, less))) (λ same. absurd (omega (arith, same.1))) before.1),
+      λ k. let before = (f.each x y).0 k in
+          (before.0, ⊎_elim (λ less. inl (omega (arith, less))) (λ same. absurd (omega (arith, same.1))) before.1),
       λ k. (f.each x y).1 (
         k.0,
         ⊎_elim
-            (λ less. ⊎_elim (λ at. absurd (absent y (subst (λ z. IsFault q (IsHeld values) z y) at k.0))) (λ other. inl (omega (arith, less))) (cases_eq x a))
+            (λ less. ⊎_elim (λ at. absurd (absent y (subst (λ z. IsFault q (IsHeld values) z y) at k.0)))
+            (λ other. inl (omega (arith, less))) (cases_eq x a))
             (λ same. absurd (omega (arith, same.1)))
             k.1,
       ),
@@ -109,8 +128,18 @@ module _ (q : Problem) (values : List (List Bool)) where
     ordered = f.ordered;
   }
 
-  pub finds_row : (faults : List (ℕ × ℕ)) (a : ℕ) → FindsUpTo q values faults a q.graph.universals → FindsUpTo q values faults (a + 1) 0
-  finds_row faults a f = record { each = lists_row (IsFault q (IsHeld values)) q.graph.universals (λ x y h. (h.0, h.1)) faults a f.each; ordered = f.ordered }
+  pub finds_row : (faults : List (ℕ × ℕ)) (a : ℕ) → FindsUpTo q values faults a q.graph.universals
+      → FindsUpTo q values faults (a + 1) 0
+  finds_row faults a f =
+      record {
+        each = lists_row (IsFault q (IsHeld values)) q.graph.universals (λ x y h. (h.0, h.1)) faults a f.each;
+        ordered = f.ordered;
+      }
 
-  pub finds_all : (faults : List (ℕ × ℕ)) → FindsUpTo q values faults q.graph.universals 0 → AreFaults q (IsHeld values) faults
-  finds_all faults f = record { each = lists_all (IsFault q (IsHeld values)) q.graph.universals (λ x y h. (h.0, h.1)) faults f.each; ordered = f.ordered }
+  pub finds_all : (faults : List (ℕ × ℕ)) → FindsUpTo q values faults q.graph.universals 0
+      → AreFaults q (IsHeld values) faults
+  finds_all faults f =
+      record {
+        each = lists_all (IsFault q (IsHeld values)) q.graph.universals (λ x y h. (h.0, h.1)) faults f.each;
+        ordered = f.ordered;
+      }

@@ -49,7 +49,8 @@ jump_return g sound x (inr back) = back.0
 
 module _ (g : Graph) (set : List Bool) (starts : List ℕ) where
   -- where nothing is reached and no walk begins in a run, none goes on from it
-  pub walks_idle : (run : Run) (old : List Bool) → ((x : ℕ) → IsIn old x → ⊥) → ((p : ℕ) → Contains starts p → IsWithin run p → ⊥) → WalksOn g set run starts old old
+  pub walks_idle : (run : Run) (old : List Bool) → ((x : ℕ) → IsIn old x → ⊥)
+      → ((p : ℕ) → Contains starts p → IsWithin run p → ⊥) → WalksOn g set run starts old old
   walks_idle run old none apart = record {
     kept = λ x h. h;
     sound = λ x h. absurd (none x h);
@@ -58,7 +59,8 @@ module _ (g : Graph) (set : List Bool) (starts : List ℕ) where
   }
 
   -- nor where the run is reached
-  pub walks_had : (run : Run) (old : List Bool) → ((x : ℕ) → IsIn old x → ReachesFrom g (IsIn set) starts x) → ((x : ℕ) → IsWithin run x → IsIn old x) → WalksOn g set run starts old old
+  pub walks_had : (run : Run) (old : List Bool) → ((x : ℕ) → IsIn old x → ReachesFrom g (IsIn set) starts x)
+      → ((x : ℕ) → IsWithin run x → IsIn old x) → WalksOn g set run starts old old
   walks_had run old sound had = record {
     kept = λ x h. h;
     sound = sound;
@@ -73,10 +75,15 @@ module _ (g : Graph) (set : List Bool) (starts : List ℕ) where
   }
 
   -- what is led to from what is reached is reached
-  pub led_from : (reached : List Bool) → ((x : ℕ) → IsIn reached x → ReachesFrom g (IsIn set) starts x) → (x : ℕ) → IsLedTo g set reached x → ReachesFrom g (IsIn set) starts x
-  led_from reached sound x w = let from = sound w.0 w.1 in (from.0, from.1, reaches_append g set from.0 w.0 x from.2 w.2)
+  pub led_from : (reached : List Bool) → ((x : ℕ) → IsIn reached x → ReachesFrom g (IsIn set) starts x) → (x : ℕ)
+      → IsLedTo g set reached x → ReachesFrom g (IsIn set) starts x
+  led_from reached sound x w = let from = sound w.0 w.1 in
+      (from.0, from.1, reaches_append g set from.0 w.0 x from.2 w.2)
 
-  pub sound_more : (old new : List Bool) (before after : List Run) → ((x : ℕ) → IsIn old x → ReachesFrom g (IsIn set) starts x) → Grows g set (ReachesFrom g (IsIn set) starts) old new before after → (x : ℕ) → IsIn new x → ReachesFrom g (IsIn set) starts x
+  pub sound_more : (old new : List Bool) (before after : List Run)
+      → ((x : ℕ) → IsIn old x → ReachesFrom g (IsIn set) starts x)
+      → Grows g set (ReachesFrom g (IsIn set) starts) old new before after → (x : ℕ) → IsIn new x
+      → ReachesFrom g (IsIn set) starts x
   sound_more old new before after sound p x h = ⊎_elim (sound x) (λ k. k) (p.cause x h)
 
   -- what walks reach is inside
@@ -91,18 +98,22 @@ module _ (g : Graph) (set : List Bool) (starts : List ℕ) where
 
     module _ (sound : IsSound g) (points : (p : ℕ) → Contains starts p → p < g.points) where
       -- where the run has no point, no point is newly reached
-      pub resumes_none : (runs : List Run) → g.points ≤ run.first → ResumesPoints g set run starts old old runs runs false
+      pub resumes_none : (runs : List Run) → g.points ≤ run.first
+          → ResumesPoints g set run starts old old runs runs false
       resumes_none runs past = record {
         grows = grows_none g set (ReachesFrom g (IsIn set) starts) old runs;
         begun = λ p at w. absurd (omega (arith, w.0, past, points p at));
-        closed = λ x y h next inside. inr (h, λ w. absurd (omega (arith, w.0, past, (sound.edges_in_range x y next).1)));
+        closed =
+            λ x y h next inside. inr (h, λ w. absurd (omega (arith, w.0, past, (sound.edges_in_range x y next).1)));
         ends_from = λ e. absurd (false≢true e);
         ends = λ x h back. inr h;
       }
 
       -- else its points are entered from which walks go on
-      module _ (part : Run) (first : part.first ≡ run.first) (last : (x : ℕ) → x ≤ run.last → x < g.points → x ≤ part.last) (es : List Run) (none : es ≡ [])
-          (one two : List Bool) (fs gs : List Run) (a : Grows g set (IsLedTo g set old) old one es fs) (near : (x : ℕ) → IsIn old x → IsNext g x (x + 1) → IsWithin part (x + 1) → IsIn one (x + 1))
+      module _ (part : Run) (first : part.first ≡ run.first)
+          (last : (x : ℕ) → x ≤ run.last → x < g.points → x ≤ part.last) (es : List Run) (none : es ≡ [])
+          (one two : List Bool) (fs gs : List Run) (a : Grows g set (IsLedTo g set old) old one es fs)
+          (near : (x : ℕ) → IsIn old x → IsNext g x (x + 1) → IsWithin part (x + 1) → IsIn one (x + 1))
           (b : Grows g set (ReachesFrom g (IsIn set) starts) one two fs gs) where
         one_sound : (x : ℕ) → IsIn one x → ReachesFrom g (IsIn set) starts x
         one_sound x h = ⊎_elim (old_sound x) (led_from old old_sound x) (a.cause x h)
@@ -117,12 +128,17 @@ module _ (g : Graph) (set : List Bool) (starts : List ℕ) where
         in_part : (x : ℕ) → IsWithin run x → x < g.points → IsWithin part x
         in_part x w point = (omega (arith, w.0, first), last x w.1 point)
 
-        module _ (begin : (p : ℕ) → Contains starts p → IsWithin part p → IsIn two p) (three : List Bool) (hs : List Run)
-            (c : Grows g set (IsLedTo g set two) two three gs hs) (land : (x t : ℕ) → IsIn two x → IsJump g x t → IsWithin part t → IsIn three t) where
+        module _ (begin : (p : ℕ) → Contains starts p → IsWithin part p → IsIn two p) (three : List Bool)
+            (hs : List Run)
+            (c : Grows g set (IsLedTo g set two) two three gs hs)
+            (land : (x t : ℕ) → IsIn two x → IsJump g x t → IsWithin part t → IsIn three t) where
           entered : Grows g set (ReachesFrom g (IsIn set) starts) old three es hs
           entered = grows_append g set (ReachesFrom g (IsIn set) starts) _ _ _ _ _ _
-              (grows_append g set (ReachesFrom g (IsIn set) starts) _ _ _ _ _ _ (grows_weaker g set (IsLedTo g set old) (ReachesFrom g (IsIn set) starts) (led_from old old_sound) _ _ _ _ a) b)
-              (grows_weaker g set (IsLedTo g set two) (ReachesFrom g (IsIn set) starts) (led_from two two_sound) _ _ _ _ c)
+              (grows_append g set (ReachesFrom g (IsIn set) starts) _ _ _ _ _ _
+              (grows_weaker g set (IsLedTo g set old) (ReachesFrom g (IsIn set) starts)
+              (led_from old old_sound) _ _ _ _ a) b)
+              (grows_weaker g set (IsLedTo g set two) (ReachesFrom g (IsIn set) starts)
+              (led_from two two_sound) _ _ _ _ c)
 
           three_sound : (x : ℕ) → IsIn three x → ReachesFrom g (IsIn set) starts x
           three_sound = sound_more old three es hs old_sound entered
@@ -139,22 +155,27 @@ module _ (g : Graph) (set : List Bool) (starts : List ℕ) where
           -- and the walks go on
           module _ (four : List Bool) (ks : List Run) (ended : Bool) (s : IsSpread g set three four hs ks ended) where
             whole : Grows g set (ReachesFrom g (IsIn set) starts) old four es ks
-            whole = grows_append g set (ReachesFrom g (IsIn set) starts) _ _ _ _ _ _ entered (grows_weaker g set (IsLedTo g set three) (ReachesFrom g (IsIn set) starts) (led_from three three_sound) _ _ _ _ s.grows)
+            whole = grows_append g set (ReachesFrom g (IsIn set) starts) _ _ _ _ _ _ entered
+                (grows_weaker g set (IsLedTo g set three) (ReachesFrom g (IsIn set) starts)
+                (led_from three three_sound) _ _ _ _ s.grows)
 
             -- what is reached was followed now, or was there before
             listed_or : (x : ℕ) → IsIn four x → IsInRuns ks x ⊎ IsIn old x
             listed_or x h = ⊎_elim (λ o. inr o) (λ (k, from, l, low, high). inl (k, l, low, high)) (whole.pending x h)
 
-            along_line : (x : ℕ) → IsIn four x → IsNext g x (x + 1) → IsIn set (x + 1) → IsIn four (x + 1) ⊎ (IsIn old x × (IsWithin run (x + 1) → ⊥))
+            along_line : (x : ℕ) → IsIn four x → IsNext g x (x + 1) → IsIn set (x + 1)
+                → IsIn four (x + 1) ⊎ (IsIn old x × (IsWithin run (x + 1) → ⊥))
             along_line x h next inside = ⊎_elim
                 inl
                 (λ o. ⊎_elim
-                (λ w. inl (s.grows.kept _ (c.kept _ (b.kept _ (near x o next (in_part (x + 1) w (sound.edges_in_range x (x + 1) next).1))))))
+                (λ w. inl (s.grows.kept _ (c.kept _
+                (b.kept _ (near x o next (in_part (x + 1) w (sound.edges_in_range x (x + 1) next).1))))))
                 (λ out. inr (o, outside run (x + 1) out))
                 (within_or run (x + 1)))
                 (whole.closed x h next inside)
 
-            by_jump : (x y : ℕ) → IsIn four x → IsJump g x y → y < g.points → IsIn set y → IsIn four y ⊎ (IsIn old x × (IsWithin run y → ⊥))
+            by_jump : (x y : ℕ) → IsIn four x → IsJump g x y → y < g.points → IsIn set y
+                → IsIn four y ⊎ (IsIn old x × (IsWithin run y → ⊥))
             by_jump x y h jump point inside = ⊎_elim
                 (λ i. inl ((s.followed x i).0 y jump point inside))
                 (λ o. ⊎_elim
@@ -168,7 +189,8 @@ module _ (g : Graph) (set : List Bool) (starts : List ℕ) where
               grows = whole;
               begun = λ p at w. s.grows.kept p (c.kept p (begin p at (in_part p w (points p at))));
               closed = λ x y h next inside. ⊎_elim
-                  (λ same. subst (λ z. IsIn four z ⊎ (IsIn old x × (IsWithin run z → ⊥))) (sym same) (along_line x h (subst (IsNext g x) same next) (subst (IsIn set) same inside)))
+                  (λ same. subst (λ z. IsIn four z ⊎ (IsIn old x × (IsWithin run z → ⊥))) (sym same)
+                  (along_line x h (subst (IsNext g x) same next) (subst (IsIn set) same inside)))
                   (λ other. by_jump x y h (inl (next, other)) (sound.edges_in_range x y next).1 inside)
                   (cases_eq y (x + 1));
               ends_from = λ e. let w = s.ends_from e in (w.0, w.1, jump_return g sound w.0 w.2);
@@ -177,15 +199,18 @@ module _ (g : Graph) (set : List Bool) (starts : List ℕ) where
 
       -- ---- the whole
 
-      module _ (points_reached : List Bool) (es list : List Run) (ended : Bool) (p : ResumesPoints g set run starts old points_reached es list ended) where
+      module _ (points_reached : List Bool) (es list : List Run) (ended : Bool)
+          (p : ResumesPoints g set run starts old points_reached es list ended) where
         reached_sound : (x : ℕ) → IsIn points_reached x → ReachesFrom g (IsIn set) starts x
         reached_sound = sound_more old points_reached es list old_sound p.grows
 
         -- where no end can be newly reached, that is all
-        pub resumed : ended ≡ false → ((x : ℕ) → IsIn points_reached x → IsReturn g x → run.last < g.points) → WalksOn g set run starts old points_reached
+        pub resumed : ended ≡ false → ((x : ℕ) → IsIn points_reached x → IsReturn g x → run.last < g.points)
+            → WalksOn g set run starts old points_reached
         resumed none never = record { kept = p.grows.kept; sound = reached_sound; begun = p.begun; closed = go_on }
           where
-            go_on : (y z : ℕ) → IsIn points_reached y → IsStep g y z → IsIn set z → IsIn points_reached z ⊎ (IsIn old y × (IsWithin run z → ⊥))
+            go_on : (y z : ℕ) → IsIn points_reached y → IsStep g y z → IsIn set z
+                → IsIn points_reached z ⊎ (IsIn old y × (IsWithin run z → ⊥))
             go_on y z h (inl next) inside = p.closed y z h next inside
             go_on y z h (inr back) inside = ⊎_elim
                 (λ e. absurd (false≢true (sym none ∙ e)))
@@ -193,18 +218,26 @@ module _ (g : Graph) (set : List Bool) (starts : List ℕ) where
                 (p.ends y h back.0)
 
         -- else all ends in the set come to it
-        pub resumed_ends : (all : List Bool) (n : ℕ) → n ≡ g.points → length set ≡ element_count g → (x : ℕ) × IsIn points_reached x × IsReturn g x → FillsFrom n set points_reached all → WalksOn g set run starts old all
+        pub resumed_ends : (all : List Bool) (n : ℕ) → n ≡ g.points → length set ≡ element_count g
+            → (x : ℕ) × IsIn points_reached x × IsReturn g x → FillsFrom n set points_reached all
+            → WalksOn g set run starts old all
         resumed_ends all n n_is wide some f = record {
           kept = λ x h. f.kept x (p.grows.kept x h);
           sound = λ x h. ⊎_elim
               (reached_sound x)
-              (λ own. let w = reached_sound some.0 some.1 in (w.0, w.1, reaches_more g (IsIn set) w.0 some.0 x w.2 (inr (some.2, (omega (arith, own.0, n_is), omega (arith, flag_within set x own.1, wide)))) own.1))
+              (λ own. let w = reached_sound some.0 some.1 in (
+                w.0,
+                w.1,
+                reaches_more g (IsIn set) w.0 some.0 x w.2
+                    (inr (some.2, (omega (arith, own.0, n_is), omega (arith, flag_within set x own.1, wide)))) own.1,
+              ))
               (f.cause x h);
           begun = λ x at w. f.kept x (p.begun x at w);
           closed = go_on;
         }
           where
-            go_on : (y z : ℕ) → IsIn all y → IsStep g y z → IsIn set z → IsIn all z ⊎ (IsIn old y × (IsWithin run z → ⊥))
+            go_on : (y z : ℕ) → IsIn all y → IsStep g y z → IsIn set z
+                → IsIn all z ⊎ (IsIn old y × (IsWithin run z → ⊥))
             go_on y z h (inl next) inside = ⊎_elim
                 (λ i. ⊎_elim (λ r. inl (f.kept z r)) inr (p.closed y z i next inside))
                 (λ own. absurd (omega (arith, own.0, n_is, (sound.edges_in_range y z next).0)))
@@ -212,16 +245,21 @@ module _ (g : Graph) (set : List Bool) (starts : List ℕ) where
             go_on y z h (inr back) inside = inl (f.filled z (let low = back.1.0 in omega (arith, low, n_is)) inside)
 
         pub lists_resumed : es ≡ [] → ListsNew old points_reached [] list
-        lists_resumed none = lists_grown g set (ReachesFrom g (IsIn set) starts) old points_reached list (subst (λ xs. Grows g set (ReachesFrom g (IsIn set) starts) old points_reached xs list) none p.grows)
+        lists_resumed none =
+            lists_grown g set (ReachesFrom g (IsIn set) starts) old points_reached list
+            (subst (λ xs. Grows g set (ReachesFrom g (IsIn set) starts) old points_reached xs list) none p.grows)
 
-        pub lists_resumed_ends : es ≡ [] → (all : List Bool) (n : ℕ) (whole : List Run) → FillsFrom n set points_reached all → ListsNew points_reached all list whole → ListsNew old all [] whole
-        lists_resumed_ends none all n whole f l = lists_append old points_reached all [] list whole p.grows.kept f.kept (lists_resumed none) l
+        pub lists_resumed_ends : es ≡ [] → (all : List Bool) (n : ℕ) (whole : List Run)
+            → FillsFrom n set points_reached all → ListsNew points_reached all list whole → ListsNew old all [] whole
+        lists_resumed_ends none all n whole f l =
+            lists_append old points_reached all [] list whole p.grows.kept f.kept (lists_resumed none) l
 
 -- ---- the ends of reached runs
 
 -- The steps along lines that lead into the run from what was reached, at numbers below `from`, were
 -- followed.
-pub record NextOn (g : Graph) (set : List Bool) (part : Run) (old now : List Bool) (before after : List Run) (from : ℕ) : Type 0 where
+pub record NextOn (g : Graph) (set : List Bool) (part : Run) (old now : List Bool) (before after : List Run)
+    (from : ℕ) : Type 0 where
   pub grows : Grows g set (IsLedTo g set old) old now before after
   pub low : part.first ≤ from + 1
   pub covers : (x : ℕ) → IsIn old x → IsNext g x (x + 1) → IsWithin part (x + 1) → x < from → IsIn now (x + 1)
@@ -235,19 +273,26 @@ module _ (g : Graph) (set : List Bool) (part : Run) (old : List Bool) (before : 
   }
 
   -- what is led to from what is reached now was led to from what was reached at first
-  led_on : (now : List Bool) (after : List Run) → ((x : ℕ) → IsIn old x → IsIn set x) → Grows g set (IsLedTo g set old) old now before after → (x : ℕ) → IsLedTo g set now x → IsLedTo g set old x
+  led_on : (now : List Bool) (after : List Run) → ((x : ℕ) → IsIn old x → IsIn set x)
+      → Grows g set (IsLedTo g set old) old now before after → (x : ℕ) → IsLedTo g set now x → IsLedTo g set old x
   led_on now after inside p x w =
-      let source : IsLedTo g set old w.0 = ⊎_elim (λ o. (w.0, o, reaches_first g (IsIn set) w.0 (inside w.0 o))) (λ led. led) (p.cause w.0 w.1) in
+      let source : IsLedTo g set old w.0 =
+      ⊎_elim (λ o. (w.0, o, reaches_first g (IsIn set) w.0 (inside w.0 o))) (λ led. led) (p.cause w.0 w.1) in
       (source.0, source.1, reaches_append g set source.0 w.0 x source.2 w.2)
 
   -- what is reached is inside
-  pub next_inside : (now : List Bool) (after : List Run) (from : ℕ) → ((x : ℕ) → IsIn old x → IsIn set x) → NextOn g set part old now before after from → (x : ℕ) → IsIn now x → IsIn set x
-  next_inside now after from inside s x h = ⊎_elim (inside x) (λ w. reaches_inside g (IsIn set) w.0 x w.2) (s.grows.cause x h)
+  pub next_inside : (now : List Bool) (after : List Run) (from : ℕ) → ((x : ℕ) → IsIn old x → IsIn set x)
+      → NextOn g set part old now before after from → (x : ℕ) → IsIn now x → IsIn set x
+  next_inside now after from inside s x h =
+      ⊎_elim (inside x) (λ w. reaches_inside g (IsIn set) w.0 x w.2) (s.grows.cause x h)
 
-  pub next_more : (now new : List Bool) (then after : List Run) (from last : ℕ) → ((x : ℕ) → IsIn old x → IsIn set x) → from ≤ last → ((x : ℕ) → from ≤ x → x < last → IsIn now x → IsIn now (x + 1))
-      → NextOn g set part old now before then from → Grows g set (IsLedTo g set now) now new then after → (IsNext g last (last + 1) → IsIn new (last + 1)) → NextOn g set part old new before after (last + 1)
+  pub next_more : (now new : List Bool) (then after : List Run) (from last : ℕ) → ((x : ℕ) → IsIn old x → IsIn set x)
+      → from ≤ last → ((x : ℕ) → from ≤ x → x < last → IsIn now x → IsIn now (x + 1))
+      → NextOn g set part old now before then from → Grows g set (IsLedTo g set now) now new then after
+      → (IsNext g last (last + 1) → IsIn new (last + 1)) → NextOn g set part old new before after (last + 1)
   next_more now new then after from last inside past on s p here = record {
-    grows = grows_append g set (IsLedTo g set old) _ _ _ _ _ _ s.grows (grows_weaker g set (IsLedTo g set now) (IsLedTo g set old) (led_on now then inside s.grows) _ _ _ _ p);
+    grows = grows_append g set (IsLedTo g set old) _ _ _ _ _ _ s.grows
+        (grows_weaker g set (IsLedTo g set now) (IsLedTo g set old) (led_on now then inside s.grows) _ _ _ _ p);
     low = omega (arith, s.low, past);
     covers = λ x h next w l. ⊎_elim
         (λ early. p.kept (x + 1) (s.covers x h next w early))
@@ -258,7 +303,9 @@ module _ (g : Graph) (set : List Bool) (part : Run) (old : List Bool) (before : 
         (cases_lt x from);
   }
 
-  pub next_end : (now : List Bool) (after : List Run) (from : ℕ) → ((x : ℕ) → from ≤ x → x < part.last → IsIn now x → IsIn now (x + 1)) → NextOn g set part old now before after from
+  pub next_end : (now : List Bool) (after : List Run) (from : ℕ)
+      → ((x : ℕ) → from ≤ x → x < part.last → IsIn now x → IsIn now (x + 1))
+      → NextOn g set part old now before after from
       → (x : ℕ) → IsIn old x → IsNext g x (x + 1) → IsWithin part (x + 1) → IsIn now (x + 1)
   next_end now after from on s x h next w = ⊎_elim
       (s.covers x h next w)
@@ -268,20 +315,31 @@ module _ (g : Graph) (set : List Bool) (part : Run) (old : List Bool) (before : 
 -- ---- the points from which walks begin
 
 -- The points of the list from the first number of the run up to `next` are entered.
-pub record Beginning (g : Graph) (set : List Bool) (starts : List ℕ) (first : ℕ) (old now : List Bool) (before after : List Run) (next : ℕ) : Type 0 where
+pub record Beginning (g : Graph) (set : List Bool) (starts : List ℕ) (first : ℕ) (old now : List Bool)
+    (before after : List Run) (next : ℕ) : Type 0 where
   pub grows : Grows g set (ReachesFrom g (IsIn set) starts) old now before after
   pub low : first ≤ next
   pub covers : (p : ℕ) → Contains starts p → first ≤ p → p < next → IsIn now p
 
 module _ (g : Graph) (set : List Bool) (starts : List ℕ) (first : ℕ) where
   pub beginning_first : (old : List Bool) (before : List Run) → Beginning g set starts first old old before before first
-  beginning_first old before = record { grows = grows_none g set (ReachesFrom g (IsIn set) starts) old before; low = omega arith; covers = λ p at a b. absurd (omega (arith, a, b)) }
+  beginning_first old before =
+      record {
+        grows = grows_none g set (ReachesFrom g (IsIn set) starts) old before;
+        low = omega arith;
+        covers = λ p at a b. absurd (omega (arith, a, b));
+      }
 
-  pub beginning_more : (old now new : List Bool) (before then after : List Run) (next start end : ℕ) → Contains starts start → next ≤ start → ((x : ℕ) → Contains starts x → next ≤ x → start ≤ x)
-      → Beginning g set starts first old now before then next → Grows g set (Reaches g (IsIn set) start) now new then after → start ≤ end → ((x : ℕ) → start ≤ x → x ≤ end → IsIn new x)
+  pub beginning_more : (old now new : List Bool) (before then after : List Run) (next start end : ℕ)
+      → Contains starts start → next ≤ start → ((x : ℕ) → Contains starts x → next ≤ x → start ≤ x)
+      → Beginning g set starts first old now before then next
+      → Grows g set (Reaches g (IsIn set) start) now new then after → start ≤ end
+      → ((x : ℕ) → start ≤ x → x ≤ end → IsIn new x)
       → Beginning g set starts first old new before after (end + 1)
   beginning_more old now new before then after next start end at past least b p order here = record {
-    grows = grows_append g set (ReachesFrom g (IsIn set) starts) _ _ _ _ _ _ b.grows (grows_weaker g set (Reaches g (IsIn set) start) (ReachesFrom g (IsIn set) starts) (λ x way. (start, at, way)) _ _ _ _ p);
+    grows = grows_append g set (ReachesFrom g (IsIn set) starts) _ _ _ _ _ _ b.grows
+        (grows_weaker g set (Reaches g (IsIn set) start) (ReachesFrom g (IsIn set) starts)
+        (λ x way. (start, at, way)) _ _ _ _ p);
     low = omega (arith, b.low, past, order);
     covers = λ q listed low high. ⊎_elim
         (λ front. p.kept q (b.covers q listed low front))
@@ -296,8 +354,10 @@ abbrev pub no_landing : Landing
 no_landing = record { to = 0; from = 0 }
 
 -- a landing at a place of the list of those in a run is a jump into the run
-pub landing_at : (g h : Graph) → h ≡ g → (list : List Landing) (part : Run) → ((l : Landing) → Contains list l ↔ (IsJump h l.from l.to × (part.first ≤ l.to) × (l.to ≤ part.last)))
-    → (k : ℕ) (d : Landing) → k < length list → IsJump g (get_or list k d).from (get_or list k d).to × IsWithin part (get_or list k d).to
+pub landing_at : (g h : Graph) → h ≡ g → (list : List Landing) (part : Run)
+    → ((l : Landing) → Contains list l ↔ (IsJump h l.from l.to × (part.first ≤ l.to) × (l.to ≤ part.last)))
+    → (k : ℕ) (d : Landing) → k < length list
+    → IsJump g (get_or list k d).from (get_or list k d).to × IsWithin part (get_or list k d).to
 landing_at g h same list part each k d within =
     let own = (each (get_or list k d)).0 (k, within, get_or_default list k (get_or list k d) d within) in
     (subst (λ x. IsJump x (get_or list k d).from (get_or list k d).to) same own.0, (own.1, own.2))
@@ -308,28 +368,39 @@ jump_from g sound x t (inl next) = (sound.edges_in_range x t next.0).0
 jump_from g sound x t (inr back) = sound.returns_in_range x back.0
 
 -- The first `count` landings of the list are gone through.
-pub record LandingOn (g : Graph) (set : List Bool) (list : List Landing) (old now : List Bool) (before after : List Run) (count : ℕ) : Type 0 where
+pub record LandingOn (g : Graph) (set : List Bool) (list : List Landing) (old now : List Bool) (before after : List Run)
+    (count : ℕ) : Type 0 where
   pub grows : Grows g set (IsLedTo g set old) old now before after
-  pub covers : (k : ℕ) (d : Landing) → k < count → k < length list → IsIn old (get_or list k d).from → IsIn now (get_or list k d).to
+  pub covers : (k : ℕ) (d : Landing) → k < count → k < length list → IsIn old (get_or list k d).from
+      → IsIn now (get_or list k d).to
 
 module _ (g : Graph) (set : List Bool) (list : List Landing) (old : List Bool) (before : List Run) where
   pub landing_first : LandingOn g set list old old before before 0
-  landing_first = record { grows = grows_none g set (IsLedTo g set old) old before; covers = λ k d h. absurd (omega (arith, h)) }
+  landing_first =
+      record { grows = grows_none g set (IsLedTo g set old) old before; covers = λ k d h. absurd (omega (arith, h)) }
 
   -- a jump from what isn't reached is passed over
-  pub landing_passed : (now : List Bool) (then : List Run) (count : ℕ) (l : Landing) → ((d : Landing) → get_or list count d ≡ l) → flag now l.from ≡ false → LandingOn g set list old now before then count → LandingOn g set list old now before then (count + 1)
+  pub landing_passed : (now : List Bool) (then : List Run) (count : ℕ) (l : Landing)
+      → ((d : Landing) → get_or list count d ≡ l) → flag now l.from ≡ false
+      → LandingOn g set list old now before then count → LandingOn g set list old now before then (count + 1)
   landing_passed now then count l is out p = record {
     grows = p.grows;
     covers = λ k d lt within from. ⊎_elim
-        (λ here. absurd (let same = ap (λ i. get_or list i d) here ∙ is d in false≢true (sym out ∙ p.grows.kept l.from (subst (λ (m : Landing). IsIn old m.from) same from))))
+        (λ here. absurd (let same = ap (λ i. get_or list i d) here ∙ is d in
+        false≢true (sym out ∙ p.grows.kept l.from (subst (λ (m : Landing). IsIn old m.from) same from))))
         (λ other. p.covers k d (omega (arith, lt, other)) within from)
         (cases_eq k count);
   }
 
-  pub landing_more : ((x : ℕ) → IsIn old x → IsIn set x) → (now new : List Bool) (then after : List Run) (count : ℕ) (l : Landing) → ((d : Landing) → get_or list count d ≡ l) → IsJump g l.from l.to → l.to < g.points → IsIn set l.to → IsIn now l.from
-      → LandingOn g set list old now before then count → Grows g set (Reaches g (IsIn set) l.to) now new then after → IsIn new l.to → LandingOn g set list old new before after (count + 1)
+  pub landing_more : ((x : ℕ) → IsIn old x → IsIn set x)
+      → (now new : List Bool) (then after : List Run) (count : ℕ) (l : Landing)
+      → ((d : Landing) → get_or list count d ≡ l) → IsJump g l.from l.to → l.to < g.points → IsIn set l.to
+      → IsIn now l.from
+      → LandingOn g set list old now before then count → Grows g set (Reaches g (IsIn set) l.to) now new then after
+      → IsIn new l.to → LandingOn g set list old new before after (count + 1)
   landing_more inside now new then after count l is jump point here from p q there = record {
-    grows = grows_append g set (IsLedTo g set old) _ _ _ _ _ _ p.grows (grows_weaker g set (Reaches g (IsIn set) l.to) (IsLedTo g set old) (λ x way. led x way) _ _ _ _ q);
+    grows = grows_append g set (IsLedTo g set old) _ _ _ _ _ _ p.grows
+        (grows_weaker g set (Reaches g (IsIn set) l.to) (IsLedTo g set old) (λ x way. led x way) _ _ _ _ q);
     covers = λ k d lt within of. ⊎_elim
         (λ same. subst (λ (m : Landing). IsIn new m.to) (sym (ap (λ i. get_or list i d) same ∙ is d)) there)
         (λ other. q.kept _ (p.covers k d (omega (arith, lt, other)) within of))
@@ -338,12 +409,23 @@ module _ (g : Graph) (set : List Bool) (list : List Landing) (old : List Bool) (
     where
       led : (x : ℕ) → Reaches g (IsIn set) l.to x → IsLedTo g set old x
       led x way =
-          let source : IsLedTo g set old l.from = ⊎_elim (λ o. (l.from, o, reaches_first g (IsIn set) l.from (inside l.from o))) (λ w. w) (p.grows.cause l.from from) in
-          (source.0, source.1, reaches_append g set source.0 l.to x (reaches_more g (IsIn set) source.0 l.from l.to source.2 (inl (jump_next g l.from l.to jump point)) here) way)
+          let source : IsLedTo g set old l.from =
+          ⊎_elim (λ o. (l.from, o, reaches_first g (IsIn set) l.from (inside l.from o))) (λ w. w)
+          (p.grows.cause l.from from) in (
+            source.0,
+            source.1,
+            reaches_append g set source.0 l.to x
+                (reaches_more g (IsIn set) source.0 l.from l.to source.2
+                (inl (jump_next g l.from l.to jump point)) here)
+                way,
+          )
 
-  pub landing_end : (now : List Bool) (then : List Run) (count : ℕ) → length list ≤ count → LandingOn g set list old now before then count → (l : Landing) → Contains list l → IsIn old l.from → IsIn now l.to
+  pub landing_end : (now : List Bool) (then : List Run) (count : ℕ) → length list ≤ count
+      → LandingOn g set list old now before then count → (l : Landing) → Contains list l → IsIn old l.from
+      → IsIn now l.to
   landing_end now then count past p l (k, within, is) from =
-      subst (λ (m : Landing). IsIn now m.to) is (p.covers k l (omega (arith, within, past)) within (subst (λ (m : Landing). IsIn old m.from) (sym is) from))
+      subst (λ (m : Landing). IsIn now m.to) is
+      (p.covers k l (omega (arith, within, past)) within (subst (λ (m : Landing). IsIn old m.from) (sym is) from))
 
 -- ---- what constraints ask for
 
@@ -357,7 +439,8 @@ module _ (g : Graph) (set : List Bool) (points : List ℕ) where
   walks_asked x (p, there, way) = (Point p, (point_in points p).1 there, way)
 
 -- walks went on from the points
-pub goes_by_walks : (g : Graph) (set : List Bool) (run : Run) (points : List ℕ) (old new : List Bool) → WalksOn g set run points old new → GoesOn g set run (as_places points) old new
+pub goes_by_walks : (g : Graph) (set : List Bool) (run : Run) (points : List ℕ) (old new : List Bool)
+    → WalksOn g set run points old new → GoesOn g set run (as_places points) old new
 goes_by_walks g set run points old new w = record {
   kept = w.kept;
   sound = λ x h. walks_asked g set points x (w.sound x h);
@@ -368,12 +451,14 @@ goes_by_walks g set run points old new w = record {
 }
 
 -- points among places of a graph are points of the graph
-pub points_among : (n : ℕ) (points : List ℕ) → ((place : At) → Contains (as_places points) place → IsAmong n place) → (p : ℕ) → Contains points p → p < n
+pub points_among : (n : ℕ) (points : List ℕ) → ((place : At) → Contains (as_places points) place → IsAmong n place)
+    → (p : ℕ) → Contains points p → p < n
 points_among n points among p h = among (Point p) ((point_in points p).1 h)
 
 module _ (g : Graph) (set : List Bool) (run : Run) (starts : List At) where
   -- the run came as it is
-  pub goes_whole : (old new : List Bool) → Contains starts All → ((x : ℕ) → IsWithin run x → IsIn set x) → ((x : ℕ) → IsIn old x → IsAskedFrom g (IsIn set) starts x) → Fills old new run → GoesOn g set run starts old new
+  pub goes_whole : (old new : List Bool) → Contains starts All → ((x : ℕ) → IsWithin run x → IsIn set x)
+      → ((x : ℕ) → IsIn old x → IsAskedFrom g (IsIn set) starts x) → Fills old new run → GoesOn g set run starts old new
   goes_whole old new every inside sound f = record {
     kept = f.kept;
     sound = λ x h. ⊎_elim (sound x) (λ own. (All, every, inside x own)) (f.cause x h);
@@ -390,22 +475,28 @@ module _ (g : Graph) (set : List Bool) (run : Run) (starts : List At) where
 
   module _ (old : List Bool) (before : (x : ℕ) → IsIn old x ↔ IsAskedFrom g (IsBeside set run) starts x) where
     pub beside_sound : (x : ℕ) → IsIn old x → IsAskedFrom g (IsIn set) starts x
-    beside_sound x h = let w = (before x).0 h in (w.0, w.1, asked_weaker g (IsBeside set run) w.0 (IsIn set) (λ y t. t.0) x w.2)
+    beside_sound x h = let w = (before x).0 h in
+        (w.0, w.1, asked_weaker g (IsBeside set run) w.0 (IsIn set) (λ y t. t.0) x w.2)
 
     -- a step inside the set from what is asked for leads to what is asked for, or into the run
     old_closed : (x y : ℕ) → IsIn old x → IsStep g x y → IsIn set y → IsIn old y ⊎ IsWithin run y
     old_closed x y h step inside =
         let w = (before x).0 h in
-        ⊎_elim inr (λ out. inl ((before y).1 (w.0, w.1, asked_more g (IsBeside set run) w.0 x y w.2 step (inside, outside run y out)))) (within_or run y)
+        ⊎_elim inr (λ out. inl ((before y).1
+        (w.0, w.1, asked_more g (IsBeside set run) w.0 x y w.2 step (inside, outside run y out)))) (within_or run y)
 
     old_begun : (p : ℕ) → Contains starts (Point p) → IsIn set p → IsIn old p ⊎ IsWithin run p
-    old_begun p there inside = ⊎_elim inr (λ out. inl ((before p).1 (Point p, there, reaches_first g (IsBeside set run) p (inside, outside run p out)))) (within_or run p)
+    old_begun p there inside =
+        ⊎_elim inr (λ out. inl ((before p).1
+        (Point p, there, reaches_first g (IsBeside set run) p (inside, outside run p out)))) (within_or run p)
 
     old_whole : Contains starts All → (x : ℕ) → IsIn set x → IsIn old x ⊎ IsWithin run x
-    old_whole every x inside = ⊎_elim inr (λ out. inl ((before x).1 (All, every, (inside, outside run x out)))) (within_or run x)
+    old_whole every x inside =
+        ⊎_elim inr (λ out. inl ((before x).1 (All, every, (inside, outside run x out)))) (within_or run x)
 
     -- once it went on from the run, it is what is asked for
-    pub goes_on_whole : (new : List Bool) → GoesOn g set run starts old new → (x : ℕ) → IsIn new x ↔ IsAskedFrom g (IsIn set) starts x
+    pub goes_on_whole : (new : List Bool) → GoesOn g set run starts old new → (x : ℕ)
+        → IsIn new x ↔ IsAskedFrom g (IsIn set) starts x
     goes_on_whole new w x = (w.sound x, back)
       where
         go_on : (y z : ℕ) → IsIn new y → IsStep g y z → IsIn set z → IsIn new z
@@ -425,7 +516,8 @@ module _ (g : Graph) (set : List Bool) (run : Run) (starts : List At) where
 -- ---- more room
 
 -- with more room it goes on as without
-pub goes_on_widened : (g : Graph) (set : List Bool) (run : Run) (starts : List At) (old wide new : List Bool) → ((x : ℕ) → flag wide x ≡ flag old x) → GoesOn g set run starts wide new → GoesOn g set run starts old new
+pub goes_on_widened : (g : Graph) (set : List Bool) (run : Run) (starts : List At) (old wide new : List Bool)
+    → ((x : ℕ) → flag wide x ≡ flag old x) → GoesOn g set run starts wide new → GoesOn g set run starts old new
 goes_on_widened g set run starts old wide new same w = record {
   kept = λ x h. w.kept x (same x ∙ h);
   sound = w.sound;
@@ -441,21 +533,24 @@ goes_on_widened g set run starts old wide new same w = record {
 -- ---- other words for the same set
 
 -- a frontier inside one set is one inside any that has the same elements
-pub frontier_alike : (g : Graph) (inside other : ℕ → Type 0) (f : Frontier) → ((x : ℕ) → inside x ↔ other x) → IsFrontierIn g inside f → IsFrontierIn g other f
+pub frontier_alike : (g : Graph) (inside other : ℕ → Type 0) (f : Frontier) → ((x : ℕ) → inside x ↔ other x)
+    → IsFrontierIn g inside f → IsFrontierIn g other f
 frontier_alike g inside other f same is x = (
   λ h. let w = (is x).0 h in (w.0, w.1, asked_weaker g inside w.0 other (λ y t. (same y).0 t) x w.2),
   λ w. (is x).1 (w.0, w.1, asked_weaker g other w.0 inside (λ y t. (same y).1 t) x w.2),
 )
 
 -- what a set had before a run of others came is what it has beside the run
-pub beside_filled : (old new : List Bool) (run : Run) → Fills old new run → ((x : ℕ) → IsWithin run x → flag old x ≡ false) → (x : ℕ) → IsIn old x ↔ IsBeside new run x
+pub beside_filled : (old new : List Bool) (run : Run) → Fills old new run
+    → ((x : ℕ) → IsWithin run x → flag old x ≡ false) → (x : ℕ) → IsIn old x ↔ IsBeside new run x
 beside_filled old new run f lacks x = (
   λ h. (f.kept x h, λ own. false≢true (sym (lacks x own) ∙ h)),
   λ h. ⊎_elim (λ early. early) (λ own. absurd (h.1 own)) (f.cause x h.0),
 )
 
 -- a frontier that has reached nothing is one inside the empty set
-pub frontier_none : (g : Graph) (n : ℕ) (starts : List At) → (x : ℕ) → IsIn [] x ↔ IsAskedFrom g (IsIn (replicate n false)) starts x
+pub frontier_none : (g : Graph) (n : ℕ) (starts : List At) → (x : ℕ)
+    → IsIn [] x ↔ IsAskedFrom g (IsIn (replicate n false)) starts x
 frontier_none g n starts x = (
   λ h. absurd (false≢true h),
   λ w. absurd (none_in_empty n x (asked_inside g (IsIn (replicate n false)) w.0 x w.2)),

@@ -11,7 +11,8 @@ use Rattle.nll_core.proofs.SearchLemmas.{missing_one, none_in_empty}
 
 -- ---- one element more
 
-module _ (values : List (List Bool)) (region e : ℕ) (within : region < length values) (below : e < length (set_of values region)) where
+module _ (values : List (List Bool)) (region e : ℕ) (within : region < length values)
+    (below : e < length (set_of values region)) where
   -- the set of the region after the insert
   abbrev row : List Bool
   row = set (set_of values region) e true
@@ -29,7 +30,8 @@ module _ (values : List (List Bool)) (region e : ℕ) (within : region < length 
   gains_one kind h = record {
     width = length-set values region row;
     widths = λ r. ⊎_elim
-        (λ same. subst (λ x. length (set_of (with_element values region e) x) ≡ length (set_of values x)) (sym same) (ap length row_here ∙ length-set (set_of values region) e true))
+        (λ same. subst (λ x. length (set_of (with_element values region e) x) ≡ length (set_of values x)) (sym same)
+        (ap length row_here ∙ length-set (set_of values region) e true))
         (λ other. ap length (row_other r other))
         (cases_eq r region);
     kept = λ r f k. ⊎_elim
@@ -43,7 +45,9 @@ module _ (values : List (List Bool)) (region e : ℕ) (within : region < length 
     cause = λ r f k. ⊎_elim
         (λ same. ⊎_elim
         (λ at. inr (subst (λ x. kind x f) (sym same) (subst (kind region) (sym at) h)))
-        (λ other. inl (subst (λ x. IsHeld values x f) (sym same) (sym (get_or-set_other (set_of values region) e f true false other) ∙ (sym (ap (λ x. flag x f) row_here) ∙ subst (λ x. IsHeld (with_element values region e) x f) same k))))
+        (λ other. inl (subst (λ x. IsHeld values x f) (sym same)
+        (sym (get_or-set_other (set_of values region) e f true false other)
+        ∙ (sym (ap (λ x. flag x f) row_here) ∙ subst (λ x. IsHeld (with_element values region e) x f) same k))))
         (cases_eq f e))
         (λ other. inl (sym (ap (λ x. flag x f) (row_other r other)) ∙ k))
         (cases_eq r region);
@@ -53,7 +57,8 @@ module _ (values : List (List Bool)) (region e : ℕ) (within : region < length 
   tells_one = record {
     same = λ h.
         let held : flag (set_of values region) e ≡ true = not-false _ h in
-        ap (λ x. set values region x) (subst (λ b. set (set_of values region) e b ≡ set_of values region) held (set-get_or (set_of values region) e false)) ∙ set-get_or values region [];
+        ap (λ x. set values region x) (subst (λ b. set (set_of values region) e b ≡ set_of values region) held
+        (set-get_or (set_of values region) e false)) ∙ set-get_or values region [];
     fewer = λ h.
         let one = missing_one (set_of values region) e below (not-true _ h) in
         omega (arith, one, sum_by-set missing values region row [] within);
@@ -65,7 +70,8 @@ module _ (kind : ℕ → ℕ → Type 0) where
   pub gains_none : (values : List (List Bool)) → Gains kind values values
   gains_none values = record { width = refl; widths = λ r. refl; kept = λ r e h. h; cause = λ r e h. inl h }
 
-  pub gains_append : (old middle new : List (List Bool)) → Gains kind old middle → Gains kind middle new → Gains kind old new
+  pub gains_append : (old middle new : List (List Bool)) → Gains kind old middle → Gains kind middle new
+      → Gains kind old new
   gains_append old middle new p q = record {
     width = q.width ∙ p.width;
     widths = λ r. q.widths r ∙ p.widths r;
@@ -74,21 +80,42 @@ module _ (kind : ℕ → ℕ → Type 0) where
   }
 
 -- what is of a kind is of any larger kind
-pub gains_weaker : (kind larger : ℕ → ℕ → Type 0) → ((r e : ℕ) → kind r e → larger r e) → (old new : List (List Bool)) → Gains kind old new → Gains larger old new
-gains_weaker kind larger has old new p = record { width = p.width; widths = p.widths; kept = p.kept; cause = λ r e h. ⊎_elim inl (λ x. inr (has r e x)) (p.cause r e h) }
+pub gains_weaker : (kind larger : ℕ → ℕ → Type 0) → ((r e : ℕ) → kind r e → larger r e) → (old new : List (List Bool))
+    → Gains kind old new → Gains larger old new
+gains_weaker kind larger has old new p =
+    record {
+      width = p.width;
+      widths = p.widths;
+      kept = p.kept;
+      cause = λ r e h. ⊎_elim inl (λ x. inr (has r e x)) (p.cause r e h);
+    }
 
 pub tells_none : (values : List (List Bool)) → Tells false values values
 tells_none values = record { same = λ h. refl; fewer = λ h. absurd (false≢true h) }
 
-pub tells_append : (x y : Bool) (old middle new : List (List Bool)) → Tells x old middle → Tells y middle new → Tells (x || y) old new
-tells_append true true old middle new p q = record { same = λ h. absurd (true≢false h); fewer = λ h. omega (arith, p.fewer refl, q.fewer refl) }
-tells_append true false old middle new p q = record { same = λ h. absurd (true≢false h); fewer = λ h. subst (λ z. missing_pairs z < missing_pairs old) (sym (q.same refl)) (p.fewer refl) }
-tells_append false true old middle new p q = record { same = λ h. absurd (true≢false h); fewer = λ h. subst (λ z. missing_pairs new < missing_pairs z) (p.same refl) (q.fewer refl) }
-tells_append false false old middle new p q = record { same = λ h. q.same refl ∙ p.same refl; fewer = λ h. absurd (false≢true h) }
+pub tells_append : (x y : Bool) (old middle new : List (List Bool)) → Tells x old middle → Tells y middle new
+    → Tells (x || y) old new
+tells_append true true old middle new p q =
+    record { same = λ h. absurd (true≢false h); fewer = λ h. omega (arith, p.fewer refl, q.fewer refl) }
+tells_append true false old middle new p q =
+    record {
+      same = λ h. absurd (true≢false h);
+      fewer = λ h. subst (λ z. missing_pairs z < missing_pairs old) (sym (q.same refl)) (p.fewer refl);
+    }
+tells_append false true old middle new p q =
+    record {
+      same = λ h. absurd (true≢false h);
+      fewer = λ h. subst (λ z. missing_pairs new < missing_pairs z) (p.same refl) (q.fewer refl);
+    }
+tells_append false false old middle new p q =
+    record { same = λ h. q.same refl ∙ p.same refl; fewer = λ h. absurd (false≢true h) }
 
 -- empty values hold nothing
 pub nothing_held : (regions elements r e : ℕ) → IsHeld (replicate regions (replicate elements false)) r e → ⊥
 nothing_held regions elements r e h = ⊎_elim
-    (λ within. none_in_empty elements e (subst (λ x. flag x e ≡ true) (get_or-replicate regions r (replicate elements false) [] within) h))
-    (λ past. false≢true (subst (λ x. flag x e ≡ true) (get_or_past (replicate regions (replicate elements false)) r [] (subst (λ k. k ≤ r) (sym (length-replicate regions (replicate elements false))) past)) h))
+    (λ within. none_in_empty elements e
+    (subst (λ x. flag x e ≡ true) (get_or-replicate regions r (replicate elements false) [] within) h))
+    (λ past. false≢true (subst (λ x. flag x e ≡ true)
+    (get_or_past (replicate regions (replicate elements false)) r []
+    (subst (λ k. k ≤ r) (sym (length-replicate regions (replicate elements false))) past)) h))
     (cases_lt r regions)

@@ -20,36 +20,49 @@ pub record Landed (point : ℕ) (targets : List ℕ) (before now : List Landing)
   pub each : (l : Landing) → Contains now l ↔ (Contains before l ⊎ ((l.from ≡ point) × StandsIn targets 0 count l.to))
 
 pub landed_first : (point : ℕ) (targets : List ℕ) (before : List Landing) → Landed point targets before before 0
-landed_first point targets before = record { each = λ l. (inl, λ h. ⊎_elim (λ o. o) (λ (of, (k, low, high, at)). absurd (omega (arith, high))) h) }
+landed_first point targets before =
+    record { each = λ l. (inl, λ h. ⊎_elim (λ o. o) (λ (of, (k, low, high, at)). absurd (omega (arith, high))) h) }
 
-pub landed_more : (point : ℕ) (targets : List ℕ) (before now : List Landing) (count t : ℕ) → t ≡ get_or targets count 0 → Landed point targets before now count → Landed point targets before (now ++ (record { to = t; from = point }) ∷ []) (count + 1)
+pub landed_more : (point : ℕ) (targets : List ℕ) (before now : List Landing) (count t : ℕ) → t ≡ get_or targets count 0
+    → Landed point targets before now count
+    → Landed point targets before (now ++ (record { to = t; from = point }) ∷ []) (count + 1)
 landed_more point targets before now count t is p = record { each = λ l. (forth l, back l) }
   where
     new : Landing
     new = record { to = t; from = point }
 
-    forth : (l : Landing) → Contains (now ++ new ∷ []) l → Contains before l ⊎ ((l.from ≡ point) × StandsIn targets 0 (count + 1) l.to)
+    forth : (l : Landing) → Contains (now ++ new ∷ []) l
+        → Contains before l ⊎ ((l.from ≡ point) × StandsIn targets 0 (count + 1) l.to)
     forth l h = ⊎_elim
-        (λ o. ⊎_elim inl (λ (of, (k, low, high, at)). inr (of, (k, omega arith, omega (arith, high), at))) ((p.each l).0 o))
-        (λ o. let same = single new l o in inr (sym (ap (λ (m : Landing). m.from) same), (count, omega arith, omega arith, sym is ∙ ap (λ (m : Landing). m.to) same)))
+        (λ o. ⊎_elim inl (λ (of, (k, low, high, at)). inr (of, (k, omega arith, omega (arith, high), at)))
+        ((p.each l).0 o))
+        (λ o. let same = single new l o in inr (
+          sym (ap (λ (m : Landing). m.from) same),
+          (count, omega arith, omega arith, sym is ∙ ap (λ (m : Landing). m.to) same),
+        ))
         (Contains-append_cases now (new ∷ []) l h)
 
-    back : (l : Landing) → Contains before l ⊎ ((l.from ≡ point) × StandsIn targets 0 (count + 1) l.to) → Contains (now ++ new ∷ []) l
+    back : (l : Landing) → Contains before l ⊎ ((l.from ≡ point) × StandsIn targets 0 (count + 1) l.to)
+        → Contains (now ++ new ∷ []) l
     back l (inl o) = Contains-append_left now (new ∷ []) l ((p.each l).1 (inl o))
     back l (inr (of, (k, low, high, at))) = ⊎_elim
         (λ here.
         let to : t ≡ l.to = is ∙ ap (λ i. get_or targets i 0) (sym here) ∙ at in
         let same : ◌≡◌ {A = Landing} new l = landing_same t l.to point l.from to (sym of) in
         Contains-append_right now (new ∷ []) l (0, omega arith, same))
-        (λ other. Contains-append_left now (new ∷ []) l ((p.each l).1 (inr (of, (k, low, omega (arith, high, other), at)))))
+        (λ other. Contains-append_left now (new ∷ []) l
+        ((p.each l).1 (inr (of, (k, low, omega (arith, high, other), at)))))
         (cases_eq k count)
       where
-        landing_same : (a b c d : ℕ) → a ≡ b → c ≡ d → ◌≡◌ {A = Landing} (record { to = a; from = c }) (record { to = b; from = d })
+        landing_same : (a b c d : ℕ) → a ≡ b → c ≡ d
+            → ◌≡◌ {A = Landing} (record { to = a; from = c }) (record { to = b; from = d })
         landing_same a b c d e f = cc
 
 -- where the targets are those of all jumps from the point, the list got just these
-pub landed_end : (g : Graph) (point : ℕ) (targets : List ℕ) (before now : List Landing) (count : ℕ) → count ≡ length targets
-    → ((t : ℕ) → Contains targets t ↔ ((x : ℕ) × ((point ≤ x) × (x ≤ point)) × IsJump g x t)) → Landed point targets before now count
+pub landed_end : (g : Graph) (point : ℕ) (targets : List ℕ) (before now : List Landing) (count : ℕ)
+    → count ≡ length targets
+    → ((t : ℕ) → Contains targets t ↔ ((x : ℕ) × ((point ≤ x) × (x ≤ point)) × IsJump g x t))
+    → Landed point targets before now count
     → (l : Landing) → Contains now l ↔ (Contains before l ⊎ (IsJump g l.from l.to × (l.from ≡ point)))
 landed_end g point targets before now count count_is jumps p l = (
   λ h. ⊎_elim inl (λ (of, (k, low, high, at)).
@@ -59,7 +72,15 @@ landed_end g point targets before now count count_is jumps p l = (
       inr (subst (λ x. IsJump g x l.to) same from.2, of)) ((p.each l).0 h),
   λ h. ⊎_elim (λ o. (p.each l).1 (inl o)) (λ own.
       let at = (jumps l.to).1 (l.from, (omega (arith, own.1), omega (arith, own.1)), own.0) in
-      (p.each l).1 (inr (own.1, (at.0, omega arith, omega (arith, at.1, count_is), sym (get_or_default targets at.0 l.to 0 at.1) ∙ at.2)))) h,
+      (p.each l).1 (inr (
+        own.1,
+        (
+          at.0,
+          omega arith,
+          omega (arith, at.1, count_is),
+          sym (get_or_default targets at.0 l.to 0 at.1) ∙ at.2,
+        ),
+      ))) h,
 )
 
 -- ---- the jumps of all points
@@ -71,14 +92,20 @@ AreLandingsTo g count list = (l : Landing) → Contains list l ↔ (IsJump g l.f
 pub landings_none : (g : Graph) → AreLandingsTo g 0 []
 landings_none g l = (λ (k, within, is). absurd (omega (arith, within)), λ h. absurd (omega (arith, h.1)))
 
-pub landings_more : (g : Graph) (count : ℕ) (before now : List Landing) → AreLandingsTo g count before → ((l : Landing) → Contains now l ↔ (Contains before l ⊎ (IsJump g l.from l.to × (l.from ≡ count)))) → AreLandingsTo g (count + 1) now
+pub landings_more : (g : Graph) (count : ℕ) (before now : List Landing) → AreLandingsTo g count before
+    → ((l : Landing) → Contains now l ↔ (Contains before l ⊎ (IsJump g l.from l.to × (l.from ≡ count))))
+    → AreLandingsTo g (count + 1) now
 landings_more g count before now all more l = (
-  λ h. ⊎_elim (λ o. let own = (all l).0 o in (own.0, omega (arith, own.1))) (λ own. (own.0, omega (arith, own.1))) ((more l).0 h),
-  λ h. (more l).1 (⊎_elim (λ here. inr (h.0, here)) (λ other. inl ((all l).1 (h.0, omega (arith, h.1, other)))) (cases_eq l.from count)),
+  λ h. ⊎_elim (λ o. let own = (all l).0 o in (own.0, omega (arith, own.1))) (λ own. (own.0, omega (arith, own.1)))
+      ((more l).0 h),
+  λ h. (more l).1 (⊎_elim (λ here. inr (h.0, here)) (λ other. inl ((all l).1 (h.0, omega (arith, h.1, other))))
+      (cases_eq l.from count)),
 )
 
-pub landings_all : (g : Graph) → IsSound g → (count : ℕ) (list : List Landing) → count ≡ g.points → AreLandingsTo g count list → (l : Landing) → Contains list l ↔ IsJump g l.from l.to
-landings_all g sound count list is all l = (λ h. ((all l).0 h).0, λ jump. (all l).1 (jump, omega (arith, is, jumps_within l.from l.to jump)))
+pub landings_all : (g : Graph) → IsSound g → (count : ℕ) (list : List Landing) → count ≡ g.points
+    → AreLandingsTo g count list → (l : Landing) → Contains list l ↔ IsJump g l.from l.to
+landings_all g sound count list is all l =
+    (λ h. ((all l).0 h).0, λ jump. (all l).1 (jump, omega (arith, is, jumps_within l.from l.to jump)))
   where
     jumps_within : (x t : ℕ) → IsJump g x t → x < g.points
     jumps_within x t (inl next) = (sound.edges_in_range x t next.0).0
@@ -86,21 +113,32 @@ landings_all g sound count list is all l = (λ h. ((all l).0 h).0, λ jump. (all
 
 -- ---- those between two numbers
 
-module _ (list : List Landing) (a b from to : ℕ) (proper : a ≤ b) (start : IsLandingStart list a from) (end : IsLandingStart list (b + 1) to) where
+module _ (list : List Landing) (a b from to : ℕ) (proper : a ≤ b) (start : IsLandingStart list a from)
+    (end : IsLandingStart list (b + 1) to) where
   pub part_rises : from ≤ to
   part_rises = ⊎_elim
-      (λ turned. let none : Landing = record { to = 0; from = 0 } in absurd (omega (arith, proper, start.bound, turned, start.below to none turned, end.others to none (omega arith) (omega (arith, turned, start.bound)))))
+      (λ turned. let none : Landing = record { to = 0; from = 0 } in
+      absurd (omega (
+        arith,
+        proper,
+        start.bound,
+        turned,
+        start.below to none turned,
+        end.others to none (omega arith) (omega (arith, turned, start.bound)),
+      )))
       (λ rise. rise)
       (cases_lt to from)
 
   length_part : length (slice_range list from to) ≡ to - from
-  length_part = let n = length-take (to - from) (drop from list) in let m = length-drop from list in omega (arith, end.bound)
+  length_part = let n = length-take (to - from) (drop from list) in let m = length-drop from list in
+      omega (arith, end.bound)
 
   at_part : (k : ℕ) (d : Landing) → k < to - from → get_or (slice_range list from to) k d ≡ get_or list (from + k) d
   at_part k d lt = get_or-take (to - from) (drop from list) k d lt ∙ get_or-drop from list k d
 
   between : (k : ℕ) (d : Landing) → from ≤ k → k < to → (a ≤ (get_or list k d).to) × ((get_or list k d).to ≤ b)
-  between k d low high = (start.others k d low (omega (arith, high, end.bound)), (let below = end.below k d high in omega (arith, below)))
+  between k d low high =
+      (start.others k d low (omega (arith, high, end.bound)), (let below = end.below k d high in omega (arith, below)))
 
   pub part_has : (l : Landing) → Contains (slice_range list from to) l ↔ (Contains list l × (a ≤ l.to) × (l.to ≤ b))
   part_has l = (
@@ -113,21 +151,35 @@ module _ (list : List Landing) (a b from to : ℕ) (proper : a ≤ b) (start : I
     λ h. there h.0.0 h.0.1 h.0.2 h.1 h.2,
   )
     where
-      there : (k : ℕ) → k < length list → get_or list k l ≡ l → a ≤ l.to → l.to ≤ b → Contains (slice_range list from to) l
+      there : (k : ℕ) → k < length list → get_or list k l ≡ l → a ≤ l.to → l.to ≤ b
+          → Contains (slice_range list from to) l
       there k within is low high =
           let at = ap (λ (m : Landing). m.to) is in
-          let past : from ≤ k = ⊎_elim (λ lt. absurd (omega (arith, start.below k l lt, at, low))) (λ le. le) (cases_lt k from) in
-          let before : k < to = ⊎_elim (λ lt. lt) (λ le. absurd (omega (arith, end.others k l le within, at, high))) (cases_lt k to) in
-          let moved : from + (k - from) ≡ k = omega (arith, past) in
-          (k - from, omega (arith, past, before, length_part), at_part (k - from) l (omega (arith, past, before)) ∙ (ap (λ n. get_or list n l) moved ∙ is))
+          let past : from ≤ k =
+          ⊎_elim (λ lt. absurd (omega (arith, start.below k l lt, at, low))) (λ le. le) (cases_lt k from) in
+          let before : k < to =
+          ⊎_elim (λ lt. lt) (λ le. absurd (omega (arith, end.others k l le within, at, high))) (cases_lt k to) in
+          let moved : from + (k - from) ≡ k = omega (arith, past) in (
+            k - from,
+            omega (arith, past, before, length_part),
+            at_part (k - from) l (omega (arith, past, before))
+                ∙ (ap (λ n. get_or list n l) moved ∙ is),
+          )
 
 -- ---- where those at a number start
 
 -- where the landing at a place doesn't lead below a number, none behind it does
-pub start_here : (list : List Landing) (number place : ℕ) (e : Landing) → AllPairs (λ (l m : Landing). l.to ≤ m.to) list → ((k : ℕ) (d : Landing) → k < place → (get_or list k d).to < number)
+pub start_here : (list : List Landing) (number place : ℕ) (e : Landing) → AllPairs (λ (l m : Landing). l.to ≤ m.to) list
+    → ((k : ℕ) (d : Landing) → k < place → (get_or list k d).to < number)
     → place < length list → number ≤ (get_or list place e).to → IsLandingStart list number place
 start_here list number place e up below within high = record {
   bound = omega (arith, within);
   below = below;
-  others = λ k d low inside. omega (arith, high, ap (λ (l : Landing). l.to) (get_or_default list place d e within), keys_rise (λ (l : Landing). l.to) (λ (l m : Landing). l.to ≤ m.to) (λ x y h. h) list up place k d low inside);
+  others =
+      λ k d low inside. omega (
+        arith,
+        high,
+        ap (λ (l : Landing). l.to) (get_or_default list place d e within),
+        keys_rise (λ (l : Landing). l.to) (λ (l m : Landing). l.to ≤ m.to) (λ x y h. h) list up place k d low inside,
+      );
 }

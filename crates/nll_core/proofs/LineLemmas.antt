@@ -7,18 +7,25 @@ use Rattle.nll_core.specs.Lines.{AreEndsTo, AreLineEnds}
 module _ (g : Graph) where
   -- no point
   pub ends_none : AreEndsTo g 0 []
-  ends_none = record { within = omega arith; each = λ x h. absurd (omega (arith, h)); going = λ x a b. absurd (omega (arith, b)) }
+  ends_none =
+      record {
+        within = omega arith;
+        each = λ x h. absurd (omega (arith, h));
+        going = λ x a b. absurd (omega (arith, b));
+      }
 
   -- a point behind which the line goes on
   pub ends_on : (p : ℕ) (ends : List ℕ) → IsNext g p (p + 1) → AreEndsTo g p ends → AreEndsTo g (p + 1) ends
   ends_on p ends next e = record {
     within = omega (arith, e.within);
     each = e.each;
-    going = λ x a b. ⊎_elim (λ same. subst (λ y. IsNext g y (y + 1)) (sym same) next) (λ other. e.going x a (omega (arith, b, other))) (cases_eq x p);
+    going = λ x a b. ⊎_elim (λ same. subst (λ y. IsNext g y (y + 1)) (sym same) next)
+        (λ other. e.going x a (omega (arith, b, other))) (cases_eq x p);
   }
 
   -- all points
-  pub ends_all : (ends : List ℕ) (count : ℕ) → IsSound g → count ≡ g.points → AreEndsTo g count ends → AreLineEnds g ends
+  pub ends_all : (ends : List ℕ) (count : ℕ) → IsSound g → count ≡ g.points → AreEndsTo g count ends
+      → AreLineEnds g ends
   ends_all ends count sound all e =
       let sized : length ends ≡ g.points = ⊎_elim
       (λ short.

@@ -20,7 +20,8 @@ lists_none flags runs = record {
 }
 
 -- the gaps of a run are what is new once the run is put in
-pub lists_gaps : (old new : List Bool) (run : Run) (before after : List Run) → ListsGaps old run before after → Fills old new run → ListsNew old new before after
+pub lists_gaps : (old new : List Bool) (run : Run) (before after : List Run) → ListsGaps old run before after
+    → Fills old new run → ListsNew old new before after
 lists_gaps old new run before after l f = record {
   longer = l.longer;
   front = l.front;
@@ -33,7 +34,8 @@ lists_gaps old new run before after l f = record {
 }
 
 -- what a walk lists in an empty list is what is new
-pub lists_grown : (g : Graph) (sub : List Bool) (kind : ℕ → Type 0) (old new : List Bool) (after : List Run) → Grows g sub kind old new [] after → ListsNew old new [] after
+pub lists_grown : (g : Graph) (sub : List Bool) (kind : ℕ → Type 0) (old new : List Bool) (after : List Run)
+    → Grows g sub kind old new [] after → ListsNew old new [] after
 lists_grown g sub kind old new after p = record {
   longer = p.longer;
   front = p.front;
@@ -43,7 +45,8 @@ lists_grown g sub kind old new after p = record {
 }
 
 -- what came first and what came then is what is new
-module _ (old middle new : List Bool) (xs ys zs : List Run) (first : (x : ℕ) → IsIn old x → IsIn middle x) (then : (x : ℕ) → IsIn middle x → IsIn new x) (p : ListsNew old middle xs ys) (q : ListsNew middle new ys zs) where
+module _ (old middle new : List Bool) (xs ys zs : List Run) (first : (x : ℕ) → IsIn old x → IsIn middle x)
+    (then : (x : ℕ) → IsIn middle x → IsIn new x) (p : ListsNew old middle xs ys) (q : ListsNew middle new ys zs) where
   not_before : (x : ℕ) → flag middle x ≡ false → flag old x ≡ false
   not_before x h = by (flag old x) refl
     where
@@ -53,7 +56,8 @@ module _ (old middle new : List Bool) (xs ys zs : List Run) (first : (x : ℕ) �
 
   each : (x : ℕ) → IsInRunsFrom (length xs) zs x → IsIn new x × (flag old x ≡ false)
   each x (k, from, l, a, b) = ⊎_elim
-      (λ mid. let at = q.front k mid in let o = (p.listed x).0 (k, from, mid, omega (arith, a, at.0), omega (arith, b, at.1)) in (then x o.0, o.1))
+      (λ mid. let at = q.front k mid in let o = (p.listed x).0
+      (k, from, mid, omega (arith, a, at.0), omega (arith, b, at.1)) in (then x o.0, o.1))
       (λ past. let o = (q.listed x).0 (k, past, l, a, b) in (o.0, not_before x o.1))
       (cases_lt k (length ys))
 
@@ -61,7 +65,9 @@ module _ (old middle new : List Bool) (xs ys zs : List Run) (first : (x : ℕ) �
   back x h fresh = by (flag middle x) refl
     where
       by : (b : Bool) → flag middle x ≡ b → IsInRunsFrom (length xs) zs x
-      by true is = (let i = (p.listed x).1 (is, fresh) in let at = q.front i.0 i.2 in (i.0, i.1, omega (arith, i.2, q.longer), omega (arith, i.3, at.0), omega (arith, i.4, at.1)))
+      by true is =
+          (let i = (p.listed x).1 (is, fresh) in let at = q.front i.0 i.2 in
+          (i.0, i.1, omega (arith, i.2, q.longer), omega (arith, i.3, at.0), omega (arith, i.4, at.1)))
       by false is = (let i = (q.listed x).1 (h, is) in (i.0, omega (arith, i.1, p.longer), i.2, i.3, i.4))
 
   pub lists_append : ListsNew old new xs zs
@@ -75,19 +81,24 @@ module _ (old middle new : List Bool) (xs ys zs : List Run) (first : (x : ℕ) �
     listed = λ x. (each x, λ h. back x h.0 h.1);
     apart = λ j k x from less l a b. ⊎_elim
         (λ mid. let at = q.front j mid in ⊎_elim
-        (λ both. let on = q.front k both in p.apart j k x from less both (omega (arith, a.0, at.0), omega (arith, a.1, at.1)) (omega (arith, b.0, on.0), omega (arith, b.1, on.1)))
-        (λ past. false≢true (sym ((q.listed x).0 (k, past, l, b.0, b.1)).1 ∙ ((p.listed x).0 (j, from, mid, omega (arith, a.0, at.0), omega (arith, a.1, at.1))).0))
+        (λ both. let on = q.front k both in
+        p.apart j k x from less both (omega (arith, a.0, at.0), omega (arith, a.1, at.1))
+        (omega (arith, b.0, on.0), omega (arith, b.1, on.1)))
+        (λ past. false≢true (sym ((q.listed x).0 (k, past, l, b.0, b.1)).1
+        ∙ ((p.listed x).0 (j, from, mid, omega (arith, a.0, at.0), omega (arith, a.1, at.1))).0))
         (cases_lt k (length ys)))
         (λ past. q.apart j k x past less l a b)
         (cases_lt j (length ys));
   }
 
 -- with more room the same is new
-pub lists_widened : (old wide new : List Bool) (before after : List Run) → ((x : ℕ) → flag wide x ≡ flag old x) → ListsNew wide new before after → ListsNew old new before after
+pub lists_widened : (old wide new : List Bool) (before after : List Run) → ((x : ℕ) → flag wide x ≡ flag old x)
+    → ListsNew wide new before after → ListsNew old new before after
 lists_widened old wide new before after same l = record {
   longer = l.longer;
   front = l.front;
   proper = l.proper;
-  listed = λ x. (λ h. let own = (l.listed x).0 h in (own.0, sym (same x) ∙ own.1), λ h. (l.listed x).1 (h.0, same x ∙ h.1));
+  listed =
+      λ x. (λ h. let own = (l.listed x).0 h in (own.0, sym (same x) ∙ own.1), λ h. (l.listed x).1 (h.0, same x ∙ h.1));
   apart = l.apart;
 }

@@ -10,11 +10,14 @@ below_none count x (k, l, is) = absurd (omega (arith, l))
 pub below_more : (count : ℕ) (xs : List ℕ) (y : ℕ) → y < count → AreBelow count xs → AreBelow count (xs ++ y ∷ [])
 below_more count xs y within all x (k, l, is) = ⊎_elim
     (λ front. all x (k, front, sym (get_or_append_left xs (y ∷ []) x k front) ∙ is))
-    (λ last. subst (λ z. z < count) (sym (get_or_at xs y [] x k (omega (arith, l, last, length-append xs (y ∷ [])))) ∙ is) within)
+    (λ last. subst (λ z. z < count) (sym (get_or_at xs y [] x k (omega (arith, l, last, length-append xs (y ∷ []))))
+    ∙ is) within)
     (cases_lt k (length xs))
 
 pub below_fewer : (count : ℕ) (xs : List ℕ) (y : ℕ) → AreBelow count (xs ++ y ∷ []) → AreBelow count xs
-below_fewer count xs y all x (k, l, is) = all x (k, omega (arith, l, length-append xs (y ∷ [])), get_or_append_left xs (y ∷ []) x k l ∙ is)
+below_fewer count xs y all x (k, l, is) =
+    all x (k, omega (arith, l, length-append xs (y ∷ [])), get_or_append_left xs (y ∷ []) x k l ∙ is)
 
 pub below_last : (count : ℕ) (xs : List ℕ) (y : ℕ) → AreBelow count (xs ++ y ∷ []) → y < count
-below_last count xs y all = all y (length xs, omega (arith, length-append xs (y ∷ [])), get_or_at xs y [] y (length xs) (omega arith))
+below_last count xs y all =
+    all y (length xs, omega (arith, length-append xs (y ∷ [])), get_or_at xs y [] y (length xs) (omega arith))

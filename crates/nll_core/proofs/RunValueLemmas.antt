@@ -12,31 +12,56 @@ use Rattle.nll_core.specs.Values.{set_of, IsHeld}
 use Rattle.nll_core.specs.Search.{missing}
 use Rattle.nll_core.proofs.WalkingLemmas.{missing_less, missing_run}
 
-tells_row : (values : List (List Bool)) (region : ℕ) (old row : List Bool) (run : Run) (changed : Bool) → region < length values → old ≡ get_or values region [] → Fills old row run
-    → (changed ≡ false → row ≡ old) → (changed ≡ true → (x : ℕ) × IsWithin run x × (flag old x ≡ false)) → Tells changed values (set values region row)
+tells_row : (values : List (List Bool)) (region : ℕ) (old row : List Bool) (run : Run) (changed : Bool)
+    → region < length values → old ≡ get_or values region [] → Fills old row run
+    → (changed ≡ false → row ≡ old) → (changed ≡ true → (x : ℕ) × IsWithin run x × (flag old x ≡ false))
+    → Tells changed values (set values region row)
 tells_row values region old row run changed within is f same fresh = record {
   same = λ e. ap (set values region) (same e ∙ is) ∙ set-get_or values region [];
   fewer = λ e. let w = fresh e in
-      omega (arith, missing_less old row w.0 f.width f.kept w.2 (f.filled w.0 w.1.0 w.1.1), sum_by-set missing values region row [] within, ap missing is);
+      omega (
+        arith,
+        missing_less old row w.0 f.width f.kept w.2 (f.filled w.0 w.1.0 w.1.1),
+        sum_by-set missing values region row [] within,
+        ap missing is,
+      );
 }
 
-pub tells_filled : (values : List (List Bool)) (region : ℕ) (old row : List Bool) (run : Run) {E : Type 0} (r : Result Bool E) → region < length values → old ≡ get_or values region [] → OnOk r (Fills old row run)
-    → IfOk r (λ new. new ≡ false → row ≡ old) → IfOk r (λ new. new ≡ true → (x : ℕ) × IsWithin run x × (flag old x ≡ false)) → IfOk r (λ new. Tells new values (set values region row))
-tells_filled values region old row run (Ok changed) within is f same fresh = tells_row values region old row run changed within is f same fresh
+pub tells_filled : (values : List (List Bool)) (region : ℕ) (old row : List Bool) (run : Run) {E : Type 0}
+    (r : Result Bool E) → region < length values → old ≡ get_or values region [] → OnOk r (Fills old row run)
+    → IfOk r (λ new. new ≡ false → row ≡ old)
+    → IfOk r (λ new. new ≡ true → (x : ℕ) × IsWithin run x × (flag old x ≡ false))
+    → IfOk r (λ new. Tells new values (set values region row))
+tells_filled values region old row run (Ok changed) within is f same fresh =
+    tells_row values region old row run changed within is f same fresh
 tells_filled values region old row run (Err e) within is f same fresh = f
 
 -- where none of the run was there, as many fewer are missing as it has numbers
-pub fewer_filled : (values : List (List Bool)) (region : ℕ) (old row : List Bool) (run : Run) {E : Type 0} (r : Result Bool E) → region < length values → run.first ≤ run.last → old ≡ get_or values region [] → OnOk r (Fills old row run)
-    → OnOk r (((e : ℕ) → IsWithin run e → IsHeld values region e → ⊥) → missing_pairs (set values region row) + (run.last + 1 - run.first) ≤ missing_pairs values)
+pub fewer_filled : (values : List (List Bool)) (region : ℕ) (old row : List Bool) (run : Run) {E : Type 0}
+    (r : Result Bool E) → region < length values → run.first ≤ run.last → old ≡ get_or values region []
+    → OnOk r (Fills old row run)
+    → OnOk r (((e : ℕ) → IsWithin run e → IsHeld values region e → ⊥)
+    → missing_pairs (set values region row) + (run.last + 1 - run.first) ≤ missing_pairs values)
 fewer_filled values region old row run (Ok changed) within proper is f = λ lacks.
-    let lacked : (x : ℕ) → run.first ≤ x → x < run.first + (run.last + 1 - run.first) → flag old x ≡ false = λ x a b. false_from_ne_true _ (λ h. lacks x (a, omega (arith, b, proper)) (subst (λ xs. flag xs x ≡ true) is h)) in
-    let there : (x : ℕ) → run.first ≤ x → x < run.first + (run.last + 1 - run.first) → flag row x ≡ true = λ x a b. f.filled x a (omega (arith, b, proper)) in
-    omega (arith, missing_run old row run.first (run.last + 1 - run.first) f.width f.kept lacked there, sum_by-set missing values region row [] within, ap missing is)
+    let lacked : (x : ℕ) → run.first ≤ x → x < run.first + (run.last + 1 - run.first)
+    → flag old x ≡ false =
+    λ x a b. false_from_ne_true _ (λ h. lacks x (a, omega (arith, b, proper)) (subst (λ xs. flag xs x ≡ true) is h))
+    in
+    let there : (x : ℕ) → run.first ≤ x → x < run.first + (run.last + 1 - run.first)
+    → flag row x ≡ true = λ x a b. f.filled x a (omega (arith, b, proper)) in
+    omega (
+      arith,
+      missing_run old row run.first (run.last + 1 - run.first) f.width f.kept lacked there,
+      sum_by-set missing values region row [] within,
+      ap missing is,
+    )
 fewer_filled values region old row run (Err e) within proper is f = f
 
 -- ---- a region that held nothing gets the value of another one
 
-module _ (values : List (List Bool)) (sub sup : ℕ) (within : sup < length values) (widths : length (set_of values sub) ≡ length (set_of values sup)) (nothing : (e : ℕ) → IsHeld values sup e → ⊥) where
+module _ (values : List (List Bool)) (sub sup : ℕ) (within : sup < length values)
+    (widths : length (set_of values sub) ≡ length (set_of values sup))
+    (nothing : (e : ℕ) → IsHeld values sup e → ⊥) where
   abbrev copied : List (List Bool)
   copied = set values sup (set_of values sub)
 
@@ -53,7 +78,8 @@ module _ (values : List (List Bool)) (sub sup : ℕ) (within : sup < length valu
   gains_copied = record {
     width = length-set values sup (set_of values sub);
     widths = λ r. ⊎_elim
-        (λ same. subst (λ x. length (set_of copied x) ≡ length (set_of values x)) (sym same) (ap length copied_here ∙ widths))
+        (λ same. subst (λ x. length (set_of copied x) ≡ length (set_of values x)) (sym same)
+        (ap length copied_here ∙ widths))
         (λ other. ap length (copied_other r other))
         (cases_eq r sup);
     kept = λ r e h. ⊎_elim
@@ -66,9 +92,16 @@ module _ (values : List (List Bool)) (sub sup : ℕ) (within : sup < length valu
         (cases_eq r sup);
   }
 
-  pub tells_copied : (new : Bool) → (new ≡ false → (e : ℕ) → IsHeld values sub e → ⊥) → (new ≡ true → (e : ℕ) × IsHeld values sub e) → Tells new values copied
+  pub tells_copied : (new : Bool) → (new ≡ false → (e : ℕ) → IsHeld values sub e → ⊥)
+      → (new ≡ true → (e : ℕ) × IsHeld values sub e) → Tells new values copied
   tells_copied new none some = record {
-    same = λ h. ap (set values sup) (same_flags (set_of values sub) (set_of values sup) widths (λ x. false_from_ne_true _ (none h x) ∙ sym (false_from_ne_true _ (nothing x)))) ∙ set-get_or values sup [];
+    same = λ h. ap (set values sup) (same_flags (set_of values sub) (set_of values sup) widths
+        (λ x. false_from_ne_true _ (none h x) ∙ sym (false_from_ne_true _ (nothing x)))) ∙ set-get_or values sup [];
     fewer = λ h. let w = some h in
-        omega (arith, missing_less (set_of values sup) (set_of values sub) w.0 widths (λ x e. absurd (nothing x e)) (false_from_ne_true _ (nothing w.0)) w.1, sum_by-set missing values sup (set_of values sub) [] within);
+        omega (
+          arith,
+          missing_less (set_of values sup) (set_of values sub) w.0 widths (λ x e. absurd (nothing x e))
+              (false_from_ne_true _ (nothing w.0)) w.1,
+          sum_by-set missing values sup (set_of values sub) [] within,
+        );
   }

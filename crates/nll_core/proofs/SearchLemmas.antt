@@ -14,7 +14,9 @@ use Rattle.nll_problem.proofs.WalkLemmas.{walk_first, walk_more, walk_carries, w
 
 -- an element of a set is below the length of its flags
 pub flag_within : (flags : List Bool) (x : ℕ) → flag flags x ≡ true → x < length flags
-flag_within flags x h = ⊎_elim (λ below. below) (λ past. absurd (false≢true (sym (get_or_past flags x false past) ∙ h))) (cases_lt x (length flags))
+flag_within flags x h =
+    ⊎_elim (λ below. below) (λ past. absurd (false≢true (sym (get_or_past flags x false past) ∙ h)))
+    (cases_lt x (length flags))
 
 -- no element is in the empty set
 pub none_in_empty : (n x : ℕ) → flag (replicate n false) x ≡ true → ⊥
@@ -27,7 +29,8 @@ pub contains_at : (xs : List ℕ) (x : ℕ) (h : Contains xs x) → get_or xs h.
 contains_at xs x h = get_or_default xs h.0 0 x h.1 ∙ h.2
 
 -- what holds of the elements of a list, place by place, holds of each that it contains
-pub covers_contained : (holds : ℕ → Type 0) (xs : List ℕ) → ((k : ℕ) → k < length xs → holds (get_or xs k 0)) → (x : ℕ) → Contains xs x → holds x
+pub covers_contained : (holds : ℕ → Type 0) (xs : List ℕ) → ((k : ℕ) → k < length xs → holds (get_or xs k 0)) → (x : ℕ)
+    → Contains xs x → holds x
 covers_contained holds xs each x h = subst holds (contains_at xs x h) (each h.0 h.1)
 
 -- what stands at a place of a list is contained
@@ -42,7 +45,8 @@ abbrev one_if_not : Bool → ℕ
 one_if_not b = cond (not b) 1 0
 
 -- one element more in a set is one less that is missing
-pub missing_one : (flags : List Bool) (e : ℕ) → e < length flags → flag flags e ≡ false → missing (set flags e true) + 1 ≡ missing flags
+pub missing_one : (flags : List Bool) (e : ℕ) → e < length flags → flag flags e ≡ false
+    → missing (set flags e true) + 1 ≡ missing flags
 missing_one flags e within new =
     let one = sum_by-set one_if_not flags e true false within in
     let zero = ap (λ b. one_if_not b) new in
@@ -73,31 +77,43 @@ module _ (kind : ℕ → Type 0) where
     kept = λ x h. q.kept x (p.kept x h);
     longer = omega (arith, p.longer, q.longer);
     front = λ k h. q.front k (omega (arith, p.longer)) ∙ p.front k h;
-    fresh = λ k l h. ⊎_elim (λ m. rw (q.front k m) (p.fresh k l m)) (λ m. false_from_ne_true _ (λ e. false≢true (sym (q.fresh k m h) ∙ p.kept _ e))) (cases_lt k (length middle.list));
-    inside = λ k l h. ⊎_elim (λ m. q.kept (get_or new.list k 0) (subst (λ v. flag middle.reached v ≡ true) (sym (q.front k m)) (p.inside k l m))) (λ m. q.inside k m h) (cases_lt k (length middle.list));
-    cause = λ k l h. ⊎_elim (λ m. rw (q.front k m) (p.cause k l m)) (λ m. q.cause k m h) (cases_lt k (length middle.list));
+    fresh = λ k l h. ⊎_elim (λ m. rw (q.front k m) (p.fresh k l m))
+        (λ m. false_from_ne_true _ (λ e. false≢true (sym (q.fresh k m h) ∙ p.kept _ e)))
+        (cases_lt k (length middle.list));
+    inside =
+        λ k l h. ⊎_elim (λ m. q.kept (get_or new.list k 0)
+        (subst (λ v. flag middle.reached v ≡ true) (sym (q.front k m)) (p.inside k l m))) (λ m. q.inside k m h)
+        (cases_lt k (length middle.list));
+    cause = λ k l h. ⊎_elim (λ m. rw (q.front k m) (p.cause k l m)) (λ m. q.cause k m h)
+        (cases_lt k (length middle.list));
     once = λ j l k m h. ⊎_elim
         (λ below. λ e. p.once j l k m below (sym (q.front j (omega arith)) ∙ (e ∙ q.front k below)))
         (λ above. ⊎_elim
-        (λ low. λ e. false≢true (sym (q.fresh k above h) ∙ (ap (flag middle.reached) (sym e) ∙ subst (λ v. flag middle.reached v ≡ true) (sym (q.front j low)) (p.inside j l low))))
+        (λ low. λ e. false≢true (sym (q.fresh k above h)
+        ∙ (ap (flag middle.reached) (sym e)
+        ∙ subst (λ v. flag middle.reached v ≡ true) (sym (q.front j low)) (p.inside j l low))))
         (λ high. q.once j high k m h)
         (cases_lt j (length middle.list)))
         (cases_lt k (length middle.list));
     only = λ x h. ⊎_elim
-        (λ before. ⊎_elim inl (λ w. inr (w.0, w.1, omega (arith, w.2, q.longer), q.front w.0 w.2 ∙ w.3)) (p.only x before))
+        (λ before. ⊎_elim inl (λ w. inr (w.0, w.1, omega (arith, w.2, q.longer), q.front w.0 w.2 ∙ w.3))
+        (p.only x before))
         (λ w. inr (w.0, omega (arith, w.1, p.longer), w.2, w.3))
         (q.only x h);
     count = omega (arith, p.count, q.count);
   }
 
   -- one element that isn't in the set yet
-  pub adds_one : (s : Search) (e : ℕ) → e < length s.reached → flag s.reached e ≡ false → kind e → Adds kind s (record { reached = set s.reached e true; list = s.list ++ e ∷ [] })
+  pub adds_one : (s : Search) (e : ℕ) → e < length s.reached → flag s.reached e ≡ false → kind e
+      → Adds kind s (record { reached = set s.reached e true; list = s.list ++ e ∷ [] })
   adds_one s e within new h =
       let len : length (s.list ++ e ∷ []) ≡ length s.list + 1 = length-append s.list (e ∷ []) in
-      let at : (k : ℕ) → length s.list ≤ k → k < length (s.list ++ e ∷ []) → get_or (s.list ++ e ∷ []) k 0 ≡ e = λ k l m. get_or_at s.list e [] 0 k (omega arith) in
+      let at : (k : ℕ) → length s.list ≤ k → k < length (s.list ++ e ∷ [])
+      → get_or (s.list ++ e ∷ []) k 0 ≡ e = λ k l m. get_or_at s.list e [] 0 k (omega arith) in
       record {
         width = length-set s.reached e true;
-        kept = λ x k. ⊎_elim (λ same. rw same (get_or-set_same s.reached e true false within)) (λ other. get_or-set_other s.reached e x true false other ∙ k) (cases_eq x e);
+        kept = λ x k. ⊎_elim (λ same. rw same (get_or-set_same s.reached e true false within))
+            (λ other. get_or-set_other s.reached e x true false other ∙ k) (cases_eq x e);
         longer = omega arith;
         front = λ k l. get_or_append_left s.list (e ∷ []) 0 k l;
         fresh = λ k l m. rw (at k l m) new;
@@ -105,14 +121,21 @@ module _ (kind : ℕ → Type 0) where
         cause = λ k l m. rw (at k l m) h;
         once = λ j l k m n. absurd (omega arith);
         only = λ x k. ⊎_elim
-            (λ same. inr (length s.list, omega arith, omega (arith, len), get_or_at s.list e [] 0 (length s.list) refl ∙ sym same))
+            (λ same. inr (
+              length s.list,
+              omega arith,
+              omega (arith, len),
+              get_or_at s.list e [] 0 (length s.list) refl
+                  ∙ sym same,
+            ))
             (λ other. inl (sym (get_or-set_other s.reached e x true false other) ∙ k))
             (cases_eq x e);
         count = omega (arith, len, missing_one s.reached e within new);
       }
 
 -- what is of a kind is of any larger kind
-pub adds_weaker : (kind larger : ℕ → Type 0) → ((x : ℕ) → kind x → larger x) → (old new : Search) → Adds kind old new → Adds larger old new
+pub adds_weaker : (kind larger : ℕ → Type 0) → ((x : ℕ) → kind x → larger x) → (old new : Search) → Adds kind old new
+    → Adds larger old new
 adds_weaker kind larger has old new p = record {
   width = p.width;
   kept = p.kept;
@@ -127,16 +150,19 @@ adds_weaker kind larger has old new p = record {
 }
 
 -- what was new was visited
-pub visits_one : (s : Search) (e : ℕ) → e < length s.reached → flag s.reached e ≡ false → Visits (λ x. x ≡ e) s (record { reached = set s.reached e true; list = s.list ++ e ∷ [] })
+pub visits_one : (s : Search) (e : ℕ) → e < length s.reached → flag s.reached e ≡ false
+    → Visits (λ x. x ≡ e) s (record { reached = set s.reached e true; list = s.list ++ e ∷ [] })
 visits_one s e within new = record {
   adds = adds_one (λ x. x ≡ e) s e within new refl;
   all = λ x is. subst (IsIn (set s.reached e true)) (sym is) (get_or-set_same s.reached e true false within);
 }
 
 -- and what wasn't
-pub visits_again : (s : Search) (e : ℕ) → flag s.reached e ≡ true → Visits (λ x. x ≡ e) s (record { reached = set s.reached e true; list = s.list })
+pub visits_again : (s : Search) (e : ℕ) → flag s.reached e ≡ true
+    → Visits (λ x. x ≡ e) s (record { reached = set s.reached e true; list = s.list })
 visits_again s e old =
-    let same : set s.reached e true ≡ s.reached = subst (λ b. set s.reached e b ≡ s.reached) old (set-get_or s.reached e false) in
+    let same : set s.reached e true ≡ s.reached =
+    subst (λ b. set s.reached e b ≡ s.reached) old (set-get_or s.reached e false) in
     subst (λ flags. Visits (λ x. x ≡ e) s (record { reached = flags; list = s.list })) (sym same)
     (record { adds = adds_none (λ x. x ≡ e) s; all = λ x is. subst (IsIn s.reached) (sym is) old })
 
@@ -150,19 +176,23 @@ module _ (step : ℕ → ℕ → Type 0) where
   leads_more x y z h goes = (h.0 ++ z ∷ [], walk_more step (λ _. ⊤) x h.0 y z h.1 goes tt)
 
   -- what holds of the first and goes along each step holds of the last
-  pub leads_carries : (holds : ℕ → Type 0) → ((x y : ℕ) → holds x → step x y → holds y) → (x y : ℕ) → holds x → LeadsTo step x y → holds y
+  pub leads_carries : (holds : ℕ → Type 0) → ((x y : ℕ) → holds x → step x y → holds y) → (x y : ℕ) → holds x
+      → LeadsTo step x y → holds y
   leads_carries holds along x y here h = walk_carries step (λ _. ⊤) holds (λ a b k s _. along a b k s) x h.0 y here h.1
 
 -- from an element of the set, walks inside it and walks by the steps that lead into it reach the same
-pub leads_inside : (g : Graph) (set : List Bool) (x y : ℕ) → IsIn set x → LeadsTo (IsStepInside g set) x y ↔ Reaches g (IsIn set) x y
+pub leads_inside : (g : Graph) (set : List Bool) (x y : ℕ) → IsIn set x
+    → LeadsTo (IsStepInside g set) x y ↔ Reaches g (IsIn set) x y
 leads_inside g set x y here = (
   λ h. (h.0, walk_other (IsStepInside g set) (IsStep g) (λ _. ⊤) (IsIn set) (λ a b s. s) x h.0 y here h.1),
   λ h. (h.0, walk_into x h.0 y h.1),
 )
   where
-    walk_into : (x : ℕ) (way : List ℕ) (y : ℕ) → IsWalk (IsStep g) (IsIn set) x way y → IsWalk (IsStepInside g set) (λ _. ⊤) x way y
+    walk_into : (x : ℕ) (way : List ℕ) (y : ℕ) → IsWalk (IsStep g) (IsIn set) x way y
+        → IsWalk (IsStepInside g set) (λ _. ⊤) x way y
     walk_into x [] y h = (tt, h.1)
-    walk_into x (next ∷ way) y h = (tt, (h.1, walk_first (IsStep g) (IsIn set) next way y h.2), walk_into next way y h.2)
+    walk_into x (next ∷ way) y h =
+        (tt, (h.1, walk_first (IsStep g) (IsIn set) next way y h.2), walk_into next way y h.2)
 
 -- ---- what expanding one element of a graph adds
 
@@ -185,14 +215,17 @@ module _ (g : Graph) (set : List Bool) (e : ℕ) where
     next_adds old new a = adds_weaker _ _ (λ x h. (inl ((each x).0 h.0), h.1)) old new a
 
     -- where it is no return point, its successors are visited
-    pub next_visits : (old new : Search) → (IsReturn g e → ⊥) → Visits (Within set (Contains next)) old new → Visits (IsStepInside g set e) old new
+    pub next_visits : (old new : Search) → (IsReturn g e → ⊥) → Visits (Within set (Contains next)) old new
+        → Visits (IsStepInside g set e) old new
     next_visits old new no_return v = record {
       adds = next_adds old new v.adds;
       all = λ x step. ⊎_elim (λ h. v.all x ((each x).1 h, step.1)) (λ h. absurd (no_return h.0)) step.0;
     }
 
     -- where it is one, the ends too
-    pub ends_visits : (from to : ℕ) → from ≡ g.points → to ≡ element_count g → IsReturn g e → (old middle new : Search) → Visits (Within set (Contains next)) old middle → Visits (Within set (λ x. (from ≤ x) × (x < to))) middle new → Visits (IsStepInside g set e) old new
+    pub ends_visits : (from to : ℕ) → from ≡ g.points → to ≡ element_count g → IsReturn g e → (old middle new : Search)
+        → Visits (Within set (Contains next)) old middle → Visits (Within set (λ x. (from ≤ x) × (x < to))) middle new
+        → Visits (IsStepInside g set e) old new
     ends_visits from to starts ends returns old middle new v w = record {
       adds = adds_append _ old middle new (next_adds old middle v.adds)
           (adds_weaker _ _ (λ x h. (inr (returns, (omega (arith, h.0), omega (arith, h.0))), h.1)) middle new w.adds);
@@ -218,20 +251,28 @@ module _ (step : ℕ → ℕ → Type 0) (old : Search) where
     pending = pending;
   }
 
-  pub spreading_more : (middle new : Search) (at e : ℕ) → at < length middle.list → get_or middle.list at 0 ≡ e → Spreading step old middle at → Visits (step e) middle new → Spreading step old new (at + 1)
+  pub spreading_more : (middle new : Search) (at e : ℕ) → at < length middle.list → get_or middle.list at 0 ≡ e
+      → Spreading step old middle at → Visits (step e) middle new → Spreading step old new (at + 1)
   spreading_more middle new at e within is s v =
-      let led : IsLedTo step old.reached e = subst (IsLedTo step old.reached) is (s.sound _ (s.pending.listed at (omega arith) within)) in
-      let b : Adds (IsLedTo step old.reached) middle new = adds_weaker _ _ (λ x h. (led.0, led.1, leads_more step led.0 e x led.2 h)) middle new v.adds in
+      let led : IsLedTo step old.reached e =
+      subst (IsLedTo step old.reached) is (s.sound _ (s.pending.listed at (omega arith) within)) in
+      let b : Adds (IsLedTo step old.reached) middle new =
+      adds_weaker _ _ (λ x h. (led.0, led.1, leads_more step led.0 e x led.2 h)) middle new v.adds in
       record {
         adds = adds_append (IsLedTo step old.reached) old middle new s.adds b;
-        sound = λ x h. ⊎_elim (s.sound x) (λ w. subst (IsLedTo step old.reached) w.3 (b.cause w.0 w.1 w.2)) (b.only x h);
+        sound = λ x h. ⊎_elim (s.sound x) (λ w. subst (IsLedTo step old.reached) w.3 (b.cause w.0 w.1 w.2))
+            (b.only x h);
         pending = record {
           within = omega (arith, b.longer);
-          listed = λ k l h. ⊎_elim (λ m. subst (IsIn new.reached) (sym (b.front k m)) (b.kept (get_or middle.list k 0) (s.pending.listed k (omega (arith, l)) m))) (λ m. b.inside k m h) (cases_lt k (length middle.list));
+          listed =
+              λ k l h. ⊎_elim (λ m. subst (IsIn new.reached) (sym (b.front k m))
+              (b.kept (get_or middle.list k 0) (s.pending.listed k (omega (arith, l)) m))) (λ m. b.inside k m h)
+              (cases_lt k (length middle.list));
           others = λ x h. ⊎_elim
               (λ before. ⊎_elim
               (λ w. ⊎_elim
-              (λ same. inr (subst (IsCovered step new.reached) (sym is ∙ (ap (λ k. get_or middle.list k 0) (sym same) ∙ w.3)) v.all))
+              (λ same. inr (subst (IsCovered step new.reached)
+              (sym is ∙ (ap (λ k. get_or middle.list k 0) (sym same) ∙ w.3)) v.all))
               (λ other. inl (w.0, omega (arith, w.1), omega (arith, w.2, b.longer), b.front w.0 w.2 ∙ w.3))
               (cases_eq w.0 at))
               (λ c. inr (λ y r. b.kept y (c y r)))
@@ -249,7 +290,8 @@ module _ (step : ℕ → ℕ → Type 0) (old : Search) where
   }
 
 -- What the first visit puts into an empty search is all still to be expanded.
-module _ (step : ℕ → ℕ → Type 0) (at width : ℕ) (first : Search) (a : Visits (λ x. x ≡ at) (record { reached = replicate width false; list = [] }) first) where
+module _ (step : ℕ → ℕ → Type 0) (at width : ℕ) (first : Search)
+    (a : Visits (λ x. x ≡ at) (record { reached = replicate width false; list = [] }) first) where
   pub begun : IsPending step first 0
   begun = record {
     within = omega arith;
@@ -271,7 +313,8 @@ module _ (step : ℕ → ℕ → Type 0) (at width : ℕ) (first : Search) (a : 
       λ h. ⊎_elim
           (λ early. subst (LeadsTo step at) (sym (is_start x early)) (leads_first step at))
           (λ w. let led = s.adds.cause w.0 w.1 w.2 in
-          subst (LeadsTo step at) w.3 (subst (λ v. LeadsTo step v (get_or new.list w.0 0)) (is_start led.0 led.1) led.2))
+          subst (LeadsTo step at) w.3 (subst (λ v. LeadsTo step v (get_or new.list w.0 0))
+          (is_start led.0 led.1) led.2))
           (s.adds.only x h),
       λ h. leads_carries step (IsIn new.reached) (λ y z t r. s.closed y t z r) at x (s.adds.kept at (a.all at refl)) h,
     )
@@ -280,17 +323,21 @@ module _ (step : ℕ → ℕ → Type 0) (at width : ℕ) (first : Search) (a : 
     list_exact : (x : ℕ) → Contains new.list x ↔ LeadsTo step at x
     list_exact x = (
       λ h. (set_exact x).0 (subst (IsIn new.reached) (contains_at new.list x h) (⊎_elim
-          (λ early. s.adds.kept _ (subst (IsIn first.reached) (sym (s.adds.front h.0 early)) (a.adds.inside h.0 (omega arith) early)))
+          (λ early. s.adds.kept _ (subst (IsIn first.reached) (sym (s.adds.front h.0 early))
+          (a.adds.inside h.0 (omega arith) early)))
           (λ late. s.adds.inside h.0 late h.1)
           (cases_lt h.0 (length first.list)))),
       λ h. ⊎_elim
-          (λ early. ⊎_elim (λ e. absurd (none_in_empty width x e)) (λ w. contains_from new.list x w.0 (omega (arith, w.2, s.adds.longer)) (s.adds.front w.0 w.2 ∙ w.3)) (a.adds.only x early))
+          (λ early. ⊎_elim (λ e. absurd (none_in_empty width x e))
+          (λ w. contains_from new.list x w.0 (omega (arith, w.2, s.adds.longer)) (s.adds.front w.0 w.2 ∙ w.3))
+          (a.adds.only x early))
           (λ w. contains_from new.list x w.0 w.2 w.3)
           (s.adds.only x ((set_exact x).1 h)),
     )
 
     all : Adds (λ _. ⊤) (record { reached = replicate width false; list = [] }) new
-    all = adds_append (λ _. ⊤) _ first new (adds_weaker _ (λ _. ⊤) (λ x h. tt) _ first a.adds) (adds_weaker _ (λ _. ⊤) (λ x h. tt) first new s.adds)
+    all = adds_append (λ _. ⊤) _ first new (adds_weaker _ (λ _. ⊤) (λ x h. tt) _ first a.adds)
+        (adds_weaker _ (λ _. ⊤) (λ x h. tt) first new s.adds)
 
     -- the list has each element once
     each_once : AllPairs (λ x y. x ≢ y) new.list

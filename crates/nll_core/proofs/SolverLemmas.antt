@@ -22,11 +22,14 @@ module _ (q : Problem) where
   pub shaped_empty : IsShaped q (replicate q.regions (replicate (element_count q.graph) false))
   shaped_empty = record {
     regions = length-replicate q.regions (replicate (element_count q.graph) false);
-    elements = λ r h. ap length (get_or-replicate q.regions r (replicate (element_count q.graph) false) _ h) ∙ length-replicate (element_count q.graph) false;
+    elements = λ r h. ap length (get_or-replicate q.regions r (replicate (element_count q.graph) false) _ h)
+        ∙ length-replicate (element_count q.graph) false;
   }
 
-  pub shaped_gains : (kind : ℕ → ℕ → Type 0) (old new : List (List Bool)) → IsShaped q old → Gains kind old new → IsShaped q new
-  shaped_gains kind old new s g = record { regions = g.width ∙ s.regions; elements = λ r h. g.widths r ∙ s.elements r h }
+  pub shaped_gains : (kind : ℕ → ℕ → Type 0) (old new : List (List Bool)) → IsShaped q old → Gains kind old new
+      → IsShaped q new
+  shaped_gains kind old new s g =
+      record { regions = g.width ∙ s.regions; elements = λ r h. g.widths r ∙ s.elements r h }
 
   -- ---- the base elements
 
@@ -44,16 +47,22 @@ module _ (q : Problem) where
   }
 
   -- the points of one more universal region
-  pub filling_points : (old middle new : List (List Bool)) (count points : ℕ) → points ≡ q.graph.points → count < q.graph.universals → Gains (IsBase q) old middle → Gains (λ r e. (r ≡ count) × (e < points)) middle new → Gains (IsBase q) old new
+  pub filling_points : (old middle new : List (List Bool)) (count points : ℕ) → points ≡ q.graph.points
+      → count < q.graph.universals → Gains (IsBase q) old middle → Gains (λ r e. (r ≡ count) × (e < points)) middle new
+      → Gains (IsBase q) old new
   filling_points old middle new count points is universal f g = gains_append (IsBase q) old middle new f
       (gains_weaker _ (IsBase q) (λ r e h. inr (omega (arith, h.0), inl (omega (arith, h.1)))) middle new g)
 
   -- its end too
-  pub filling_more : (old middle new : List (List Bool)) (count points : ℕ) → points ≡ q.graph.points → count < q.graph.universals → Filling old middle count
+  pub filling_more : (old middle new : List (List Bool)) (count points : ℕ) → points ≡ q.graph.points
+      → count < q.graph.universals → Filling old middle count
       → Gains (λ r e. (r ≡ count) × (e < points)) middle new → ((e : ℕ) → e < points → IsHeld new count e)
-      → count < length new → points + count < length (set_of new count) → Filling old (with_element new count (points + count)) (count + 1)
+      → count < length new → points + count < length (set_of new count)
+      → Filling old (with_element new count (points + count)) (count + 1)
   filling_more old middle new count points is universal f g covers within below =
-      let last : Gains (IsBase q) new (with_element new count (points + count)) = gains_one new count (points + count) within below (IsBase q) (inr (universal, inr (ap (λ n. n + count) is))) in
+      let last : Gains (IsBase q) new (with_element new count (points + count)) =
+      gains_one new count (points + count) within below (IsBase q)
+      (inr (universal, inr (ap (λ n. n + count) is))) in
       record {
         gains = gains_append (IsBase q) _ _ _ (filling_points old middle new count points is universal f.gains g) last;
         points = λ r e h k. last.kept r e (⊎_elim
@@ -61,7 +70,9 @@ module _ (q : Problem) where
             (λ other. g.kept r e (f.points r e (omega arith) k))
             (cases_eq r count));
         ends = λ r h. ⊎_elim
-            (λ same. subst (λ x. IsHeld (with_element new count (points + count)) x (end_of q x)) (sym same) (subst (λ p. IsHeld (with_element new count (points + count)) count (p + count)) is (held_one new count (points + count) within below)))
+            (λ same. subst (λ x. IsHeld (with_element new count (points + count)) x (end_of q x)) (sym same)
+            (subst (λ p. IsHeld (with_element new count (points + count)) count (p + count)) is
+            (held_one new count (points + count) within below)))
             (λ other. last.kept r (end_of q r) (g.kept r (end_of q r) (f.ends r (omega arith))))
             (cases_eq r count);
       }
@@ -75,10 +86,19 @@ module _ (q : Problem) where
   listing_first runs old = record { gains = gains_none (IsBase q) old; covers = λ r e h. absurd (omega (arith, h.1.1)) }
 
   -- those of one run more
-  pub listing_more : (runs : List BaseRun) (old now new : List (List Bool)) (count : ℕ) (run : BaseRun) (own : Run) → own.first ≡ run.first → own.last + 1 ≡ run.end → count < length runs → run ≡ get_or runs count run → ((r e : ℕ) → IsInBaseRuns runs r e ↔ Contains q.bases (r, e)) → Listing runs old now count
-      → Gains (λ r e. (r ≡ run.region) × IsWithin own e) now new → ((e : ℕ) → IsWithin own e → IsHeld new run.region e) → Listing runs old new (count + 1)
+  pub listing_more : (runs : List BaseRun) (old now new : List (List Bool)) (count : ℕ) (run : BaseRun) (own : Run)
+      → own.first ≡ run.first → own.last + 1 ≡ run.end → count < length runs → run ≡ get_or runs count run
+      → ((r e : ℕ) → IsInBaseRuns runs r e ↔ Contains q.bases (r, e)) → Listing runs old now count
+      → Gains (λ r e. (r ≡ run.region) × IsWithin own e) now new → ((e : ℕ) → IsWithin own e → IsHeld new run.region e)
+      → Listing runs old new (count + 1)
   listing_more runs old now new count run own begins ends within is each f g covers = record {
-    gains = gains_append (IsBase q) _ _ _ f.gains (gains_weaker _ (IsBase q) (λ r e h. inl ((each r e).0 (run, run_there runs count run within is, (sym h.0, omega (arith, h.1.0, begins), omega (arith, h.1.1, ends))))) now new g);
+    gains = gains_append (IsBase q) _ _ _ f.gains
+        (gains_weaker _ (IsBase q) (λ r e h. inl
+        ((each r e).0 (
+          run,
+          run_there runs count run within is,
+          (sym h.0, omega (arith, h.1.0, begins), omega (arith, h.1.1, ends)),
+        ))) now new g);
     covers = λ r e h. ⊎_elim
         (λ there. g.kept r e (f.covers r e there))
         (λ h. subst (λ x. IsHeld new x e) h.0 (covers e (omega (arith, h.1, begins), omega (arith, h.2, ends))))
@@ -86,21 +106,28 @@ module _ (q : Problem) where
   }
 
   -- empty values that gained the base elements hold just these
-  pub base_exact : (first middle new : List (List Bool)) → ((r e : ℕ) → IsHeld first r e → ⊥) → Gains (IsBase q) first middle → Gains (IsBase q) middle new
-      → ((r e : ℕ) → IsUniversal q r → e < q.graph.points → IsHeld middle r e) → ((r : ℕ) → IsUniversal q r → IsHeld middle r (end_of q r)) → ((r e : ℕ) → Contains q.bases (r, e) → IsHeld new r e)
+  pub base_exact : (first middle new : List (List Bool)) → ((r e : ℕ) → IsHeld first r e → ⊥)
+      → Gains (IsBase q) first middle → Gains (IsBase q) middle new
+      → ((r e : ℕ) → IsUniversal q r → e < q.graph.points → IsHeld middle r e)
+      → ((r : ℕ) → IsUniversal q r → IsHeld middle r (end_of q r))
+      → ((r e : ℕ) → Contains q.bases (r, e) → IsHeld new r e)
       → (r e : ℕ) → IsHeld new r e ↔ IsBase q r e
   base_exact first middle new nothing g k points ends given r e = (
-    λ h. ⊎_elim (λ before. ⊎_elim (λ none. absurd (nothing r e none)) (λ b. b) (g.cause r e before)) (λ b. b) (k.cause r e h),
-    ⊎_elim (given r e) (λ own. k.kept r e (⊎_elim (points r e own.0) (λ is. subst (IsHeld middle r) (sym is) (ends r own.0)) own.1)),
+    λ h. ⊎_elim (λ before. ⊎_elim (λ none. absurd (nothing r e none)) (λ b. b) (g.cause r e before)) (λ b. b)
+        (k.cause r e h),
+    ⊎_elim (given r e) (λ own. k.kept r e
+        (⊎_elim (points r e own.0) (λ is. subst (IsHeld middle r) (sym is) (ends r own.0)) own.1)),
   )
 
   -- ---- a round
 
   -- what a constraint asks is in each assignment that satisfies the problem and has all of the values
-  pub below_gains : (c : Constraint) (old new : List (List Bool)) → Contains q.constraints c → Gains (λ r e. (r ≡ c.sup) × Asks q.graph (IsHeld old) c e) old new → StaysBelow q old new
+  pub below_gains : (c : Constraint) (old new : List (List Bool)) → Contains q.constraints c
+      → Gains (λ r e. (r ≡ c.sup) × Asks q.graph (IsHeld old) c e) old new → StaysBelow q old new
   below_gains c old new of_problem g = λ assignment sat under r e h. ⊎_elim
       (under r e)
-      (λ asked. subst (λ x. IsTrue (assignment x e)) (sym asked.0) (sat.each c of_problem e (asked_weaker q.graph (IsHeld old c.sub) c.at _ (λ x k. under c.sub x k) e asked.1)))
+      (λ asked. subst (λ x. IsTrue (assignment x e)) (sym asked.0)
+      (sat.each c of_problem e (asked_weaker q.graph (IsHeld old c.sub) c.at _ (λ x k. under c.sub x k) e asked.1)))
       (g.cause r e h)
 
   -- The values of a round after the first `count` constraints.
@@ -120,15 +147,21 @@ module _ (q : Problem) where
     met = λ h k c l. absurd (omega arith);
   }
 
-  pub rounding_stays : (first now next : List (List Bool)) (c : Constraint) → StaysBelow q first now → Contains q.constraints c → Gains (λ r e. (r ≡ c.sup) × Asks q.graph (IsHeld now) c e) now next → StaysBelow q first next
-  rounding_stays first now next c below of_problem g = λ assignment sat under. below_gains c now next of_problem g assignment sat (below assignment sat under)
+  pub rounding_stays : (first now next : List (List Bool)) (c : Constraint) → StaysBelow q first now
+      → Contains q.constraints c → Gains (λ r e. (r ≡ c.sup) × Asks q.graph (IsHeld now) c e) now next
+      → StaysBelow q first next
+  rounding_stays first now next c below of_problem g =
+      λ assignment sat under. below_gains c now next of_problem g assignment sat (below assignment sat under)
 
   neither : (x y : Bool) → (x || y) ≡ false → (x ≡ false) × (y ≡ false)
   neither true y h = absurd (true≢false h)
   neither false y h = (refl, h)
 
-  pub rounding_more : (first now next : List (List Bool)) (changed new : Bool) (count : ℕ) (c : Constraint) → count < length q.constraints → get_or q.constraints count c ≡ c → Rounding first now changed count
-      → Gains (λ r e. (r ≡ c.sup) × Asks q.graph (IsHeld now) c e) now next → ((e : ℕ) → Asks q.graph (IsHeld now) c e → IsHeld next c.sup e) → Tells new now next → Rounding first next (changed || new) (count + 1)
+  pub rounding_more : (first now next : List (List Bool)) (changed new : Bool) (count : ℕ) (c : Constraint)
+      → count < length q.constraints → get_or q.constraints count c ≡ c → Rounding first now changed count
+      → Gains (λ r e. (r ≡ c.sup) × Asks q.graph (IsHeld now) c e) now next
+      → ((e : ℕ) → Asks q.graph (IsHeld now) c e → IsHeld next c.sup e) → Tells new now next
+      → Rounding first next (changed || new) (count + 1)
   rounding_more first now next changed new count c within is r g asks tells = record {
     shaped = shaped_gains _ now next r.shaped g;
     kept = λ s e h. g.kept s e (r.kept s e h);
@@ -139,18 +172,28 @@ module _ (q : Problem) where
         let here : now ≡ first = r.tells.same both.0 in
         let there : next ≡ now = tells.same both.1 in
         ⊎_elim
-        (λ at. subst (IsMet q first) (sym (get_or_default q.constraints k d c (omega arith) ∙ (ap (λ j. get_or q.constraints j c) at ∙ is)))
-        (λ e h. subst (λ v. IsHeld v c.sup e) (there ∙ here) (asks e (subst (λ v. Asks q.graph (IsHeld v) c e) (sym here) h))))
+        (λ at. subst (IsMet q first) (sym (get_or_default q.constraints k d c (omega arith)
+        ∙ (ap (λ j. get_or q.constraints j c) at ∙ is)))
+        (λ e h. subst (λ v. IsHeld v c.sup e) (there ∙ here)
+        (asks e (subst (λ v. Asks q.graph (IsHeld v) c e) (sym here) h))))
         (λ other. r.met both.0 k d (omega arith))
         (cases_eq k count);
   }
 
   -- a round over all constraints that changed nothing met each of them
-  pub rounding_closed : (first now : List (List Bool)) (changed : Bool) (count : ℕ) → length q.constraints ≤ count → Rounding first now changed count → changed ≡ false → IsClosed q first
-  rounding_closed first now changed count all r same = λ c h. subst (IsMet q first) h.2 (r.met same h.0 c (omega (arith, h.1)))
+  pub rounding_closed : (first now : List (List Bool)) (changed : Bool) (count : ℕ) → length q.constraints ≤ count
+      → Rounding first now changed count → changed ≡ false → IsClosed q first
+  rounding_closed first now changed count all r same =
+      λ c h. subst (IsMet q first) h.2 (r.met same h.0 c (omega (arith, h.1)))
 
   -- ---- the end
 
-  -- values that hold the base elements, are below each assignment that satisfies the problem, and meet each constraint are the least
-  pub least_exact : (values : List (List Bool)) → ((r e : ℕ) → IsBase q r e → IsHeld values r e) → ((assignment : ℕ → ℕ → Bool) → Satisfies q (λ s f. IsTrue (assignment s f)) → IsBelow values assignment) → IsClosed q values → (r e : ℕ) → IsHeld values r e ↔ Least q r e
-  least_exact values base below closed r e = (λ h assignment sat. below assignment sat r e h, λ least. least (holds values) (record { base = base; each = closed }))
+  -- values that hold the base elements, are below each assignment that satisfies the problem, and meet each constraint
+  -- are the least
+  pub least_exact : (values : List (List Bool)) → ((r e : ℕ) → IsBase q r e → IsHeld values r e)
+      → ((assignment : ℕ → ℕ → Bool) → Satisfies q (λ s f. IsTrue (assignment s f)) → IsBelow values assignment)
+      → IsClosed q values → (r e : ℕ) → IsHeld values r e ↔ Least q r e
+  least_exact values base below closed r e = (
+    λ h assignment sat. below assignment sat r e h,
+    λ least. least (holds values) (record { base = base; each = closed }),
+  )

@@ -28,56 +28,81 @@ pub contained_at : (pair : List Constraint) (k : ℕ) → k < length pair → Co
 contained_at pair k within = (k, within, get_or_default pair k (constraint_at pair k) no_constraint within)
 
 -- what holds of the constraints of a list, place by place, holds of each that it contains
-pub each_contained : (holds : Constraint → Type 0) (pair : List Constraint) → ((k : ℕ) → k < length pair → holds (constraint_at pair k)) → (c : Constraint) → Contains pair c → holds c
-each_contained holds pair each c (k, within, is) = subst holds (get_or_default pair k no_constraint c within ∙ is) (each k within)
+pub each_contained : (holds : Constraint → Type 0) (pair : List Constraint)
+    → ((k : ℕ) → k < length pair → holds (constraint_at pair k)) → (c : Constraint) → Contains pair c → holds c
+each_contained holds pair each c (k, within, is) =
+    subst holds (get_or_default pair k no_constraint c within ∙ is) (each k within)
 
 -- ---- how many are missing
 
 one_more : (xs : List Bool) → missing (false ∷ xs) ≡ missing xs + 1
-one_more xs = let e : missing (false ∷ xs) ≡ 1 + missing xs = sum_by-cons (λ x. cond (not x) 1 0) false xs in omega (arith, e)
+one_more xs = let e : missing (false ∷ xs) ≡ 1 + missing xs = sum_by-cons (λ x. cond (not x) 1 0) false xs in
+    omega (arith, e)
 
 none_more : (xs : List Bool) → missing (true ∷ xs) ≡ missing xs
-none_more xs = let e : missing (true ∷ xs) ≡ 0 + missing xs = sum_by-cons (λ x. cond (not x) 1 0) true xs in omega (arith, e)
+none_more xs = let e : missing (true ∷ xs) ≡ 0 + missing xs = sum_by-cons (λ x. cond (not x) 1 0) true xs in
+    omega (arith, e)
 
-missing_most : (old new : List Bool) → length new ≡ length old → ((x : ℕ) → flag old x ≡ true → flag new x ≡ true) → missing new ≤ missing old
+missing_most : (old new : List Bool) → length new ≡ length old → ((x : ℕ) → flag old x ≡ true → flag new x ≡ true)
+    → missing new ≤ missing old
 missing_most [] [] e kept = omega arith
 missing_most [] (b ∷ new) e kept = absurd (omega (arith, e))
 missing_most (a ∷ old) [] e kept = absurd (omega (arith, e))
-missing_most (true ∷ old) (true ∷ new) e kept = omega (arith, none_more old, none_more new, missing_most old new (omega (arith, e)) (λ x h. kept (suc x) h))
+missing_most (true ∷ old) (true ∷ new) e kept =
+    omega (arith, none_more old, none_more new, missing_most old new (omega (arith, e)) (λ x h. kept (suc x) h))
 missing_most (true ∷ old) (false ∷ new) e kept = absurd (false≢true (kept 0 refl))
-missing_most (false ∷ old) (true ∷ new) e kept = omega (arith, one_more old, none_more new, missing_most old new (omega (arith, e)) (λ x h. kept (suc x) h))
-missing_most (false ∷ old) (false ∷ new) e kept = omega (arith, one_more old, one_more new, missing_most old new (omega (arith, e)) (λ x h. kept (suc x) h))
+missing_most (false ∷ old) (true ∷ new) e kept =
+    omega (arith, one_more old, none_more new, missing_most old new (omega (arith, e)) (λ x h. kept (suc x) h))
+missing_most (false ∷ old) (false ∷ new) e kept =
+    omega (arith, one_more old, one_more new, missing_most old new (omega (arith, e)) (λ x h. kept (suc x) h))
 
-pub missing_less : (old new : List Bool) (x : ℕ) → length new ≡ length old → ((x : ℕ) → flag old x ≡ true → flag new x ≡ true) → flag old x ≡ false → flag new x ≡ true → missing new < missing old
+pub missing_less : (old new : List Bool) (x : ℕ) → length new ≡ length old
+    → ((x : ℕ) → flag old x ≡ true → flag new x ≡ true) → flag old x ≡ false → flag new x ≡ true
+    → missing new < missing old
 missing_less [] [] x e kept a b = absurd (false≢true b)
 missing_less [] (c ∷ new) x e kept a b = absurd (omega (arith, e))
 missing_less (c ∷ old) [] x e kept a b = absurd (omega (arith, e))
-missing_less (false ∷ old) (true ∷ new) zero e kept a b = omega (arith, one_more old, none_more new, missing_most old new (omega (arith, e)) (λ x h. kept (suc x) h))
+missing_less (false ∷ old) (true ∷ new) zero e kept a b =
+    omega (arith, one_more old, none_more new, missing_most old new (omega (arith, e)) (λ x h. kept (suc x) h))
 missing_less (true ∷ old) (c ∷ new) zero e kept a b = absurd (true≢false a)
 missing_less (false ∷ old) (false ∷ new) zero e kept a b = absurd (false≢true b)
-missing_less (true ∷ old) (true ∷ new) (suc x) e kept a b = omega (arith, none_more old, none_more new, missing_less old new x (omega (arith, e)) (λ x h. kept (suc x) h) a b)
+missing_less (true ∷ old) (true ∷ new) (suc x) e kept a b =
+    omega (arith, none_more old, none_more new, missing_less old new x (omega (arith, e)) (λ x h. kept (suc x) h) a b)
 missing_less (true ∷ old) (false ∷ new) (suc x) e kept a b = absurd (false≢true (kept 0 refl))
-missing_less (false ∷ old) (true ∷ new) (suc x) e kept a b = omega (arith, one_more old, none_more new, missing_less old new x (omega (arith, e)) (λ x h. kept (suc x) h) a b)
-missing_less (false ∷ old) (false ∷ new) (suc x) e kept a b = omega (arith, one_more old, one_more new, missing_less old new x (omega (arith, e)) (λ x h. kept (suc x) h) a b)
+missing_less (false ∷ old) (true ∷ new) (suc x) e kept a b =
+    omega (arith, one_more old, none_more new, missing_less old new x (omega (arith, e)) (λ x h. kept (suc x) h) a b)
+missing_less (false ∷ old) (false ∷ new) (suc x) e kept a b =
+    omega (arith, one_more old, one_more new, missing_less old new x (omega (arith, e)) (λ x h. kept (suc x) h) a b)
 
 -- where none of a run was there, as many fewer are missing as the run has numbers
-pub missing_run : (old new : List Bool) (first count : ℕ) → length new ≡ length old → ((x : ℕ) → flag old x ≡ true → flag new x ≡ true)
-    → ((x : ℕ) → first ≤ x → x < first + count → flag old x ≡ false) → ((x : ℕ) → first ≤ x → x < first + count → flag new x ≡ true)
+pub missing_run : (old new : List Bool) (first count : ℕ) → length new ≡ length old
+    → ((x : ℕ) → flag old x ≡ true → flag new x ≡ true)
+    → ((x : ℕ) → first ≤ x → x < first + count → flag old x ≡ false)
+    → ((x : ℕ) → first ≤ x → x < first + count → flag new x ≡ true)
     → missing new + count ≤ missing old
 missing_run old new first zero e kept lacks has = omega (arith, missing_most old new e kept)
 missing_run [] [] first (suc n) e kept lacks has = absurd (false≢true (has first (omega arith) (omega arith)))
 missing_run [] (c ∷ new) first (suc n) e kept lacks has = absurd (omega (arith, e))
 missing_run (c ∷ old) [] first (suc n) e kept lacks has = absurd (omega (arith, e))
 missing_run (false ∷ old) (true ∷ new) zero (suc n) e kept lacks has =
-    let rest = missing_run old new zero n (omega (arith, e)) (λ x h. kept (suc x) h) (λ x a b. lacks (suc x) (omega arith) (omega (arith, b))) (λ x a b. has (suc x) (omega arith) (omega (arith, b))) in
+    let rest =
+    missing_run old new zero n (omega (arith, e)) (λ x h. kept (suc x) h)
+    (λ x a b. lacks (suc x) (omega arith) (omega (arith, b)))
+    (λ x a b. has (suc x) (omega arith) (omega (arith, b))) in
     omega (arith, one_more old, none_more new, rest)
-missing_run (true ∷ old) (c ∷ new) zero (suc n) e kept lacks has = absurd (true≢false (lacks 0 (omega arith) (omega arith)))
-missing_run (false ∷ old) (false ∷ new) zero (suc n) e kept lacks has = absurd (false≢true (has 0 (omega arith) (omega arith)))
+missing_run (true ∷ old) (c ∷ new) zero (suc n) e kept lacks has =
+    absurd (true≢false (lacks 0 (omega arith) (omega arith)))
+missing_run (false ∷ old) (false ∷ new) zero (suc n) e kept lacks has =
+    absurd (false≢true (has 0 (omega arith) (omega arith)))
 missing_run (c ∷ old) (d ∷ new) (suc first) (suc n) e kept lacks has =
-    let rest = missing_run old new first (suc n) (omega (arith, e)) (λ x h. kept (suc x) h) (λ x a b. lacks (suc x) (omega (arith, a)) (omega (arith, b))) (λ x a b. has (suc x) (omega (arith, a)) (omega (arith, b))) in
+    let rest =
+    missing_run old new first (suc n) (omega (arith, e)) (λ x h. kept (suc x) h)
+    (λ x a b. lacks (suc x) (omega (arith, a)) (omega (arith, b)))
+    (λ x a b. has (suc x) (omega (arith, a)) (omega (arith, b))) in
     go c d (kept 0) rest
   where
-    go : (c d : Bool) → (c ≡ true → d ≡ true) → missing new + suc n ≤ missing old → missing (d ∷ new) + suc n ≤ missing (c ∷ old)
+    go : (c d : Bool) → (c ≡ true → d ≡ true) → missing new + suc n ≤ missing old
+        → missing (d ∷ new) + suc n ≤ missing (c ∷ old)
     go true true k r = omega (arith, none_more old, none_more new, r)
     go true false k r = absurd (false≢true (k refl))
     go false true k r = omega (arith, one_more old, none_more new, r)
@@ -95,14 +120,25 @@ module _ (sub : List Bool) where
     pub above : from ≤ to
 
   pub filling_none : (from : ℕ) (old : List Bool) → Filling from old old from
-  filling_none from old = record { width = refl; kept = λ x h. h; cause = λ x h. inl h; filled = λ x a b. absurd (omega (arith, a, b)); above = omega arith }
+  filling_none from old =
+      record {
+        width = refl;
+        kept = λ x h. h;
+        cause = λ x h. inl h;
+        filled = λ x a b. absurd (omega (arith, a, b));
+        above = omega arith;
+      }
 
-  pub filling_more : (from : ℕ) (old now new : List Bool) (to first last : ℕ) (run : Run) → Filling from old now to → run.first ≡ first → run.last ≡ last → to ≤ first → first ≤ last
-      → ((x : ℕ) → first ≤ x → x ≤ last → IsIn sub x) → ((x : ℕ) → to ≤ x → x < first → flag sub x ≡ false) → Fills now new run → Filling from old new (last + 1)
+  pub filling_more : (from : ℕ) (old now new : List Bool) (to first last : ℕ) (run : Run) → Filling from old now to
+      → run.first ≡ first → run.last ≡ last → to ≤ first → first ≤ last
+      → ((x : ℕ) → first ≤ x → x ≤ last → IsIn sub x) → ((x : ℕ) → to ≤ x → x < first → flag sub x ≡ false)
+      → Fills now new run → Filling from old new (last + 1)
   filling_more from old now new to first last run f a b past proper all none p = record {
     width = p.width ∙ f.width;
     kept = λ x h. p.kept x (f.kept x h);
-    cause = λ x h. ⊎_elim (f.cause x) (λ own. inr (omega (arith, own.0, a, past, f.above), all x (omega (arith, own.0, a)) (omega (arith, own.1, b)))) (p.cause x h);
+    cause = λ x h. ⊎_elim (f.cause x) (λ own.
+        inr (omega (arith, own.0, a, past, f.above), all x (omega (arith, own.0, a)) (omega (arith, own.1, b))))
+        (p.cause x h);
     filled = λ x h k s. ⊎_elim
         (λ before. p.kept x (f.filled x h before s))
         (λ other. ⊎_elim
@@ -113,28 +149,37 @@ module _ (sub : List Bool) where
     above = omega (arith, f.above, past, proper);
   }
 
-  pub filling_end : (from : ℕ) (old now : List Bool) (to : ℕ) → Filling from old now to → ((x : ℕ) → to ≤ x → flag sub x ≡ false) → FillsFrom from sub old now
+  pub filling_end : (from : ℕ) (old now : List Bool) (to : ℕ) → Filling from old now to
+      → ((x : ℕ) → to ≤ x → flag sub x ≡ false) → FillsFrom from sub old now
   filling_end from old now to f none = record {
     width = f.width;
     kept = f.kept;
     cause = f.cause;
-    filled = λ x a s. ⊎_elim (λ before. f.filled x a before s) (λ past. absurd (false≢true (sym (none x past) ∙ s))) (cases_lt x to);
+    filled =
+        λ x a s. ⊎_elim (λ before. f.filled x a before s) (λ past. absurd (false≢true (sym (none x past) ∙ s)))
+        (cases_lt x to);
   }
 
 -- ---- what is added
 
 module _ (g : Graph) (sub : List Bool) where
   -- along a line a walk leads from its first point to each other
-  line_reaches : (p k : ℕ) → ((x : ℕ) → p ≤ x → x ≤ p + k → IsIn sub x) → ((x : ℕ) → p ≤ x → x < p + k → IsNext g x (x + 1)) → Reaches g (IsIn sub) p (p + k)
-  line_reaches p zero inside line = subst (Reaches g (IsIn sub) p) (omega arith) (reaches_first g (IsIn sub) p (inside p (omega arith) (omega arith)))
+  line_reaches : (p k : ℕ) → ((x : ℕ) → p ≤ x → x ≤ p + k → IsIn sub x)
+      → ((x : ℕ) → p ≤ x → x < p + k → IsNext g x (x + 1)) → Reaches g (IsIn sub) p (p + k)
+  line_reaches p zero inside line =
+      subst (Reaches g (IsIn sub) p) (omega arith) (reaches_first g (IsIn sub) p (inside p (omega arith) (omega arith)))
   line_reaches p (suc k) inside line =
       let before = line_reaches p k (λ x a b. inside x a (omega (arith, b))) (λ x a b. line x a (omega (arith, b))) in
       let same : p + k + 1 ≡ p + suc k = omega arith in
-      subst (Reaches g (IsIn sub) p) same (reaches_more g (IsIn sub) p (p + k) (p + k + 1) before (inl (line (p + k) (omega arith) (omega arith))) (inside (p + k + 1) (omega arith) (omega arith)))
+      subst (Reaches g (IsIn sub) p) same
+      (reaches_more g (IsIn sub) p (p + k) (p + k + 1) before (inl (line (p + k) (omega arith) (omega arith)))
+      (inside (p + k + 1) (omega arith) (omega arith)))
 
   -- up to where a line, a run of `sub` and what is new go on, there is a stretch
-  pub stretch_of : (reached : List Bool) (point e limit last : ℕ) (inside run : Run) → IsLineEnd g point e → IsRunFrom sub point inside → inside.first ≤ point → IsFreeTo reached point limit
-      → last ≡ min e inside.last → run.first ≡ point → run.last ≡ min last (limit - 1) → g.points < 4294967295 → IsStretch g sub reached point run
+  pub stretch_of : (reached : List Bool) (point e limit last : ℕ) (inside run : Run) → IsLineEnd g point e
+      → IsRunFrom sub point inside → inside.first ≤ point → IsFreeTo reached point limit
+      → last ≡ min e inside.last → run.first ≡ point → run.last ≡ min last (limit - 1) → g.points < 4294967295
+      → IsStretch g sub reached point run
   stretch_of reached point e limit last inside run line from before free last_is first_is end_is few = record {
     first = first_is;
     proper = omega (arith, end_is, last_is, free.above, line.above, from.reach);
@@ -144,17 +189,21 @@ module _ (g : Graph) (sub : List Bool) where
     new = λ x a b. free.new x a (omega (arith, b, end_is, free.above));
     closing = λ next in_sub. ⊎_elim
         (λ early. ⊎_elim
-        (λ more. let here : limit ≡ run.last + 1 = omega (arith, early, end_is, free.above) in subst (IsIn reached) here more)
+        (λ more. let here : limit ≡ run.last + 1 = omega (arith, early, end_is, free.above) in
+        subst (IsIn reached) here more)
         (λ most. absurd (omega (arith, most, early, last_is, line.point, few)))
         free.closing)
         (λ late. ⊎_elim
-        (λ low. let ends : run.last ≡ e = omega (arith, low, late, end_is, last_is) in absurd (line.last (subst (λ y. IsNext g y (y + 1)) ends next)))
-        (λ high. let ends : run.last ≡ inside.last = omega (arith, high, late, end_is, last_is) in absurd (false≢true (sym from.end ∙ subst (λ y. IsIn sub (y + 1)) ends in_sub)))
+        (λ low. let ends : run.last ≡ e = omega (arith, low, late, end_is, last_is) in
+        absurd (line.last (subst (λ y. IsNext g y (y + 1)) ends next)))
+        (λ high. let ends : run.last ≡ inside.last = omega (arith, high, late, end_is, last_is) in
+        absurd (false≢true (sym from.end ∙ subst (λ y. IsIn sub (y + 1)) ends in_sub)))
         (cases_lt e inside.last))
         (cases_lt (limit - 1) last);
   }
 
-  pub grows_stretch : (old new : List Bool) (before : List Run) (point : ℕ) (run : Run) → IsStretch g sub old point run → Fills old new run → Grows g sub (Reaches g (IsIn sub) point) old new before (before ++ run ∷ [])
+  pub grows_stretch : (old new : List Bool) (before : List Run) (point : ℕ) (run : Run) → IsStretch g sub old point run
+      → Fills old new run → Grows g sub (Reaches g (IsIn sub) point) old new before (before ++ run ∷ [])
   grows_stretch old new before point run s f =
       let len = length-append before (run ∷ []) in
       let there = last_there before run (length before) refl in
@@ -162,27 +211,46 @@ module _ (g : Graph) (sub : List Bool) where
         width = f.width;
         kept = f.kept;
         cause = λ x h. ⊎_elim inl (λ own.
-            let way = line_reaches point (x - point) (λ y a b. s.inside y a (omega (arith, b, own.0, own.1, s.first))) (λ y a b. s.line y a (omega (arith, b, own.0, own.1, s.first))) in
+            let way =
+            line_reaches point (x - point) (λ y a b. s.inside y a (omega (arith, b, own.0, own.1, s.first)))
+            (λ y a b. s.line y a (omega (arith, b, own.0, own.1, s.first))) in
             inr (subst (Reaches g (IsIn sub) point) (omega (arith, own.0, s.first)) way)) (f.cause x h);
         closed = λ x h next in_sub. ⊎_elim
             inr
             (λ own. ⊎_elim
-            (λ here. inl (f.kept (x + 1) (subst (λ y. IsNext g y (y + 1) → IsIn sub (y + 1) → IsIn old (y + 1)) (sym here) s.closing next in_sub)))
+            (λ here. inl (f.kept (x + 1) (subst (λ y. IsNext g y (y + 1) → IsIn sub (y + 1) → IsIn old (y + 1))
+            (sym here) s.closing next in_sub)))
             (λ other. inl (f.filled (x + 1) (omega (arith, own.0)) (omega (arith, own.1, other))))
             (cases_eq x run.last))
             (f.cause x h);
         longer = omega (arith, len);
         front = λ k l. front_of before run k l;
         listed = λ x (k, from, l, a, b).
-            let at = last_there before run k (omega (arith, from, l, len)) in
-            (f.filled x (omega (arith, a, at.0)) (omega (arith, b, at.1)), s.new x (omega (arith, a, at.0, s.first)) (omega (arith, b, at.1)));
-        pending = λ x h. ⊎_elim inl (λ own. inr (length before, omega arith, omega (arith, len), omega (arith, own.0, there.0), omega (arith, own.1, there.1))) (f.cause x h);
+            let at = last_there before run k (omega (arith, from, l, len)) in (
+              f.filled x (omega (arith, a, at.0)) (omega (arith, b, at.1)),
+              s.new x (omega (arith, a, at.0, s.first)) (omega (arith, b, at.1)),
+            );
+        pending =
+            λ x h. ⊎_elim inl (λ own. inr (
+              length before,
+              omega arith,
+              omega (arith, len),
+              omega (arith, own.0, there.0),
+              omega (arith, own.1, there.1),
+            )) (f.cause x h);
         apart = λ j k x from less l a b. omega (arith, from, less, l, len);
         fit = λ all k l. ⊎_elim
-            (λ front. let o = all k front in let at = front_of before run k front in (omega (arith, o.0, at.0, at.1), omega (arith, o.1, at.1)))
-            (λ other. let at = last_there before run k (omega (arith, l, other, len)) in (omega (arith, s.first, s.proper, at.0, at.1), omega (arith, s.points, at.1)))
+            (λ front. let o = all k front in let at = front_of before run k front in
+            (omega (arith, o.0, at.0, at.1), omega (arith, o.1, at.1)))
+            (λ other. let at = last_there before run k (omega (arith, l, other, len)) in
+            (omega (arith, s.first, s.proper, at.0, at.1), omega (arith, s.points, at.1)))
             (cases_lt k (length before));
-        count = omega (arith, len, missing_less old new point f.width f.kept (s.new point (omega arith) s.proper) (f.filled point (omega (arith, s.first)) s.proper));
+        count = omega (
+          arith,
+          len,
+          missing_less old new point f.width f.kept (s.new point (omega arith) s.proper)
+              (f.filled point (omega (arith, s.first)) s.proper),
+        );
       }
 
   module _ (kind : ℕ → Type 0) where
@@ -201,26 +269,35 @@ module _ (g : Graph) (sub : List Bool) where
       count = omega arith;
     }
 
-    pub grows_append : (old middle new : List Bool) (xs ys zs : List Run) → Grows g sub kind old middle xs ys → Grows g sub kind middle new ys zs → Grows g sub kind old new xs zs
+    pub grows_append : (old middle new : List Bool) (xs ys zs : List Run) → Grows g sub kind old middle xs ys
+        → Grows g sub kind middle new ys zs → Grows g sub kind old new xs zs
     grows_append old middle new xs ys zs p q = record {
       width = q.width ∙ p.width;
       kept = λ x h. q.kept x (p.kept x h);
       cause = λ x h. ⊎_elim (p.cause x) inr (q.cause x h);
-      closed = λ x h next in_sub. ⊎_elim inl (λ m. ⊎_elim (λ i. inl (q.kept (x + 1) i)) inr (p.closed x m next in_sub)) (q.closed x h next in_sub);
+      closed =
+          λ x h next in_sub. ⊎_elim inl (λ m. ⊎_elim (λ i. inl (q.kept (x + 1) i)) inr (p.closed x m next in_sub))
+          (q.closed x h next in_sub);
       longer = omega (arith, p.longer, q.longer);
       front = λ k l. let a = p.front k l in let b = q.front k (omega (arith, l, p.longer)) in (b.0 ∙ a.0, b.1 ∙ a.1);
       listed = λ x (k, from, l, a, b). ⊎_elim
-          (λ mid. let at = q.front k mid in let o = p.listed x (k, from, mid, omega (arith, a, at.0), omega (arith, b, at.1)) in (q.kept x o.0, o.1))
+          (λ mid. let at = q.front k mid in let o = p.listed x
+          (k, from, mid, omega (arith, a, at.0), omega (arith, b, at.1)) in (q.kept x o.0, o.1))
           (λ past. let o = q.listed x (k, past, l, a, b) in (o.0, not_before x o.1))
           (cases_lt k (length ys));
       pending = λ x h. ⊎_elim
-          (λ m. ⊎_elim inl (λ (k, from, l, a, b). let at = q.front k l in inr (k, from, omega (arith, l, q.longer), omega (arith, a, at.0), omega (arith, b, at.1))) (p.pending x m))
+          (λ m. ⊎_elim inl (λ (k, from, l, a, b). let at = q.front k l in
+          inr (k, from, omega (arith, l, q.longer), omega (arith, a, at.0), omega (arith, b, at.1)))
+          (p.pending x m))
           (λ (k, from, l, a, b). inr (k, omega (arith, from, p.longer), l, a, b))
           (q.pending x h);
       apart = λ j k x from less l a b. ⊎_elim
           (λ mid. let at = q.front j mid in ⊎_elim
-          (λ both. let on = q.front k both in p.apart j k x from less both (omega (arith, a.0, at.0), omega (arith, a.1, at.1)) (omega (arith, b.0, on.0), omega (arith, b.1, on.1)))
-          (λ past. false≢true (sym (q.listed x (k, past, l, b.0, b.1)).1 ∙ (p.listed x (j, from, mid, omega (arith, a.0, at.0), omega (arith, a.1, at.1))).0))
+          (λ both. let on = q.front k both in
+          p.apart j k x from less both (omega (arith, a.0, at.0), omega (arith, a.1, at.1))
+          (omega (arith, b.0, on.0), omega (arith, b.1, on.1)))
+          (λ past. false≢true (sym (q.listed x (k, past, l, b.0, b.1)).1
+          ∙ (p.listed x (j, from, mid, omega (arith, a.0, at.0), omega (arith, a.1, at.1))).0))
           (cases_lt k (length ys)))
           (λ past. q.apart j k x past less l a b)
           (cases_lt j (length ys));
@@ -237,34 +314,63 @@ module _ (g : Graph) (sub : List Bool) where
             by true is = absurd (false≢true (sym h ∙ p.kept x is))
 
   -- what was closed along lines stays so
-  pub line_closed : (kind : ℕ → Type 0) (old new : List Bool) (xs ys : List Run) → Grows g sub kind old new xs ys → IsLineClosed g sub old → IsLineClosed g sub new
-  line_closed kind old new xs ys p all x h next in_sub = ⊎_elim (λ i. i) (λ o. p.kept (x + 1) (all x o next in_sub)) (p.closed x h next in_sub)
+  pub line_closed : (kind : ℕ → Type 0) (old new : List Bool) (xs ys : List Run) → Grows g sub kind old new xs ys
+      → IsLineClosed g sub old → IsLineClosed g sub new
+  line_closed kind old new xs ys p all x h next in_sub =
+      ⊎_elim (λ i. i) (λ o. p.kept (x + 1) (all x o next in_sub)) (p.closed x h next in_sub)
 
-  pub grows_weaker : (kind larger : ℕ → Type 0) → ((x : ℕ) → kind x → larger x) → (old new : List Bool) (xs ys : List Run) → Grows g sub kind old new xs ys → Grows g sub larger old new xs ys
-  grows_weaker kind larger has old new xs ys p = record { width = p.width; kept = p.kept; cause = λ x h. ⊎_elim inl (λ k. inr (has x k)) (p.cause x h); closed = p.closed; longer = p.longer; front = p.front; listed = p.listed; pending = p.pending; apart = p.apart; fit = p.fit; count = p.count }
+  pub grows_weaker : (kind larger : ℕ → Type 0) → ((x : ℕ) → kind x → larger x)
+      → (old new : List Bool) (xs ys : List Run) → Grows g sub kind old new xs ys → Grows g sub larger old new xs ys
+  grows_weaker kind larger has old new xs ys p =
+      record {
+        width = p.width;
+        kept = p.kept;
+        cause = λ x h. ⊎_elim inl (λ k. inr (has x k)) (p.cause x h);
+        closed = p.closed;
+        longer = p.longer;
+        front = p.front;
+        listed = p.listed;
+        pending = p.pending;
+        apart = p.apart;
+        fit = p.fit;
+        count = p.count;
+      }
 
   -- ---- the targets of a run's jumps, one after another
 
   -- The first `count` targets of the list have been gone through.
-  pub record Following (run : Run) (targets : List ℕ) (old new : List Bool) (before after : List Run) (ends : Bool) (count : ℕ) : Type 0 where
+  pub record Following (run : Run) (targets : List ℕ) (old new : List Bool) (before after : List Run) (ends : Bool)
+      (count : ℕ) : Type 0 where
     pub grows : Grows g sub (IsJumpedTo g sub run) old new before after
-    pub covers : (k : ℕ) → k < count → get_or targets k 0 < g.points → IsIn sub (get_or targets k 0) → IsIn new (get_or targets k 0)
+    pub covers : (k : ℕ) → k < count → get_or targets k 0 < g.points → IsIn sub (get_or targets k 0)
+        → IsIn new (get_or targets k 0)
     pub ends_found : ends ≡ true → (k : ℕ) × (k < count) × (k < length targets) × (g.points ≤ get_or targets k 0)
     pub ends_seen : (k : ℕ) → k < count → g.points ≤ get_or targets k 0 → ends ≡ true
 
-  pub following_first : (run : Run) (targets : List ℕ) (old : List Bool) (before : List Run) → Following run targets old old before before false 0
-  following_first run targets old before = record { grows = grows_none (IsJumpedTo g sub run) old before; covers = λ k h. absurd (omega (arith, h)); ends_found = λ h. absurd (false≢true h); ends_seen = λ k h. absurd (omega (arith, h)) }
+  pub following_first : (run : Run) (targets : List ℕ) (old : List Bool) (before : List Run)
+      → Following run targets old old before before false 0
+  following_first run targets old before =
+      record {
+        grows = grows_none (IsJumpedTo g sub run) old before;
+        covers = λ k h. absurd (omega (arith, h));
+        ends_found = λ h. absurd (false≢true h);
+        ends_seen = λ k h. absurd (omega (arith, h));
+      }
 
-  pub following_more : (run : Run) (targets : List ℕ) (old now new : List Bool) (before then after : List Run) (ends : Bool) (count t : ℕ) → t ≡ get_or targets count 0 → count < length targets → t < g.points
+  pub following_more : (run : Run) (targets : List ℕ) (old now new : List Bool) (before then after : List Run)
+      (ends : Bool) (count t : ℕ) → t ≡ get_or targets count 0 → count < length targets → t < g.points
       → ((x : ℕ) → Contains targets x → (y : ℕ) × IsWithin run y × IsJump g y x)
       → Contains targets t
-      → Following run targets old now before then ends count → Grows g sub (Reaches g (IsIn sub) t) now new then after → (IsIn sub t → IsIn new t) → Following run targets old new before after ends (count + 1)
+      → Following run targets old now before then ends count → Grows g sub (Reaches g (IsIn sub) t) now new then after
+      → (IsIn sub t → IsIn new t) → Following run targets old new before after ends (count + 1)
   following_more run targets old now new before then after ends count t is within point each listed f p covers =
       let from = each t listed in
       record {
-        grows = grows_append (IsJumpedTo g sub run) _ _ _ _ _ _ f.grows (grows_weaker _ (IsJumpedTo g sub run) (λ x way. (from.0, t, from.1, from.2, point, way)) _ _ _ _ p);
+        grows = grows_append (IsJumpedTo g sub run) _ _ _ _ _ _ f.grows
+            (grows_weaker _ (IsJumpedTo g sub run) (λ x way. (from.0, t, from.1, from.2, point, way)) _ _ _ _ p);
         covers = λ k h q s. ⊎_elim
-            (λ here. let same : get_or targets k 0 ≡ t = ap (λ i. get_or targets i 0) here ∙ sym is in subst (IsIn new) (sym same) (covers (subst (IsIn sub) same s)))
+            (λ here. let same : get_or targets k 0 ≡ t = ap (λ i. get_or targets i 0) here ∙ sym is in
+            subst (IsIn new) (sym same) (covers (subst (IsIn sub) same s)))
             (λ other. p.kept _ (f.covers k (omega (arith, h, other)) q s))
             (cases_eq k count);
         ends_found = λ h. let w = f.ends_found h in (w.0, omega (arith, w.1), w.2, w.3);
@@ -274,8 +380,10 @@ module _ (g : Graph) (sub : List Bool) where
             (cases_eq k count);
       }
 
-  pub following_end : (run : Run) (targets : List ℕ) (old now : List Bool) (before then : List Run) (ends : Bool) (count t : ℕ) → t ≡ get_or targets count 0 → count < length targets → g.points ≤ t
-      → Following run targets old now before then ends count → Following run targets old now before then true (count + 1)
+  pub following_end : (run : Run) (targets : List ℕ) (old now : List Bool) (before then : List Run) (ends : Bool)
+      (count t : ℕ) → t ≡ get_or targets count 0 → count < length targets → g.points ≤ t
+      → Following run targets old now before then ends count
+      → Following run targets old now before then true (count + 1)
   following_end run targets old now before then ends count t is within past f = record {
     grows = f.grows;
     covers = λ k h q s. ⊎_elim
@@ -293,18 +401,23 @@ module _ (g : Graph) (sub : List Bool) where
 
   -- a walk goes on with another one
   pub reaches_append : (a b c : ℕ) → Reaches g (IsIn sub) a b → Reaches g (IsIn sub) b c → Reaches g (IsIn sub) a c
-  reaches_append a b c p q = reaches_carries g (IsIn sub) b (Reaches g (IsIn sub) a) (λ u v h step within. reaches_more g (IsIn sub) a u v h step within) c p q
+  reaches_append a b c p q =
+      reaches_carries g (IsIn sub) b (Reaches g (IsIn sub) a)
+      (λ u v h step within. reaches_more g (IsIn sub) a u v h step within) c p q
 
   -- ---- the list, run by run
 
   pub record Spreading (start now : List Bool) (listed todo : List Run) (place : ℕ) (ends : Bool) : Type 0 where
     pub grows : Grows g sub (IsLedTo g sub start) start now listed todo
     pub ends_from : ends ≡ true → (x : ℕ) × IsIn now x × IsJump g x g.points
-    pub pending : (x : ℕ) → IsInRuns todo x → IsInRunsFrom place todo x ⊎ (IsFollowed g sub now x × (IsJump g x g.points → ends ≡ true))
+    pub pending : (x : ℕ) → IsInRuns todo x
+        → IsInRunsFrom place todo x ⊎ (IsFollowed g sub now x × (IsJump g x g.points → ends ≡ true))
     pub within : place ≤ length todo
 
   -- each number of the list is reached
-  pub listed_in : (kind : ℕ → Type 0) (start now : List Bool) (listed todo : List Run) → Grows g sub kind start now listed todo → ((x : ℕ) → IsInRuns listed x → IsIn start x) → (x : ℕ) → IsInRuns todo x → IsIn now x
+  pub listed_in : (kind : ℕ → Type 0) (start now : List Bool) (listed todo : List Run)
+      → Grows g sub kind start now listed todo → ((x : ℕ) → IsInRuns listed x → IsIn start x) → (x : ℕ)
+      → IsInRuns todo x → IsIn now x
   listed_in kind start now listed todo p all x (k, l, a, b) = ⊎_elim
       (λ front. let at = p.front k front in p.kept x (all x (k, front, omega (arith, a, at.0), omega (arith, b, at.1))))
       (λ past. (p.listed x (k, past, l, a, b)).0)
@@ -330,37 +443,66 @@ module _ (g : Graph) (sub : List Bool) where
   either true b h = inl refl
   either false b h = inr h
 
-  pub spreading_more : (start now new : List Bool) (listed todo after : List Run) (place : ℕ) (run : Run) (ends found : Bool)
-      → run.first ≡ first_of todo place → run.last ≡ last_of todo place → place < length todo → ((x : ℕ) → IsInRuns listed x → IsIn start x)
+  pub spreading_more : (start now new : List Bool) (listed todo after : List Run) (place : ℕ) (run : Run)
+      (ends found : Bool)
+      → run.first ≡ first_of todo place → run.last ≡ last_of todo place → place < length todo
+      → ((x : ℕ) → IsInRuns listed x → IsIn start x)
       → Spreading start now listed todo place ends → Grows g sub (IsJumpedTo g sub run) now new todo after
-      → ((x : ℕ) → IsWithin run x → IsFollowed g sub new x) → ((found ≡ true → (x : ℕ) × IsWithin run x × IsJump g x g.points) × (((x : ℕ) × IsWithin run x × IsJump g x g.points) → found ≡ true))
+      → ((x : ℕ) → IsWithin run x → IsFollowed g sub new x)
+      → ((found ≡ true → (x : ℕ) × IsWithin run x × IsJump g x g.points)
+      × (((x : ℕ) × IsWithin run x × IsJump g x g.points) → found ≡ true))
       → ((x : ℕ) → IsIn start x → IsIn sub x) → Spreading start new listed after (place + 1) (ends || found)
   spreading_more start now new listed todo after place run ends found first last within all s p covers tells inside =
-      let of_run : (x : ℕ) → IsWithin run x → IsIn now x = λ x w. listed_in (IsLedTo g sub start) start now listed todo s.grows all x (place, within, omega (arith, w.0, first), omega (arith, w.1, last)) in
-      let sound : (x : ℕ) → IsIn now x → IsLedTo g sub start x = λ x h. ⊎_elim (λ o. (x, o, reaches_first g (IsIn sub) x (inside x o))) (λ way. way) (s.grows.cause x h) in
+      let of_run : (x : ℕ) → IsWithin run x
+      → IsIn now x =
+      λ x w. listed_in (IsLedTo g sub start) start now listed todo s.grows all x
+      (place, within, omega (arith, w.0, first), omega (arith, w.1, last)) in
+      let sound : (x : ℕ) → IsIn now x → IsLedTo g sub start x =
+      λ x h. ⊎_elim (λ o. (x, o, reaches_first g (IsIn sub) x (inside x o))) (λ way. way) (s.grows.cause x h) in
       record {
-        grows = grows_append (IsLedTo g sub start) _ _ _ _ _ _ s.grows (grows_weaker (IsJumpedTo g sub run) (IsLedTo g sub start) (λ x (y, t, w, jump, point, way). led x y t (sound y (of_run y w)) jump point way) _ _ _ _ p);
+        grows = grows_append (IsLedTo g sub start) _ _ _ _ _ _ s.grows
+            (grows_weaker (IsJumpedTo g sub run) (IsLedTo g sub start)
+            (λ x (y, t, w, jump, point, way). led x y t (sound y (of_run y w)) jump point way) _ _ _ _ p);
         within = omega (arith, within, p.longer);
         pending = λ x (n, m, u, v). ⊎_elim
             (λ (early : n < length todo). ⊎_elim
             (λ (k, from, l, a, b). ⊎_elim
             (λ here.
-            let w : IsWithin run x = (omega (arith, a, first, ap (first_of todo) here), omega (arith, b, last, ap (last_of todo) here)) in
+            let w : IsWithin run x =
+            (omega (arith, a, first, ap (first_of todo) here), omega (arith, b, last, ap (last_of todo) here)) in
             inr (covers x w, λ jump. or_right ends found (tells.1 (x, w, jump))))
-            (λ other. let at = p.front k l in inl (k, omega (arith, from, other), omega (arith, l, p.longer), omega (arith, a, at.0), omega (arith, b, at.1)))
+            (λ other. let at = p.front k l in inl (
+              k,
+              omega (arith, from, other),
+              omega (arith, l, p.longer),
+              omega (arith, a, at.0),
+              omega (arith, b, at.1),
+            ))
             (cases_eq k place))
-            (λ d. inr (λ t jump point in_sub. p.kept t (d.0 t jump point in_sub), λ jump. or_left ends found (d.1 jump)))
+            (λ d. inr (
+              λ t jump point in_sub. p.kept t (d.0 t jump point in_sub),
+              λ jump. or_left ends found (d.1 jump),
+            ))
             (let at = p.front n early in s.pending x (n, early, omega (arith, u, at.0), omega (arith, v, at.1))))
             (λ late. inl (n, omega (arith, late, within), m, u, v))
             (cases_lt n (length todo));
-        ends_from = λ h. ⊎_elim (λ e. let w = s.ends_from e in (w.0, p.kept w.0 w.1, w.2)) (λ e. let w = tells.0 e in (w.0, p.kept w.0 (of_run w.0 w.1), w.2)) (either ends found h);
+        ends_from =
+            λ h. ⊎_elim (λ e. let w = s.ends_from e in (w.0, p.kept w.0 w.1, w.2))
+            (λ e. let w = tells.0 e in (w.0, p.kept w.0 (of_run w.0 w.1), w.2)) (either ends found h);
       }
     where
-      led : (x y t : ℕ) → IsLedTo g sub start y → IsJump g y t → t < g.points → Reaches g (IsIn sub) t x → IsLedTo g sub start x
-      led x y t from (inl next) point way = (from.0, from.1, reaches_append from.0 t x (reaches_more g (IsIn sub) from.0 y t from.2 (inl next.0) (reaches_starts g (IsIn sub) t x way)) way)
+      led : (x y t : ℕ) → IsLedTo g sub start y → IsJump g y t → t < g.points → Reaches g (IsIn sub) t x
+          → IsLedTo g sub start x
+      led x y t from (inl next) point way = (
+        from.0,
+        from.1,
+        reaches_append from.0 t x
+            (reaches_more g (IsIn sub) from.0 y t from.2 (inl next.0) (reaches_starts g (IsIn sub) t x way)) way,
+      )
       led x y t from (inr back) point way = absurd (omega (arith, back.1, point))
 
-  pub spread_end : (start now : List Bool) (listed todo : List Run) (place : ℕ) (ends : Bool) → length todo ≤ place → Spreading start now listed todo place ends → IsSpread g sub start now listed todo ends
+  pub spread_end : (start now : List Bool) (listed todo : List Run) (place : ℕ) (ends : Bool) → length todo ≤ place
+      → Spreading start now listed todo place ends → IsSpread g sub start now listed todo ends
   spread_end start now listed todo place ends past s = record {
     grows = s.grows;
     ends_from = s.ends_from;
@@ -368,59 +510,96 @@ module _ (g : Graph) (sub : List Bool) where
   }
 
   -- along a line inside `sub` all from a reached point on is reached
-  along : (reached : List Bool) → IsLineClosed g sub reached → (p k : ℕ) → IsIn reached p → ((x : ℕ) → p ≤ x → x < p + k → IsNext g x (x + 1)) → ((x : ℕ) → p ≤ x → x ≤ p + k → IsIn sub x) → IsIn reached (p + k)
+  along : (reached : List Bool) → IsLineClosed g sub reached → (p k : ℕ) → IsIn reached p
+      → ((x : ℕ) → p ≤ x → x < p + k → IsNext g x (x + 1)) → ((x : ℕ) → p ≤ x → x ≤ p + k → IsIn sub x)
+      → IsIn reached (p + k)
   along reached closed p zero here line inside = subst (IsIn reached) (omega arith) here
   along reached closed p (suc k) here line inside =
-      let before = along reached closed p k here (λ x a b. line x a (omega (arith, b))) (λ x a b. inside x a (omega (arith, b))) in
+      let before =
+      along reached closed p k here (λ x a b. line x a (omega (arith, b)))
+      (λ x a b. inside x a (omega (arith, b))) in
       let same : p + k + 1 ≡ p + suc k = omega arith in
-      subst (IsIn reached) same (closed (p + k) before (line (p + k) (omega arith) (omega arith)) (inside (p + k + 1) (omega arith) (omega arith)))
+      subst (IsIn reached) same (closed (p + k) before (line (p + k) (omega arith) (omega arith))
+      (inside (p + k + 1) (omega arith) (omega arith)))
 
   -- what an entry settles
-  pub settled_entry : (reached : List Bool) (point last : ℕ) → IsLineClosed g sub reached → IsIn reached point → ((x : ℕ) → point ≤ x → x < last → IsNext g x (x + 1)) → ((x : ℕ) → point ≤ x → x ≤ last → IsIn sub x) → (x : ℕ) → point ≤ x → x ≤ last → IsIn reached x
+  pub settled_entry : (reached : List Bool) (point last : ℕ) → IsLineClosed g sub reached → IsIn reached point
+      → ((x : ℕ) → point ≤ x → x < last → IsNext g x (x + 1)) → ((x : ℕ) → point ≤ x → x ≤ last → IsIn sub x) → (x : ℕ)
+      → point ≤ x → x ≤ last → IsIn reached x
   settled_entry reached point last closed here line inside x a b =
       let same : point + (x - point) ≡ x = omega (arith, a) in
-      subst (IsIn reached) same (along reached closed point (x - point) here (λ y c d. line y c (omega (arith, b, d, same))) (λ y c d. inside y c (omega (arith, b, d, same))))
+      subst (IsIn reached) same (along reached closed point (x - point) here
+      (λ y c d. line y c (omega (arith, b, d, same))) (λ y c d. inside y c (omega (arith, b, d, same))))
 
   -- The points of the constraints before `place` are settled.
-  pub record Entering (pair : List Constraint) (old now : List Bool) (before after : List Run) (place : ℕ) : Type 0 where
+  pub record Entering (pair : List Constraint) (old now : List Bool) (before after : List Run)
+      (place : ℕ) : Type 0 where
     pub grows : Grows g sub (IsLedFrom g sub pair) old now before after
     pub closed : IsLineClosed g sub now
-    pub covers : (k : ℕ) → k < place → IsIn sub (point_of (constraint_at pair k)) → IsIn now (point_of (constraint_at pair k))
+    pub covers : (k : ℕ) → k < place → IsIn sub (point_of (constraint_at pair k))
+        → IsIn now (point_of (constraint_at pair k))
     pub within : place ≤ length pair
 
-  pub entering_first : (pair : List Constraint) (old : List Bool) (before : List Run) → IsLineClosed g sub old → Entering pair old old before before 0
-  entering_first pair old before closed = record { grows = grows_none (IsLedFrom g sub pair) old before; closed = closed; covers = λ k h. absurd (omega (arith, h)); within = omega arith }
+  pub entering_first : (pair : List Constraint) (old : List Bool) (before : List Run) → IsLineClosed g sub old
+      → Entering pair old old before before 0
+  entering_first pair old before closed =
+      record {
+        grows = grows_none (IsLedFrom g sub pair) old before;
+        closed = closed;
+        covers = λ k h. absurd (omega (arith, h));
+        within = omega arith;
+      }
 
-  pub entering_more : (pair : List Constraint) (old now new : List Bool) (before then next : List Run) (place point least place' : ℕ) → PointsAscend pair → point ≡ point_of (constraint_at pair place) → place < length pair
+  pub entering_more : (pair : List Constraint) (old now new : List Bool) (before then next : List Run)
+      (place point least place' : ℕ) → PointsAscend pair → point ≡ point_of (constraint_at pair place)
+      → place < length pair
       → Entering pair old now before then place → Grows g sub (Reaches g (IsIn sub) point) now new then next
       → ((x : ℕ) → point ≤ x → x < least → IsIn sub x → IsIn new x) → (IsIn sub point → IsIn new point)
-      → place' ≤ length pair → ((k : ℕ) → place + 1 ≤ k → k < place' → point_of (constraint_at pair k) < least) → Entering pair old new before next place'
-  entering_more pair old now new before then next place point least place' ascending is within e p settled own bound passed = record {
-    grows = grows_append (IsLedFrom g sub pair) _ _ _ _ _ _ e.grows (grows_weaker _ (IsLedFrom g sub pair) (λ x way. (constraint_at pair place, contained_at pair place within, subst (λ y. Reaches g (IsIn sub) y x) is way)) _ _ _ _ p);
-    closed = line_closed (Reaches g (IsIn sub) point) _ _ _ _ p e.closed;
-    covers = λ k h s. ⊎_elim
-        (λ front. p.kept _ (e.covers k front s))
-        (λ other. ⊎_elim
-        (λ here. let same : point_of (constraint_at pair k) ≡ point = ap (λ i. point_of (constraint_at pair i)) here ∙ sym is in subst (IsIn new) (sym same) (own (subst (IsIn sub) same s)))
-        (λ past. settled (point_of (constraint_at pair k)) (omega (arith, is, ascending place k (omega (arith, other)) (omega (arith, h, bound)))) (passed k (omega (arith, other, past)) h) s)
-        (cases_eq k place))
-        (cases_lt k place);
-    within = bound;
-  }
+      → place' ≤ length pair → ((k : ℕ) → place + 1 ≤ k → k < place' → point_of (constraint_at pair k) < least)
+      → Entering pair old new before next place'
+  entering_more pair old now new before
+      then next place point least place' ascending is within e p settled own bound passed = record {
+        grows = grows_append (IsLedFrom g sub pair) _ _ _ _ _ _ e.grows
+            (grows_weaker _ (IsLedFrom g sub pair)
+            (λ x way. (
+              constraint_at pair place,
+              contained_at pair place within,
+              subst (λ y. Reaches g (IsIn sub) y x) is way,
+            )) _ _ _ _ p);
+        closed = line_closed (Reaches g (IsIn sub) point) _ _ _ _ p e.closed;
+        covers = λ k h s. ⊎_elim
+            (λ front. p.kept _ (e.covers k front s))
+            (λ other. ⊎_elim
+            (λ here. let same : point_of (constraint_at pair k) ≡ point = ap (λ i. point_of (constraint_at pair i)) here
+            ∙ sym is in subst (IsIn new) (sym same) (own (subst (IsIn sub) same s)))
+            (λ past. settled (point_of (constraint_at pair k))
+            (omega (arith, is, ascending place k (omega (arith, other)) (omega (arith, h, bound))))
+            (passed k (omega (arith, other, past)) h) s)
+            (cases_eq k place))
+            (cases_lt k place);
+        within = bound;
+      }
 
   -- constraints whose points aren't in `sub` are passed over
-  pub entering_skip : (pair : List Constraint) (old now : List Bool) (before then : List Run) (place at : ℕ) → at ≤ length pair → NoneInside sub pair place at → Entering pair old now before then place → Entering pair old now before then at
+  pub entering_skip : (pair : List Constraint) (old now : List Bool) (before then : List Run) (place at : ℕ)
+      → at ≤ length pair → NoneInside sub pair place at → Entering pair old now before then place
+      → Entering pair old now before then at
   entering_skip pair old now before then place at bound none e = record {
     grows = e.grows;
     closed = e.closed;
-    covers = λ k h s. ⊎_elim (λ front. e.covers k front s) (λ past. absurd (false≢true (sym (none k past h) ∙ s))) (cases_lt k place);
+    covers =
+        λ k h s. ⊎_elim (λ front. e.covers k front s) (λ past. absurd (false≢true (sym (none k past h) ∙ s)))
+        (cases_lt k place);
     within = bound;
   }
 
   -- ---- the whole
 
-  module _ (sound : IsSound g) (pair : List Constraint) (old middle new : List Bool) (list : List Run) (all_runs : List Run) (ends : Bool) (nothing : (x : ℕ) → flag old x ≡ false)
-      (p : Grows g sub (IsLedFrom g sub pair) old middle [] list) (covers : (c : Constraint) → Contains pair c → IsIn sub (point_of c) → IsIn middle (point_of c)) (s : IsSpread g sub middle new list all_runs ends) where
+  module _ (sound : IsSound g) (pair : List Constraint) (old middle new : List Bool) (list : List Run)
+      (all_runs : List Run) (ends : Bool) (nothing : (x : ℕ) → flag old x ≡ false)
+      (p : Grows g sub (IsLedFrom g sub pair) old middle [] list)
+      (covers : (c : Constraint) → Contains pair c → IsIn sub (point_of c) → IsIn middle (point_of c))
+      (s : IsSpread g sub middle new list all_runs ends) where
     entered : (x : ℕ) → IsIn middle x → IsLedFrom g sub pair x
     entered x h = ⊎_elim (λ o. absurd (false≢true (sym (nothing x) ∙ o))) (λ from. from) (p.cause x h)
 
@@ -434,17 +613,21 @@ module _ (g : Graph) (sub : List Bool) where
     all_listed x h = ⊎_elim
         (λ early. ⊎_elim
         (λ o. absurd (false≢true (sym (nothing x) ∙ o)))
-        (λ (k, from, l, a, b). let at = s.grows.front k l in (k, omega (arith, l, s.grows.longer), omega (arith, a, at.0), omega (arith, b, at.1)))
+        (λ (k, from, l, a, b). let at = s.grows.front k l in
+        (k, omega (arith, l, s.grows.longer), omega (arith, a, at.0), omega (arith, b, at.1)))
         (p.pending x early))
         (λ (k, from, l, a, b). (k, l, a, b))
         (s.grows.pending x h)
 
     closed : IsLineClosed g sub new
-    closed = line_closed (IsLedTo g sub middle) _ _ _ _ s.grows (line_closed (IsLedFrom g sub pair) _ _ _ _ p (λ x h. absurd (false≢true (sym (nothing x) ∙ h))))
+    closed =
+        line_closed (IsLedTo g sub middle) _ _ _ _ s.grows
+        (line_closed (IsLedFrom g sub pair) _ _ _ _ p (λ x h. absurd (false≢true (sym (nothing x) ∙ h))))
 
     from_return : (y x : ℕ) → IsIn new y → IsJump g y g.points → IsEnd g x → IsIn sub x → IsLedFrom g sub pair x
     from_return y x h (inl next) is_end in_sub = absurd (omega (arith, (sound.edges_in_range y g.points next.0).1))
-    from_return y x h (inr back) is_end in_sub = let from = led y h in (from.0, from.1, reaches_more g (IsIn sub) (point_of from.0) y x from.2 (inr (back.0, is_end)) in_sub)
+    from_return y x h (inr back) is_end in_sub = let from = led y h in
+        (from.0, from.1, reaches_more g (IsIn sub) (point_of from.0) y x from.2 (inr (back.0, is_end)) in_sub)
 
     along_edge : (y z : ℕ) → IsIn new y → IsNext g y z → IsIn sub z → IsIn new z
     along_edge y z h next in_sub = ⊎_elim
@@ -452,30 +635,36 @@ module _ (g : Graph) (sub : List Bool) where
         (λ other. (s.followed y (all_listed y h)).0 z (inl (next, other)) (sound.edges_in_range y z next).1 in_sub)
         (cases_eq z (y + 1))
 
-    go_on : (y z : ℕ) → IsIn new y ⊎ (IsEnd g y × (ends ≡ true)) → IsStep g y z → IsIn sub z → IsIn new z ⊎ (IsEnd g z × (ends ≡ true))
+    go_on : (y z : ℕ) → IsIn new y ⊎ (IsEnd g y × (ends ≡ true)) → IsStep g y z → IsIn sub z
+        → IsIn new z ⊎ (IsEnd g z × (ends ≡ true))
     go_on y z (inl h) (inl next) in_sub = inl (along_edge y z h next in_sub)
     go_on y z (inl h) (inr back) in_sub = inr (back.1, (s.followed y (all_listed y h)).1 (inr (back.0, refl)))
     go_on y z (inr h) (inl next) in_sub = absurd (omega (arith, h.0.0, (sound.edges_in_range y z next).0))
     go_on y z (inr h) (inr back) in_sub = absurd (omega (arith, h.0.0, sound.returns_in_range y back.0))
 
     complete : (x : ℕ) → IsLedFrom g sub pair x → IsIn new x ⊎ (IsEnd g x × (ends ≡ true))
-    complete x (c, listed, way) = reaches_carries g (IsIn sub) (point_of c) (λ y. IsIn new y ⊎ (IsEnd g y × (ends ≡ true))) go_on x (inl (s.grows.kept (point_of c) (covers c listed (reaches_starts g (IsIn sub) (point_of c) x way)))) way
+    complete x (c, listed, way) =
+        reaches_carries g (IsIn sub) (point_of c) (λ y. IsIn new y ⊎ (IsEnd g y × (ends ≡ true))) go_on x
+        (inl (s.grows.kept (point_of c) (covers c listed (reaches_starts g (IsIn sub) (point_of c) x way)))) way
 
     -- where no return point is reached, that is all
     pub reached_points : ends ≡ false → AreLedFrom g sub pair new
     reached_points none x = (led x, λ h. ⊎_elim (λ i. i) (λ e. absurd (false≢true (sym none ∙ e.1))) (complete x h))
 
     -- else the ends in `sub` come to it
-    pub reached_ends : (all : List Bool) → ends ≡ true → length sub ≡ element_count g → FillsFrom g.points sub new all → AreLedFrom g sub pair all
+    pub reached_ends : (all : List Bool) → ends ≡ true → length sub ≡ element_count g → FillsFrom g.points sub new all
+        → AreLedFrom g sub pair all
     reached_ends all some wide f x = (
       λ h. ⊎_elim
           (led x)
-          (λ (past, in_sub). let w = s.ends_from some in from_return w.0 x w.1 w.2 (past, omega (arith, flag_within sub x in_sub, wide)) in_sub)
+          (λ (past, in_sub). let w = s.ends_from some in
+          from_return w.0 x w.1 w.2 (past, omega (arith, flag_within sub x in_sub, wide)) in_sub)
           (f.cause x h),
       λ h. ⊎_elim (f.kept x) (λ e. f.filled x e.0.0 (reaches_inside g (IsIn sub) (point_of h.0) x h.2)) (complete x h),
     )
 
-  module _ (pair : List Constraint) (old middle : List Bool) (list : List Run) (nothing : (x : ℕ) → flag old x ≡ false) (p : Grows g sub (IsLedFrom g sub pair) old middle [] list) where
+  module _ (pair : List Constraint) (old middle : List Bool) (list : List Run) (nothing : (x : ℕ) → flag old x ≡ false)
+      (p : Grows g sub (IsLedFrom g sub pair) old middle [] list) where
     pub start_listed : (x : ℕ) → IsInRuns list x ↔ IsIn middle x
     start_listed x = (
       λ (k, l, a, b). (p.listed x (k, omega arith, l, a, b)).0,
@@ -483,7 +672,9 @@ module _ (g : Graph) (sub : List Bool) where
     )
 
     pub start_inside : (x : ℕ) → IsIn middle x → IsIn sub x
-    start_inside x h = ⊎_elim (λ o. absurd (false≢true (sym (nothing x) ∙ o))) (λ from. reaches_inside g (IsIn sub) (point_of from.0) x from.2) (p.cause x h)
+    start_inside x h =
+        ⊎_elim (λ o. absurd (false≢true (sym (nothing x) ∙ o)))
+        (λ from. reaches_inside g (IsIn sub) (point_of from.0) x from.2) (p.cause x h)
 
 -- ---- what constraints ask for
 
@@ -498,25 +689,29 @@ point_below g All never = absurd never
 point_below g (Point p) within = omega (arith, within)
 
 -- where none holds at all points, the constraints are at points
-pub among_points : (g : Graph) (pair : List Constraint) → ((c : Constraint) → Contains pair c → IsAmong g.points c.at) → ((c : Constraint) → Contains pair c → c.at ≡ All → ⊥) → AreAtPoints g pair
+pub among_points : (g : Graph) (pair : List Constraint) → ((c : Constraint) → Contains pair c → IsAmong g.points c.at)
+    → ((c : Constraint) → Contains pair c → c.at ≡ All → ⊥) → AreAtPoints g pair
 among_points g pair among none c h = among_point g c.at (among c h) (none c h)
 
 -- at a point, what is asked for is what a walk leads to
-point_asks : (g : Graph) (sub : List Bool) (place : At) (x : ℕ) → IsPointOf g place → Reaches g (IsIn sub) (at_rank place - 1) x ↔ IsAskedIn g (IsIn sub) place x
+point_asks : (g : Graph) (sub : List Bool) (place : At) (x : ℕ) → IsPointOf g place
+    → Reaches g (IsIn sub) (at_rank place - 1) x ↔ IsAskedIn g (IsIn sub) place x
 point_asks g sub All x never = absurd never
 point_asks g sub (Point p) x within =
     let same : p + 1 - 1 ≡ p = omega arith in
     (subst (λ q. Reaches g (IsIn sub) q x) same, subst (λ q. Reaches g (IsIn sub) q x) (sym same))
 
 -- what walks lead to from points of constraints is what these ask for
-pub led_asks : (g : Graph) (sub : List Bool) (pair : List Constraint) (reached : List Bool) → AreAtPoints g pair → AreLedFrom g sub pair reached → AreAskedOf g sub pair reached
+pub led_asks : (g : Graph) (sub : List Bool) (pair : List Constraint) (reached : List Bool) → AreAtPoints g pair
+    → AreLedFrom g sub pair reached → AreAskedOf g sub pair reached
 led_asks g sub pair reached points led x = (
   λ h. let w = (led x).0 h in (w.0, w.1, (point_asks g sub w.0.at x (points w.0 w.1)).0 w.2),
   λ w. (led x).1 (w.0, w.1, (point_asks g sub w.0.at x (points w.0 w.1)).1 w.2),
 )
 
 -- a constraint at all points asks for the whole set, and no other asks for more
-pub whole_asked : (g : Graph) (sub : List Bool) (pair : List Constraint) → (c : Constraint) × Contains pair c × (c.at ≡ All) → AreAskedOf g sub pair sub
+pub whole_asked : (g : Graph) (sub : List Bool) (pair : List Constraint)
+    → (c : Constraint) × Contains pair c × (c.at ≡ All) → AreAskedOf g sub pair sub
 whole_asked g sub pair every x = (
   λ h. (every.0, every.1, subst (λ place. IsAskedIn g (IsIn sub) place x) (sym every.2) h),
   λ w. asked_inside g (IsIn sub) w.0.at x w.2,
@@ -527,9 +722,17 @@ rank_of : (place : At) → at_rank place ≤ 0 → place ≡ All
 rank_of All low = refl
 rank_of (Point p) low = absurd (omega (arith, low))
 
-pub first_everywhere : (pair : List Constraint) (past : Constraint) → PointsAscend pair → (c : Constraint) → Contains pair c → c.at ≡ All → (get_or pair 0 past).at ≡ All
+pub first_everywhere : (pair : List Constraint) (past : Constraint) → PointsAscend pair → (c : Constraint)
+    → Contains pair c → c.at ≡ All → (get_or pair 0 past).at ≡ All
 first_everywhere pair past ascending c (k, within, there) every =
-    let here : constraint_at pair 0 ≡ get_or pair 0 past = get_or_default pair 0 no_constraint past (omega (arith, within)) in
+    let here : constraint_at pair 0 ≡ get_or pair 0 past =
+    get_or_default pair 0 no_constraint past (omega (arith, within)) in
     let other : constraint_at pair k ≡ c = get_or_default pair k no_constraint c within ∙ there in
     let low = ascending 0 k (omega arith) within in
-    rank_of _ (omega (arith, low, ap (λ (d : Constraint). at_rank d.at) here, ap (λ (d : Constraint). at_rank d.at) other, ap at_rank every))
+    rank_of _ (omega (
+      arith,
+      low,
+      ap (λ (d : Constraint). at_rank d.at) here,
+      ap (λ (d : Constraint). at_rank d.at) other,
+      ap at_rank every,
+    ))

@@ -42,46 +42,78 @@ same_bool true q f g = sym (f refl)
 same_bool false true f g = g refl
 same_bool false false f g = refl
 
-set_flag : (flags : List Bool) (i x : ℕ) (b : Bool) → flag flags x ≡ true → (x ≡ i → b ≡ true) → flag (set flags i b) x ≡ true
+set_flag : (flags : List Bool) (i x : ℕ) (b : Bool) → flag flags x ≡ true → (x ≡ i → b ≡ true)
+    → flag (set flags i b) x ≡ true
 set_flag flags i x b h own = ⊎_elim
-    (λ same. subst (λ y. flag (set flags i b) y ≡ true) (sym same) (get_or-set_same flags i b false (⊎_elim (λ l. l) (λ past. absurd (false≢true (sym (get_or_past flags x false (omega (arith, past, same))) ∙ h))) (cases_lt i (length flags))) ∙ own same))
+    (λ same. subst (λ y. flag (set flags i b) y ≡ true) (sym same)
+    (get_or-set_same flags i b false (⊎_elim (λ l. l)
+    (λ past. absurd (false≢true (sym (get_or_past flags x false (omega (arith, past, same))) ∙ h)))
+    (cases_lt i (length flags))) ∙ own same))
     (λ other. get_or-set_other flags i x b false other ∙ h)
     (cases_eq x i)
 
 module _ (q : Problem) where
   pub advances_none : (values : List (List Bool)) → IsShaped q values → Advances q values values false
-  advances_none values s = record { shaped = s; kept = λ r e h. h; below = λ a sat under. under; tells = tells_none values }
+  advances_none values s =
+      record { shaped = s; kept = λ r e h. h; below = λ a sat under. under; tells = tells_none values }
 
-  pub advances_append : (old middle new : List (List Bool)) (x y : Bool) → Advances q old middle x → Advances q middle new y → Advances q old new (x || y)
-  advances_append old middle new x y p r = record { shaped = r.shaped; kept = λ s e h. r.kept s e (p.kept s e h); below = λ a sat under. r.below a sat (p.below a sat under); tells = tells_append x y old middle new p.tells r.tells }
+  pub advances_append : (old middle new : List (List Bool)) (x y : Bool) → Advances q old middle x
+      → Advances q middle new y → Advances q old new (x || y)
+  advances_append old middle new x y p r =
+      record {
+        shaped = r.shaped;
+        kept = λ s e h. r.kept s e (p.kept s e h);
+        below = λ a sat under. r.below a sat (p.below a sat under);
+        tells =
+            tells_append x y old middle new p.tells r.tells;
+      }
 
   module _ (sub : ℕ) where
-    pub visits_none : (values : List (List Bool)) (marks : List Bool) → IsShaped q values → Visits q sub values values marks marks false
-    visits_none values marks s = record { advances = advances_none values s; width = refl; own = refl; marks = λ r. inl refl; stays = λ r h. h; quiet = λ h. refl }
+    pub visits_none : (values : List (List Bool)) (marks : List Bool) → IsShaped q values
+        → Visits q sub values values marks marks false
+    visits_none values marks s =
+        record {
+          advances = advances_none values s;
+          width = refl;
+          own = refl;
+          marks = λ r. inl refl;
+          stays = λ r h. h;
+          quiet = λ h. refl;
+        }
 
-    pub visits_append : (old middle new : List (List Bool)) (a b c : List Bool) (x y : Bool) → Visits q sub old middle a b x → Visits q sub middle new b c y → Visits q sub old new a c (x || y)
+    pub visits_append : (old middle new : List (List Bool)) (a b c : List Bool) (x y : Bool)
+        → Visits q sub old middle a b x → Visits q sub middle new b c y → Visits q sub old new a c (x || y)
     visits_append old middle new a b c x y p r = record {
       advances = advances_append old middle new x y p.advances r.advances;
       width = r.width ∙ p.width;
       own = r.own ∙ p.own;
-      marks = λ s. ⊎_elim (λ same. ⊎_elim (λ before. inl (same ∙ before)) (λ marks. inr (r.stays s marks)) (p.marks s)) inr (r.marks s);
+      marks = λ s. ⊎_elim (λ same. ⊎_elim (λ before. inl (same ∙ before)) (λ marks. inr (r.stays s marks)) (p.marks s))
+          inr (r.marks s);
       stays = λ s h. r.stays s (p.stays s h);
       quiet = λ h. let both = neither x y h in r.quiet both.1 ∙ p.quiet both.0;
     }
 
     -- a constraint of the region that is met stays so
-    pub met_stays : (c : Constraint) (old new : List (List Bool)) → set_of new c.sub ≡ set_of old c.sub → ((r e : ℕ) → IsHeld old r e → IsHeld new r e) → IsMet q old c → IsMet q new c
-    met_stays c old new same kept met = λ e asked. kept c.sup e (met e (subst (λ flags. IsAskedIn q.graph (λ x. flag flags x ≡ true) c.at e) same asked))
+    pub met_stays : (c : Constraint) (old new : List (List Bool)) → set_of new c.sub ≡ set_of old c.sub
+        → ((r e : ℕ) → IsHeld old r e → IsHeld new r e) → IsMet q old c → IsMet q new c
+    met_stays c old new same kept met =
+        λ e asked. kept c.sup e (met e (subst
+        (λ flags. IsAskedIn q.graph (λ x. flag flags x ≡ true) c.at e) same asked))
 
-    -- what the constraints of the region with another ask is put in, and the other region is marked if it gets something
+    -- what the constraints of the region with another ask is put in, and the other region is marked if it gets
+    -- something
     module _ (sup : ℕ) (pair : List Constraint) (old new : List (List Bool)) (before : List Bool) (changed : Bool)
         (of_pair : AreOfPair q sub sup pair) (apart : sup ≢ sub) (within : sup < length before) (s : IsShaped q old)
-        (g : Gains (λ r e. (r ≡ sup) × IsAskedOf q.graph (set_of old sub) pair e) old new) (asks : (e : ℕ) → IsAskedOf q.graph (set_of old sub) pair e → IsHeld new sup e) (t : Tells changed old new) where
+        (g : Gains (λ r e. (r ≡ sup) × IsAskedOf q.graph (set_of old sub) pair e) old new)
+        (asks : (e : ℕ) → IsAskedOf q.graph (set_of old sub) pair e → IsHeld new sup e)
+        (t : Tells changed old new) where
       abbrev after : List Bool
       after = set before sup (flag before sup || changed)
 
       other_set : (r : ℕ) → r ≢ sup → set_of new r ≡ set_of old r
-      other_set r other = same_flags (set_of new r) (set_of old r) (g.widths r) (λ e. same_bool _ _ (λ h. ⊎_elim (λ o. o) (λ k. absurd (other k.0)) (g.cause r e h)) (g.kept r e))
+      other_set r other =
+          same_flags (set_of new r) (set_of old r) (g.widths r)
+          (λ e. same_bool _ _ (λ h. ⊎_elim (λ o. o) (λ k. absurd (other k.0)) (g.cause r e h)) (g.kept r e))
 
       -- what the constraints ask is in each assignment that satisfies the problem and has all of the values
       below_pair : StaysBelow q old new
@@ -89,8 +121,10 @@ module _ (q : Problem) where
           (under r e)
           (λ (is, (c, listed, way)).
           let own = of_pair c listed in
-          let inside : (x : ℕ) → IsIn (set_of old sub) x → IsTrue (assignment c.sub x) = λ x k. subst (λ b. IsTrue (assignment b x)) (sym own.1) (under sub x k) in
-          subst (λ x. IsTrue (assignment x e)) (own.2 ∙ sym is) (sat.each c own.0 e (asked_weaker q.graph (IsIn (set_of old sub)) c.at _ inside e way)))
+          let inside : (x : ℕ) → IsIn (set_of old sub) x
+          → IsTrue (assignment c.sub x) = λ x k. subst (λ b. IsTrue (assignment b x)) (sym own.1) (under sub x k) in
+          subst (λ x. IsTrue (assignment x e)) (own.2 ∙ sym is)
+          (sat.each c own.0 e (asked_weaker q.graph (IsIn (set_of old sub)) c.at _ inside e way)))
           (g.cause r e h)
 
       pub visits_pair : Visits q sub old new before after changed
@@ -100,57 +134,77 @@ module _ (q : Problem) where
         own = other_set sub (λ e. apart (sym e));
         marks = λ r. ⊎_elim
             (λ same. ⊎_elim
-            (λ yes. inr (subst (λ x. flag after x ≡ true) (sym same) (get_or-set_same before sup _ false within ∙ or_true (flag before sup) changed yes)))
+            (λ yes. inr (subst (λ x. flag after x ≡ true) (sym same)
+            (get_or-set_same before sup _ false within ∙ or_true (flag before sup) changed yes)))
             (λ not_so. inl (ap (λ v. set_of v r) (t.same not_so)))
             (cases_Bool changed))
             (λ other. inl (other_set r other))
             (cases_eq r sup);
-        stays = λ r h. set_flag before sup r _ h (λ same. or_left (flag before sup) changed (subst (λ x. flag before x ≡ true) same h));
-        quiet = λ not_so. ap (λ b. set before sup b) (or_false (flag before sup) changed not_so) ∙ set-get_or before sup false;
+        stays = λ r h. set_flag before sup r _ h
+            (λ same. or_left (flag before sup) changed (subst (λ x. flag before x ≡ true) same h));
+        quiet = λ not_so. ap (λ b. set before sup b) (or_false (flag before sup) changed not_so)
+            ∙ set-get_or before sup false;
       }
 
       pub met_pair : (c : Constraint) → Contains pair c → IsMet q new c
       met_pair c listed =
           let own = of_pair c listed in
           let same : set_of new c.sub ≡ set_of old sub = ap (set_of new) own.1 ∙ other_set sub (λ e. apart (sym e)) in
-          λ e asked. subst (λ r. IsHeld new r e) (sym own.2) (asks e (c, listed, subst (λ flags. IsAskedIn q.graph (λ x. flag flags x ≡ true) c.at e) same asked))
+          λ e asked. subst (λ r. IsHeld new r e) (sym own.2)
+          (asks e (c, listed, subst (λ flags. IsAskedIn q.graph (λ x. flag flags x ≡ true) c.at e) same asked))
 
     -- a constraint is met where the region that it fills has all of the region that it reads
-    pub met_within : (c : Constraint) (values : List (List Bool)) → ((e : ℕ) → IsHeld values c.sub e → IsHeld values c.sup e) → IsMet q values c
+    pub met_within : (c : Constraint) (values : List (List Bool))
+        → ((e : ℕ) → IsHeld values c.sub e → IsHeld values c.sup e) → IsMet q values c
     met_within c values within = λ e asked. within e (asked_inside q.graph (IsHeld values c.sub) c.at e asked)
 
     -- a constraint of a region with itself is always met
     pub met_self : (c : Constraint) (values : List (List Bool)) → c.sup ≡ c.sub → IsMet q values c
-    met_self c values same = λ e asked. subst (λ r. IsHeld values r e) (sym same) (asked_inside q.graph (IsHeld values c.sub) c.at e asked)
+    met_self c values same =
+        λ e asked. subst (λ r. IsHeld values r e) (sym same) (asked_inside q.graph (IsHeld values c.sub) c.at e asked)
 
   -- ---- the constraints that read a region, pair by pair
 
   -- The constraints before `place` are met.
-  pub record Visiting (sub : ℕ) (constraints : List Constraint) (old now : List (List Bool)) (before after : List Bool) (changed : Bool) (place : ℕ) : Type 0 where
+  pub record Visiting (sub : ℕ) (constraints : List Constraint) (old now : List (List Bool)) (before after : List Bool)
+      (changed : Bool) (place : ℕ) : Type 0 where
     pub visits : Visits q sub old now before after changed
     pub met : (k : ℕ) → k < place → IsMet q now (constraint_at constraints k)
     pub within : place ≤ length constraints
 
-  pub visiting_first : (sub : ℕ) (constraints : List Constraint) (values : List (List Bool)) (marks : List Bool) → IsShaped q values → Visiting sub constraints values values marks marks false 0
-  visiting_first sub constraints values marks s = record { visits = visits_none sub values marks s; met = λ k h. absurd (omega (arith, h)); within = omega arith }
+  pub visiting_first : (sub : ℕ) (constraints : List Constraint) (values : List (List Bool)) (marks : List Bool)
+      → IsShaped q values → Visiting sub constraints values values marks marks false 0
+  visiting_first sub constraints values marks s =
+      record { visits = visits_none sub values marks s; met = λ k h. absurd (omega (arith, h)); within = omega arith }
 
-  pub visiting_more : (sub : ℕ) (constraints : List Constraint) (old now next : List (List Bool)) (a b c : List Bool) (x y : Bool) (place end : ℕ) → ((k : Constraint) → Contains constraints k → k.sub ≡ sub) → end ≤ length constraints
-      → Visiting sub constraints old now a b x place → Visits q sub now next b c y → ((k : ℕ) → place ≤ k → k < end → IsMet q next (constraint_at constraints k)) → Visiting sub constraints old next a c (x || y) end
+  pub visiting_more : (sub : ℕ) (constraints : List Constraint) (old now next : List (List Bool)) (a b c : List Bool)
+      (x y : Bool) (place end : ℕ) → ((k : Constraint) → Contains constraints k → k.sub ≡ sub)
+      → end ≤ length constraints
+      → Visiting sub constraints old now a b x place → Visits q sub now next b c y
+      → ((k : ℕ) → place ≤ k → k < end → IsMet q next (constraint_at constraints k))
+      → Visiting sub constraints old next a c (x || y) end
   visiting_more sub constraints old now next a b c x y place end reads bound v p met = record {
     visits = visits_append sub old now next a b c x y v.visits p;
     met = λ k h. ⊎_elim
-        (λ front. met_stays sub (constraint_at constraints k) now next (subst (λ r. set_of next r ≡ set_of now r) (sym (reads _ (contained_at constraints k (omega (arith, h, bound))))) p.own) p.advances.kept (v.met k front))
+        (λ front. met_stays sub (constraint_at constraints k) now next
+        (subst (λ r. set_of next r ≡ set_of now r)
+        (sym (reads _ (contained_at constraints k (omega (arith, h, bound))))) p.own) p.advances.kept
+        (v.met k front))
         (λ past. met k past h)
         (cases_lt k place);
     within = bound;
   }
 
-  pub visiting_end : (sub : ℕ) (constraints : List Constraint) (old now : List (List Bool)) (a b : List Bool) (x : Bool) (place : ℕ) → length constraints ≤ place → Visiting sub constraints old now a b x place → (c : Constraint) → Contains constraints c → IsMet q now c
-  visiting_end sub constraints old now a b x place all v = each_contained (IsMet q now) constraints (λ k l. v.met k (omega (arith, all, l)))
+  pub visiting_end : (sub : ℕ) (constraints : List Constraint) (old now : List (List Bool)) (a b : List Bool) (x : Bool)
+      (place : ℕ) → length constraints ≤ place → Visiting sub constraints old now a b x place → (c : Constraint)
+      → Contains constraints c → IsMet q now c
+  visiting_end sub constraints old now a b x place all v =
+      each_contained (IsMet q now) constraints (λ k l. v.met k (omega (arith, all, l)))
 
   -- ---- a turn
 
-  pub tracked_turn : (sub : ℕ) (old new : List (List Bool)) (marks after : List Bool) (changed : Bool) → IsTracked q old marks → Visits q sub old new (set marks sub false) after changed
+  pub tracked_turn : (sub : ℕ) (old new : List (List Bool)) (marks after : List Bool) (changed : Bool)
+      → IsTracked q old marks → Visits q sub old new (set marks sub false) after changed
       → ((c : Constraint) → Contains q.constraints c → c.sub ≡ sub → IsMet q new c) → IsTracked q new after
   tracked_turn sub old new marks after changed t v met = λ c h. ⊎_elim
       (λ own. inr (met c h own))
@@ -160,7 +214,8 @@ module _ (q : Problem) where
       (t c h))
       (cases_eq c.sub sub)
 
-  pub turns_visit : (sub : ℕ) (old new : List (List Bool)) (marks after : List Bool) (changed : Bool) → length marks ≡ q.regions → IsTracked q old marks → Visits q sub old new (set marks sub false) after changed
+  pub turns_visit : (sub : ℕ) (old new : List (List Bool)) (marks after : List Bool) (changed : Bool)
+      → length marks ≡ q.regions → IsTracked q old marks → Visits q sub old new (set marks sub false) after changed
       → ((c : Constraint) → Contains q.constraints c → c.sub ≡ sub → IsMet q new c) → Turns q old new after changed
   turns_visit sub old new marks after changed w t v met = record {
     advances = v.advances;
@@ -168,13 +223,21 @@ module _ (q : Problem) where
     tracked = tracked_turn sub old new marks after changed t v met;
   }
 
-  pub turns_none : (values : List (List Bool)) (marks : List Bool) → IsShaped q values → length marks ≡ q.regions → IsTracked q values marks → Turns q values values marks false
+  pub turns_none : (values : List (List Bool)) (marks : List Bool) → IsShaped q values → length marks ≡ q.regions
+      → IsTracked q values marks → Turns q values values marks false
   turns_none values marks s w t = record { advances = advances_none values s; width = w; tracked = t }
 
-  pub turns_append : (old middle new : List (List Bool)) (b c : List Bool) (x y : Bool) → Turns q old middle b x → Turns q middle new c y → Turns q old new c (x || y)
-  turns_append old middle new b c x y p r = record { advances = advances_append old middle new x y p.advances r.advances; width = r.width; tracked = r.tracked }
+  pub turns_append : (old middle new : List (List Bool)) (b c : List Bool) (x y : Bool) → Turns q old middle b x
+      → Turns q middle new c y → Turns q old new c (x || y)
+  turns_append old middle new b c x y p r =
+      record {
+        advances = advances_append old middle new x y p.advances r.advances;
+        width = r.width;
+        tracked = r.tracked;
+      }
 
-  pub cleared_turn : (sub : ℕ) (marks after : List Bool) → sub < length marks → after ≡ set marks sub false → IsCleared marks after sub
+  pub cleared_turn : (sub : ℕ) (marks after : List Bool) → sub < length marks → after ≡ set marks sub false
+      → IsCleared marks after sub
   cleared_turn sub marks after within same = (
     ap (λ fs. flag fs sub) same ∙ get_or-set_same marks sub false false within,
     λ r other. ap (λ fs. flag fs r) same ∙ get_or-set_other marks sub r false false other,
@@ -187,10 +250,13 @@ module _ (q : Problem) where
     pub turns : Turns q first now marks changed
     pub clean : changed ≡ false → (r : ℕ) → r < count → flag marks r ≡ false
 
-  pub sweeping_first : (values : List (List Bool)) (marks : List Bool) → IsShaped q values → length marks ≡ q.regions → IsTracked q values marks → Sweeping values values marks false 0
-  sweeping_first values marks s w t = record { turns = turns_none values marks s w t; clean = λ e r h. absurd (omega (arith, h)) }
+  pub sweeping_first : (values : List (List Bool)) (marks : List Bool) → IsShaped q values → length marks ≡ q.regions
+      → IsTracked q values marks → Sweeping values values marks false 0
+  sweeping_first values marks s w t =
+      record { turns = turns_none values marks s w t; clean = λ e r h. absurd (omega (arith, h)) }
 
-  pub sweeping_more : (first now next : List (List Bool)) (marks after : List Bool) (x y : Bool) (count : ℕ) → Sweeping first now marks x count → Turns q now next after y
+  pub sweeping_more : (first now next : List (List Bool)) (marks after : List Bool) (x y : Bool) (count : ℕ)
+      → Sweeping first now marks x count → Turns q now next after y
       → (y ≡ false → IsCleared marks after count) → Sweeping first next after (x || y) (count + 1)
   sweeping_more first now next marks after x y count s p clean = record {
     turns = turns_append first now next marks after x y s.turns p;
@@ -201,8 +267,10 @@ module _ (q : Problem) where
   }
 
   -- where no region is marked, each constraint is met
-  pub closed_clean : IsSound q → (values : List (List Bool)) (marks : List Bool) → IsTracked q values marks → ((r : ℕ) → r < q.regions → flag marks r ≡ false) → IsClosed q values
-  closed_clean sound values marks t clean = λ c h. ⊎_elim (λ d. absurd (false≢true (sym (clean c.sub (sound.constraint_regions c h).1) ∙ d))) (λ m. m) (t c h)
+  pub closed_clean : IsSound q → (values : List (List Bool)) (marks : List Bool) → IsTracked q values marks
+      → ((r : ℕ) → r < q.regions → flag marks r ≡ false) → IsClosed q values
+  closed_clean sound values marks t clean =
+      λ c h. ⊎_elim (λ d. absurd (false≢true (sym (clean c.sub (sound.constraint_regions c h).1) ∙ d))) (λ m. m) (t c h)
 
   pub tracked_first : IsSound q → (values : List (List Bool)) → IsTracked q values (replicate q.regions true)
   tracked_first sound values = λ c h. inl (get_or-replicate q.regions c.sub true false (sound.constraint_regions c h).1)
@@ -220,14 +288,20 @@ pub eqb_false : (a b : ℕ) → false ≡ eqb a b → a ≢ b
 eqb_false a b h = eqb-false a b (sym h)
 
 -- the same of what a visit answers
-pub ok_turns : (q : Problem) (sub : ℕ) (old new : List (List Bool)) (marks cleared after : List Bool) {E : Type 0} (r : Result Bool E) → length marks ≡ q.regions → IsTracked q old marks → cleared ≡ set marks sub false
-    → IfOk r (Visits q sub old new cleared after) → OnOk r ((c : Constraint) → Contains q.constraints c → c.sub ≡ sub → IsMet q new c) → IfOk r (Turns q old new after)
-ok_turns q sub old new marks cleared after (Ok changed) w t same v met = turns_visit q sub old new marks after changed w t (subst (λ fs. Visits q sub old new fs after changed) same v) met
+pub ok_turns : (q : Problem) (sub : ℕ) (old new : List (List Bool)) (marks cleared after : List Bool) {E : Type 0}
+    (r : Result Bool E) → length marks ≡ q.regions → IsTracked q old marks → cleared ≡ set marks sub false
+    → IfOk r (Visits q sub old new cleared after)
+    → OnOk r ((c : Constraint) → Contains q.constraints c → c.sub ≡ sub → IsMet q new c)
+    → IfOk r (Turns q old new after)
+ok_turns q sub old new marks cleared after (Ok changed) w t same v met =
+    turns_visit q sub old new marks after changed w t (subst (λ fs. Visits q sub old new fs after changed) same v) met
 ok_turns q sub old new marks cleared after (Err e) w t same v met = v
 
-pub ok_cleared : (q : Problem) (sub : ℕ) (old new : List (List Bool)) (marks cleared after : List Bool) {E : Type 0} (r : Result Bool E) → sub < length marks → cleared ≡ set marks sub false
+pub ok_cleared : (q : Problem) (sub : ℕ) (old new : List (List Bool)) (marks cleared after : List Bool) {E : Type 0}
+    (r : Result Bool E) → sub < length marks → cleared ≡ set marks sub false
     → IfOk r (Visits q sub old new cleared after) → IfOk r (λ changed. changed ≡ false → IsCleared marks after sub)
-ok_cleared q sub old new marks cleared after (Ok changed) within same v = λ quiet. cleared_turn q sub marks after within (v.quiet quiet ∙ same)
+ok_cleared q sub old new marks cleared after (Ok changed) within same v =
+    λ quiet. cleared_turn q sub marks after within (v.quiet quiet ∙ same)
 ok_cleared q sub old new marks cleared after (Err e) within same v = v
 
 -- ---- the order of constraints
@@ -235,12 +309,16 @@ ok_cleared q sub old new marks cleared after (Err e) within same v = v
 pub sups_ascend : (constraints : List Constraint) → AllPairs IsLower constraints → SupsAscend constraints
 sups_ascend constraints pairs = record {
   sups = λ j k le within. ⊎_elim
-      (λ before. ⊎_elim (λ less. omega (arith, less)) (λ same. omega (arith, same.0)) (pairs j k no_constraint before within))
-      (λ back. let here : j ≡ k = omega (arith, le, back) in omega (arith, ap (λ i. (constraint_at constraints i).sup) here))
+      (λ before. ⊎_elim (λ less. omega (arith, less)) (λ same. omega (arith, same.0))
+      (pairs j k no_constraint before within))
+      (λ back. let here : j ≡ k = omega (arith, le, back) in
+      omega (arith, ap (λ i. (constraint_at constraints i).sup) here))
       (cases_lt j k);
   points = λ j k le within same. ⊎_elim
-      (λ before. ⊎_elim (λ less. absurd (omega (arith, less, same))) (λ low. omega (arith, low.1)) (pairs j k no_constraint before within))
-      (λ back. let here : j ≡ k = omega (arith, le, back) in omega (arith, ap (λ i. at_rank (constraint_at constraints i).at) here))
+      (λ before. ⊎_elim (λ less. absurd (omega (arith, less, same))) (λ low. omega (arith, low.1))
+      (pairs j k no_constraint before within))
+      (λ back. let here : j ≡ k = omega (arith, le, back) in
+      omega (arith, ap (λ i. at_rank (constraint_at constraints i).at) here))
       (cases_lt j k);
 }
 
@@ -251,7 +329,8 @@ module _ (constraints : List Constraint) (place end : ℕ) (low : place < end) (
   part = slice_range constraints place end
 
   part_length : length part ≡ end - place
-  part_length = omega (arith, length-take (end - place) (drop place constraints), length-drop place constraints, low, high)
+  part_length =
+      omega (arith, length-take (end - place) (drop place constraints), length-drop place constraints, low, high)
 
   part_at : (k : ℕ) (d : Constraint) → k < end - place → get_or part k d ≡ get_or constraints (place + k) d
   part_at k d h = get_or-take (end - place) (drop place constraints) k d h ∙ get_or-drop place constraints k d
@@ -260,40 +339,65 @@ module _ (constraints : List Constraint) (place end : ℕ) (low : place < end) (
   part_ascends s one j k le within =
       let a : k < end - place = omega (arith, within, part_length) in
       let b : j < end - place = omega (arith, a, le) in
-      let same : (constraint_at constraints (place + j)).sup ≡ (constraint_at constraints (place + k)).sup = one (place + j) (omega arith) (omega (arith, b)) ∙ sym (one (place + k) (omega arith) (omega (arith, a))) in
-      omega (arith, ap (λ (c : Constraint). at_rank c.at) (part_at j no_constraint b), ap (λ (c : Constraint). at_rank c.at) (part_at k no_constraint a), s.points (place + j) (place + k) (omega (arith, le)) (omega (arith, a, high)) same)
+      let same : (constraint_at constraints (place + j)).sup ≡ (constraint_at constraints (place + k)).sup =
+      one (place + j) (omega arith) (omega (arith, b)) ∙ sym (one (place + k) (omega arith) (omega (arith, a))) in
+      omega (
+        arith,
+        ap (λ (c : Constraint). at_rank c.at) (part_at j no_constraint b),
+        ap (λ (c : Constraint). at_rank c.at) (part_at k no_constraint a),
+        s.points (place + j) (place + k) (omega (arith, le)) (omega (arith, a, high)) same,
+      )
 
   -- each constraint of the part stands in the list, between the two places
-  pub part_of : AreOfOneSup constraints place end → (c : Constraint) → Contains part c → Contains constraints c × (c.sup ≡ (constraint_at constraints place).sup)
+  pub part_of : AreOfOneSup constraints place end → (c : Constraint) → Contains part c
+      → Contains constraints c × (c.sup ≡ (constraint_at constraints place).sup)
   part_of one c (k, l, is) =
       let a : k < end - place = omega (arith, l, part_length) in
       let within : place + k < length constraints = omega (arith, a, high) in
-      let there : get_or constraints (place + k) c ≡ c = sym (part_at k c a) ∙ is in
-      ((place + k, within, there), sym (ap (λ (d : Constraint). d.sup) (get_or_default constraints (place + k) no_constraint c within ∙ there)) ∙ one (place + k) (omega arith) (omega (arith, a)))
+      let there : get_or constraints (place + k) c ≡ c = sym (part_at k c a) ∙ is in (
+        (place + k, within, there),
+        sym (ap (λ (d : Constraint). d.sup)
+            (get_or_default constraints (place + k) no_constraint c within ∙ there))
+            ∙ one (place + k) (omega arith) (omega (arith, a)),
+      )
 
   pub in_part : (k : ℕ) → place ≤ k → k < end → Contains part (constraint_at constraints k)
   in_part k a b =
-      let at : place + (k - place) ≡ k = omega (arith, a) in
-      (k - place, omega (arith, a, b, part_length), part_at (k - place) (constraint_at constraints k) (omega (arith, a, b)) ∙ (ap (λ i. get_or constraints i (constraint_at constraints k)) at ∙ get_or_default constraints k (constraint_at constraints k) no_constraint (omega (arith, b, high))))
+      let at : place + (k - place) ≡ k = omega (arith, a) in (
+        k - place,
+        omega (arith, a, b, part_length),
+        part_at (k - place) (constraint_at constraints k) (omega (arith, a, b))
+            ∙ (ap (λ i. get_or constraints i (constraint_at constraints k)) at
+            ∙ get_or_default constraints k (constraint_at constraints k) no_constraint (omega (arith, b, high))),
+      )
 
 -- ---- runs into a value
 
 -- The first `count` runs of a list have been put into the value of a region.
-pub record FillingAll (region : ℕ) (runs : List Run) (old now : List (List Bool)) (changed : Bool) (count : ℕ) : Type 0 where
+pub record FillingAll (region : ℕ) (runs : List Run) (old now : List (List Bool)) (changed : Bool)
+    (count : ℕ) : Type 0 where
   pub gains : Gains (λ r e. (r ≡ region) × IsInRuns runs e) old now
   pub covers : (k e : ℕ) → k < count → first_of runs k ≤ e → e ≤ last_of runs k → IsHeld now region e
   pub tells : Tells changed old now
 
 pub filling_first : (region : ℕ) (runs : List Run) (old : List (List Bool)) → FillingAll region runs old old false 0
-filling_first region runs old = record { gains = gains_none _ old; covers = λ k e h. absurd (omega (arith, h)); tells = tells_none old }
+filling_first region runs old =
+    record { gains = gains_none _ old; covers = λ k e h. absurd (omega (arith, h)); tells = tells_none old }
 
-pub filling_more : (region : ℕ) (runs : List Run) (old now next : List (List Bool)) (x y : Bool) (count : ℕ) (run : Run) → run.first ≡ first_of runs count → run.last ≡ last_of runs count → count < length runs
-    → FillingAll region runs old now x count → Gains (λ r e. (r ≡ region) × IsWithin run e) now next → ((e : ℕ) → IsWithin run e → IsHeld next region e) → Tells y now next
+pub filling_more : (region : ℕ) (runs : List Run) (old now next : List (List Bool)) (x y : Bool) (count : ℕ) (run : Run)
+    → run.first ≡ first_of runs count → run.last ≡ last_of runs count → count < length runs
+    → FillingAll region runs old now x count → Gains (λ r e. (r ≡ region) × IsWithin run e) now next
+    → ((e : ℕ) → IsWithin run e → IsHeld next region e) → Tells y now next
     → FillingAll region runs old next (x || y) (count + 1)
 filling_more region runs old now next x y count run first last within f g covers tells = record {
-  gains = gains_append _ _ _ _ f.gains (gains_weaker _ _ (λ r e h. (h.0, (count, within, omega (arith, h.1.0, first), omega (arith, h.1.1, last)))) _ _ g);
+  gains = gains_append _ _ _ _ f.gains
+      (gains_weaker _ _ (λ r e h. (h.0, (count, within, omega (arith, h.1.0, first), omega (arith, h.1.1, last)))) _ _
+      g);
   covers = λ k e h a b. ⊎_elim
-      (λ here. covers e (omega (arith, a, first, ap (first_of runs) here), omega (arith, b, last, ap (last_of runs) here)))
+      (λ here. covers e (
+        omega (arith, a, first, ap (first_of runs) here),
+        omega (arith, b, last, ap (last_of runs) here),
+      ))
       (λ other. g.kept region e (f.covers k e (omega (arith, h, other)) a b))
       (cases_eq k count);
   tells = tells_append x y _ _ _ f.tells tells;

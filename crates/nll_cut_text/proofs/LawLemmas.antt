@@ -37,7 +37,8 @@ one_form = parts.one_form ℕ one_number unspelled unspelled_spelled
 form_or_none : (line : List ℕ) → ((n : ℕ) × Spells line (one_number n)) ⊎ ((n : ℕ) → Spells line (one_number n) → ⊥)
 form_or_none = parts.form_or_none ℕ one_number unspelled unspelled_spelled
 
-pub one_fault_lem : (text : List ℕ) (l m : ℕ) (j k : TextKind) → IsFault cut text l j → IsFault cut text m k → (l ≡ m) × (j ≡ k)
+pub one_fault_lem : (text : List ℕ) (l m : ℕ) (j k : TextKind) → IsFault cut text l j → IsFault cut text m k
+    → (l ≡ m) × (j ≡ k)
 one_fault_lem = laws.one_fault_lem cut one_form
 
 pub not_both_lem : (text list : List ℕ) (l : ℕ) (k : TextKind) → Means text list → IsFault cut text l k → ⊥
@@ -46,7 +47,8 @@ not_both_lem = laws.not_both_lem cut one_form
 pub one_meaning_lem : (text list other : List ℕ) → Means text list → Means text other → list ≡ other
 one_meaning_lem = laws.one_forms_lem cut one_form
 
-pub some_meaning_or_fault_lem : (text : List ℕ) → ((list : List ℕ) × Means text list) ⊎ ((line : ℕ) × (kind : TextKind) × IsFault cut text line kind)
+pub some_meaning_or_fault_lem : (text : List ℕ)
+    → ((list : List ℕ) × Means text list) ⊎ ((line : ℕ) × (kind : TextKind) × IsFault cut text line kind)
 some_meaning_or_fault_lem = laws.text_or_fault_lem cut form_or_none (λ entries. inl tt)
 
 -- no number has a fault at the end

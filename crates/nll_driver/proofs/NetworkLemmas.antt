@@ -22,7 +22,8 @@ use Rattle.nll_owner.specs.Delivery.{IsPair, AreDelivered, SayLeast}
 
 -- ---- lists of what a function gives
 
-pub contains_mapped : {X Y : Type 0} (f : X → Y) (xs : List X) (y : Y) → Contains (map f xs) y → (x : X) × Contains xs x × (f x ≡ y)
+pub contains_mapped : {X Y : Type 0} (f : X → Y) (xs : List X) (y : Y) → Contains (map f xs) y
+    → (x : X) × Contains xs x × (f x ≡ y)
 contains_mapped f [] y h = absurd (let l = h.1 in omega arith)
 contains_mapped f (x ∷ xs) y h = ⊎_elim
     (λ (is : f x ≡ y). (x, contains_head x xs, is))
@@ -38,7 +39,8 @@ contains_map f (z ∷ xs) x h = ⊎_elim
 
 -- ---- one owner and one channel change
 
-set_cases : {X : Type 0} (xs : List X) (i j : ℕ) (y z : X) → slice_get (set xs i y) j ≡ Some z → ((j ≡ i) × (z ≡ y)) ⊎ (slice_get xs j ≡ Some z)
+set_cases : {X : Type 0} (xs : List X) (i j : ℕ) (y z : X) → slice_get (set xs i y) j ≡ Some z
+    → ((j ≡ i) × (z ≡ y)) ⊎ (slice_get xs j ≡ Some z)
 set_cases [] zero j y z h = inr h
 set_cases [] (suc i) j y z h = inr h
 set_cases (x ∷ xs) zero zero y z h = inl (refl, sym (cc h))
@@ -56,14 +58,17 @@ set_there (x ∷ xs) zero y z l h = sym (cc h)
 set_there (x ∷ xs) (suc i) y z l h = set_there xs i y z (omega arith) h
 
 -- two places of a list in which nothing is twice hold different things
-pub differ_at : {X : Type 0} (xs : List X) (j k : ℕ) (x y : X) → AllPairs (λ a b. a ≢ b) xs → j ≢ k → j < length xs → k < length xs → get_or xs j x ≡ x → get_or xs k y ≡ y → x ≢ y
+pub differ_at : {X : Type 0} (xs : List X) (j k : ℕ) (x y : X) → AllPairs (λ a b. a ≢ b) xs → j ≢ k → j < length xs
+    → k < length xs → get_or xs j x ≡ x → get_or xs k y ≡ y → x ≢ y
 differ_at xs j k x y once other lj lk is_x is_y same = ⊎_elim
     (λ (less : j < k). once j k x less lk (is_x ∙ (same ∙ sym (get_or_default xs k x y lk ∙ is_y))))
-    (λ (more : k ≤ j). once k j x (omega (arith, more, other)) lj (get_or_default xs k x y lk ∙ (is_y ∙ (sym same ∙ sym is_x))))
+    (λ (more : k ≤ j). once k j x (omega (arith, more, other)) lj
+    (get_or_default xs k x y lk ∙ (is_y ∙ (sym same ∙ sym is_x))))
     (cases_lt j k)
 
 module _ (q : Problem) (c : Cut) (owners : List Owner) (channels : List Channel)
-    (s : AreInStep q c owners channels) (i : ℕ) (o n : Owner) (at_i : slice_get owners i ≡ Some o) (is_owner : IsOwner q c i n) where
+    (s : AreInStep q c owners channels) (i : ℕ) (o n : Owner) (at_i : slice_get owners i ≡ Some o)
+    (is_owner : IsOwner q c i n) where
   are_owners_then : AreOwners q c (set owners i n)
   are_owners_then = record {
     count = length-set owners i n ∙ s.are_owners.count;
@@ -74,11 +79,14 @@ module _ (q : Problem) (c : Cut) (owners : List Owner) (channels : List Channel)
   }
 
   -- a channel of the list that isn't between the changed ends carries what it carried
-  module _ (x : Channel) (pair : ℕ × ℕ) (gives : i ≡ pair.0 → (j : ℕ) → j ≢ pair.1 → take (given_to n j) (part_for n j) ≡ take (given_to o j) (part_for o j))
+  module _ (x : Channel) (pair : ℕ × ℕ)
+      (gives : i ≡ pair.0 → (j : ℕ) → j ≢ pair.1
+      → take (given_to n j) (part_for n j) ≡ take (given_to o j) (part_for o j))
       (gives_not : i ≢ pair.0 → (j : ℕ) → take (given_to n j) (part_for n j) ≡ take (given_to o j) (part_for o j))
       (hears : i ≡ pair.1 → (j : ℕ) → j ≢ pair.0 → received_from n j ≡ received_from o j)
       (hears_not : i ≢ pair.1 → (j : ℕ) → received_from n j ≡ received_from o j) where
-    carried_other : (z : Channel) → Contains channels z → ends_of z ≢ pair → IsCarried (set owners i n) (ends_of z) z.sent z.received
+    carried_other : (z : Channel) → Contains channels z → ends_of z ≢ pair
+        → IsCarried (set owners i n) (ends_of z) z.sent z.received
     carried_other z h other = record {
       given_out = λ p at. ⊎_elim
           (λ (t : (z.from ≡ i) × (p ≡ n)).
@@ -101,29 +109,38 @@ module _ (q : Problem) (c : Cut) (owners : List Owner) (channels : List Channel)
     }
 
     -- the channel at the place is another end of the same mailbox, and carries what the owners say
-    pub in_step_then : (k : ℕ) (y : Channel) → k < length channels → get_or channels k x ≡ x → ends_of x ≡ pair → ends_of y ≡ pair → IsCarried (set owners i n) pair y.sent y.received
+    pub in_step_then : (k : ℕ) (y : Channel) → k < length channels → get_or channels k x ≡ x → ends_of x ≡ pair
+        → ends_of y ≡ pair → IsCarried (set owners i n) pair y.sent y.received
         → AreInStep q c (set owners i n) (set channels k y)
     in_step_then k y within is_x ends_x ends_y carried = record {
       problem = s.problem;
       cut = s.cut;
       are_owners = are_owners_then;
-      all_pairs = subst (AreAllPairs c.owners) (sym (map-set_same ends_of channels k y x (ends_y ∙ (sym ends_x ∙ ap ends_of (sym is_x))))) s.all_pairs;
+      all_pairs =
+          subst (AreAllPairs c.owners) (sym (map-set_same ends_of channels k y x
+          (ends_y ∙ (sym ends_x ∙ ap ends_of (sym is_x))))) s.all_pairs;
       are_carried = λ z h. ⊎_elim
           (λ (here : h.0 ≡ k).
-          let same : z ≡ y = sym h.2 ∙ (ap (λ j. get_or (set channels k y) j z) here ∙ get_or-set_same channels k y z within) in
-          subst (λ w. IsCarried (set owners i n) (ends_of w) w.sent w.received) (sym same) (subst (λ e. IsCarried (set owners i n) e y.sent y.received) (sym ends_y) carried))
+          let same : z ≡ y =
+          sym h.2 ∙ (ap (λ j. get_or (set channels k y) j z) here ∙ get_or-set_same channels k y z within) in
+          subst (λ w. IsCarried (set owners i n) (ends_of w) w.sent w.received) (sym same)
+          (subst (λ e. IsCarried (set owners i n) e y.sent y.received) (sym ends_y) carried))
           (λ elsewhere.
           let low : h.0 < length channels = (let l = h.1 in omega (arith, l, length-set channels k y)) in
           let is_z : get_or channels h.0 z ≡ z = sym (get_or-set_other channels k h.0 y z elsewhere) ∙ h.2 in
-          carried_other z (h.0, low, is_z) (λ same. differ_at (map ends_of channels) h.0 k (ends_of z) (ends_of x) s.all_pairs.once elsewhere (omega (arith, low, length-map channels ends_of)) (omega (arith, within, length-map channels ends_of))
-          (get_or-map ends_of channels h.0 z (ends_of z) low ∙ ap ends_of is_z) (get_or-map ends_of channels k x (ends_of x) within ∙ ap ends_of is_x) (same ∙ sym ends_x)))
+          carried_other z (h.0, low, is_z) (λ same.
+          differ_at (map ends_of channels) h.0 k (ends_of z) (ends_of x) s.all_pairs.once elsewhere
+          (omega (arith, low, length-map channels ends_of)) (omega (arith, within, length-map channels ends_of))
+          (get_or-map ends_of channels h.0 z (ends_of z) low ∙ ap ends_of is_z)
+          (get_or-map ends_of channels k x (ends_of x) within ∙ ap ends_of is_x) (same ∙ sym ends_x)))
           (cases_eq h.0 k);
     }
 
 -- ---- what an owner's step leaves
 
 -- a longer log begins each part as before
-part_begins : (o n : Owner) (j : ℕ) → n.problem ≡ o.problem → n.cut ≡ o.cut → IsPrefix o.log n.log → (k : ℕ) → k ≤ length (part_for o j) → take k (part_for n j) ≡ take k (part_for o j)
+part_begins : (o n : Owner) (j : ℕ) → n.problem ≡ o.problem → n.cut ≡ o.cut → IsPrefix o.log n.log → (k : ℕ)
+    → k ≤ length (part_for o j) → take k (part_for n j) ≡ take k (part_for o j)
 part_begins o n j problem cut begins k low =
     let test : Growth → Bool = λ g. reads o.problem o.cut j g.region in
     ap (λ p. take k (part p n.cut j n.log)) problem
@@ -144,7 +161,8 @@ module _ (q : Problem) (c : Cut) (i : ℕ) (o n : Owner) (w : IsOwner q c i o) (
   }
 
   -- it received something, or nothing
-  pub owner_heard : n ≡ record o { log = n.log; received = n.received; clock = n.clock } → (n.loaded ≡ true → IsDone n) → IsOwner q c i n
+  pub owner_heard : n ≡ record o { log = n.log; received = n.received; clock = n.clock } → (n.loaded ≡ true → IsDone n)
+      → IsOwner q c i n
   owner_heard others done = record {
     problem = ap (λ (x : Owner). x.problem) others ∙ w.problem;
     cut = ap (λ (x : Owner). x.cut) others ∙ w.cut;
@@ -166,7 +184,8 @@ module _ (q : Problem) (c : Cut) (i : ℕ) (o n : Owner) (w : IsOwner q c i o) (
   }
 
 module _ (q : Problem) (c : Cut) (owners : List Owner) (channels : List Channel)
-    (s : AreInStep q c owners channels) (o n : Owner) (k : ℕ) (x y : Channel) (within : k < length channels) (is_x : get_or channels k x ≡ x)
+    (s : AreInStep q c owners channels) (o n : Owner) (k : ℕ) (x y : Channel) (within : k < length channels)
+    (is_x : get_or channels k x ≡ x)
     (same_ends : ends_of y ≡ ends_of x) (sound : IsSound n) where
   in_channels : Contains channels x
   in_channels = (k, within, is_x)
@@ -175,18 +194,24 @@ module _ (q : Problem) (c : Cut) (owners : List Owner) (channels : List Channel)
   is_pair = (s.all_pairs.each (ends_of x)).0 (contains_map ends_of channels x in_channels)
 
   -- the owner of the one end gave out all that it had for the other, and it was posted
-  pub given_step : slice_get owners x.from ≡ Some o → GivesAll x.to o n → y.sent ≡ part_for o x.to → y.received ≡ x.received
+  pub given_step : slice_get owners x.from ≡ Some o → GivesAll x.to o n → y.sent ≡ part_for o x.to
+      → y.received ≡ x.received
       → AreInStep q c (set owners x.from n) (set channels k y)
   given_step at g posted heard =
-      in_step_then q c owners channels s x.from o n at (owner_given q c x.from o n (s.are_owners.each x.from o at) sound x.to g) x (ends_of x)
-      (λ _ j other. ap (λ m. take m (part_for n j)) (g.other_given j other) ∙ ap (λ xs. take (given_to o j) xs) (part_same j))
+      in_step_then q c owners channels s x.from o n at
+      (owner_given q c x.from o n (s.are_owners.each x.from o at) sound x.to g) x (ends_of x)
+      (λ _ j other. ap (λ m. take m (part_for n j)) (g.other_given j other)
+      ∙ ap (λ xs. take (given_to o j) xs) (part_same j))
       (λ not_first. absurd (not_first refl))
       (λ _ j _. received_same j)
       (λ _ j. received_same j)
       k y within is_x refl same_ends
       (record {
-        given_out = λ p h. subst (λ z. y.sent ≡ take (given_to z x.to) (part_for z x.to)) (sym (set_there owners x.from n p (slice_get_within owners x.from o at) h))
-            (posted ∙ sym (ap (λ m. take m (part_for n x.to)) g.given ∙ (ap (λ xs. take (length (part_for o x.to)) xs) (part_same x.to) ∙ take_all (part_for o x.to))));
+        given_out =
+            λ p h. subst (λ z. y.sent ≡ take (given_to z x.to) (part_for z x.to))
+            (sym (set_there owners x.from n p (slice_get_within owners x.from o at) h))
+            (posted ∙ sym (ap (λ m. take m (part_for n x.to)) g.given
+            ∙ (ap (λ xs. take (length (part_for o x.to)) xs) (part_same x.to) ∙ take_all (part_for o x.to))));
         taken = λ p h. ⊎_elim
             (λ (t : (x.to ≡ x.from) × (p ≡ n)). absurd (is_pair.2 (sym t.0)))
             (λ (t : slice_get owners x.to ≡ Some p). heard ∙ (s.are_carried x in_channels).taken p t)
@@ -200,10 +225,12 @@ module _ (q : Problem) (c : Cut) (owners : List Owner) (channels : List Channel)
       received_same j = ap (λ (z : Owner). received_from z j) g.others
 
   -- the owner of the other end heard what was taken, or nothing was
-  pub heard_step : slice_get owners x.to ≡ Some o → Hears x.from y.received o n → n ≡ record o { log = n.log; received = n.received; clock = n.clock } → (n.loaded ≡ true → IsDone n)
+  pub heard_step : slice_get owners x.to ≡ Some o → Hears x.from y.received o n
+      → n ≡ record o { log = n.log; received = n.received; clock = n.clock } → (n.loaded ≡ true → IsDone n)
       → y.sent ≡ x.sent → AreInStep q c (set owners x.to n) (set channels k y)
   heard_step at h others done same_sent =
-      in_step_then q c owners channels s x.to o n at (owner_heard q c x.to o n (s.are_owners.each x.to o at) sound others done) x (ends_of x)
+      in_step_then q c owners channels s x.to o n at
+      (owner_heard q c x.to o n (s.are_owners.each x.to o at) sound others done) x (ends_of x)
       (λ first. absurd (is_pair.2 (sym first)))
       (λ _ j. taken_same j)
       (λ _ j other. h.from_others j other)
@@ -214,33 +241,40 @@ module _ (q : Problem) (c : Cut) (owners : List Owner) (channels : List Channel)
             (λ (t : (x.from ≡ x.to) × (p ≡ n)). absurd (is_pair.2 t.0))
             (λ (t : slice_get owners x.from ≡ Some p). same_sent ∙ (s.are_carried x in_channels).given_out p t)
             (set_cases owners x.to x.from n p g);
-        taken = λ p g. subst (λ z. y.received ≡ received_from z x.from) (sym (set_there owners x.to n p (slice_get_within owners x.to o at) g)) (sym h.from_it);
+        taken = λ p g. subst (λ z. y.received ≡ received_from z x.from)
+            (sym (set_there owners x.to n p (slice_get_within owners x.to o at) g)) (sym h.from_it);
       })
     where
       taken_same : (j : ℕ) → take (given_to n j) (part_for n j) ≡ take (given_to o j) (part_for o j)
       taken_same j =
           ap (λ (xs : List ℕ). take (get_or xs j 0) (part_for n j)) h.given
-          ∙ part_begins o n j (ap (λ (z : Owner). z.problem) others) (ap (λ (z : Owner). z.cut) others) h.begins (given_to o j) ((s.are_owners.each x.to o at).sound.given j)
+          ∙ part_begins o n j (ap (λ (z : Owner). z.problem) others) (ap (λ (z : Owner). z.cut) others) h.begins
+          (given_to o j) ((s.are_owners.each x.to o at).sound.given j)
 
 -- an owner was loaded
 module _ (q : Problem) (c : Cut) (owners : List Owner) (channels : List Channel)
     (s : AreInStep q c owners channels) (i : ℕ) (o n : Owner) (at : slice_get owners i ≡ Some o) (sound : IsSound n)
-    (others : n ≡ record o { log = n.log; clock = n.clock; loaded = true }) (begins : IsPrefix o.log n.log) (done : IsDone n) where
+    (others : n ≡ record o { log = n.log; clock = n.clock; loaded = true }) (begins : IsPrefix o.log n.log)
+    (done : IsDone n) where
   pub loaded_step : AreInStep q c (set owners i n) channels
   loaded_step = record {
     problem = s.problem;
     cut = s.cut;
-    are_owners = are_owners_then q c owners channels s i o n at (owner_loaded q c i o n (s.are_owners.each i o at) sound others done);
+    are_owners =
+        are_owners_then q c owners channels s i o n at
+        (owner_loaded q c i o n (s.are_owners.each i o at) sound others done);
     all_pairs = s.all_pairs;
     are_carried = λ z h. record {
       given_out = λ p g. ⊎_elim
           (λ (t : (z.from ≡ i) × (p ≡ n)). subst (λ w. z.sent ≡ take (given_to w z.to) (part_for w z.to)) (sym t.1)
-          ((s.are_carried z h).given_out o (subst (λ j. slice_get owners j ≡ Some o) (sym t.0) at) ∙ sym (taken_same z.to)))
+          ((s.are_carried z h).given_out o (subst (λ j. slice_get owners j ≡ Some o) (sym t.0) at)
+          ∙ sym (taken_same z.to)))
           (λ (t : slice_get owners z.from ≡ Some p). (s.are_carried z h).given_out p t)
           (set_cases owners i z.from n p g);
       taken = λ p g. ⊎_elim
           (λ (t : (z.to ≡ i) × (p ≡ n)). subst (λ w. z.received ≡ received_from w z.from) (sym t.1)
-          ((s.are_carried z h).taken o (subst (λ j. slice_get owners j ≡ Some o) (sym t.0) at) ∙ sym (ap (λ (w : Owner). received_from w z.from) others)))
+          ((s.are_carried z h).taken o (subst (λ j. slice_get owners j ≡ Some o) (sym t.0) at)
+          ∙ sym (ap (λ (w : Owner). received_from w z.from) others)))
           (λ (t : slice_get owners z.to ≡ Some p). (s.are_carried z h).taken p t)
           (set_cases owners i z.to n p g);
     };
@@ -249,7 +283,8 @@ module _ (q : Problem) (c : Cut) (owners : List Owner) (channels : List Channel)
       taken_same : (j : ℕ) → take (given_to n j) (part_for n j) ≡ take (given_to o j) (part_for o j)
       taken_same j =
           ap (λ (z : Owner). take (given_to z j) (part_for n j)) others
-          ∙ part_begins o n j (ap (λ (z : Owner). z.problem) others) (ap (λ (z : Owner). z.cut) others) begins (given_to o j) ((s.are_owners.each i o at).sound.given j)
+          ∙ part_begins o n j (ap (λ (z : Owner). z.problem) others) (ap (λ (z : Owner). z.cut) others) begins
+          (given_to o j) ((s.are_owners.each i o at).sound.given j)
 
 -- ---- nothing was done yet
 
@@ -263,7 +298,8 @@ no_list n j = ⊎_elim
     (λ past. get_or_past (replicate n []) j [] (omega (arith, past, length-replicate {A = List Growth} n [])))
     (cases_lt j n)
 
-pub first_is : (q : Problem) (c : Cut) (i : ℕ) → IsSoundProblem q → IsCutOf q c → i < c.owners → IsOwner q c i (first_owner q c i)
+pub first_is : (q : Problem) (c : Cut) (i : ℕ) → IsSoundProblem q → IsCutOf q c → i < c.owners
+    → IsOwner q c i (first_owner q c i)
 first_is q c i problem cut me = record {
   problem = refl;
   cut = refl;
@@ -274,25 +310,32 @@ first_is q c i problem cut me = record {
 }
 
 module _ (q : Problem) (c : Cut) (owners : List Owner) (channels : List Channel) where
-  pub first_in_step : IsSoundProblem q → IsCutOf q c → length owners ≡ c.owners → ((i : ℕ) (o : Owner) → slice_get owners i ≡ Some o → o ≡ first_owner q c i) → AreAllPairs c.owners (map ends_of channels)
+  pub first_in_step : IsSoundProblem q → IsCutOf q c → length owners ≡ c.owners
+      → ((i : ℕ) (o : Owner) → slice_get owners i ≡ Some o → o ≡ first_owner q c i)
+      → AreAllPairs c.owners (map ends_of channels)
       → ((x : Channel) → Contains channels x → (x.sent ≡ []) × (x.received ≡ [])) → AreInStep q c owners channels
   first_in_step problem cut count first pairs new = record {
     problem = problem;
     cut = cut;
     are_owners = record {
       count = count;
-      each = λ i o at. subst (IsOwner q c i) (sym (first i o at)) (first_is q c i problem cut (let l = slice_get_within owners i o at in omega (arith, l, count)));
+      each = λ i o at. subst (IsOwner q c i) (sym (first i o at))
+          (first_is q c i problem cut (let l = slice_get_within owners i o at in omega (arith, l, count)));
     };
     all_pairs = pairs;
     are_carried = λ x h. record {
-      given_out = λ o at. (new x h).0 ∙ sym (ap (λ (z : Owner). take (given_to z x.to) (part_for z x.to)) (first x.from o at) ∙ take_nil (given_to (first_owner q c x.from) x.to) (part_for (first_owner q c x.from) x.to) refl);
-      taken = λ o at. (new x h).1 ∙ sym (ap (λ (z : Owner). received_from z x.from) (first x.to o at) ∙ no_list c.owners x.from);
+      given_out =
+          λ o at. (new x h).0 ∙ sym (ap (λ (z : Owner). take (given_to z x.to) (part_for z x.to)) (first x.from o at)
+          ∙ take_nil (given_to (first_owner q c x.from) x.to) (part_for (first_owner q c x.from) x.to) refl);
+      taken = λ o at. (new x h).1 ∙ sym (ap (λ (z : Owner). received_from z x.from) (first x.to o at)
+          ∙ no_list c.owners x.from);
     };
   }
 
 module _ {P : Type 0} (post_ends : P → ℕ × ℕ) (post_sent post_received : P → List Growth)
     (q : Problem) (c : Cut) (owners : List Owner) (channels : List Channel) (posts : List P)
-    (s : AreInStep q c owners channels) (given : AreGiven owners channels (length channels)) (loaded : AreLoaded owners c.owners)
+    (s : AreInStep q c owners channels) (given : AreGiven owners channels (length channels))
+    (loaded : AreLoaded owners c.owners)
     (says : SayOfAll (SaysOf post_ends post_sent post_received) channels posts) where
   abbrev logs : List (List Growth)
   logs = logs_of owners
@@ -318,21 +361,28 @@ module _ {P : Type 0} (post_ends : P → ℕ × ℕ) (post_sent post_received : 
   log_at i l = get_or-map (λ (o : Owner). o.log) owners i (first_owner q c i) [] (within i l)
 
   -- what is said of an owner's own problem, cut and number is said of these
-  move : (says_it : Problem → Cut → ℕ → Type 0) (i : ℕ) → i < c.owners → says_it (owner_at i).problem (owner_at i).cut (owner_at i).me → says_it q c i
+  move : (says_it : Problem → Cut → ℕ → Type 0) (i : ℕ) → i < c.owners
+      → says_it (owner_at i).problem (owner_at i).cut (owner_at i).me → says_it q c i
   move says_it i l h =
       let w = is i l in
-      subst (λ x. says_it x c i) w.problem (subst (λ x. says_it (owner_at i).problem x i) w.cut (subst (λ x. says_it (owner_at i).problem (owner_at i).cut x) w.me h))
+      subst (λ x. says_it x c i) w.problem
+      (subst (λ x. says_it (owner_at i).problem x i) w.cut
+      (subst (λ x. says_it (owner_at i).problem (owner_at i).cut x) w.me h))
 
   well_formed : (i : ℕ) → i < c.owners → IsWellFormed c i (log_of logs i)
-  well_formed i l = subst (IsWellFormed c i) (sym (log_at i l)) (move (λ p d m. IsWellFormed d m (owner_at i).log) i l (is i l).sound.well_formed)
+  well_formed i l =
+      subst (IsWellFormed c i) (sym (log_at i l))
+      (move (λ p d m. IsWellFormed d m (owner_at i).log) i l (is i l).sound.well_formed)
 
   supported : (i : ℕ) → i < c.owners → IsWellSupported q (list_of c i (log_of logs i) (heard i)) (log_of logs i)
   supported i l = subst (λ log. IsWellSupported q (list_of c i log (heard i)) log) (sym (log_at i l))
-      (move (λ p d m. IsWellSupported p (list_of d m (owner_at i).log (heard i)) (owner_at i).log) i l (is i l).sound.supported)
+      (move (λ p d m. IsWellSupported p (list_of d m (owner_at i).log (heard i)) (owner_at i).log) i l
+      (is i l).sound.supported)
 
   saturated : (i : ℕ) → i < c.owners → IsSaturated q c i (list_of c i (log_of logs i) (heard i))
   saturated i l = subst (λ log. IsSaturated q c i (list_of c i log (heard i))) (sym (log_at i l))
-      (move (λ p d m. IsSaturated p d m (list_of d m (owner_at i).log (heard i))) i l ((is i l).done (loaded i (owner_at i) l (at i l))))
+      (move (λ p d m. IsSaturated p d m (list_of d m (owner_at i).log (heard i))) i l
+      ((is i l).done (loaded i (owner_at i) l (at i l))))
 
   -- ---- each channel
 
@@ -347,7 +397,8 @@ module _ {P : Type 0} (post_ends : P → ℕ × ℕ) (post_sent post_received : 
       let o : Owner = owner_at i in
       let w = is i l in
       given h.0 x o h.1 (get_at channels h.0 x h.1 h.2) (at i l)
-      ∙ (ap (λ p. part p o.cut j o.log) w.problem ∙ (ap (λ d. part q d j o.log) w.cut ∙ ap (λ log. part q c j log) (sym (log_at i l))))
+      ∙ (ap (λ p. part p o.cut j o.log) w.problem
+      ∙ (ap (λ d. part q d j o.log) w.cut ∙ ap (λ log. part q c j log) (sym (log_at i l))))
 
   received_is : (x : Channel) → Contains channels x → x.received ≡ heard x.to x.from
   received_is x h = (s.are_carried x h).taken (owner_at x.to) (at x.to (pair_of x h).1)
@@ -361,10 +412,14 @@ module _ {P : Type 0} (post_ends : P → ℕ × ℕ) (post_sent post_received : 
   told i j li lj differ =
       let w = contains_mapped ends_of channels (j, i) ((s.all_pairs.each (j, i)).1 (lj, li, λ e. differ (sym e))) in
       sym (ap (λ (e : ℕ × ℕ). heard e.1 e.0) w.2)
-      ∙ (sym (received_is w.0 w.1) ∙ (all_received w.0 w.1 ∙ (sent_is w.0 w.1 ∙ ap (λ (e : ℕ × ℕ). part q c e.1 (log_of logs e.0)) w.2)))
+      ∙ (sym (received_is w.0 w.1) ∙ (all_received w.0 w.1
+      ∙ (sent_is w.0 w.1 ∙ ap (λ (e : ℕ × ℕ). part q c e.1 (log_of logs e.0)) w.2)))
 
-  heard_of : (i j : ℕ) → i < c.owners → j < c.owners → i ≢ j → (g : Growth) → Contains (heard i j) g → Contains (log_of logs j) g
-  heard_of i j li lj differ g h = (filter_from (λ (x : Growth). reads q c i x.region) (log_of logs j) g (subst (λ xs. Contains xs g) (told i j li lj differ) h)).0
+  heard_of : (i j : ℕ) → i < c.owners → j < c.owners → i ≢ j → (g : Growth) → Contains (heard i j) g
+      → Contains (log_of logs j) g
+  heard_of i j li lj differ g h =
+      (filter_from (λ (x : Growth). reads q c i x.region) (log_of logs j) g
+      (subst (λ xs. Contains xs g) (told i j li lj differ) h)).0
 
   -- ---- all together
 

@@ -19,7 +19,8 @@ use Rattle.nll_driver.proofs.NetworkLemmas.{contains_mapped}
 abbrev pub AreEnded : List Channel → List Channel → Type 0
 AreEnded all left = (x : Channel) → Contains all x → Contains left x ⊎ IsPrefix x.received x.sent
 
-pub ended_more : (all left rest : List Channel) (x : Channel) → left ≡ rest ++ x ∷ [] → IsPrefix x.received x.sent → AreEnded all left → AreEnded all rest
+pub ended_more : (all left rest : List Channel) (x : Channel) → left ≡ rest ++ x ∷ [] → IsPrefix x.received x.sent
+    → AreEnded all left → AreEnded all rest
 ended_more all left rest x is front ended y h = ⊎_elim
     (λ (here : Contains left y). ⊎_elim
     (λ (old : Contains rest y). inl old)
@@ -28,7 +29,8 @@ ended_more all left rest x is front ended y h = ⊎_elim
     (λ (t : IsPrefix y.received y.sent). inr t)
     (ended y h)
 
-pub ended_all : (all left : List Channel) → length left ≡ 0 → AreEnded all left → (x : Channel) → Contains all x → IsPrefix x.received x.sent
+pub ended_all : (all left : List Channel) → length left ≡ 0 → AreEnded all left → (x : Channel) → Contains all x
+    → IsPrefix x.received x.sent
 ended_all all left none ended x h = ⊎_elim
     (λ (here : Contains left x). absurd (omega (arith, here.1, none)))
     (λ (t : IsPrefix x.received x.sent). t)
@@ -44,7 +46,8 @@ take_in (suc n) (x ∷ xs) y h = ⊎_elim
     (λ (w : Contains (take n xs) y). contains_tail x xs y (take_in n xs y w))
     (contains_cases x (take n xs) y h)
 
-module _ (q : Problem) (c : Cut) (owners : List Owner) (channels : List Channel) (s : AreInStep q c owners channels) (fronts : (x : Channel) → Contains channels x → IsPrefix x.received x.sent) where
+module _ (q : Problem) (c : Cut) (owners : List Owner) (channels : List Channel) (s : AreInStep q c owners channels)
+    (fronts : (x : Channel) → Contains channels x → IsPrefix x.received x.sent) where
   abbrev owner_at : ℕ → Owner
   owner_at i = get_or owners i (first_owner q c i)
 
@@ -54,25 +57,37 @@ module _ (q : Problem) (c : Cut) (owners : List Owner) (channels : List Channel)
   is : (i : ℕ) → i < c.owners → IsOwner q c i (owner_at i)
   is i l = s.are_owners.each i (owner_at i) (at i l)
 
-  heard : (i j : ℕ) (g : Growth) → i < c.owners → j < c.owners → i ≢ j → Contains (received_from (owner_at i) j) g → Contains (owner_at j).log g
+  heard : (i j : ℕ) (g : Growth) → i < c.owners → j < c.owners → i ≢ j → Contains (received_from (owner_at i) j) g
+      → Contains (owner_at j).log g
   heard i j g li lj differ h =
       let w = contains_mapped ends_of channels (j, i) ((s.all_pairs.each (j, i)).1 (lj, li, λ e. differ (sym e))) in
       let x : Channel = w.0 in
       let from : x.from ≡ j = ap (λ (e : ℕ × ℕ). e.0) w.2 in
       let to : x.to ≡ i = ap (λ (e : ℕ × ℕ). e.1) w.2 in
       let carried = s.are_carried x w.1 in
-      let received : x.received ≡ received_from (owner_at i) x.from = carried.taken (owner_at i) (subst (λ k. slice_get owners k ≡ Some (owner_at i)) (sym to) (at i li)) in
-      let sent : x.sent ≡ take (given_to (owner_at j) x.to) (part_for (owner_at j) x.to) = carried.given_out (owner_at j) (subst (λ k. slice_get owners k ≡ Some (owner_at j)) (sym from) (at j lj)) in
-      let in_received : Contains x.received g = subst (λ xs. Contains xs g) (sym received) (subst (λ k. Contains (received_from (owner_at i) k) g) (sym from) h) in
+      let received : x.received ≡ received_from (owner_at i) x.from =
+      carried.taken (owner_at i) (subst (λ k. slice_get owners k ≡ Some (owner_at i)) (sym to) (at i li)) in
+      let sent : x.sent ≡ take (given_to (owner_at j) x.to) (part_for (owner_at j) x.to) =
+      carried.given_out (owner_at j) (subst (λ k. slice_get owners k ≡ Some (owner_at j)) (sym from) (at j lj)) in
+      let in_received : Contains x.received g =
+      subst (λ xs. Contains xs g) (sym received)
+      (subst (λ k. Contains (received_from (owner_at i) k) g) (sym from) h) in
       let front = fronts x w.1 in
-      let in_sent : Contains x.sent g = subst (λ xs. Contains xs g) (sym front.1) (Contains-append_left x.received front.0 g in_received) in
-      let in_part = take_in (given_to (owner_at j) x.to) (part_for (owner_at j) x.to) g (subst (λ xs. Contains xs g) sent in_sent) in
-      (filter_from (λ (y : Growth). reads (owner_at j).problem (owner_at j).cut x.to y.region) (owner_at j).log g in_part).0
+      let in_sent : Contains x.sent g =
+      subst (λ xs. Contains xs g) (sym front.1) (Contains-append_left x.received front.0 g in_received) in
+      let in_part =
+      take_in (given_to (owner_at j) x.to) (part_for (owner_at j) x.to) g
+      (subst (λ xs. Contains xs g) sent in_sent) in
+      (filter_from (λ (y : Growth). reads (owner_at j).problem (owner_at j).cut x.to y.region)
+      (owner_at j).log g in_part).0
 
-  pub in_step_low : (i : ℕ) (o : Owner) (g : Growth) → i < c.owners → slice_get owners i ≡ Some o → Contains o.log g → g.rank < 2 ^ 61
+  pub in_step_low : (i : ℕ) (o : Owner) (g : Growth) → i < c.owners → slice_get owners i ≡ Some o → Contains o.log g
+      → g.rank < 2 ^ 61
   in_step_low i o g l here h =
       let same : owner_at i ≡ o = some_is (owner_at i) o (sym (at i l) ∙ here) in
-      ranks_low c.owners owner_at (s.cut.cut.owner_limit) (λ k lk. (is k lk).sound) (λ k lk. ap (λ (d : Cut). d.owners) (is k lk).cut) (λ k lk. (is k lk).me) heard i g l (subst (λ (p : Owner). Contains p.log g) (sym same) h)
+      ranks_low c.owners owner_at (s.cut.cut.owner_limit) (λ k lk. (is k lk).sound)
+      (λ k lk. ap (λ (d : Cut). d.owners) (is k lk).cut) (λ k lk. (is k lk).me) heard i g l
+      (subst (λ (p : Owner). Contains p.log g) (sym same) h)
     where
       some_is : (x y : Owner) → Some x ≡ Some y → x ≡ y
       some_is x y e = cc

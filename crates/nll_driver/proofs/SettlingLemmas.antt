@@ -20,7 +20,8 @@ module _ {C P : Type 0} (says : C → P → Type 0) (all : List C) where
     only = λ p h. absurd (no_element posts p none h);
   }
 
-  pub settling_more : (channels rest : List C) (posts : List P) (x : C) (p : P) → channels ≡ rest ++ x ∷ [] → says x p → Settling says all channels posts → Settling says all rest (posts ++ p ∷ [])
+  pub settling_more : (channels rest : List C) (posts : List P) (x : C) (p : P) → channels ≡ rest ++ x ∷ [] → says x p
+      → Settling says all channels posts → Settling says all rest (posts ++ p ∷ [])
   settling_more channels rest posts x p is told s = record {
     before = λ y h. s.before y (subst (λ ys. Contains ys y) (sym is) (Contains-append_left rest (x ∷ []) y h));
     each = λ y h. ⊎_elim
@@ -32,11 +33,16 @@ module _ {C P : Type 0} (says : C → P → Type 0) (all : List C) where
         (s.each y h);
     only = λ q h. ⊎_elim
         (λ (old : Contains posts q). s.only q old)
-        (λ (same : p ≡ q). (x, s.before x (subst (λ ys. Contains ys x) (sym is) (Contains-push rest x)), subst (says x) same told))
+        (λ (same : p ≡ q). (
+          x,
+          s.before x (subst (λ ys. Contains ys x) (sym is) (Contains-push rest x)),
+          subst (says x) same told,
+        ))
         (Contains-push_cases posts p q h);
   }
 
-  pub settled_all : (channels : List C) (posts : List P) → length channels ≡ 0 → Settling says all channels posts → SayOfAll says all posts
+  pub settled_all : (channels : List C) (posts : List P) → length channels ≡ 0 → Settling says all channels posts
+      → SayOfAll says all posts
   settled_all channels posts none s = record {
     each = λ x h. ⊎_elim
         (λ (left : Contains channels x). absurd (no_element channels x none left))

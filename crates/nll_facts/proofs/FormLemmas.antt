@@ -17,35 +17,43 @@ use Rattle.nll_problem.specs.declared.at.At.TheVariants.{All, Point}
 -- ---- what stands behind the first word of a line
 
 module _ (line rest : List ℕ) where
-  pub behind_base : (f : Form) → BeginsWith line (word (codes "base")) rest → Spells line (parts f) → (b : Name × ℕ) × Spells rest (region_number b)
+  pub behind_base : (f : Form) → BeginsWith line (word (codes "base")) rest → Spells line (parts f)
+      → (b : Name × ℕ) × Spells rest (region_number b)
   behind_base (base x p) begins h = ((x, p), (spells_rest line rest _ _ _ begins h).1)
   behind_base f begins h = absurd (other_word _ _ refl (spells_rest line rest _ _ _ begins h).0)
 
-  pub behind_next : (f : Form) → BeginsWith line (word (codes "next")) rest → Spells line (parts f) → (b : ℕ × ℕ) × Spells rest (two_numbers b)
+  pub behind_next : (f : Form) → BeginsWith line (word (codes "next")) rest → Spells line (parts f)
+      → (b : ℕ × ℕ) × Spells rest (two_numbers b)
   behind_next (next p q) begins h = ((p, q), (spells_rest line rest _ _ _ begins h).1)
   behind_next f begins h = absurd (other_word _ _ refl (spells_rest line rest _ _ _ begins h).0)
 
-  pub behind_constraint : (f : Form) → BeginsWith line (word (codes "constraint")) rest → Spells line (parts f) → (b : Name × Name × At) × Spells rest (two_regions_place b)
+  pub behind_constraint : (f : Form) → BeginsWith line (word (codes "constraint")) rest → Spells line (parts f)
+      → (b : Name × Name × At) × Spells rest (two_regions_place b)
   behind_constraint (constraint x y p) begins h = ((x, y, p), (spells_rest line rest _ _ _ begins h).1)
   behind_constraint f begins h = absurd (other_word _ _ refl (spells_rest line rest _ _ _ begins h).0)
 
-  pub behind_return : (f : Form) → BeginsWith line (word (codes "return")) rest → Spells line (parts f) → (b : ℕ) × Spells rest (one_number b)
+  pub behind_return : (f : Form) → BeginsWith line (word (codes "return")) rest → Spells line (parts f)
+      → (b : ℕ) × Spells rest (one_number b)
   behind_return (return p) begins h = (p, (spells_rest line rest _ _ _ begins h).1)
   behind_return f begins h = absurd (other_word _ _ refl (spells_rest line rest _ _ _ begins h).0)
 
-  pub behind_region : (f : Form) → BeginsWith line (word (codes "region")) rest → Spells line (parts f) → (b : Name) × Spells rest (one_region b)
+  pub behind_region : (f : Form) → BeginsWith line (word (codes "region")) rest → Spells line (parts f)
+      → (b : Name) × Spells rest (one_region b)
   behind_region (further x) begins h = (x, (spells_rest line rest _ _ _ begins h).1)
   behind_region f begins h = absurd (other_word _ _ refl (spells_rest line rest _ _ _ begins h).0)
 
-  pub behind_outlives : (f : Form) → BeginsWith line (word (codes "outlives")) rest → Spells line (parts f) → (b : Name × Name) × Spells rest (two_regions b)
+  pub behind_outlives : (f : Form) → BeginsWith line (word (codes "outlives")) rest → Spells line (parts f)
+      → (b : Name × Name) × Spells rest (two_regions b)
   behind_outlives (outlives x y) begins h = ((x, y), (spells_rest line rest _ _ _ begins h).1)
   behind_outlives f begins h = absurd (other_word _ _ refl (spells_rest line rest _ _ _ begins h).0)
 
-  pub behind_universal : (f : Form) → BeginsWith line (word (codes "universal")) rest → Spells line (parts f) → (b : Name) × Spells rest (one_region b)
+  pub behind_universal : (f : Form) → BeginsWith line (word (codes "universal")) rest → Spells line (parts f)
+      → (b : Name) × Spells rest (one_region b)
   behind_universal (universal x) begins h = (x, (spells_rest line rest _ _ _ begins h).1)
   behind_universal f begins h = absurd (other_word _ _ refl (spells_rest line rest _ _ _ begins h).0)
 
-  pub behind_points : (f : Form) → BeginsWith line (word (codes "points")) rest → Spells line (parts f) → (b : ℕ) × Spells rest (one_number b)
+  pub behind_points : (f : Form) → BeginsWith line (word (codes "points")) rest → Spells line (parts f)
+      → (b : ℕ) × Spells rest (one_number b)
   behind_points (points n) begins h = (n, (spells_rest line rest _ _ _ begins h).1)
   behind_points f begins h = absurd (other_word _ _ refl (spells_rest line rest _ _ _ begins h).0)
 
@@ -116,11 +124,13 @@ texts_in line f h = texts_of line (parts f) h.made
 -- ---- where a constraint holds
 
 -- behind the word for all points stands nothing
-pub behind_all : (rest after : List ℕ) (place : At) → BeginsWith rest (word (codes "all")) after → ((p : ℕ) → Spells rest (one_number p) → ⊥) → Spells rest (one_place place) → Spells after []
+pub behind_all : (rest after : List ℕ) (place : At) → BeginsWith rest (word (codes "all")) after
+    → ((p : ℕ) → Spells rest (one_number p) → ⊥) → Spells rest (one_place place) → Spells after []
 behind_all rest after All begins none h = (spells_rest rest after _ _ _ begins h).1
 behind_all rest after (Point p) begins none h = absurd (none p h)
 
 -- where neither a number nor that word stands, no constraint holds
-pub no_place : (rest : List ℕ) (place : At) → BeginsNotWith rest (word (codes "all")) → ((p : ℕ) → Spells rest (one_number p) → ⊥) → Spells rest (one_place place) → ⊥
+pub no_place : (rest : List ℕ) (place : At) → BeginsNotWith rest (word (codes "all"))
+    → ((p : ℕ) → Spells rest (one_number p) → ⊥) → Spells rest (one_place place) → ⊥
 no_place rest All other none h = none_first rest _ _ other h
 no_place rest (Point p) other none h = none p h

@@ -47,7 +47,8 @@ number_apart : (p : ℕ) → p < 10 ^ 9 → bytes_eq (decimal p) (codes "all") �
 number_apart p small = ⊎_elim
     (λ (same : bytes_eq (decimal p) (codes "all") ≡ true).
     let e : decimal p ≡ codes "all" = (bytes_eq-Decides (decimal p) (codes "all")).0 same in
-    let digits : AllDigits 10 (codes "all") = subst (AllDigits 10) e (decimal_is_IsNumeral p (omega (arith, small))).0.1 in
+    let digits : AllDigits 10 (codes "all") =
+    subst (AllDigits 10) e (decimal_is_IsNumeral p (omega (arith, small))).0.1 in
     absurd (no_digits (codes "all") 0 (omega arith) refl digits))
     (λ other. other)
     (cases_Bool (bytes_eq (decimal p) (codes "all")))
@@ -62,7 +63,8 @@ unspelled (word w ∷ ts) =
     (cond (bytes_eq w (codes "next")) (next (number_in ts) (number_in (behind ts)))
     (cond (bytes_eq w (codes "return")) (return (number_in ts))
     (cond (bytes_eq w (codes "base")) (base (name_in ts) (number_in (behind ts)))
-    (cond (bytes_eq w (codes "constraint")) (constraint (name_in ts) (name_in (behind ts)) (place_in (behind (behind ts))))
+    (cond (bytes_eq w (codes "constraint"))
+    (constraint (name_in ts) (name_in (behind ts)) (place_in (behind (behind ts))))
     end)))))))
 unspelled _ = end
 
@@ -72,7 +74,8 @@ unspelled_spelled (points n) small = ap points (printed n small.1.0)
 unspelled_spelled (universal a) small = refl
 unspelled_spelled (outlives a b) small = refl
 unspelled_spelled (further x) small = refl
-unspelled_spelled (next p q) small = ap (λ (n : ℕ). next n (digits_value 10 (decimal q))) (printed p small.1.0) ∙ ap (λ (n : ℕ). next p n) (printed q small.1.1.0)
+unspelled_spelled (next p q) small = ap (λ (n : ℕ). next n (digits_value 10 (decimal q))) (printed p small.1.0)
+    ∙ ap (λ (n : ℕ). next p n) (printed q small.1.1.0)
 unspelled_spelled (return p) small = ap return (printed p small.1.0)
 unspelled_spelled (base x p) small = ap (λ (n : ℕ). base x n) (printed p small.1.1.0)
 unspelled_spelled (constraint a b All) small = refl

@@ -23,12 +23,16 @@ use Rattle.nll_format.specs.declared.error.TextKind.TheVariants.{Syntax, Unknown
 
 -- ---- the same is said
 
-edges_test : (s t : Problem) → SameSet s.graph.edges t.graph.edges → (p q : ℕ) → list_any (same_pair (p, q)) s.graph.edges ≡ list_any (same_pair (p, q)) t.graph.edges
+edges_test : (s t : Problem) → SameSet s.graph.edges t.graph.edges → (p q : ℕ)
+    → list_any (same_pair (p, q)) s.graph.edges ≡ list_any (same_pair (p, q)) t.graph.edges
 edges_test s t same p q = same_from_decides _ _
-    (pair_found s.graph.edges p q)
-    (λ h. (same (p, q)).1 ((pair_found t.graph.edges p q).0 h), λ h. (pair_found t.graph.edges p q).1 ((same (p, q)).0 h))
+    (pair_found s.graph.edges p q) (
+      λ h. (same (p, q)).1 ((pair_found t.graph.edges p q).0 h),
+      λ h. (pair_found t.graph.edges p q).1 ((same (p, q)).0 h),
+    )
 
-constraints_test : (s t : Problem) → SameSet s.constraints t.constraints → (c : Constraint) → list_any (same_constraint c) s.constraints ≡ list_any (same_constraint c) t.constraints
+constraints_test : (s t : Problem) → SameSet s.constraints t.constraints → (c : Constraint)
+    → list_any (same_constraint c) s.constraints ≡ list_any (same_constraint c) t.constraints
 constraints_test s t same c = same_from_decides _ _
     (constraint_found s.constraints c)
     (λ h. (same c).1 ((constraint_found t.constraints c).0 h), λ h. (constraint_found t.constraints c).1 ((same c).0 h))
@@ -39,35 +43,49 @@ same_fault s t h (points n) = rw h.reached refl
 same_fault s t h (universal a) = rw (h.reached, h.names, h.problem.universals) refl
 same_fault s t h (outlives a b) = rw (h.reached, h.names, h.problem.universals) refl
 same_fault s t h (further x) = rw (h.reached, h.names) refl
-same_fault s t h (next p q) = rw (h.reached, h.problem.points, edges_test s.problem t.problem h.problem.edges p q, h.edge_count) refl
+same_fault s t h (next p q) =
+    rw (h.reached, h.problem.points, edges_test s.problem t.problem h.problem.edges p q, h.edge_count) refl
 same_fault s t h (return p) = rw (h.reached, h.problem.points) refl
 same_fault s t h (base x p) = rw (h.reached, h.names, h.problem.points) refl
-same_fault s t h (constraint a b p) = rw (h.reached, h.names, h.problem.points, constraints_test s.problem t.problem h.problem.constraints (record { sup = number_of t.names a; sub = number_of t.names b; at = p }), h.constraint_count) refl
+same_fault s t h (constraint a b p) =
+    rw (
+      h.reached,
+      h.names,
+      h.problem.points,
+      constraints_test s.problem t.problem h.problem.constraints
+          (record { sup = number_of t.names a; sub = number_of t.names b; at = p }),
+      h.constraint_count,
+    ) refl
 same_fault s t h end = rw h.reached refl
 
 -- ---- one more fact
 
 -- where old lists are the same, so are the lists that got the same fact
-same_added : {X : Type 0} (xs ys : List X) (x : X) (ys' : List X) → SameSet xs ys → AddsFact ys ys' x → SameSet (xs ++ x ∷ []) ys'
+same_added : {X : Type 0} (xs ys : List X) (x : X) (ys' : List X) → SameSet xs ys → AddsFact ys ys' x
+    → SameSet (xs ++ x ∷ []) ys'
 same_added xs ys x ys' same adds z = (
   λ h. (adds.each z).1 (⊎_elim (λ old. inl ((same z).0 old)) inr (Contains-push_cases xs x z h)),
-  λ h. ⊎_elim (λ old. Contains-append_left xs (x ∷ []) z ((same z).1 old)) (λ is. subst (Contains (xs ++ x ∷ [])) is (Contains-push xs x)) ((adds.each z).0 h),
+  λ h. ⊎_elim (λ old. Contains-append_left xs (x ∷ []) z ((same z).1 old))
+      (λ is. subst (Contains (xs ++ x ∷ [])) is (Contains-push xs x)) ((adds.each z).0 h),
 )
 
-same_grown : {X : Type 0} (xs ys : List X) (x : X) (xs' ys' : List X) → SameSet xs ys → AddsFact xs xs' x → AddsFact ys ys' x → SameSet xs' ys'
+same_grown : {X : Type 0} (xs ys : List X) (x : X) (xs' ys' : List X) → SameSet xs ys → AddsFact xs xs' x
+    → AddsFact ys ys' x → SameSet xs' ys'
 same_grown xs ys x xs' ys' same adds adds' z = (
   λ h. (adds'.each z).1 (⊎_elim (λ old. inl ((same z).0 old)) inr ((adds.each z).0 h)),
   λ h. (adds.each z).1 (⊎_elim (λ old. inl ((same z).1 old)) inr ((adds'.each z).0 h)),
 )
 
-length_grown : {X : Type 0} (xs ys : List X) (x : X) (xs' ys' : List X) → SameSet xs ys → length xs ≡ length ys → AddsFact xs xs' x → AddsFact ys ys' x → Contains xs x ⊎ (Contains xs x → ⊥) → length xs' ≡ length ys'
+length_grown : {X : Type 0} (xs ys : List X) (x : X) (xs' ys' : List X) → SameSet xs ys → length xs ≡ length ys
+    → AddsFact xs xs' x → AddsFact ys ys' x → Contains xs x ⊎ (Contains xs x → ⊥) → length xs' ≡ length ys'
 length_grown xs ys x xs' ys' same count adds adds' known = ⊎_elim
     (λ there. ap length (adds.repeated there) ∙ (count ∙ sym (ap length (adds'.repeated ((same x).0 there)))))
     (λ absent. adds.counted absent ∙ (ap (λ n. n + 1) count ∙ sym (adds'.counted (λ h. absent ((same x).1 h)))))
     known
 
 -- one more element is inserted last
-insert_all_push : {X : Type 0} (e : X → X → Bool) (ks xs : List X) (x : X) → insert_all e ks (xs ++ x ∷ []) ≡ insert_key e (insert_all e ks xs) x
+insert_all_push : {X : Type 0} (e : X → X → Bool) (ks xs : List X) (x : X)
+    → insert_all e ks (xs ++ x ∷ []) ≡ insert_key e (insert_all e ks xs) x
 insert_all_push e ks [] x = refl
 insert_all_push e ks (y ∷ xs) x = insert_all_push e (insert_key e ks y) xs x
 
@@ -86,14 +104,17 @@ constraint_known ks c = ⊎_elim
 -- ---- one more line
 
 -- a line that adds nothing
-kept_by : {X : Type 0} (g : Form → Option X) (forms : List Form) (f : Form) → g f ≡ None → filter_map g (forms ++ f ∷ []) ≡ filter_map g forms
-kept_by g forms f none = filter_map-append g forms (f ∷ []) ∙ (ap (λ xs. filter_map g forms ++ xs) (alone none) ∙ append-nil (filter_map g forms))
+kept_by : {X : Type 0} (g : Form → Option X) (forms : List Form) (f : Form) → g f ≡ None
+    → filter_map g (forms ++ f ∷ []) ≡ filter_map g forms
+kept_by g forms f none = filter_map-append g forms (f ∷ [])
+    ∙ (ap (λ xs. filter_map g forms ++ xs) (alone none) ∙ append-nil (filter_map g forms))
   where
     alone : g f ≡ None → filter_map g (f ∷ []) ≡ []
     alone h = rw h refl
 
 -- a line that adds one
-added_by : {X : Type 0} (g : Form → Option X) (forms : List Form) (f : Form) (x : X) → g f ≡ Some x → filter_map g (forms ++ f ∷ []) ≡ filter_map g forms ++ x ∷ []
+added_by : {X : Type 0} (g : Form → Option X) (forms : List Form) (f : Form) (x : X) → g f ≡ Some x
+    → filter_map g (forms ++ f ∷ []) ≡ filter_map g forms ++ x ∷ []
 added_by g forms f x some = filter_map-append g forms (f ∷ []) ∙ ap (λ xs. filter_map g forms ++ xs) (alone some)
   where
     alone : g f ≡ Some x → filter_map g (f ∷ []) ≡ x ∷ []
@@ -104,7 +125,8 @@ reached_push [] f = omega arith
 reached_push (x ∷ forms) f = omega (arith, reached_push forms f)
 
 -- nothing is said by lines of later groups
-none_before : {X : Type 0} (g : Form → Option X) (n : ℕ) → ((f : Form) → group f ≤ n → g f ≡ None) → (forms : List Form) → reached forms ≤ n → filter_map g forms ≡ []
+none_before : {X : Type 0} (g : Form → Option X) (n : ℕ) → ((f : Form) → group f ≤ n → g f ≡ None) → (forms : List Form)
+    → reached forms ≤ n → filter_map g forms ≡ []
 none_before g n early [] h = refl
 none_before g n early (f ∷ forms) h = rw (early f (omega arith)) (none_before g n early forms (omega arith))
 
@@ -182,12 +204,15 @@ first_points r e = grind (arith, nat_tests)
 -- ---- what is said by the universal regions alone
 
 universals_alone : (forms : List Form) → reached forms ≤ 2 → names_said forms ≡ universals_said forms
-universals_alone forms h = ap (λ xs. universals_said forms ++ xs) (none_before further_in 3 further_early forms (omega arith)) ∙ append-nil (universals_said forms)
+universals_alone forms h =
+    ap (λ xs. universals_said forms ++ xs) (none_before further_in 3 further_early forms (omega arith))
+    ∙ append-nil (universals_said forms)
 
 abbrev points_said : List Form → ℕ
 points_said forms = first_or_zero (filter_map points_in forms)
 
-bare_said : (forms : List Form) → reached forms ≤ 2 → problem_said forms ≡ bare (points_said forms) (length (universals_said forms))
+bare_said : (forms : List Form) → reached forms ≤ 2
+    → problem_said forms ≡ bare (points_said forms) (length (universals_said forms))
 bare_said forms h =
     rw (
       none_before edge_in 4 edge_early forms (omega arith),
@@ -201,7 +226,8 @@ bare_said forms h =
     refl
 
 -- where the problem is the very one that is said
-exact : (forms : List Form) (t : Said) → t.reached ≡ reached forms → t.names ≡ names_said forms → t.problem ≡ problem_said forms → SameSaid (said forms) t
+exact : (forms : List Form) (t : Said) → t.reached ≡ reached forms → t.names ≡ names_said forms
+    → t.problem ≡ problem_said forms → SameSaid (said forms) t
 exact forms t r n q = record {
   reached = sym r;
   names = sym n;
@@ -211,16 +237,21 @@ exact forms t r n q = record {
 }
 
 -- the names stay where a line declares none
-names_kept : (forms : List Form) (f : Form) → universal_in f ≡ None → further_in f ≡ None → names_said (forms ++ f ∷ []) ≡ names_said forms
+names_kept : (forms : List Form) (f : Form) → universal_in f ≡ None → further_in f ≡ None
+    → names_said (forms ++ f ∷ []) ≡ names_said forms
 names_kept forms f u x = rw (kept_by universal_in forms f u, kept_by further_in forms f x) refl
 
 -- ---- one more line, by its form
 
-kept_set : {X : Type 0} (g : Form → Option X) (forms : List Form) (f : Form) (ys zs : List X) → g f ≡ None → SameSet (filter_map g forms) ys → zs ≡ ys → SameSet (filter_map g (forms ++ f ∷ [])) zs
-kept_set g forms f ys zs none same e = subst (λ xs. SameSet xs zs) (sym (kept_by g forms f none)) (subst (SameSet (filter_map g forms)) (sym e) same)
+kept_set : {X : Type 0} (g : Form → Option X) (forms : List Form) (f : Form) (ys zs : List X) → g f ≡ None
+    → SameSet (filter_map g forms) ys → zs ≡ ys → SameSet (filter_map g (forms ++ f ∷ [])) zs
+kept_set g forms f ys zs none same e =
+    subst (λ xs. SameSet xs zs) (sym (kept_by g forms f none)) (subst (SameSet (filter_map g forms)) (sym e) same)
 
-added_set : {X : Type 0} (g : Form → Option X) (forms : List Form) (f : Form) (x : X) (ys ys' : List X) → g f ≡ Some x → SameSet (filter_map g forms) ys → AddsFact ys ys' x → SameSet (filter_map g (forms ++ f ∷ [])) ys'
-added_set g forms f x ys ys' some same adds = subst (λ xs. SameSet xs ys') (sym (added_by g forms f x some)) (same_added (filter_map g forms) ys x ys' same adds)
+added_set : {X : Type 0} (g : Form → Option X) (forms : List Form) (f : Form) (x : X) (ys ys' : List X) → g f ≡ Some x
+    → SameSet (filter_map g forms) ys → AddsFact ys ys' x → SameSet (filter_map g (forms ++ f ∷ [])) ys'
+added_set g forms f x ys ys' some same adds =
+    subst (λ xs. SameSet xs ys') (sym (added_by g forms f x some)) (same_added (filter_map g forms) ys x ys' same adds)
 
 -- the edges and the constraints that are said
 abbrev edges_said : List Form → List (ℕ × ℕ)
@@ -230,18 +261,24 @@ abbrev constraints_said : List Name → List Form → List Constraint
 constraints_said names forms = insert_all same_constraint [] (filter_map (constraint_in names) forms)
 
 -- what holds of the facts of lines that declare no name holds of what is said
-same_after : (forms : List Form) (f : Form) (s t : Said) → SameSaid (said forms) s → universal_in f ≡ None → further_in f ≡ None → points_in f ≡ None
+same_after : (forms : List Form) (f : Form) (s t : Said) → SameSaid (said forms) s → universal_in f ≡ None
+    → further_in f ≡ None → points_in f ≡ None
     → t.reached ≡ reached (forms ++ f ∷ []) → t.names ≡ s.names
-    → t.problem.graph.points ≡ s.problem.graph.points → t.problem.graph.universals ≡ s.problem.graph.universals → t.problem.regions ≡ s.problem.regions
-    → SameSet (edges_said (forms ++ f ∷ [])) t.problem.graph.edges → length (edges_said (forms ++ f ∷ [])) ≡ length t.problem.graph.edges
+    → t.problem.graph.points ≡ s.problem.graph.points → t.problem.graph.universals ≡ s.problem.graph.universals
+    → t.problem.regions ≡ s.problem.regions
+    → SameSet (edges_said (forms ++ f ∷ [])) t.problem.graph.edges
+    → length (edges_said (forms ++ f ∷ [])) ≡ length t.problem.graph.edges
     → SameSet (filter_map return_in (forms ++ f ∷ [])) t.problem.graph.returns
     → SameSet (filter_map (base_in (names_said forms)) (forms ++ f ∷ [])) t.problem.bases
-    → SameSet (constraints_said (names_said forms) (forms ++ f ∷ [])) t.problem.constraints → length (constraints_said (names_said forms) (forms ++ f ∷ [])) ≡ length t.problem.constraints
+    → SameSet (constraints_said (names_said forms) (forms ++ f ∷ [])) t.problem.constraints
+    → length (constraints_said (names_said forms) (forms ++ f ∷ [])) ≡ length t.problem.constraints
     → SameSet (filter_map (outlives_in (universals_said forms)) (forms ++ f ∷ [])) t.problem.outlives
     → SameSaid (said (forms ++ f ∷ [])) t
-same_after forms f s t h u x p reach names count universals regions edges edge_count returns bases constraints constraint_count longer =
+same_after forms f s t h u x p reach names count universals regions edges edge_count returns bases constraints
+    constraint_count longer =
     let named : names_said (forms ++ f ∷ []) ≡ names_said forms = names_kept forms f u x in
-    let all : universals_said (forms ++ f ∷ []) ≡ universals_said forms = ap (λ xs. codes "static" ∷ xs) (kept_by universal_in forms f u) in
+    let all : universals_said (forms ++ f ∷ []) ≡ universals_said forms =
+    ap (λ xs. codes "static" ∷ xs) (kept_by universal_in forms f u) in
     record {
       reached = sym reach;
       names = named ∙ (h.names ∙ sym names);
@@ -252,53 +289,67 @@ same_after forms f s t h u x p reach names count universals regions edges edge_c
         edges = edges;
         returns = returns;
         bases = subst (λ ns. SameSet (filter_map (base_in ns) (forms ++ f ∷ [])) t.problem.bases) (sym named) bases;
-        constraints = subst (λ ns. SameSet (constraints_said ns (forms ++ f ∷ [])) t.problem.constraints) (sym named) constraints;
-        outlives = subst (λ us. SameSet (filter_map (outlives_in us) (forms ++ f ∷ [])) t.problem.outlives) (sym all) longer;
+        constraints =
+            subst (λ ns. SameSet (constraints_said ns (forms ++ f ∷ [])) t.problem.constraints) (sym named) constraints;
+        outlives =
+            subst (λ us. SameSet (filter_map (outlives_in us) (forms ++ f ∷ [])) t.problem.outlives) (sym all) longer;
       };
       edge_count = edge_count;
-      constraint_count = subst (λ ns. length (constraints_said ns (forms ++ f ∷ [])) ≡ length t.problem.constraints) (sym named) constraint_count;
+      constraint_count =
+          subst (λ ns. length (constraints_said ns (forms ++ f ∷ [])) ≡ length t.problem.constraints)
+          (sym named) constraint_count;
     }
 
 -- the edges and constraints stay where a line has none
 kept_edges : (forms : List Form) (f : Form) → edge_in f ≡ None → edges_said (forms ++ f ∷ []) ≡ edges_said forms
 kept_edges forms f none = ap (insert_all same_pair []) (kept_by edge_in forms f none)
 
-kept_constraints : (names : List Name) (forms : List Form) (f : Form) → constraint_in names f ≡ None → constraints_said names (forms ++ f ∷ []) ≡ constraints_said names forms
+kept_constraints : (names : List Name) (forms : List Form) (f : Form) → constraint_in names f ≡ None
+    → constraints_said names (forms ++ f ∷ []) ≡ constraints_said names forms
 kept_constraints names forms f none = ap (insert_all same_constraint []) (kept_by (constraint_in names) forms f none)
 
 both : {A : Type 0} (xs ys xs' ys' : List A) → xs' ≡ xs → ys' ≡ ys → SameSet xs ys → SameSet xs' ys'
 both xs ys xs' ys' e k same = subst (λ zs. SameSet zs ys') (sym e) (subst (SameSet xs) (sym k) same)
 
 -- a name's number among the universal regions, which stand in front
-front_step : (b : Bool) (n m l : ℕ) → (n < l → n ≡ m) → cond (not b) (1 + n) 0 < suc l → cond (not b) (1 + n) 0 ≡ cond (not b) (1 + m) 0
+front_step : (b : Bool) (n m l : ℕ) → (n < l → n ≡ m) → cond (not b) (1 + n) 0 < suc l
+    → cond (not b) (1 + n) 0 ≡ cond (not b) (1 + m) 0
 front_step true n m l later h = refl
 front_step false n m l later h = ap (λ k. 1 + k) (later (omega arith))
 
-number_front : (us fs : List Name) (a : Name) → number_of (us ++ fs) a < length us → number_of (us ++ fs) a ≡ number_of us a
+number_front : (us fs : List Name) (a : Name) → number_of (us ++ fs) a < length us
+    → number_of (us ++ fs) a ≡ number_of us a
 number_front [] fs a h = absurd (omega arith)
-number_front (u ∷ us) fs a h = front_step (bytes_eq a u) (number_of (us ++ fs) a) (number_of us a) (length us) (number_front us fs a) h
+number_front (u ∷ us) fs a h =
+    front_step (bytes_eq a u) (number_of (us ++ fs) a) (number_of us a) (length us) (number_front us fs a) h
 
 -- the regions of an outlives fact that has no fault are universal
-both_universal : (b u v : Bool) (o : Option TextKind) → cond (not b) (Some Syntax) (cond (not (u && v)) (Some Unknown) o) ≡ None → (u ≡ true) × (v ≡ true)
+both_universal : (b u v : Bool) (o : Option TextKind)
+    → cond (not b) (Some Syntax) (cond (not (u && v)) (Some Unknown) o) ≡ None → (u ≡ true) × (v ≡ true)
 both_universal false u v o e = absurd cc
 both_universal true true true o e = (refl, refl)
 both_universal true true false o e = absurd cc
 both_universal true false v o e = absurd cc
 
 -- One more line without a fault is said.
-pub adds_said : (forms : List Form) (s t : Said) (f : Form) → SameSaid (said forms) s → first_fault s f ≡ None → Adds s f t → SameSaid (said (forms ++ f ∷ [])) t
+pub adds_said : (forms : List Form) (s t : Said) (f : Form) → SameSaid (said forms) s → first_fault s f ≡ None
+    → Adds s f t → SameSaid (said (forms ++ f ∷ [])) t
 adds_said forms s t (points n) h fine a =
     let none : forms ≡ [] = none_yet forms (h.reached ∙ first_points s.reached (in_order s (points n) fine)) in
     let named : s.names ≡ codes "static" ∷ [] = sym h.names ∙ ap names_said none in
     subst (λ fs. SameSaid (said (fs ++ points n ∷ [])) t) (sym none)
-    (exact (points n ∷ []) t a.group (a.takes.0 ∙ named) (a.takes.1 ∙ ap (λ (ns : List Name). bare n (length ns)) named))
+    (exact (points n ∷ []) t a.group (a.takes.0 ∙ named)
+    (a.takes.1 ∙ ap (λ (ns : List Name). bare n (length ns)) named))
 adds_said forms s t (universal x) h fine a =
-    let before : reached forms ≤ 2 = omega (arith, ordered s.reached 2 true (in_order s (universal x) fine), h.reached) in
+    let before : reached forms ≤ 2 =
+    omega (arith, ordered s.reached 2 true (in_order s (universal x) fine), h.reached) in
     let late : reached (forms ++ universal x ∷ []) ≡ 2 = omega (arith, reached_push forms (universal x)) in
-    let one : universals_said (forms ++ universal x ∷ []) ≡ universals_said forms ++ x ∷ [] = ap (λ xs. codes "static" ∷ xs) (added_by universal_in forms (universal x) x refl) in
+    let one : universals_said (forms ++ universal x ∷ []) ≡ universals_said forms ++ x ∷ [] =
+    ap (λ xs. codes "static" ∷ xs) (added_by universal_in forms (universal x) x refl) in
     let named : s.names ≡ universals_said forms = sym h.names ∙ universals_alone forms before in
     exact (forms ++ universal x ∷ []) t (a.group ∙ sym late)
-    (a.takes.0 ∙ (ap (λ ns. ns ++ x ∷ []) named ∙ (sym one ∙ sym (universals_alone (forms ++ universal x ∷ []) (omega arith)))))
+    (a.takes.0 ∙ (ap (λ ns. ns ++ x ∷ []) named
+    ∙ (sym one ∙ sym (universals_alone (forms ++ universal x ∷ []) (omega arith)))))
     (a.takes.1 ∙ (same_bare _ _ _ _
     (sym h.problem.points ∙ sym (ap first_or_zero (kept_by points_in forms (universal x) refl)))
     (omega (arith, ap length named, ap length one, length-append (universals_said forms) (x ∷ [])))
@@ -307,116 +358,205 @@ adds_said forms s t (universal x) h fine a =
     same_bare : (p u q v : ℕ) → p ≡ q → u ≡ v → bare p u ≡ bare q v
     same_bare p u q v e k = cc
 adds_said forms s t (outlives x y) h fine a =
-    let before : reached forms ≤ 3 = omega (arith, ordered s.reached 3 true (in_order s (outlives x y) fine), h.reached) in
+    let before : reached forms ≤ 3 =
+    omega (arith, ordered s.reached 3 true (in_order s (outlives x y) fine), h.reached) in
     let regions = both_universal (is_in_order s (outlives x y)) (is_universal s x) (is_universal s y) None fine in
-    let number : (z : Name) → nat_lt (number_of s.names z) s.problem.graph.universals ≡ true → number_of s.names z ≡ number_of (universals_said forms) z = λ z is.
+    let number : (z : Name) → nat_lt (number_of s.names z) s.problem.graph.universals ≡ true
+    → number_of s.names z ≡ number_of (universals_said forms) z = λ z is.
     subst (λ ns. number_of ns z ≡ number_of (universals_said forms) z) h.names
     (number_front (universals_said forms) (filter_map further_in forms) z
-    (subst (λ ns. number_of ns z < length (universals_said forms)) (sym h.names) (subst (λ k. number_of s.names z < k) (sym h.problem.universals) (ltb-true _ _ is)))) in
-    let adds : AddsFact s.problem.outlives t.problem.outlives (number_of (universals_said forms) x, number_of (universals_said forms) y) =
-    subst (λ (k : ℕ). AddsFact s.problem.outlives t.problem.outlives (k, number_of (universals_said forms) y)) (number x regions.0)
-    (subst (λ (k : ℕ). AddsFact s.problem.outlives t.problem.outlives (number_of s.names x, k)) (number y regions.1) a.takes.2) in
+    (subst (λ ns. number_of ns z < length (universals_said forms)) (sym h.names)
+    (subst (λ k. number_of s.names z < k) (sym h.problem.universals) (ltb-true _ _ is)))) in
+    let adds : AddsFact s.problem.outlives t.problem.outlives
+    (number_of (universals_said forms) x, number_of (universals_said forms) y) =
+    subst (λ (k : ℕ). AddsFact s.problem.outlives t.problem.outlives (k, number_of (universals_said forms) y))
+    (number x regions.0)
+    (subst (λ (k : ℕ). AddsFact s.problem.outlives t.problem.outlives (number_of s.names x, k))
+    (number y regions.1) a.takes.2) in
     let q = a.takes.1 in
-    same_after forms (outlives x y) s t h refl refl refl (a.group ∙ omega (arith, reached_push forms (outlives x y))) a.takes.0
-    (ap (λ (p : Problem). p.graph.points) q) (ap (λ (p : Problem). p.graph.universals) q) (ap (λ (p : Problem). p.regions) q)
+    same_after forms (outlives x y) s t h refl refl refl
+    (a.group ∙ omega (arith, reached_push forms (outlives x y))) a.takes.0
+    (ap (λ (p : Problem). p.graph.points) q) (ap (λ (p : Problem). p.graph.universals) q)
+    (ap (λ (p : Problem). p.regions) q)
     (both _ _ _ _ (kept_edges forms (outlives x y) refl) (ap (λ (p : Problem). p.graph.edges) q) h.problem.edges)
-    (ap length (kept_edges forms (outlives x y) refl) ∙ (h.edge_count ∙ sym (ap (λ (p : Problem). length p.graph.edges) q)))
+    (ap length (kept_edges forms (outlives x y) refl)
+    ∙ (h.edge_count ∙ sym (ap (λ (p : Problem). length p.graph.edges) q)))
     (kept_set return_in forms (outlives x y) _ _ refl h.problem.returns (ap (λ (p : Problem). p.graph.returns) q))
-    (kept_set (base_in (names_said forms)) forms (outlives x y) _ _ refl h.problem.bases (ap (λ (p : Problem). p.bases) q))
-    (both _ _ _ _ (kept_constraints (names_said forms) forms (outlives x y) refl) (ap (λ (p : Problem). p.constraints) q) h.problem.constraints)
-    (ap length (kept_constraints (names_said forms) forms (outlives x y) refl) ∙ (h.constraint_count ∙ sym (ap (λ (p : Problem). length p.constraints) q)))
+    (kept_set (base_in (names_said forms)) forms (outlives x y) _ _ refl h.problem.bases
+    (ap (λ (p : Problem). p.bases) q))
+    (both _ _ _ _ (kept_constraints (names_said forms) forms (outlives x y) refl)
+    (ap (λ (p : Problem). p.constraints) q) h.problem.constraints)
+    (ap length (kept_constraints (names_said forms) forms (outlives x y) refl)
+    ∙ (h.constraint_count ∙ sym (ap (λ (p : Problem). length p.constraints) q)))
     (added_set (outlives_in (universals_said forms)) forms (outlives x y) _ _ _ refl h.problem.outlives adds)
 adds_said forms s t (further x) h fine a =
     let before : reached forms ≤ 4 = omega (arith, ordered s.reached 4 true (in_order s (further x) fine), h.reached) in
     let after : reached (forms ++ further x ∷ []) ≤ 4 = omega (arith, reached_push forms (further x)) in
-    let all : universals_said (forms ++ further x ∷ []) ≡ universals_said forms = ap (λ xs. codes "static" ∷ xs) (kept_by universal_in forms (further x) refl) in
+    let all : universals_said (forms ++ further x ∷ []) ≡ universals_said forms =
+    ap (λ xs. codes "static" ∷ xs) (kept_by universal_in forms (further x) refl) in
     let others = added_by further_in forms (further x) x refl in
-    let named : names_said (forms ++ further x ∷ []) ≡ names_said forms ++ x ∷ [] = ap (λ us. us ++ filter_map further_in (forms ++ further x ∷ [])) all ∙ (ap (λ xs. universals_said forms ++ xs) others ∙ sym (append_assoc (universals_said forms) (filter_map further_in forms) (x ∷ []))) in
+    let named : names_said (forms ++ further x ∷ []) ≡ names_said forms ++ x ∷ [] =
+    ap (λ us. us ++ filter_map further_in (forms ++ further x ∷ [])) all
+    ∙ (ap (λ xs. universals_said forms ++ xs) others
+    ∙ sym (append_assoc (universals_said forms) (filter_map further_in forms) (x ∷ []))) in
     let names : List Name = names_said (forms ++ further x ∷ []) in
-    let no_bases : (ns : List Name) → filter_map (base_in ns) forms ≡ [] = λ ns. none_before (base_in ns) 4 (base_early ns) forms before in
-    let no_bases_after : filter_map (base_in names) (forms ++ further x ∷ []) ≡ [] = none_before (base_in names) 4 (base_early names) (forms ++ further x ∷ []) after in
-    let no_constraints : (ns : List Name) → filter_map (constraint_in ns) forms ≡ [] = λ ns. none_before (constraint_in ns) 4 (constraint_early ns) forms before in
-    let no_constraints_after : filter_map (constraint_in names) (forms ++ further x ∷ []) ≡ [] = none_before (constraint_in names) 4 (constraint_early names) (forms ++ further x ∷ []) after in
+    let no_bases : (ns : List Name) → filter_map (base_in ns) forms ≡ [] =
+    λ ns. none_before (base_in ns) 4 (base_early ns) forms before in
+    let no_bases_after : filter_map (base_in names) (forms ++ further x ∷ []) ≡ [] =
+    none_before (base_in names) 4 (base_early names) (forms ++ further x ∷ []) after in
+    let no_constraints : (ns : List Name)
+    → filter_map (constraint_in ns) forms ≡ [] =
+    λ ns. none_before (constraint_in ns) 4 (constraint_early ns) forms before in
+    let no_constraints_after : filter_map (constraint_in names) (forms ++ further x ∷ []) ≡ [] =
+    none_before (constraint_in names) 4 (constraint_early names) (forms ++ further x ∷ []) after in
     let q = a.takes.1 in
     record {
       reached = omega (arith, a.group, reached_push forms (further x));
       names = named ∙ (ap (λ ns. ns ++ x ∷ []) h.names ∙ sym a.takes.0);
       problem = record {
-        points = ap first_or_zero (kept_by points_in forms (further x) refl) ∙ (h.problem.points ∙ sym (ap (λ (z : Problem). z.graph.points) q));
+        points = ap first_or_zero (kept_by points_in forms (further x) refl)
+            ∙ (h.problem.points ∙ sym (ap (λ (z : Problem). z.graph.points) q));
         universals = ap length all ∙ (h.problem.universals ∙ sym (ap (λ (z : Problem). z.graph.universals) q));
-        regions = omega (arith, ap length named, length-append (names_said forms) (x ∷ []), h.problem.regions, ap (λ (z : Problem). z.regions) q);
-        edges = both _ _ _ _ (kept_edges forms (further x) refl) (ap (λ (z : Problem). z.graph.edges) q) h.problem.edges;
-        returns = kept_set return_in forms (further x) _ _ refl h.problem.returns (ap (λ (z : Problem). z.graph.returns) q);
-        bases = both _ _ _ _ (no_bases_after ∙ sym (no_bases (names_said forms))) (ap (λ (z : Problem). z.bases) q) h.problem.bases;
-        constraints = both _ _ _ _ (ap (insert_all same_constraint []) (no_constraints_after ∙ sym (no_constraints (names_said forms)))) (ap (λ (z : Problem). z.constraints) q) h.problem.constraints;
-        outlives = subst (λ us. SameSet (filter_map (outlives_in us) (forms ++ further x ∷ [])) t.problem.outlives) (sym all) (kept_set (outlives_in (universals_said forms)) forms (further x) _ _ refl h.problem.outlives (ap (λ (z : Problem). z.outlives) q));
+        regions =
+            omega (
+              arith,
+              ap length named,
+              length-append (names_said forms) (x ∷ []),
+              h.problem.regions,
+              ap (λ (z : Problem). z.regions) q,
+            );
+        edges = both _ _ _ _ (kept_edges forms (further x) refl)
+            (ap (λ (z : Problem). z.graph.edges) q) h.problem.edges;
+        returns =
+            kept_set return_in forms (further x) _ _ refl h.problem.returns (ap (λ (z : Problem). z.graph.returns) q);
+        bases = both _ _ _ _ (no_bases_after ∙ sym (no_bases (names_said forms)))
+            (ap (λ (z : Problem). z.bases) q) h.problem.bases;
+        constraints =
+            both _ _ _ _ (ap (insert_all same_constraint [])
+            (no_constraints_after ∙ sym (no_constraints (names_said forms))))
+            (ap (λ (z : Problem). z.constraints) q) h.problem.constraints;
+        outlives =
+            subst (λ us. SameSet (filter_map (outlives_in us) (forms ++ further x ∷ [])) t.problem.outlives) (sym all)
+            (kept_set (outlives_in (universals_said forms)) forms (further x) _ _ refl h.problem.outlives
+            (ap (λ (z : Problem). z.outlives) q));
       };
-      edge_count = ap length (kept_edges forms (further x) refl) ∙ (h.edge_count ∙ sym (ap (λ (z : Problem). length z.graph.edges) q));
-      constraint_count = ap length (ap (insert_all same_constraint []) (no_constraints_after ∙ sym (no_constraints (names_said forms)))) ∙ (h.constraint_count ∙ sym (ap (λ (z : Problem). length z.constraints) q));
+      edge_count = ap length (kept_edges forms (further x) refl)
+          ∙ (h.edge_count ∙ sym (ap (λ (z : Problem). length z.graph.edges) q));
+      constraint_count =
+          ap length (ap (insert_all same_constraint [])
+          (no_constraints_after ∙ sym (no_constraints (names_said forms))))
+          ∙ (h.constraint_count ∙ sym (ap (λ (z : Problem). length z.constraints) q));
     }
 adds_said forms s t (next p q) h fine a =
     let before : reached forms ≤ 5 = omega (arith, ordered s.reached 5 true (in_order s (next p q) fine), h.reached) in
-    let more : edges_said (forms ++ next p q ∷ []) ≡ insert_key same_pair (edges_said forms) (p, q) = ap (insert_all same_pair []) (added_by edge_in forms (next p q) (p, q) refl) ∙ insert_all_push same_pair [] (filter_map edge_in forms) (p, q) in
+    let more : edges_said (forms ++ next p q ∷ []) ≡ insert_key same_pair (edges_said forms) (p, q) =
+    ap (insert_all same_pair []) (added_by edge_in forms (next p q) (p, q) refl)
+    ∙ insert_all_push same_pair [] (filter_map edge_in forms) (p, q) in
     same_after forms (next p q) s t h refl refl refl (a.group ∙ omega (arith, reached_push forms (next p q))) a.takes.0
-    (ap (λ (z : Problem). z.graph.points) a.takes.1) (ap (λ (z : Problem). z.graph.universals) a.takes.1) (ap (λ (z : Problem). z.regions) a.takes.1)
-    (subst (λ xs. SameSet xs t.problem.graph.edges) (sym more) (same_grown _ _ (p, q) _ _ h.problem.edges (adds_pair (edges_said forms) (p, q)) a.takes.2))
-    (ap length more ∙ length_grown _ _ (p, q) _ _ h.problem.edges h.edge_count (adds_pair (edges_said forms) (p, q)) a.takes.2 (pair_known (edges_said forms) (p, q)))
+    (ap (λ (z : Problem). z.graph.points) a.takes.1) (ap (λ (z : Problem). z.graph.universals) a.takes.1)
+    (ap (λ (z : Problem). z.regions) a.takes.1)
+    (subst (λ xs. SameSet xs t.problem.graph.edges) (sym more)
+    (same_grown _ _ (p, q) _ _ h.problem.edges (adds_pair (edges_said forms) (p, q)) a.takes.2))
+    (ap length more ∙ length_grown _ _ (p, q) _ _ h.problem.edges h.edge_count
+    (adds_pair (edges_said forms) (p, q)) a.takes.2 (pair_known (edges_said forms) (p, q)))
     (kept_set return_in forms (next p q) _ _ refl h.problem.returns (ap (λ (z : Problem). z.graph.returns) a.takes.1))
-    (kept_set (base_in (names_said forms)) forms (next p q) _ _ refl h.problem.bases (ap (λ (z : Problem). z.bases) a.takes.1))
-    (both _ _ _ _ (kept_constraints (names_said forms) forms (next p q) refl) (ap (λ (z : Problem). z.constraints) a.takes.1) h.problem.constraints)
-    (ap length (kept_constraints (names_said forms) forms (next p q) refl) ∙ (h.constraint_count ∙ sym (ap (λ (z : Problem). length z.constraints) a.takes.1)))
-    (kept_set (outlives_in (universals_said forms)) forms (next p q) _ _ refl h.problem.outlives (ap (λ (z : Problem). z.outlives) a.takes.1))
+    (kept_set (base_in (names_said forms)) forms (next p q) _ _ refl h.problem.bases
+    (ap (λ (z : Problem). z.bases) a.takes.1))
+    (both _ _ _ _ (kept_constraints (names_said forms) forms (next p q) refl)
+    (ap (λ (z : Problem). z.constraints) a.takes.1) h.problem.constraints)
+    (ap length (kept_constraints (names_said forms) forms (next p q) refl)
+    ∙ (h.constraint_count ∙ sym (ap (λ (z : Problem). length z.constraints) a.takes.1)))
+    (kept_set (outlives_in (universals_said forms)) forms (next p q) _ _ refl h.problem.outlives
+    (ap (λ (z : Problem). z.outlives) a.takes.1))
 adds_said forms s t (return p) h fine a =
     let before : reached forms ≤ 5 = omega (arith, ordered s.reached 5 true (in_order s (return p) fine), h.reached) in
     same_after forms (return p) s t h refl refl refl (a.group ∙ omega (arith, reached_push forms (return p))) a.takes.0
-    (ap (λ (z : Problem). z.graph.points) a.takes.1) (ap (λ (z : Problem). z.graph.universals) a.takes.1) (ap (λ (z : Problem). z.regions) a.takes.1)
+    (ap (λ (z : Problem). z.graph.points) a.takes.1) (ap (λ (z : Problem). z.graph.universals) a.takes.1)
+    (ap (λ (z : Problem). z.regions) a.takes.1)
     (both _ _ _ _ (kept_edges forms (return p) refl) (ap (λ (z : Problem). z.graph.edges) a.takes.1) h.problem.edges)
-    (ap length (kept_edges forms (return p) refl) ∙ (h.edge_count ∙ sym (ap (λ (z : Problem). length z.graph.edges) a.takes.1)))
+    (ap length (kept_edges forms (return p) refl)
+    ∙ (h.edge_count ∙ sym (ap (λ (z : Problem). length z.graph.edges) a.takes.1)))
     (added_set return_in forms (return p) p _ _ refl h.problem.returns a.takes.2)
-    (kept_set (base_in (names_said forms)) forms (return p) _ _ refl h.problem.bases (ap (λ (z : Problem). z.bases) a.takes.1))
-    (both _ _ _ _ (kept_constraints (names_said forms) forms (return p) refl) (ap (λ (z : Problem). z.constraints) a.takes.1) h.problem.constraints)
-    (ap length (kept_constraints (names_said forms) forms (return p) refl) ∙ (h.constraint_count ∙ sym (ap (λ (z : Problem). length z.constraints) a.takes.1)))
-    (kept_set (outlives_in (universals_said forms)) forms (return p) _ _ refl h.problem.outlives (ap (λ (z : Problem). z.outlives) a.takes.1))
+    (kept_set (base_in (names_said forms)) forms (return p) _ _ refl h.problem.bases
+    (ap (λ (z : Problem). z.bases) a.takes.1))
+    (both _ _ _ _ (kept_constraints (names_said forms) forms (return p) refl)
+    (ap (λ (z : Problem). z.constraints) a.takes.1) h.problem.constraints)
+    (ap length (kept_constraints (names_said forms) forms (return p) refl)
+    ∙ (h.constraint_count ∙ sym (ap (λ (z : Problem). length z.constraints) a.takes.1)))
+    (kept_set (outlives_in (universals_said forms)) forms (return p) _ _ refl h.problem.outlives
+    (ap (λ (z : Problem). z.outlives) a.takes.1))
 adds_said forms s t (base x p) h fine a =
     let before : reached forms ≤ 5 = omega (arith, ordered s.reached 5 true (in_order s (base x p) fine), h.reached) in
     same_after forms (base x p) s t h refl refl refl (a.group ∙ omega (arith, reached_push forms (base x p))) a.takes.0
-    (ap (λ (z : Problem). z.graph.points) a.takes.1) (ap (λ (z : Problem). z.graph.universals) a.takes.1) (ap (λ (z : Problem). z.regions) a.takes.1)
+    (ap (λ (z : Problem). z.graph.points) a.takes.1) (ap (λ (z : Problem). z.graph.universals) a.takes.1)
+    (ap (λ (z : Problem). z.regions) a.takes.1)
     (both _ _ _ _ (kept_edges forms (base x p) refl) (ap (λ (z : Problem). z.graph.edges) a.takes.1) h.problem.edges)
-    (ap length (kept_edges forms (base x p) refl) ∙ (h.edge_count ∙ sym (ap (λ (z : Problem). length z.graph.edges) a.takes.1)))
+    (ap length (kept_edges forms (base x p) refl)
+    ∙ (h.edge_count ∙ sym (ap (λ (z : Problem). length z.graph.edges) a.takes.1)))
     (kept_set return_in forms (base x p) _ _ refl h.problem.returns (ap (λ (z : Problem). z.graph.returns) a.takes.1))
-    (added_set (base_in (names_said forms)) forms (base x p) _ _ _ refl h.problem.bases (subst (λ ns. AddsFact s.problem.bases t.problem.bases (number_of ns x, p)) (sym h.names) a.takes.2))
-    (both _ _ _ _ (kept_constraints (names_said forms) forms (base x p) refl) (ap (λ (z : Problem). z.constraints) a.takes.1) h.problem.constraints)
-    (ap length (kept_constraints (names_said forms) forms (base x p) refl) ∙ (h.constraint_count ∙ sym (ap (λ (z : Problem). length z.constraints) a.takes.1)))
-    (kept_set (outlives_in (universals_said forms)) forms (base x p) _ _ refl h.problem.outlives (ap (λ (z : Problem). z.outlives) a.takes.1))
+    (added_set (base_in (names_said forms)) forms (base x p) _ _ _ refl h.problem.bases
+    (subst (λ ns. AddsFact s.problem.bases t.problem.bases (number_of ns x, p)) (sym h.names) a.takes.2))
+    (both _ _ _ _ (kept_constraints (names_said forms) forms (base x p) refl)
+    (ap (λ (z : Problem). z.constraints) a.takes.1) h.problem.constraints)
+    (ap length (kept_constraints (names_said forms) forms (base x p) refl)
+    ∙ (h.constraint_count ∙ sym (ap (λ (z : Problem). length z.constraints) a.takes.1)))
+    (kept_set (outlives_in (universals_said forms)) forms (base x p) _ _ refl h.problem.outlives
+    (ap (λ (z : Problem). z.outlives) a.takes.1))
 adds_said forms s t (constraint x y p) h fine a =
-    let before : reached forms ≤ 5 = omega (arith, ordered s.reached 5 true (in_order s (constraint x y p) fine), h.reached) in
-    let c : Constraint = record { sup = number_of (names_said forms) x; sub = number_of (names_said forms) y; at = p } in
+    let before : reached forms ≤ 5 =
+    omega (arith, ordered s.reached 5 true (in_order s (constraint x y p) fine), h.reached) in
+    let c : Constraint =
+    record { sup = number_of (names_said forms) x; sub = number_of (names_said forms) y; at = p } in
     let old : List Constraint = constraints_said (names_said forms) forms in
     let more : constraints_said (names_said forms) (forms ++ constraint x y p ∷ []) ≡ insert_key same_constraint old c =
-    ap (insert_all same_constraint []) (added_by (constraint_in (names_said forms)) forms (constraint x y p) c refl) ∙ insert_all_push same_constraint [] (filter_map (constraint_in (names_said forms)) forms) c in
+    ap (insert_all same_constraint []) (added_by (constraint_in (names_said forms)) forms (constraint x y p) c refl)
+    ∙ insert_all_push same_constraint [] (filter_map (constraint_in (names_said forms)) forms) c in
     let adds : AddsFact s.problem.constraints t.problem.constraints c =
-    subst (λ ns. AddsFact s.problem.constraints t.problem.constraints (record { sup = number_of ns x; sub = number_of ns y; at = p })) (sym h.names) a.takes.2 in
-    same_after forms (constraint x y p) s t h refl refl refl (a.group ∙ omega (arith, reached_push forms (constraint x y p))) a.takes.0
-    (ap (λ (z : Problem). z.graph.points) a.takes.1) (ap (λ (z : Problem). z.graph.universals) a.takes.1) (ap (λ (z : Problem). z.regions) a.takes.1)
-    (both _ _ _ _ (kept_edges forms (constraint x y p) refl) (ap (λ (z : Problem). z.graph.edges) a.takes.1) h.problem.edges)
-    (ap length (kept_edges forms (constraint x y p) refl) ∙ (h.edge_count ∙ sym (ap (λ (z : Problem). length z.graph.edges) a.takes.1)))
-    (kept_set return_in forms (constraint x y p) _ _ refl h.problem.returns (ap (λ (z : Problem). z.graph.returns) a.takes.1))
-    (kept_set (base_in (names_said forms)) forms (constraint x y p) _ _ refl h.problem.bases (ap (λ (z : Problem). z.bases) a.takes.1))
-    (subst (λ zs. SameSet zs t.problem.constraints) (sym more) (same_grown _ _ c _ _ h.problem.constraints (adds_constraint old c) adds))
-    (ap length more ∙ length_grown _ _ c _ _ h.problem.constraints h.constraint_count (adds_constraint old c) adds (constraint_known old c))
-    (kept_set (outlives_in (universals_said forms)) forms (constraint x y p) _ _ refl h.problem.outlives (ap (λ (z : Problem). z.outlives) a.takes.1))
+    subst (λ ns. AddsFact s.problem.constraints t.problem.constraints
+    (record { sup = number_of ns x; sub = number_of ns y; at = p })) (sym h.names) a.takes.2 in
+    same_after forms (constraint x y p) s t h refl refl refl
+    (a.group ∙ omega (arith, reached_push forms (constraint x y p))) a.takes.0
+    (ap (λ (z : Problem). z.graph.points) a.takes.1) (ap (λ (z : Problem). z.graph.universals) a.takes.1)
+    (ap (λ (z : Problem). z.regions) a.takes.1)
+    (both _ _ _ _ (kept_edges forms (constraint x y p) refl)
+    (ap (λ (z : Problem). z.graph.edges) a.takes.1) h.problem.edges)
+    (ap length (kept_edges forms (constraint x y p) refl)
+    ∙ (h.edge_count ∙ sym (ap (λ (z : Problem). length z.graph.edges) a.takes.1)))
+    (kept_set return_in forms (constraint x y p) _ _ refl h.problem.returns
+    (ap (λ (z : Problem). z.graph.returns) a.takes.1))
+    (kept_set (base_in (names_said forms)) forms (constraint x y p) _ _ refl h.problem.bases
+    (ap (λ (z : Problem). z.bases) a.takes.1))
+    (subst (λ zs. SameSet zs t.problem.constraints) (sym more)
+    (same_grown _ _ c _ _ h.problem.constraints (adds_constraint old c) adds))
+    (ap length more ∙ length_grown _ _ c _ _ h.problem.constraints h.constraint_count (adds_constraint old c) adds
+    (constraint_known old c))
+    (kept_set (outlives_in (universals_said forms)) forms (constraint x y p) _ _ refl h.problem.outlives
+    (ap (λ (z : Problem). z.outlives) a.takes.1))
 adds_said forms s t (end) h fine a =
     let before : reached forms ≤ 6 = omega (arith, ordered s.reached 6 false (in_order s (end) fine), h.reached) in
     same_after forms (end) s t h refl refl refl (a.group ∙ omega (arith, reached_push forms (end))) a.takes.0
-    (ap (λ (z : Problem). z.graph.points) a.takes.1) (ap (λ (z : Problem). z.graph.universals) a.takes.1) (ap (λ (z : Problem). z.regions) a.takes.1)
+    (ap (λ (z : Problem). z.graph.points) a.takes.1) (ap (λ (z : Problem). z.graph.universals) a.takes.1)
+    (ap (λ (z : Problem). z.regions) a.takes.1)
     (both _ _ _ _ (kept_edges forms (end) refl) (ap (λ (z : Problem). z.graph.edges) a.takes.1) h.problem.edges)
-    (ap length (kept_edges forms (end) refl) ∙ (h.edge_count ∙ sym (ap (λ (z : Problem). length z.graph.edges) a.takes.1)))
+    (ap length (kept_edges forms (end) refl)
+    ∙ (h.edge_count ∙ sym (ap (λ (z : Problem). length z.graph.edges) a.takes.1)))
     (kept_set return_in forms (end) _ _ refl h.problem.returns (ap (λ (z : Problem). z.graph.returns) a.takes.1))
-    (kept_set (base_in (names_said forms)) forms (end) _ _ refl h.problem.bases (ap (λ (z : Problem). z.bases) a.takes.1))
-    (both _ _ _ _ (kept_constraints (names_said forms) forms (end) refl) (ap (λ (z : Problem). z.constraints) a.takes.1) h.problem.constraints)
-    (ap length (kept_constraints (names_said forms) forms (end) refl) ∙ (h.constraint_count ∙ sym (ap (λ (z : Problem). length z.constraints) a.takes.1)))
-    (kept_set (outlives_in (universals_said forms)) forms (end) _ _ refl h.problem.outlives (ap (λ (z : Problem). z.outlives) a.takes.1))
+    (kept_set (base_in (names_said forms)) forms (end) _ _ refl h.problem.bases
+    (ap (λ (z : Problem). z.bases) a.takes.1))
+    (both _ _ _ _ (kept_constraints (names_said forms) forms (end) refl)
+    (ap (λ (z : Problem). z.constraints) a.takes.1) h.problem.constraints)
+    (ap length (kept_constraints (names_said forms) forms (end) refl)
+    ∙ (h.constraint_count ∙ sym (ap (λ (z : Problem). length z.constraints) a.takes.1)))
+    (kept_set (outlives_in (universals_said forms)) forms (end) _ _ refl h.problem.outlives
+    (ap (λ (z : Problem). z.outlives) a.takes.1))
 
 -- what is said is the same as itself
 pub same_itself : (s : Said) → SameSaid s s
-same_itself s = record { reached = refl; names = refl; problem = same_problem s.problem s.problem refl; edge_count = refl; constraint_count = refl }
+same_itself s =
+    record {
+      reached = refl;
+      names = refl;
+      problem = same_problem s.problem s.problem refl;
+      edge_count = refl;
+      constraint_count = refl;
+    }

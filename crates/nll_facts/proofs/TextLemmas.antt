@@ -5,7 +5,8 @@ use Rattle.nll_facts.specs.FactsForms.{Form, points, universal, outlives, furthe
 use Rattle.nll_facts.specs.FactsSaid.{group, reached}
 
 -- the group of each line is reached
-group_reached : (forms : List Form) (f : Form) (k : ℕ) → k < length forms → get_or forms k f ≡ f → group f ≤ reached forms
+group_reached : (forms : List Form) (f : Form) (k : ℕ) → k < length forms → get_or forms k f ≡ f
+    → group f ≤ reached forms
 group_reached [] f k h e = absurd (omega arith)
 group_reached (g ∷ forms) f zero h e = omega (arith, ap group e)
 group_reached (g ∷ forms) f (suc k) h e = omega (arith, group_reached forms f k (omega arith) e)

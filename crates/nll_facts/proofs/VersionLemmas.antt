@@ -22,15 +22,18 @@ use Rattle.nll_facts.proofs.OneFormLemmas.{one_form}
 
 -- ---- a line has one form
 
-pub one_form_in : (version : Version) (line : List ℕ) (f g : Form) → HasFormIn version line f → HasFormIn version line g → f ≡ g
+pub one_form_in : (version : Version) (line : List ℕ) (f g : Form) → HasFormIn version line f → HasFormIn version line g
+    → f ≡ g
 one_form_in version line f g h k = one_form line f g h.0 k.0
 
 -- a line of a form that isn't of the version has no form in it
-pub other_version : (version : Version) (s : Said) (line : List ℕ) (f : Form) (kind : TextKind) → IsUtf8 line → is_skipped line ≡ false → HasForm line f
+pub other_version : (version : Version) (s : Said) (line : List ℕ) (f : Form) (kind : TextKind) → IsUtf8 line
+    → is_skipped line ≡ false → HasForm line f
     → kind ≡ Syntax → is_of_version version f ≡ false → IsFaulty (facts version) s line kind
 other_version version s line f kind utf8 kept form e other =
     subst (λ k. IsFaulty (facts version) s line k) (sym e)
-    (no_form utf8 kept (λ g h. false≢true (sym other ∙ subst (λ z. is_of_version version z ≡ true) (one_form line g f h.0 form) h.1)))
+    (no_form utf8 kept (λ g h. false≢true
+    (sym other ∙ subst (λ z. is_of_version version z ≡ true) (one_form line g f h.0 form) h.1)))
 
 -- ---- a text has one version
 
@@ -40,14 +43,18 @@ headers_apart line f s =
     let n : 49 ≡ 50 = ap (λ (l : List ℕ). get_or l 0 0) e in
     absurd (omega (arith, n))
 
-pub first_line : (text : List ℕ) (one other : List ℕ) (b c : List (List ℕ)) → IsCut text one b → IsCut text other c → one ≡ other
+pub first_line : (text : List ℕ) (one other : List ℕ) (b c : List (List ℕ)) → IsCut text one b → IsCut text other c
+    → one ≡ other
 first_line text one other b c h k = (let e = sym h.cut ∙ k.cut in cc)
 
-pub not_second : (text : List ℕ) (b c : List (List ℕ)) → IsHeaded (facts First) text b → IsHeaded (facts Second) text c → ⊥
+pub not_second : (text : List ℕ) (b c : List (List ℕ)) → IsHeaded (facts First) text b → IsHeaded (facts Second) text c
+    → ⊥
 not_second text b c h k =
-    headers_apart k.header (subst (λ l. IsHeader (facts First) l) (first_line text h.header k.header b c h.cut k.cut) h.is_header) k.is_header
+    headers_apart k.header (subst (λ l. IsHeader (facts First) l)
+    (first_line text h.header k.header b c h.cut k.cut) h.is_header) k.is_header
 
-pub of_headed : (version : Version) (text : List ℕ) (body : List (List ℕ)) → IsHeaded (facts version) text body → IsOfVersion text version
+pub of_headed : (version : Version) (text : List ℕ) (body : List (List ℕ)) → IsHeaded (facts version) text body
+    → IsOfVersion text version
 of_headed First text body h = λ c k. not_second text body c h k
 of_headed Second text body h = (body, h)
 
@@ -58,7 +65,8 @@ one_version text Second First h k = absurd (k h.0 h.1)
 one_version text Second Second h k = refl
 
 -- where the line is the header of neither, it is that of none
-pub no_version : (line : List ℕ) → (IsHeader (facts First) line → ⊥) → (IsHeader (facts Second) line → ⊥) → (v : Version) → IsHeader (facts v) line → ⊥
+pub no_version : (line : List ℕ) → (IsHeader (facts First) line → ⊥) → (IsHeader (facts Second) line → ⊥)
+    → (v : Version) → IsHeader (facts v) line → ⊥
 no_version line a b First h = a h
 no_version line a b Second h = b h
 
@@ -67,12 +75,17 @@ no_version line a b Second h = b h
 pub too_long : (text : List ℕ) → most_bytes < length text → IsFactsFault text 1 (Limit Text)
 too_long text long = (First, (λ body k. absurd (omega (arith, k.cut.short, long))), texts.too_long long)
 
-pub refused_in : (version : Version) (text : List ℕ) (body : List (List ℕ)) (error : TextError) → IsHeaded (facts version) text body → IsRefusal (IsFault (facts version) text) error → IsRefusal (IsFactsFault text) error
-refused_in version text body error headed refused = ⊎_elim inl (λ f. inr (version, of_headed version text body headed, f)) refused
+pub refused_in : (version : Version) (text : List ℕ) (body : List (List ℕ)) (error : TextError)
+    → IsHeaded (facts version) text body → IsRefusal (IsFault (facts version) text) error
+    → IsRefusal (IsFactsFault text) error
+refused_in version text body error headed refused =
+    ⊎_elim inl (λ f. inr (version, of_headed version text body headed, f)) refused
 
 -- the first line is the header of no version
-pub refused_at_header : (text header : List ℕ) (body : List (List ℕ)) (error : TextError) → IsCut text header body → ((v : Version) → IsHeaderFault (facts v) header error) → IsRefusal (IsFactsFault text) error
-refused_at_header text header body error cut wrong = ⊎_elim inl (λ f. inr (First, other, f)) (header_refused (facts First) _ _ _ _ cut (wrong First))
+pub refused_at_header : (text header : List ℕ) (body : List (List ℕ)) (error : TextError) → IsCut text header body
+    → ((v : Version) → IsHeaderFault (facts v) header error) → IsRefusal (IsFactsFault text) error
+refused_at_header text header body error cut wrong =
+    ⊎_elim inl (λ f. inr (First, other, f)) (header_refused (facts First) _ _ _ _ cut (wrong First))
   where
     other : (b : List (List ℕ)) → IsHeaded (facts Second) text b → ⊥
     other b k =

@@ -8,11 +8,20 @@ use Rattle.std.proofs.lemmas.List.Elements.{filter_passes}
 use Rattle.nll_format.specs.Labels.{begun, AreFirstPoints}
 
 -- of a list whose front passes and whose rest doesn't, the front is what passes
-pub filter_front : (p : ℕ → Bool) (xs : List ℕ) (i : ℕ) → i ≤ length xs → IsPartitionPoint (λ y. p y ≡ true) (λ y. p y ≡ false) xs i → filter p xs ≡ take i xs
+pub filter_front : (p : ℕ → Bool) (xs : List ℕ) (i : ℕ) → i ≤ length xs
+    → IsPartitionPoint (λ y. p y ≡ true) (λ y. p y ≡ false) xs i → filter p xs ≡ take i xs
 filter_front p [] zero within parts = refl
 filter_front p [] (suc i) within parts = refl
-filter_front p (x ∷ xs) zero within parts = rw (parts.1 0 0 (omega arith) (omega arith)) (filter_front p xs zero (omega arith) ((λ k d low high. absurd (omega arith)), (λ k d low high. parts.1 (suc k) d (omega arith) (omega arith))))
-filter_front p (x ∷ xs) (suc i) within parts = rw (parts.0 0 0 (omega arith) (omega arith)) (ap (λ (ys : List ℕ). x ∷ ys) (filter_front p xs i (omega arith) ((λ k d low high. parts.0 (suc k) d (omega arith) (omega arith)), (λ k d low high. parts.1 (suc k) d (omega arith) (omega arith)))))
+filter_front p (x ∷ xs) zero within parts =
+    rw (parts.1 0 0 (omega arith) (omega arith))
+    (filter_front p xs zero (omega arith)
+    ((λ k d low high. absurd (omega arith)), (λ k d low high. parts.1 (suc k) d (omega arith) (omega arith))))
+filter_front p (x ∷ xs) (suc i) within parts =
+    rw (parts.0 0 0 (omega arith) (omega arith))
+    (ap (λ (ys : List ℕ). x ∷ ys) (filter_front p xs i (omega arith) (
+      (λ k d low high. parts.0 (suc k) d (omega arith) (omega arith)),
+      (λ k d low high. parts.1 (suc k) d (omega arith) (omega arith)),
+    )))
 
 -- numbers that rise don't fall
 pub not_falling : (xs : List ℕ) → IsStrictlyIncreasing xs → IsNonDecreasing xs
@@ -24,7 +33,8 @@ not_falling xs rise i j d below within = ⊎_elim
 -- the k-th of numbers that rise is at least k
 pub at_least : (xs : List ℕ) → IsStrictlyIncreasing xs → (k : ℕ) → k < length xs → k ≤ slice_index_or xs k 0
 at_least xs rise zero within = omega arith
-at_least xs rise (suc k) within = omega (arith, at_least xs rise k (omega arith), AllPairs-from_increasing xs rise k (suc k) 0 (omega arith) within)
+at_least xs rise (suc k) within =
+    omega (arith, at_least xs rise k (omega arith), AllPairs-from_increasing xs rise k (suc k) 0 (omega arith) within)
 
 -- the first block begins at each point or before it
 pub some_begun : (starts : List ℕ) (p : ℕ) → AreFirstPoints starts → 0 < length (begun starts p)
@@ -35,8 +45,12 @@ some_begun starts p h = by starts h.at_zero
     by (x ∷ xs) e = let zero_first : x ≡ 0 = cc in rw zero_first (rw (le-leb 0 p (omega arith)) (omega arith))
 
 -- the last of the blocks in front begins at the point or before it
-pub last_begun : (starts : List ℕ) (p n : ℕ) → 1 ≤ n → n ≡ length (begun starts p) → begun starts p ≡ take n starts → slice_index_or starts (n - 1) 0 ≤ p
+pub last_begun : (starts : List ℕ) (p n : ℕ) → 1 ≤ n → n ≡ length (begun starts p) → begun starts p ≡ take n starts
+    → slice_index_or starts (n - 1) 0 ≤ p
 last_begun starts p n some count front =
-    let passes : leb (slice_index_or (begun starts p) (n - 1) 0) p ≡ true = filter_passes (λ start. leb start p) starts (n - 1) 0 (omega (arith, some, count)) in
-    let same : slice_index_or (begun starts p) (n - 1) 0 ≡ slice_index_or starts (n - 1) 0 = ap (λ (xs : List ℕ). slice_index_or xs (n - 1) 0) front ∙ get_or-take n starts (n - 1) 0 (omega (arith, some)) in
+    let passes : leb (slice_index_or (begun starts p) (n - 1) 0) p ≡ true =
+    filter_passes (λ start. leb start p) starts (n - 1) 0 (omega (arith, some, count)) in
+    let same : slice_index_or (begun starts p) (n - 1) 0 ≡ slice_index_or starts (n - 1) 0 =
+    ap (λ (xs : List ℕ). slice_index_or xs (n - 1) 0) front
+    ∙ get_or-take n starts (n - 1) 0 (omega (arith, some)) in
     leb-true _ _ (rw (sym same) passes)

@@ -25,7 +25,8 @@ onto_short : (n x : ℕ) (lines : List (List ℕ)) → Short n lines → Short (
 onto_short n x [] h = (omega arith, tt)
 onto_short n x (line ∷ lines) h = (omega (arith, h.0), shorter n (1 + n) lines (omega arith) h.1)
 
-cut_short : (b : Bool) (n x : ℕ) (lines : List (List ℕ)) → Short n lines → Short (1 + n) (cond b ([] ∷ lines) (onto_first x lines))
+cut_short : (b : Bool) (n x : ℕ) (lines : List (List ℕ)) → Short n lines
+    → Short (1 + n) (cond b ([] ∷ lines) (onto_first x lines))
 cut_short true n x lines h = (omega arith, shorter n (1 + n) lines (omega arith) h)
 cut_short false n x lines h = onto_short n x lines h
 
@@ -56,14 +57,18 @@ module _ (format : Format) where
   amid_none Held all held = ([], record { front = []; cut = refl; place = refl; fine = refl }, held)
 
   -- all lines are read
-  pub amid_all : (Held : List format.Form → Type 0) (all : List (List ℕ)) (number : ℕ) → IsAmidWith format Held all [] number → (forms : List format.Form) × Says format [] all forms × Held forms × (number ≡ 1 + length all)
+  pub amid_all : (Held : List format.Form → Type 0) (all : List (List ℕ)) (number : ℕ)
+      → IsAmidWith format Held all [] number
+      → (forms : List format.Form) × Says format [] all forms × Held forms × (number ≡ 1 + length all)
   amid_all Held all number amid =
       let a = amid.1 in
       let e : all ≡ a.front = a.cut ∙ append-nil a.front in
       (amid.0, rw e a.fine, amid.2, rw e a.place)
 
   -- one more line is read
-  pub amid_more : (Old New : List format.Form → Type 0) (these : List (List ℕ)) (line : List ℕ) (after : List (List ℕ)) (number : ℕ) → these ≡ line ∷ after → TakesIn format Old New line → Advances format Old New these after number (number + 1)
+  pub amid_more : (Old New : List format.Form → Type 0) (these : List (List ℕ)) (line : List ℕ) (after : List (List ℕ))
+      (number : ℕ) → these ≡ line ∷ after → TakesIn format Old New line
+      → Advances format Old New these after number (number + 1)
   amid_more Old New these line after number step takes all amid =
       let a = amid.1 in
       let more = takes amid.0 amid.2 in (
@@ -78,9 +83,13 @@ module _ (format : Format) where
       )
 
   -- the next line is faulty
-  pub amid_fault : (Old : List format.Form → Type 0) (these : List (List ℕ)) (line : List ℕ) (after : List (List ℕ)) (number : ℕ) → these ≡ line ∷ after → (kind : TextKind) → TurnsDown format Old line kind
-      → (error : TextError) → (error ≡ record { line = 0; kind = Memory }) ⊎ ((error ≡ record { line = number + 1; kind = kind }) × (kind ≢ Memory)) → RefusesLeft format Old these number error
-  amid_fault Old these line after number step kind wrong error told all amid text headed = body_refused format text all error headed
+  pub amid_fault : (Old : List format.Form → Type 0) (these : List (List ℕ)) (line : List ℕ) (after : List (List ℕ))
+      (number : ℕ) → these ≡ line ∷ after → (kind : TextKind) → TurnsDown format Old line kind
+      → (error : TextError) → (error ≡ record { line = 0; kind = Memory })
+      ⊎ ((error ≡ record { line = number + 1; kind = kind }) × (kind ≢ Memory))
+      → RefusesLeft format Old these number error
+  amid_fault Old these line after number step kind wrong error told all amid text headed =
+      body_refused format text all error headed
       (⊎_elim inl
       (λ here. ⊎_elim
       (λ memory. absurd (here.1 memory))
@@ -101,28 +110,38 @@ module _ (format : Format) where
       }
 
   -- the text stops too early
-  pub amid_end : (Held : List format.Form → Type 0) (number : ℕ) → ((lines : List (List ℕ)) (forms : List format.Form) → Says format [] lines forms → Held forms → format.HasEnded forms → ⊥) → RefusesLeft format Held [] number (record { line = number; kind = End })
+  pub amid_end : (Held : List format.Form → Type 0) (number : ℕ)
+      → ((lines : List (List ℕ)) (forms : List format.Form) → Says format [] lines forms → Held forms
+      → format.HasEnded forms → ⊥) → RefusesLeft format Held [] number (record { line = number; kind = End })
   amid_end Held number none all amid text headed =
       let done = amid_all Held all number amid in
       let last : length (lines_of text) ≡ number = omega (arith, ap length headed.cut.cut, done.3) in
-      inr (subst (λ n. IsFault format text n End) last (no_end all done.0 headed done.1 (none all done.0 done.1 done.2)))
+      inr (subst (λ n. IsFault format text n End) last
+      (no_end all done.0 headed done.1 (none all done.0 done.1 done.2)))
 
   -- more lines are read behind those that were
-  pub advances_then : (Old Mid New : List format.Form → Type 0) (these those left : List (List ℕ)) (i j k : ℕ) → Advances format Old Mid these those i j → Advances format Mid New those left j k → Advances format Old New these left i k
+  pub advances_then : (Old Mid New : List format.Form → Type 0) (these those left : List (List ℕ)) (i j k : ℕ)
+      → Advances format Old Mid these those i j → Advances format Mid New those left j k
+      → Advances format Old New these left i k
   advances_then Old Mid New these those left i j k first next all amid = next all (first all amid)
 
   -- what is wrong with what is left is wrong with all
-  pub refuses_then : (Old Mid : List format.Form → Type 0) (these those : List (List ℕ)) (i j : ℕ) (error : TextError) → Advances format Old Mid these those i j → RefusesLeft format Mid those j error → RefusesLeft format Old these i error
+  pub refuses_then : (Old Mid : List format.Form → Type 0) (these those : List (List ℕ)) (i j : ℕ) (error : TextError)
+      → Advances format Old Mid these those i j → RefusesLeft format Mid those j error
+      → RefusesLeft format Old these i error
   refuses_then Old Mid these those i j error first wrong all amid = wrong all (first all amid)
 
 -- ---- a reader that holds the same as what the lines say
 
 module _ (format : Format) (Same : format.Said → format.Said → Type 0) (same_fault : SameFault format Same) where
-  pub takes_in : (Adds : format.Said → format.Form → format.Said → Type 0) → AddsSaid format Same Adds → (s t : format.Said) (line : List ℕ) → ReadsLine format Adds s line t → TakesIn format (λ forms. Same (format.said forms) s) (λ forms. Same (format.said forms) t) line
+  pub takes_in : (Adds : format.Said → format.Form → format.Said → Type 0) → AddsSaid format Same Adds
+      → (s t : format.Said) (line : List ℕ) → ReadsLine format Adds s line t
+      → TakesIn format (λ forms. Same (format.said forms) s) (λ forms. Same (format.said forms) t) line
   takes_in Adds adds_said s t line (skips fit e) forms same = (
     [],
     fits_same format Same same_fault (format.said forms) s same line [] fit,
-    subst (λ (fs : List format.Form). Same (format.said fs) t) (sym (append-nil forms)) (subst (Same (format.said forms)) (sym e) same),
+    subst (λ (fs : List format.Form). Same (format.said fs) t) (sym (append-nil forms))
+        (subst (Same (format.said forms)) (sym e) same),
   )
   takes_in Adds adds_said s t line (reads f fit adds) forms same = (
     f ∷ [],
@@ -130,6 +149,7 @@ module _ (format : Format) (Same : format.Said → format.Said → Type 0) (same
     adds_said forms s t f same (fine_of format s line f fit) adds,
   )
 
-  pub turns_down : (s : format.Said) (line : List ℕ) (kind : TextKind) → (kind ≡ Memory) ⊎ IsFaulty format s line kind → TurnsDown format (λ forms. Same (format.said forms) s) line kind
+  pub turns_down : (s : format.Said) (line : List ℕ) (kind : TextKind) → (kind ≡ Memory) ⊎ IsFaulty format s line kind
+      → TurnsDown format (λ forms. Same (format.said forms) s) line kind
   turns_down s line kind wrong forms same =
       ⊎_elim inl (λ fault. inr (faulty_same format Same same_fault (format.said forms) s same line kind fault)) wrong

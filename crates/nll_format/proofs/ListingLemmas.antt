@@ -14,7 +14,8 @@ use Rattle.nll_format.proofs.LinesLemmas.{takes_in, turns_down}
 pub passes : (format : Format) (s : format.Said) (line : List ℕ) → IsPassedOver line → Fits format s line []
 passes format s line h = skipped h.0 h.1
 
-pub formless : (format : Format) (s : format.Said) (line : List ℕ) (kind : TextKind) → ((f : format.Form) → format.HasForm line f → ⊥) → IsFormless line kind → IsFaulty format s line kind
+pub formless : (format : Format) (s : format.Said) (line : List ℕ) (kind : TextKind)
+    → ((f : format.Form) → format.HasForm line f → ⊥) → IsFormless line kind → IsFaulty format s line kind
 formless format s line kind none wrong = ⊎_elim
     (λ h. rw h.0 (not_utf8 h.1))
     (λ h. rw h.0 (no_form h.1 h.2 none))
@@ -25,25 +26,37 @@ module _ (listing : Listing) where
   Same = ◌≡◌ {A = List listing.Entry}
 
   -- a line that adds an entry, or is skipped, is taken in
-  pub entries_taken : (entries more : List listing.Entry) (line : List ℕ) → ReadsLine (format_of listing) (AddsEntry listing) entries line more → TakesIn (format_of listing) (λ forms. forms ≡ entries) (λ forms. forms ≡ more) line
-  entries_taken = takes_in (format_of listing) Same (λ s t same f. refl) (AddsEntry listing) (λ forms s t f same fine adds. ap (λ (xs : List listing.Entry). xs ++ f ∷ []) same ∙ sym adds)
+  pub entries_taken : (entries more : List listing.Entry) (line : List ℕ)
+      → ReadsLine (format_of listing) (AddsEntry listing) entries line more
+      → TakesIn (format_of listing) (λ forms. forms ≡ entries) (λ forms. forms ≡ more) line
+  entries_taken =
+      takes_in (format_of listing) Same (λ s t same f. refl) (AddsEntry listing)
+      (λ forms s t f same fine adds. ap (λ (xs : List listing.Entry). xs ++ f ∷ []) same ∙ sym adds)
 
   -- and a faulty one is turned down
-  pub entries_refused : (entries : List listing.Entry) (line : List ℕ) (kind : TextKind) → (kind ≡ Memory) ⊎ IsFaulty (format_of listing) entries line kind → TurnsDown (format_of listing) (λ forms. forms ≡ entries) line kind
+  pub entries_refused : (entries : List listing.Entry) (line : List ℕ) (kind : TextKind)
+      → (kind ≡ Memory) ⊎ IsFaulty (format_of listing) entries line kind
+      → TurnsDown (format_of listing) (λ forms. forms ≡ entries) line kind
   entries_refused = turns_down (format_of listing) Same (λ s t same f. refl)
 
   -- a line of an entry without a fault adds it
-  pub entry_read : (entries : List listing.Entry) (line : List ℕ) (p : Part) (these : List Part) (entry : listing.Entry) → listing.parts entry ≡ p ∷ these → Spells line (listing.parts entry) → listing.fault entry ≡ None → ReadsLine (format_of listing) (AddsEntry listing) entries line (entries ++ entry ∷ [])
+  pub entry_read : (entries : List listing.Entry) (line : List ℕ) (p : Part) (these : List Part) (entry : listing.Entry)
+      → listing.parts entry ≡ p ∷ these → Spells line (listing.parts entry) → listing.fault entry ≡ None
+      → ReadsLine (format_of listing) (AddsEntry listing) entries line (entries ++ entry ∷ [])
   entry_read entries line p these entry parts h fine =
-      reads entry (of_form entry (spelled_utf8 line (listing.parts entry) h) (spelled_kept line p these (rw parts at h)) h fine) refl
+      reads entry (of_form entry (spelled_utf8 line (listing.parts entry) h)
+      (spelled_kept line p these (rw parts at h)) h fine) refl
 
   -- and one with a fault is faulty
-  pub entry_faulty : (entries : List listing.Entry) (line : List ℕ) (p : Part) (these : List Part) (entry : listing.Entry) (kind : TextKind) → listing.parts entry ≡ p ∷ these → Spells line (listing.parts entry) → listing.fault entry ≡ Some kind → IsFaulty (format_of listing) entries line kind
+  pub entry_faulty : (entries : List listing.Entry) (line : List ℕ) (p : Part) (these : List Part)
+      (entry : listing.Entry) (kind : TextKind) → listing.parts entry ≡ p ∷ these → Spells line (listing.parts entry)
+      → listing.fault entry ≡ Some kind → IsFaulty (format_of listing) entries line kind
   entry_faulty entries line p these entry kind parts h fault =
       at_form entry kind (spelled_utf8 line (listing.parts entry) h) (spelled_kept line p these (rw parts at h)) h fault
 
   -- a text has no fault at its end, where no entry has that fault
-  pub no_end_fault : ((entry : listing.Entry) → listing.fault entry ≡ Some End → ⊥) → (text : List ℕ) (line : ℕ) (kind : TextKind) → IsFault (format_of listing) text line kind → kind ≡ End → ⊥
+  pub no_end_fault : ((entry : listing.Entry) → listing.fault entry ≡ Some End → ⊥)
+      → (text : List ℕ) (line : ℕ) (kind : TextKind) → IsFault (format_of listing) text line kind → kind ≡ End → ⊥
   no_end_fault never text line kind (too_long h) e = cc
   no_end_fault never text line kind (header_not_utf8 a b c bad) e = cc
   no_end_fault never text line kind (no_header a b c u bad) e = cc

@@ -39,7 +39,8 @@ module _ {V : Type 0} (f : V → List ℕ) (name : List ℕ) where
   number_mapped (k ∷ ks) = ap (λ n. cond (not (bytes_eq name (f k))) (1 + n) 0) (number_mapped ks)
 
 -- nothing that passes stands in a list whose first place of that is its length
-none_in_front : (t : Bool) (n m : ℕ) (rest : Bool) → (n ≡ m → rest ≡ false) → cond (not t) (1 + n) 0 ≡ suc m → (t || rest) ≡ false
+none_in_front : (t : Bool) (n m : ℕ) (rest : Bool) → (n ≡ m → rest ≡ false) → cond (not t) (1 + n) 0 ≡ suc m
+    → (t || rest) ≡ false
 none_in_front true n m rest later e = absurd (omega arith)
 none_in_front false n m rest later e = later (omega arith)
 
@@ -48,26 +49,34 @@ none_passes p [] e = refl
 none_passes p (x ∷ xs) e = none_in_front (p x) (position_or_len p xs) (length xs) (list_any p xs) (none_passes p xs) e
 
 -- where a search finds a name among what holds the names
-pub position_mapped : {V : Type 0} (f : V → List ℕ) (name : List ℕ) (ks : List V) → position (λ k. bytes_eq name (f k)) ks ≡ position (bytes_eq name) (map f ks)
+pub position_mapped : {V : Type 0} (f : V → List ℕ) (name : List ℕ) (ks : List V)
+    → position (λ k. bytes_eq name (f k)) ks ≡ position (bytes_eq name) (map f ks)
 position_mapped f name ks = rw (number_mapped f name ks) (rw (length-map ks f) refl)
 
 -- what a search by place answers
-pub number_found : (names : List (List ℕ)) (name : List ℕ) (o : Option ℕ) → o ≡ position (bytes_eq name) names → MatchOption o (number_of names name ≡ length names) (λ n. (n ≡ number_of names name) × (n < length names))
+pub number_found : (names : List (List ℕ)) (name : List ℕ) (o : Option ℕ) → o ≡ position (bytes_eq name) names
+    → MatchOption o (number_of names name ≡ length names) (λ n. (n ≡ number_of names name) × (n < length names))
 number_found names name o e = rw e (by (nat_lt (number_of names name) (length names)) refl)
   where
-    by : (b : Bool) → nat_lt (number_of names name) (length names) ≡ b → MatchOption (cond b (Some (number_of names name)) None) (number_of names name ≡ length names) (λ n. (n ≡ number_of names name) × (n < length names))
+    by : (b : Bool) → nat_lt (number_of names name) (length names) ≡ b
+        → MatchOption (cond b (Some (number_of names name)) None) (number_of names name ≡ length names)
+        (λ n. (n ≡ number_of names name) × (n < length names))
     by true t = (refl, ltb-true _ _ t)
-    by false t = let past : length names ≤ number_of names name = ltb-false _ _ t in omega (arith, past, number_of_within names name)
+    by false t = let past : length names ≤ number_of names name = ltb-false _ _ t in
+        omega (arith, past, number_of_within names name)
 
 -- the keys after a name that isn't among them is inserted
-pub names_inserted : {V : Type 0} (f : V → List ℕ) (ks : List V) (v : V) (name : List ℕ) → f v ≡ name → number_of (map f ks) name ≡ length (map f ks) → map f (cond (list_any (λ k. bytes_eq (f v) (f k)) ks) ks (ks ++ v ∷ [])) ≡ map f ks ++ name ∷ []
+pub names_inserted : {V : Type 0} (f : V → List ℕ) (ks : List V) (v : V) (name : List ℕ) → f v ≡ name
+    → number_of (map f ks) name ≡ length (map f ks)
+    → map f (cond (list_any (λ k. bytes_eq (f v) (f k)) ks) ks (ks ++ v ∷ [])) ≡ map f ks ++ name ∷ []
 names_inserted f ks v name is absent =
     let last : position_or_len (λ k. bytes_eq (f v) (f k)) ks ≡ length ks =
     ap (λ n. position_or_len (λ k. bytes_eq n (f k)) ks) is ∙ (number_mapped f name ks ∙ (absent ∙ length-map ks f)) in
     rw (none_passes (λ k. bytes_eq (f v) (f k)) ks last) (map_push f ks v ∙ ap (λ n. map f ks ++ n ∷ []) is)
 
 -- a name read at a place
-pub name_at : {V : Type 0} (f : V → List ℕ) (ks : List V) (i : ℕ) (v : V) → slice_get ks i ≡ Some v → f v ≡ get_or (map f ks) i []
+pub name_at : {V : Type 0} (f : V → List ℕ) (ks : List V) (i : ℕ) (v : V) → slice_get ks i ≡ Some v
+    → f v ≡ get_or (map f ks) i []
 name_at f ks i v e = ⊎_elim
     (λ there. sym (get_or-map f ks i v [] there.1 ∙ ap f (get_or_from_slice_get ks i v v e)))
     (λ past. absurd (none_is_some (sym past.1 ∙ e)))
@@ -83,34 +92,46 @@ module _ {V : Type 0} (f : V → List ℕ) where
   abbrev pub same_name : V → V → Bool
   same_name a b = bytes_eq (f a) (f b)
 
-  none_is : (k : V) (ks : List V) (i : ℕ) → AllByRecursion (λ y. same_name k y ≡ false) ks → i < length ks → bytes_eq (f k) (get_or (map f ks) i []) ≡ false
+  none_is : (k : V) (ks : List V) (i : ℕ) → AllByRecursion (λ y. same_name k y ≡ false) ks → i < length ks
+      → bytes_eq (f k) (get_or (map f ks) i []) ≡ false
   none_is k [] i h lt = absurd (omega (arith, lt))
   none_is k (y ∷ ks) zero h lt = h.0
   none_is k (y ∷ ks) (suc i) h lt = none_is k ks i h.1 (omega (arith, lt))
 
   -- among distinct names the one at a place stands nowhere before it
-  pub place_of : (ks : List V) (i : ℕ) (name : List ℕ) → IsDistinct same_name ks → i < length ks → get_or (map f ks) i [] ≡ name → number_of (map f ks) name ≡ i
+  pub place_of : (ks : List V) (i : ℕ) (name : List ℕ) → IsDistinct same_name ks → i < length ks
+      → get_or (map f ks) i [] ≡ name → number_of (map f ks) name ≡ i
   place_of [] i name d lt e = absurd (omega (arith, lt))
   place_of (k ∷ ks) zero name d lt e = rw (bytes_eq_at name (f k) (sym e)) refl
   place_of (k ∷ ks) (suc i) name d lt e =
-      let before : bytes_eq (f k) name ≡ false = ap (bytes_eq (f k)) (sym e) ∙ none_is k ks i (IsDistinct-head same_name k ks d) (omega (arith, lt)) in
+      let before : bytes_eq (f k) name ≡ false = ap (bytes_eq (f k)) (sym e)
+      ∙ none_is k ks i (IsDistinct-head same_name k ks d) (omega (arith, lt)) in
       let later = place_of ks i name (IsDistinct-tail same_name k ks d) (omega (arith, lt)) e in
       rw (bytes_differ (f k) name before) (omega (arith, later))
 
 -- a name that has a place stands there
-pub name_there : (names : List (List ℕ)) (name : List ℕ) → number_of names name < length names → get_or names (number_of names name) [] ≡ name
+pub name_there : (names : List (List ℕ)) (name : List ℕ) → number_of names name < length names
+    → get_or names (number_of names name) [] ≡ name
 name_there [] name lt = absurd (omega (arith, lt))
 name_there (x ∷ names) name lt = by (bytes_eq name x) refl (name_there names name)
   where
-    by : (b : Bool) → bytes_eq name x ≡ b → (number_of names name < length names → get_or names (number_of names name) [] ≡ name) → get_or (x ∷ names) (number_of (x ∷ names) name) [] ≡ name
+    by : (b : Bool) → bytes_eq name x ≡ b
+        → (number_of names name < length names → get_or names (number_of names name) [] ≡ name)
+        → get_or (x ∷ names) (number_of (x ∷ names) name) [] ≡ name
     by true t later = rw t (sym ((bytes_eq-Decides name x).0 t))
-    by false t later = rw (t, one-add) (later (let k : number_of (x ∷ names) name ≡ 1 + number_of names name = rw t refl in omega (arith, k, lt)))
+    by false t later =
+        rw (t, one-add) (later (let k : number_of (x ∷ names) name ≡ 1 + number_of names name = rw t refl in
+        omega (arith, k, lt)))
 
 -- what a comparison with what stands at a place tells
-pub at_place : {V : Type 0} (f : V → List ℕ) (ks : List V) (i : ℕ) (known v : V) (name : List ℕ) (b : Bool) → IsDistinct (same_name f) ks → i < length ks → known ≡ get_or ks i v → b ≡ bytes_eq (f known) name → (b ≡ true) ↔ ((number_of (map f ks) name ≡ i) × (i < length (map f ks)))
+pub at_place : {V : Type 0} (f : V → List ℕ) (ks : List V) (i : ℕ) (known v : V) (name : List ℕ) (b : Bool)
+    → IsDistinct (same_name f) ks → i < length ks → known ≡ get_or ks i v → b ≡ bytes_eq (f known) name
+    → (b ≡ true) ↔ ((number_of (map f ks) name ≡ i) × (i < length (map f ks)))
 at_place f ks i known v name b d lt is told =
     let within : i < length (map f ks) = omega (arith, lt, length-map ks f) in
     let here : get_or (map f ks) i [] ≡ f known = get_or-map f ks i v [] lt ∙ ap f (sym is) in (
       λ yes. (place_of f ks i name d lt (here ∙ (bytes_eq-Decides (f known) name).0 (sym told ∙ yes)), within),
-      λ at. told ∙ bytes_eq_at (f known) name (sym here ∙ ap (λ (k : ℕ). get_or (map f ks) k []) (sym at.0) ∙ name_there (map f ks) name (omega (arith, at.0, at.1))),
+      λ at. told ∙ bytes_eq_at (f known) name
+          (sym here ∙ ap (λ (k : ℕ). get_or (map f ks) k []) (sym at.0)
+          ∙ name_there (map f ks) name (omega (arith, at.0, at.1))),
     )

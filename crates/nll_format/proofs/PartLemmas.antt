@@ -23,23 +23,29 @@ pub spells_none : (bytes : List ℕ) → IsGap bytes → Spells bytes []
 spells_none bytes gap = record { made = gap; small = tt }
 
 -- a part in front of what the rest spells
-pub spells_more : (bytes rest : List ℕ) (p : Part) (these : List Part) → BeginsWith bytes (token_of p) rest → IsSmall p → Spells rest these → Spells bytes (p ∷ these)
-spells_more bytes rest p these begins is h = record { made = begins.made (map token_of these) h.made; small = (is, h.small) }
+pub spells_more : (bytes rest : List ℕ) (p : Part) (these : List Part) → BeginsWith bytes (token_of p) rest → IsSmall p
+    → Spells rest these → Spells bytes (p ∷ these)
+spells_more bytes rest p these begins is h =
+    record { made = begins.made (map token_of these) h.made; small = (is, h.small) }
 
 -- behind the first token stands what the other parts spell
-pub spells_rest : (bytes rest : List ℕ) (t : Token) (p : Part) (these : List Part) → BeginsWith bytes t rest → Spells bytes (p ∷ these) → (token_of p ≡ t) × Spells rest these
+pub spells_rest : (bytes rest : List ℕ) (t : Token) (p : Part) (these : List Part) → BeginsWith bytes t rest
+    → Spells bytes (p ∷ these) → (token_of p ≡ t) × Spells rest these
 spells_rest bytes rest t p these begins h =
     let r = begins.only (map token_of (p ∷ these)) h.made in
     (same_first r.1, record { made = subst (IsMadeOf rest) (sym (same_rest r.1)) r.2; small = h.small.1 })
 
 -- bytes that don't begin with a part spell nothing that begins with it
-pub none_first : (bytes : List ℕ) (p : Part) (these : List Part) → BeginsNotWith bytes (token_of p) → Spells bytes (p ∷ these) → ⊥
+pub none_first : (bytes : List ℕ) (p : Part) (these : List Part) → BeginsNotWith bytes (token_of p)
+    → Spells bytes (p ∷ these) → ⊥
 none_first bytes p these none h = none (map token_of these) h.made
 
-pub no_number_first : (bytes : List ℕ) (n : ℕ) (these : List Part) → ((m : ℕ) → m < 10 ^ 9 → BeginsNotWith bytes (word (decimal m))) → Spells bytes (number n ∷ these) → ⊥
+pub no_number_first : (bytes : List ℕ) (n : ℕ) (these : List Part)
+    → ((m : ℕ) → m < 10 ^ 9 → BeginsNotWith bytes (word (decimal m))) → Spells bytes (number n ∷ these) → ⊥
 no_number_first bytes n these none h = none n h.small.0 (map token_of these) h.made
 
-pub no_region_first : (bytes : List ℕ) (x : Name) (these : List Part) → ((y : Name) → BeginsNotWith bytes (lex_region y)) → Spells bytes (region x ∷ these) → ⊥
+pub no_region_first : (bytes : List ℕ) (x : Name) (these : List Part)
+    → ((y : Name) → BeginsNotWith bytes (lex_region y)) → Spells bytes (region x ∷ these) → ⊥
 no_region_first bytes x these none h = none x (map token_of these) h.made
 
 same_word : {v w : List ℕ} → word v ≡ word w → v ≡ w
@@ -79,14 +85,17 @@ small_or_not (x ∷ these) = ⊎_elim
     part_small_or_not (region x) = inl tt
 
 -- Forms whose parts tell them: `unspelled` gives the form that tokens spell, where they spell one.
-module _ (Form : Type 0) (parts : Form → List Part) (unspelled : List Token → Form) (own : (f : Form) → AllByRecursion IsSmall (parts f) → unspelled (map token_of (parts f)) ≡ f) where
+module _ (Form : Type 0) (parts : Form → List Part) (unspelled : List Token → Form)
+    (own : (f : Form) → AllByRecursion IsSmall (parts f) → unspelled (map token_of (parts f)) ≡ f) where
   pub one_form : (line : List ℕ) (f g : Form) → Spells line (parts f) → Spells line (parts g) → f ≡ g
   one_form line f g h k =
       sym (own f h.small)
-      ∙ (ap unspelled (one_token_list_lem line (map token_of (parts f)) (map token_of (parts g)) h.made k.made) ∙ own g k.small)
+      ∙ (ap unspelled (one_token_list_lem line (map token_of (parts f)) (map token_of (parts g)) h.made k.made)
+      ∙ own g k.small)
 
   -- the form that tokens have is the one that they spell
-  spelled_or_none : (ts : List Token) → ((f : Form) × AreSpelled ts (parts f)) ⊎ ((f : Form) → AreSpelled ts (parts f) → ⊥)
+  spelled_or_none : (ts : List Token)
+      → ((f : Form) × AreSpelled ts (parts f)) ⊎ ((f : Form) → AreSpelled ts (parts f) → ⊥)
   spelled_or_none ts =
       let told : (f : Form) → AreSpelled ts (parts f) → unspelled ts ≡ f = λ f h. ap unspelled h.same ∙ own f h.small in
       ⊎_elim
@@ -101,7 +110,10 @@ module _ (Form : Type 0) (parts : Form → List Part) (unspelled : List Token �
   form_or_none line = ⊎_elim
       (λ made. ⊎_elim
       (λ h. inl (h.0, record { made = subst (IsMadeOf line) h.1.same made.1; small = h.1.small }))
-      (λ no. inr (λ f h. no f (record { same = one_token_list_lem line made.0 (map token_of (parts f)) made.1 h.made; small = h.small })))
+      (λ no. inr (λ f h. no f (record {
+        same = one_token_list_lem line made.0 (map token_of (parts f)) made.1 h.made;
+        small = h.small;
+      })))
       (spelled_or_none made.0))
       (λ no. inr (λ f h. no (map token_of (parts f)) h.made))
       (made_or_not line)

@@ -23,7 +23,8 @@ HasOneForm format = (line : List ℕ) (f g : format.Form) → format.HasForm lin
 
 -- a line has a form, or it has none
 abbrev pub HasFormOrNone : Format → Type 0
-HasFormOrNone format = (line : List ℕ) → ((f : format.Form) × format.HasForm line f) ⊎ ((f : format.Form) → format.HasForm line f → ⊥)
+HasFormOrNone format = (line : List ℕ)
+    → ((f : format.Form) × format.HasForm line f) ⊎ ((f : format.Form) → format.HasForm line f → ⊥)
 
 -- a text may stop behind the lines, or it may not
 abbrev pub HasEndedOrNot : Format → Type 0
@@ -34,37 +35,46 @@ HasEndedOrNot format = (forms : List format.Form) → format.HasEnded forms ⊎ 
 module _ (format : Format) (one_form : HasOneForm format) where
   -- ---- a line fits in one way or has one kind of fault
 
-  adds_nothing : (s : format.Said) (line : List ℕ) (b : List format.Form) → is_skipped line ≡ true → Fits format s line b → [] ≡ b
+  adds_nothing : (s : format.Said) (line : List ℕ) (b : List format.Form) → is_skipped line ≡ true
+      → Fits format s line b → [] ≡ b
   adds_nothing s line [] k fit = refl
   adds_nothing s line (f ∷ []) k (of_form _ u j form fine) = absurd (false≢true (sym j ∙ k))
   adds_nothing s line (f ∷ (g ∷ more)) k fit = elim fit [ ]
 
-  adds_form : (s : format.Said) (line : List ℕ) (f : format.Form) (b : List format.Form) → is_skipped line ≡ false → format.HasForm line f → Fits format s line b → f ∷ [] ≡ b
+  adds_form : (s : format.Said) (line : List ℕ) (f : format.Form) (b : List format.Form) → is_skipped line ≡ false
+      → format.HasForm line f → Fits format s line b → f ∷ [] ≡ b
   adds_form s line f [] k form (skipped u j) = absurd (false≢true (sym k ∙ j))
-  adds_form s line f (g ∷ []) k form (of_form _ u j other fine) = ap (λ (x : format.Form). x ∷ []) (one_form line f g form other)
+  adds_form s line f (g ∷ []) k form (of_form _ u j other fine) =
+      ap (λ (x : format.Form). x ∷ []) (one_form line f g form other)
   adds_form s line f (g ∷ (h ∷ more)) k form fit = elim fit [ ]
 
-  one_fit : (s : format.Said) (line : List ℕ) (a b : List format.Form) → Fits format s line a → Fits format s line b → a ≡ b
+  one_fit : (s : format.Said) (line : List ℕ) (a b : List format.Form) → Fits format s line a → Fits format s line b
+      → a ≡ b
   one_fit s line [] b (skipped u k) fit = adds_nothing s line b k fit
   one_fit s line (f ∷ []) b (of_form _ u k form fine) fit = adds_form s line f b k form fit
   one_fit s line (f ∷ (g ∷ more)) b x fit = elim x [ ]
 
-  skipped_is_fine : (s : format.Said) (line : List ℕ) (kind : TextKind) → IsUtf8 line → is_skipped line ≡ true → IsFaulty format s line kind → ⊥
+  skipped_is_fine : (s : format.Said) (line : List ℕ) (kind : TextKind) → IsUtf8 line → is_skipped line ≡ true
+      → IsFaulty format s line kind → ⊥
   skipped_is_fine s line kind u k (not_utf8 bad) = bad u
   skipped_is_fine s line kind u k (no_form v j none) = false≢true (sym j ∙ k)
   skipped_is_fine s line kind u k (at_form f _ v j form fault) = false≢true (sym j ∙ k)
 
-  form_is_fine : (s : format.Said) (line : List ℕ) (f : format.Form) (kind : TextKind) → IsUtf8 line → format.HasForm line f → format.first_fault s f ≡ None → IsFaulty format s line kind → ⊥
+  form_is_fine : (s : format.Said) (line : List ℕ) (f : format.Form) (kind : TextKind) → IsUtf8 line
+      → format.HasForm line f → format.first_fault s f ≡ None → IsFaulty format s line kind → ⊥
   form_is_fine s line f kind u form fine (not_utf8 bad) = bad u
   form_is_fine s line f kind u form fine (no_form v j none) = none f form
-  form_is_fine s line f kind u form fine (at_form g _ v j other fault) = none-some kind (sym fine ∙ (ap (format.first_fault s) (one_form line f g form other) ∙ fault))
+  form_is_fine s line f kind u form fine (at_form g _ v j other fault) =
+      none-some kind (sym fine ∙ (ap (format.first_fault s) (one_form line f g form other) ∙ fault))
 
-  fits_is_fine : (s : format.Said) (line : List ℕ) (added : List format.Form) (kind : TextKind) → Fits format s line added → IsFaulty format s line kind → ⊥
+  fits_is_fine : (s : format.Said) (line : List ℕ) (added : List format.Form) (kind : TextKind)
+      → Fits format s line added → IsFaulty format s line kind → ⊥
   fits_is_fine s line [] kind (skipped u k) bad = skipped_is_fine s line kind u k bad
   fits_is_fine s line (f ∷ []) kind (of_form _ u k form fine) bad = form_is_fine s line f kind u form fine bad
   fits_is_fine s line (f ∷ (g ∷ more)) kind fit bad = elim fit [ ]
 
-  one_kind : (s : format.Said) (line : List ℕ) (j k : TextKind) → IsFaulty format s line j → IsFaulty format s line k → j ≡ k
+  one_kind : (s : format.Said) (line : List ℕ) (j k : TextKind) → IsFaulty format s line j → IsFaulty format s line k
+      → j ≡ k
   one_kind s line j k (not_utf8 bad) (not_utf8 other) = refl
   one_kind s line j k (not_utf8 bad) (no_form u t none) = absurd (bad u)
   one_kind s line j k (not_utf8 bad) (at_form f _ u t form fault) = absurd (bad u)
@@ -73,73 +83,102 @@ module _ (format : Format) (one_form : HasOneForm format) where
   one_kind s line j k (no_form u t none) (at_form f _ v q form fault) = absurd (none f form)
   one_kind s line j k (at_form f _ u t form fault) (not_utf8 bad) = absurd (bad u)
   one_kind s line j k (at_form f _ u t form fault) (no_form v q none) = absurd (none f form)
-  one_kind s line j k (at_form f _ u t form fault) (at_form g _ v q other second) = same_Some j k (sym fault ∙ (ap (format.first_fault s) (one_form line f g form other) ∙ second))
+  one_kind s line j k (at_form f _ u t form fault) (at_form g _ v q other second) =
+      same_Some j k (sym fault ∙ (ap (format.first_fault s) (one_form line f g form other) ∙ second))
 
   -- ---- lines say one list of forms or have one first fault
 
-  one_reading : (before : List format.Form) (lines : List (List ℕ)) (forms others : List format.Form) → Says format before lines forms → Says format before lines others → forms ≡ others
+  one_reading : (before : List format.Form) (lines : List (List ℕ)) (forms others : List format.Form)
+      → Says format before lines forms → Says format before lines others → forms ≡ others
   one_reading before [] forms others h k = h ∙ sym k
   one_reading before (line ∷ lines) forms others h k =
       let same : k.0 ≡ h.0 = one_fit (format.said before) line k.0 h.0 k.1 h.1 in
-      one_reading (before ++ h.0) lines forms others h.2 (subst (λ (added : List format.Form). Says format (before ++ added) lines others) same k.2)
+      one_reading (before ++ h.0) lines forms others h.2
+      (subst (λ (added : List format.Form). Says format (before ++ added) lines others) same k.2)
 
   -- lines that are all fine have no fault
-  fine_or_faulty : (before : List format.Form) (front : List (List ℕ)) (line : List ℕ) (back : List (List ℕ)) (forms all : List format.Form) (kind : TextKind) → Says format before front forms → IsFaulty format (format.said forms) line kind → Says format before (front ++ line ∷ back) all → ⊥
-  fine_or_faulty before [] line back forms all kind h bad k = fits_is_fine (format.said before) line k.0 kind k.1 (subst (λ (fs : List format.Form). IsFaulty format (format.said fs) line kind) h bad)
+  fine_or_faulty : (before : List format.Form) (front : List (List ℕ)) (line : List ℕ) (back : List (List ℕ))
+      (forms all : List format.Form) (kind : TextKind) → Says format before front forms
+      → IsFaulty format (format.said forms) line kind → Says format before (front ++ line ∷ back) all → ⊥
+  fine_or_faulty before [] line back forms all kind h bad k =
+      fits_is_fine (format.said before) line k.0 kind k.1
+      (subst (λ (fs : List format.Form). IsFaulty format (format.said fs) line kind) h bad)
   fine_or_faulty before (l ∷ front) line back forms all kind h bad k =
       let same : k.0 ≡ h.0 = one_fit (format.said before) l k.0 h.0 k.1 h.1 in
-      fine_or_faulty (before ++ h.0) front line back forms all kind h.2 bad (subst (λ (added : List format.Form). Says format (before ++ added) (front ++ line ∷ back) all) same k.2)
+      fine_or_faulty (before ++ h.0) front line back forms all kind h.2 bad
+      (subst (λ (added : List format.Form). Says format (before ++ added) (front ++ line ∷ back) all) same k.2)
 
   -- the same lines have their first fault at one place, and it is of one kind
-  one_place : (before : List format.Form) (front others : List (List ℕ)) (line second : List ℕ) (back after : List (List ℕ)) (forms said_there : List format.Form) (j k : TextKind)
-      → front ++ line ∷ back ≡ others ++ second ∷ after → Says format before front forms → Says format before others said_there → IsFaulty format (format.said forms) line j → IsFaulty format (format.said said_there) second k → (length front ≡ length others) × (j ≡ k)
+  one_place : (before : List format.Form) (front others : List (List ℕ)) (line second : List ℕ)
+      (back after : List (List ℕ)) (forms said_there : List format.Form) (j k : TextKind)
+      → front ++ line ∷ back ≡ others ++ second ∷ after → Says format before front forms
+      → Says format before others said_there → IsFaulty format (format.said forms) line j
+      → IsFaulty format (format.said said_there) second k → (length front ≡ length others) × (j ≡ k)
   one_place before [] [] line second back after forms said_there j k e h g bad worse = (
     refl,
     one_kind (format.said before) line j k
         (subst (λ (fs : List format.Form). IsFaulty format (format.said fs) line j) h bad)
-        (subst (λ (l : List ℕ). IsFaulty format (format.said before) l k) (sym (same_first e)) (subst (λ (fs : List format.Form). IsFaulty format (format.said fs) second k) g worse)),
+        (subst (λ (l : List ℕ). IsFaulty format (format.said before) l k) (sym (same_first e))
+        (subst (λ (fs : List format.Form). IsFaulty format (format.said fs) second k) g worse)),
   )
   one_place before [] (m ∷ others) line second back after forms said_there j k e h g bad worse =
       absurd (fits_is_fine (format.said before) m g.0 j g.1
-      (subst (λ (l : List ℕ). IsFaulty format (format.said before) l j) (same_first e) (subst (λ (fs : List format.Form). IsFaulty format (format.said fs) line j) h bad)))
+      (subst (λ (l : List ℕ). IsFaulty format (format.said before) l j) (same_first e)
+      (subst (λ (fs : List format.Form). IsFaulty format (format.said fs) line j) h bad)))
   one_place before (l ∷ front) [] line second back after forms said_there j k e h g bad worse =
       absurd (fits_is_fine (format.said before) l h.0 k h.1
-      (subst (λ (m : List ℕ). IsFaulty format (format.said before) m k) (sym (same_first e)) (subst (λ (fs : List format.Form). IsFaulty format (format.said fs) second k) g worse)))
+      (subst (λ (m : List ℕ). IsFaulty format (format.said before) m k) (sym (same_first e))
+      (subst (λ (fs : List format.Form). IsFaulty format (format.said fs) second k) g worse)))
   one_place before (l ∷ front) (m ∷ others) line second back after forms said_there j k e h g bad worse =
-      let there : Fits format (format.said before) l g.0 = subst (λ (x : List ℕ). Fits format (format.said before) x g.0) (sym (same_first e)) g.1 in
+      let there : Fits format (format.said before) l g.0 =
+      subst (λ (x : List ℕ). Fits format (format.said before) x g.0) (sym (same_first e)) g.1 in
       let same : g.0 ≡ h.0 = one_fit (format.said before) l g.0 h.0 there h.1 in
-      let p : (length front ≡ length others) × (j ≡ k) = one_place (before ++ h.0) front others line second back after forms said_there j k (same_rest e) h.2
+      let p : (length front ≡ length others) × (j ≡ k) =
+      one_place (before ++ h.0) front others line second back after forms said_there j k (same_rest e) h.2
       (subst (λ (added : List format.Form). Says format (before ++ added) others said_there) same g.2) bad worse in
       (ap suc p.0, p.1)
 
-  one_first : (lines : List (List ℕ)) (n m : ℕ) (j k : TextKind) → HasFault format lines n j → HasFault format lines m k → (n ≡ m) × (j ≡ k)
+  one_first : (lines : List (List ℕ)) (n m : ℕ) (j k : TextKind) → HasFault format lines n j → HasFault format lines m k
+      → (n ≡ m) × (j ≡ k)
   one_first lines n m j k h g =
-      let p : (length h.front ≡ length g.front) × (j ≡ k) = one_place [] h.front g.front h.line g.line h.back g.back h.forms g.forms j k (sym h.cut ∙ g.cut) h.fine g.fine h.wrong g.wrong in
+      let p : (length h.front ≡ length g.front) × (j ≡ k) =
+      one_place [] h.front g.front h.line g.line h.back g.back h.forms g.forms j k
+      (sym h.cut ∙ g.cut) h.fine g.fine h.wrong g.wrong in
       (h.place ∙ (p.0 ∙ sym g.place), p.1)
 
-  fine_lines : (lines : List (List ℕ)) (n : ℕ) (kind : TextKind) (all : List format.Form) → HasFault format lines n kind → Says format [] lines all → ⊥
-  fine_lines lines n kind all h says = fine_or_faulty [] h.front h.line h.back h.forms all kind h.fine h.wrong (subst (λ (ls : List (List ℕ)). Says format [] ls all) h.cut says)
+  fine_lines : (lines : List (List ℕ)) (n : ℕ) (kind : TextKind) (all : List format.Form) → HasFault format lines n kind
+      → Says format [] lines all → ⊥
+  fine_lines lines n kind all h says =
+      fine_or_faulty [] h.front h.line h.back h.forms all kind h.fine h.wrong
+      (subst (λ (ls : List (List ℕ)). Says format [] ls all) h.cut says)
 
   -- ---- a text fits or has one fault
 
-  same_header : (text header other : List ℕ) (body rest : List (List ℕ)) → IsCut text header body → IsCut text other rest → header ≡ other
+  same_header : (text header other : List ℕ) (body rest : List (List ℕ)) → IsCut text header body
+      → IsCut text other rest → header ≡ other
   same_header text header other body rest c d = same_first (sym c.cut ∙ d.cut)
 
-  same_body : (text : List ℕ) (body rest : List (List ℕ)) → IsHeaded format text body → IsHeaded format text rest → body ≡ rest
+  same_body : (text : List ℕ) (body rest : List (List ℕ)) → IsHeaded format text body → IsHeaded format text rest
+      → body ≡ rest
   same_body text body rest c d = same_rest (sym c.cut.cut ∙ d.cut.cut)
 
   -- a text with a header has neither fault of the header
-  utf8_too : (text header : List ℕ) (body rest : List (List ℕ)) → IsHeaded format text rest → IsCut text header body → IsUtf8 header
+  utf8_too : (text header : List ℕ) (body rest : List (List ℕ)) → IsHeaded format text rest → IsCut text header body
+      → IsUtf8 header
   utf8_too text header body rest h c = subst IsUtf8 (same_header text h.header header rest body h.cut c) h.utf8
 
-  header_too : (text header : List ℕ) (body rest : List (List ℕ)) → IsHeaded format text rest → IsCut text header body → IsHeader format header
-  header_too text header body rest h c = subst (IsHeader format) (same_header text h.header header rest body h.cut c) h.is_header
+  header_too : (text header : List ℕ) (body rest : List (List ℕ)) → IsHeaded format text rest → IsCut text header body
+      → IsHeader format header
+  header_too text header body rest h c =
+      subst (IsHeader format) (same_header text h.header header rest body h.cut c) h.is_header
 
   -- the faults of a header shut each other out
-  no_header_is_utf8 : (text header other : List ℕ) (body rest : List (List ℕ)) → IsCut text header body → IsCut text other rest → IsUtf8 header → IsUtf8 other
+  no_header_is_utf8 : (text header other : List ℕ) (body rest : List (List ℕ)) → IsCut text header body
+      → IsCut text other rest → IsUtf8 header → IsUtf8 other
   no_header_is_utf8 text header other body rest c d u = subst IsUtf8 (same_header text header other body rest c d) u
 
-  pub one_fault_lem : (text : List ℕ) (l m : ℕ) (j k : TextKind) → IsFault format text l j → IsFault format text m k → (l ≡ m) × (j ≡ k)
+  pub one_fault_lem : (text : List ℕ) (l m : ℕ) (j k : TextKind) → IsFault format text l j → IsFault format text m k
+      → (l ≡ m) × (j ≡ k)
   one_fault_lem text l m j k (too_long h) (too_long g) = (refl, refl)
   one_fault_lem text l m j k (too_long h) (header_not_utf8 a b c bad) = absurd (omega (arith, h, c.short))
   one_fault_lem text l m j k (too_long h) (no_header a b c u bad) = absurd (omega (arith, h, c.short))
@@ -147,35 +186,51 @@ module _ (format : Format) (one_form : HasOneForm format) where
   one_fault_lem text l m j k (too_long h) (no_end b fs c says none) = absurd (omega (arith, h, c.cut.short))
   one_fault_lem text l m j k (header_not_utf8 a b c bad) (too_long g) = absurd (omega (arith, g, c.short))
   one_fault_lem text l m j k (header_not_utf8 a b c bad) (header_not_utf8 x y d worse) = (refl, refl)
-  one_fault_lem text l m j k (header_not_utf8 a b c bad) (no_header x y d u worse) = absurd (bad (no_header_is_utf8 text x a y b d c u))
-  one_fault_lem text l m j k (header_not_utf8 a b c bad) (at_line y n _ d worse) = absurd (bad (utf8_too text a b y d c))
-  one_fault_lem text l m j k (header_not_utf8 a b c bad) (no_end y fs d says none) = absurd (bad (utf8_too text a b y d c))
+  one_fault_lem text l m j k (header_not_utf8 a b c bad) (no_header x y d u worse) =
+      absurd (bad (no_header_is_utf8 text x a y b d c u))
+  one_fault_lem text l m j k (header_not_utf8 a b c bad) (at_line y n _ d worse) =
+      absurd (bad (utf8_too text a b y d c))
+  one_fault_lem text l m j k (header_not_utf8 a b c bad) (no_end y fs d says none) =
+      absurd (bad (utf8_too text a b y d c))
   one_fault_lem text l m j k (no_header a b c u bad) (too_long g) = absurd (omega (arith, g, c.short))
-  one_fault_lem text l m j k (no_header a b c u bad) (header_not_utf8 x y d worse) = absurd (worse (no_header_is_utf8 text a x b y c d u))
+  one_fault_lem text l m j k (no_header a b c u bad) (header_not_utf8 x y d worse) =
+      absurd (worse (no_header_is_utf8 text a x b y c d u))
   one_fault_lem text l m j k (no_header a b c u bad) (no_header x y d v worse) = (refl, refl)
   one_fault_lem text l m j k (no_header a b c u bad) (at_line y n _ d worse) = absurd (bad (header_too text a b y d c))
-  one_fault_lem text l m j k (no_header a b c u bad) (no_end y fs d says none) = absurd (bad (header_too text a b y d c))
+  one_fault_lem text l m j k (no_header a b c u bad) (no_end y fs d says none) =
+      absurd (bad (header_too text a b y d c))
   one_fault_lem text l m j k (at_line b n _ c bad) (too_long g) = absurd (omega (arith, g, c.cut.short))
-  one_fault_lem text l m j k (at_line b n _ c bad) (header_not_utf8 x y d worse) = absurd (worse (utf8_too text x y b c d))
-  one_fault_lem text l m j k (at_line b n _ c bad) (no_header x y d v worse) = absurd (worse (header_too text x y b c d))
+  one_fault_lem text l m j k (at_line b n _ c bad) (header_not_utf8 x y d worse) =
+      absurd (worse (utf8_too text x y b c d))
+  one_fault_lem text l m j k (at_line b n _ c bad) (no_header x y d v worse) =
+      absurd (worse (header_too text x y b c d))
   one_fault_lem text l m j k (at_line b n _ c bad) (at_line y o _ d worse) =
-      let p : (n ≡ o) × (j ≡ k) = one_first y n o j k (subst (λ (ls : List (List ℕ)). HasFault format ls n j) (same_body text b y c d) bad) worse in
+      let p : (n ≡ o) × (j ≡ k) =
+      one_first y n o j k (subst (λ (ls : List (List ℕ)). HasFault format ls n j) (same_body text b y c d) bad)
+      worse in
       (ap (λ (z : ℕ). z + 2) p.0, p.1)
   one_fault_lem text l m j k (at_line b n _ c bad) (no_end y fs d says none) =
-      absurd (fine_lines y n j fs (subst (λ (ls : List (List ℕ)). HasFault format ls n j) (same_body text b y c d) bad) says)
+      absurd (fine_lines y n j fs (subst (λ (ls : List (List ℕ)). HasFault format ls n j) (same_body text b y c d) bad)
+      says)
   one_fault_lem text l m j k (no_end b fs c says none) (too_long g) = absurd (omega (arith, g, c.cut.short))
-  one_fault_lem text l m j k (no_end b fs c says none) (header_not_utf8 x y d worse) = absurd (worse (utf8_too text x y b c d))
-  one_fault_lem text l m j k (no_end b fs c says none) (no_header x y d v worse) = absurd (worse (header_too text x y b c d))
+  one_fault_lem text l m j k (no_end b fs c says none) (header_not_utf8 x y d worse) =
+      absurd (worse (utf8_too text x y b c d))
+  one_fault_lem text l m j k (no_end b fs c says none) (no_header x y d v worse) =
+      absurd (worse (header_too text x y b c d))
   one_fault_lem text l m j k (no_end b fs c says none) (at_line y o _ d worse) =
-      absurd (fine_lines b o k fs (subst (λ (ls : List (List ℕ)). HasFault format ls o k) (same_body text y b d c) worse) says)
+      absurd (fine_lines b o k fs (subst (λ (ls : List (List ℕ)). HasFault format ls o k)
+      (same_body text y b d c) worse) says)
   one_fault_lem text l m j k (no_end b fs c says none) (no_end y gs d second lacks) = (refl, refl)
 
   -- the body of a text that fits
-  body_of : (text : List ℕ) (body : List (List ℕ)) (forms : List format.Form) → IsText format text forms → IsHeaded format text body → Says format [] body forms
-  body_of text body forms h c = subst (λ (ls : List (List ℕ)). Says format [] ls forms) (same_body text h.body body h.headed c) h.fine
+  body_of : (text : List ℕ) (body : List (List ℕ)) (forms : List format.Form) → IsText format text forms
+      → IsHeaded format text body → Says format [] body forms
+  body_of text body forms h c =
+      subst (λ (ls : List (List ℕ)). Says format [] ls forms) (same_body text h.body body h.headed c) h.fine
 
   -- a text that fits has no fault
-  pub not_both_lem : (text : List ℕ) (forms : List format.Form) (l : ℕ) (k : TextKind) → IsText format text forms → IsFault format text l k → ⊥
+  pub not_both_lem : (text : List ℕ) (forms : List format.Form) (l : ℕ) (k : TextKind) → IsText format text forms
+      → IsFault format text l k → ⊥
   not_both_lem text forms l k m (too_long h) = omega (arith, h, m.headed.cut.short)
   not_both_lem text forms l k m (header_not_utf8 a b c bad) = bad (utf8_too text a b m.body m.headed c)
   not_both_lem text forms l k m (no_header a b c u bad) = bad (header_too text a b m.body m.headed c)
@@ -184,7 +239,8 @@ module _ (format : Format) (one_form : HasOneForm format) where
       none (subst format.HasEnded (one_reading [] b forms fs (body_of text b forms m c) says) m.ended)
 
   -- a text that fits has one list of forms
-  pub one_forms_lem : (text : List ℕ) (forms others : List format.Form) → IsText format text forms → IsText format text others → forms ≡ others
+  pub one_forms_lem : (text : List ℕ) (forms others : List format.Form) → IsText format text forms
+      → IsText format text others → forms ≡ others
   one_forms_lem text forms others m n = one_reading [] n.body forms others (body_of text n.body forms m n.headed) n.fine
 
 -- ---- each text fits or has a fault
@@ -197,9 +253,11 @@ header_or_not format line =
 module _ (format : Format) (form_or_none : HasFormOrNone format) (ended_or_not : HasEndedOrNot format) where
   -- after lines that say s the line fits or is faulty
   abbrev FitsOrFaulty : format.Said → List ℕ → Type 0
-  FitsOrFaulty s line = ((added : List format.Form) × Fits format s line added) ⊎ ((kind : TextKind) × IsFaulty format s line kind)
+  FitsOrFaulty s line =
+      ((added : List format.Form) × Fits format s line added) ⊎ ((kind : TextKind) × IsFaulty format s line kind)
 
-  by_first_fault : (s : format.Said) (line : List ℕ) (f : format.Form) (o : Option TextKind) → IsUtf8 line → is_skipped line ≡ false → format.HasForm line f → format.first_fault s f ≡ o → FitsOrFaulty s line
+  by_first_fault : (s : format.Said) (line : List ℕ) (f : format.Form) (o : Option TextKind) → IsUtf8 line
+      → is_skipped line ≡ false → format.HasForm line f → format.first_fault s f ≡ o → FitsOrFaulty s line
   by_first_fault s line f None u k form e = inl (f ∷ [], of_form f u k form e)
   by_first_fault s line f (Some kind) u k form e = inr (kind, at_form f kind u k form e)
 
@@ -226,7 +284,8 @@ module _ (format : Format) (form_or_none : HasFormOrNone format) (ended_or_not :
     kind : TextKind
     wrong : IsFaulty format (format.said forms) line kind
 
-  lines_or_fault : (before : List format.Form) (lines : List (List ℕ)) → ((forms : List format.Form) × Says format before lines forms) ⊎ IsFaultAfter before lines
+  lines_or_fault : (before : List format.Form) (lines : List (List ℕ))
+      → ((forms : List format.Form) × Says format before lines forms) ⊎ IsFaultAfter before lines
   lines_or_fault before [] = inl (before, refl)
   lines_or_fault before (line ∷ lines) = ⊎_elim
       (λ fit. ⊎_elim
@@ -256,9 +315,12 @@ module _ (format : Format) (form_or_none : HasFormOrNone format) (ended_or_not :
 
   -- the text fits or has a fault
   abbrev IsTextOrFaulty : List ℕ → Type 0
-  IsTextOrFaulty text = ((forms : List format.Form) × IsText format text forms) ⊎ ((line : ℕ) × (kind : TextKind) × IsFault format text line kind)
+  IsTextOrFaulty text =
+      ((forms : List format.Form) × IsText format text forms)
+      ⊎ ((line : ℕ) × (kind : TextKind) × IsFault format text line kind)
 
-  by_end : (text : List ℕ) (body : List (List ℕ)) (forms : List format.Form) → IsHeaded format text body → Says format [] body forms → IsTextOrFaulty text
+  by_end : (text : List ℕ) (body : List (List ℕ)) (forms : List format.Form) → IsHeaded format text body
+      → Says format [] body forms → IsTextOrFaulty text
   by_end text body forms h says = ⊎_elim
       (λ e. inl (forms, record { body = body; headed = h; fine = says; ended = e }))
       (λ none. inr (length (lines_of text), End, no_end body forms h says none))
@@ -292,12 +354,14 @@ module _ (format : Format) (form_or_none : HasFormOrNone format) (ended_or_not :
       (λ bad. inr (1, NotUtf8, header_not_utf8 header body c bad))
       (utf8_or_not header)
 
-  by_lines : (text : List ℕ) (lines : List (List ℕ)) → length text ≤ most_bytes → 0 < length lines → lines_of text ≡ lines → IsTextOrFaulty text
+  by_lines : (text : List ℕ) (lines : List (List ℕ)) → length text ≤ most_bytes → 0 < length lines
+      → lines_of text ≡ lines → IsTextOrFaulty text
   by_lines text [] short some e = absurd (omega arith)
   by_lines text (header ∷ body) short some e = by_header text header body (record { short = short; cut = e })
 
   pub text_or_fault_lem : (text : List ℕ) → IsTextOrFaulty text
   text_or_fault_lem text = ⊎_elim
       (λ long. inr (1, Limit Text, too_long long))
-      (λ short. by_lines text (lines_of text) short (omega (arith, length-slice_split (λ b. eqb b 10) (without_last_feed text))) refl)
+      (λ short. by_lines text (lines_of text) short
+      (omega (arith, length-slice_split (λ b. eqb b 10) (without_last_feed text))) refl)
       (cases_lt most_bytes (length text))

@@ -23,34 +23,43 @@ use Rattle.nll_live.proofs.GatheringLemmas.{contains_none}
 pub some_type : (body : BodyText) (x : ℕ) → x < length body.variables → (t : TypeTree) × HasType body x t
 some_type body x within = by (slice_get_cases body.variables x).1
   where
-    by : ((t : TypeTree) × (x < length body.variables) × (slice_get body.variables x ≡ Some t) × (get_or body.variables x t ≡ t)) ⊎ ((length body.variables ≤ x) × (slice_get body.variables x ≡ None)) → (t : TypeTree) × HasType body x t
+    by : ((t : TypeTree) × (x < length body.variables) × (slice_get body.variables x ≡ Some t)
+        × (get_or body.variables x t ≡ t)) ⊎ ((length body.variables ≤ x) × (slice_get body.variables x ≡ None))
+        → (t : TypeTree) × HasType body x t
     by (inl h) = (h.0, h.2)
     by (inr h) = absurd (omega (arith, h.0))
 
 -- a variable asks for its regions where it is live
-pub asked : (body : BodyText) (x : ℕ) (regions : List ℕ) (runs : List Run) (wants : TypeTree → ℕ → Type 0) (live : ℕ → Type 0) (old new : List BaseRun) → x < length body.variables
-    → ((t : TypeTree) → HasType body x t → (r : ℕ) → Contains regions r ↔ wants t r) → ((p : ℕ) → IsInRuns runs p ↔ live p)
+pub asked : (body : BodyText) (x : ℕ) (regions : List ℕ) (runs : List Run) (wants : TypeTree → ℕ → Type 0)
+    (live : ℕ → Type 0) (old new : List BaseRun) → x < length body.variables
+    → ((t : TypeTree) → HasType body x t → (r : ℕ) → Contains regions r ↔ wants t r)
+    → ((p : ℕ) → IsInRuns runs p ↔ live p)
     → Gains (λ r p. Contains regions r × IsInRuns runs p) old new
     → Gains (λ r p. (t : TypeTree) × HasType body x t × live p × wants t r) old new
 asked body x regions runs wants live old new within each in_runs =
-    gains_as (λ r p. Contains regions r × IsInRuns runs p) (λ r p. (t : TypeTree) × HasType body x t × live p × wants t r) old new (λ r p. (
+    gains_as (λ r p. Contains regions r × IsInRuns runs p)
+    (λ r p. (t : TypeTree) × HasType body x t × live p × wants t r) old new (λ r p. (
       λ h. let t = some_type body x within in (t.0, t.1, (in_runs p).0 h.1, ((each t.0 t.1) r).0 h.0),
       λ h. (((each h.0 h.1) r).1 h.3, (in_runs p).1 h.2),
     ))
 
 -- a variable asks for its regions at the points of these walks, which are those where it is live
-pub asked_of : (body : BodyText) (x : ℕ) (regions : List ℕ) (wants : TypeTree → ℕ → Type 0) (walks live : ℕ → Type 0) (old new : List BaseRun) → x < length body.variables
+pub asked_of : (body : BodyText) (x : ℕ) (regions : List ℕ) (wants : TypeTree → ℕ → Type 0) (walks live : ℕ → Type 0)
+    (old new : List BaseRun) → x < length body.variables
     → ((t : TypeTree) → HasType body x t → (r : ℕ) → Contains regions r ↔ wants t r) → ((p : ℕ) → walks p ↔ live p)
     → Gains (λ r p. Contains regions r × walks p) old new
     → Gains (λ r p. (t : TypeTree) × HasType body x t × live p × wants t r) old new
 asked_of body x regions wants walks live old new within each same =
-    gains_as (λ r p. Contains regions r × walks p) (λ r p. (t : TypeTree) × HasType body x t × live p × wants t r) old new (λ r p. (
+    gains_as (λ r p. Contains regions r × walks p)
+    (λ r p. (t : TypeTree) × HasType body x t × live p × wants t r) old new (λ r p. (
       λ h. let t = some_type body x within in (t.0, t.1, (same p).0 h.1, ((each t.0 t.1) r).0 h.0),
       λ h. (((each h.0 h.1) r).1 h.3, (same p).1 h.2),
     ))
 
 -- the runs of a set are of the points that it has
-pub runs_of_set : (body : BodyText) (holds : ℕ → ℕ → Type 0) (sets : List (List Bool)) (x : ℕ) (runs : List Run) → AreSetsOf body holds sets → x < length sets → MakeUp runs (slice_index_or sets x []) → (p : ℕ) → IsInRuns runs p ↔ holds x p
+pub runs_of_set : (body : BodyText) (holds : ℕ → ℕ → Type 0) (sets : List (List Bool)) (x : ℕ) (runs : List Run)
+    → AreSetsOf body holds sets → x < length sets → MakeUp runs (slice_index_or sets x []) → (p : ℕ)
+    → IsInRuns runs p ↔ holds x p
 runs_of_set body holds sets x runs are within made p = (
   λ h. (are.each x p within).0 ((made p).0 h),
   λ h. (made p).1 ((are.each x p within).1 h),
@@ -65,7 +74,9 @@ IsAsked body n r p = (x : ℕ) × (x < n) × (AsksForUse body x r p ⊎ AsksForD
 pub asked_first : (body : BodyText) (r p : ℕ) → IsInBaseRuns [] r p ↔ IsAsked body 0 r p
 asked_first body r p = (λ h. absurd (contains_none h.0 h.1), λ h. absurd (omega (arith, h.1)))
 
-pub asked_step : (body : BodyText) (n : ℕ) (old mid new : List BaseRun) → ((r p : ℕ) → IsInBaseRuns old r p ↔ IsAsked body n r p) → Gains (AsksForUse body n) old mid → Gains (AsksForDrop body n) mid new → (r p : ℕ) → IsInBaseRuns new r p ↔ IsAsked body (n + 1) r p
+pub asked_step : (body : BodyText) (n : ℕ) (old mid new : List BaseRun)
+    → ((r p : ℕ) → IsInBaseRuns old r p ↔ IsAsked body n r p) → Gains (AsksForUse body n) old mid
+    → Gains (AsksForDrop body n) mid new → (r p : ℕ) → IsInBaseRuns new r p ↔ IsAsked body (n + 1) r p
 asked_step body n old mid new before f g r p = (
   λ h. ⊎_elim
       (λ was. ⊎_elim
@@ -84,7 +95,8 @@ asked_step body n old mid new before f g r p = (
     last (inl h) = (g r p).1 (inl ((f r p).1 (inr h)))
     last (inr h) = (g r p).1 (inr h)
 
-pub asked_last : (body : BodyText) (n : ℕ) → length body.variables ≤ n → (r p : ℕ) → IsAsked body n r p ↔ IsBaseOf body r p
+pub asked_last : (body : BodyText) (n : ℕ) → length body.variables ≤ n → (r p : ℕ)
+    → IsAsked body n r p ↔ IsBaseOf body r p
 asked_last body n all r p = (
   λ h. (h.0, h.2),
   λ h. (h.0, omega (arith, all, declared h.0 h.1), h.1),
@@ -97,7 +109,8 @@ asked_last body n all r p = (
 -- ---- ranges
 
 -- base elements are points, and of regions of the body
-pub base_within : (body : BodyText) → IsSound body → (r p : ℕ) → IsBaseOf body r p → (r < length body.names) × (p < length body.points)
+pub base_within : (body : BodyText) → IsSound body → (r p : ℕ) → IsBaseOf body r p
+    → (r < length body.names) × (p < length body.points)
 base_within body sound r p h = by h.0 h.1
   where
     by : (x : ℕ) → AsksForUse body x r p ⊎ AsksForDrop body x r p → (r < length body.names) × (p < length body.points)
@@ -106,7 +119,8 @@ base_within body sound r p h = by h.0 h.1
       live_within body (UsesAt body x) x (λ q u. slice_get_within body.points q u.0 u.1) p a.2,
     )
     by x (inr a) = (
-      drop_region_within body.structs sound.in_order (length body.names) (omega (arith, sound.some_universal, sound.all_universals)) a.0 (good_type body sound x a.0 a.1) r a.3,
+      drop_region_within body.structs sound.in_order (length body.names)
+          (omega (arith, sound.some_universal, sound.all_universals)) a.0 (good_type body sound x a.0 a.1) r a.3,
       live_within body (DropsAt body x) x (λ q d. slice_get_within body.points q d.0 d.1) p a.2,
     )
 
@@ -120,9 +134,11 @@ module _ (asks : ℕ → ℕ → ℕ → Type 0) (first : List BaseRun) where
   pub asked_to_first : AreAskedTo 0 first
   asked_to_first = gains_none (λ r p. (x : ℕ) × (x < 0) × asks x r p) first (λ r p h. omega (arith, h.1))
 
-  pub asked_to_step : (n : ℕ) (mid new : List BaseRun) → AreAskedTo n mid → Gains (asks n) mid new → AreAskedTo (n + 1) new
+  pub asked_to_step : (n : ℕ) (mid new : List BaseRun) → AreAskedTo n mid → Gains (asks n) mid new
+      → AreAskedTo (n + 1) new
   asked_to_step n mid new before more =
-      gains_as (λ r p. ((x : ℕ) × (x < n) × asks x r p) ⊎ asks n r p) (λ r p. (x : ℕ) × (x < n + 1) × asks x r p) first new (λ r p. (
+      gains_as (λ r p. ((x : ℕ) × (x < n) × asks x r p) ⊎ asks n r p)
+      (λ r p. (x : ℕ) × (x < n + 1) × asks x r p) first new (λ r p. (
         ⊎_elim (λ h. (h.0, omega (arith, h.1), h.2)) (λ h. (n, omega arith, h)),
         λ h. ⊎_elim
             (λ low. inl (h.0, low, h.2))
@@ -131,7 +147,8 @@ module _ (asks : ℕ → ℕ → ℕ → Type 0) (first : List BaseRun) where
       ))
       (gains_append (λ r p. (x : ℕ) × (x < n) × asks x r p) (asks n) first mid new before more)
 
-  pub asked_to_last : (n : ℕ) (now : List BaseRun) → ((x r p : ℕ) → asks x r p → x < n) → AreAskedTo n now → Gains (λ r p. (x : ℕ) × asks x r p) first now
+  pub asked_to_last : (n : ℕ) (now : List BaseRun) → ((x r p : ℕ) → asks x r p → x < n) → AreAskedTo n now
+      → Gains (λ r p. (x : ℕ) × asks x r p) first now
   asked_to_last n now all =
       gains_as (λ r p. (x : ℕ) × (x < n) × asks x r p) (λ r p. (x : ℕ) × asks x r p) first now (λ r p. (
         λ h. (h.0, h.2),
@@ -146,7 +163,8 @@ pub drop_declared : (body : BodyText) (x r p : ℕ) → AsksForDrop body x r p �
 drop_declared body x r p h = slice_get_within body.variables x h.0 h.1
 
 -- what uses and drops ask for together are the base elements
-pub both_asked : (body : BodyText) (mid new : List BaseRun) → Gains (λ r p. (x : ℕ) × AsksForUse body x r p) [] mid → Gains (λ r p. (x : ℕ) × AsksForDrop body x r p) mid new → (r p : ℕ) → IsInBaseRuns new r p ↔ IsBaseOf body r p
+pub both_asked : (body : BodyText) (mid new : List BaseRun) → Gains (λ r p. (x : ℕ) × AsksForUse body x r p) [] mid
+    → Gains (λ r p. (x : ℕ) × AsksForDrop body x r p) mid new → (r p : ℕ) → IsInBaseRuns new r p ↔ IsBaseOf body r p
 both_asked body mid new uses drops r p = (
   λ h. ⊎_elim
       (λ before. ⊎_elim

@@ -21,7 +21,8 @@ module _ (goes_on : ℕ → ℕ → Type 0) where
     chain = λ p h. absurd (omega (arith, h));
   }
 
-  pub starts_step : (n : ℕ) (starts : List ℕ) (start : ℕ) → AreStarts goes_on n starts → start ≤ n → IsChain goes_on start n → AreStarts goes_on (n + 1) (starts ++ start ∷ [])
+  pub starts_step : (n : ℕ) (starts : List ℕ) (start : ℕ) → AreStarts goes_on n starts → start ≤ n
+      → IsChain goes_on start n → AreStarts goes_on (n + 1) (starts ++ start ∷ [])
   starts_step n starts start are low chain = record {
     counted = length-append starts (start ∷ []) ∙ ap (λ k. k + 1) are.counted;
     before = λ p h. ⊎_elim
@@ -30,7 +31,8 @@ module _ (goes_on : ℕ → ℕ → Type 0) where
         (cases_lt p n);
     chain = λ p h. ⊎_elim
         (λ less. subst (λ s. IsChain goes_on s p) (sym (old p less)) (are.chain p less))
-        (λ last. subst (λ s. IsChain goes_on s p) (sym (now p h last)) (subst (IsChain goes_on start) (omega (arith, h, last)) chain))
+        (λ last. subst (λ s. IsChain goes_on s p) (sym (now p h last))
+        (subst (IsChain goes_on start) (omega (arith, h, last)) chain))
         (cases_lt p n);
   }
     where
@@ -45,25 +47,29 @@ module _ (goes_on : ℕ → ℕ → Type 0) where
   chain_alone p q above upto = absurd (omega (arith, above, upto))
 
   -- a chain goes on
-  pub chain_step : (first n p : ℕ) → n + 1 ≡ p → IsChain goes_on first n → FollowsAlone goes_on p → IsChain goes_on first p
+  pub chain_step : (first n p : ℕ) → n + 1 ≡ p → IsChain goes_on first n → FollowsAlone goes_on p
+      → IsChain goes_on first p
   chain_step first n p next chain alone q above upto = ⊎_elim
       (λ less. chain q above (omega (arith, less, next)))
       (λ last. subst (FollowsAlone goes_on) (omega (arith, upto, last)) alone)
       (cases_lt q p)
 
 -- one point alone goes on to q, and it is the one before it
-pub alone_before : (goes_on : ℕ → ℕ → Type 0) (points : List ℕ) (q : ℕ) → ((p : ℕ) → Contains points p ↔ goes_on p q) → length points ≡ 1 → 0 < q → slice_index points 0 ≡ q - 1 → FollowsAlone goes_on q
+pub alone_before : (goes_on : ℕ → ℕ → Type 0) (points : List ℕ) (q : ℕ) → ((p : ℕ) → Contains points p ↔ goes_on p q)
+    → length points ≡ 1 → 0 < q → slice_index points 0 ≡ q - 1 → FollowsAlone goes_on q
 alone_before goes_on points q each one some is p = (
   λ step. let c = (each p).1 step in
       let first : c.0 ≡ 0 = omega (arith, c.1, one) in
       let at : get_or points c.0 0 ≡ p = get_or_default points c.0 0 p c.1 ∙ c.2 in
       let read : slice_index points 0 ≡ p = subst (λ k. get_or points k 0 ≡ p) first at in
       omega (arith, read, is, some),
-  λ next. (each p).0 (subst (Contains points) (is ∙ omega (arith, next, some)) (Contains-get_or points 0 0 (omega (arith, one)))),
+  λ next. (each p).0 (subst (Contains points) (is ∙ omega (arith, next, some))
+      (Contains-get_or points 0 0 (omega (arith, one)))),
 )
 
 -- the starts of a graph are those of its body
-pub starts_of_body : (body : BodyText) (graph : Graph) (starts : List ℕ) → IsGraphOf body graph → AreStarts (IsNext graph) (length body.points) starts → AreStarts (GoesOn body) (length body.points) starts
+pub starts_of_body : (body : BodyText) (graph : Graph) (starts : List ℕ) → IsGraphOf body graph
+    → AreStarts (IsNext graph) (length body.points) starts → AreStarts (GoesOn body) (length body.points) starts
 starts_of_body body graph starts shown are = record {
   counted = are.counted;
   before = are.before;
@@ -75,7 +81,9 @@ starts_of_body body graph starts shown are = record {
 
 -- ---- liveness along a chain
 
-module _ (body : BodyText) (ends : ℕ → Type 0) (x : ℕ) (starts definitions : List ℕ) (are : AreStarts (GoesOn body) (length body.points) starts) (defined : AreDefinitions body x definitions) (p low : ℕ) (within : p < length body.points) (is : IsLow (slice_index starts p) definitions p low) where
+module _ (body : BodyText) (ends : ℕ → Type 0) (x : ℕ) (starts definitions : List ℕ)
+    (are : AreStarts (GoesOn body) (length body.points) starts) (defined : AreDefinitions body x definitions)
+    (p low : ℕ) (within : p < length body.points) (is : IsLow (slice_index starts p) definitions p low) where
   -- a point behind the low one follows the one before it alone
   pub follows : (q : ℕ) → low < q → q ≤ p → FollowsAlone (GoesOn body) q
   follows q above upto = are.chain p within q (omega (arith, is.above, above)) upto
@@ -91,6 +99,8 @@ module _ (body : BodyText) (ends : ℕ → Type 0) (x : ℕ) (starts definitions
       down : (d q : ℕ) → low ≤ q → q + d ≡ p → IsLive body ends x q
       down zero q from at = subst (IsLive body ends x) (omega (arith, sym at)) live
       down (suc d) q from at =
-          live_before body ends x q (q + 1)
-          (none_defines q from (omega (arith, at)), (follows (q + 1) (omega (arith, from)) (omega (arith, at)) q).1 refl)
+          live_before body ends x q (q + 1) (
+            none_defines q from (omega (arith, at)),
+            (follows (q + 1) (omega (arith, from)) (omega (arith, at)) q).1 refl,
+          )
           (down d (q + 1) (omega (arith, from)) (omega (arith, at)))

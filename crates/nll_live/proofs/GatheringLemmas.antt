@@ -26,8 +26,10 @@ lists_one old x p within = record {
   each = λ y q h. ⊎_elim
       (λ is. subst (λ z. IsListed (with_item old x p) z q ↔ (IsListed old z q ⊎ ((z ≡ x) × (q ≡ p)))) (sym is) (here q))
       (λ isnt. (
-        λ listed. inl (subst (λ row. Contains row q) (get_or-set_other old x y (row_at old x ++ p ∷ []) [] isnt) listed),
-        ⊎_elim (λ listed. subst (λ row. Contains row q) (sym (get_or-set_other old x y (row_at old x ++ p ∷ []) [] isnt)) listed) (λ now. absurd (isnt now.0)),
+        λ listed. inl (subst (λ row. Contains row q)
+            (get_or-set_other old x y (row_at old x ++ p ∷ []) [] isnt) listed),
+        ⊎_elim (λ listed. subst (λ row. Contains row q)
+            (sym (get_or-set_other old x y (row_at old x ++ p ∷ []) [] isnt)) listed) (λ now. absurd (isnt now.0)),
       ))
       (cases_eq y x);
 }
@@ -37,7 +39,8 @@ lists_one old x p within = record {
 
     here : (q : ℕ) → IsListed (with_item old x p) x q ↔ (IsListed old x q ⊎ ((x ≡ x) × (q ≡ p)))
     here q = (
-      λ listed. ⊎_elim inl (λ is. inr (refl, sym is)) (Contains-push_cases (row_at old x) p q (subst (λ row. Contains row q) at listed)),
+      λ listed. ⊎_elim inl (λ is. inr (refl, sym is))
+          (Contains-push_cases (row_at old x) p q (subst (λ row. Contains row q) at listed)),
       λ h. subst (λ row. Contains row q) (sym at) (⊎_elim
           (λ listed. Contains-append_left (row_at old x) (p ∷ []) q listed)
           (λ now. subst (Contains (row_at old x ++ p ∷ [])) (sym now.1) (Contains-push (row_at old x) p))
@@ -45,14 +48,16 @@ lists_one old x p within = record {
     )
 
 -- there is no list for a variable of this kind
-pub lists_none : (kind : ℕ → Type 0) (p : ℕ) (lists : List (List ℕ)) → ((x : ℕ) → x < length lists → kind x → ⊥) → Lists kind p lists lists
+pub lists_none : (kind : ℕ → Type 0) (p : ℕ) (lists : List (List ℕ)) → ((x : ℕ) → x < length lists → kind x → ⊥)
+    → Lists kind p lists lists
 lists_none kind p lists empty = record {
   counted = refl;
   each = λ x q h. (inl, ⊎_elim (λ listed. listed) (λ now. absurd (empty x h now.0)));
 }
 
 -- some variables, and then others
-pub lists_append : (a b : ℕ → Type 0) (p : ℕ) (old mid new : List (List ℕ)) → Lists a p old mid → Lists b p mid new → Lists (λ x. a x ⊎ b x) p old new
+pub lists_append : (a b : ℕ → Type 0) (p : ℕ) (old mid new : List (List ℕ)) → Lists a p old mid → Lists b p mid new
+    → Lists (λ x. a x ⊎ b x) p old new
 lists_append a b p old mid new f g = record {
   counted = g.counted ∙ f.counted;
   each = λ x q h.
@@ -71,7 +76,8 @@ lists_append a b p old mid new f g = record {
 }
 
 -- the same variables, said otherwise
-pub lists_as : (a b : ℕ → Type 0) (p : ℕ) (old new : List (List ℕ)) → ((x : ℕ) → a x ↔ b x) → Lists a p old new → Lists b p old new
+pub lists_as : (a b : ℕ → Type 0) (p : ℕ) (old new : List (List ℕ)) → ((x : ℕ) → a x ↔ b x) → Lists a p old new
+    → Lists b p old new
 lists_as a b p old new same f = record {
   counted = f.counted;
   each = λ x q h. (
@@ -81,42 +87,54 @@ lists_as a b p old new same f = record {
 }
 
 -- a loop over variables: none yet, and one more
-pub lists_first : (variables : List ℕ) (p : ℕ) (lists : List (List ℕ)) → Lists (Contains (take 0 variables)) p lists lists
+pub lists_first : (variables : List ℕ) (p : ℕ) (lists : List (List ℕ))
+    → Lists (Contains (take 0 variables)) p lists lists
 lists_first variables p lists = lists_none (Contains []) p lists (λ x h. contains_none x)
 
-pub lists_step : (variables : List ℕ) (k p : ℕ) (old mid new : List (List ℕ)) → k < length variables → Lists (Contains (take k variables)) p old mid → Lists (λ x. x ≡ get_or variables k 0) p mid new → Lists (Contains (take (k + 1) variables)) p old new
+pub lists_step : (variables : List ℕ) (k p : ℕ) (old mid new : List (List ℕ)) → k < length variables
+    → Lists (Contains (take k variables)) p old mid → Lists (λ x. x ≡ get_or variables k 0) p mid new
+    → Lists (Contains (take (k + 1) variables)) p old new
 lists_step variables k p old mid new within f g =
     let more = take_more variables k 0 within in
-    lists_as (λ x. Contains (take k variables) x ⊎ (x ≡ get_or variables k 0)) (Contains (take (k + 1) variables)) p old new
+    lists_as (λ x. Contains (take k variables) x ⊎ (x ≡ get_or variables k 0))
+    (Contains (take (k + 1) variables)) p old new
     (λ x. (
       λ h. subst (λ xs. Contains xs x) (sym more) (⊎_elim
           (λ there. Contains-append_left (take k variables) (get_or variables k 0 ∷ []) x there)
-          (λ is. subst (Contains (take k variables ++ get_or variables k 0 ∷ [])) (sym is) (Contains-push (take k variables) (get_or variables k 0)))
+          (λ is. subst (Contains (take k variables ++ get_or variables k 0 ∷ [])) (sym is)
+          (Contains-push (take k variables) (get_or variables k 0)))
           h),
-      λ h. ⊎_elim inl (λ is. inr (sym is)) (Contains-push_cases (take k variables) (get_or variables k 0) x (subst (λ xs. Contains xs x) more h)),
+      λ h. ⊎_elim inl (λ is. inr (sym is))
+          (Contains-push_cases (take k variables) (get_or variables k 0) x (subst (λ xs. Contains xs x) more h)),
     ))
     (lists_append (Contains (take k variables)) (λ x. x ≡ get_or variables k 0) p old mid new f g)
 
 -- ---- what stands at the point
 
 -- something stands at each point
-pub something_stands : (body : BodyText) (p : ℕ) → p < length body.points → (i : Statement ℕ TypeTree) × StandsAt body p i
+pub something_stands : (body : BodyText) (p : ℕ) → p < length body.points
+    → (i : Statement ℕ TypeTree) × StandsAt body p i
 something_stands body p within = by (slice_get_cases body.points p).1
   where
-    by : ((i : Statement ℕ TypeTree) × (p < length body.points) × (slice_get body.points p ≡ Some i) × (get_or body.points p i ≡ i)) ⊎ ((length body.points ≤ p) × (slice_get body.points p ≡ None)) → (i : Statement ℕ TypeTree) × StandsAt body p i
+    by : ((i : Statement ℕ TypeTree) × (p < length body.points) × (slice_get body.points p ≡ Some i)
+        × (get_or body.points p i ≡ i)) ⊎ ((length body.points ≤ p) × (slice_get body.points p ≡ None))
+        → (i : Statement ℕ TypeTree) × StandsAt body p i
     by (inl h) = (h.0, h.2)
     by (inr h) = absurd (omega (arith, h.0))
 
 module _ (body : BodyText) (p : ℕ) (within : p < length body.points) where
   -- the variables that it uses
-  pub uses_are : (used : List ℕ) → ((i : Statement ℕ TypeTree) → StandsAt body p i → used ≡ variables_used i) → (x : ℕ) → Contains used x ↔ UsesAt body x p
+  pub uses_are : (used : List ℕ) → ((i : Statement ℕ TypeTree) → StandsAt body p i → used ≡ variables_used i) → (x : ℕ)
+      → Contains used x ↔ UsesAt body x p
   uses_are used is x = (
-    λ h. let here = something_stands body p within in (here.0, here.1, subst (λ xs. Contains xs x) (is here.0 here.1) h),
+    λ h. let here = something_stands body p within in
+        (here.0, here.1, subst (λ xs. Contains xs x) (is here.0 here.1) h),
     λ h. subst (λ xs. Contains xs x) (sym (is h.0 h.1)) h.2,
   )
 
   -- the variable that it drops
-  pub drop_is : (y : ℕ) → ((i : Statement ℕ TypeTree) → StandsAt body p i → Some y ≡ dropped i) → (x : ℕ) → (x ≡ y) ↔ DropsAt body x p
+  pub drop_is : (y : ℕ) → ((i : Statement ℕ TypeTree) → StandsAt body p i → Some y ≡ dropped i) → (x : ℕ)
+      → (x ≡ y) ↔ DropsAt body x p
   drop_is y is x = (
     λ h. let here = something_stands body p within in (here.0, here.1, sym (is here.0 here.1) ∙ ap Some (sym h)),
     λ h. some_same x y (sym h.2 ∙ sym (is h.0 h.1)),
@@ -133,7 +151,8 @@ module _ (body : BodyText) (p : ℕ) (within : p < length body.points) where
       none_some a e = cc
 
   -- the variable that it defines
-  pub definition_is : (y : ℕ) → ((i : Statement ℕ TypeTree) → StandsAt body p i → Some y ≡ defined i) → (x : ℕ) → (y ≡ x) ↔ DefinesAt body x p
+  pub definition_is : (y : ℕ) → ((i : Statement ℕ TypeTree) → StandsAt body p i → Some y ≡ defined i) → (x : ℕ)
+      → (y ≡ x) ↔ DefinesAt body x p
   definition_is y is x = (
     λ h. let here = something_stands body p within in (here.0, here.1, sym (is here.0 here.1) ∙ ap Some h),
     λ h. some_same y x (is h.0 h.1 ∙ h.2),
@@ -143,7 +162,8 @@ module _ (body : BodyText) (p : ℕ) (within : p < length body.points) where
       some_same a b e = cc
 
   -- or none
-  pub no_definition : ((i : Statement ℕ TypeTree) → StandsAt body p i → None ≡ defined i) → (x : ℕ) → DefinesAt body x p → ⊥
+  pub no_definition : ((i : Statement ℕ TypeTree) → StandsAt body p i → None ≡ defined i) → (x : ℕ) → DefinesAt body x p
+      → ⊥
   no_definition is x h = none_some x (is h.0 h.1 ∙ h.2)
     where
       none_some : (a : ℕ) → None ≡ Some a → ⊥
@@ -162,7 +182,8 @@ listed_first count holds = record {
 }
 
 -- one point more
-pub listed_step : (count : ℕ) (holds : ℕ → ℕ → Type 0) (n : ℕ) (old new : List (List ℕ)) → AreListed count holds n old → Lists (λ x. holds x n) n old new → AreListed count holds (n + 1) new
+pub listed_step : (count : ℕ) (holds : ℕ → ℕ → Type 0) (n : ℕ) (old new : List (List ℕ)) → AreListed count holds n old
+    → Lists (λ x. holds x n) n old new → AreListed count holds (n + 1) new
 listed_step count holds n old new f g = record {
   counted = g.counted ∙ f.counted;
   each = λ x p h.
@@ -179,10 +200,12 @@ listed_step count holds n old new f g = record {
 }
 
 -- no list has a point for a variable that isn't there
-pub listed_within : (count : ℕ) (holds : ℕ → ℕ → Type 0) (n : ℕ) (lists : List (List ℕ)) → AreListed count holds n lists → (x p : ℕ) → IsListed lists x p → (x < count) × holds x p × (p < n)
+pub listed_within : (count : ℕ) (holds : ℕ → ℕ → Type 0) (n : ℕ) (lists : List (List ℕ)) → AreListed count holds n lists
+    → (x p : ℕ) → IsListed lists x p → (x < count) × holds x p × (p < n)
 listed_within count holds n lists f x p listed = ⊎_elim
     (λ low. let is = (f.each x p low).0 listed in (low, is.0, is.1))
-    (λ high. absurd (contains_none p (subst (λ row. Contains row p) (get_or_past lists x [] (omega (arith, high, f.counted))) listed)))
+    (λ high. absurd (contains_none p (subst (λ row. Contains row p)
+    (get_or_past lists x [] (omega (arith, high, f.counted))) listed)))
     (cases_lt x count)
 
 -- ---- order
@@ -197,19 +220,26 @@ ascend_first count x = ⊎_elim
     (λ high. here (get_or_past (replicate count []) x [] (omega (arith, high, length-replicate {A = List ℕ} count []))))
     (cases_lt x count)
   where
-    here : row_at (replicate count []) x ≡ [] → AllPairs ◌<◌ (row_at (replicate count []) x) × ((p : ℕ) → IsListed (replicate count []) x p → p < 0)
-    here none = (subst (AllPairs ◌<◌) (sym none) none_ascends, λ p h. absurd (contains_none p (subst (λ row. Contains row p) none h)))
+    here : row_at (replicate count []) x ≡ []
+        → AllPairs ◌<◌ (row_at (replicate count []) x) × ((p : ℕ) → IsListed (replicate count []) x p → p < 0)
+    here none = (
+      subst (AllPairs ◌<◌) (sym none) none_ascends,
+      λ p h. absurd (contains_none p (subst (λ row. Contains row p) none h)),
+    )
 
 -- lists that have points below one have points below a later one
 pub ascend_later : (m n : ℕ) (lists : List (List ℕ)) → m ≤ n → AscendBelow m lists → AscendBelow n lists
 ascend_later m n lists more h x = ((h x).0, λ p c. omega (arith, more, (h x).1 p c))
 
 -- a point that comes later is put into one list
-pub ascend_one : (lists : List (List ℕ)) (x p : ℕ) → x < length lists → AscendBelow p lists → AscendBelow (p + 1) (with_item lists x p)
+pub ascend_one : (lists : List (List ℕ)) (x p : ℕ) → x < length lists → AscendBelow p lists
+    → AscendBelow (p + 1) (with_item lists x p)
 ascend_one lists x p within h y = ⊎_elim
-    (λ is. subst (λ z. AllPairs ◌<◌ (row_at (with_item lists x p) z) × ((q : ℕ) → IsListed (with_item lists x p) z q → q < p + 1)) (sym is) here)
+    (λ is. subst (λ z. AllPairs ◌<◌ (row_at (with_item lists x p) z)
+    × ((q : ℕ) → IsListed (with_item lists x p) z q → q < p + 1)) (sym is) here)
     (λ isnt.
-    let same : row_at (with_item lists x p) y ≡ row_at lists y = get_or-set_other lists x y (row_at lists x ++ p ∷ []) [] isnt in
+    let same : row_at (with_item lists x p) y ≡ row_at lists y =
+    get_or-set_other lists x y (row_at lists x ++ p ∷ []) [] isnt in
     (subst (AllPairs ◌<◌) (sym same) (h y).0, λ q c. omega (arith, (h y).1 q (subst (λ row. Contains row q) same c))))
     (cases_eq y x)
   where
@@ -218,7 +248,8 @@ ascend_one lists x p within h y = ⊎_elim
 
     here : AllPairs ◌<◌ (row_at (with_item lists x p) x) × ((q : ℕ) → IsListed (with_item lists x p) x q → q < p + 1)
     here = (
-      subst (AllPairs ◌<◌) (sym at) (all_pairs_push ◌<◌ (row_at lists x) p (h x).0 (λ k d low. (h x).1 (get_or (row_at lists x) k d) (Contains-get_or (row_at lists x) k d low))),
+      subst (AllPairs ◌<◌) (sym at) (all_pairs_push ◌<◌ (row_at lists x) p (h x).0
+          (λ k d low. (h x).1 (get_or (row_at lists x) k d) (Contains-get_or (row_at lists x) k d low))),
       λ q c. ⊎_elim
           (λ there. omega (arith, (h x).1 q there))
           (λ is. omega (arith, is))
@@ -226,13 +257,15 @@ ascend_one lists x p within h y = ⊎_elim
     )
 
 -- all points are listed, so the lists are of the definitions
-pub definitions_listed : (body : BodyText) (n : ℕ) (lists : List (List ℕ)) → length body.points ≤ n → AreListed (length body.variables) (DefinesAt body) n lists → AscendBelow n lists → AreDefined body lists
+pub definitions_listed : (body : BodyText) (n : ℕ) (lists : List (List ℕ)) → length body.points ≤ n
+    → AreListed (length body.variables) (DefinesAt body) n lists → AscendBelow n lists → AreDefined body lists
 definitions_listed body n lists all listed ascending = record {
   counted = listed.counted;
   each = λ x h. record {
     each = λ p. (
       λ c. ((listed.each x p (omega (arith, h, listed.counted))).0 c).0,
-      λ d. (listed.each x p (omega (arith, h, listed.counted))).1 (d, omega (arith, all, slice_get_within body.points p d.0 d.1)),
+      λ d. (listed.each x p (omega (arith, h, listed.counted))).1
+          (d, omega (arith, all, slice_get_within body.points p d.0 d.1)),
     );
     ascending = (ascending x).0;
   };

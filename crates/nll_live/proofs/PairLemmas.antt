@@ -40,30 +40,39 @@ module _ (region first end : ℕ) (old : List (ℕ × ℕ)) where
     before = before;
   }
 
-  pub pushing_step : (point : ℕ) (new : List (ℕ × ℕ)) → point < end → Pushing region first end old point new → Pushing region first end old (point + 1) (new ++ (region, point) ∷ [])
+  pub pushing_step : (point : ℕ) (new : List (ℕ × ℕ)) → point < end → Pushing region first end old point new
+      → Pushing region first end old (point + 1) (new ++ (region, point) ∷ [])
   pushing_step point new within h = record {
     begun = omega (arith, h.begun);
     upto = inr (omega (arith, within));
     each = λ r p. (
       λ c. ⊎_elim
           (λ there. ⊎_elim inl (λ on. inr (on.0, on.1, omega (arith, on.2))) ((h.each r p).0 there))
-          (λ is. inr (pair_left region point r p is, omega (arith, h.begun, pair_right region point r p is), omega (arith, pair_right region point r p is)))
+          (λ is. inr (
+            pair_left region point r p is,
+            omega (arith, h.begun, pair_right region point r p is),
+            omega (arith, pair_right region point r p is),
+          ))
           (Contains-push_cases new (region, point) (r, p) c),
       ⊎_elim
           (λ there. Contains-append_left new ((region, point) ∷ []) (r, p) ((h.each r p).1 (inl there)))
           (λ on. ⊎_elim
           (λ low. Contains-append_left new ((region, point) ∷ []) (r, p) ((h.each r p).1 (inr (on.0, on.1, low))))
-          (λ high. subst (Contains (new ++ (region, point) ∷ [])) (same_pair region point r p on.0 (omega (arith, high, on.2))) (Contains-push new (region, point)))
+          (λ high. subst (Contains (new ++ (region, point) ∷ []))
+          (same_pair region point r p on.0 (omega (arith, high, on.2))) (Contains-push new (region, point)))
           (cases_lt p point)),
     );
-    ascending = all_pairs_push IsEarlier new (region, point) h.ascending (λ k d low. h.before (get_or new k d).0 (get_or new k d).1 (Contains-get_or new k d low));
+    ascending =
+        all_pairs_push IsEarlier new (region, point) h.ascending
+        (λ k d low. h.before (get_or new k d).0 (get_or new k d).1 (Contains-get_or new k d low));
     before = λ q e c. ⊎_elim
         (λ there. ⊎_elim inl (λ same. inr (same.0, omega (arith, same.1))) (h.before q e there))
         (λ is. inr (sym (pair_left region point q e is), omega (arith, pair_right region point q e is)))
         (Contains-push_cases new (region, point) (q, e) c);
   }
 
-  pub pushing_done : (point : ℕ) (new : List (ℕ × ℕ)) → end ≤ point → Pushing region first end old point new → GetsPoints region first end old new
+  pub pushing_done : (point : ℕ) (new : List (ℕ × ℕ)) → end ≤ point → Pushing region first end old point new
+      → GetsPoints region first end old new
   pushing_done point new done h r p = (
     λ c. ⊎_elim inl (λ on. ⊎_elim
         (λ none. absurd (omega (arith, on.1, on.2, none)))
@@ -78,7 +87,8 @@ pub positive : (n : ℕ) → false ≡ (n == 0) → 0 < n
 positive zero h = absurd (false≢true h)
 positive (suc n) h = omega arith
 
-module _ (pairs : List (ℕ × ℕ)) (ascending : AllPairs IsEarlier pairs) (region : ℕ) (last : (r p : ℕ) → Contains pairs (r, p) → r ≤ region) (some : 0 < length pairs) where
+module _ (pairs : List (ℕ × ℕ)) (ascending : AllPairs IsEarlier pairs) (region : ℕ)
+    (last : (r p : ℕ) → Contains pairs (r, p) → r ≤ region) (some : 0 < length pairs) where
   -- what stands last
   abbrev pub at_end : ℕ × ℕ → ℕ × ℕ
   at_end d = get_or pairs (length pairs - 1) d
@@ -87,10 +97,13 @@ module _ (pairs : List (ℕ × ℕ)) (ascending : AllPairs IsEarlier pairs) (reg
   last_there d = Contains-get_or pairs (length pairs - 1) d (omega (arith, some))
 
   -- a pair is the last, or comes before it
-  last_or_before : (d : ℕ × ℕ) (a b : ℕ) → Contains pairs (a, b) → (◌≡◌ {A = ℕ × ℕ} (a, b) (at_end d)) ⊎ IsEarlier (a, b) (at_end d)
+  last_or_before : (d : ℕ × ℕ) (a b : ℕ) → Contains pairs (a, b)
+      → (◌≡◌ {A = ℕ × ℕ} (a, b) (at_end d)) ⊎ IsEarlier (a, b) (at_end d)
   last_or_before d a b h = ⊎_elim
-      (λ low. inr (subst (λ (x : ℕ × ℕ). IsEarlier x (at_end d)) (get_or_default pairs h.0 d (a, b) h.1 ∙ h.2) (ascending h.0 (length pairs - 1) d low (omega (arith, some)))))
-      (λ high. inl (sym h.2 ∙ (get_or_default pairs h.0 (a, b) d h.1 ∙ ap (λ k. get_or pairs k d) (omega (arith, high, h.1)))))
+      (λ low. inr (subst (λ (x : ℕ × ℕ). IsEarlier x (at_end d)) (get_or_default pairs h.0 d (a, b) h.1 ∙ h.2)
+      (ascending h.0 (length pairs - 1) d low (omega (arith, some)))))
+      (λ high. inl (sym h.2 ∙ (get_or_default pairs h.0 (a, b) d h.1
+      ∙ ap (λ k. get_or pairs k d) (omega (arith, high, h.1)))))
       (cases_lt h.0 (length pairs - 1))
 
   same_end : (d e : ℕ × ℕ) → at_end d ≡ at_end e
@@ -109,15 +122,22 @@ module _ (pairs : List (ℕ × ℕ)) (ascending : AllPairs IsEarlier pairs) (reg
   pub none_later : (d : ℕ × ℕ) → ((at_end d).0 ≡ region → ⊥) → (p : ℕ) → Contains pairs (region, p) → ⊥
   none_later d other p h = ⊎_elim
       (λ one. other (sym (ap (λ (x : ℕ × ℕ). x.0) one)))
-      (⊎_elim (λ low. absurd (omega (arith, low, last (at_end d).0 (at_end d).1 (last_there d)))) (λ on. other (sym on.0)))
+      (⊎_elim (λ low. absurd (omega (arith, low, last (at_end d).0 (at_end d).1 (last_there d))))
+      (λ on. other (sym on.0)))
       (last_or_before d region p h)
 
   pub last_small : AreSmall pairs → (d : ℕ × ℕ) → (at_end d).1 < 4294967295
   last_small small d = small (at_end d).0 (at_end d).1 (last_there d)
 
   -- a point below that is no later than one of the pairs
-  pub last_reached : (d e : ℕ × ℕ) → (at_end d).0 ≡ region → (p : ℕ) → p < (at_end e).1 + 1 → (q : ℕ) × (p ≤ q) × Contains pairs (region, q)
-  last_reached d e same p low = ((at_end e).1, omega (arith, low), subst (λ r. Contains pairs (r, (at_end e).1)) (ap (λ (x : ℕ × ℕ). x.0) (same_end e d) ∙ same) (last_there e))
+  pub last_reached : (d e : ℕ × ℕ) → (at_end d).0 ≡ region → (p : ℕ) → p < (at_end e).1 + 1
+      → (q : ℕ) × (p ≤ q) × Contains pairs (region, q)
+  last_reached d e same p low = (
+    (at_end e).1,
+    omega (arith, low),
+    subst (λ r. Contains pairs (r, (at_end e).1))
+        (ap (λ (x : ℕ × ℕ). x.0) (same_end e d) ∙ same) (last_there e),
+  )
 
 -- ---- one run
 
@@ -125,7 +145,8 @@ module _ (s : BaseRun) (old : List (ℕ × ℕ)) (next : ComesNext s old) where
   pub none_behind : (r p : ℕ) → Contains old (r, p) → r ≤ s.region
   none_behind r p h = ⊎_elim (λ low. omega (arith, low)) (λ on. omega (arith, on.0)) (next r p h)
 
-  module _ (upto first : ℕ) (above : (p : ℕ) → Contains old (s.region, p) → p < upto) (begins : s.first ≤ first) (behind : upto ≤ first) where
+  module _ (upto first : ℕ) (above : (p : ℕ) → Contains old (s.region, p) → p < upto) (begins : s.first ≤ first)
+      (behind : upto ≤ first) where
     pub all_before : AllBefore old s.region first
     all_before r p h = ⊎_elim
         (λ low. inl low)
@@ -133,7 +154,9 @@ module _ (s : BaseRun) (old : List (ℕ × ℕ)) (next : ComesNext s old) where
         (next r p h)
 
     -- what of the run isn't behind what is there is there already
-    pub base_run_got : (new : List (ℕ × ℕ)) → (first ≡ s.first) ⊎ (first ≡ upto) → ((p : ℕ) → p < upto → (q : ℕ) × (p ≤ q) × Contains old (s.region, q)) → GetsPoints s.region first s.end old new → GetsBaseRun s old new
+    pub base_run_got : (new : List (ℕ × ℕ)) → (first ≡ s.first) ⊎ (first ≡ upto)
+        → ((p : ℕ) → p < upto → (q : ℕ) × (p ≤ q) × Contains old (s.region, q))
+        → GetsPoints s.region first s.end old new → GetsBaseRun s old new
     base_run_got new which reached gets r p = (
       λ h. ⊎_elim inl (λ on. inr (on.0, omega (arith, on.1, begins), on.2)) ((gets r p).0 h),
       λ h. (gets r p).1 (⊎_elim inl (λ on. ⊎_elim
@@ -144,7 +167,8 @@ module _ (s : BaseRun) (old : List (ℕ × ℕ)) (next : ComesNext s old) where
       where
         there : (p : ℕ) → s.first ≤ p → p < first → Contains old (s.region, p)
         there p from low =
-            let q = reached p (⊎_elim (λ is. absurd (omega (arith, is, from, low))) (λ is. omega (arith, is, low)) which) in
+            let q = reached p (⊎_elim (λ is. absurd (omega (arith, is, from, low)))
+            (λ is. omega (arith, is, low)) which) in
             ⊎_elim (λ less. absurd (omega (arith, less))) (λ on. on.1 p from q.1) (next s.region q.0 q.2)
 
     pub small_got : (new : List (ℕ × ℕ)) → s.end < 4294967296 → AreSmall old → GetsBaseRun s old new → AreSmall new

@@ -22,19 +22,25 @@ pub record IsLiveStretch (body : BodyText) (x : ℕ) (ends : List ℕ) (low heig
   pub live : (p : ℕ) → low ≤ p → p ≤ height → IsLive body (Contains ends) x p
 
 -- What is reached are such stretches; the ends are among it, and so is what goes on to the low points looked at.
-pub record Searching (body : BodyText) (x turn : ℕ) (ends first tops marks heights lows : List ℕ) (place : ℕ) : Type 0 where
+pub record Searching (body : BodyText) (x turn : ℕ) (ends first tops marks heights lows : List ℕ)
+    (place : ℕ) : Type 0 where
   pub more : ReachesMore (λ low p. IsLiveStretch body x ends low p) turn first tops [] marks heights lows
   pub found : AreFound marks heights turn lows
   pub within : place ≤ length lows
   pub begun : (p : ℕ) → Contains ends p → IsReached marks heights turn p
-  pub closed : (k : ℕ) → k < place → (q : ℕ) → GoesOnUndefined body x q (slice_index lows k) → IsReached marks heights turn q
+  pub closed : (k : ℕ) → k < place → (q : ℕ) → GoesOnUndefined body x q (slice_index lows k)
+      → IsReached marks heights turn q
 
-module _ (body : BodyText) (x turn : ℕ) (ends first tops starts definitions : List ℕ) (all : (k : ℕ) → k < length ends → slice_index ends k < length body.points) (fresh : (p : ℕ) → slice_index first p < turn) (are : AreStarts (GoesOn body) (length body.points) starts) (defined : AreDefinitions body x definitions) where
+module _ (body : BodyText) (x turn : ℕ) (ends first tops starts definitions : List ℕ)
+    (all : (k : ℕ) → k < length ends → slice_index ends k < length body.points)
+    (fresh : (p : ℕ) → slice_index first p < turn) (are : AreStarts (GoesOn body) (length body.points) starts)
+    (defined : AreDefinitions body x definitions) where
   ends_within : (p : ℕ) → Contains ends p → p < length body.points
   ends_within = at_each (λ p. p < length body.points) ends all
 
   -- a search that comes to a point where the variable is live gets such a stretch
-  stretch : (low p : ℕ) → IsLive body (Contains ends) x p → IsLow (slice_index starts p) definitions p low → IsLiveStretch body x ends low p
+  stretch : (low p : ℕ) → IsLive body (Contains ends) x p → IsLow (slice_index starts p) definitions p low
+      → IsLiveStretch body x ends low p
   stretch low p live is =
       let within = live_within body (Contains ends) x ends_within p live in
       record {
@@ -43,10 +49,14 @@ module _ (body : BodyText) (x turn : ℕ) (ends first tops starts definitions : 
         live = live_along body (Contains ends) x starts definitions are defined p low within is live;
       }
 
-  pub search_first : (marks heights lows : List ℕ) → ReachesMore (λ low p. Contains ends p × IsLow (slice_index starts p) definitions p low) turn first tops [] marks heights lows → AreFound marks heights turn lows
-      → ((k : ℕ) → k < length ends → IsReached marks heights turn (slice_index ends k)) → Searching body x turn ends first tops marks heights lows 0
+  pub search_first : (marks heights lows : List ℕ)
+      → ReachesMore (λ low p. Contains ends p × IsLow (slice_index starts p) definitions p low) turn first tops
+      [] marks heights lows → AreFound marks heights turn lows
+      → ((k : ℕ) → k < length ends → IsReached marks heights turn (slice_index ends k))
+      → Searching body x turn ends first tops marks heights lows 0
   search_first marks heights lows put found covers = record {
-    more = reaches_weaker _ (λ low p. IsLiveStretch body x ends low p) turn first tops [] marks heights lows (λ low p c. stretch low p (live_end body (Contains ends) x p c.0) c.1) put;
+    more = reaches_weaker _ (λ low p. IsLiveStretch body x ends low p) turn first tops [] marks heights lows
+        (λ low p c. stretch low p (live_end body (Contains ends) x p c.0) c.1) put;
     found = found;
     within = omega arith;
     begun = at_each (IsReached marks heights turn) ends covers;
@@ -54,14 +64,19 @@ module _ (body : BodyText) (x turn : ℕ) (ends first tops starts definitions : 
   }
 
   -- what is marked is the low end of such a stretch
-  marked_stretch : (marks heights lows : List ℕ) (place : ℕ) → Searching body x turn ends first tops marks heights lows place → (low : ℕ) → IsMarked marks turn low → IsLiveStretch body x ends low (slice_index heights low)
+  marked_stretch : (marks heights lows : List ℕ) (place : ℕ)
+      → Searching body x turn ends first tops marks heights lows place → (low : ℕ) → IsMarked marks turn low
+      → IsLiveStretch body x ends low (slice_index heights low)
   marked_stretch marks heights lows place s low m = ⊎_elim
       (λ old. absurd (omega (arith, fresh low, old.0)))
       (λ one. subst (IsLiveStretch body x ends low) (sym one.2) one.1)
       (s.more.cause low m)
 
-  pub search_step : (marks heights lows : List ℕ) (place : ℕ) (next raised longer : List ℕ) → place < length lows → Searching body x turn ends first tops marks heights lows place
-      → ReachesMore (λ low p. GoesOnUndefined body x p (slice_index lows place) × IsLow (slice_index starts p) definitions p low) turn marks heights lows next raised longer → AreFound next raised turn longer
+  pub search_step : (marks heights lows : List ℕ) (place : ℕ) (next raised longer : List ℕ) → place < length lows
+      → Searching body x turn ends first tops marks heights lows place
+      → ReachesMore (λ low p. GoesOnUndefined body x p (slice_index lows place)
+      × IsLow (slice_index starts p) definitions p low) turn marks heights lows next raised longer
+      → AreFound next raised turn longer
       → ((p : ℕ) → GoesOnUndefined body x p (slice_index lows place) → IsReached next raised turn p)
       → Searching body x turn ends first tops next raised longer (place + 1)
   search_step marks heights lows place next raised longer h s put found covers =
@@ -70,21 +85,28 @@ module _ (body : BodyText) (x turn : ℕ) (ends first tops starts definitions : 
       record {
         more = reaches_append _ turn first tops [] marks heights lows next raised longer s.more
             (reaches_weaker _ (λ low p. IsLiveStretch body x ends low p) turn marks heights lows next raised longer
-            (λ low p c. stretch low p (live_before body (Contains ends) x p (slice_index lows place) c.0 live) c.1) put);
+            (λ low p c. stretch low p (live_before body (Contains ends) x p (slice_index lows place) c.0 live) c.1)
+            put);
         found = found;
         within = omega (arith, put.longer);
         begun = λ p c. reached_kept _ turn marks heights lows next raised longer put p (s.begun p c);
-        closed = below_more (λ k. (q : ℕ) → GoesOnUndefined body x q (slice_index longer k) → IsReached next raised turn q) place
-            (λ k b q c. reached_kept _ turn marks heights lows next raised longer put q (s.closed k b q (subst (GoesOnUndefined body x q) (put.front k (omega arith)) c)))
+        closed =
+            below_more (λ k. (q : ℕ) → GoesOnUndefined body x q (slice_index longer k) → IsReached next raised turn q)
+            place
+            (λ k b q c. reached_kept _ turn marks heights lows next raised longer put q
+            (s.closed k b q (subst (GoesOnUndefined body x q) (put.front k (omega arith)) c)))
             (λ q c. covers q (subst (GoesOnUndefined body x q) (put.front place h) c));
       }
 
-  module _ (marks heights lows : List ℕ) (place : ℕ) (done : length lows ≤ place) (s : Searching body x turn ends first tops marks heights lows place) where
+  module _ (marks heights lows : List ℕ) (place : ℕ) (done : length lows ≤ place)
+      (s : Searching body x turn ends first tops marks heights lows place) where
     stretch_at : (low : ℕ) → Contains lows low → IsLiveStretch body x ends low (slice_index heights low)
-    stretch_at low c = marked_stretch marks heights lows place s low (at_each (IsMarked marks turn) lows s.found.marked low c)
+    stretch_at low c =
+        marked_stretch marks heights lows place s low (at_each (IsMarked marks turn) lows s.found.marked low c)
 
     -- what goes on to a point that is reached, and doesn't define the variable, is reached
-    reached_before : (q r : ℕ) → IsReached marks heights turn r → GoesOnUndefined body x q r → IsReached marks heights turn q
+    reached_before : (q r : ℕ) → IsReached marks heights turn r → GoesOnUndefined body x q r
+        → IsReached marks heights turn q
     reached_before q r m step = ⊎_elim
         (λ above.
         let next : q + 1 ≡ r = ((marked_stretch marks heights lows place s m.0 m.1).chain r above m.3 q).0 step.1 in
@@ -108,7 +130,8 @@ module _ (body : BodyText) (x turn : ℕ) (ends first tops starts definitions : 
 
 -- ---- points that go on to a point
 
-module _ (body : BodyText) (graph : Graph) (shown : IsGraphOf body graph) (q : ℕ) (points : List ℕ) (each : (p : ℕ) → Contains points p ↔ IsNext graph p q) where
+module _ (body : BodyText) (graph : Graph) (shown : IsGraphOf body graph) (q : ℕ) (points : List ℕ)
+    (each : (p : ℕ) → Contains points p ↔ IsNext graph p q) where
   -- they are those that go on to it
   pub going_on : (p : ℕ) → Contains points p ↔ GoesOn body p q
   going_on p = (λ h. (shown.next p q).0 ((each p).0 h), λ h. (each p).1 ((shown.next p q).1 h))

@@ -40,10 +40,13 @@ covers_first heights lows width = record {
     none_in : (p : ℕ) → flag (replicate width false) p ≡ true → ⊥
     none_in p h = ⊎_elim
         (λ low. false≢true (sym (get_or-replicate width p false false low) ∙ h))
-        (λ high. false≢true (sym (get_or_past (replicate width false) p false (omega (arith, high, length-replicate width false))) ∙ h))
+        (λ high. false≢true (sym (get_or_past (replicate width false) p false
+        (omega (arith, high, length-replicate width false))) ∙ h))
         (cases_lt p width)
 
-pub covers_step : (heights lows : List ℕ) (n width : ℕ) (old new : List Bool) (run : Run) → n < length lows → run.first ≡ get_or lows n 0 → run.last ≡ get_or heights (get_or lows n 0) 0 → Covers heights lows n width old → Fills old new run → Covers heights lows (n + 1) width new
+pub covers_step : (heights lows : List ℕ) (n width : ℕ) (old new : List Bool) (run : Run) → n < length lows
+    → run.first ≡ get_or lows n 0 → run.last ≡ get_or heights (get_or lows n 0) 0 → Covers heights lows n width old
+    → Fills old new run → Covers heights lows (n + 1) width new
 covers_step heights lows n width old new run within first last h f =
     let e = get_or lows n 0 in
     let more = take_more lows n 0 within in
@@ -51,12 +54,23 @@ covers_step heights lows n width old new run within first last h f =
       wide = f.width ∙ h.wide;
       each = λ p. (
         λ on. ⊎_elim
-            (λ was. let c = (h.each p).0 was in (c.0, subst (λ xs. Contains xs c.0) (sym more) (Contains-append_left (take n lows) (e ∷ []) c.0 c.1), c.2, c.3))
-            (λ now. (e, subst (λ xs. Contains xs e) (sym more) (Contains-push (take n lows) e), omega (arith, first, now.0), omega (arith, last, now.1)))
+            (λ was. let c = (h.each p).0 was in (
+              c.0,
+              subst (λ xs. Contains xs c.0) (sym more) (Contains-append_left (take n lows) (e ∷ []) c.0 c.1),
+              c.2,
+              c.3,
+            ))
+            (λ now. (
+              e,
+              subst (λ xs. Contains xs e) (sym more) (Contains-push (take n lows) e),
+              omega (arith, first, now.0),
+              omega (arith, last, now.1),
+            ))
             (f.cause p on),
         λ c. ⊎_elim
             (λ there. f.kept p ((h.each p).1 (c.0, there, c.2, c.3)))
-            (λ is. f.filled p (omega (arith, first, is, c.2)) (omega (arith, last, subst (λ k. p ≤ get_or heights k 0) (sym is) c.3)))
+            (λ is. f.filled p (omega (arith, first, is, c.2))
+            (omega (arith, last, subst (λ k. p ≤ get_or heights k 0) (sym is) c.3)))
             (Contains-push_cases (take n lows) e c.0 (subst (λ xs. Contains xs c.0) more c.1)),
       );
     }
@@ -76,7 +90,9 @@ sets_first width holds = record {
   each = λ x p h. absurd (omega (arith, h));
 }
 
-pub sets_step : (width : ℕ) (holds : ℕ → ℕ → Type 0) (n : ℕ) (sets : List (List Bool)) (new : List Bool) → AreSetsUpTo width holds n sets → length new ≡ width → ((p : ℕ) → (flag new p ≡ true) ↔ holds n p) → AreSetsUpTo width holds (n + 1) (sets ++ new ∷ [])
+pub sets_step : (width : ℕ) (holds : ℕ → ℕ → Type 0) (n : ℕ) (sets : List (List Bool)) (new : List Bool)
+    → AreSetsUpTo width holds n sets → length new ≡ width → ((p : ℕ) → (flag new p ≡ true) ↔ holds n p)
+    → AreSetsUpTo width holds (n + 1) (sets ++ new ∷ [])
 sets_step width holds n sets new are size is = record {
   counted = length-append sets (new ∷ []) ∙ ap (λ k. k + 1) are.counted;
   wide = λ x h. ⊎_elim
@@ -84,14 +100,17 @@ sets_step width holds n sets new are size is = record {
       (λ high. ap length (get_or_push sets new [] x (omega (arith, high, h, are.counted))) ∙ size)
       (cases_lt x n);
   each = λ x p h. ⊎_elim
-      (λ low. subst (λ s. (flag s p ≡ true) ↔ holds x p) (sym (get_or_append_left sets (new ∷ []) [] x (omega (arith, low, are.counted)))) (are.each x p low))
+      (λ low. subst (λ s. (flag s p ≡ true) ↔ holds x p)
+      (sym (get_or_append_left sets (new ∷ []) [] x (omega (arith, low, are.counted)))) (are.each x p low))
       (λ high.
       let same : x ≡ n = omega (arith, high, h) in
-      subst (λ s. (flag s p ≡ true) ↔ holds x p) (sym (get_or_push sets new [] x (omega (arith, high, h, are.counted)))) (subst (λ y. (flag new p ≡ true) ↔ holds y p) (sym same) (is p)))
+      subst (λ s. (flag s p ≡ true) ↔ holds x p) (sym (get_or_push sets new [] x (omega (arith, high, h, are.counted))))
+      (subst (λ y. (flag new p ≡ true) ↔ holds y p) (sym same) (is p)))
       (cases_lt x n);
 }
 
-pub sets_done : (body : BodyText) (holds : ℕ → ℕ → Type 0) (sets : List (List Bool)) → AreSetsUpTo (length body.points) holds (length body.variables) sets → AreSetsOf body holds sets
+pub sets_done : (body : BodyText) (holds : ℕ → ℕ → Type 0) (sets : List (List Bool))
+    → AreSetsUpTo (length body.points) holds (length body.variables) sets → AreSetsOf body holds sets
 sets_done body holds sets are = record {
   counted = are.counted;
   width = λ x h. are.wide x (omega (arith, h, are.counted));
@@ -99,13 +118,18 @@ sets_done body holds sets are = record {
 }
 
 -- the lists have just the ends of the walks
-pub sets_as : (body : BodyText) (ends : ℕ → ℕ → Type 0) (lists : List (List ℕ)) (sets : List (List Bool)) → ((x p : ℕ) → ends x p → p < length body.points) → AreListed (length body.variables) ends (length body.points) lists → AreSetsOf body (λ x. IsLive body (IsListed lists x) x) sets → AreSetsOf body (λ x. IsLive body (ends x) x) sets
+pub sets_as : (body : BodyText) (ends : ℕ → ℕ → Type 0) (lists : List (List ℕ)) (sets : List (List Bool))
+    → ((x p : ℕ) → ends x p → p < length body.points)
+    → AreListed (length body.variables) ends (length body.points) lists
+    → AreSetsOf body (λ x. IsLive body (IsListed lists x) x) sets → AreSetsOf body (λ x. IsLive body (ends x) x) sets
 sets_as body ends lists sets within listed are = record {
   counted = are.counted;
   width = are.width;
   each = λ x p h.
       let low : x < length body.variables = omega (arith, h, are.counted) in (
-        λ on. live_same body (IsListed lists x) (ends x) x p (λ q k. ((listed.each x q low).0 k).0) ((are.each x p h).0 on),
-        λ live. (are.each x p h).1 (live_same body (ends x) (IsListed lists x) x p (λ q k. (listed.each x q low).1 (k, within x q k)) live),
+        λ on. live_same body (IsListed lists x) (ends x) x p (λ q k. ((listed.each x q low).0 k).0)
+            ((are.each x p h).0 on),
+        λ live. (are.each x p h).1 (live_same body (ends x) (IsListed lists x) x p
+            (λ q k. (listed.each x q low).1 (k, within x q k)) live),
       );
 }

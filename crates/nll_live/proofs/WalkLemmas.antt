@@ -17,7 +17,8 @@ module _ (body : BodyText) (ends : ℕ → Type 0) (x : ℕ) where
 
   -- a set that has the uses, and what goes on to a point of it without defining the variable, has
   -- each point where it is live
-  pub live_inside : (in_set : ℕ → Type 0) → ((p : ℕ) → ends p → in_set p) → ((p q : ℕ) → in_set q → GoesOnUndefined body x p q → in_set p) → (p : ℕ) → IsLive body ends x p → in_set p
+  pub live_inside : (in_set : ℕ → Type 0) → ((p : ℕ) → ends p → in_set p)
+      → ((p q : ℕ) → in_set q → GoesOnUndefined body x p q → in_set p) → (p : ℕ) → IsLive body ends x p → in_set p
   live_inside in_set first closed p l = along p l.2 l.3
     where
       along : (p : ℕ) (way : List ℕ) → IsWalk (GoesOnUndefined body x) (λ _. ⊤) p way l.0 → in_set p
@@ -25,9 +26,13 @@ module _ (body : BodyText) (ends : ℕ → Type 0) (x : ℕ) where
       along p (q ∷ way) w = closed p q (along q way w.2) w.1
 
   -- it is live at points alone
-  pub live_within : ((p : ℕ) → ends p → p < length body.points) → (p : ℕ) → IsLive body ends x p → p < length body.points
-  live_within first p l = live_inside (λ q. q < length body.points) first (λ q r h step. slice_get_within body.points q step.1.0 step.1.1) p l
+  pub live_within : ((p : ℕ) → ends p → p < length body.points) → (p : ℕ) → IsLive body ends x p
+      → p < length body.points
+  live_within first p l =
+      live_inside (λ q. q < length body.points) first
+      (λ q r h step. slice_get_within body.points q step.1.0 step.1.1) p l
 
 -- other ends, where there are as many, change nothing
-pub live_same : (body : BodyText) (ends other : ℕ → Type 0) (x p : ℕ) → ((q : ℕ) → ends q → other q) → IsLive body ends x p → IsLive body other x p
+pub live_same : (body : BodyText) (ends other : ℕ → Type 0) (x p : ℕ) → ((q : ℕ) → ends q → other q)
+    → IsLive body ends x p → IsLive body other x p
 live_same body ends other x p h l = (l.0, h l.0 l.1, l.2, l.3)

@@ -17,11 +17,14 @@ use Rattle.nll_mir_grammar.proofs.PartLemmas.{words_apart, regions_join, words_j
 
 -- ---- what stands behind what
 
-variable_is_no : (w : List ℕ) (x : ℕ) → bytes_eq (codes "_" ++ decimal x) w ≡ false → word (codes "_" ++ decimal x) ≡ word w → ⊥
+variable_is_no : (w : List ℕ) (x : ℕ) → bytes_eq (codes "_" ++ decimal x) w ≡ false
+    → word (codes "_" ++ decimal x) ≡ word w → ⊥
 variable_is_no w x n e = words_apart (codes "_" ++ decimal x) w n (let f : codes "_" ++ decimal x ≡ w = cc in f)
 
 pub mutabilities_join : Joins mutabilities places
-mutabilities_join m p r k l f = mark_before m (word (codes "mut")) (word (codes "_" ++ decimal p.variable)) (flat_map spelled_projection p.projections ++ r) (variable_is_no (codes "mut") p.variable refl)
+mutabilities_join m p r k l f =
+    mark_before m (word (codes "mut")) (word (codes "_" ++ decimal p.variable))
+    (flat_map spelled_projection p.projections ++ r) (variable_is_no (codes "mut") p.variable refl)
 
 pub makes_join : Joins types (parentheses operands)
 makes_join t ops r k l m others e = signs_differ 40 60 _ _ refl e
@@ -31,12 +34,15 @@ exits_begin (b, None) r = (block_word b ∷ r, refl)
 exits_begin (b, Some c) r = (block_word b ∷ word (codes "unwind") ∷ block_word c ∷ r, refl)
 
 pub bounds_join : Joins bound_lists exits
-bounds_join [] e r k l m = λ others f. let g = exits_begin e r in let h : arrow ∷ g.0 ≡ word (codes "where") ∷ others = sym g.1 ∙ f in cc
+bounds_join [] e r k l m = λ others f. let g = exits_begin e r in
+    let h : arrow ∷ g.0 ≡ word (codes "where") ∷ others = sym g.1 ∙ f in cc
 bounds_join (w ∷ ws) e r k l m = let g = exits_begin e r in
-    subst (λ z. MayFollowAll bounds (w ∷ ws) z) (sym g.1) (all_before arrow bounds (bounds_before arrow) (λ f. cc) (w ∷ ws) g.0 (omega arith, any_bounds (w ∷ ws)))
+    subst (λ z. MayFollowAll bounds (w ∷ ws) z) (sym g.1)
+    (all_before arrow bounds (bounds_before arrow) (λ f. cc) (w ∷ ws) g.0 (omega arith, any_bounds (w ∷ ws)))
 
 pub results_join : Joins types (pair bound_lists exits)
-results_join t ([], e) r k l m others f = let g = exits_begin e r in let h : arrow ∷ g.0 ≡ sign 60 ∷ others = sym g.1 ∙ f in cc
+results_join t ([], e) r k l m others f = let g = exits_begin e r in
+    let h : arrow ∷ g.0 ≡ sign 60 ∷ others = sym g.1 ∙ f in cc
 results_join t ((w ∷ ws), e) r k l m others f = let h : word (codes "where") ≡ sign 60 = head_same _ _ _ _ f in cc
 
 pub signatures_join : Joins (parentheses arguments) (behind (sign 58) results)
@@ -61,22 +67,29 @@ rights_join p x r k l m = no_projection (sign 61) _ (signs_apart 46 61 refl)
 
 pub borrows_one : IsOne borrows
 borrows_one = pair_one regions (pair mutabilities places) (regions_join (pair mutabilities places)) regions_one
-    (pair_one mutabilities places mutabilities_join (mark_one mutabilities.spells (word (codes "mut")) refl refl) places_one)
+    (pair_one mutabilities places mutabilities_join
+    (mark_one mutabilities.spells (word (codes "mut")) refl refl) places_one)
 
 pub makes_one : IsOne makes
 makes_one = pair_one types (parentheses operands) makes_join types_one (parentheses_one operands operands_listable)
 
 pub results_one : IsOne results
-results_one = pair_one types (pair bound_lists exits) results_join types_one (pair_one bound_lists exits bounds_join bound_lists_one exits_one)
+results_one =
+    pair_one types (pair bound_lists exits) results_join types_one
+    (pair_one bound_lists exits bounds_join bound_lists_one exits_one)
 
 pub signatures_one : IsOne signatures
-signatures_one = pair_one (parentheses arguments) (behind (sign 58) results) signatures_join (parentheses_one arguments arguments_listable) (behind_one results (sign 58) results_one)
+signatures_one =
+    pair_one (parentheses arguments) (behind (sign 58) results) signatures_join
+    (parentheses_one arguments arguments_listable) (behind_one results (sign 58) results_one)
 
 pub right_sides_one : (k : Right) → IsOne (right_sides k)
 right_sides_one value = operands_one
 right_sides_one borrowed = behind_one borrows (sign 38) borrows_one
 right_sides_one made = behind_one makes (word (codes "make")) makes_one
-right_sides_one called = behind_one (pair any_words signatures) (word (codes "call")) (pair_one any_words signatures (words_join signatures) any_words_one signatures_one)
+right_sides_one called =
+    behind_one (pair any_words signatures) (word (codes "call"))
+    (pair_one any_words signatures (words_join signatures) any_words_one signatures_one)
 
 -- the kind of the right side in front
 right_kind : List Token → Right
@@ -111,12 +124,16 @@ pub no_make : (ts rest : List Token) → ts ≡ word (codes "make") ∷ rest →
 unfolding right_kind
 no_make ts rest e none = no_rights made ts (ap right_kind e) (behind_none makes (word (codes "make")) ts rest e none)
 
-pub no_call : (ts rest : List Token) → ts ≡ word (codes "call") ∷ rest → HasNone (pair any_words signatures) rest → HasNone rights ts
+pub no_call : (ts rest : List Token) → ts ≡ word (codes "call") ∷ rest → HasNone (pair any_words signatures) rest
+    → HasNone rights ts
 unfolding right_kind
-no_call ts rest e none = no_rights called ts (ap right_kind e) (behind_none (pair any_words signatures) (word (codes "call")) ts rest e none)
+no_call ts rest e none =
+    no_rights called ts (ap right_kind e) (behind_none (pair any_words signatures) (word (codes "call")) ts rest e none)
 
-pub no_value : (ts : List Token) → IsNotNext (sign 38) ts → IsNotNext (word (codes "make")) ts → IsNotNext (word (codes "call")) ts → HasNone operands ts → HasNone rights ts
-no_value ts a b d none (value, p) r x = none p r (record { joined = x.joined; allowed = x.allowed; follows = x.follows })
+pub no_value : (ts : List Token) → IsNotNext (sign 38) ts → IsNotNext (word (codes "make")) ts
+    → IsNotNext (word (codes "call")) ts → HasNone operands ts → HasNone rights ts
+no_value ts a b d none (value, p) r x =
+    none p r (record { joined = x.joined; allowed = x.allowed; follows = x.follows })
 no_value ts a b d none (borrowed, p) r x = a _ x.joined
 no_value ts a b d none (made, p) r x = b _ x.joined
 no_value ts a b d none (called, p) r x = d _ x.joined
@@ -150,7 +167,8 @@ pub line_kind : List Token → Option Keyword
 line_kind (word w ∷ ts) = keyword_in w
 line_kind _ = None
 
-pub line_kind_of : (k : Option Keyword) (p : LineParts k) (r : List Token) → line_kind ((line_grammars k).spells p ++ r) ≡ k
+pub line_kind_of : (k : Option Keyword) (p : LineParts k) (r : List Token)
+    → line_kind ((line_grammars k).spells p ++ r) ≡ k
 unfolding line_kind keyword_in
 line_kind_of None p r = refl
 line_kind_of (Some words.Universal) p r = refl
@@ -197,7 +215,9 @@ pub drop_marks_one : IsOne drop_marks
 drop_marks_one = mark_one drop_marks.spells (word (codes "drop")) refl refl
 
 pub structs_one : IsOne structs
-structs_one = pair_one names (pair parameter_lists (pair drop_marks tuples)) (names_join (pair parameter_lists (pair drop_marks tuples))) names_one
+structs_one =
+    pair_one names (pair parameter_lists (pair drop_marks tuples))
+    (names_join (pair parameter_lists (pair drop_marks tuples))) names_one
     (pair_one parameter_lists (pair drop_marks tuples) parameters_join parameter_lists_one
     (pair_one drop_marks tuples drops_join drop_marks_one tuples_one))
 
@@ -208,9 +228,13 @@ tails_one : (k : Keyword) → IsOne (tails k)
 tails_one words.Universal = regions_one
 tails_one words.Outlives = pair_one regions regions (regions_join regions) regions_one regions_one
 tails_one words.Region = regions_one
-tails_one words.Assert = pair_one regions (behind (sign 58) regions) (regions_join (behind (sign 58) regions)) regions_one (behind_one regions (sign 58) regions_one)
+tails_one words.Assert =
+    pair_one regions (behind (sign 58) regions) (regions_join (behind (sign 58) regions)) regions_one
+    (behind_one regions (sign 58) regions_one)
 tails_one words.Struct = structs_one
-tails_one words.Let = pair_one variables (behind (sign 58) types) (variables_join (behind (sign 58) types)) variables_one (behind_one types (sign 58) types_one)
+tails_one words.Let =
+    pair_one variables (behind (sign 58) types) (variables_join (behind (sign 58) types)) variables_one
+    (behind_one types (sign 58) types_one)
 tails_one words.Blocks = prefixed_one []
 tails_one words.Block = blocks_one
 tails_one words.Read = places_one
@@ -225,7 +249,8 @@ tails_one words.Stop = empty_one
 tails_one words.End = empty_one
 
 line_grammars_one : (k : Option Keyword) → IsOne (line_grammars k)
-line_grammars_one None = pair_one places (behind (sign 61) rights) rights_join places_one (behind_one rights (sign 61) rights_one)
+line_grammars_one None =
+    pair_one places (behind (sign 61) rights) rights_join places_one (behind_one rights (sign 61) rights_one)
 line_grammars_one (Some k) = behind_one (tails k) (word (keyword_name k)) (tails_one k)
 
 pub lines_one : IsOne lines
@@ -238,6 +263,7 @@ lines_one = kinds_one LineParts line_grammars line_grammars_one
 pub no_marked_keyword : (w digits : List ℕ) → w ≡ 95 ∷ digits → (k : Keyword) → w ≡ keyword_name k → ⊥
 unfolding line_kind keyword_in
 no_marked_keyword w digits marked k is =
-    let e : line_kind (word (95 ∷ digits) ∷ []) ≡ Some k = ap (λ l. line_kind (word l ∷ [])) (sym marked ∙ is) ∙ line_kind_of_name k [] in
+    let e : line_kind (word (95 ∷ digits) ∷ []) ≡ Some k = ap (λ l. line_kind (word l ∷ [])) (sym marked ∙ is)
+    ∙ line_kind_of_name k [] in
     let f : None ≡ Some k = e in
     cc

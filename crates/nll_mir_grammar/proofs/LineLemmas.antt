@@ -29,23 +29,28 @@ use Rattle.nll_mir_grammar.proofs.KindLemmas.{rights_join, no_value, lines_one, 
 
 -- ---- right sides
 
-pub borrow_side : (ts rest : List Token) (p : PlacePath) (a : Name) (m : Bool) (q : PlacePath) (r : List Token) → ts ≡ sign 38 ∷ rest → Begins borrows rest (a, (m, q)) r → IsRightSide ts p (at_point (borrow p a m q)) r
+pub borrow_side : (ts rest : List Token) (p : PlacePath) (a : Name) (m : Bool) (q : PlacePath) (r : List Token)
+    → ts ≡ sign 38 ∷ rest → Begins borrows rest (a, (m, q)) r → IsRightSide ts p (at_point (borrow p a m q)) r
 borrow_side ts rest p a m q r e b = record {
   callee = [];
   right = (borrowed, (a, (m, q)));
-  begins = let f = behind_found borrows (sign 38) ts rest (a, (m, q)) r e b in record { joined = f.joined; allowed = f.allowed; follows = f.follows };
+  begins = let f = behind_found borrows (sign 38) ts rest (a, (m, q)) r e b in
+      record { joined = f.joined; allowed = f.allowed; follows = f.follows };
   same = refl;
 }
 
-pub make_side : (ts rest : List Token) (p : PlacePath) (t : WrittenType) (ops : List Operand) (r : List Token) → ts ≡ word (codes "make") ∷ rest → Begins makes rest (t, ops) r → IsRightSide ts p (at_point (make p t ops)) r
+pub make_side : (ts rest : List Token) (p : PlacePath) (t : WrittenType) (ops : List Operand) (r : List Token)
+    → ts ≡ word (codes "make") ∷ rest → Begins makes rest (t, ops) r → IsRightSide ts p (at_point (make p t ops)) r
 make_side ts rest p t ops r e b = record {
   callee = [];
   right = (made, (t, ops));
-  begins = let f = behind_found makes (word (codes "make")) ts rest (t, ops) r e b in record { joined = f.joined; allowed = f.allowed; follows = f.follows };
+  begins = let f = behind_found makes (word (codes "make")) ts rest (t, ops) r e b in
+      record { joined = f.joined; allowed = f.allowed; follows = f.follows };
   same = refl;
 }
 
-pub value_side : (ts : List Token) (p : PlacePath) (op : Operand) (r : List Token) → Begins operands ts op r → IsRightSide ts p (at_point (assign p op)) r
+pub value_side : (ts : List Token) (p : PlacePath) (op : Operand) (r : List Token) → Begins operands ts op r
+    → IsRightSide ts p (at_point (assign p op)) r
 value_side ts p op r b = record {
   callee = [];
   right = (value, op);
@@ -53,7 +58,11 @@ value_side ts p op r b = record {
   same = refl;
 }
 
-pub call_side : (ts rest mid : List Token) (p : PlacePath) (f : List ℕ) (args : List (Operand × WrittenType)) (t : WrittenType) (wheres : List (Name × Name)) (b : ℕ) (unwind : Option ℕ) (r : List Token) → ts ≡ word (codes "call") ∷ rest → Begins any_words rest f mid → Begins signatures mid (args, (t, (wheres, (b, unwind)))) r → IsRightSide ts p (at_point (call p args t wheres b unwind)) r
+pub call_side : (ts rest mid : List Token) (p : PlacePath) (f : List ℕ) (args : List (Operand × WrittenType))
+    (t : WrittenType) (wheres : List (Name × Name)) (b : ℕ) (unwind : Option ℕ) (r : List Token)
+    → ts ≡ word (codes "call") ∷ rest → Begins any_words rest f mid
+    → Begins signatures mid (args, (t, (wheres, (b, unwind)))) r
+    → IsRightSide ts p (at_point (call p args t wheres b unwind)) r
 call_side ts rest mid p f args t wheres b unwind r e w s = record {
   callee = f;
   right = (called, (f, (args, (t, (wheres, (b, unwind))))));
@@ -65,78 +74,113 @@ call_side ts rest mid p f args t wheres b unwind r e w s = record {
 }
 
 -- the arguments of a call in the code, in two steps
-pub arguments_same : (xs : List (Written × List TypeNode)) → map (λ (a : Operand × List TypeNode). (a.0, written a.1)) (map (λ (a : Written × List TypeNode). (operand_of a.0, a.1)) xs) ≡ map argument_of xs
+pub arguments_same : (xs : List (Written × List TypeNode))
+    → map (λ (a : Operand × List TypeNode). (a.0, written a.1))
+    (map (λ (a : Written × List TypeNode). (operand_of a.0, a.1)) xs) ≡ map argument_of xs
 arguments_same [] = refl
 arguments_same (x ∷ xs) = ap (λ l. (operand_of x.0, written x.1) ∷ l) (arguments_same xs)
 
 -- ---- assignments
 
-pub assignment_line : (ts mid after : List Token) (p : PlacePath) (f : Form) (r : List Token) → Begins places ts p mid → mid ≡ sign 61 ∷ after → IsRightSide after p f r → IsLine ts f r
+pub assignment_line : (ts mid after : List Token) (p : PlacePath) (f : Form) (r : List Token) → Begins places ts p mid
+    → mid ≡ sign 61 ∷ after → IsRightSide after p f r → IsLine ts f r
 assignment_line ts mid after p f r b e s = record {
   callee = s.callee;
   begins =
       let x = behind_found rights (sign 61) mid after s.right r e s.begins in
       let y = pair_found places (behind (sign 61) rights) ts mid r p s.right b x in
-      let z : Begins lines ts (None, (p, s.right)) r = record { joined = y.joined; allowed = y.allowed; follows = y.follows } in
+      let z : Begins lines ts (None, (p, s.right)) r =
+      record { joined = y.joined; allowed = y.allowed; follows = y.follows } in
       subst (λ l. Begins lines ts l r) (sym s.same) z;
 }
 
 -- what was read behind `=`
-pub read_assigned : {R E : Type 0} (ts after : List Token) (p : PlacePath) (form : R → Form) (rest : R → List Token) (r : Result (Option R) E) → ts ≡ sign 61 ∷ after → IfOk r (λ o. MatchOption o (HasNone rights after) (λ x. IsRightSide after p (form x) (rest x))) → IfOk r (λ o. MatchOption o (HasNone (behind (sign 61) rights) ts) (λ x. (after : List Token) × (ts ≡ sign 61 ∷ after) × IsRightSide after p (form x) (rest x)))
+pub read_assigned : {R E : Type 0} (ts after : List Token) (p : PlacePath) (form : R → Form) (rest : R → List Token)
+    (r : Result (Option R) E) → ts ≡ sign 61 ∷ after
+    → IfOk r (λ o. MatchOption o (HasNone rights after) (λ x. IsRightSide after p (form x) (rest x)))
+    → IfOk r (λ o. MatchOption o (HasNone (behind (sign 61) rights) ts)
+    (λ x. (after : List Token) × (ts ≡ sign 61 ∷ after) × IsRightSide after p (form x) (rest x)))
 read_assigned ts after p form rest (Ok None) e h = behind_none rights (sign 61) ts after e h
 read_assigned ts after p form rest (Ok (Some x)) e h = (after, e, h)
 read_assigned ts after p form rest (Err x) e h = tt
 
 -- what was read behind a place
-pub read_behind_place : {R E : Type 0} (ts mid : List Token) (p : PlacePath) (form : R → Form) (rest : R → List Token) (r : Result (Option R) E) → Begins places ts p mid → IfOk r (λ o. MatchOption o (HasNone (behind (sign 61) rights) mid) (λ x. (after : List Token) × (mid ≡ sign 61 ∷ after) × IsRightSide after p (form x) (rest x))) → IfOk r (λ o. MatchOption o (HasNone (line_grammars None) ts) (λ x. IsLine ts (form x) (rest x)))
-read_behind_place ts mid p form rest (Ok None) b h = pair_none_behind places (behind (sign 61) rights) places_one rights_join ts mid p b h
+pub read_behind_place : {R E : Type 0} (ts mid : List Token) (p : PlacePath) (form : R → Form) (rest : R → List Token)
+    (r : Result (Option R) E) → Begins places ts p mid
+    → IfOk r (λ o. MatchOption o (HasNone (behind (sign 61) rights) mid)
+    (λ x. (after : List Token) × (mid ≡ sign 61 ∷ after) × IsRightSide after p (form x) (rest x)))
+    → IfOk r (λ o. MatchOption o (HasNone (line_grammars None) ts) (λ x. IsLine ts (form x) (rest x)))
+read_behind_place ts mid p form rest (Ok None) b h =
+    pair_none_behind places (behind (sign 61) rights) places_one rights_join ts mid p b h
 read_behind_place ts mid p form rest (Ok (Some x)) b h = assignment_line ts mid h.0 p (form x) (rest x) b h.1 h.2
 read_behind_place ts mid p form rest (Err x) b h = tt
 
 -- an operand where no other right side begins
-pub read_value_side : {R E : Type 0} (ts : List Token) (p : PlacePath) (form : R → Form) (rest : R → List Token) (r : Result (Option R) E) → IsNotNext (sign 38) ts → IsNotNext (word (codes "make")) ts → IsNotNext (word (codes "call")) ts → IfOk r (λ o. MatchOption o (HasNone operands ts) (λ x. IsRightSide ts p (form x) (rest x))) → IfOk r (λ o. MatchOption o (HasNone rights ts) (λ x. IsRightSide ts p (form x) (rest x)))
+pub read_value_side : {R E : Type 0} (ts : List Token) (p : PlacePath) (form : R → Form) (rest : R → List Token)
+    (r : Result (Option R) E) → IsNotNext (sign 38) ts → IsNotNext (word (codes "make")) ts
+    → IsNotNext (word (codes "call")) ts
+    → IfOk r (λ o. MatchOption o (HasNone operands ts) (λ x. IsRightSide ts p (form x) (rest x)))
+    → IfOk r (λ o. MatchOption o (HasNone rights ts) (λ x. IsRightSide ts p (form x) (rest x)))
 read_value_side ts p form rest (Ok None) a b d h = no_value ts a b d h
 read_value_side ts p form rest (Ok (Some x)) a b d h = h
 read_value_side ts p form rest (Err x) a b d h = tt
 
 -- a right side behind its first token
-pub read_side_behind : {R E : Type 0} (ts after : List Token) (t : Token) (p : PlacePath) (form : R → Form) (rest : R → List Token) (r : Result (Option R) E) → ts ≡ t ∷ after → IfOk r (λ o. (us : List Token) → us ≡ t ∷ after → MatchOption o (HasNone rights us) (λ x. IsRightSide us p (form x) (rest x))) → IfOk r (λ o. MatchOption o (HasNone rights ts) (λ x. IsRightSide ts p (form x) (rest x)))
+pub read_side_behind : {R E : Type 0} (ts after : List Token) (t : Token) (p : PlacePath) (form : R → Form)
+    (rest : R → List Token) (r : Result (Option R) E) → ts ≡ t ∷ after
+    → IfOk r (λ o. (us : List Token) → us ≡ t ∷ after
+    → MatchOption o (HasNone rights us) (λ x. IsRightSide us p (form x) (rest x)))
+    → IfOk r (λ o. MatchOption o (HasNone rights ts) (λ x. IsRightSide ts p (form x) (rest x)))
 read_side_behind ts after t p form rest (Ok o) e h = h ts e
 read_side_behind ts after t p form rest (Err x) e h = tt
 
 -- ---- lines
 
-pub keyword_line : (ts mid : List Token) (k : Keyword) (f : Form) (r : List Token) → ts ≡ word (keyword_name k) ∷ mid → IsBehind k mid f r → IsLine ts f r
+pub keyword_line : (ts mid : List Token) (k : Keyword) (f : Form) (r : List Token) → ts ≡ word (keyword_name k) ∷ mid
+    → IsBehind k mid f r → IsLine ts f r
 keyword_line ts mid k f r e b = record { callee = []; begins = subst (λ l. Begins lines l (parts_of [] f) r) (sym e) b }
 
 no_lines : (k : Option Keyword) (ts : List Token) → line_kind ts ≡ k → HasNone (line_grammars k) ts → HasNone lines ts
 no_lines k ts e none p r b =
     let f : p.0 ≡ k = sym (line_kind_of p.0 p.1 r) ∙ (ap line_kind (sym b.joined) ∙ e) in
-    subst (λ (z : Option Keyword). (q : LineParts z) → Begins (line_grammars z) ts q r → ⊥) (sym f) (λ q x. none q r x) p.1
+    subst (λ (z : Option Keyword). (q : LineParts z) → Begins (line_grammars z) ts q r → ⊥) (sym f)
+    (λ q x. none q r x) p.1
     (record { joined = b.joined; allowed = b.allowed; follows = b.follows })
 
-pub no_keyword_line : (ts mid : List Token) (k : Keyword) → ts ≡ word (keyword_name k) ∷ mid → HasNone (tails k) mid → HasNone lines ts
-no_keyword_line ts mid k e none = no_lines (Some k) ts (ap line_kind e ∙ line_kind_of_name k mid) (behind_none (tails k) (word (keyword_name k)) ts mid e none)
+pub no_keyword_line : (ts mid : List Token) (k : Keyword) → ts ≡ word (keyword_name k) ∷ mid → HasNone (tails k) mid
+    → HasNone lines ts
+no_keyword_line ts mid k e none =
+    no_lines (Some k) ts (ap line_kind e ∙ line_kind_of_name k mid)
+    (behind_none (tails k) (word (keyword_name k)) ts mid e none)
 
 pub no_assignment : (ts : List Token) → HasNoKeyword ts → HasNone (line_grammars None) ts → HasNone lines ts
-no_assignment ts other none (None, p) r b = none p r (record { joined = b.joined; allowed = b.allowed; follows = b.follows })
+no_assignment ts other none (None, p) r b =
+    none p r (record { joined = b.joined; allowed = b.allowed; follows = b.follows })
 no_assignment ts other none (Some k, p) r b = other k _ b.joined
 
 -- a line is read behind its keyword
-pub read_keyword_line : {R E : Type 0} (ts mid : List Token) (k : Keyword) (form : R → Form) (after : R → List Token) (r : Result (Option R) E) → ts ≡ word (keyword_name k) ∷ mid → IfOk r (λ o. MatchOption o (HasNone (tails k) mid) (λ p. IsBehind k mid (form p) (after p))) → IfOk r (λ o. MatchOption o (HasNone lines ts) (λ p. IsLine ts (form p) (after p)))
+pub read_keyword_line : {R E : Type 0} (ts mid : List Token) (k : Keyword) (form : R → Form) (after : R → List Token)
+    (r : Result (Option R) E) → ts ≡ word (keyword_name k) ∷ mid
+    → IfOk r (λ o. MatchOption o (HasNone (tails k) mid) (λ p. IsBehind k mid (form p) (after p)))
+    → IfOk r (λ o. MatchOption o (HasNone lines ts) (λ p. IsLine ts (form p) (after p)))
 read_keyword_line ts mid k form after (Ok None) e none = no_keyword_line ts mid k e none
 read_keyword_line ts mid k form after (Ok (Some p)) e found = keyword_line ts mid k (form p) (after p) e found
 read_keyword_line ts mid k form after (Err x) e h = tt
 
 -- a line is read that begins with no keyword
-pub read_assignment : {R E : Type 0} (ts : List Token) (form : R → Form) (after : R → List Token) (r : Result (Option R) E) → HasNoKeyword ts → IfOk r (λ o. MatchOption o (HasNone (line_grammars None) ts) (λ p. IsLine ts (form p) (after p))) → IfOk r (λ o. MatchOption o (HasNone lines ts) (λ p. IsLine ts (form p) (after p)))
+pub read_assignment : {R E : Type 0} (ts : List Token) (form : R → Form) (after : R → List Token)
+    (r : Result (Option R) E) → HasNoKeyword ts
+    → IfOk r (λ o. MatchOption o (HasNone (line_grammars None) ts) (λ p. IsLine ts (form p) (after p)))
+    → IfOk r (λ o. MatchOption o (HasNone lines ts) (λ p. IsLine ts (form p) (after p)))
 read_assignment ts form after (Ok None) other none = no_assignment ts other none
 read_assignment ts form after (Ok (Some p)) other found = found
 read_assignment ts form after (Err x) other h = tt
 
 -- a word that is no keyword
-pub no_keyword : (ts mid : List Token) (w : List ℕ) → Begins any_words ts w mid → ((k : Keyword) → w ≡ keyword_name k → ⊥) → HasNoKeyword ts
-no_keyword ts mid w b other k rest f = other k (let h : word w ≡ word (keyword_name k) = head_same _ _ _ _ (sym b.joined ∙ f) in cc)
+pub no_keyword : (ts mid : List Token) (w : List ℕ) → Begins any_words ts w mid
+    → ((k : Keyword) → w ≡ keyword_name k → ⊥) → HasNoKeyword ts
+no_keyword ts mid w b other k rest f =
+    other k (let h : word w ≡ word (keyword_name k) = head_same _ _ _ _ (sym b.joined ∙ f) in cc)
 
 pub no_word : (ts : List Token) → HasNone any_words ts → HasNoKeyword ts
 no_word ts none k rest e = none (keyword_name k) rest (record { joined = e; allowed = tt; follows = tt })
@@ -218,11 +262,13 @@ spelled_parts c (at_point stop) = refl
 spelled_parts c end = refl
 
 -- an argument may be written where its operand and its type may
-all_arguments : (args : List (Operand × WrittenType)) → AllByRecursion (λ a. IsWritableOperand a.0 × HasNames a.1) args → AllByRecursion arguments.IsAllowed args
+all_arguments : (args : List (Operand × WrittenType)) → AllByRecursion (λ a. IsWritableOperand a.0 × HasNames a.1) args
+    → AllByRecursion arguments.IsAllowed args
 all_arguments [] h = tt
 all_arguments (a ∷ args) h = ((h.0.0, h.0.1), all_arguments args h.1)
 
-arguments_all : (args : List (Operand × WrittenType)) → AllByRecursion arguments.IsAllowed args → AllByRecursion (λ a. IsWritableOperand a.0 × HasNames a.1) args
+arguments_all : (args : List (Operand × WrittenType)) → AllByRecursion arguments.IsAllowed args
+    → AllByRecursion (λ a. IsWritableOperand a.0 × HasNames a.1) args
 arguments_all [] h = tt
 arguments_all (a ∷ args) h = ((h.0.0, h.0.1), arguments_all args h.1)
 
@@ -269,7 +315,8 @@ writable_parts c (at_point nop) h = tt
 writable_parts c (at_point (goto b)) h = h
 writable_parts c (at_point (switch op bs)) h = (h.0, h.1.0, h.1.1)
 writable_parts c (at_point (drop x b u)) h = (h.0, h.1.0, h.1.1)
-writable_parts c (at_point (call p args t ws b u)) h = (h.0, arguments_all args h.1.1.0, h.1.1.1.0, h.1.1.1.1.1.0, h.1.1.1.1.1.1)
+writable_parts c (at_point (call p args t ws b u)) h =
+    (h.0, arguments_all args h.1.1.0, h.1.1.1.0, h.1.1.1.1.1.0, h.1.1.1.1.1.1)
 writable_parts c (at_point return) h = tt
 writable_parts c (at_point stop) h = tt
 writable_parts c end h = tt
@@ -332,7 +379,8 @@ pub no_form : (ts : List Token) → HasNone lines ts → (f : Form) → IsSpelle
 no_form ts none f s = none (parts_of s.callee f) [] (to_line ts f s)
 
 -- a line that goes on isn't spelled whole
-pub no_form_before : (ts : List Token) (f : Form) (rest : List Token) → IsLine ts f rest → (rest ≡ [] → ⊥) → (g : Form) → IsSpelled ts g → ⊥
+pub no_form_before : (ts : List Token) (f : Form) (rest : List Token) → IsLine ts f rest → (rest ≡ [] → ⊥) → (g : Form)
+    → IsSpelled ts g → ⊥
 no_form_before ts f rest h more g s = more (lines_one ts _ _ rest [] h.begins (to_line ts g s)).1
 
 pub one_form_lem : (ts : List Token) (f g : Form) → IsSpelled ts f → IsSpelled ts g → f ≡ g
@@ -341,13 +389,18 @@ one_form_lem ts f g s u =
     sym (from_parts s.callee f) ∙ (ap form_from same.0 ∙ from_parts u.callee g)
 
 -- tokens of a form that isn't of the version are those of none that is
-pub no_form_in : (version : Version) (ts : List Token) (g : Form) → IsSpelled ts g → is_of_version version g ≡ false → (f : Form) → IsSpelledIn version ts f → ⊥
-no_form_in version ts g s other f h = false≢true (sym other ∙ subst (λ z. is_of_version version z ≡ true) (one_form_lem ts f g h.0 s) h.1)
+pub no_form_in : (version : Version) (ts : List Token) (g : Form) → IsSpelled ts g → is_of_version version g ≡ false
+    → (f : Form) → IsSpelledIn version ts f → ⊥
+no_form_in version ts g s other f h =
+    false≢true (sym other ∙ subst (λ z. is_of_version version z ≡ true) (one_form_lem ts f g h.0 s) h.1)
 
 -- a line that is kept where it is of the version is the one that the tokens spell there
-pub line_in_version : {E : Type 0} (version : Version) (ts : List Token) (line : Line) (r : Result (Option Line) E) → IsSpelled ts (form_of line)
-    → IfOk r (λ o. MatchOption o (is_of_version version (form_of line) ≡ false) (λ kept. (kept ≡ line) × (is_of_version version (form_of kept) ≡ true)))
-    → IfOk r (λ o. MatchOption o ((f : Form) → IsSpelledIn version ts f → ⊥) (λ kept. IsSpelledIn version ts (form_of kept)))
+pub line_in_version : {E : Type 0} (version : Version) (ts : List Token) (line : Line) (r : Result (Option Line) E)
+    → IsSpelled ts (form_of line)
+    → IfOk r (λ o. MatchOption o (is_of_version version (form_of line) ≡ false)
+    (λ kept. (kept ≡ line) × (is_of_version version (form_of kept) ≡ true)))
+    → IfOk r (λ o. MatchOption o ((f : Form) → IsSpelledIn version ts f → ⊥)
+    (λ kept. IsSpelledIn version ts (form_of kept)))
 line_in_version version ts line (Ok None) s h = no_form_in version ts (form_of line) s h
 line_in_version version ts line (Ok (Some kept)) s h = (subst (λ (l : Line). IsSpelled ts (form_of l)) (sym h.0) s, h.1)
 line_in_version version ts line (Err e) s h = tt

@@ -61,8 +61,10 @@ prefixed_one front ts a b r s x y =
     let e : word (front ++ decimal a) ∷ r ≡ word (front ++ decimal b) ∷ s = sym x.joined ∙ y.joined in
     let w : front ++ decimal a ≡ front ++ decimal b = cc in
     let small_a : a < 10 ^ 9 = x.allowed in
-    let small_b : b < 10 ^ 9 = y.allowed in
-    (decimal_injective a b (omega arith) (omega arith) (append_cancel front (decimal a) (decimal b) w), tail_same _ _ _ _ e)
+    let small_b : b < 10 ^ 9 = y.allowed in (
+      decimal_injective a b (omega arith) (omega arith) (append_cancel front (decimal a) (decimal b) w),
+      tail_same _ _ _ _ e,
+    )
 
 -- ---- places and operands
 
@@ -71,8 +73,10 @@ number_same a b small_a small_b e = decimal_injective a b (omega arith) (omega a
 
 pub projections_one : IsOne projections
 projections_one ts Deref Deref r s x y = (refl, tail_same _ _ _ _ (tail_same _ _ _ _ (sym x.joined ∙ y.joined)))
-projections_one ts Deref (Field k) r s x y = absurd (let e : sign 46 ∷ sign 42 ∷ r ≡ sign 46 ∷ word (decimal k) ∷ s = sym x.joined ∙ y.joined in cc)
-projections_one ts (Field k) Deref r s x y = absurd (let e : sign 46 ∷ word (decimal k) ∷ r ≡ sign 46 ∷ sign 42 ∷ s = sym x.joined ∙ y.joined in cc)
+projections_one ts Deref (Field k) r s x y =
+    absurd (let e : sign 46 ∷ sign 42 ∷ r ≡ sign 46 ∷ word (decimal k) ∷ s = sym x.joined ∙ y.joined in cc)
+projections_one ts (Field k) Deref r s x y =
+    absurd (let e : sign 46 ∷ word (decimal k) ∷ r ≡ sign 46 ∷ sign 42 ∷ s = sym x.joined ∙ y.joined in cc)
 projections_one ts (Field k) (Field l) r s x y =
     let e : word (decimal k) ∷ r ≡ word (decimal l) ∷ s = tail_same _ _ _ _ (sym x.joined ∙ y.joined) in
     (ap Field (number_same k l x.allowed y.allowed (head_same _ _ _ _ e)), tail_same _ _ _ _ e)
@@ -88,21 +92,31 @@ abbrev pub paths : Grammar (ℕ × List Projection)
 paths = pair variables (many projections)
 
 pub paths_one : IsOne paths
-paths_one = pair_one variables (many projections) (variables_join (many projections)) (prefixed_one (codes "_")) (many_one projections projections_loose projections_one)
+paths_one =
+    pair_one variables (many projections) (variables_join (many projections)) (prefixed_one (codes "_"))
+    (many_one projections projections_loose projections_one)
 
-pub to_path : (ts : List Token) (p : PlacePath) (r : List Token) → Begins places ts p r → Begins paths ts (p.variable, p.projections) r
+pub to_path : (ts : List Token) (p : PlacePath) (r : List Token) → Begins places ts p r
+    → Begins paths ts (p.variable, p.projections) r
 to_path ts p r b = record { joined = b.joined; allowed = b.allowed; follows = b.follows }
 
-pub from_path : (ts : List Token) (p : PlacePath) (r : List Token) → Begins paths ts (p.variable, p.projections) r → Begins places ts p r
+pub from_path : (ts : List Token) (p : PlacePath) (r : List Token) → Begins paths ts (p.variable, p.projections) r
+    → Begins places ts p r
 from_path ts p r b = record { joined = b.joined; allowed = b.allowed; follows = b.follows }
 
-pub place_found : (ts mid rest : List Token) (x : ℕ) (p : PlacePath) → Begins variables ts x mid → p.variable ≡ x → Begins (many projections) mid p.projections rest → Begins places ts p rest
-place_found ts mid rest x p v e b = from_path ts p rest (pair_found variables (many projections) ts mid rest p.variable p.projections (subst (λ y. Begins variables ts y mid) (sym e) v) b)
+pub place_found : (ts mid rest : List Token) (x : ℕ) (p : PlacePath) → Begins variables ts x mid → p.variable ≡ x
+    → Begins (many projections) mid p.projections rest → Begins places ts p rest
+place_found ts mid rest x p v e b =
+    from_path ts p rest (pair_found variables (many projections) ts mid rest p.variable p.projections
+    (subst (λ y. Begins variables ts y mid) (sym e) v) b)
 
 pub places_one : IsOne places
 places_one ts p q r s x y =
-    let same = paths_one ts _ _ r s (to_path ts p r x) (to_path ts q s y) in
-    (ap (λ (z : ℕ × List Projection). (let place : PlacePath = record { variable = z.0; projections = z.1 } in place)) same.0, same.1)
+    let same = paths_one ts _ _ r s (to_path ts p r x) (to_path ts q s y) in (
+      ap (λ (z : ℕ × List Projection). (let place : PlacePath = record { variable = z.0; projections = z.1 } in place))
+          same.0,
+      same.1,
+    )
 
 -- a projection doesn't begin with the token
 pub no_projection : (t : Token) (r : List Token) → (sign 46 ≡ t → ⊥) → HasNone projections (t ∷ r)
@@ -131,22 +145,34 @@ place_of p (moved q) = q
 behind_word : (v w : List ℕ) (ts xs ys : List Token) → ts ≡ word v ∷ xs → ts ≡ word w ∷ ys → bytes_eq v w ≡ false → ⊥
 behind_word v w ts xs ys e f n = words_apart v w n (word_same v w (head_same _ _ _ _ (sym e ∙ f)))
 
-copied_place : (ts : List Token) (p : PlacePath) (r : List Token) → Begins operands ts (copied p) r → Begins (behind (word (codes "copy")) places) ts p r
+copied_place : (ts : List Token) (p : PlacePath) (r : List Token) → Begins operands ts (copied p) r
+    → Begins (behind (word (codes "copy")) places) ts p r
 copied_place ts p r b = record { joined = b.joined; allowed = b.allowed; follows = b.follows }
 
-moved_place : (ts : List Token) (p : PlacePath) (r : List Token) → Begins operands ts (moved p) r → Begins (behind (word (codes "move")) places) ts p r
+moved_place : (ts : List Token) (p : PlacePath) (r : List Token) → Begins operands ts (moved p) r
+    → Begins (behind (word (codes "move")) places) ts p r
 moved_place ts p r b = record { joined = b.joined; allowed = b.allowed; follows = b.follows }
 
 pub operands_one : IsOne operands
 operands_one ts constant constant r s x y = (refl, tail_same _ _ _ _ (sym x.joined ∙ y.joined))
-operands_one ts constant (copied q) r s x y = absurd (behind_word (codes "const") (codes "copy") ts _ _ x.joined y.joined refl)
-operands_one ts constant (moved q) r s x y = absurd (behind_word (codes "const") (codes "move") ts _ _ x.joined y.joined refl)
-operands_one ts (copied p) constant r s x y = absurd (behind_word (codes "copy") (codes "const") ts _ _ x.joined y.joined refl)
-operands_one ts (copied p) (copied q) r s x y = let same = behind_one places (word (codes "copy")) places_one ts p q r s (copied_place ts p r x) (copied_place ts q s y) in (ap copied same.0, same.1)
-operands_one ts (copied p) (moved q) r s x y = absurd (behind_word (codes "copy") (codes "move") ts _ _ x.joined y.joined refl)
-operands_one ts (moved p) constant r s x y = absurd (behind_word (codes "move") (codes "const") ts _ _ x.joined y.joined refl)
-operands_one ts (moved p) (copied q) r s x y = absurd (behind_word (codes "move") (codes "copy") ts _ _ x.joined y.joined refl)
-operands_one ts (moved p) (moved q) r s x y = let same = behind_one places (word (codes "move")) places_one ts p q r s (moved_place ts p r x) (moved_place ts q s y) in (ap moved same.0, same.1)
+operands_one ts constant (copied q) r s x y =
+    absurd (behind_word (codes "const") (codes "copy") ts _ _ x.joined y.joined refl)
+operands_one ts constant (moved q) r s x y =
+    absurd (behind_word (codes "const") (codes "move") ts _ _ x.joined y.joined refl)
+operands_one ts (copied p) constant r s x y =
+    absurd (behind_word (codes "copy") (codes "const") ts _ _ x.joined y.joined refl)
+operands_one ts (copied p) (copied q) r s x y = let same =
+    behind_one places (word (codes "copy")) places_one ts p q r s (copied_place ts p r x) (copied_place ts q s y) in
+    (ap copied same.0, same.1)
+operands_one ts (copied p) (moved q) r s x y =
+    absurd (behind_word (codes "copy") (codes "move") ts _ _ x.joined y.joined refl)
+operands_one ts (moved p) constant r s x y =
+    absurd (behind_word (codes "move") (codes "const") ts _ _ x.joined y.joined refl)
+operands_one ts (moved p) (copied q) r s x y =
+    absurd (behind_word (codes "move") (codes "copy") ts _ _ x.joined y.joined refl)
+operands_one ts (moved p) (moved q) r s x y = let same =
+    behind_one places (word (codes "move")) places_one ts p q r s (moved_place ts p r x) (moved_place ts q s y) in
+    (ap moved same.0, same.1)
 
 -- an operand begins with a word
 operand_word : (op : Operand) → (w : List ℕ) × (others : List Token) × (spelled_operand op ≡ word w ∷ others)
@@ -210,30 +236,38 @@ pub no_type : (ts : List Token) → HasNoType ts → HasNone types ts
 no_type ts none t rest b = none t rest (record { joined = b.joined; names = b.allowed; free = b.follows })
 
 pub no_tuple : (ts : List Token) → HasNone types ts → HasNone tuples ts
-no_tuple ts none xs rest b = none (tuple xs) rest (record { joined = b.joined; allowed = b.allowed; follows = b.follows })
+no_tuple ts none xs rest b =
+    none (tuple xs) rest (record { joined = b.joined; allowed = b.allowed; follows = b.follows })
 
 pub no_tuple_open : (ts : List Token) → IsNotNext (sign 40) ts → HasNone tuples ts
 no_tuple_open ts other xs rest b = other _ b.joined
 
-pub front_is_tuple : (ts inner : List Token) (t : WrittenType) (rest : List Token) → ts ≡ sign 40 ∷ inner → Begins types ts t rest → IsTuple t
+pub front_is_tuple : (ts inner : List Token) (t : WrittenType) (rest : List Token) → ts ≡ sign 40 ∷ inner
+    → Begins types ts t rest → IsTuple t
 front_is_tuple ts inner int rest e b = absurd (let f = head_same _ _ _ _ (sym e ∙ b.joined) in cc)
 front_is_tuple ts inner (reference q m t) rest e b = absurd (signs_differ 40 38 _ _ refl (sym e ∙ b.joined))
 front_is_tuple ts inner (tuple xs) rest e b = refl
 front_is_tuple ts inner (named n args) rest e b = absurd (let f = head_same _ _ _ _ (sym e ∙ b.joined) in cc)
 front_is_tuple ts inner (function xs x) rest e b = absurd (let f = head_same _ _ _ _ (sym e ∙ b.joined) in cc)
 
-pub tuple_found : (ts : List Token) (t : WrittenType) (rest : List Token) → IsTuple t → Begins types ts t rest → Begins tuples ts (parts t) rest
+pub tuple_found : (ts : List Token) (t : WrittenType) (rest : List Token) → IsTuple t → Begins types ts t rest
+    → Begins tuples ts (parts t) rest
 tuple_found ts t rest h b =
     let c : Begins types ts (tuple (parts t)) rest = subst (λ (z : WrittenType). Begins types ts z rest) h b in
     record { joined = c.joined; allowed = c.allowed; follows = c.follows }
 
 -- ---- marks
 
-pub mark_one : (spells : Bool → List Token) (t : Token) → spells true ≡ t ∷ [] → spells false ≡ [] → IsOne (marks spells t)
-mark_one spells t there absent ts true true r s x y = (refl, tail_same _ _ _ _ (ap (λ l. l ++ r) (sym there) ∙ (sym x.joined ∙ (y.joined ∙ ap (λ l. l ++ s) there))))
-mark_one spells t there absent ts true false r s x y = absurd (y.follows r (sym (ap (λ l. l ++ s) absent) ∙ (sym y.joined ∙ (x.joined ∙ ap (λ l. l ++ r) there))))
-mark_one spells t there absent ts false true r s x y = absurd (x.follows s (sym (ap (λ l. l ++ r) absent) ∙ (sym x.joined ∙ (y.joined ∙ ap (λ l. l ++ s) there))))
-mark_one spells t there absent ts false false r s x y = (refl, ap (λ l. l ++ r) (sym absent) ∙ (sym x.joined ∙ (y.joined ∙ ap (λ l. l ++ s) absent)))
+pub mark_one : (spells : Bool → List Token) (t : Token) → spells true ≡ t ∷ [] → spells false ≡ []
+    → IsOne (marks spells t)
+mark_one spells t there absent ts true true r s x y =
+    (refl, tail_same _ _ _ _ (ap (λ l. l ++ r) (sym there) ∙ (sym x.joined ∙ (y.joined ∙ ap (λ l. l ++ s) there))))
+mark_one spells t there absent ts true false r s x y =
+    absurd (y.follows r (sym (ap (λ l. l ++ s) absent) ∙ (sym y.joined ∙ (x.joined ∙ ap (λ l. l ++ r) there))))
+mark_one spells t there absent ts false true r s x y =
+    absurd (x.follows s (sym (ap (λ l. l ++ r) absent) ∙ (sym x.joined ∙ (y.joined ∙ ap (λ l. l ++ s) there))))
+mark_one spells t there absent ts false false r s x y =
+    (refl, ap (λ l. l ++ r) (sym absent) ∙ (sym x.joined ∙ (y.joined ∙ ap (λ l. l ++ s) absent)))
 
 dangling : Grammar Bool
 dangling = marks dangling_mark (sign 63)
@@ -255,18 +289,22 @@ parameter_from s m = record { sign = s; may_dangle = m }
 pub parameter_marks_one : IsOne parameter_marks
 unfolding dangling parameter_from
 parameter_marks_one ts p q r s x y =
-    let e : sign_token p.sign ∷ (dangling_mark p.may_dangle ++ r) ≡ sign_token q.sign ∷ (dangling_mark q.may_dangle ++ s) = sym x.joined ∙ y.joined in
+    let e : sign_token p.sign ∷ (dangling_mark p.may_dangle ++ r)
+    ≡ sign_token q.sign ∷ (dangling_mark q.may_dangle ++ s) = sym x.joined ∙ y.joined in
     let f : p.sign ≡ q.sign = sign_same p.sign q.sign (head_same _ _ _ _ e) in
-    let same = mark_one dangling_mark (sign 63) refl refl (dangling_mark p.may_dangle ++ r) p.may_dangle q.may_dangle r s
+    let same =
+    mark_one dangling_mark (sign 63) refl refl (dangling_mark p.may_dangle ++ r) p.may_dangle q.may_dangle r s
     (record { joined = refl; allowed = tt; follows = x.follows })
     (record { joined = tail_same _ _ _ _ e; allowed = tt; follows = y.follows }) in
     (ap (λ z. parameter_from z p.may_dangle) f ∙ ap (λ z. parameter_from q.sign z) same.0, same.1)
 
 -- a parameter's name and marks
-region_marks : (ts : List Token) (a : Name) (p : Parameter) (r : List Token) → Begins parameters ts (region_parameter a p) r → Begins (pair regions parameter_marks) ts (a, p) r
+region_marks : (ts : List Token) (a : Name) (p : Parameter) (r : List Token)
+    → Begins parameters ts (region_parameter a p) r → Begins (pair regions parameter_marks) ts (a, p) r
 region_marks ts a p r b = record { joined = b.joined; allowed = (tt, tt); follows = b.follows }
 
-type_marks : (ts : List Token) (a : Name) (p : Parameter) (r : List Token) → Begins parameters ts (type_parameter a p) r → Begins (pair names parameter_marks) ts (a, p) r
+type_marks : (ts : List Token) (a : Name) (p : Parameter) (r : List Token) → Begins parameters ts (type_parameter a p) r
+    → Begins (pair names parameter_marks) ts (a, p) r
 type_marks ts a p r b = record { joined = b.joined; allowed = (b.allowed, tt); follows = b.follows }
 
 pub regions_join : {B : Type 0} (h : Grammar B) → Joins regions h
@@ -279,10 +317,16 @@ pub words_join : {B : Type 0} (h : Grammar B) → Joins any_words h
 words_join h a b r k l m = tt
 
 pub parameters_one : IsOne parameters
-parameters_one ts (region_parameter a p) (region_parameter b q) r s x y = let same = pair_one regions parameter_marks (regions_join parameter_marks) regions_one parameter_marks_one ts (a, p) (b, q) r s (region_marks ts a p r x) (region_marks ts b q s y) in (ap (λ z. region_parameter z.0 z.1) same.0, same.1)
-parameters_one ts (region_parameter a p) (type_parameter b q) r s x y = absurd (let f : region a ≡ word b = head_same _ _ _ _ (sym x.joined ∙ y.joined) in cc)
-parameters_one ts (type_parameter a p) (region_parameter b q) r s x y = absurd (let f : word a ≡ region b = head_same _ _ _ _ (sym x.joined ∙ y.joined) in cc)
-parameters_one ts (type_parameter a p) (type_parameter b q) r s x y = let same = pair_one names parameter_marks (names_join parameter_marks) names_one parameter_marks_one ts (a, p) (b, q) r s (type_marks ts a p r x) (type_marks ts b q s y) in (ap (λ z. type_parameter z.0 z.1) same.0, same.1)
+parameters_one ts (region_parameter a p) (region_parameter b q) r s x y = let same =
+    pair_one regions parameter_marks (regions_join parameter_marks) regions_one parameter_marks_one ts (a, p) (b, q) r s
+    (region_marks ts a p r x) (region_marks ts b q s y) in (ap (λ z. region_parameter z.0 z.1) same.0, same.1)
+parameters_one ts (region_parameter a p) (type_parameter b q) r s x y =
+    absurd (let f : region a ≡ word b = head_same _ _ _ _ (sym x.joined ∙ y.joined) in cc)
+parameters_one ts (type_parameter a p) (region_parameter b q) r s x y =
+    absurd (let f : word a ≡ region b = head_same _ _ _ _ (sym x.joined ∙ y.joined) in cc)
+parameters_one ts (type_parameter a p) (type_parameter b q) r s x y = let same =
+    pair_one names parameter_marks (names_join parameter_marks) names_one parameter_marks_one ts (a, p) (b, q) r s
+    (type_marks ts a p r x) (type_marks ts b q s y) in (ap (λ z. type_parameter z.0 z.1) same.0, same.1)
 
 pub mark_before : (m : Bool) (t u : Token) (r : List Token) → (u ≡ t → ⊥) → MayFollowMark t m (u ∷ r)
 mark_before true t u r n = tt
@@ -303,33 +347,43 @@ parameters_listable = record {
   opens = no_parameter;
 }
   where
-    no_parameter : (a : WrittenParameter) (r s : List Token) → parameters.IsAllowed a → parameters.spells a ++ r ≡ sign 62 ∷ s → ⊥
+    no_parameter : (a : WrittenParameter) (r s : List Token) → parameters.IsAllowed a
+        → parameters.spells a ++ r ≡ sign 62 ∷ s → ⊥
     no_parameter (region_parameter a p) r s h e = let f : region a ≡ sign 62 = head_same _ _ _ _ e in cc
     no_parameter (type_parameter a p) r s h e = let f : word a ≡ sign 62 = head_same _ _ _ _ e in cc
 
-to_enclosed : (ts : List Token) (p : WrittenParameter) (ps : List WrittenParameter) (r : List Token) → Begins parameter_lists ts (p ∷ ps) r → Begins (enclosed (sign 60) (sign 62) parameters) ts (p ∷ ps, tt) r
+to_enclosed : (ts : List Token) (p : WrittenParameter) (ps : List WrittenParameter) (r : List Token)
+    → Begins parameter_lists ts (p ∷ ps) r → Begins (enclosed (sign 60) (sign 62) parameters) ts (p ∷ ps, tt) r
 to_enclosed ts p ps r b = record { joined = b.joined; allowed = ((omega arith, b.allowed), tt); follows = tt }
 
-pub no_parameters : (ts inner : List Token) → ts ≡ sign 60 ∷ inner → HasNone (pair (commas parameters) (behind (sign 62) empty)) inner → HasNone parameter_lists ts
+pub no_parameters : (ts inner : List Token) → ts ≡ sign 60 ∷ inner
+    → HasNone (pair (commas parameters) (behind (sign 62) empty)) inner → HasNone parameter_lists ts
 no_parameters ts inner e none [] r b = b.follows inner (sym b.joined ∙ e)
-no_parameters ts inner e none (p ∷ ps) r b = behind_none _ (sign 60) ts inner e none (p ∷ ps, tt) r (to_enclosed ts p ps r b)
+no_parameters ts inner e none (p ∷ ps) r b =
+    behind_none _ (sign 60) ts inner e none (p ∷ ps, tt) r (to_enclosed ts p ps r b)
 
-opens_angle : (ts : List Token) (p : WrittenParameter) (ps : List WrittenParameter) (r : List Token) → Begins parameter_lists ts (p ∷ ps) r → (rest : List Token) × (ts ≡ sign 60 ∷ rest)
+opens_angle : (ts : List Token) (p : WrittenParameter) (ps : List WrittenParameter) (r : List Token)
+    → Begins parameter_lists ts (p ∷ ps) r → (rest : List Token) × (ts ≡ sign 60 ∷ rest)
 opens_angle ts p ps r b = (_, b.joined)
 
 pub parameter_lists_one : IsOne parameter_lists
 parameter_lists_one ts [] [] r s x y = (refl, sym x.joined ∙ y.joined)
-parameter_lists_one ts [] (q ∷ qs) r s x y = absurd (let f = opens_angle ts q qs s y in x.follows f.0 (sym x.joined ∙ f.1))
-parameter_lists_one ts (p ∷ ps) [] r s x y = absurd (let f = opens_angle ts p ps r x in y.follows f.0 (sym y.joined ∙ f.1))
+parameter_lists_one ts [] (q ∷ qs) r s x y =
+    absurd (let f = opens_angle ts q qs s y in x.follows f.0 (sym x.joined ∙ f.1))
+parameter_lists_one ts (p ∷ ps) [] r s x y =
+    absurd (let f = opens_angle ts p ps r x in y.follows f.0 (sym y.joined ∙ f.1))
 parameter_lists_one ts (p ∷ ps) (q ∷ qs) r s x y =
-    let same = behind_one _ (sign 60) (inside_one (sign 62) parameters parameters_listable) ts (p ∷ ps, tt) (q ∷ qs, tt) r s (to_enclosed ts p ps r x) (to_enclosed ts q qs s y) in
+    let same =
+    behind_one _ (sign 60) (inside_one (sign 62) parameters parameters_listable) ts (p ∷ ps, tt) (q ∷ qs, tt) r s
+    (to_enclosed ts p ps r x) (to_enclosed ts q qs s y) in
     (ap (λ z. z.0) same.0, same.1)
 
 pub operands_join_colon : Joins operands (behind (sign 58) types)
 operands_join_colon op t r k l m = operands_before (sign 58) (signs_apart 46 58 refl) op (spelled t ++ r) k
 
 pub arguments_one : IsOne arguments
-arguments_one = pair_one operands (behind (sign 58) types) operands_join_colon operands_one (behind_one types (sign 58) types_one)
+arguments_one =
+    pair_one operands (behind (sign 58) types) operands_join_colon operands_one (behind_one types (sign 58) types_one)
 
 pub operands_listable : IsListable operands (sign 41)
 operands_listable = record {
@@ -346,11 +400,14 @@ arguments_listable = record {
   comma = λ a r h others e. signs_differ 44 60 _ _ refl e;
   closing = λ a r h others e. signs_differ 41 60 _ _ refl e;
   other = signs_apart 41 44 refl;
-  opens = λ a r s h e. no_operand 41 a.0 ((sign 58 ∷ spelled a.1) ++ r) s (sym (append_assoc (spelled_operand a.0) (sign 58 ∷ spelled a.1) r) ∙ e);
+  opens = λ a r s h e. no_operand 41 a.0 ((sign 58 ∷ spelled a.1) ++ r) s
+      (sym (append_assoc (spelled_operand a.0) (sign 58 ∷ spelled a.1) r) ∙ e);
 }
 
 pub bounds_one : IsOne bounds
-bounds_one = pair_one regions (behind (sign 58) regions) (regions_join (behind (sign 58) regions)) regions_one (behind_one regions (sign 58) regions_one)
+bounds_one =
+    pair_one regions (behind (sign 58) regions) (regions_join (behind (sign 58) regions)) regions_one
+    (behind_one regions (sign 58) regions_one)
 
 pub bounds_before : (t : Token) → IsBefore t bounds
 bounds_before t w r h = tt
@@ -359,25 +416,35 @@ pub any_bounds : (ws : List (Name × Name)) → AllByRecursion bounds.IsAllowed 
 any_bounds [] = tt
 any_bounds (w ∷ ws) = ((tt, tt), any_bounds ws)
 
-to_bounds : (ts : List Token) (w : Name × Name) (ws : List (Name × Name)) (r : List Token) → Begins bound_lists ts (w ∷ ws) r → Begins (behind (word (codes "where")) (commas bounds)) ts (w ∷ ws) r
+to_bounds : (ts : List Token) (w : Name × Name) (ws : List (Name × Name)) (r : List Token)
+    → Begins bound_lists ts (w ∷ ws) r → Begins (behind (word (codes "where")) (commas bounds)) ts (w ∷ ws) r
 to_bounds ts w ws r b = record { joined = b.joined; allowed = (omega arith, any_bounds (w ∷ ws)); follows = b.follows }
 
 pub bound_lists_one : IsOne bound_lists
 bound_lists_one ts [] [] r s x y = (refl, sym x.joined ∙ y.joined)
 bound_lists_one ts [] (q ∷ qs) r s x y = absurd (x.follows _ (sym x.joined ∙ (to_bounds ts q qs s y).joined))
 bound_lists_one ts (p ∷ ps) [] r s x y = absurd (y.follows _ (sym y.joined ∙ (to_bounds ts p ps r x).joined))
-bound_lists_one ts (p ∷ ps) (q ∷ qs) r s x y = behind_one (commas bounds) (word (codes "where")) (commas_one bounds (bounds_before (sign 44)) bounds_one) ts (p ∷ ps) (q ∷ qs) r s (to_bounds ts p ps r x) (to_bounds ts q qs s y)
+bound_lists_one ts (p ∷ ps) (q ∷ qs) r s x y =
+    behind_one (commas bounds) (word (codes "where")) (commas_one bounds (bounds_before (sign 44)) bounds_one) ts
+    (p ∷ ps) (q ∷ qs) r s (to_bounds ts p ps r x) (to_bounds ts q qs s y)
 
-pub no_bounds : (ts inner : List Token) → ts ≡ word (codes "where") ∷ inner → HasNone (commas bounds) inner → HasNone bound_lists ts
+pub no_bounds : (ts inner : List Token) → ts ≡ word (codes "where") ∷ inner → HasNone (commas bounds) inner
+    → HasNone bound_lists ts
 no_bounds ts inner e none [] r b = b.follows inner (sym b.joined ∙ e)
-no_bounds ts inner e none (p ∷ ps) r b = behind_none (commas bounds) (word (codes "where")) ts inner e none (p ∷ ps) r (to_bounds ts p ps r b)
+no_bounds ts inner e none (p ∷ ps) r b =
+    behind_none (commas bounds) (word (codes "where")) ts inner e none (p ∷ ps) r (to_bounds ts p ps r b)
 
-pub bounds_found : (ts inner rest : List Token) (ws : List (Name × Name)) → ts ≡ word (codes "where") ∷ inner → Begins (commas bounds) inner ws rest → Begins bound_lists ts ws rest
+pub bounds_found : (ts inner rest : List Token) (ws : List (Name × Name)) → ts ≡ word (codes "where") ∷ inner
+    → Begins (commas bounds) inner ws rest → Begins bound_lists ts ws rest
 bounds_found ts inner rest [] e b = absurd (let h : 0 < 0 = b.allowed.0 in omega (arith, h))
-bounds_found ts inner rest (w ∷ ws) e b = record { joined = e ∙ ap (λ l. word (codes "where") ∷ l) b.joined; allowed = tt; follows = b.follows }
+bounds_found ts inner rest (w ∷ ws) e b =
+    record { joined = e ∙ ap (λ l. word (codes "where") ∷ l) b.joined; allowed = tt; follows = b.follows }
 
 -- bounds are read behind `where`
-pub read_bounds : {R E : Type 0} (ts inner : List Token) (ws : List (Name × Name)) (after : R → List Token) (r : Result (Option R) E) → ts ≡ word (codes "where") ∷ inner → IfOk r (λ o. MatchOption o (HasNone (commas bounds) inner) (λ p. Begins (commas bounds) inner ws (after p))) → IfOk r (λ o. MatchOption o (HasNone bound_lists ts) (λ p. Begins bound_lists ts ws (after p)))
+pub read_bounds : {R E : Type 0} (ts inner : List Token) (ws : List (Name × Name)) (after : R → List Token)
+    (r : Result (Option R) E) → ts ≡ word (codes "where") ∷ inner
+    → IfOk r (λ o. MatchOption o (HasNone (commas bounds) inner) (λ p. Begins (commas bounds) inner ws (after p)))
+    → IfOk r (λ o. MatchOption o (HasNone bound_lists ts) (λ p. Begins bound_lists ts ws (after p)))
 read_bounds ts inner ws after (Ok None) e h = no_bounds ts inner e h
 read_bounds ts inner ws after (Ok (Some p)) e h = bounds_found ts inner (after p) ws e h
 read_bounds ts inner ws after (Err x) e h = tt
@@ -390,16 +457,29 @@ blocks_loose b r = tt
 pub many_blocks_one : IsOne (many block_names)
 many_blocks_one = many_one block_names blocks_loose (prefixed_one (codes "bb"))
 
-to_blocks : (ts : List Token) (bs : List ℕ) (r : List Token) → Begins block_lists ts bs r → Begins (many block_names) ts bs r
-to_blocks ts bs r b = record { joined = b.joined ∙ ap (λ l. l ++ r) (sym (flat_map_single block_word bs)); allowed = b.allowed.1; follows = b.follows }
+to_blocks : (ts : List Token) (bs : List ℕ) (r : List Token) → Begins block_lists ts bs r
+    → Begins (many block_names) ts bs r
+to_blocks ts bs r b =
+    record {
+      joined = b.joined ∙ ap (λ l. l ++ r) (sym (flat_map_single block_word bs));
+      allowed = b.allowed.1;
+      follows = b.follows;
+    }
 
 pub block_lists_one : IsOne block_lists
 block_lists_one ts bs cs r s x y = many_blocks_one ts bs cs r s (to_blocks ts bs r x) (to_blocks ts cs s y)
 
-pub blocks_found : (ts : List Token) (bs : List ℕ) (r : List Token) → 0 < length bs → Begins (many block_names) ts bs r → Begins block_lists ts bs r
-blocks_found ts bs r some b = record { joined = b.joined ∙ ap (λ l. l ++ r) (flat_map_single block_word bs); allowed = (some, b.allowed); follows = b.follows }
+pub blocks_found : (ts : List Token) (bs : List ℕ) (r : List Token) → 0 < length bs → Begins (many block_names) ts bs r
+    → Begins block_lists ts bs r
+blocks_found ts bs r some b =
+    record {
+      joined = b.joined ∙ ap (λ l. l ++ r) (flat_map_single block_word bs);
+      allowed = (some, b.allowed);
+      follows = b.follows;
+    }
 
-pub no_blocks : (ts : List Token) (bs : List ℕ) (r : List Token) → length bs ≡ 0 → Begins (many block_names) ts bs r → HasNone block_lists ts
+pub no_blocks : (ts : List Token) (bs : List ℕ) (r : List Token) → length bs ≡ 0 → Begins (many block_names) ts bs r
+    → HasNone block_lists ts
 no_blocks ts bs r none b cs s y =
     let same : bs ≡ cs = (many_blocks_one ts bs cs r s b (to_blocks ts cs s y)).0 in
     let some : 0 < length cs = y.allowed.0 in
@@ -411,13 +491,16 @@ no_blocks ts bs r none b cs s y =
 block_before : {B : Type 0} (h : Grammar B) → Joins block_names h
 block_before h a b r k l m = tt
 
-only_target : (ts : List Token) (b : ℕ) (r : List Token) → Begins exits ts (b, None) r → Begins (behind arrow block_names) ts b r
+only_target : (ts : List Token) (b : ℕ) (r : List Token) → Begins exits ts (b, None) r
+    → Begins (behind arrow block_names) ts b r
 only_target ts b r x = record { joined = x.joined; allowed = x.allowed.0; follows = tt }
 
-two_targets : (ts : List Token) (b c : ℕ) (r : List Token) → Begins exits ts (b, Some c) r → Begins (behind arrow (pair block_names (behind (word (codes "unwind")) block_names))) ts (b, c) r
+two_targets : (ts : List Token) (b c : ℕ) (r : List Token) → Begins exits ts (b, Some c) r
+    → Begins (behind arrow (pair block_names (behind (word (codes "unwind")) block_names))) ts (b, c) r
 two_targets ts b c r x = record { joined = x.joined; allowed = x.allowed; follows = tt }
 
-target_of : (ts : List Token) (b c : ℕ) (r : List Token) → Begins exits ts (b, Some c) r → Begins (behind arrow block_names) ts b (word (codes "unwind") ∷ block_word c ∷ r)
+target_of : (ts : List Token) (b c : ℕ) (r : List Token) → Begins exits ts (b, Some c) r
+    → Begins (behind arrow block_names) ts b (word (codes "unwind") ∷ block_word c ∷ r)
 target_of ts b c r x = record { joined = x.joined; allowed = x.allowed.0; follows = tt }
 
 pub blocks_one : IsOne block_names
@@ -427,10 +510,16 @@ target_one : IsOne (behind arrow block_names)
 target_one = behind_one block_names arrow blocks_one
 
 pub exits_one : IsOne exits
-exits_one ts (b, None) (d, None) r s x y = let same = target_one ts b d r s (only_target ts b r x) (only_target ts d s y) in (ap (λ z. (z, None)) same.0, same.1)
-exits_one ts (b, None) (d, Some e) r s x y = absurd (let same = target_one ts b d r _ (only_target ts b r x) (target_of ts d e s y) in x.follows _ same.1)
-exits_one ts (b, Some c) (d, None) r s x y = absurd (let same = target_one ts b d _ s (target_of ts b c r x) (only_target ts d s y) in y.follows _ (sym same.1))
+exits_one ts (b, None) (d, None) r s x y = let same =
+    target_one ts b d r s (only_target ts b r x) (only_target ts d s y) in (ap (λ z. (z, None)) same.0, same.1)
+exits_one ts (b, None) (d, Some e) r s x y =
+    absurd (let same = target_one ts b d r _ (only_target ts b r x) (target_of ts d e s y) in x.follows _ same.1)
+exits_one ts (b, Some c) (d, None) r s x y =
+    absurd (let same = target_one ts b d _ s (target_of ts b c r x) (only_target ts d s y) in y.follows _ (sym same.1))
 exits_one ts (b, Some c) (d, Some e) r s x y =
-    let one = behind_one _ arrow (pair_one block_names (behind (word (codes "unwind")) block_names) (block_before (behind (word (codes "unwind")) block_names)) blocks_one (behind_one block_names (word (codes "unwind")) blocks_one)) in
+    let one =
+    behind_one _ arrow (pair_one block_names (behind (word (codes "unwind")) block_names)
+    (block_before (behind (word (codes "unwind")) block_names)) blocks_one
+    (behind_one block_names (word (codes "unwind")) blocks_one)) in
     let same = one ts (b, c) (d, e) r s (two_targets ts b c r x) (two_targets ts d e s y) in
     (ap (λ (z : ℕ × ℕ). (z.0, Some z.1)) same.0, same.1)

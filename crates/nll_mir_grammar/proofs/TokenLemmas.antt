@@ -29,11 +29,15 @@ pub length-from : (tokens : List InLine) (at : ℕ) → length (from at tokens) 
 length-from tokens at = length-drop at (views tokens) ∙ ap (λ n. n - at) (length-map tokens view)
 
 -- the first of them is that at the index, if there is one
-pub token_found : (tokens : List InLine) (at : ℕ) (r : Option (Bor InLine)) → is_some r ≡ nat_lt at (length tokens) → IfSome r (λ x. x.now ≡ get_or tokens at x.now) → MatchOption (option_copied r) (from at tokens ≡ []) (λ token. (at < length tokens) × (from at tokens ≡ view token ∷ from (at + 1) tokens))
+pub token_found : (tokens : List InLine) (at : ℕ) (r : Option (Bor InLine)) → is_some r ≡ nat_lt at (length tokens)
+    → IfSome r (λ x. x.now ≡ get_or tokens at x.now)
+    → MatchOption (option_copied r) (from at tokens ≡ [])
+    (λ token. (at < length tokens) × (from at tokens ≡ view token ∷ from (at + 1) tokens))
 token_found tokens at None e h = nothing_past tokens at (ltb-false at (length tokens) (sym e))
 token_found tokens at (Some x) e h =
     let inside : at < length tokens = ltb-true at (length tokens) (sym e) in
-    let first : drop at tokens ≡ x.now ∷ drop (at + 1) tokens = drop_more tokens at x.now inside ∙ ap (λ t. t ∷ drop (at + 1) tokens) (sym h) in
+    let first : drop at tokens ≡ x.now ∷ drop (at + 1) tokens = drop_more tokens at x.now inside
+    ∙ ap (λ t. t ∷ drop (at + 1) tokens) (sym h) in
     (inside, sym (of_rest tokens at) ∙ (ap views first ∙ ap (λ l. view x.now ∷ l) (of_rest tokens (at + 1))))
 
 -- some are behind an index inside

@@ -16,18 +16,25 @@ use Rattle.nll_mir_grammar.specs.Tuples.{parts, IsTuple}
 
 -- whether all of a row pass, of which the first ones did
 module _ {A B : Type 0} (f : A → B) (p : B → Bool) where
-  next : (xs : List A) (i : ℕ) (x d : A) → i < length xs → x ≡ get_or xs i d → list_all p (map f (drop i xs)) ≡ (p (f x) && list_all p (map f (drop (i + 1) xs)))
+  next : (xs : List A) (i : ℕ) (x d : A) → i < length xs → x ≡ get_or xs i d
+      → list_all p (map f (drop i xs)) ≡ (p (f x) && list_all p (map f (drop (i + 1) xs)))
   next xs i x d l e =
       let rest : drop i xs ≡ get_or xs i d ∷ drop (i + 1) xs = rw add-one (drop-cons xs i d l) in
       ap (λ (ys : List A). list_all p (map f ys)) (rest ∙ ap (λ z. z ∷ drop (i + 1) xs) (sym e))
 
-  pub all_more : (xs : List A) (i : ℕ) (x d : A) → i < length xs → x ≡ get_or xs i d → p (f x) ≡ true → list_all p (map f (drop i xs)) ≡ list_all p (map f xs) → list_all p (map f (drop (i + 1) xs)) ≡ list_all p (map f xs)
-  all_more xs i x d l e passes told = sym (next xs i x d l e ∙ ap (λ b. b && list_all p (map f (drop (i + 1) xs))) passes) ∙ told
+  pub all_more : (xs : List A) (i : ℕ) (x d : A) → i < length xs → x ≡ get_or xs i d → p (f x) ≡ true
+      → list_all p (map f (drop i xs)) ≡ list_all p (map f xs)
+      → list_all p (map f (drop (i + 1) xs)) ≡ list_all p (map f xs)
+  all_more xs i x d l e passes told =
+      sym (next xs i x d l e ∙ ap (λ b. b && list_all p (map f (drop (i + 1) xs))) passes) ∙ told
 
-  pub not_all : (xs : List A) (i : ℕ) (x d : A) → i < length xs → x ≡ get_or xs i d → p (f x) ≡ false → list_all p (map f (drop i xs)) ≡ list_all p (map f xs) → false ≡ list_all p (map f xs)
-  not_all xs i x d l e fails told = sym (next xs i x d l e ∙ ap (λ b. b && list_all p (map f (drop (i + 1) xs))) fails) ∙ told
+  pub not_all : (xs : List A) (i : ℕ) (x d : A) → i < length xs → x ≡ get_or xs i d → p (f x) ≡ false
+      → list_all p (map f (drop i xs)) ≡ list_all p (map f xs) → false ≡ list_all p (map f xs)
+  not_all xs i x d l e fails told = sym (next xs i x d l e ∙ ap (λ b. b && list_all p (map f (drop (i + 1) xs))) fails)
+      ∙ told
 
-  pub all_passed : (xs : List A) (i : ℕ) → length xs ≤ i → list_all p (map f (drop i xs)) ≡ list_all p (map f xs) → true ≡ list_all p (map f xs)
+  pub all_passed : (xs : List A) (i : ℕ) → length xs ≤ i → list_all p (map f (drop i xs)) ≡ list_all p (map f xs)
+      → true ≡ list_all p (map f xs)
   all_passed xs i past told = ap (λ (ys : List A). list_all p (map f ys)) (sym (drop_all i xs past)) ∙ told
 
 pub and_true : (a : Bool) → (a && true) ≡ a
@@ -44,7 +51,10 @@ all_push p (y ∷ xs) x = ap (λ b. p y && b) (all_push p xs x) ∙ and_rest (p 
     and_rest false b c = refl
 
 -- the types of a call's parameters
-pub call_types : (args : List (Written × List TypeNode)) → map (λ (a : Operand × WrittenType). a.1) (map (λ (a : Operand × List TypeNode). (a.0, written a.1)) (arguments_of args)) ≡ map (λ (a : Written × List TypeNode). written a.1) args
+pub call_types : (args : List (Written × List TypeNode))
+    → map (λ (a : Operand × WrittenType). a.1)
+    (map (λ (a : Operand × List TypeNode). (a.0, written a.1)) (arguments_of args))
+    ≡ map (λ (a : Written × List TypeNode). written a.1) args
 call_types [] = refl
 call_types (a ∷ args) = ap (λ ts. written a.1 ∷ ts) (call_types args)
 

@@ -34,14 +34,18 @@ abbrev said_with : Said → List Name → List (List Bool) → List Struct → S
 said_with s names kinds structs = record s { reached = Structs; struct_names = names; kinds = kinds; structs = structs }
 
 -- the tree of resolved fields is a tuple of what they mean
-pub fields_are : (s : Scope) (t : WrittenType) (tree : TypeTree) → IsTuple t → tree ≡ meant s t → tree ≡ tuple (all_meant s (parts t))
+pub fields_are : (s : Scope) (t : WrittenType) (tree : TypeTree) → IsTuple t → tree ≡ meant s t
+    → tree ≡ tuple (all_meant s (parts t))
 fields_are s t tree is same = same ∙ ap (meant s) is
 
 -- the numbers of the regions that fields may name have room in 32 bits
-pub few_own : (r : Reader) (own : OwnNames) (text : StructText) → IsDue r (struct_form text) → AreOwn (map parameter_of text.parameters.items) own → length own.regions < 2 ^ 32
+pub few_own : (r : Reader) (own : OwnNames) (text : StructText) → IsDue r (struct_form text)
+    → AreOwn (map parameter_of text.parameters.items) own → length own.regions < 2 ^ 32
 few_own r own text due h = omega (arith, due.few, h.few)
 
-module _ (r : Reader) (own : OwnNames) (text : StructText) (due : IsDue r (struct_form text)) (h : AreOwn (map parameter_of text.parameters.items) own) (fine : first_fault (said_by r) (struct_form text) ≡ None) where
+module _ (r : Reader) (own : OwnNames) (text : StructText) (due : IsDue r (struct_form text))
+    (h : AreOwn (map parameter_of text.parameters.items) own)
+    (fine : first_fault (said_by r) (struct_form text) ≡ None) where
   abbrev parameters : List WrittenParameter
   parameters = map parameter_of text.parameters.items
 
@@ -54,12 +58,16 @@ module _ (r : Reader) (own : OwnNames) (text : StructText) (due : IsDue r (struc
   few_in : length (regions_in parameters) ≤ most_bytes
   few_in = omega (arith, due.few, few_regions parameters)
 
-  module _ (d : Declaration) (regions : d.regions.items ≡ map (λ p. p.1) (regions_in parameters)) (types : d.types.items ≡ map (λ p. p.1) (types_in parameters)) (has_drop : d.has_drop ≡ text.has_drop) (meant : trees d.fields.items ≡ all_meant (own_scope own r.structs) fields) where
+  module _ (d : Declaration) (regions : d.regions.items ≡ map (λ p. p.1) (regions_in parameters))
+      (types : d.types.items ≡ map (λ p. p.1) (types_in parameters)) (has_drop : d.has_drop ≡ text.has_drop)
+      (meant : trees d.fields.items ≡ all_meant (own_scope own r.structs) fields) where
     abbrev more : Struct
     more = declared (said_by r) parameters text.has_drop fields
 
     fields_meant : trees d.fields.items ≡ all_meant (field_scope (said_by r) parameters) fields
-    fields_meant = meant ∙ ap (λ s. all_meant s fields) (own_scope_is (said_by r) parameters own r.structs h is_fine.regions is_fine.types refl refl)
+    fields_meant =
+        meant ∙ ap (λ s. all_meant s fields)
+        (own_scope_is (said_by r) parameters own r.structs h is_fine.regions is_fine.types refl refl)
 
     declares : kept.declared d ≡ more
     declares = rw (regions, types, has_drop, fields_meant) refl
@@ -72,25 +80,34 @@ module _ (r : Reader) (own : OwnNames) (text : StructText) (due : IsDue r (struc
 
     pub good_declared : HasGoodFields (structs_of r.variables.table.structs) (kept.declared d)
     good_declared = subst (HasGoodFields (structs_of r.variables.table.structs)) (sym declares)
-        (good_fields (said_by r) parameters text.has_drop fields due.ready.kinds (due.ready.named_structs ∙ sym counted_structs) is_fine.known is_fine.has)
+        (good_fields (said_by r) parameters text.has_drop fields due.ready.kinds
+        (due.ready.named_structs ∙ sym counted_structs) is_fine.known is_fine.has)
 
-    module _ (t : Tables) (s : StructNames) (structs : t.structs ≡ r.variables.table.structs ++ d ∷ []) (shapes : t.shapes ≡ r.variables.table.shapes) (names : s.names ≡ r.structs.names ++ text.name.now ∷ []) (kinds : map (λ ks. ks.items) s.kinds.items ≡ map (λ ks. ks.items) r.structs.kinds.items ++ map is_region parameters ∷ []) (none : s.none ≡ r.structs.none) where
+    module _ (t : Tables) (s : StructNames) (structs : t.structs ≡ r.variables.table.structs ++ d ∷ [])
+        (shapes : t.shapes ≡ r.variables.table.shapes) (names : s.names ≡ r.structs.names ++ text.name.now ∷ [])
+        (kinds : map (λ ks. ks.items) s.kinds.items
+        ≡ map (λ ks. ks.items) r.structs.kinds.items ++ map is_region parameters ∷ [])
+        (none : s.none ≡ r.structs.none) where
       abbrev after : Reader
       after = record r { reached = Structs; structs = s; variables = record r.variables { table = t } }
 
       more_structs : structs_of t.structs ≡ structs_of r.variables.table.structs ++ more ∷ []
-      more_structs = ap structs_of structs ∙ (map_push kept.declared r.variables.table.structs d ∙ ap (λ x. structs_of r.variables.table.structs ++ x ∷ []) declares)
+      more_structs = ap structs_of structs
+          ∙ (map_push kept.declared r.variables.table.structs d
+          ∙ ap (λ x. structs_of r.variables.table.structs ++ x ∷ []) declares)
 
       more_said : said_by after ≡ says (said_by r) (struct_form text)
       more_said =
           ap (λ xs. said_with (said_by r) xs (map (λ ks. ks.items) s.kinds.items) (structs_of t.structs)) names
           ∙ (ap (λ xs. said_with (said_by r) (r.structs.names ++ text.name.now ∷ []) xs (structs_of t.structs)) kinds
-          ∙ ap (λ xs. said_with (said_by r) (r.structs.names ++ text.name.now ∷ []) (map (λ ks. ks.items) r.structs.kinds.items ++ map is_region parameters ∷ []) xs) more_structs)
+          ∙ ap (λ xs. said_with (said_by r) (r.structs.names ++ text.name.now ∷ [])
+          (map (λ ks. ks.items) r.structs.kinds.items ++ map is_region parameters ∷ []) xs) more_structs)
 
       more_kinds : AreKinds (map (λ ks. ks.items) s.kinds.items) (structs_of t.structs)
       more_kinds =
           subst (λ xs. AreKinds xs (structs_of t.structs)) (sym kinds)
-          (subst (AreKinds (map (λ ks. ks.items) r.structs.kinds.items ++ map is_region parameters ∷ [])) (sym more_structs)
+          (subst (AreKinds (map (λ ks. ks.items) r.structs.kinds.items ++ map is_region parameters ∷ []))
+          (sym more_structs)
           (kinds_pushed _ _ (map is_region parameters) more
           (length-map r.structs.kinds.items (λ ks. ks.items) ∙ (due.ready.counted_kinds ∙ sym counted_structs))
           due.ready.kinds
@@ -110,12 +127,30 @@ module _ (r : Reader) (own : OwnNames) (text : StructText) (due : IsDue r (struc
           few_universals = due.ready.few_universals;
           few_regions = due.ready.few_regions;
           no_parameter = none ∙ due.ready.no_parameter;
-          named_structs = omega (arith, more_counted, due.ready.named_structs, ap length names, length-append r.structs.names (text.name.now ∷ []));
-          counted_kinds = omega (arith, more_counted, due.ready.counted_kinds, ap length kinds, length-map s.kinds.items (λ ks. ks.items), length-map r.structs.kinds.items (λ ks. ks.items), length-append (map (λ ks. ks.items) r.structs.kinds.items) (map is_region parameters ∷ []));
+          named_structs =
+              omega (
+                arith,
+                more_counted,
+                due.ready.named_structs,
+                ap length names,
+                length-append r.structs.names (text.name.now ∷ []),
+              );
+          counted_kinds =
+              omega (
+                arith,
+                more_counted,
+                due.ready.counted_kinds,
+                ap length kinds,
+                length-map s.kinds.items (λ ks. ks.items),
+                length-map r.structs.kinds.items (λ ks. ks.items),
+                length-append (map (λ ks. ks.items) r.structs.kinds.items) (map is_region parameters ∷ []),
+              );
           kinds = more_kinds;
           few_structs = omega (arith, more_counted, is_fine.few, counted_structs);
           few_variables = due.ready.few_variables;
-          shapes = subst (λ (ns : List Node). AreShapes ns r.variables.shapes.items r.variables.types.items) (sym shapes) due.ready.shapes;
+          shapes =
+              subst (λ (ns : List Node). AreShapes ns r.variables.shapes.items r.variables.types.items)
+              (sym shapes) due.ready.shapes;
           few_blocks = due.ready.few_blocks;
           no_start = λ _. due.ready.no_start (omega (arith, due.follows));
           starts = due.ready.starts;

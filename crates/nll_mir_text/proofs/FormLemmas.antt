@@ -25,7 +25,8 @@ named (type_parameter n p) h = IsUtf8-word n h.0
 abbrev comma : List Token → List Token
 comma other = sign 44 ∷ other
 
-all_named : (ps : List WrittenParameter) → AreTokens (flat_map (λ other. sign 44 ∷ other) (map spelled_parameter ps)) → AllByRecursion IsNamed ps
+all_named : (ps : List WrittenParameter) → AreTokens (flat_map (λ other. sign 44 ∷ other) (map spelled_parameter ps))
+    → AllByRecursion IsNamed ps
 all_named [] h = tt
 all_named (p ∷ ps) h =
     (named p (first_tokens (spelled_parameter p) _ h.1), all_named ps (last_tokens (spelled_parameter p) _ h.1))
@@ -68,7 +69,13 @@ parameters_long [] = omega arith
 parameters_long (p ∷ ps) =
     let more = flat_map comma (map spelled_parameter ps) in
     let e : spelled_parameters (p ∷ ps) ≡ sign 60 ∷ ((spelled_parameter p ++ more) ++ sign 62 ∷ []) = refl in
-    omega (arith, listed_long ps, ap length e, length-append (spelled_parameter p ++ more) (sign 62 ∷ []), length-append (spelled_parameter p) more)
+    omega (
+      arith,
+      listed_long ps,
+      ap length e,
+      length-append (spelled_parameter p ++ more) (sign 62 ∷ []),
+      length-append (spelled_parameter p) more,
+    )
 
 few_spelled : (callee : List ℕ) (f : Form) → length (spelled_form callee f) ≤ most_bytes → HasFewParameters f
 few_spelled callee (universal a) h = tt
@@ -76,7 +83,12 @@ few_spelled callee (outlives a b) h = tt
 few_spelled callee (assert_line a b) h = tt
 few_spelled callee (further x) h = tt
 few_spelled callee (struct_line n ps has_drop fields) h =
-    omega (arith, h, parameters_long ps, length-append (spelled_parameters ps) (drop_mark has_drop ++ spelled (tuple fields)))
+    omega (
+      arith,
+      h,
+      parameters_long ps,
+      length-append (spelled_parameters ps) (drop_mark has_drop ++ spelled (tuple fields)),
+    )
 few_spelled callee (variable x t) h = tt
 few_spelled callee (blocks n) h = tt
 few_spelled callee (block n) h = tt

@@ -40,24 +40,31 @@ types_counted s no_argument = refl
 types_counted s (region_argument r args) = types_counted s args
 types_counted s (type_argument t args) = omega (arith, types_counted s args)
 
-regions_known : (s : Scope) (args : Arguments) → arguments_are_known s args ≡ true → AllByRecursion (λ r. r < length s.regions) (regions_meant s args)
+regions_known : (s : Scope) (args : Arguments) → arguments_are_known s args ≡ true
+    → AllByRecursion (λ r. r < length s.regions) (regions_meant s args)
 regions_known s no_argument k = tt
 regions_known s (region_argument r args) k =
     let both = true_both _ _ k in (below _ _ both.0, regions_known s args both.1)
 regions_known s (type_argument t args) k = regions_known s args (true_both _ _ k).1
 
-module _ (s : Scope) (structs : List Struct) (kept : AreKinds s.kinds structs) (counted : length s.structs ≡ length structs) where
+module _ (s : Scope) (structs : List Struct) (kept : AreKinds s.kinds structs)
+    (counted : length s.structs ≡ length structs) where
   by_name : (n : Name) (args : Arguments) (b : Bool) → is_among s.parameters n ≡ b
       → (b || is_among s.structs n) && arguments_are_known s args ≡ true
-      → same_kinds (kinds_of args) (cond b [] (slice_index_or s.kinds (number_of s.structs n) [])) && arguments_have_arguments s args ≡ true
-      → (arguments_are_known s args ≡ true → arguments_have_arguments s args ≡ true → AreWellFormed structs (length s.regions) (length s.parameters) (types_meant s args))
-      → IsWellFormed structs (length s.regions) (length s.parameters) (cond b (parameter (number_of s.parameters n)) (named (number_of s.structs n) (regions_meant s args) (types_meant s args)))
+      → same_kinds (kinds_of args) (cond b [] (slice_index_or s.kinds (number_of s.structs n) []))
+      && arguments_have_arguments s args ≡ true
+      → (arguments_are_known s args ≡ true → arguments_have_arguments s args ≡ true
+      → AreWellFormed structs (length s.regions) (length s.parameters) (types_meant s args))
+      → IsWellFormed structs (length s.regions) (length s.parameters)
+      (cond b (parameter (number_of s.parameters n))
+      (named (number_of s.structs n) (regions_meant s args) (types_meant s args)))
   by_name n args true e k h parts = below _ _ e
   by_name n args false e k h parts =
       let taken = slice_index_or s.kinds (number_of s.structs n) [] in
       let known = true_both (is_among s.structs n) (arguments_are_known s args) k in
       let has = true_both (same_kinds (kinds_of args) taken) (arguments_have_arguments s args) h in
-      let known_struct : number_of s.structs n < length s.structs = below (number_of s.structs n) (length s.structs) known.0 in
+      let known_struct : number_of s.structs n < length s.structs =
+      below (number_of s.structs n) (length s.structs) known.0 in
       let within : number_of s.structs n < length structs = omega (arith, known_struct, counted) in
       let kinds = kinds_same (kinds_of args) taken has.0 in (
         within,
@@ -69,7 +76,8 @@ module _ (s : Scope) (structs : List Struct) (kept : AreKinds s.kinds structs) (
 
   mutual
     -- a type whose names are known and have arguments keeps to what is declared
-    pub well_formed : (t : WrittenType) → is_known s t ≡ true → has_arguments s t ≡ true → IsWellFormed structs (length s.regions) (length s.parameters) (meant s t)
+    pub well_formed : (t : WrittenType) → is_known s t ≡ true → has_arguments s t ≡ true
+        → IsWellFormed structs (length s.regions) (length s.parameters) (meant s t)
     well_formed written.int k h = tt
     well_formed (written.reference r m t) k h =
         let both = true_both _ _ k in (below _ _ both.0, well_formed t both.1 h)
@@ -78,16 +86,20 @@ module _ (s : Scope) (structs : List Struct) (kept : AreKinds s.kinds structs) (
         let known = true_both _ _ k in
         let has = true_both _ _ h in
         (all_well_formed ts known.0 has.0, well_formed t known.1 has.1)
-    well_formed (written.named n args) k h = by_name n args (is_among s.parameters n) refl k h (λ known has. arguments_well_formed args known has)
+    well_formed (written.named n args) k h =
+        by_name n args (is_among s.parameters n) refl k h (λ known has. arguments_well_formed args known has)
 
-    pub all_well_formed : (ts : WrittenTypes) → are_known s ts ≡ true → have_arguments s ts ≡ true → AreWellFormed structs (length s.regions) (length s.parameters) (all_meant s ts)
+    pub all_well_formed : (ts : WrittenTypes) → are_known s ts ≡ true → have_arguments s ts ≡ true
+        → AreWellFormed structs (length s.regions) (length s.parameters) (all_meant s ts)
     all_well_formed written.none k h = tt
     all_well_formed (written.more t ts) k h =
         let known = true_both _ _ k in
         let has = true_both _ _ h in
         (well_formed t known.0 has.0, all_well_formed ts known.1 has.1)
 
-    arguments_well_formed : (args : Arguments) → arguments_are_known s args ≡ true → arguments_have_arguments s args ≡ true → AreWellFormed structs (length s.regions) (length s.parameters) (types_meant s args)
+    arguments_well_formed : (args : Arguments) → arguments_are_known s args ≡ true
+        → arguments_have_arguments s args ≡ true
+        → AreWellFormed structs (length s.regions) (length s.parameters) (types_meant s args)
     arguments_well_formed no_argument k h = tt
     arguments_well_formed (region_argument r args) k h = arguments_well_formed args (true_both _ _ k).1 h
     arguments_well_formed (type_argument t args) k h =

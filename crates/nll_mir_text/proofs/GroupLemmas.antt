@@ -24,7 +24,8 @@ place_is_rank End = refl
 
 pub before_by_rank : (g h : Group) → is_before g h ≡ nat_lt (rank g) (rank h)
 before_by_rank g h =
-    ap (λ (n : ℕ). nat_lt n (position_or_len (same_group h) groups)) (place_is_rank g) ∙ ap (λ (n : ℕ). nat_lt (rank g) n) (place_is_rank h)
+    ap (λ (n : ℕ). nat_lt n (position_or_len (same_group h) groups)) (place_is_rank g)
+    ∙ ap (λ (n : ℕ). nat_lt (rank g) n) (place_is_rank h)
 
 pub before : (g h : Group) → is_before g h ≡ true → rank g < rank h
 before g h e = ltb-true (rank g) (rank h) (sym (before_by_rank g h) ∙ e)
@@ -56,7 +57,8 @@ in_body s e =
 abbrev Follows : Said → Form → Type 0
 Follows s f = (rank s.reached ≤ rank (group f)) × (rank s.reached < 9)
 
-behind : (s : Said) (f : Form) (n : ℕ) → n < 9 → rank (group f) ≡ n → not (is_before (group f) s.reached) ≡ true → Follows s f
+behind : (s : Said) (f : Form) (n : ℕ) → n < 9 → rank (group f) ≡ n → not (is_before (group f) s.reached) ≡ true
+    → Follows s f
 behind s f n few is e =
     let l : rank s.reached ≤ rank (group f) = not_before (group f) s.reached (not-true _ e) in
     (l, omega (arith, few, is, l))
@@ -75,7 +77,9 @@ follows s (assert_line a b) e = behind s (assert_line a b) 4 (omega arith) refl 
 follows s (struct_line n ps has_drop fields) e = behind s (struct_line n ps has_drop fields) 5 (omega arith) refl e
 follows s (variable x t) e = behind s (variable x t) 6 (omega arith) refl e
 follows s (blocks n) e =
-    let l : rank s.reached < 7 = not_reached s BlockCount (not-true _ (and_parts (has_reached s Variables) (not (has_reached s BlockCount)) e).1) in
+    let l : rank s.reached < 7 =
+    not_reached s BlockCount (not-true _ (and_parts (has_reached s Variables) (not (has_reached s BlockCount)) e).1)
+    in
     (omega (arith, l), omega (arith, l))
 follows s (block n) e = in_blocks s (block n) (not s.owes) (omega arith) e
 follows s (at_point i) e = in_blocks s (at_point i) s.owes (omega arith) e
@@ -83,7 +87,8 @@ follows s end e = in_blocks s end (not s.owes) (omega arith) e
 
 -- a `blocks` line stands in front of all blocks
 pub before_blocks : (s : Said) (n : ℕ) → is_in_order s (blocks n) ≡ true → rank s.reached < 7
-before_blocks s n e = not_reached s BlockCount (not-true _ (and_parts (has_reached s Variables) (not (has_reached s BlockCount)) e).1)
+before_blocks s n e =
+    not_reached s BlockCount (not-true _ (and_parts (has_reached s Variables) (not (has_reached s BlockCount)) e).1)
 
 -- ---- the last group that has a line
 
@@ -101,7 +106,8 @@ which : (b : Bool) (g h : Group) → (cond b g h ≡ g) ⊎ (cond b g h ≡ h)
 which true g h = inl refl
 which false g h = inr refl
 
-pub of_first_or_later : (f : Form) (forms : List Form) → (last_group (f ∷ forms) ≡ group f) ⊎ (last_group (f ∷ forms) ≡ last_group forms)
+pub of_first_or_later : (f : Form) (forms : List Form)
+    → (last_group (f ∷ forms) ≡ group f) ⊎ (last_group (f ∷ forms) ≡ last_group forms)
 of_first_or_later f forms = which (is_before (last_group forms) (group f)) (group f) (last_group forms)
 
 first : (g : Group) → cond (is_before Header g) g Header ≡ g
@@ -117,18 +123,23 @@ first Blocks = refl
 first End = refl
 
 -- behind a line of no earlier group its group is the last
-pub last_push : (forms : List Form) (f : Form) → rank (last_group forms) ≤ rank (group f) → last_group (forms ++ f ∷ []) ≡ group f
+pub last_push : (forms : List Form) (f : Form) → rank (last_group forms) ≤ rank (group f)
+    → last_group (forms ++ f ∷ []) ≡ group f
 last_push [] f h = first (group f)
 last_push (x ∷ forms) f h =
     let same : last_group (forms ++ f ∷ []) ≡ group f = last_push forms f (omega (arith, h, reached_more x forms)) in
-    let late : is_before (group f) (group x) ≡ false = is_not_before (group f) (group x) (omega (arith, h, group_reached x forms)) in
-    ap (λ (g : Group). cond (is_before g (group x)) (group x) g) same ∙ ap (λ (b : Bool). cond b (group x) (group f)) late
+    let late : is_before (group f) (group x) ≡ false =
+    is_not_before (group f) (group x) (omega (arith, h, group_reached x forms)) in
+    ap (λ (g : Group). cond (is_before g (group x)) (group x) g) same
+    ∙ ap (λ (b : Bool). cond b (group x) (group f)) late
 
 -- nothing is said by lines of later groups
-pub none_before : {X : Type 0} (g : Form → Option X) (n : ℕ) → ((f : Form) → rank (group f) ≤ n → g f ≡ None) → (forms : List Form) → rank (last_group forms) ≤ n → filter_map g forms ≡ []
+pub none_before : {X : Type 0} (g : Form → Option X) (n : ℕ) → ((f : Form) → rank (group f) ≤ n → g f ≡ None)
+    → (forms : List Form) → rank (last_group forms) ≤ n → filter_map g forms ≡ []
 none_before g n early [] h = refl
 none_before g n early (f ∷ forms) h =
-    rw (early f (omega (arith, h, group_reached f forms))) (none_before g n early forms (omega (arith, h, reached_more f forms)))
+    rw (early f (omega (arith, h, group_reached f forms)))
+    (none_before g n early forms (omega (arith, h, reached_more f forms)))
 
 pub rank_most : (g : Group) → rank g ≤ 9
 rank_most Header = omega arith

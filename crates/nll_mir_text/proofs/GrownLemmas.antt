@@ -13,7 +13,8 @@ use Rattle.nll_mir_text.proofs.ShapeLemmas.{shapes_extended}
 abbrev pub grown : Reader → Tables → Reader
 grown r t = record r { variables = record r.variables { table = t } }
 
-module _ (r : Reader) (t : Tables) (same : t.structs ≡ r.variables.table.structs) (extends : Extends r.variables.table.shapes t.shapes) where
+module _ (r : Reader) (t : Tables) (same : t.structs ≡ r.variables.table.structs)
+    (extends : Extends r.variables.table.shapes t.shapes) where
   pub said_grown : said_by (grown r t) ≡ said_by r
   said_grown = rw same refl
 

@@ -29,12 +29,14 @@ below_all n (x ∷ xs) h =
     All-cons (λ b. b < n) x xs first (below_all n xs both.1)
 
 -- names that are declared have numbers
-pub numbers_below : (names xs : List Name) → list_all (is_among names) xs ≡ true → All (λ q. q < length names) (map (number_of names) xs)
+pub numbers_below : (names xs : List Name) → list_all (is_among names) xs ≡ true
+    → All (λ q. q < length names) (map (number_of names) xs)
 numbers_below names [] h = All-nil (λ q. q < length names)
 numbers_below names (x ∷ xs) h =
     let both = and_parts (is_among names x) (list_all (is_among names) xs) h in
     let first : number_of names x < length names = ltb-true (number_of names x) (length names) both.0 in
-    All-cons (λ q. q < length names) (number_of names x) (map (number_of names) xs) first (numbers_below names xs both.1)
+    All-cons (λ q. q < length names) (number_of names x) (map (number_of names) xs) first
+    (numbers_below names xs both.1)
 
 -- ---- lists
 
@@ -42,11 +44,13 @@ pub nothing_at : {X : Type 0} (xs : List X) (p : ℕ) (x : X) → length xs ≡ 
 nothing_at xs p x none at = absurd (omega (arith, none, slice_get_within xs p x at))
 
 -- what stands in a list with one more element
-pub pushed_at : {X : Type 0} (xs : List X) (y : X) (p : ℕ) (x : X) → slice_get (xs ++ y ∷ []) p ≡ Some x → (slice_get xs p ≡ Some x) ⊎ ((p ≡ length xs) × (x ≡ y))
+pub pushed_at : {X : Type 0} (xs : List X) (y : X) (p : ℕ) (x : X) → slice_get (xs ++ y ∷ []) p ≡ Some x
+    → (slice_get xs p ≡ Some x) ⊎ ((p ≡ length xs) × (x ≡ y))
 pushed_at xs y p x at =
     let within = slice_get_within (xs ++ y ∷ []) p x at in
     ⊎_elim
-    (λ low. inl (slice_get-get_or xs p x low ∙ ap Some (sym (get_or_append_left xs (y ∷ []) x p low) ∙ get_or_from_slice_get (xs ++ y ∷ []) p x x at)))
+    (λ low. inl (slice_get-get_or xs p x low
+    ∙ ap Some (sym (get_or_append_left xs (y ∷ []) x p low) ∙ get_or_from_slice_get (xs ++ y ∷ []) p x x at)))
     (λ high.
     let same : p ≡ length xs = omega (arith, high, within, length-append xs (y ∷ [])) in
     inr (same, sym (get_or_from_slice_get (xs ++ y ∷ []) p x x at) ∙ get_or_at xs y [] x p (sym same)))
@@ -56,18 +60,23 @@ pushed_at xs y p x at =
 pub all_at : {X : Type 0} (P : X → Type 0) (xs : List X) (p : ℕ) (x : X) → All P xs → slice_get xs p ≡ Some x → P x
 all_at P xs p x all at = subst P (get_or_from_slice_get xs p x x at) (all p x (slice_get_within xs p x at))
 
-pub rise_push : (xs : List ℕ) (n : ℕ) → IsStrictlyIncreasing xs → All (λ q. q < n) xs → IsStrictlyIncreasing (xs ++ n ∷ [])
+pub rise_push : (xs : List ℕ) (n : ℕ) → IsStrictlyIncreasing xs → All (λ q. q < n) xs
+    → IsStrictlyIncreasing (xs ++ n ∷ [])
 rise_push xs n rise below k l = ⊎_elim
-    (λ low. rw (get_or_append_left xs (n ∷ []) 0 k (omega (arith, low)), get_or_append_left xs (n ∷ []) 0 (k + 1) low) (rise k low))
+    (λ low. rw (get_or_append_left xs (n ∷ []) 0 k (omega (arith, low)), get_or_append_left xs (n ∷ []) 0 (k + 1) low)
+    (rise k low))
     (λ high.
     let last : length xs ≡ k + 1 = omega (arith, high, l, length-append xs (n ∷ [])) in
-    rw (get_or_append_left xs (n ∷ []) 0 k (omega (arith, last)), get_or_at xs n [] 0 (k + 1) last) (below k 0 (omega (arith, last))))
+    rw (get_or_append_left xs (n ∷ []) 0 k (omega (arith, last)), get_or_at xs n [] 0 (k + 1) last)
+    (below k 0 (omega (arith, last))))
     (cases_lt (k + 1) (length xs))
 
-pub inserted : {X : Type 0} (b : Bool) (ks : List X) (x y : X) → Contains (cond b ks (ks ++ x ∷ [])) y → Contains ks y ⊎ (x ≡ y)
+pub inserted : {X : Type 0} (b : Bool) (ks : List X) (x y : X) → Contains (cond b ks (ks ++ x ∷ [])) y
+    → Contains ks y ⊎ (x ≡ y)
 inserted true ks x y c = inl c
 inserted false ks x y c = Contains-push_cases ks x y c
 
-pub first_pushed : (xs : List ℕ) (n : ℕ) → (length xs ≡ 0 → n ≡ 0) → (0 < length xs → slice_get xs 0 ≡ Some 0) → slice_get (xs ++ n ∷ []) 0 ≡ Some 0
+pub first_pushed : (xs : List ℕ) (n : ℕ) → (length xs ≡ 0 → n ≡ 0) → (0 < length xs → slice_get xs 0 ≡ Some 0)
+    → slice_get (xs ++ n ∷ []) 0 ≡ Some 0
 first_pushed [] n z h = ap Some (z refl)
 first_pushed (x ∷ xs) n z h = h (omega arith)

@@ -6,37 +6,47 @@ use Rattle.nll_mir_grammar.specs.Lines.{parameter_of}
 use Rattle.nll_mir_grammar.specs.declared.line.ParameterText.{ParameterText}
 use Rattle.nll_mir_text.specs.Declaring.{region_marks, type_marks}
 
-region_marks_more : (p : WrittenParameter) (ps : List WrittenParameter) → region_marks (p ∷ []) ++ region_marks ps ≡ region_marks (p ∷ ps)
+region_marks_more : (p : WrittenParameter) (ps : List WrittenParameter)
+    → region_marks (p ∷ []) ++ region_marks ps ≡ region_marks (p ∷ ps)
 region_marks_more (region_parameter a m) ps = refl
 region_marks_more (type_parameter n m) ps = refl
 
-type_marks_more : (p : WrittenParameter) (ps : List WrittenParameter) → type_marks (p ∷ []) ++ type_marks ps ≡ type_marks (p ∷ ps)
+type_marks_more : (p : WrittenParameter) (ps : List WrittenParameter)
+    → type_marks (p ∷ []) ++ type_marks ps ≡ type_marks (p ∷ ps)
 type_marks_more (region_parameter a m) ps = refl
 type_marks_more (type_parameter n m) ps = refl
 
 -- what is marked of the next parameter and of those behind it
-pub region_marks_from : (ps : List ParameterText) (i : ℕ) (d : ParameterText) → i < length ps → region_marks (parameter_of (get_or ps i d) ∷ []) ++ region_marks (map parameter_of (drop (i + 1) ps)) ≡ region_marks (map parameter_of (drop i ps))
+pub region_marks_from : (ps : List ParameterText) (i : ℕ) (d : ParameterText) → i < length ps
+    → region_marks (parameter_of (get_or ps i d) ∷ []) ++ region_marks (map parameter_of (drop (i + 1) ps))
+    ≡ region_marks (map parameter_of (drop i ps))
 region_marks_from ps i d within =
     region_marks_more (parameter_of (get_or ps i d)) (map parameter_of (drop (i + 1) ps))
     ∙ sym (at_drop_more (λ (qs : List ParameterText). region_marks (map parameter_of qs)) ps i d within)
 
-pub type_marks_from : (ps : List ParameterText) (i : ℕ) (d : ParameterText) → i < length ps → type_marks (parameter_of (get_or ps i d) ∷ []) ++ type_marks (map parameter_of (drop (i + 1) ps)) ≡ type_marks (map parameter_of (drop i ps))
+pub type_marks_from : (ps : List ParameterText) (i : ℕ) (d : ParameterText) → i < length ps
+    → type_marks (parameter_of (get_or ps i d) ∷ []) ++ type_marks (map parameter_of (drop (i + 1) ps))
+    ≡ type_marks (map parameter_of (drop i ps))
 type_marks_from ps i d within =
     type_marks_more (parameter_of (get_or ps i d)) (map parameter_of (drop (i + 1) ps))
     ∙ sym (at_drop_more (λ (qs : List ParameterText). type_marks (map parameter_of qs)) ps i d within)
 
 -- what came behind the others, and what is still to come
-pub moved : {X : Type 0} (old new all one rest : List X) → new ≡ old ++ one → old ++ (one ++ rest) ≡ all → new ++ rest ≡ all
+pub moved : {X : Type 0} (old new all one rest : List X) → new ≡ old ++ one → old ++ (one ++ rest) ≡ all
+    → new ++ rest ≡ all
 moved old new all one rest h k = ap (λ xs. xs ++ rest) h ∙ (append_assoc old one rest ∙ k)
 
 -- the image of one item more
-pub map_item : {X Y : Type 0} (f : X → Y) (xs : List X) (i : ℕ) (x : X) → i < length xs → x ≡ get_or xs i x → map f (take (i + 1) xs) ≡ map f (take i xs) ++ f x ∷ []
+pub map_item : {X Y : Type 0} (f : X → Y) (xs : List X) (i : ℕ) (x : X) → i < length xs → x ≡ get_or xs i x
+    → map f (take (i + 1) xs) ≡ map f (take i xs) ++ f x ∷ []
 map_item f xs i x within is = map_more f xs i x within ∙ ap (λ y. map f (take i xs) ++ f y ∷ []) (sym is)
 
 -- the images of the items so far, with that of one item more behind them
-pub map_pushed : {X Y : Type 0} (f : X → Y) (new old : List Y) (y : Y) (xs : List X) (i : ℕ) (d : X) → i < length xs → new ≡ old ++ y ∷ [] → y ≡ f (get_or xs i d) → old ≡ map f (take i xs) → new ≡ map f (take (i + 1) xs)
+pub map_pushed : {X Y : Type 0} (f : X → Y) (new old : List Y) (y : Y) (xs : List X) (i : ℕ) (d : X) → i < length xs
+    → new ≡ old ++ y ∷ [] → y ≡ f (get_or xs i d) → old ≡ map f (take i xs) → new ≡ map f (take (i + 1) xs)
 map_pushed f new old y xs i d within pushed is before =
-    pushed ∙ (ap (λ ys. ys ++ y ∷ []) before ∙ (ap (λ z. map f (take i xs) ++ z ∷ []) is ∙ sym (map_more f xs i d within)))
+    pushed ∙ (ap (λ ys. ys ++ y ∷ []) before
+    ∙ (ap (λ z. map f (take i xs) ++ z ∷ []) is ∙ sym (map_more f xs i d within)))
 
 -- no item is left where none is counted
 pub none_left : {X : Type 0} (xs : List X) → length xs ≡ 0 → xs ≡ []

@@ -20,8 +20,10 @@ use Rattle.nll_mir_text.specs.MirText.{mir}
 
 -- ---- a line
 
-module _ (v : Version) (s : Said) (line : List ℕ) (fits : (added : List Form) → Fits (mir v) s line added → ⊥) (wrong : (kind : TextKind) → IsFaulty (mir v) s line kind → ⊥) where
-  by_first_fault : (f : Form) (o : Option TextKind) → IsUtf8 line → is_skipped line ≡ false → HasFormIn v line f → first_fault s f ≡ o → ⊥
+module _ (v : Version) (s : Said) (line : List ℕ) (fits : (added : List Form) → Fits (mir v) s line added → ⊥)
+    (wrong : (kind : TextKind) → IsFaulty (mir v) s line kind → ⊥) where
+  by_first_fault : (f : Form) (o : Option TextKind) → IsUtf8 line → is_skipped line ≡ false → HasFormIn v line f
+      → first_fault s f ≡ o → ⊥
   by_first_fault f None u k form e = fits (f ∷ []) (of_form f u k form e)
   by_first_fault f (Some kind) u k form e = wrong kind (at_form f kind u k form e)
 
@@ -47,7 +49,8 @@ record IsFaultAfter (v : Version) (before : List Form) (lines : List (List ℕ))
   kind : TextKind
   wrong : IsFaulty (mir v) (said forms) line kind
 
-lines_not_neither : (v : Version) (before : List Form) (lines : List (List ℕ)) → ((forms : List Form) → Says (mir v) before lines forms → ⊥) → (IsFaultAfter v before lines → ⊥) → ⊥
+lines_not_neither : (v : Version) (before : List Form) (lines : List (List ℕ))
+    → ((forms : List Form) → Says (mir v) before lines forms → ⊥) → (IsFaultAfter v before lines → ⊥) → ⊥
 lines_not_neither v before [] fine faulty = fine before refl
 lines_not_neither v before (line ∷ lines) fine faulty =
     line_not_neither v (said before) line
@@ -76,7 +79,8 @@ lines_not_neither v before (line ∷ lines) fine faulty =
 
 -- ---- a text
 
-module _ (v : Version) (text : List ℕ) (none : (forms : List Form) → IsText (mir v) text forms → ⊥) (fine : (line : ℕ) (kind : TextKind) → IsFault (mir v) text line kind → ⊥) where
+module _ (v : Version) (text : List ℕ) (none : (forms : List Form) → IsText (mir v) text forms → ⊥)
+    (fine : (line : ℕ) (kind : TextKind) → IsFault (mir v) text line kind → ⊥) where
   by_body : (body : List (List ℕ)) → IsHeaded (mir v) text body → ⊥
   by_body body headed =
       lines_not_neither v [] body
@@ -107,5 +111,6 @@ module _ (v : Version) (text : List ℕ) (none : (forms : List Form) → IsText 
   pub text_not_neither : ⊥
   text_not_neither = ⊎_elim
       (λ long. fine 1 (Limit Text) (too_long long))
-      (λ short. by_lines (lines_of text) short (omega (arith, length-slice_split (λ b. b == 10) (without_last_feed text))) refl)
+      (λ short. by_lines (lines_of text) short
+      (omega (arith, length-slice_split (λ b. b == 10) (without_last_feed text))) refl)
       (cases_lt most_bytes (length text))

@@ -67,7 +67,8 @@ among_push [] y x = among_cons y [] x ∙ or_none (bytes_eq x y)
 among_push (z ∷ ys) y x =
     among_cons z (ys ++ y ∷ []) x
     ∙ (ap (λ (b : Bool). bytes_eq x z || b) (among_push ys y x)
-    ∙ (sym (or_group (bytes_eq x z) (is_among ys x) (bytes_eq x y)) ∙ sym (ap (λ (b : Bool). b || bytes_eq x y) (among_cons z ys x))))
+    ∙ (sym (or_group (bytes_eq x z) (is_among ys x) (bytes_eq x y))
+    ∙ sym (ap (λ (b : Bool). b || bytes_eq x y) (among_cons z ys x))))
 
 -- a name that isn't among them has the number behind the last
 pub absent_number : (names : List Name) (x : Name) → is_among names x ≡ false → number_of names x ≡ length names
@@ -76,7 +77,8 @@ absent_number names x e = omega (arith, ltb-false (number_of names x) (length na
 equal_swapped : (x y : Name) → bytes_eq x y ≡ bytes_eq y x
 equal_swapped x y = ⊎_elim
     (λ same. same ∙ sym ((bytes_eq-Decides y x).1 (sym ((bytes_eq-Decides x y).0 same))))
-    (λ other. other ∙ sym (false_from_ne_true _ (λ same. false≢true (sym other ∙ (bytes_eq-Decides x y).1 (sym ((bytes_eq-Decides y x).0 same))))))
+    (λ other. other ∙ sym (false_from_ne_true _
+    (λ same. false≢true (sym other ∙ (bytes_eq-Decides x y).1 (sym ((bytes_eq-Decides y x).0 same))))))
     (cases_Bool (bytes_eq x y))
 
 repeats_push : (xs : List Name) (y : Name) → has_repeats (xs ++ y ∷ []) ≡ has_repeats xs || is_among xs y
@@ -96,14 +98,16 @@ names_new row names y h = record {
   members = λ x. among_push names y x ∙ (ap (λ (b : Bool). b || bytes_eq x y) (h.members x) ∙ sym (among_push row y x));
 }
 
-there_already : (row : List Name) (y x : Name) (b : Bool) → bytes_eq x y ≡ b → is_among row y ≡ true → is_among row x ≡ is_among row x || b
+there_already : (row : List Name) (y x : Name) (b : Bool) → bytes_eq x y ≡ b → is_among row y ≡ true
+    → is_among row x ≡ is_among row x || b
 there_already row y x true e there =
     let same : x ≡ y = (bytes_eq-Decides x y).0 e in
     let among : is_among row x ≡ true = ap (is_among row) same ∙ there in
     among ∙ sym (or_right (is_among row x) true refl)
 there_already row y x false e there = sym (or_none (is_among row x))
 
-names_old : (row names : List Name) (y : Name) → AreNamesOf row names → is_among names y ≡ true → AreNamesOf (row ++ y ∷ []) names
+names_old : (row names : List Name) (y : Name) → AreNamesOf row names → is_among names y ≡ true
+    → AreNamesOf (row ++ y ∷ []) names
 names_old row names y h there =
     let among : is_among row y ≡ true = sym (h.members y) ∙ there in
     record {
@@ -112,78 +116,112 @@ names_old row names y h there =
     }
 
 -- the names after one that is new or not
-names_more : (row names after : List Name) (y : Name) (new : Bool) → AreNamesOf row names → new ≡ not (is_among names y) → after ≡ cond new (names ++ y ∷ []) names → AreNamesOf (row ++ y ∷ []) after
+names_more : (row names after : List Name) (y : Name) (new : Bool) → AreNamesOf row names → new ≡ not (is_among names y)
+    → after ≡ cond new (names ++ y ∷ []) names → AreNamesOf (row ++ y ∷ []) after
 names_more row names after y true h e a = subst (AreNamesOf (row ++ y ∷ [])) (sym a) (names_new row names y h)
 names_more row names after y false h e a =
     subst (AreNamesOf (row ++ y ∷ [])) (sym a) (names_old row names y h (sym (not_not _) ∙ ap not (sym e)))
 
 -- a name that isn't new stands in the row
-not_new : (row names : List Name) (y : Name) (new : Bool) → AreNamesOf row names → new ≡ not (is_among names y) → not new ≡ is_among row y
+not_new : (row names : List Name) (y : Name) (new : Bool) → AreNamesOf row names → new ≡ not (is_among names y)
+    → not new ≡ is_among row y
 not_new row names y new h e = ap not e ∙ (not_not (is_among names y) ∙ h.members y)
 
 -- at most one more
-names_few : (names after : List Name) (y : Name) (new : Bool) → after ≡ cond new (names ++ y ∷ []) names → length after ≤ length names + 1
+names_few : (names after : List Name) (y : Name) (new : Bool) → after ≡ cond new (names ++ y ∷ []) names
+    → length after ≤ length names + 1
 names_few names after y true a = omega (arith, ap length a, length-append names (y ∷ []))
 names_few names after y false a = omega (arith, ap length a)
 
 -- ---- one more parameter
 
-regions_more : (ps : List WrittenParameter) (a : Name) (p : Parameter) → region_names (ps ++ region_parameter a p ∷ []) ≡ region_names ps ++ a ∷ []
+regions_more : (ps : List WrittenParameter) (a : Name) (p : Parameter)
+    → region_names (ps ++ region_parameter a p ∷ []) ≡ region_names ps ++ a ∷ []
 regions_more ps a p =
-    ap (λ (xs : List (Name × Parameter)). codes "static" ∷ map (λ x. x.0) xs) (filter_map-append region_in ps (region_parameter a p ∷ []))
+    ap (λ (xs : List (Name × Parameter)). codes "static" ∷ map (λ x. x.0) xs)
+    (filter_map-append region_in ps (region_parameter a p ∷ []))
     ∙ ap (λ (xs : List Name). codes "static" ∷ xs) (map_push (λ (x : Name × Parameter). x.0) (regions_in ps) (a, p))
 
-regions_stay : (ps : List WrittenParameter) (n : Name) (p : Parameter) → region_names (ps ++ type_parameter n p ∷ []) ≡ region_names ps
+regions_stay : (ps : List WrittenParameter) (n : Name) (p : Parameter)
+    → region_names (ps ++ type_parameter n p ∷ []) ≡ region_names ps
 regions_stay ps n p =
-    ap (λ (xs : List (Name × Parameter)). codes "static" ∷ map (λ x. x.0) xs) (filter_map-append region_in ps (type_parameter n p ∷ []) ∙ append-nil (regions_in ps))
+    ap (λ (xs : List (Name × Parameter)). codes "static" ∷ map (λ x. x.0) xs)
+    (filter_map-append region_in ps (type_parameter n p ∷ []) ∙ append-nil (regions_in ps))
 
-types_more : (ps : List WrittenParameter) (n : Name) (p : Parameter) → type_names (ps ++ type_parameter n p ∷ []) ≡ type_names ps ++ n ∷ []
+types_more : (ps : List WrittenParameter) (n : Name) (p : Parameter)
+    → type_names (ps ++ type_parameter n p ∷ []) ≡ type_names ps ++ n ∷ []
 types_more ps n p =
     ap (λ (xs : List (Name × Parameter)). map (λ x. x.0) xs) (filter_map-append type_in ps (type_parameter n p ∷ []))
     ∙ map_push (λ (x : Name × Parameter). x.0) (types_in ps) (n, p)
 
-types_stay : (ps : List WrittenParameter) (a : Name) (p : Parameter) → type_names (ps ++ region_parameter a p ∷ []) ≡ type_names ps
+types_stay : (ps : List WrittenParameter) (a : Name) (p : Parameter)
+    → type_names (ps ++ region_parameter a p ∷ []) ≡ type_names ps
 types_stay ps a p =
-    ap (λ (xs : List (Name × Parameter)). map (λ x. x.0) xs) (filter_map-append type_in ps (region_parameter a p ∷ []) ∙ append-nil (types_in ps))
+    ap (λ (xs : List (Name × Parameter)). map (λ x. x.0) xs)
+    (filter_map-append type_in ps (region_parameter a p ∷ []) ∙ append-nil (types_in ps))
 
 -- whether one stands twice, where the names in both rows are others by these
-both_rows : (qs : List WrittenParameter) (row other : List Name) → region_names qs ≡ row → type_names qs ≡ other → has_repeats (region_names qs) || has_repeats (type_names qs) ≡ has_repeats row || has_repeats other
+both_rows : (qs : List WrittenParameter) (row other : List Name) → region_names qs ≡ row → type_names qs ≡ other
+    → has_repeats (region_names qs) || has_repeats (type_names qs) ≡ has_repeats row || has_repeats other
 both_rows qs row other regions types =
-    ap (λ (xs : List Name). has_repeats xs || has_repeats (type_names qs)) regions ∙ ap (λ (xs : List Name). has_repeats row || has_repeats xs) types
+    ap (λ (xs : List Name). has_repeats xs || has_repeats (type_names qs)) regions
+    ∙ ap (λ (xs : List Name). has_repeats row || has_repeats xs) types
 
-module _ (ps : List WrittenParameter) (x : Name) (p : Parameter) (old after : OwnNames) (new : Bool) (h : AreOwn ps old) where
-  repeated : (a : Bool) → not new ≡ a → after.repeats ≡ old.repeats || not new → after.repeats ≡ (has_repeats (region_names ps) || has_repeats (type_names ps)) || a
+module _ (ps : List WrittenParameter) (x : Name) (p : Parameter) (old after : OwnNames) (new : Bool)
+    (h : AreOwn ps old) where
+  repeated : (a : Bool) → not new ≡ a → after.repeats ≡ old.repeats || not new
+      → after.repeats ≡ (has_repeats (region_names ps) || has_repeats (type_names ps)) || a
   repeated a is repeats =
-      repeats ∙ (ap (λ (b : Bool). b || not new) h.repeats ∙ ap (λ (b : Bool). (has_repeats (region_names ps) || has_repeats (type_names ps)) || b) is)
+      repeats ∙ (ap (λ (b : Bool). b || not new) h.repeats
+      ∙ ap (λ (b : Bool). (has_repeats (region_names ps) || has_repeats (type_names ps)) || b) is)
 
-  pub own_region : new ≡ not (is_among old.regions x) → after.regions ≡ cond new (old.regions ++ x ∷ []) old.regions → after.types ≡ old.types → after.repeats ≡ old.repeats || not new → AreOwn (ps ++ region_parameter x p ∷ []) after
+  pub own_region : new ≡ not (is_among old.regions x) → after.regions ≡ cond new (old.regions ++ x ∷ []) old.regions
+      → after.types ≡ old.types → after.repeats ≡ old.repeats || not new
+      → AreOwn (ps ++ region_parameter x p ∷ []) after
   own_region is regions types repeats =
       let qs = ps ++ region_parameter x p ∷ [] in
       record {
-        few = omega (arith, names_few old.regions after.regions x new regions, length-append ps (region_parameter x p ∷ []), h.few);
-        regions = subst (λ (xs : List Name). AreNamesOf xs after.regions) (sym (regions_more ps x p)) (names_more (region_names ps) old.regions after.regions x new h.regions is regions);
-        types = subst (λ (xs : List Name). AreNamesOf xs after.types) (sym (types_stay ps x p)) (subst (AreNamesOf (type_names ps)) (sym types) h.types);
-        repeats = repeated (is_among (region_names ps) x) (not_new (region_names ps) old.regions x new h.regions is) repeats
+        few = omega (
+          arith,
+          names_few old.regions after.regions x new regions,
+          length-append ps (region_parameter x p ∷ []),
+          h.few,
+        );
+        regions =
+            subst (λ (xs : List Name). AreNamesOf xs after.regions) (sym (regions_more ps x p))
+            (names_more (region_names ps) old.regions after.regions x new h.regions is regions);
+        types = subst (λ (xs : List Name). AreNamesOf xs after.types) (sym (types_stay ps x p))
+            (subst (AreNamesOf (type_names ps)) (sym types) h.types);
+        repeats =
+            repeated (is_among (region_names ps) x) (not_new (region_names ps) old.regions x new h.regions is) repeats
             ∙ (or_late (has_repeats (region_names ps)) (has_repeats (type_names ps)) (is_among (region_names ps) x)
             ∙ (ap (λ (b : Bool). b || has_repeats (type_names ps)) (sym (repeats_push (region_names ps) x))
-            ∙ sym (both_rows qs (region_names ps ++ x ∷ []) (type_names ps) (regions_more ps x p) (types_stay ps x p))));
+            ∙ sym (both_rows qs (region_names ps ++ x ∷ []) (type_names ps) (regions_more ps x p)
+            (types_stay ps x p))));
       }
 
-  pub own_type : new ≡ not (is_among old.types x) → after.types ≡ cond new (old.types ++ x ∷ []) old.types → after.regions ≡ old.regions → after.repeats ≡ old.repeats || not new → AreOwn (ps ++ type_parameter x p ∷ []) after
+  pub own_type : new ≡ not (is_among old.types x) → after.types ≡ cond new (old.types ++ x ∷ []) old.types
+      → after.regions ≡ old.regions → after.repeats ≡ old.repeats || not new
+      → AreOwn (ps ++ type_parameter x p ∷ []) after
   own_type is types regions repeats =
       let qs = ps ++ type_parameter x p ∷ [] in
       record {
         few = omega (arith, ap length regions, length-append ps (type_parameter x p ∷ []), h.few);
-        regions = subst (λ (xs : List Name). AreNamesOf xs after.regions) (sym (regions_stay ps x p)) (subst (AreNamesOf (region_names ps)) (sym regions) h.regions);
-        types = subst (λ (xs : List Name). AreNamesOf xs after.types) (sym (types_more ps x p)) (names_more (type_names ps) old.types after.types x new h.types is types);
+        regions =
+            subst (λ (xs : List Name). AreNamesOf xs after.regions) (sym (regions_stay ps x p))
+            (subst (AreNamesOf (region_names ps)) (sym regions) h.regions);
+        types = subst (λ (xs : List Name). AreNamesOf xs after.types) (sym (types_more ps x p))
+            (names_more (type_names ps) old.types after.types x new h.types is types);
         repeats = repeated (is_among (type_names ps) x) (not_new (type_names ps) old.types x new h.types is) repeats
             ∙ (or_group (has_repeats (region_names ps)) (has_repeats (type_names ps)) (is_among (type_names ps) x)
             ∙ (ap (λ (b : Bool). has_repeats (region_names ps) || b) (sym (repeats_push (type_names ps) x))
-            ∙ sym (both_rows qs (region_names ps) (type_names ps ++ x ∷ []) (regions_stay ps x p) (types_more ps x p))));
+            ∙ sym (both_rows qs (region_names ps) (type_names ps ++ x ∷ []) (regions_stay ps x p)
+            (types_more ps x p))));
       }
 
 -- no parameter yet
-pub own_none : (own : OwnNames) → own.regions ≡ codes "static" ∷ [] → own.types ≡ [] → own.repeats ≡ false → AreOwn [] own
+pub own_none : (own : OwnNames) → own.regions ≡ codes "static" ∷ [] → own.types ≡ [] → own.repeats ≡ false
+    → AreOwn [] own
 own_none own regions types repeats = record {
   regions = record { same = λ _. regions; members = λ x. ap (λ (xs : List Name). is_among xs x) regions };
   types = record { same = λ _. types; members = λ x. ap (λ (xs : List Name). is_among xs x) types };
@@ -194,12 +232,14 @@ own_none own regions types repeats = record {
 -- ---- the parameters of the code
 
 -- the names of all are texts
-pub named_each : (ps : List ParameterText) → AllByRecursion IsNamed (map parameter_of ps) → AllByRecursion (λ p. IsNamed (parameter_of p)) ps
+pub named_each : (ps : List ParameterText) → AllByRecursion IsNamed (map parameter_of ps)
+    → AllByRecursion (λ p. IsNamed (parameter_of p)) ps
 named_each [] h = tt
 named_each (p ∷ ps) h = (h.0, named_each ps h.1)
 
 -- the name of a type parameter is one of these
-pub taken_any : (names : List Name) (ps : List ParameterText) → list_any (takes_name names) ps ≡ list_any (is_among names) (type_names (map parameter_of ps))
+pub taken_any : (names : List Name) (ps : List ParameterText)
+    → list_any (takes_name names) ps ≡ list_any (is_among names) (type_names (map parameter_of ps))
 taken_any names [] = refl
 taken_any names (parameters.Region a p ∷ ps) = taken_any names ps
 taken_any names (parameters.Type n p ∷ ps) = ap (λ (b : Bool). is_among names n.now || b) (taken_any names ps)
@@ -211,7 +251,9 @@ few_regions (type_parameter n p ∷ ps) = omega (arith, few_regions ps)
 
 -- ---- whether names are known depends on which there are alone
 
-module _ (s t : Scope) (regions : (x : Name) → is_among s.regions x ≡ is_among t.regions x) (types : (x : Name) → is_among s.parameters x ≡ is_among t.parameters x) (structs : (x : Name) → is_among s.structs x ≡ is_among t.structs x) where
+module _ (s t : Scope) (regions : (x : Name) → is_among s.regions x ≡ is_among t.regions x)
+    (types : (x : Name) → is_among s.parameters x ≡ is_among t.parameters x)
+    (structs : (x : Name) → is_among s.structs x ≡ is_among t.structs x) where
   both : (a b c d : Bool) → a ≡ b → c ≡ d → a && c ≡ b && d
   both a b c d e f = cc
 
@@ -239,7 +281,9 @@ module _ (s t : Scope) (regions : (x : Name) → is_among s.regions x ≡ is_amo
 -- ---- what is told of the code's names
 
 -- a name that isn't found isn't among the names
-pub not_among : (names : List Name) (x : Name) (o : Option ℕ) → MatchOption o (number_of names x ≡ length names) (λ n. (n ≡ number_of names x) × (n < length names)) → is_some o ≡ false → is_among names x ≡ false
+pub not_among : (names : List Name) (x : Name) (o : Option ℕ)
+    → MatchOption o (number_of names x ≡ length names) (λ n. (n ≡ number_of names x) × (n < length names))
+    → is_some o ≡ false → is_among names x ≡ false
 not_among names x None h e = le-ltb (number_of names x) (length names) (omega (arith, h))
 not_among names x (Some n) h e = absurd cc
 
@@ -247,11 +291,16 @@ pub none_redeclared : (a b c d r : Bool) → a ≡ false → b ≡ false → c �
 none_redeclared a b c d r ea eb ec e = rw (ea, eb, ec) e
 
 -- the fields of a struct in which no name stands twice mean what they mean by its parameters
-pub own_scope_is : (s : Said) (ps : List WrittenParameter) (own : OwnNames) (structs : StructNames) → AreOwn ps own → has_repeats (region_names ps) ≡ false → has_repeats (type_names ps) ≡ false → s.struct_names ≡ structs.names → s.kinds ≡ map (λ ks. ks.items) structs.kinds.items → own_scope own structs ≡ field_scope s ps
+pub own_scope_is : (s : Said) (ps : List WrittenParameter) (own : OwnNames) (structs : StructNames) → AreOwn ps own
+    → has_repeats (region_names ps) ≡ false → has_repeats (type_names ps) ≡ false → s.struct_names ≡ structs.names
+    → s.kinds ≡ map (λ ks. ks.items) structs.kinds.items → own_scope own structs ≡ field_scope s ps
 own_scope_is s ps own structs h regions types names kinds =
     rw (h.regions.same regions, h.types.same types, names, kinds) refl
 
 -- whether names are known by them is whether they are by its parameters
-pub own_known : (s : Said) (ps : List WrittenParameter) (own : OwnNames) (structs : StructNames) (fields : WrittenTypes) → AreOwn ps own → s.struct_names ≡ structs.names → are_known (own_scope own structs) fields ≡ are_known (field_scope s ps) fields
+pub own_known : (s : Said) (ps : List WrittenParameter) (own : OwnNames) (structs : StructNames) (fields : WrittenTypes)
+    → AreOwn ps own → s.struct_names ≡ structs.names
+    → are_known (own_scope own structs) fields ≡ are_known (field_scope s ps) fields
 own_known s ps own structs fields h names =
-    all_known_same (own_scope own structs) (field_scope s ps) h.regions.members h.types.members (λ x. ap (λ (xs : List Name). is_among xs x) (sym names)) fields
+    all_known_same (own_scope own structs) (field_scope s ps) h.regions.members h.types.members
+    (λ x. ap (λ (xs : List Name). is_among xs x) (sym names)) fields

@@ -57,24 +57,31 @@ all_three false b c h = refl
 module _ (s : Scope) (i : Statement Name WrittenType) (r : Statement ℕ Resolved) (of : IsOfStatement s i r) where
   pub variables_resolved : variables_written r ≡ variables_written i
   variables_resolved =
-      sym (same_variables (λ r. r) tree_of r) ∙ (ap (λ (m : Statement ℕ TypeTree). variables_written m) of.meant ∙ same_variables (number_of s.regions) (meant s) i)
+      sym (same_variables (λ r. r) tree_of r)
+      ∙ (ap (λ (m : Statement ℕ TypeTree). variables_written m) of.meant
+      ∙ same_variables (number_of s.regions) (meant s) i)
 
   pub targets_resolved : targets r ≡ targets i
-  targets_resolved = sym (same_targets (λ r. r) tree_of r) ∙ (ap (λ (m : Statement ℕ TypeTree). targets m) of.meant ∙ same_targets (number_of s.regions) (meant s) i)
+  targets_resolved = sym (same_targets (λ r. r) tree_of r)
+      ∙ (ap (λ (m : Statement ℕ TypeTree). targets m) of.meant ∙ same_targets (number_of s.regions) (meant s) i)
 
   pub edges_resolved : edges_from r ≡ edges_from i
-  edges_resolved = sym (same_edges (λ r. r) tree_of r) ∙ (ap (λ (m : Statement ℕ TypeTree). edges_from m) of.meant ∙ same_edges (number_of s.regions) (meant s) i)
+  edges_resolved = sym (same_edges (λ r. r) tree_of r)
+      ∙ (ap (λ (m : Statement ℕ TypeTree). edges_from m) of.meant ∙ same_edges (number_of s.regions) (meant s) i)
 
-module _ (regions : Regions) (structs : StructNames) (variables : Variables) (i : Statement Name WrittenType) (r : Statement ℕ Resolved) (of : IsOfStatement (scope_in regions structs) i r) where
+module _ (regions : Regions) (structs : StructNames) (variables : Variables) (i : Statement Name WrittenType)
+    (r : Statement ℕ Resolved) (of : IsOfStatement (scope_in regions structs) i r) where
   abbrev declared_in : Said
   declared_in = declared_by regions structs variables
 
   abbrev scope : Scope
   scope = scope_in regions structs
 
-  knows_is : (declared : Bool) → declared ≡ list_all (λ x. nat_lt x (length variables.types.items)) (variables_written r) → declared ≡ knows declared_in i
+  knows_is : (declared : Bool) → declared
+      ≡ list_all (λ x. nat_lt x (length variables.types.items)) (variables_written r) → declared ≡ knows declared_in i
   knows_is declared d =
-      let declared_is : declared ≡ list_all (λ x. nat_lt x (length (map tree variables.types.items))) (variables_written i) =
+      let declared_is : declared ≡ list_all (λ x. nat_lt x (length (map tree variables.types.items)))
+      (variables_written i) =
       d ∙ (ap (λ m. list_all (λ x. nat_lt x m) (variables_written r)) (sym (length-map variables.types.items tree))
       ∙ ap (list_all (λ x. nat_lt x (length (map tree variables.types.items)))) (variables_resolved scope i r of)) in
       declared_is ∙ all_three _ _ _ of.known
@@ -85,7 +92,8 @@ module _ (regions : Regions) (structs : StructNames) (variables : Variables) (i 
       → (types && agree) ≡ shapes_fit declared_in i
   fits_is types agree t a =
       let types_are : types ≡ list_all (has_arguments scope) (types_written i) = t ∙ of.fits in
-      let agree_is : agree ≡ types_agree (structs_of variables.table.structs) (map tree variables.types.items) (statement_meant declared_in i) =
+      let agree_is : agree ≡ types_agree (structs_of variables.table.structs) (map tree variables.types.items)
+      (statement_meant declared_in i) =
       a ∙ ap (types_agree (structs_of variables.table.structs) (map tree variables.types.items)) of.meant in
       rw (types_are, agree_is) refl
 
@@ -96,16 +104,19 @@ module _ (regions : Regions) (structs : StructNames) (variables : Variables) (i 
       → j.small ≡ judged.small
       → declared ≡ list_all (λ x. nat_lt x (length variables.types.items)) (variables_written r)
       → types_fit ≡ list_all (λ t. t.fits) (types_written r)
-      → IsJudged (types_agree (structs_of variables.table.structs) (map tree variables.types.items) (as_resolved r)) (types_are_small (structs_of variables.table.structs) (map tree variables.types.items) (as_resolved r)) judged
+      → IsJudged (types_agree (structs_of variables.table.structs) (map tree variables.types.items) (as_resolved r))
+      (types_are_small (structs_of variables.table.structs) (map tree variables.types.items) (as_resolved r)) judged
       → IsOfPoint declared_in i j
   point_judged declared types_fit judged j known fits small d t e = record {
     known = known ∙ knows_is declared d;
     fits = fits ∙ fits_is types_fit judged.fits t e.fits;
     fits_small = λ fit.
-        let agreed : types_agree (structs_of variables.table.structs) (map tree variables.types.items) (as_resolved r) ≡ true =
+        let agreed : types_agree (structs_of variables.table.structs) (map tree variables.types.items) (as_resolved r)
+        ≡ true =
         sym e.fits ∙ second types_fit judged.fits (sym fits ∙ fit) in
         small ∙ (e.fits_small
-        ∙ (ap (λ b. b && types_are_small (structs_of variables.table.structs) (map tree variables.types.items) (as_resolved r)) agreed
+        ∙ (ap (λ b. b && types_are_small (structs_of variables.table.structs) (map tree variables.types.items)
+        (as_resolved r)) agreed
         ∙ ap (types_are_small (structs_of variables.table.structs) (map tree variables.types.items)) of.meant));
   }
 
@@ -115,10 +126,13 @@ unknown_last false b c h = refl
 
 -- a name in the statement isn't declared
 pub names_unknown : (s : Said) (i : Statement Name WrittenType) → has_names (body_scope s) i ≡ false → knows s i ≡ false
-names_unknown s i none = unknown_last (are_declared s (variables_written i)) (list_all (is_among (body_scope s).regions) (regions_written i)) (list_all (is_known (body_scope s)) (types_written i)) none
+names_unknown s i none =
+    unknown_last (are_declared s (variables_written i)) (list_all (is_among (body_scope s).regions) (regions_written i))
+    (list_all (is_known (body_scope s)) (types_written i)) none
 
 -- what is judged of the statement stands, where the types and the structs are the same
-pub judged_same : (regions : Regions) (structs : StructNames) (old new : Variables) (i : Statement Name WrittenType) (j : JudgedPoint)
+pub judged_same : (regions : Regions) (structs : StructNames) (old new : Variables) (i : Statement Name WrittenType)
+    (j : JudgedPoint)
     → new.types.items ≡ old.types.items → new.table.structs ≡ old.table.structs
     → IsOfPoint (declared_by regions structs old) i j → IsOfPoint (declared_by regions structs new) i j
 judged_same regions structs old new i j types declared told = record {
@@ -136,32 +150,44 @@ told order known range shape size points edges =
     (cond size (Some TypeSize) (cond points (Some (Limit Points)) (cond edges (Some (Limit Edges)) None))))))
 
 -- a name or a variable isn't declared
-pub undeclared : (s : Said) (i : Statement Name WrittenType) → is_in_order s (at_point i) ≡ true → knows s i ≡ false → first_fault s (at_point i) ≡ Some Unknown
+pub undeclared : (s : Said) (i : Statement Name WrittenType) → is_in_order s (at_point i) ≡ true → knows s i ≡ false
+    → first_fault s (at_point i) ≡ Some Unknown
 undeclared s i order none =
-    let rest : Bool → Bool → Option TextKind = λ a b. told a b (not (has_targets s i)) (not (shapes_fit s i)) (not (types_are_small s.structs s.variables (statement_meant s i))) (nat_le most_points (length s.points)) (nat_lt most_edges (edge_count s.points + edges_from i)) in
+    let rest : Bool → Bool → Option TextKind =
+    λ a b. told a b (not (has_targets s i)) (not (shapes_fit s i))
+    (not (types_are_small s.structs s.variables (statement_meant s i))) (nat_le most_points (length s.points))
+    (nat_lt most_edges (edge_count s.points + edges_from i)) in
     ap (λ b. rest b (not (knows s i))) (ap not order) ∙ ap (λ b. rest false b) (ap not none)
 
-module _ (s : Said) (i : Statement Name WrittenType) (order : is_in_order s (at_point i) ≡ true) (known : knows s i ≡ true) where
+module _ (s : Said) (i : Statement Name WrittenType) (order : is_in_order s (at_point i) ≡ true)
+    (known : knows s i ≡ true) where
   abbrev by : Bool → Bool → Bool → Bool → Bool → Option TextKind
-  by range shape size points edges = told (not (is_in_order s (at_point i))) (not (knows s i)) range shape size points edges
+  by range shape size points edges =
+      told (not (is_in_order s (at_point i))) (not (knows s i)) range shape size points edges
 
-  in_order_and_known : (range shape size points edges : Bool) → by range shape size points edges ≡ told false false range shape size points edges
+  in_order_and_known : (range shape size points edges : Bool)
+      → by range shape size points edges ≡ told false false range shape size points edges
   in_order_and_known range shape size points edges =
       ap (λ b. told b (not (knows s i)) range shape size points edges) (ap not order)
       ∙ ap (λ b. told false b range shape size points edges) (ap not known)
 
   pub out_of_range : has_targets s i ≡ false → first_fault s (at_point i) ≡ Some Range
-  out_of_range t = in_order_and_known _ _ _ _ _ ∙ ap (λ b. told false false b (not (shapes_fit s i)) (not (types_are_small s.structs s.variables (statement_meant s i))) (nat_le most_points (length s.points)) (nat_lt most_edges (edge_count s.points + edges_from i))) (ap not t)
+  out_of_range t = in_order_and_known _ _ _ _ _
+      ∙ ap (λ b. told false false b (not (shapes_fit s i))
+      (not (types_are_small s.structs s.variables (statement_meant s i))) (nat_le most_points (length s.points))
+      (nat_lt most_edges (edge_count s.points + edges_from i))) (ap not t)
 
   module _ (targets_there : has_targets s i ≡ true) where
     pub unfit : shapes_fit s i ≡ false → first_fault s (at_point i) ≡ Some Shape
-    unfit f = in_order_and_known _ _ _ _ _ ∙ rw_two (not (has_targets s i)) (not (shapes_fit s i)) _ _ _ (ap not targets_there) (ap not f)
+    unfit f = in_order_and_known _ _ _ _ _
+        ∙ rw_two (not (has_targets s i)) (not (shapes_fit s i)) _ _ _ (ap not targets_there) (ap not f)
       where
         rw_two : (a b c d e : Bool) → a ≡ false → b ≡ true → told false false a b c d e ≡ Some Shape
         rw_two a b c d e h k = rw (h, k) refl
 
     module _ (fit : shapes_fit s i ≡ true) where
-      pub too_large : types_are_small s.structs s.variables (statement_meant s i) ≡ false → first_fault s (at_point i) ≡ Some TypeSize
+      pub too_large : types_are_small s.structs s.variables (statement_meant s i) ≡ false
+          → first_fault s (at_point i) ≡ Some TypeSize
       too_large m = in_order_and_known _ _ _ _ _ ∙ by_size _ _ _ _ _ (ap not targets_there) (ap not fit) (ap not m)
         where
           by_size : (a b c d e : Bool) → a ≡ false → b ≡ false → c ≡ true → told false false a b c d e ≡ Some TypeSize
@@ -169,42 +195,59 @@ module _ (s : Said) (i : Statement Name WrittenType) (order : is_in_order s (at_
 
       module _ (small : types_are_small s.structs s.variables (statement_meant s i) ≡ true) where
         pub too_many_points : most_points ≤ length s.points → first_fault s (at_point i) ≡ Some (Limit Points)
-        too_many_points p = in_order_and_known _ _ _ _ _ ∙ by_points _ _ _ _ _ (ap not targets_there) (ap not fit) (ap not small) (le-leb _ _ p)
+        too_many_points p = in_order_and_known _ _ _ _ _
+            ∙ by_points _ _ _ _ _ (ap not targets_there) (ap not fit) (ap not small) (le-leb _ _ p)
           where
-            by_points : (a b c d e : Bool) → a ≡ false → b ≡ false → c ≡ false → d ≡ true → told false false a b c d e ≡ Some (Limit Points)
+            by_points : (a b c d e : Bool) → a ≡ false → b ≡ false → c ≡ false → d ≡ true
+                → told false false a b c d e ≡ Some (Limit Points)
             by_points a b c d e h k l m = rw (h, k, l, m) refl
 
-        pub too_many_edges : length s.points < most_points → most_edges < edge_count s.points + edges_from i → first_fault s (at_point i) ≡ Some (Limit Edges)
-        too_many_edges p e = in_order_and_known _ _ _ _ _ ∙ by_edges _ _ _ _ _ (ap not targets_there) (ap not fit) (ap not small) (lt-leb _ _ p) (lt-ltb _ _ e)
+        pub too_many_edges : length s.points < most_points → most_edges < edge_count s.points + edges_from i
+            → first_fault s (at_point i) ≡ Some (Limit Edges)
+        too_many_edges p e = in_order_and_known _ _ _ _ _
+            ∙ by_edges _ _ _ _ _ (ap not targets_there) (ap not fit) (ap not small) (lt-leb _ _ p) (lt-ltb _ _ e)
           where
-            by_edges : (a b c d e : Bool) → a ≡ false → b ≡ false → c ≡ false → d ≡ false → e ≡ true → told false false a b c d e ≡ Some (Limit Edges)
+            by_edges : (a b c d e : Bool) → a ≡ false → b ≡ false → c ≡ false → d ≡ false → e ≡ true
+                → told false false a b c d e ≡ Some (Limit Edges)
             by_edges a b c d e h k l m n = rw (h, k, l, m, n) refl
 
-        pub no_fault : length s.points < most_points → edge_count s.points + edges_from i ≤ most_edges → first_fault s (at_point i) ≡ None
-        no_fault p e = in_order_and_known _ _ _ _ _ ∙ by_none _ _ _ _ _ (ap not targets_there) (ap not fit) (ap not small) (lt-leb _ _ p) (le-ltb _ _ e)
+        pub no_fault : length s.points < most_points → edge_count s.points + edges_from i ≤ most_edges
+            → first_fault s (at_point i) ≡ None
+        no_fault p e = in_order_and_known _ _ _ _ _
+            ∙ by_none _ _ _ _ _ (ap not targets_there) (ap not fit) (ap not small) (lt-leb _ _ p) (le-ltb _ _ e)
           where
-            by_none : (a b c d e : Bool) → a ≡ false → b ≡ false → c ≡ false → d ≡ false → e ≡ false → told false false a b c d e ≡ None
+            by_none : (a b c d e : Bool) → a ≡ false → b ≡ false → c ≡ false → d ≡ false → e ≡ false
+                → told false false a b c d e ≡ None
             by_none a b c d e h k l m n = rw (h, k, l, m, n) refl
 
 -- the targets of a statement over numbers are blocks
-pub targets_are : (s : Said) (i : Statement Name WrittenType) (r : Statement ℕ Resolved) → IsOfStatement (body_scope s) i r → (b : Bool) → b ≡ list_all (λ x. nat_lt x s.blocks) (targets r) → b ≡ has_targets s i
+pub targets_are : (s : Said) (i : Statement Name WrittenType) (r : Statement ℕ Resolved)
+    → IsOfStatement (body_scope s) i r → (b : Bool) → b ≡ list_all (λ x. nat_lt x s.blocks) (targets r)
+    → b ≡ has_targets s i
 targets_are s i r of b h = h ∙ ap (list_all (λ x. nat_lt x s.blocks)) (targets_resolved (body_scope s) i r of)
 
 -- ---- what is said
 
 -- the statement stands at the next point
-pub point_said : (s : Said) (i : Statement Name WrittenType) (points : List (Statement ℕ TypeTree)) (owes : Bool) (blocks : ℕ) (starts : List ℕ)
-    → blocks ≡ s.blocks → starts ≡ s.starts → points ≡ s.points ++ statement_meant s i ∷ [] → owes ≡ not (is_terminator i)
-    → record s { reached = Blocks; points = points; owes = owes; blocks = blocks; starts = starts } ≡ says s (at_point i)
+pub point_said : (s : Said) (i : Statement Name WrittenType) (points : List (Statement ℕ TypeTree)) (owes : Bool)
+    (blocks : ℕ) (starts : List ℕ)
+    → blocks ≡ s.blocks → starts ≡ s.starts → points ≡ s.points ++ statement_meant s i ∷ []
+    → owes ≡ not (is_terminator i)
+    → record s { reached = Blocks; points = points; owes = owes; blocks = blocks; starts = starts }
+    ≡ says s (at_point i)
 point_said s i points owes blocks starts b c h k = rw (b, c, h, k) refl
 
 -- what the code keeps ends the block as its line does
-pub ends_same : (s : Said) (i : Statement Name WrittenType) (k : Kept ℕ Ty) → statement_kept k ≡ statement_meant s i → is_terminator (statement_of k) ≡ is_terminator i
+pub ends_same : (s : Said) (i : Statement Name WrittenType) (k : Kept ℕ Ty) → statement_kept k ≡ statement_meant s i
+    → is_terminator (statement_of k) ≡ is_terminator i
 ends_same s i k h =
-    sym (same_terminator (λ r. r) tree (statement_of k)) ∙ (ap (λ (m : Statement ℕ TypeTree). is_terminator m) h ∙ same_terminator (number_of s.names) (meant (body_scope s)) i)
+    sym (same_terminator (λ r. r) tree (statement_of k))
+    ∙ (ap (λ (m : Statement ℕ TypeTree). is_terminator m) h
+    ∙ same_terminator (number_of s.names) (meant (body_scope s)) i)
 
 -- its edges are counted too
-pub edges_more : (s : Said) (points : List (Statement ℕ TypeTree)) (i : Statement Name WrittenType) → edge_count (points ++ statement_meant s i ∷ []) ≡ edge_count points + edges_from i
+pub edges_more : (s : Said) (points : List (Statement ℕ TypeTree)) (i : Statement Name WrittenType)
+    → edge_count (points ++ statement_meant s i ∷ []) ≡ edge_count points + edges_from i
 edges_more s points i =
     fold_push (λ n (j : Statement ℕ TypeTree). n + edges_from j) 0 points (statement_meant s i)
     ∙ ap (λ n. edge_count points + n) (same_edges (number_of s.names) (meant (body_scope s)) i)

@@ -65,7 +65,9 @@ scope_from us fs ds = record {
   kinds = map (λ d. map is_region d.1) ds;
 }
 
-abbrev said_from : Group → List Name → List Name → List (Name × Name) → List (Name × Name) → List (Name × List WrittenParameter) → List Struct → List WrittenType → List ℕ → List ℕ → List (Statement Name WrittenType) → List Bool → Said
+abbrev said_from : Group → List Name → List Name → List (Name × Name) → List (Name × Name)
+    → List (Name × List WrittenParameter) → List Struct → List WrittenType → List ℕ → List ℕ
+    → List (Statement Name WrittenType) → List Bool → Said
 said_from r us fs os cs ds structs vs bs starts is ows = record {
   reached = r;
   names = (codes "static" ∷ us) ++ fs;
@@ -87,7 +89,8 @@ abbrev grown : {X : Type 0} → List X → Option X → List X
 grown xs None = xs
 grown xs (Some x) = xs ++ x ∷ []
 
-pushed : {A X : Type 0} (g : A → Option X) (xs : List A) (a : A) → filter_map g (xs ++ a ∷ []) ≡ grown (filter_map g xs) (g a)
+pushed : {A X : Type 0} (g : A → Option X) (xs : List A) (a : A)
+    → filter_map g (xs ++ a ∷ []) ≡ grown (filter_map g xs) (g a)
 pushed g xs a = filter_map-append g xs (a ∷ []) ∙ alone (g a) refl
   where
     nothing : g a ≡ None → filter_map g (a ∷ []) ≡ []
@@ -103,13 +106,20 @@ pushed g xs a = filter_map-append g xs (a ∷ []) ∙ alone (g a) refl
 fronts_push : (forms : List Form) (f : Form) → with_fronts (forms ++ f ∷ []) ≡ with_fronts forms ++ (forms, f) ∷ []
 fronts_push [] f = refl
 fronts_push (x ∷ forms) f =
-    ap (λ (ps : List (List Form × Form)). ([], x) ∷ map (λ (p : List Form × Form). (x ∷ p.0, p.1)) ps) (fronts_push forms f)
-    ∙ ap (λ (ps : List (List Form × Form)). ([], x) ∷ ps) (map_push (λ (p : List Form × Form). (x ∷ p.0, p.1)) (with_fronts forms) (forms, f))
+    ap (λ (ps : List (List Form × Form)). ([], x) ∷ map (λ (p : List Form × Form). (x ∷ p.0, p.1)) ps)
+    (fronts_push forms f)
+    ∙ ap (λ (ps : List (List Form × Form)). ([], x) ∷ ps)
+    (map_push (λ (p : List Form × Form). (x ∷ p.0, p.1)) (with_fronts forms) (forms, f))
 
-same_from : (r : Group) (us us' fs fs' : List Name) (os os' cs cs' : List (Name × Name)) (ds ds' : List (Name × List WrittenParameter)) (structs structs' : List Struct) (vs vs' : List WrittenType) (bs bs' starts starts' : List ℕ) (is is' : List (Statement Name WrittenType)) (ows ows' : List Bool)
-    → us ≡ us' → fs ≡ fs' → os ≡ os' → cs ≡ cs' → ds ≡ ds' → structs ≡ structs' → vs ≡ vs' → bs ≡ bs' → starts ≡ starts' → is ≡ is' → ows ≡ ows'
-    → said_from r us fs os cs ds structs vs bs starts is ows ≡ said_from r us' fs' os' cs' ds' structs' vs' bs' starts' is' ows'
-same_from r us us' fs fs' os os' cs cs' ds ds' structs structs' vs vs' bs bs' starts starts' is is' ows ows' a b c d e f g h i j k = rw (a, b, c, d, e, f, g, h, i, j, k) refl
+same_from : (r : Group) (us us' fs fs' : List Name) (os os' cs cs' : List (Name × Name))
+    (ds ds' : List (Name × List WrittenParameter)) (structs structs' : List Struct) (vs vs' : List WrittenType)
+    (bs bs' starts starts' : List ℕ) (is is' : List (Statement Name WrittenType)) (ows ows' : List Bool)
+    → us ≡ us' → fs ≡ fs' → os ≡ os' → cs ≡ cs' → ds ≡ ds' → structs ≡ structs' → vs ≡ vs' → bs ≡ bs' → starts ≡ starts'
+    → is ≡ is' → ows ≡ ows'
+    → said_from r us fs os cs ds structs vs bs starts is ows
+    ≡ said_from r us' fs' os' cs' ds' structs' vs' bs' starts' is' ows'
+same_from r us us' fs fs' os os' cs cs' ds ds' structs structs' vs vs' bs bs' starts starts' is is' ows ows' a b c d e f
+    g h i j k = rw (a, b, c, d, e, f, g, h, i, j, k) refl
 
 -- what the lines and one more say, where r is the last group
 abbrev more : List Form → Form → Group → Said
@@ -188,71 +198,99 @@ module _ (forms : List Form) (n : ℕ) (h : rank (last_group forms) ≤ n) where
 
 -- ---- one more line, by its form
 
-named_more : (s : Said) (r : Group) (xs ys : List Name) (m n : ℕ) → xs ≡ ys → m ≡ n → record s { reached = r; names = xs; universals = m } ≡ record s { reached = r; names = ys; universals = n }
+named_more : (s : Said) (r : Group) (xs ys : List Name) (m n : ℕ) → xs ≡ ys → m ≡ n
+    → record s { reached = r; names = xs; universals = m } ≡ record s { reached = r; names = ys; universals = n }
 named_more s r xs ys m n e k = rw (e, k) refl
 
-universal_more : (r : Group) (us fs : List Name) (os cs : List (Name × Name)) (ds : List (Name × List WrittenParameter)) (structs : List Struct) (vs : List WrittenType) (bs starts : List ℕ) (is : List (Statement Name WrittenType)) (ows : List Bool) (a : Name)
+universal_more : (r : Group) (us fs : List Name) (os cs : List (Name × Name)) (ds : List (Name × List WrittenParameter))
+    (structs : List Struct) (vs : List WrittenType) (bs starts : List ℕ) (is : List (Statement Name WrittenType))
+    (ows : List Bool) (a : Name)
     → fs ≡ [] → os ≡ [] → cs ≡ [] → vs ≡ [] → is ≡ []
-    → said_from Universals (us ++ a ∷ []) fs os cs ds structs vs bs starts is ows ≡ says (said_from r us fs os cs ds structs vs bs starts is ows) (universal a)
+    → said_from Universals (us ++ a ∷ []) fs os cs ds structs vs bs starts is ows
+    ≡ says (said_from r us fs os cs ds structs vs bs starts is ows) (universal a)
 universal_more r us fs os cs ds structs vs bs starts is ows a f o c v i = rw (f, o, c, v, i)
     (named_more (said_from r us [] [] [] ds structs [] bs starts [] ows) Universals _ _ _ _
-    (append-nil (codes "static" ∷ (us ++ a ∷ [])) ∙ ap (λ (xs : List Name). xs ++ a ∷ []) (sym (append-nil (codes "static" ∷ us))))
+    (append-nil (codes "static" ∷ (us ++ a ∷ []))
+    ∙ ap (λ (xs : List Name). xs ++ a ∷ []) (sym (append-nil (codes "static" ∷ us))))
     (length-append (codes "static" ∷ us) (a ∷ [])))
 
-further_more : (r : Group) (us fs : List Name) (os cs : List (Name × Name)) (ds : List (Name × List WrittenParameter)) (structs : List Struct) (vs : List WrittenType) (bs starts : List ℕ) (is : List (Statement Name WrittenType)) (ows : List Bool) (x : Name)
+further_more : (r : Group) (us fs : List Name) (os cs : List (Name × Name)) (ds : List (Name × List WrittenParameter))
+    (structs : List Struct) (vs : List WrittenType) (bs starts : List ℕ) (is : List (Statement Name WrittenType))
+    (ows : List Bool) (x : Name)
     → cs ≡ [] → vs ≡ [] → is ≡ []
-    → said_from Regions us (fs ++ x ∷ []) os cs ds structs vs bs starts is ows ≡ says (said_from r us fs os cs ds structs vs bs starts is ows) (further x)
+    → said_from Regions us (fs ++ x ∷ []) os cs ds structs vs bs starts is ows
+    ≡ says (said_from r us fs os cs ds structs vs bs starts is ows) (further x)
 further_more r us fs os cs ds structs vs bs starts is ows x c v i = rw (c, v, i)
-    (named_more (said_from r us fs os [] ds structs [] bs starts [] ows) Regions _ _ _ _ (sym (append_assoc (codes "static" ∷ us) fs (x ∷ []))) refl)
+    (named_more (said_from r us fs os [] ds structs [] bs starts [] ows) Regions _ _ _ _
+    (sym (append_assoc (codes "static" ∷ us) fs (x ∷ []))) refl)
 
 declared_more : (s : Said) (ns ms : List Name) (ks ls : List (List Bool)) (structs : List Struct) → ns ≡ ms → ks ≡ ls
-    → record s { reached = Structs; struct_names = ns; kinds = ks; structs = structs } ≡ record s { reached = Structs; struct_names = ms; kinds = ls; structs = structs }
+    → record s { reached = Structs; struct_names = ns; kinds = ks; structs = structs }
+    ≡ record s { reached = Structs; struct_names = ms; kinds = ls; structs = structs }
 declared_more s ns ms ks ls structs e k = rw (e, k) refl
 
-struct_more : (r : Group) (us fs : List Name) (os cs : List (Name × Name)) (ds : List (Name × List WrittenParameter)) (structs : List Struct) (vs : List WrittenType) (bs starts : List ℕ) (is : List (Statement Name WrittenType)) (ows : List Bool) (n : Name) (ps : List WrittenParameter) (has_drop : Bool) (fields : WrittenTypes)
+struct_more : (r : Group) (us fs : List Name) (os cs : List (Name × Name)) (ds : List (Name × List WrittenParameter))
+    (structs : List Struct) (vs : List WrittenType) (bs starts : List ℕ) (is : List (Statement Name WrittenType))
+    (ows : List Bool) (n : Name) (ps : List WrittenParameter) (has_drop : Bool) (fields : WrittenTypes)
     → vs ≡ [] → is ≡ []
-    → said_from Structs us fs os cs (ds ++ (n, ps) ∷ []) (structs ++ declared (said_from r us fs os cs ds structs vs bs starts is ows) ps has_drop fields ∷ []) vs bs starts is ows
+    → said_from Structs us fs os cs (ds ++ (n, ps) ∷ [])
+    (structs ++ declared (said_from r us fs os cs ds structs vs bs starts is ows) ps has_drop fields ∷ []) vs bs
+    starts is ows
     ≡ says (said_from r us fs os cs ds structs vs bs starts is ows) (struct_line n ps has_drop fields)
 struct_more r us fs os cs ds structs vs bs starts is ows n ps has_drop fields v i = rw (v, i)
     (declared_more (said_from r us fs os cs ds structs [] bs starts [] ows) _ _ _ _ _
     (map_push (λ (d : Name × List WrittenParameter). d.0) ds (n, ps))
     (map_push (λ (d : Name × List WrittenParameter). map is_region d.1) ds (n, ps)))
 
-paired : (s : Said) (r : Group) (ps qs : List (ℕ × ℕ)) → ps ≡ qs → record s { reached = r; outlives = ps } ≡ record s { reached = r; outlives = qs }
+paired : (s : Said) (r : Group) (ps qs : List (ℕ × ℕ)) → ps ≡ qs
+    → record s { reached = r; outlives = ps } ≡ record s { reached = r; outlives = qs }
 paired s r ps qs e = rw e refl
 
-asserted : (s : Said) (r : Group) (ps qs : List (ℕ × ℕ)) → ps ≡ qs → record s { reached = r; asserts = ps } ≡ record s { reached = r; asserts = qs }
+asserted : (s : Said) (r : Group) (ps qs : List (ℕ × ℕ)) → ps ≡ qs
+    → record s { reached = r; asserts = ps } ≡ record s { reached = r; asserts = qs }
 asserted s r ps qs e = rw e refl
 
-typed : (s : Said) (r : Group) (ts us : List TypeTree) → ts ≡ us → record s { reached = r; variables = ts } ≡ record s { reached = r; variables = us }
+typed : (s : Said) (r : Group) (ts us : List TypeTree) → ts ≡ us
+    → record s { reached = r; variables = ts } ≡ record s { reached = r; variables = us }
 typed s r ts us e = rw e refl
 
-counted : (s : Said) (r : Group) (m n : ℕ) → m ≡ n → record s { reached = r; blocks = m } ≡ record s { reached = r; blocks = n }
+counted : (s : Said) (r : Group) (m n : ℕ) → m ≡ n
+    → record s { reached = r; blocks = m } ≡ record s { reached = r; blocks = n }
 counted s r m n e = rw e refl
 
-begun : (s : Said) (m n : ℕ) (b c : Bool) → m ≡ n → b ≡ c → record s { reached = Blocks; starts = s.starts ++ m ∷ []; owes = b } ≡ record s { reached = Blocks; starts = s.starts ++ n ∷ []; owes = c }
+begun : (s : Said) (m n : ℕ) (b c : Bool) → m ≡ n → b ≡ c
+    → record s { reached = Blocks; starts = s.starts ++ m ∷ []; owes = b }
+    ≡ record s { reached = Blocks; starts = s.starts ++ n ∷ []; owes = c }
 begun s m n b c e k = rw (e, k) refl
 
-stood : (s : Said) (is js : List (Statement ℕ TypeTree)) (b c : Bool) → is ≡ js → b ≡ c → record s { reached = Blocks; points = is; owes = b } ≡ record s { reached = Blocks; points = js; owes = c }
+stood : (s : Said) (is js : List (Statement ℕ TypeTree)) (b c : Bool) → is ≡ js → b ≡ c
+    → record s { reached = Blocks; points = is; owes = b } ≡ record s { reached = Blocks; points = js; owes = c }
 stood s is js b c e k = rw (e, k) refl
 
 -- one more pair is inserted last
-insert_all_push : {X : Type 0} (e : X → X → Bool) (ks xs : List X) (x : X) → insert_all e ks (xs ++ x ∷ []) ≡ insert_key e (insert_all e ks xs) x
+insert_all_push : {X : Type 0} (e : X → X → Bool) (ks xs : List X) (x : X)
+    → insert_all e ks (xs ++ x ∷ []) ≡ insert_key e (insert_all e ks xs) x
 insert_all_push e ks [] x = refl
 insert_all_push e ks (y ∷ xs) x = insert_all_push e (insert_key e ks y) xs x
 
-pair_more : (names : List Name) (ps : List (Name × Name)) (p : Name × Name) → insert_all same_pair [] (map (numbers_of names) (ps ++ p ∷ [])) ≡ insert_all same_pair (insert_all same_pair [] (map (numbers_of names) ps)) (numbers_of names p ∷ [])
+pair_more : (names : List Name) (ps : List (Name × Name)) (p : Name × Name)
+    → insert_all same_pair [] (map (numbers_of names) (ps ++ p ∷ []))
+    ≡ insert_all same_pair (insert_all same_pair [] (map (numbers_of names) ps)) (numbers_of names p ∷ [])
 pair_more names ps p =
-    ap (insert_all same_pair []) (map_push (numbers_of names) ps p) ∙ insert_all_push same_pair [] (map (numbers_of names) ps) (numbers_of names p)
+    ap (insert_all same_pair []) (map_push (numbers_of names) ps p)
+    ∙ insert_all_push same_pair [] (map (numbers_of names) ps) (numbers_of names p)
 
 -- a name's number among the universal regions, which stand in front
-front_step : (b : Bool) (n m l : ℕ) → (n < l → n ≡ m) → cond (not b) (1 + n) 0 < suc l → cond (not b) (1 + n) 0 ≡ cond (not b) (1 + m) 0
+front_step : (b : Bool) (n m l : ℕ) → (n < l → n ≡ m) → cond (not b) (1 + n) 0 < suc l
+    → cond (not b) (1 + n) 0 ≡ cond (not b) (1 + m) 0
 front_step true n m l later h = refl
 front_step false n m l later h = ap (λ k. 1 + k) (later (omega arith))
 
-number_front : (us fs : List Name) (a : Name) → number_of (us ++ fs) a < length us → number_of (us ++ fs) a ≡ number_of us a
+number_front : (us fs : List Name) (a : Name) → number_of (us ++ fs) a < length us
+    → number_of (us ++ fs) a ≡ number_of us a
 number_front [] fs a h = absurd (omega arith)
-number_front (u ∷ us) fs a h = front_step (bytes_eq a u) (number_of (us ++ fs) a) (number_of us a) (length us) (number_front us fs a) h
+number_front (u ∷ us) fs a h =
+    front_step (bytes_eq a u) (number_of (us ++ fs) a) (number_of us a) (length us) (number_front us fs a) h
 
 last_is : {X : Type 0} (o : Option X) (xs : List X) (x : X) → last_or o (xs ++ x ∷ []) ≡ Some x
 last_is o [] x = refl
@@ -262,41 +300,70 @@ owed : (ows : List Bool) (b : Bool) → unwrap_or (last_or None (ows ++ b ∷ []
 owed ows b = ap (λ (o : Option Bool). unwrap_or o false) (last_is None ows b)
 
 -- the numbers of two universal regions
-universal_numbers : (forms : List Form) (a b : Name) → first_fault (said forms) (outlives a b) ≡ None → numbers_of (universals_said forms) (a, b) ≡ numbers_of (names_said forms) (a, b)
+universal_numbers : (forms : List Form) (a b : Name) → first_fault (said forms) (outlives a b) ≡ None
+    → numbers_of (universals_said forms) (a, b) ≡ numbers_of (names_said forms) (a, b)
 universal_numbers forms a b fine =
-    let both = and_parts (is_universal (said forms) a) (is_universal (said forms) b) (not-false _ (faultless (said forms) (outlives a b) fine).unknown) in
-    let of : (z : Name) → nat_lt (number_of (names_said forms) z) (length (universals_said forms)) ≡ true → number_of (universals_said forms) z ≡ number_of (names_said forms) z = λ z is.
+    let both =
+    and_parts (is_universal (said forms) a) (is_universal (said forms) b)
+    (not-false _ (faultless (said forms) (outlives a b) fine).unknown) in
+    let of : (z : Name) → nat_lt (number_of (names_said forms) z) (length (universals_said forms)) ≡ true
+    → number_of (universals_said forms) z ≡ number_of (names_said forms) z = λ z is.
     sym (number_front (universals_said forms) (filter_map further_in forms) z (ltb-true _ _ is)) in
-    ap (λ (k : ℕ). (k, number_of (universals_said forms) b)) (of a both.0) ∙ ap (λ (k : ℕ). (number_of (names_said forms) a, k)) (of b both.1)
+    ap (λ (k : ℕ). (k, number_of (universals_said forms) b)) (of a both.0)
+    ∙ ap (λ (k : ℕ). (number_of (names_said forms) a, k)) (of b both.1)
 
 step : (forms : List Form) (f : Form) → first_fault (said forms) f ≡ None → more forms f (group f) ≡ says (said forms) f
 step forms (universal a) fine =
     let h : rank (last_group forms) ≤ 1 = in_place forms (universal a) fine in
-    universal_more (last_group forms) (filter_map universal_in forms) (filter_map further_in forms) (filter_map outlives_in forms) (filter_map assert_in forms) (filter_map struct_in forms) (filter_map declared_in (with_fronts forms)) (filter_map variable_in forms) (filter_map blocks_in forms) (filter_map start_in (with_fronts forms)) (filter_map statement_in forms) (filter_map owes_in forms) a (no_further forms 1 h (omega arith)) (no_outlives forms 1 h (omega arith)) (no_asserts forms 1 h (omega arith)) (no_variables forms 1 h (omega arith)) (no_statements forms 1 h (omega arith))
+    universal_more (last_group forms) (filter_map universal_in forms) (filter_map further_in forms)
+    (filter_map outlives_in forms) (filter_map assert_in forms) (filter_map struct_in forms)
+    (filter_map declared_in (with_fronts forms)) (filter_map variable_in forms) (filter_map blocks_in forms)
+    (filter_map start_in (with_fronts forms)) (filter_map statement_in forms) (filter_map owes_in forms) a
+    (no_further forms 1 h (omega arith)) (no_outlives forms 1 h (omega arith)) (no_asserts forms 1 h (omega arith))
+    (no_variables forms 1 h (omega arith)) (no_statements forms 1 h (omega arith))
 step forms (outlives a b) fine =
     paired (said forms) Outlives _ _
     (pair_more (universals_said forms) (filter_map outlives_in forms) (a, b)
     ∙ ap (λ (p : ℕ × ℕ). insert_all same_pair (said forms).outlives (p ∷ [])) (universal_numbers forms a b fine))
 step forms (further x) fine =
     let h : rank (last_group forms) ≤ 3 = in_place forms (further x) fine in
-    further_more (last_group forms) (filter_map universal_in forms) (filter_map further_in forms) (filter_map outlives_in forms) (filter_map assert_in forms) (filter_map struct_in forms) (filter_map declared_in (with_fronts forms)) (filter_map variable_in forms) (filter_map blocks_in forms) (filter_map start_in (with_fronts forms)) (filter_map statement_in forms) (filter_map owes_in forms) x (no_asserts forms 3 h (omega arith)) (no_variables forms 3 h (omega arith)) (no_statements forms 3 h (omega arith))
-step forms (assert_line a b) fine = asserted (said forms) Asserts _ _ (pair_more (names_said forms) (filter_map assert_in forms) (a, b))
+    further_more (last_group forms) (filter_map universal_in forms) (filter_map further_in forms)
+    (filter_map outlives_in forms) (filter_map assert_in forms) (filter_map struct_in forms)
+    (filter_map declared_in (with_fronts forms)) (filter_map variable_in forms) (filter_map blocks_in forms)
+    (filter_map start_in (with_fronts forms)) (filter_map statement_in forms) (filter_map owes_in forms) x
+    (no_asserts forms 3 h (omega arith)) (no_variables forms 3 h (omega arith))
+    (no_statements forms 3 h (omega arith))
+step forms (assert_line a b) fine =
+    asserted (said forms) Asserts _ _ (pair_more (names_said forms) (filter_map assert_in forms) (a, b))
 step forms (struct_line n ps has_drop fields) fine =
     let h : rank (last_group forms) ≤ 5 = in_place forms (struct_line n ps has_drop fields) fine in
-    struct_more (last_group forms) (filter_map universal_in forms) (filter_map further_in forms) (filter_map outlives_in forms) (filter_map assert_in forms) (filter_map struct_in forms) (filter_map declared_in (with_fronts forms)) (filter_map variable_in forms) (filter_map blocks_in forms) (filter_map start_in (with_fronts forms)) (filter_map statement_in forms) (filter_map owes_in forms) n ps has_drop fields (no_variables forms 5 h (omega arith)) (no_statements forms 5 h (omega arith))
+    struct_more (last_group forms) (filter_map universal_in forms) (filter_map further_in forms)
+    (filter_map outlives_in forms) (filter_map assert_in forms) (filter_map struct_in forms)
+    (filter_map declared_in (with_fronts forms)) (filter_map variable_in forms) (filter_map blocks_in forms)
+    (filter_map start_in (with_fronts forms)) (filter_map statement_in forms)
+    (filter_map owes_in forms) n ps has_drop fields (no_variables forms 5 h (omega arith))
+    (no_statements forms 5 h (omega arith))
 step forms (variable x t) fine = typed (said forms) Variables _ _ (map_push _ (filter_map variable_in forms) t)
 step forms (blocks n) fine =
     let h : rank (last_group forms) < 7 = before_blocks (said forms) n (in_order (said forms) (blocks n) fine) in
-    counted (said forms) BlockCount _ _ (ap (λ (bs : List ℕ). get_or (bs ++ n ∷ []) 0 0) (no_blocks forms 6 (omega (arith, h)) (omega arith)))
-step forms (block n) fine = begun (said forms) _ _ _ _ (sym (length-map (filter_map statement_in forms) _)) (owed (filter_map owes_in forms) true)
-step forms (at_point i) fine = stood (said forms) _ _ _ _ (map_push _ (filter_map statement_in forms) i) (owed (filter_map owes_in forms) (not (is_terminator i)))
+    counted (said forms) BlockCount _ _
+    (ap (λ (bs : List ℕ). get_or (bs ++ n ∷ []) 0 0) (no_blocks forms 6 (omega (arith, h)) (omega arith)))
+step forms (block n) fine =
+    begun (said forms) _ _ _ _ (sym (length-map (filter_map statement_in forms) _))
+    (owed (filter_map owes_in forms) true)
+step forms (at_point i) fine =
+    stood (said forms) _ _ _ _ (map_push _ (filter_map statement_in forms) i)
+    (owed (filter_map owes_in forms) (not (is_terminator i)))
 step forms end fine = refl
 
 -- one more line without a fault
-pub said_push : (forms : List Form) (f : Form) → first_fault (said forms) f ≡ None → said (forms ++ f ∷ []) ≡ says (said forms) f
-said_push forms f fine = all_pushed forms f ∙ (ap (more forms f) (last_push forms f (in_place forms f fine)) ∙ step forms f fine)
+pub said_push : (forms : List Form) (f : Form) → first_fault (said forms) f ≡ None
+    → said (forms ++ f ∷ []) ≡ says (said forms) f
+said_push forms f fine = all_pushed forms f
+    ∙ (ap (more forms f) (last_push forms f (in_place forms f fine)) ∙ step forms f fine)
 
-pub adds_said : (forms : List Form) (s t : Said) (f : Form) → said forms ≡ s → first_fault s f ≡ None → Adds s f t → said (forms ++ f ∷ []) ≡ t
+pub adds_said : (forms : List Form) (s t : Said) (f : Form) → said forms ≡ s → first_fault s f ≡ None → Adds s f t
+    → said (forms ++ f ∷ []) ≡ t
 adds_said forms s t f h fine a =
     said_push forms f (ap (λ (u : Said). first_fault u f) h ∙ fine) ∙ (ap (λ (u : Said). says u f) h ∙ sym a)
 
@@ -306,29 +373,36 @@ same_fault s t h f = ap (λ (u : Said). first_fault u f) h
 -- ---- lines without a fault
 
 -- what holds before all lines, and still behind one more line without a fault, holds behind all
-module _ (P : List Form → Type 0) (more : (forms : List Form) (f : Form) → first_fault (said forms) f ≡ None → P forms → P (forms ++ f ∷ [])) where
-  behind_line : (v : Version) (forms : List Form) (line : List ℕ) (added : List Form) → Fits (mir v) (said forms) line added → P forms → P (forms ++ added)
+module _ (P : List Form → Type 0) (more : (forms : List Form) (f : Form) → first_fault (said forms) f ≡ None → P forms
+    → P (forms ++ f ∷ [])) where
+  behind_line : (v : Version) (forms : List Form) (line : List ℕ) (added : List Form)
+      → Fits (mir v) (said forms) line added → P forms → P (forms ++ added)
   behind_line v forms line [] (skipped u k) h = subst P (sym (append-nil forms)) h
   behind_line v forms line (f ∷ []) (of_form _ u k form fine) h = more forms f fine h
   behind_line v forms line (f ∷ (g ∷ rest)) fit h = elim fit [ ]
 
-  pub behind_all : (v : Version) (before : List Form) (lines : List (List ℕ)) (forms : List Form) → Says (mir v) before lines forms → P before → P forms
+  pub behind_all : (v : Version) (before : List Form) (lines : List (List ℕ)) (forms : List Form)
+      → Says (mir v) before lines forms → P before → P forms
   behind_all v before [] forms says h = subst P (sym says) h
-  behind_all v before (line ∷ lines) forms says h = behind_all v (before ++ says.0) lines forms says.2 (behind_line v before line says.0 says.1 h)
+  behind_all v before (line ∷ lines) forms says h =
+      behind_all v (before ++ says.0) lines forms says.2 (behind_line v before line says.0 says.1 h)
 
 -- what is said, line by line
 abbrev said_after : Said → List Form → Said
 said_after s [] = s
 said_after s (f ∷ forms) = said_after (says s f) forms
 
-said_after_push : (s : Said) (forms : List Form) (f : Form) → said_after s (forms ++ f ∷ []) ≡ says (said_after s forms) f
+said_after_push : (s : Said) (forms : List Form) (f : Form)
+    → said_after s (forms ++ f ∷ []) ≡ says (said_after s forms) f
 said_after_push s [] f = refl
 said_after_push s (g ∷ forms) f = said_after_push (says s g) forms f
 
 -- of lines without a fault it is what they say together
-pub said_line_by_line : (v : Version) (lines : List (List ℕ)) (forms : List Form) → Says (mir v) [] lines forms → said_after nothing_said forms ≡ said forms
+pub said_line_by_line : (v : Version) (lines : List (List ℕ)) (forms : List Form) → Says (mir v) [] lines forms
+    → said_after nothing_said forms ≡ said forms
 said_line_by_line v lines forms h = behind_all (λ fs. said_after nothing_said fs ≡ said fs)
-    (λ fs f fine same. said_after_push nothing_said fs f ∙ (ap (λ (s : Said). says s f) same ∙ sym (said_push fs f fine)))
+    (λ fs f fine same. said_after_push nothing_said fs f
+    ∙ (ap (λ (s : Said). says s f) same ∙ sym (said_push fs f fine)))
     v [] lines forms h refl
 
 -- ---- the last line
@@ -356,10 +430,13 @@ ended_rank (f ∷ forms) h = ⊎_elim
 pub ended : (forms : List Form) → has_reached (said forms) End ≡ true → Contains forms end
 ended forms h = ended_rank forms (reached_at (said forms) End h)
 
-contains_rank : (forms : List Form) (f : Form) (k : ℕ) → k < length forms → get_or forms k f ≡ f → rank (group f) ≤ rank (last_group forms)
+contains_rank : (forms : List Form) (f : Form) (k : ℕ) → k < length forms → get_or forms k f ≡ f
+    → rank (group f) ≤ rank (last_group forms)
 contains_rank [] f k h e = absurd (omega (arith, h))
-contains_rank (g ∷ forms) f zero h e = subst (λ x. rank (group x) ≤ rank (last_group (g ∷ forms))) e (group_reached g forms)
-contains_rank (g ∷ forms) f (suc k) h e = omega (arith, contains_rank forms f k (omega (arith, h)) e, reached_more g forms)
+contains_rank (g ∷ forms) f zero h e =
+    subst (λ x. rank (group x) ≤ rank (last_group (g ∷ forms))) e (group_reached g forms)
+contains_rank (g ∷ forms) f (suc k) h e =
+    omega (arith, contains_rank forms f k (omega (arith, h)) e, reached_more g forms)
 
 -- and have none where it isn't
 pub not_ended : (forms : List Form) → (has_reached (said forms) End ≡ true → ⊥) → Contains forms end → ⊥

@@ -39,7 +39,8 @@ use Rattle.nll_mir_text.proofs.StructLemmas.{order_push, kinds_pushed, regions_d
 -- ---- what holds of what lines say
 
 -- What is declared keeps to what was declared before.
-record IsDeclared (reached universals : ℕ) (names : List Name) (longer : List (ℕ × ℕ)) (struct_names : List Name) (kinds : List (List Bool)) (structs : List Struct) (variables : List TypeTree) : Type 0 where
+record IsDeclared (reached universals : ℕ) (names : List Name) (longer : List (ℕ × ℕ)) (struct_names : List Name)
+    (kinds : List (List Bool)) (structs : List Struct) (variables : List TypeTree) : Type 0 where
   some : 0 < universals
   few : universals ≤ most_universals
   all : universals ≤ length names
@@ -58,19 +59,23 @@ abbrev ends : List (Statement ℕ TypeTree) → Bool → ℕ
 ends points owes = cond owes (length points + 1) (length points)
 
 -- behind one more point
-ends_past : (points : List (Statement ℕ TypeTree)) (i : Statement ℕ TypeTree) (t : Bool) → length points + 1 ≤ ends (points ++ i ∷ []) (not t)
+ends_past : (points : List (Statement ℕ TypeTree)) (i : Statement ℕ TypeTree) (t : Bool)
+    → length points + 1 ≤ ends (points ++ i ∷ []) (not t)
 ends_past points i true = omega (arith, length-append points (i ∷ []))
 ends_past points i false = omega (arith, length-append points (i ∷ []))
 
-ends_behind : (points : List (Statement ℕ TypeTree)) (i : Statement ℕ TypeTree) (t : Bool) → t ≡ false → length points + 1 < ends (points ++ i ∷ []) (not t)
+ends_behind : (points : List (Statement ℕ TypeTree)) (i : Statement ℕ TypeTree) (t : Bool) → t ≡ false
+    → length points + 1 < ends (points ++ i ∷ []) (not t)
 ends_behind points i true e = absurd cc
 ends_behind points i false e = omega (arith, length-append points (i ∷ []))
 
-same_edges : {R S T U : Type 0} (f : R → S) (g : T → U) (i : Statement R T) → edges_from (map_statement f g i) ≡ edges_from i
+same_edges : {R S T U : Type 0} (f : R → S) (g : T → U) (i : Statement R T)
+    → edges_from (map_statement f g i) ≡ edges_from i
 same_edges f g i = rw (same_end f g i, same_targets f g i) refl
 
 -- What stands at the points leads to points and blocks, and the blocks begin at points.
-record ArePlaced (reached count : ℕ) (starts : List ℕ) (points : List (Statement ℕ TypeTree)) (owes : Bool) : Type 0 where
+record ArePlaced (reached count : ℕ) (starts : List ℕ) (points : List (Statement ℕ TypeTree))
+    (owes : Bool) : Type 0 where
   some_block : 7 ≤ reached → 0 < count
   none_yet : reached < 8 → length points ≡ 0
   begun : length starts ≡ 0 → ends points owes ≡ 0
@@ -80,20 +85,24 @@ record ArePlaced (reached count : ℕ) (starts : List ℕ) (points : List (State
   whole : reached ≡ 9 → (owes ≡ false) × (count ≤ length starts)
   few_points : length points ≤ most_points
   few_edges : edge_count points ≤ most_edges
-  goes_on : (p : ℕ) (i : Statement ℕ TypeTree) → slice_get points p ≡ Some i → is_terminator i ≡ false → p + 1 < ends points owes
+  goes_on : (p : ℕ) (i : Statement ℕ TypeTree) → slice_get points p ≡ Some i → is_terminator i ≡ false
+      → p + 1 < ends points owes
   leads : (p b : ℕ) (i : Statement ℕ TypeTree) → slice_get points p ≡ Some i → Contains (targets i) b → b < count
 
 -- The regions and the types that are written at the points keep to what is declared.
 record AreWritten (names : List Name) (structs : List Struct) (points : List (Statement ℕ TypeTree)) : Type 0 where
-  regions : (p r : ℕ) (i : Statement ℕ TypeTree) → slice_get points p ≡ Some i → Contains (regions_written i) r → r < length names
-  types : (p : ℕ) (t : TypeTree) (i : Statement ℕ TypeTree) → slice_get points p ≡ Some i → Contains (types_written i) t → IsWellFormed structs (length names) 0 t
+  regions : (p r : ℕ) (i : Statement ℕ TypeTree) → slice_get points p ≡ Some i → Contains (regions_written i) r
+      → r < length names
+  types : (p : ℕ) (t : TypeTree) (i : Statement ℕ TypeTree) → slice_get points p ≡ Some i → Contains (types_written i) t
+      → IsWellFormed structs (length names) 0 t
 
 -- The asserted pairs are of declared regions.
 abbrev AreAsserted : List Name → List (ℕ × ℕ) → Type 0
 AreAsserted names pairs = (a b : ℕ) → Contains pairs (a, b) → (a < length names) × (b < length names)
 
 -- they are so where there are more regions
-asserted_more : (old new : List Name) (pairs : List (ℕ × ℕ)) → length old ≤ length new → AreAsserted old pairs → AreAsserted new pairs
+asserted_more : (old new : List Name) (pairs : List (ℕ × ℕ)) → length old ≤ length new → AreAsserted old pairs
+    → AreAsserted new pairs
 asserted_more old new pairs more all a b c = let k = all a b c in (omega (arith, k.0, more), omega (arith, k.1, more))
 
 record IsWell (s : Said) : Type 0 where
@@ -103,16 +112,19 @@ record IsWell (s : Said) : Type 0 where
   written : AreWritten s.names s.structs s.points
 
 -- nothing is written where there are no points
-written_nowhere : (names : List Name) (structs : List Struct) (points : List (Statement ℕ TypeTree)) → length points ≡ 0 → AreWritten names structs points
+written_nowhere : (names : List Name) (structs : List Struct) (points : List (Statement ℕ TypeTree)) → length points ≡ 0
+    → AreWritten names structs points
 written_nowhere names structs points none = record {
   regions = λ p r i at h. absurd (nothing_at points p i none at);
   types = λ p t i at h. absurd (nothing_at points p i none at);
 }
 
 -- a line in front of the blocks stands in front of all points
-written_early : (reached count : ℕ) (starts : List ℕ) (points : List (Statement ℕ TypeTree)) (owes : Bool) → ArePlaced reached count starts points owes → reached < 8
+written_early : (reached count : ℕ) (starts : List ℕ) (points : List (Statement ℕ TypeTree)) (owes : Bool)
+    → ArePlaced reached count starts points owes → reached < 8
     → (names : List Name) (structs : List Struct) → AreWritten names structs points
-written_early reached count starts points owes h early names structs = written_nowhere names structs points (h.none_yet early)
+written_early reached count starts points owes h early names structs =
+    written_nowhere names structs points (h.none_yet early)
 
 -- ---- no line yet
 
@@ -153,7 +165,8 @@ well_nothing = record {
 
 -- a line in front of the blocks leaves the points as they are
 module _ (reached count : ℕ) (starts : List ℕ) (points : List (Statement ℕ TypeTree)) (owes : Bool) where
-  places_early : (after : ℕ) → ArePlaced reached count starts points owes → reached ≤ after → after < 7 → ArePlaced after count starts points owes
+  places_early : (after : ℕ) → ArePlaced reached count starts points owes → reached ≤ after → after < 7
+      → ArePlaced after count starts points owes
   places_early after h le early = record {
     some_block = λ l. absurd (omega (arith, l, early));
     none_yet = λ l. h.none_yet (omega (arith, le, early));
@@ -169,8 +182,10 @@ module _ (reached count : ℕ) (starts : List ℕ) (points : List (Statement ℕ
   }
 
 -- a line behind the declarations leaves them as they are
-module _ (reached universals : ℕ) (names : List Name) (longer : List (ℕ × ℕ)) (struct_names : List Name) (kinds : List (List Bool)) (structs : List Struct) (variables : List TypeTree) where
-  declares_late : (after : ℕ) → IsDeclared reached universals names longer struct_names kinds structs variables → 6 ≤ after → IsDeclared after universals names longer struct_names kinds structs variables
+module _ (reached universals : ℕ) (names : List Name) (longer : List (ℕ × ℕ)) (struct_names : List Name)
+    (kinds : List (List Bool)) (structs : List Struct) (variables : List TypeTree) where
+  declares_late : (after : ℕ) → IsDeclared reached universals names longer struct_names kinds structs variables
+      → 6 ≤ after → IsDeclared after universals names longer struct_names kinds structs variables
   declares_late after h late = record {
     some = h.some;
     few = h.few;
@@ -187,7 +202,8 @@ module _ (reached universals : ℕ) (names : List Name) (longer : List (ℕ × �
   }
 
   -- names and structs are declared before variables
-  keeps_none : reached < 6 → IsDeclared reached universals names longer struct_names kinds structs variables → (P : TypeTree → Type 0) → All P variables
+  keeps_none : reached < 6 → IsDeclared reached universals names longer struct_names kinds structs variables
+      → (P : TypeTree → Type 0) → All P variables
   keeps_none early h P = subst (All P) (sym (h.none_yet early)) (All-nil P)
 
 module _ (s : Said) (w : IsWell s) where
@@ -199,7 +215,9 @@ module _ (s : Said) (w : IsWell s) where
       let regions : length s.names < most_regions = leb-false most_regions (length s.names) no.regions in
       let d = w.declares in
       record {
-        asserted = asserted_more s.names (s.names ++ a ∷ []) s.asserts (omega (arith, length-append s.names (a ∷ []))) w.asserted;
+        asserted =
+            asserted_more s.names (s.names ++ a ∷ []) s.asserts
+            (omega (arith, length-append s.names (a ∷ []))) w.asserted;
         declares = record {
           some = omega arith;
           few = omega (arith, few);
@@ -212,7 +230,8 @@ module _ (s : Said) (w : IsWell s) where
           takes = d.takes;
           order = d.order;
           none_yet = λ _. d.none_yet (omega (arith, le));
-          keep = keeps_none _ _ _ _ _ _ _ _ (omega (arith, le)) d (IsWellFormed s.structs (length (s.names ++ a ∷ [])) 0);
+          keep = keeps_none _ _ _ _ _ _ _ _ (omega (arith, le)) d
+              (IsWellFormed s.structs (length (s.names ++ a ∷ [])) 0);
         };
         places = places_early _ _ _ _ _ 1 w.places le (omega arith);
         written = written_early _ _ _ _ _ w.places (omega (arith, le)) (s.names ++ a ∷ []) s.structs;
@@ -222,7 +241,9 @@ module _ (s : Said) (w : IsWell s) where
   well_outlives a b e =
       let no = faultless s (outlives a b) e in
       let le : rank s.reached ≤ 2 = (follows s (outlives a b) (in_order s (outlives a b) e)).0 in
-      let both = and_parts (is_universal s a) (is_universal s b) (not-false (is_universal s a && is_universal s b) no.unknown) in
+      let both =
+      and_parts (is_universal s a) (is_universal s b)
+      (not-false (is_universal s a && is_universal s b) no.unknown) in
       let d = w.declares in
       record {
         asserted = w.asserted;
@@ -232,7 +253,11 @@ module _ (s : Said) (w : IsWell s) where
           all = d.all;
           few_names = d.few_names;
           few_variables = d.few_variables;
-          known = λ x y c. ⊎_elim (d.known x y) (λ same. subst (λ (p : ℕ × ℕ). (p.0 < s.universals) × (p.1 < s.universals)) same (ltb-true (number_of s.names a) s.universals both.0, ltb-true (number_of s.names b) s.universals both.1)) (inserted (list_any (same_pair (number_of s.names a, number_of s.names b)) s.outlives) s.outlives (number_of s.names a, number_of s.names b) (x, y) c);
+          known = λ x y c. ⊎_elim (d.known x y)
+              (λ same. subst (λ (p : ℕ × ℕ). (p.0 < s.universals) × (p.1 < s.universals)) same
+              (ltb-true (number_of s.names a) s.universals both.0, ltb-true (number_of s.names b) s.universals both.1))
+              (inserted (list_any (same_pair (number_of s.names a, number_of s.names b)) s.outlives) s.outlives
+              (number_of s.names a, number_of s.names b) (x, y) c);
           named = d.named;
           counted = d.counted;
           takes = d.takes;
@@ -251,7 +276,9 @@ module _ (s : Said) (w : IsWell s) where
       let regions : length s.names < most_regions = leb-false most_regions (length s.names) no.regions in
       let d = w.declares in
       record {
-        asserted = asserted_more s.names (s.names ++ x ∷ []) s.asserts (omega (arith, length-append s.names (x ∷ []))) w.asserted;
+        asserted =
+            asserted_more s.names (s.names ++ x ∷ []) s.asserts
+            (omega (arith, length-append s.names (x ∷ []))) w.asserted;
         declares = record {
           some = d.some;
           few = d.few;
@@ -264,7 +291,8 @@ module _ (s : Said) (w : IsWell s) where
           takes = d.takes;
           order = d.order;
           none_yet = λ _. d.none_yet (omega (arith, le));
-          keep = keeps_none _ _ _ _ _ _ _ _ (omega (arith, le)) d (IsWellFormed s.structs (length (s.names ++ x ∷ [])) 0);
+          keep = keeps_none _ _ _ _ _ _ _ _ (omega (arith, le)) d
+              (IsWellFormed s.structs (length (s.names ++ x ∷ [])) 0);
         };
         places = places_early _ _ _ _ _ 3 w.places le (omega arith);
         written = written_early _ _ _ _ _ w.places (omega (arith, le)) (s.names ++ x ∷ []) s.structs;
@@ -274,10 +302,19 @@ module _ (s : Said) (w : IsWell s) where
   well_assert a b e =
       let no = faultless s (assert_line a b) e in
       let le : rank s.reached ≤ 4 = (follows s (assert_line a b) (in_order s (assert_line a b) e)).0 in
-      let both = and_parts (is_among s.names a) (is_among s.names b) (not-false (is_among s.names a && is_among s.names b) no.unknown) in
+      let both =
+      and_parts (is_among s.names a) (is_among s.names b)
+      (not-false (is_among s.names a && is_among s.names b) no.unknown) in
       let d = w.declares in
       record {
-        asserted = λ x y c. ⊎_elim (w.asserted x y) (λ same. subst (λ (p : ℕ × ℕ). (p.0 < length s.names) × (p.1 < length s.names)) same (ltb-true (number_of s.names a) (length s.names) both.0, ltb-true (number_of s.names b) (length s.names) both.1)) (inserted (list_any (same_pair (number_of s.names a, number_of s.names b)) s.asserts) s.asserts (number_of s.names a, number_of s.names b) (x, y) c);
+        asserted =
+            λ x y c. ⊎_elim (w.asserted x y) (λ same.
+            subst (λ (p : ℕ × ℕ). (p.0 < length s.names) × (p.1 < length s.names)) same (
+              ltb-true (number_of s.names a) (length s.names) both.0,
+              ltb-true (number_of s.names b) (length s.names) both.1,
+            ))
+            (inserted (list_any (same_pair (number_of s.names a, number_of s.names b)) s.asserts) s.asserts
+            (number_of s.names a, number_of s.names b) (x, y) c);
         declares = record {
           some = d.some;
           few = d.few;
@@ -296,10 +333,12 @@ module _ (s : Said) (w : IsWell s) where
         written = written_early _ _ _ _ _ w.places (omega (arith, le)) s.names s.structs;
       }
 
-  well_struct : (n : Name) (ps : List WrittenParameter) (has_drop : Bool) (fields : WrittenTypes) → first_fault s (struct_line n ps has_drop fields) ≡ None → IsWell (says s (struct_line n ps has_drop fields))
+  well_struct : (n : Name) (ps : List WrittenParameter) (has_drop : Bool) (fields : WrittenTypes)
+      → first_fault s (struct_line n ps has_drop fields) ≡ None → IsWell (says s (struct_line n ps has_drop fields))
   well_struct n ps has_drop fields e =
       let no = faultless s (struct_line n ps has_drop fields) e in
-      let le : rank s.reached ≤ 5 = (follows s (struct_line n ps has_drop fields) (in_order s (struct_line n ps has_drop fields) e)).0 in
+      let le : rank s.reached ≤ 5 =
+      (follows s (struct_line n ps has_drop fields) (in_order s (struct_line n ps has_drop fields) e)).0 in
       let known : are_known (field_scope s ps) fields ≡ true = not-false _ no.unknown in
       let has : have_arguments (field_scope s ps) fields ≡ true = not-false _ no.shape in
       let d = w.declares in
@@ -314,11 +353,19 @@ module _ (s : Said) (w : IsWell s) where
           few_variables = d.few_variables;
           known = d.known;
           named = omega (arith, d.named, length-append s.struct_names (n ∷ []), length-append s.structs (more ∷ []));
-          counted = omega (arith, d.counted, length-append s.kinds (map is_region ps ∷ []), length-append s.structs (more ∷ []));
-          takes = kinds_pushed s.kinds s.structs (map is_region ps) more d.counted d.takes (regions_declared s ps has_drop fields) (types_declared s ps has_drop fields);
+          counted =
+              omega (
+                arith,
+                d.counted,
+                length-append s.kinds (map is_region ps ∷ []),
+                length-append s.structs (more ∷ []),
+              );
+          takes = kinds_pushed s.kinds s.structs (map is_region ps) more d.counted d.takes
+              (regions_declared s ps has_drop fields) (types_declared s ps has_drop fields);
           order = order_push s.structs more d.order (good_fields s ps has_drop fields d.takes d.named known has);
           none_yet = λ _. d.none_yet (omega (arith, le));
-          keep = keeps_none _ _ _ _ _ _ _ _ (omega (arith, le)) d (IsWellFormed (s.structs ++ more ∷ []) (length s.names) 0);
+          keep = keeps_none _ _ _ _ _ _ _ _ (omega (arith, le)) d
+              (IsWellFormed (s.structs ++ more ∷ []) (length s.names) 0);
         };
         places = places_early _ _ _ _ _ 5 w.places le (omega arith);
         written = written_early _ _ _ _ _ w.places (omega (arith, le)) s.names (s.structs ++ more ∷ []);
@@ -346,7 +393,8 @@ module _ (s : Said) (w : IsWell s) where
           takes = d.takes;
           order = d.order;
           none_yet = λ l. absurd (omega (arith, l));
-          keep = All-push (IsWellFormed s.structs (length s.names) 0) s.variables (meant (body_scope s) t) d.keep (well_formed (body_scope s) s.structs d.takes d.named t known has);
+          keep = All-push (IsWellFormed s.structs (length s.names) 0) s.variables (meant (body_scope s) t) d.keep
+              (well_formed (body_scope s) s.structs d.takes d.named t known has);
         };
         places = places_early _ _ _ _ _ 6 w.places le (omega arith);
         written = written_early _ _ _ _ _ w.places (omega (arith, le)) s.names s.structs;
@@ -387,8 +435,13 @@ module _ (s : Said) (w : IsWell s) where
         some_block = λ _. p.some_block late;
         none_yet = λ l. absurd (omega (arith, l));
         begun = λ none. absurd (omega (arith, none, length-append s.starts (length s.points ∷ [])));
-        within = All-push (λ q. q < length s.points + 1) s.starts (length s.points) (All-weaker (λ q. q < ends s.points s.owes) (λ q. q < length s.points + 1) (λ q l. omega (arith, l, here_ends)) s.starts p.within) (omega arith);
-        rise = rise_push s.starts (length s.points) p.rise (All-weaker (λ q. q < ends s.points s.owes) (λ q. q < length s.points) (λ q l. omega (arith, l, here_ends)) s.starts p.within);
+        within =
+            All-push (λ q. q < length s.points + 1) s.starts (length s.points)
+            (All-weaker (λ q. q < ends s.points s.owes) (λ q. q < length s.points + 1)
+            (λ q l. omega (arith, l, here_ends)) s.starts p.within) (omega arith);
+        rise = rise_push s.starts (length s.points) p.rise
+            (All-weaker (λ q. q < ends s.points s.owes) (λ q. q < length s.points)
+            (λ q l. omega (arith, l, here_ends)) s.starts p.within);
         at_zero = λ _. first_pushed s.starts (length s.points) (λ none. sym here_ends ∙ p.begun none) p.at_zero;
         whole = λ e. absurd (omega (arith, e));
         few_points = p.few_points;
@@ -408,7 +461,8 @@ module _ (s : Said) (w : IsWell s) where
       }
 
   -- a statement or terminator stands where a terminator is owed
-  stands : (i : Statement Name WrittenType) → 7 ≤ rank s.reached → s.owes ≡ true → has_targets s i ≡ true → length s.points < most_points → edge_count s.points + edges_from i ≤ most_edges
+  stands : (i : Statement Name WrittenType) → 7 ≤ rank s.reached → s.owes ≡ true → has_targets s i ≡ true
+      → length s.points < most_points → edge_count s.points + edges_from i ≤ most_edges
       → ArePlaced 8 s.blocks s.starts (s.points ++ statement_meant s i ∷ []) (not (is_terminator i))
   stands i at owed targeted few_points few_edges =
       let p = w.places in
@@ -419,50 +473,73 @@ module _ (s : Said) (w : IsWell s) where
         some_block = λ _. p.some_block (omega (arith, at));
         none_yet = λ l. absurd (omega (arith, l));
         begun = λ none. absurd (omega (arith, p.begun none, before));
-        within = All-weaker (λ q. q < ends s.points s.owes) (λ q. q < ends (s.points ++ j ∷ []) (not (is_terminator i))) (λ q l. omega (arith, l, before, after)) s.starts p.within;
+        within =
+            All-weaker (λ q. q < ends s.points s.owes) (λ q. q < ends (s.points ++ j ∷ []) (not (is_terminator i)))
+            (λ q l. omega (arith, l, before, after)) s.starts p.within;
         rise = p.rise;
         at_zero = p.at_zero;
         whole = λ e. absurd (omega (arith, e));
         few_points = omega (arith, few_points, length-append s.points (j ∷ []));
-        few_edges = omega (arith, few_edges, sum_by_push edges_from s.points j, same_edges (number_of s.names) (meant (body_scope s)) i);
+        few_edges =
+            omega (
+              arith,
+              few_edges,
+              sum_by_push edges_from s.points j,
+              same_edges (number_of s.names) (meant (body_scope s)) i,
+            );
         goes_on = λ q k at plain. ⊎_elim
             (λ old. (let l = p.goes_on q k old plain in omega (arith, l, before, after)))
-            (λ new. (let l = ends_behind s.points j (is_terminator i) (sym (same_end (number_of s.names) (meant (body_scope s)) i) ∙ (ap is_terminator (sym new.1) ∙ plain)) in omega (arith, new.0, l)))
+            (λ new. (let l = ends_behind s.points j (is_terminator i)
+            (sym (same_end (number_of s.names) (meant (body_scope s)) i) ∙ (ap is_terminator (sym new.1) ∙ plain))
+            in omega (arith, new.0, l)))
             (pushed_at s.points j q k at);
         leads = λ q b k at leads. ⊎_elim
             (λ old. p.leads q b k old leads)
             (λ new. All-contains (λ c. c < s.blocks) (targets i) b (below_all s.blocks (targets i) targeted)
-            (subst (λ (bs : List ℕ). Contains bs b) (ap targets new.1 ∙ same_targets (number_of s.names) (meant (body_scope s)) i) leads))
+            (subst (λ (bs : List ℕ). Contains bs b)
+            (ap targets new.1 ∙ same_targets (number_of s.names) (meant (body_scope s)) i) leads))
             (pushed_at s.points j q k at);
       }
 
   -- types whose names are known and have arguments keep to what is declared
-  types_good : (ts : List WrittenType) → list_all (is_known (body_scope s)) ts ≡ true → list_all (has_arguments (body_scope s)) ts ≡ true
+  types_good : (ts : List WrittenType) → list_all (is_known (body_scope s)) ts ≡ true
+      → list_all (has_arguments (body_scope s)) ts ≡ true
       → All (IsWellFormed s.structs (length s.names) 0) (map (meant (body_scope s)) ts)
   types_good [] k h = All-nil (IsWellFormed s.structs (length s.names) 0)
   types_good (t ∷ ts) k h =
       let known = and_parts (is_known (body_scope s) t) (list_all (is_known (body_scope s)) ts) k in
       let has = and_parts (has_arguments (body_scope s) t) (list_all (has_arguments (body_scope s)) ts) h in
       let d = w.declares in
-      let first : IsWellFormed s.structs (length s.names) 0 (meant (body_scope s) t) = well_formed (body_scope s) s.structs d.takes d.named t known.0 has.0 in
-      All-cons (IsWellFormed s.structs (length s.names) 0) (meant (body_scope s) t) (map (meant (body_scope s)) ts) first (types_good ts known.1 has.1)
+      let first : IsWellFormed s.structs (length s.names) 0 (meant (body_scope s) t) =
+      well_formed (body_scope s) s.structs d.takes d.named t known.0 has.0 in
+      All-cons (IsWellFormed s.structs (length s.names) 0) (meant (body_scope s) t)
+      (map (meant (body_scope s)) ts) first (types_good ts known.1 has.1)
 
   -- what is written in one more statement keeps to what is declared
-  writes : (i : Statement Name WrittenType) → knows s i ≡ true → shapes_fit s i ≡ true → AreWritten s.names s.structs (s.points ++ statement_meant s i ∷ [])
+  writes : (i : Statement Name WrittenType) → knows s i ≡ true → shapes_fit s i ≡ true
+      → AreWritten s.names s.structs (s.points ++ statement_meant s i ∷ [])
   writes i known fit =
       let j = statement_meant s i in
-      let names = three (are_declared s (variables_written i)) (list_all (is_among s.names) (regions_written i)) (list_all (is_known (body_scope s)) (types_written i)) known in
-      let args = and_parts (list_all (has_arguments (body_scope s)) (types_written i)) (types_agree s.structs s.variables j) fit in
+      let names =
+      three (are_declared s (variables_written i)) (list_all (is_among s.names) (regions_written i))
+      (list_all (is_known (body_scope s)) (types_written i)) known in
+      let args =
+      and_parts (list_all (has_arguments (body_scope s)) (types_written i))
+      (types_agree s.structs s.variables j) fit in
       record {
         regions = λ p r k at h. ⊎_elim
             (λ old. w.written.regions p r k old h)
-            (λ new. All-contains (λ q. q < length s.names) (map (number_of s.names) (regions_written i)) r (numbers_below s.names (regions_written i) names.1)
-            (subst (λ (rs : List ℕ). Contains rs r) (ap regions_written new.1 ∙ regions_mapped (number_of s.names) (meant (body_scope s)) i) h))
+            (λ new. All-contains (λ q. q < length s.names) (map (number_of s.names) (regions_written i)) r
+            (numbers_below s.names (regions_written i) names.1)
+            (subst (λ (rs : List ℕ). Contains rs r)
+            (ap regions_written new.1 ∙ regions_mapped (number_of s.names) (meant (body_scope s)) i) h))
             (pushed_at s.points j p k at);
         types = λ p t k at h. ⊎_elim
             (λ old. w.written.types p t k old h)
-            (λ new. All-contains (IsWellFormed s.structs (length s.names) 0) (map (meant (body_scope s)) (types_written i)) t (types_good (types_written i) names.2 args.0)
-            (subst (λ (ts : List TypeTree). Contains ts t) (ap types_written new.1 ∙ types_mapped (number_of s.names) (meant (body_scope s)) i) h))
+            (λ new. All-contains (IsWellFormed s.structs (length s.names) 0)
+            (map (meant (body_scope s)) (types_written i)) t (types_good (types_written i) names.2 args.0)
+            (subst (λ (ts : List TypeTree). Contains ts t)
+            (ap types_written new.1 ∙ types_mapped (number_of s.names) (meant (body_scope s)) i) h))
             (pushed_at s.points j p k at);
       }
 
@@ -471,7 +548,8 @@ module _ (s : Said) (w : IsWell s) where
       let no = faultless s (at_point i) e in
       let order = and_parts (is_in_body s) s.owes (in_order s (at_point i) e) in
       let few_points : length s.points < most_points = leb-false most_points (length s.points) no.points in
-      let few_edges : edge_count s.points + edges_from i ≤ most_edges = ltb-false most_edges (edge_count s.points + edges_from i) no.edges in
+      let few_edges : edge_count s.points + edges_from i ≤ most_edges =
+      ltb-false most_edges (edge_count s.points + edges_from i) no.edges in
       let at : 7 ≤ rank s.reached = (in_body s order.0).0 in
       record {
         asserted = w.asserted;
@@ -521,10 +599,12 @@ module _ (s : Said) (w : IsWell s) where
 
 -- ---- all lines
 
-well_push : (forms : List Form) (f : Form) → first_fault (said forms) f ≡ None → IsWell (said forms) → IsWell (said (forms ++ f ∷ []))
+well_push : (forms : List Form) (f : Form) → first_fault (said forms) f ≡ None → IsWell (said forms)
+    → IsWell (said (forms ++ f ∷ []))
 well_push forms f fine w = subst IsWell (sym (said_push forms f fine)) (well_says (said forms) w f fine)
 
-well_said : (v : Version) (lines : List (List ℕ)) (forms : List Form) → Says (mir v) [] lines forms → IsWell (said forms)
+well_said : (v : Version) (lines : List (List ℕ)) (forms : List Form) → Says (mir v) [] lines forms
+    → IsWell (said forms)
 well_said v lines forms h = behind_all (λ fs. IsWell (said fs)) well_push v [] lines forms h well_nothing
 
 -- ---- the body
@@ -567,6 +647,7 @@ module _ (s : Said) (w : IsWell s) (at_end : rank s.reached ≡ 9) where
       }
 
 -- the body that a text that fits says is sound
-pub sound_text : (v : Version) (text : List ℕ) (forms : List Form) → IsText (mir v) text forms → IsSound (body_said (said forms))
+pub sound_text : (v : Version) (text : List ℕ) (forms : List Form) → IsText (mir v) text forms
+    → IsSound (body_said (said forms))
 sound_text v text forms fits =
     sound_said (said forms) (well_said v fits.body forms fits.fine) (reached_at_end forms fits.ended)

@@ -38,10 +38,12 @@ and_false true = refl
 and_false false = refl
 
 -- of these one doesn't pass
-pub one_false : {X : Type 0} (p : X → Bool) (xs : List X) (k : ℕ) (x : X) → k < length xs → x ≡ get_or xs k x → p x ≡ false → list_all p xs ≡ false
+pub one_false : {X : Type 0} (p : X → Bool) (xs : List X) (k : ℕ) (x : X) → k < length xs → x ≡ get_or xs k x
+    → p x ≡ false → list_all p xs ≡ false
 one_false p [] k x within at none = absurd (omega (arith, within))
 one_false p (y ∷ xs) zero x within at none = ap (λ z. p z && list_all p xs) (sym at) ∙ ap (λ b. b && list_all p xs) none
-one_false p (y ∷ xs) (suc k) x within at none = ap (λ b. p y && b) (one_false p xs k x (omega (arith, within)) at none) ∙ and_false (p y)
+one_false p (y ∷ xs) (suc k) x within at none = ap (λ b. p y && b) (one_false p xs k x (omega (arith, within)) at none)
+    ∙ and_false (p y)
 
 -- ---- bounds
 
@@ -50,41 +52,56 @@ and_assoc true b c = refl
 and_assoc false b c = refl
 
 -- the names in bounds, one after another
-pub names_of_bounds : (names : List Name) (ws : List (Bor (List ℕ) × Bor (List ℕ))) → list_all (is_bound names) ws ≡ list_all (is_among names) (map (λ r. r.now) (flat_map (λ w. w.0 ∷ w.1 ∷ []) ws))
+pub names_of_bounds : (names : List Name) (ws : List (Bor (List ℕ) × Bor (List ℕ)))
+    → list_all (is_bound names) ws ≡ list_all (is_among names) (map (λ r. r.now) (flat_map (λ w. w.0 ∷ w.1 ∷ []) ws))
 names_of_bounds names [] = refl
 names_of_bounds names (w ∷ ws) =
-    ap (λ b. is_bound names w && b) (names_of_bounds names ws) ∙ and_assoc (is_among names w.0.now) (is_among names w.1.now) _
+    ap (λ b. is_bound names w && b) (names_of_bounds names ws)
+    ∙ and_assoc (is_among names w.0.now) (is_among names w.1.now) _
 
 -- ---- variables of operands
 
 -- the variables of operands' places, one after another
-pub operands_are_within : (count : ℕ) (ops : List KeptOperand) → list_all (operand_within count) ops ≡ list_all (λ x. nat_lt x count) (map (λ p. p.variable) (flat_map place_in (map operand_of ops)))
+pub operands_are_within : (count : ℕ) (ops : List KeptOperand)
+    → list_all (operand_within count) ops
+    ≡ list_all (λ x. nat_lt x count) (map (λ p. p.variable) (flat_map place_in (map operand_of ops)))
 operands_are_within count [] = refl
 operands_are_within count (Const ∷ ops) = operands_are_within count ops
 operands_are_within count (Copy p ∷ ops) =
-    ap (λ b. operand_within count (Copy p) && b) (operands_are_within count ops) ∙ and_assoc (nat_lt (path_of p).variable count) true _
+    ap (λ b. operand_within count (Copy p) && b) (operands_are_within count ops)
+    ∙ and_assoc (nat_lt (path_of p).variable count) true _
 operands_are_within count (Move p ∷ ops) =
-    ap (λ b. operand_within count (Move p) && b) (operands_are_within count ops) ∙ and_assoc (nat_lt (path_of p).variable count) true _
+    ap (λ b. operand_within count (Move p) && b) (operands_are_within count ops)
+    ∙ and_assoc (nat_lt (path_of p).variable count) true _
 
 -- and of arguments of a call
-pub arguments_are_within : (count : ℕ) (args : List (KeptOperand × Resolved)) → list_all (argument_within count) args ≡ list_all (λ x. nat_lt x count) (map (λ p. p.variable) (flat_map place_in (operands_of (arguments_of args))))
+pub arguments_are_within : (count : ℕ) (args : List (KeptOperand × Resolved))
+    → list_all (argument_within count) args
+    ≡ list_all (λ x. nat_lt x count) (map (λ p. p.variable) (flat_map place_in (operands_of (arguments_of args))))
 arguments_are_within count [] = refl
 arguments_are_within count ((Const, t) ∷ args) = arguments_are_within count args
 arguments_are_within count ((Copy p, t) ∷ args) =
-    ap (λ b. operand_within count (Copy p) && b) (arguments_are_within count args) ∙ and_assoc (nat_lt (path_of p).variable count) true _
+    ap (λ b. operand_within count (Copy p) && b) (arguments_are_within count args)
+    ∙ and_assoc (nat_lt (path_of p).variable count) true _
 arguments_are_within count ((Move p, t) ∷ args) =
-    ap (λ b. operand_within count (Move p) && b) (arguments_are_within count args) ∙ and_assoc (nat_lt (path_of p).variable count) true _
+    ap (λ b. operand_within count (Move p) && b) (arguments_are_within count args)
+    ∙ and_assoc (nat_lt (path_of p).variable count) true _
 
 -- ---- types
 
 -- of a further type
-pub types_push : (old new : List Node) (ts : List Resolved) (t : Resolved) (before after : ShapedTypes) (shape : ℕ) → Extends old new → AreOfTypes old ts before → shape < length new → shape_in new shape ≡ shape_of (tree_of t)
-    → after.fit ≡ (before.fit && t.fits) → after.shapes.items ≡ before.shapes.items ++ shape ∷ [] → AreOfTypes new (ts ++ t ∷ []) after
+pub types_push : (old new : List Node) (ts : List Resolved) (t : Resolved) (before after : ShapedTypes) (shape : ℕ)
+    → Extends old new → AreOfTypes old ts before → shape < length new → shape_in new shape ≡ shape_of (tree_of t)
+    → after.fit ≡ (before.fit && t.fits) → after.shapes.items ≡ before.shapes.items ++ shape ∷ []
+    → AreOfTypes new (ts ++ t ∷ []) after
 types_push old new ts t before after shape e b within is fit shapes =
     let earlier = shapes_later old new before.shapes.items (map tree_of ts) e b.within b.same in
     record {
       fit = fit ∙ (ap (λ x. x && t.fits) b.fit ∙ sym (all_push (λ u. u.fits) ts t));
-      within = subst (λ is. AreBelow (length new) is) (sym shapes) (below_push (length new) shape before.shapes.items (below_later old new before.shapes.items e b.within) within);
+      within =
+          subst (λ is. AreBelow (length new) is) (sym shapes)
+          (below_push (length new) shape before.shapes.items
+          (below_later old new before.shapes.items e b.within) within);
       same = ap (map (shape_in new)) shapes
           ∙ (map_push (shape_in new) before.shapes.items shape
           ∙ (ap (λ xs. xs ++ shape_in new shape ∷ []) earlier
@@ -105,8 +122,13 @@ pub adds_none : (ns : List Node) (j : ShapedTypes) → AddsTypes [] ns j ns j
 adds_none ns j = record { beside = λ others h. subst (λ ts. AreOfTypes ns ts j) (sym (append-nil others)) h }
 
 -- these, and then those
-pub adds_then : (ts us : List Resolved) (a b c : List Node) (j k l : ShapedTypes) → AddsTypes ts a j b k → AddsTypes us b k c l → AddsTypes (ts ++ us) a j c l
-adds_then ts us a b c j k l f g = record { beside = λ others h. subst (λ vs. AreOfTypes c vs l) (append_assoc others ts us) (g.beside (others ++ ts) (f.beside others h)) }
+pub adds_then : (ts us : List Resolved) (a b c : List Node) (j k l : ShapedTypes) → AddsTypes ts a j b k
+    → AddsTypes us b k c l → AddsTypes (ts ++ us) a j c l
+adds_then ts us a b c j k l f g =
+    record {
+      beside = λ others h. subst (λ vs. AreOfTypes c vs l) (append_assoc others ts us)
+          (g.beside (others ++ ts) (f.beside others h));
+    }
 
 -- ---- variables
 
@@ -115,5 +137,6 @@ fused [] = refl
 fused (t ∷ ts) = ap (λ ss. shape_of (tree t) ∷ ss) (fused ts)
 
 -- the numbers of shapes are those of the variables' types, as the table grows
-pub have_shapes : (old new : List Node) (is : List ℕ) (ts : List Ty) → Extends old new → AreShapes old is ts → HaveShapes new is (map tree ts)
+pub have_shapes : (old new : List Node) (is : List ℕ) (ts : List Ty) → Extends old new → AreShapes old is ts
+    → HaveShapes new is (map tree ts)
 have_shapes old new is ts e h = shapes_later old new is (map tree ts) e h.below (h.same ∙ fused ts)

@@ -35,22 +35,41 @@ split : (k n : ℕ) → k < n + 1 → (P : Type 0) → (k < n → P) → (k ≡ 
 split k n h P low high = ⊎_elim low (λ l. high (omega arith)) (cases_lt k n)
 
 -- the kinds of one more struct's arguments
-pub kinds_pushed : (kinds : List (List Bool)) (structs : List Struct) (ks : List Bool) (d : Struct) → length kinds ≡ length structs → AreKinds kinds structs
-    → region_count ks ≡ length d.regions → other_count ks ≡ length d.types → AreKinds (kinds ++ ks ∷ []) (structs ++ d ∷ [])
+pub kinds_pushed : (kinds : List (List Bool)) (structs : List Struct) (ks : List Bool) (d : Struct)
+    → length kinds ≡ length structs → AreKinds kinds structs
+    → region_count ks ≡ length d.regions → other_count ks ≡ length d.types
+    → AreKinds (kinds ++ ks ∷ []) (structs ++ d ∷ [])
 kinds_pushed kinds structs ks d counted kept regions types = record {
   regions = λ n l. split n (length structs) (omega (arith, length-append structs (d ∷ []))) _
-      (λ low. rw (get_or_append_left kinds (ks ∷ []) [] n (omega (arith, low, counted)), get_or_append_left structs (d ∷ []) no_struct n low) (kept.regions n low))
-      (λ same. rw (get_or_at kinds ks [] [] n (counted ∙ sym same), get_or_at structs d [] no_struct n (sym same)) regions);
+      (λ low. rw (
+        get_or_append_left kinds (ks ∷ []) [] n (omega (arith, low, counted)),
+        get_or_append_left structs (d ∷ []) no_struct n low,
+      ) (kept.regions n low))
+      (λ same. rw (get_or_at kinds ks [] [] n (counted ∙ sym same), get_or_at structs d [] no_struct n (sym same))
+      regions);
   types = λ n l. split n (length structs) (omega (arith, length-append structs (d ∷ []))) _
-      (λ low. rw (get_or_append_left kinds (ks ∷ []) [] n (omega (arith, low, counted)), get_or_append_left structs (d ∷ []) no_struct n low) (kept.types n low))
-      (λ same. rw (get_or_at kinds ks [] [] n (counted ∙ sym same), get_or_at structs d [] no_struct n (sym same)) types);
+      (λ low. rw (
+        get_or_append_left kinds (ks ∷ []) [] n (omega (arith, low, counted)),
+        get_or_append_left structs (d ∷ []) no_struct n low,
+      ) (kept.types n low))
+      (λ same. rw (get_or_at kinds ks [] [] n (counted ∙ sym same), get_or_at structs d [] no_struct n (sym same))
+      types);
 }
 
 -- one more struct in order
-pub order_push : (structs : List Struct) (d : Struct) → AreInOrder structs → HasGoodFields structs d → AreInOrder (structs ++ d ∷ [])
+pub order_push : (structs : List Struct) (d : Struct) → AreInOrder structs → HasGoodFields structs d
+    → AreInOrder (structs ++ d ∷ [])
 order_push structs d order good s l = split s (length structs) (omega (arith, l, length-append structs (d ∷ []))) _
-    (λ low. rw (take-append-le s structs (d ∷ []) (omega (arith, low)), get_or_append_left structs (d ∷ []) no_struct s low) (order s low))
-    (λ same. rw (same, take-append-le (length structs) structs (d ∷ []) (omega arith), take-length structs, get_or_at structs d [] no_struct (length structs) refl) good)
+    (λ low. rw (
+      take-append-le s structs (d ∷ []) (omega (arith, low)),
+      get_or_append_left structs (d ∷ []) no_struct s low,
+    ) (order s low))
+    (λ same. rw (
+      same,
+      take-append-le (length structs) structs (d ∷ []) (omega arith),
+      take-length structs,
+      get_or_at structs d [] no_struct (length structs) refl,
+    ) good)
 
 -- ---- a struct line with which nothing is wrong
 
@@ -69,10 +88,13 @@ pub record IsFine (s : Said) (n : Name) (ps : List WrittenParameter) (fields : W
   pub has : have_arguments (field_scope s ps) fields ≡ true
   pub few : length s.structs < most_structs
 
-pub struct_fine : (s : Said) (n : Name) (ps : List WrittenParameter) (has_drop : Bool) (fields : WrittenTypes) → first_fault s (struct_line n ps has_drop fields) ≡ None → IsFine s n ps fields
+pub struct_fine : (s : Said) (n : Name) (ps : List WrittenParameter) (has_drop : Bool) (fields : WrittenTypes)
+    → first_fault s (struct_line n ps has_drop fields) ≡ None → IsFine s n ps fields
 struct_fine s n ps has_drop fields e =
     let no = faultless s (struct_line n ps has_drop fields) e in
-    let once = four (is_among s.struct_names n) (has_repeats (region_names ps)) (has_repeats (type_names ps)) (list_any (is_among (n ∷ s.struct_names)) (type_names ps)) no.duplicate in
+    let once =
+    four (is_among s.struct_names n) (has_repeats (region_names ps)) (has_repeats (type_names ps))
+    (list_any (is_among (n ∷ s.struct_names)) (type_names ps)) no.duplicate in
     record {
       known = not-false (are_known (field_scope s ps) fields) no.unknown;
       new = once.0;
@@ -83,29 +105,38 @@ struct_fine s n ps has_drop fields e =
     }
 
 -- no name of its own stands twice in a struct line that declares none again
-pub once_each : (s : Said) (n : Name) (ps : List WrittenParameter) → redeclares s n ps ≡ false → (has_repeats (region_names ps) ≡ false) × (has_repeats (type_names ps) ≡ false)
+pub once_each : (s : Said) (n : Name) (ps : List WrittenParameter) → redeclares s n ps ≡ false
+    → (has_repeats (region_names ps) ≡ false) × (has_repeats (type_names ps) ≡ false)
 once_each s n ps once =
-    let parts = four (is_among s.struct_names n) (has_repeats (region_names ps)) (has_repeats (type_names ps)) (list_any (is_among (n ∷ s.struct_names)) (type_names ps)) once in (parts.1, parts.2)
+    let parts =
+    four (is_among s.struct_names n) (has_repeats (region_names ps)) (has_repeats (type_names ps))
+    (list_any (is_among (n ∷ s.struct_names)) (type_names ps)) once in (parts.1, parts.2)
 
 -- ---- the first fault of a struct line that stands in order
 
-module _ (s : Said) (n : Name) (ps : List WrittenParameter) (has_drop : Bool) (fields : WrittenTypes) (order : is_in_order s (struct_line n ps has_drop fields) ≡ true) where
-  pub struct_unknown : are_known (field_scope s ps) fields ≡ false → first_fault s (struct_line n ps has_drop fields) ≡ Some Unknown
+module _ (s : Said) (n : Name) (ps : List WrittenParameter) (has_drop : Bool) (fields : WrittenTypes)
+    (order : is_in_order s (struct_line n ps has_drop fields) ≡ true) where
+  pub struct_unknown : are_known (field_scope s ps) fields ≡ false
+      → first_fault s (struct_line n ps has_drop fields) ≡ Some Unknown
   struct_unknown known = rw (order, known) refl
 
-  pub struct_duplicate : are_known (field_scope s ps) fields ≡ true → redeclares s n ps ≡ true → first_fault s (struct_line n ps has_drop fields) ≡ Some Duplicate
+  pub struct_duplicate : are_known (field_scope s ps) fields ≡ true → redeclares s n ps ≡ true
+      → first_fault s (struct_line n ps has_drop fields) ≡ Some Duplicate
   struct_duplicate known again = rw (order, known, again) refl
 
   module _ (known : are_known (field_scope s ps) fields ≡ true) (once : redeclares s n ps ≡ false) where
-    pub struct_unfit : have_arguments (field_scope s ps) fields ≡ false → first_fault s (struct_line n ps has_drop fields) ≡ Some Shape
+    pub struct_unfit : have_arguments (field_scope s ps) fields ≡ false
+        → first_fault s (struct_line n ps has_drop fields) ≡ Some Shape
     struct_unfit fit = rw (order, known, once, fit) refl
 
     module _ (fit : have_arguments (field_scope s ps) fields ≡ true) where
-      pub struct_too_large : are_small (all_meant (field_scope s ps) fields) ≡ false → first_fault s (struct_line n ps has_drop fields) ≡ Some TypeSize
+      pub struct_too_large : are_small (all_meant (field_scope s ps) fields) ≡ false
+          → first_fault s (struct_line n ps has_drop fields) ≡ Some TypeSize
       struct_too_large small = rw (order, known, once, fit, small) refl
 
       module _ (small : are_small (all_meant (field_scope s ps) fields) ≡ true) where
-        pub too_many_structs : most_structs ≤ length s.structs → first_fault s (struct_line n ps has_drop fields) ≡ Some (Limit Structs)
+        pub too_many_structs : most_structs ≤ length s.structs
+            → first_fault s (struct_line n ps has_drop fields) ≡ Some (Limit Structs)
         too_many_structs many = rw (order, known, once, fit, small, le-leb _ _ many) refl
 
         pub no_struct_fault : length s.structs < most_structs → first_fault s (struct_line n ps has_drop fields) ≡ None
@@ -122,12 +153,16 @@ module _ (s : Said) (ps : List WrittenParameter) (has_drop : Bool) (fields : Wri
   types_declared = types_counted ps ∙ sym (length-map (types_in ps) (λ p. p.1))
 
   -- the fields keep to what is declared, where their names are known and have arguments
-  pub good_fields : AreKinds s.kinds s.structs → length s.struct_names ≡ length s.structs → are_known (field_scope s ps) fields ≡ true → have_arguments (field_scope s ps) fields ≡ true → HasGoodFields s.structs (declared s ps has_drop fields)
+  pub good_fields : AreKinds s.kinds s.structs → length s.struct_names ≡ length s.structs
+      → are_known (field_scope s ps) fields ≡ true → have_arguments (field_scope s ps) fields ≡ true
+      → HasGoodFields s.structs (declared s ps has_drop fields)
   good_fields kinds named known has =
       let good = all_well_formed (field_scope s ps) s.structs kinds named fields known has in
       let regions : length (field_scope s ps).regions ≡ length (declared s ps has_drop fields).regions + 1 =
       omega (arith, length-map (regions_in ps) (λ p. p.0), length-map (regions_in ps) (λ p. p.1)) in
       let types : length (field_scope s ps).parameters ≡ length (declared s ps has_drop fields).types =
       length-map (types_in ps) (λ p. p.0) ∙ sym (length-map (types_in ps) (λ p. p.1)) in
-      subst (λ (n : ℕ). AreWellFormed s.structs (length (declared s ps has_drop fields).regions + 1) n (declared s ps has_drop fields).fields) types
-      (subst (λ (n : ℕ). AreWellFormed s.structs n (length (field_scope s ps).parameters) (declared s ps has_drop fields).fields) regions good)
+      subst (λ (n : ℕ). AreWellFormed s.structs (length (declared s ps has_drop fields).regions + 1) n
+      (declared s ps has_drop fields).fields) types
+      (subst (λ (n : ℕ). AreWellFormed s.structs n (length (field_scope s ps).parameters)
+      (declared s ps has_drop fields).fields) regions good)

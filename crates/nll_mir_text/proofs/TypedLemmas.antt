@@ -36,8 +36,10 @@ record IsTyped (s : Said) : Type 0 where
   fields : All HasSmallFields s.structs
   variables : All IsSmall s.variables
   none_yet : rank s.reached < 8 → length s.points ≡ 0
-  agree : (p : ℕ) (i : Statement ℕ TypeTree) → slice_get s.points p ≡ Some i → types_agree s.structs s.variables i ≡ true
-  small : (p : ℕ) (i : Statement ℕ TypeTree) → slice_get s.points p ≡ Some i → types_are_small s.structs s.variables i ≡ true
+  agree : (p : ℕ) (i : Statement ℕ TypeTree) → slice_get s.points p ≡ Some i
+      → types_agree s.structs s.variables i ≡ true
+  small : (p : ℕ) (i : Statement ℕ TypeTree) → slice_get s.points p ≡ Some i
+      → types_are_small s.structs s.variables i ≡ true
 
 typed_nothing : IsTyped nothing_said
 typed_nothing = record {
@@ -100,10 +102,12 @@ module _ (s : Said) (w : IsTyped s) where
         small = w.small;
       }
 
-  typed_struct : (n : Name) (ps : List WrittenParameter) (has_drop : Bool) (fields : WrittenTypes) → first_fault s (struct_line n ps has_drop fields) ≡ None → IsTyped (says s (struct_line n ps has_drop fields))
+  typed_struct : (n : Name) (ps : List WrittenParameter) (has_drop : Bool) (fields : WrittenTypes)
+      → first_fault s (struct_line n ps has_drop fields) ≡ None → IsTyped (says s (struct_line n ps has_drop fields))
   typed_struct n ps has_drop fields e =
       let no = faultless s (struct_line n ps has_drop fields) e in
-      let le : rank s.reached ≤ 5 = (follows s (struct_line n ps has_drop fields) (in_order s (struct_line n ps has_drop fields) e)).0 in
+      let le : rank s.reached ≤ 5 =
+      (follows s (struct_line n ps has_drop fields) (in_order s (struct_line n ps has_drop fields) e)).0 in
       let few : length s.structs < most_structs = leb-false most_structs (length s.structs) no.structs in
       let none : length s.points ≡ 0 = w.none_yet (omega (arith, le)) in
       let more = declared s ps has_drop fields in
@@ -157,7 +161,9 @@ module _ (s : Said) (w : IsTyped s) where
       let no = faultless s (at_point i) e in
       let j = statement_meant s i in
       let fit : shapes_fit s i ≡ true = not-false (shapes_fit s i) no.shape in
-      let agrees : types_agree s.structs s.variables j ≡ true = (and_parts (list_all (has_arguments (body_scope s)) (types_written i)) (types_agree s.structs s.variables j) fit).1 in
+      let agrees : types_agree s.structs s.variables j ≡ true =
+      (and_parts (list_all (has_arguments (body_scope s)) (types_written i))
+      (types_agree s.structs s.variables j) fit).1 in
       let keeps : types_are_small s.structs s.variables j ≡ true = not-false _ no.size in
       record {
         few_structs = w.few_structs;
@@ -196,10 +202,12 @@ module _ (s : Said) (w : IsTyped s) where
 
 -- ---- all lines
 
-typed_push : (forms : List Form) (f : Form) → first_fault (said forms) f ≡ None → IsTyped (said forms) → IsTyped (said (forms ++ f ∷ []))
+typed_push : (forms : List Form) (f : Form) → first_fault (said forms) f ≡ None → IsTyped (said forms)
+    → IsTyped (said (forms ++ f ∷ []))
 typed_push forms f fine w = subst IsTyped (sym (said_push forms f fine)) (typed_says (said forms) w f fine)
 
-typed_said : (v : Version) (lines : List (List ℕ)) (forms : List Form) → Says (mir v) [] lines forms → IsTyped (said forms)
+typed_said : (v : Version) (lines : List (List ℕ)) (forms : List Form) → Says (mir v) [] lines forms
+    → IsTyped (said forms)
 typed_said v lines forms h = behind_all (λ fs. IsTyped (said fs)) typed_push v [] lines forms h typed_nothing
 
 typed_body : (s : Said) → IsTyped s → IsWellTyped (body_said s)
@@ -212,5 +220,6 @@ typed_body s w = record {
 }
 
 -- the body that a text that fits says is well typed
-pub typed_text : (v : Version) (text : List ℕ) (forms : List Form) → IsText (mir v) text forms → IsWellTyped (body_said (said forms))
+pub typed_text : (v : Version) (text : List ℕ) (forms : List Form) → IsText (mir v) text forms
+    → IsWellTyped (body_said (said forms))
 typed_text v text forms fits = typed_body (said forms) (typed_said v fits.body forms fits.fine)

@@ -32,7 +32,8 @@ module _ (s : Said) (x : ℕ) (t : WrittenType) (order : is_in_order s (variable
         type_too_large small = rw (order, known, next, fit, small) refl
 
         module _ (small : is_small (meant (body_scope s) t) ≡ true) where
-          pub too_many_variables : most_variables ≤ length s.variables → first_fault s (variable x t) ≡ Some (Limit Variables)
+          pub too_many_variables : most_variables ≤ length s.variables
+              → first_fault s (variable x t) ≡ Some (Limit Variables)
           too_many_variables many = rw (order, known, next, fit, small, le-leb _ _ many) refl
 
           pub variable_fine : length s.variables < most_variables → first_fault s (variable x t) ≡ None

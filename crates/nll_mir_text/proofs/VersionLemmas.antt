@@ -23,7 +23,8 @@ pub one_form : (line : List ℕ) (f g : Form) → HasForm line f → HasForm lin
 one_form line f g h k =
     one_form_lem k.0 f g (subst (λ (ts : List Token). IsSpelled ts f) (one_token_list_lem line h.0 k.0 h.1 k.1) h.2) k.2
 
-pub one_form_in : (version : Version) (line : List ℕ) (f g : Form) → HasFormIn version line f → HasFormIn version line g → f ≡ g
+pub one_form_in : (version : Version) (line : List ℕ) (f g : Form) → HasFormIn version line f → HasFormIn version line g
+    → f ≡ g
 one_form_in version line f g h k = one_form line f g h.0 k.0
 
 -- ---- a text has one version
@@ -34,14 +35,17 @@ headers_apart line f s =
     let n : 49 ≡ 50 = ap (λ (l : List ℕ). get_or l 0 0) e in
     absurd (omega (arith, n))
 
-first_line : (text : List ℕ) (one other : List ℕ) (b c : List (List ℕ)) → IsCut text one b → IsCut text other c → one ≡ other
+first_line : (text : List ℕ) (one other : List ℕ) (b c : List (List ℕ)) → IsCut text one b → IsCut text other c
+    → one ≡ other
 first_line text one other b c h k = (let e = sym h.cut ∙ k.cut in cc)
 
 pub not_second : (text : List ℕ) (b c : List (List ℕ)) → IsHeaded (mir First) text b → IsHeaded (mir Second) text c → ⊥
 not_second text b c h k =
-    headers_apart k.header (subst (λ l. IsHeader (mir First) l) (first_line text h.header k.header b c h.cut k.cut) h.is_header) k.is_header
+    headers_apart k.header (subst (λ l. IsHeader (mir First) l)
+    (first_line text h.header k.header b c h.cut k.cut) h.is_header) k.is_header
 
-pub of_headed : (version : Version) (text : List ℕ) (body : List (List ℕ)) → IsHeaded (mir version) text body → IsOfVersion text version
+pub of_headed : (version : Version) (text : List ℕ) (body : List (List ℕ)) → IsHeaded (mir version) text body
+    → IsOfVersion text version
 of_headed First text body h = λ c k. not_second text body c h k
 of_headed Second text body h = (body, h)
 
@@ -52,7 +56,8 @@ one_version text Second First h k = absurd (k h.0 h.1)
 one_version text Second Second h k = refl
 
 -- where the line is the header of neither, it is that of none
-pub no_version : (line : List ℕ) → (IsHeader (mir First) line → ⊥) → (IsHeader (mir Second) line → ⊥) → (v : Version) → IsHeader (mir v) line → ⊥
+pub no_version : (line : List ℕ) → (IsHeader (mir First) line → ⊥) → (IsHeader (mir Second) line → ⊥) → (v : Version)
+    → IsHeader (mir v) line → ⊥
 no_version line a b First h = a h
 no_version line a b Second h = b h
 
@@ -61,12 +66,17 @@ no_version line a b Second h = b h
 pub too_long_for_mir : (text : List ℕ) → most_bytes < length text → IsMirFault text 1 (Limit Text)
 too_long_for_mir text long = (First, (λ body k. absurd (omega (arith, k.cut.short, long))), too_long long)
 
-pub refused_in : (version : Version) (text : List ℕ) (body : List (List ℕ)) (error : TextError) → IsHeaded (mir version) text body → IsRefusal (IsFault (mir version) text) error → IsRefusal (IsMirFault text) error
-refused_in version text body error headed refused = ⊎_elim inl (λ f. inr (version, of_headed version text body headed, f)) refused
+pub refused_in : (version : Version) (text : List ℕ) (body : List (List ℕ)) (error : TextError)
+    → IsHeaded (mir version) text body → IsRefusal (IsFault (mir version) text) error
+    → IsRefusal (IsMirFault text) error
+refused_in version text body error headed refused =
+    ⊎_elim inl (λ f. inr (version, of_headed version text body headed, f)) refused
 
 -- the first line is the header of no version
-pub refused_at_header : (text header : List ℕ) (body : List (List ℕ)) (error : TextError) → IsCut text header body → ((v : Version) → IsHeaderFault (mir v) header error) → IsRefusal (IsMirFault text) error
-refused_at_header text header body error cut wrong = ⊎_elim inl (λ f. inr (First, other, f)) (header_refused (mir First) _ _ _ _ cut (wrong First))
+pub refused_at_header : (text header : List ℕ) (body : List (List ℕ)) (error : TextError) → IsCut text header body
+    → ((v : Version) → IsHeaderFault (mir v) header error) → IsRefusal (IsMirFault text) error
+refused_at_header text header body error cut wrong =
+    ⊎_elim inl (λ f. inr (First, other, f)) (header_refused (mir First) _ _ _ _ cut (wrong First))
   where
     other : (b : List (List ℕ)) → IsHeaded (mir Second) text b → ⊥
     other b k =

@@ -18,7 +18,8 @@ use Rattle.nll_model.specs.State.{Lane, empty_lane, Seat, State, lane_to, IsAt}
 use Rattle.nll_model.specs.Soundness.{held, under_way, IsSoundSeat, IsSoundState, AreRanksLow}
 use Rattle.nll_model.proofs.SoundLemmas.{get_within}
 
-sum_le : {X : Type 0} (f : X → ℕ) (m : ℕ) (d : X) (xs : List X) → ((j : ℕ) → j < length xs → f (get_or xs j d) ≤ m) → sum_by f xs ≤ length xs * m
+sum_le : {X : Type 0} (f : X → ℕ) (m : ℕ) (d : X) (xs : List X) → ((j : ℕ) → j < length xs → f (get_or xs j d) ≤ m)
+    → sum_by f xs ≤ length xs * m
 sum_le f m d [] h = omega arith
 sum_le f m d (x ∷ xs) h =
     let a = h 0 (omega arith) in let b = sum_le f m d xs (λ j l. h (suc j) (omega arith)) in
@@ -31,22 +32,35 @@ held_le true Fresh = omega arith
 held_le true Owed = omega arith
 
 module _ (q : Problem) (c : Cut) (w : State) (sound : IsSoundState q c w) where
-  lane_small : (i : ℕ) (s : Seat) → IsAt w i s → (j : ℕ) → j < length s.lanes → length (lane_to s j).out + length (lane_to s j).box ≤ 2 ^ 37
+  lane_small : (i : ℕ) (s : Seat) → IsAt w i s → (j : ℕ) → j < length s.lanes
+      → length (lane_to s j).out + length (lane_to s j).box ≤ 2 ^ 37
   lane_small i s at j l = ⊎_elim
-      (λ same. (let none = ap (λ (x : Lane). length x.out + length x.box) (subst (λ k. lane_to s k ≡ empty_lane) (sym same) seat.own) in omega (arith, none)))
+      (λ same. (let none = ap (λ (x : Lane). length x.out + length x.box)
+      (subst (λ k. lane_to s k ≡ empty_lane) (sym same) seat.own) in omega (arith, none)))
       (λ differs.
       let t = get_within w.seats j (omega (arith, l, seat.count, sound.count)) in
       let way = ap length (sound.ways i j s t.0 (λ e. differs (sym e)) at t.1) in
       let box = (lane_to s j).box in let out = (lane_to s j).out in let fresh = (lane_to s j).fresh in
       let few = filter_le (λ (g : Growth). reads s.owner.problem s.owner.cut j g.region) s.owner.log in
-      omega (arith, way, length-append (received_from t.0.owner i) (box ++ (out ++ fresh)), length-append box (out ++ fresh), length-append out fresh, few, seat.sound.few, pair_small s.owner.problem seat.sound.problem))
+      omega (
+        arith,
+        way,
+        length-append (received_from t.0.owner i) (box ++ (out ++ fresh)),
+        length-append box (out ++ fresh),
+        length-append out fresh,
+        few,
+        seat.sound.few,
+        pair_small s.owner.problem seat.sound.problem,
+      ))
       (cases_eq j i)
     where
       seat : IsSoundSeat q c i s
       seat = sound.seats i s at
 
   pub limit : (i : ℕ) (s : Seat) → IsAt w i s → c.owners ≤ 64
-  limit i s at = (let seat = sound.seats i s at in let is = ap (λ (x : Cut). x.owners) seat.cut in omega (arith, is, seat.sound.cut.cut.owner_limit))
+  limit i s at =
+      (let seat = sound.seats i s at in let is = ap (λ (x : Cut). x.owners) seat.cut in
+      omega (arith, is, seat.sound.cut.cut.owner_limit))
 
   seat_small : (i : ℕ) (s : Seat) → IsAt w i s → under_way s ≤ 2 ^ 44
   seat_small i s at =
@@ -61,7 +75,11 @@ module _ (q : Problem) (c : Cut) (w : State) (sound : IsSoundState q c w) where
       go [] is = (let b = sound.balance in let n = ap (sum_by under_way) is in omega (arith, b, n))
       go (x ∷ xs) is =
           let at : IsAt w 0 x = ap (λ l. slice_get l 0) is in
-          let all = sum_le under_way (2 ^ 44) x w.seats (λ j l. let s = get_within w.seats j l in subst (λ (y : Seat). under_way y ≤ 2 ^ 44) (sym (get_or_from_slice_get w.seats j s.0 x s.1)) (seat_small j s.0 s.1)) in
+          let all =
+          sum_le under_way (2 ^ 44) x w.seats
+          (λ j l. let s = get_within w.seats j l in
+          subst (λ (y : Seat). under_way y ≤ 2 ^ 44) (sym (get_or_from_slice_get w.seats j s.0 x s.1))
+          (seat_small j s.0 s.1)) in
           omega (arith, all, sound.balance, sound.count, limit 0 x at)
 
   -- where an item is held, the balance isn't 0
@@ -77,18 +95,23 @@ module _ (q : Problem) (c : Cut) (w : State) (sound : IsSoundState q c w) where
       held_some false l = (let a = ap (λ x. held x s.item) l in omega (arith, a))
 
   -- the first growth of a box stands in the log of its sender, and may be told
-  first_from : (i j : ℕ) (s u : Seat) (g : Growth) (rest : List Growth) → i ≢ j → IsAt w i s → IsAt w j u → (lane_to u i).box ≡ g ∷ rest → Contains u.owner.log g × (reads u.owner.problem u.owner.cut i g.region ≡ true)
+  first_from : (i j : ℕ) (s u : Seat) (g : Growth) (rest : List Growth) → i ≢ j → IsAt w i s → IsAt w j u
+      → (lane_to u i).box ≡ g ∷ rest → Contains u.owner.log g × (reads u.owner.problem u.owner.cut i g.region ≡ true)
   first_from i j s u g rest differ at at_u first =
       let in_box = subst (λ xs. Contains xs g) (sym first) (contains_head g rest) in
       let in_lane = Contains-append_left (lane_to u i).box ((lane_to u i).out ++ (lane_to u i).fresh) g in_box in
-      let in_way = Contains-append_right (received_from s.owner j) ((lane_to u i).box ++ ((lane_to u i).out ++ (lane_to u i).fresh)) g in_lane in
+      let in_way =
+      Contains-append_right (received_from s.owner j)
+      ((lane_to u i).box ++ ((lane_to u i).out ++ (lane_to u i).fresh)) g in_lane in
       let in_part = subst (λ xs. Contains xs g) (sym (sound.ways j i u s (λ e. differ (sym e)) at_u at)) in_way in
       filter_from _ u.owner.log g in_part
 
-  pub first_logged : (i j : ℕ) (s u : Seat) (g : Growth) (rest : List Growth) → i ≢ j → IsAt w i s → IsAt w j u → (lane_to u i).box ≡ g ∷ rest → Contains u.owner.log g
+  pub first_logged : (i j : ℕ) (s u : Seat) (g : Growth) (rest : List Growth) → i ≢ j → IsAt w i s → IsAt w j u
+      → (lane_to u i).box ≡ g ∷ rest → Contains u.owner.log g
   first_logged i j s u g rest differ at at_u first = (first_from i j s u g rest differ at at_u first).0
 
-  pub first_passes : (i j : ℕ) (s u : Seat) (g : Growth) (rest : List Growth) → i ≢ j → IsAt w i s → IsAt w j u → AreRanksLow w → (lane_to u i).box ≡ g ∷ rest → Passes s.owner.problem s.owner.cut s.owner.me j g
+  pub first_passes : (i j : ℕ) (s u : Seat) (g : Growth) (rest : List Growth) → i ≢ j → IsAt w i s → IsAt w j u
+      → AreRanksLow w → (lane_to u i).box ≡ g ∷ rest → Passes s.owner.problem s.owner.cut s.owner.me j g
   first_passes i j s u g rest differ at at_u low first =
       let seat = sound.seats i s at in
       let giver = sound.seats j u at_u in
@@ -97,7 +120,9 @@ module _ (q : Problem) (c : Cut) (w : State) (sound : IsSoundState q c w) where
       let problem = giver.problem ∙ sym seat.problem in
       record {
         sender = subst (λ (x : Cut). owner_of x g.region ≡ j) cut (giver.sound.well_formed.own g from.0 ∙ giver.me);
-        read = subst (λ (x : Problem). reads x s.owner.cut s.owner.me g.region ≡ true) problem (subst (λ (x : Cut). reads u.owner.problem x s.owner.me g.region ≡ true) cut (subst (λ k. reads u.owner.problem u.owner.cut k g.region ≡ true) (sym seat.me) from.1));
+        read = subst (λ (x : Problem). reads x s.owner.cut s.owner.me g.region ≡ true) problem
+            (subst (λ (x : Cut). reads u.owner.problem x s.owner.me g.region ≡ true) cut
+            (subst (λ k. reads u.owner.problem u.owner.cut k g.region ≡ true) (sym seat.me) from.1));
         element = subst (λ (x : Problem). g.element < element_count x.graph) problem (giver.sound.elements g from.0);
         rank = low j u g at_u from.0;
       }

@@ -28,7 +28,8 @@ module _ (q : Problem) (c : Cut) (w : State) (orderly : IsOrderly q c w) where
       let few = (is i l).sound.cut.cut.owner_limit in
       let owners = ap (λ (d : Cut). d.owners) (is i l).cut in
       ranks_low (length w.seats) (λ k. (seat_of k).owner) (omega (arith, few, owners, orderly.count))
-      (λ k lk. (is k lk).sound) (λ k lk. ap (λ (d : Cut). d.owners) (is k lk).cut ∙ sym orderly.count) (λ k lk. (is k lk).me)
+      (λ k lk. (is k lk).sound) (λ k lk. ap (λ (d : Cut). d.owners) (is k lk).cut ∙ sym orderly.count)
+      (λ k lk. (is k lk).me)
       (λ a b f la lb differ told. orderly.heard a b (seat_of a) (seat_of b) f differ (at a la) (at b lb) told)
       i g l (subst (λ (x : Seat). Contains x.owner.log g) same h)
 

@@ -28,20 +28,29 @@ given_out old new is sound = record {
 }
 
 pub stays : (old new : Owner) → new ≡ old → IsSound old → GoesOn NoGrowth old new
-stays old new is sound = given_out old new (is ∙ ap (λ (o : Owner). record old { given = o.given }) (sym is)) (subst IsSound (sym is) sound)
+stays old new is sound =
+    given_out old new (is ∙ ap (λ (o : Owner). record old { given = o.given }) (sym is)) (subst IsSound (sym is) sound)
 
-pub goes_further : (came : ℕ → Growth → Type 0) (old now new : Owner) → GoesOn came old now → GoesOn NoGrowth now new → GoesOn came old new
+pub goes_further : (came : ℕ → Growth → Type 0) (old now new : Owner) → GoesOn came old now → GoesOn NoGrowth now new
+    → GoesOn came old new
 goes_further came old now new one two = record {
-  begins = (one.begins.0 ++ two.begins.0, two.begins.1 ∙ (ap (λ xs. xs ++ two.begins.0) one.begins.1 ∙ append_assoc old.log one.begins.0 two.begins.0));
+  begins = (
+    one.begins.0 ++ two.begins.0,
+    two.begins.1
+        ∙ (ap (λ xs. xs ++ two.begins.0) one.begins.1 ∙ append_assoc old.log one.begins.0 two.begins.0),
+  );
   problem = two.problem ∙ one.problem;
   cut = two.cut ∙ one.cut;
   me = two.me ∙ one.me;
   sound = two.sound;
-  heard = λ j g h. ⊎_elim (λ (x : Contains (received_from now j) g). one.heard j g x) (λ (x : NoGrowth j g). absurd x) (two.heard j g h);
+  heard = λ j g h. ⊎_elim (λ (x : Contains (received_from now j) g). one.heard j g x) (λ (x : NoGrowth j g). absurd x)
+      (two.heard j g h);
 }
 
 -- it was loaded, or that was refused
-pub loaded_on : (old new : Owner) → IsPrefix old.log new.log → new ≡ record old { log = new.log; clock = new.clock; loaded = new.loaded; broken = new.broken } → IsSound new → GoesOn NoGrowth old new
+pub loaded_on : (old new : Owner) → IsPrefix old.log new.log
+    → new ≡ record old { log = new.log; clock = new.clock; loaded = new.loaded; broken = new.broken } → IsSound new
+    → GoesOn NoGrowth old new
 loaded_on old new begins is sound = record {
   begins = begins;
   problem = ap (λ (o : Owner). o.problem) is;
@@ -52,22 +61,31 @@ loaded_on old new begins is sound = record {
 }
 
 -- it received a growth, or that was refused
-module _ (old new : Owner) (from : ℕ) (growth : Growth) (begins : IsPrefix old.log new.log) (is : new ≡ record old { log = new.log; received = new.received; clock = new.clock; broken = new.broken })
-    (perhaps : (new.received ≡ old.received) ⊎ (new.received ≡ with_growth old.received from growth)) (sound : IsSound new) where
-  in_lists : (j : ℕ) (g : Growth) → Contains (get_or (with_growth old.received from growth) j []) g → Contains (received_from old j) g ⊎ IsGrowthFrom from growth j g
+module _ (old new : Owner) (from : ℕ) (growth : Growth) (begins : IsPrefix old.log new.log)
+    (is : new ≡ record old { log = new.log; received = new.received; clock = new.clock; broken = new.broken })
+    (perhaps : (new.received ≡ old.received) ⊎ (new.received ≡ with_growth old.received from growth))
+    (sound : IsSound new) where
+  in_lists : (j : ℕ) (g : Growth) → Contains (get_or (with_growth old.received from growth) j []) g
+      → Contains (received_from old j) g ⊎ IsGrowthFrom from growth j g
   in_lists j g h = ⊎_elim
       (λ (same : j ≡ from). ⊎_elim
       (λ (within : from < length old.received).
-      let one = subst (λ xs. Contains xs g) (ap (λ k. get_or (with_growth old.received from growth) k []) same ∙ get_or-set_same old.received from (received_from old from ++ growth ∷ []) [] within) h in
+      let one =
+      subst (λ xs. Contains xs g) (ap (λ k. get_or (with_growth old.received from growth) k []) same
+      ∙ get_or-set_same old.received from (received_from old from ++ growth ∷ []) [] within) h in
       ⊎_elim
-      (λ (there : Contains (received_from old from) g). inl (subst (λ k. Contains (received_from old k) g) (sym same) there))
+      (λ (there : Contains (received_from old from) g).
+      inl (subst (λ k. Contains (received_from old k) g) (sym same) there))
       (λ (last : growth ≡ g). inr (same, sym last))
       (Contains-push_cases (received_from old from) growth g one))
       (λ (past : length old.received ≤ from).
-      let none = get_or_past (with_growth old.received from growth) j [] (omega (arith, past, same, length-set old.received from (received_from old from ++ growth ∷ []))) in
+      let none =
+      get_or_past (with_growth old.received from growth) j []
+      (omega (arith, past, same, length-set old.received from (received_from old from ++ growth ∷ []))) in
       absurd (let l = (subst (λ xs. Contains xs g) none h).1 in omega arith))
       (cases_lt from (length old.received)))
-      (λ (differs : j ≢ from). inl (subst (λ xs. Contains xs g) (get_or-set_other old.received from j (received_from old from ++ growth ∷ []) [] differs) h))
+      (λ (differs : j ≢ from). inl (subst (λ xs. Contains xs g)
+      (get_or-set_other old.received from j (received_from old from ++ growth ∷ []) [] differs) h))
       (cases_eq j from)
 
   pub received_on : GoesOn (IsGrowthFrom from growth) old new
@@ -78,14 +96,17 @@ module _ (old new : Owner) (from : ℕ) (growth : Growth) (begins : IsPrefix old
     me = ap (λ (o : Owner). o.me) is;
     sound = sound;
     heard = λ j g h. ⊎_elim
-        (λ (same : new.received ≡ old.received). inl (subst (λ (xs : List (List Growth)). Contains (get_or xs j []) g) same h))
-        (λ (more : new.received ≡ with_growth old.received from growth). in_lists j g (subst (λ (xs : List (List Growth)). Contains (get_or xs j []) g) more h))
+        (λ (same : new.received ≡ old.received).
+        inl (subst (λ (xs : List (List Growth)). Contains (get_or xs j []) g) same h))
+        (λ (more : new.received ≡ with_growth old.received from growth).
+        in_lists j g (subst (λ (xs : List (List Growth)). Contains (get_or xs j []) g) more h))
         perhaps;
   }
 
 -- ---- all owners
 
-module _ (q : Problem) (c : Cut) (w : State) (orderly : IsOrderly q c w) (i : ℕ) (s : Seat) (at : IsAt w i s) (t : Seat) (balance : ℕ) (came : ℕ → Growth → Type 0) (on : GoesOn came s.owner t.owner)
+module _ (q : Problem) (c : Cut) (w : State) (orderly : IsOrderly q c w) (i : ℕ) (s : Seat) (at : IsAt w i s) (t : Seat)
+    (balance : ℕ) (came : ℕ → Growth → Type 0) (on : GoesOn came s.owner t.owner)
     (from_log : (j : ℕ) (g : Growth) (u : Seat) → came j g → IsAt w j u → Contains u.owner.log g) where
   is_owner : IsOwner q c i t.owner
   is_owner = let old = orderly.owners i s at in record {
@@ -102,7 +123,8 @@ module _ (q : Problem) (c : Cut) (w : State) (orderly : IsOrderly q c w) (i : �
   orderly_then = record {
     count = length-set w.seats i t ∙ orderly.count;
     owners = λ k x h. ⊎_elim
-        (λ (p : (k ≡ i) × (x ≡ t)). subst (λ (y : Seat). IsOwner q c k y.owner) (sym p.1) (subst (λ m. IsOwner q c m t.owner) (sym p.0) is_owner))
+        (λ (p : (k ≡ i) × (x ≡ t)). subst (λ (y : Seat). IsOwner q c k y.owner) (sym p.1)
+        (subst (λ m. IsOwner q c m t.owner) (sym p.0) is_owner))
         (λ (p : (k ≢ i) × (slice_get w.seats k ≡ Some x)). orderly.owners k x p.1)
         (set_cases w.seats i t k x h);
     heard = λ a b x y g differ hx hy told. ⊎_elim
@@ -122,8 +144,11 @@ module _ (q : Problem) (c : Cut) (w : State) (orderly : IsOrderly q c w) (i : �
   }
 
 -- the same of a state that is seen by its parts, where no growth came
-pub orderly_after : (q : Problem) (c : Cut) (w v : State) (i : ℕ) (s t : Seat) (balance : ℕ) → v ≡ w → IsAt w i s → GoesOn NoGrowth s.owner t.owner → IsOrderly q c w → IsOrderly q c (record { seats = set v.seats i t; balance = balance })
-orderly_after q c w v i s t balance is at on orderly = subst (λ (x : State). IsOrderly q c (record { seats = set x.seats i t; balance = balance })) (sym is)
+pub orderly_after : (q : Problem) (c : Cut) (w v : State) (i : ℕ) (s t : Seat) (balance : ℕ) → v ≡ w → IsAt w i s
+    → GoesOn NoGrowth s.owner t.owner → IsOrderly q c w
+    → IsOrderly q c (record { seats = set v.seats i t; balance = balance })
+orderly_after q c w v i s t balance is at on orderly =
+    subst (λ (x : State). IsOrderly q c (record { seats = set x.seats i t; balance = balance })) (sym is)
     (orderly_then q c w orderly i s at t balance NoGrowth on (λ j g u came _. absurd came))
 
 -- ---- what is sound is orderly
@@ -131,7 +156,8 @@ orderly_after q c w v i s t balance is at on orderly = subst (λ (x : State). Is
 pub sound_is_orderly : (q : Problem) (c : Cut) (w : State) → IsSoundState q c w → IsOrderly q c w
 sound_is_orderly q c w sound = record {
   count = sound.count;
-  owners = λ i s at. let seat = sound.seats i s at in record { problem = seat.problem; cut = seat.cut; me = seat.me; sound = seat.sound };
+  owners = λ i s at. let seat = sound.seats i s at in
+      record { problem = seat.problem; cut = seat.cut; me = seat.me; sound = seat.sound };
   heard = λ i j s t g differ hs ht h.
       let told = Contains-append_left (received_from s.owner j) _ g h in
       let in_part = subst (λ xs. Contains xs g) (sym (sound.ways j i t s (λ e. differ (sym e)) ht hs)) told in

@@ -13,7 +13,9 @@ use Rattle.nll_model.proofs.EventLemmas.{same_at}
 use Rattle.nll_model.proofs.StateLemmas.{lanes_is}
 
 -- numbers of no two owners
-pub no_push : (q : Problem) (c : Cut) (w : State) → IsSoundState q c w → (i j : ℕ) (b : Bool) → (IsTrue b ↔ ((i ≢ j) × (i < length w.seats) × (j < length w.seats))) → b ≡ false → IsTrue false ↔ IsPossible w (Push i j)
+pub no_push : (q : Problem) (c : Cut) (w : State) → IsSoundState q c w → (i j : ℕ) (b : Bool)
+    → (IsTrue b ↔ ((i ≢ j) × (i < length w.seats) × (j < length w.seats))) → b ≡ false
+    → IsTrue false ↔ IsPossible w (Push i j)
 no_push q c w sound i j b two is = (
   (λ h. absurd (false≢true h)),
   (λ p.
@@ -21,16 +23,20 @@ no_push q c w sound i j b two is = (
       absurd (false≢true (sym is ∙ two.1 (p.1, within, omega (arith, p.3, lanes_is q c w sound i p.0 p.2))))),
 )
 
-pub may_push : (w : State) (i j : ℕ) (s : Seat) → i ≢ j → IsAt w i s → j < length s.lanes → (b : Bool) → (IsTrue b ↔ ((lane_to s j).out ≡ [])) → IsTrue (not b) ↔ IsPossible w (Push i j)
+pub may_push : (w : State) (i j : ℕ) (s : Seat) → i ≢ j → IsAt w i s → j < length s.lanes → (b : Bool)
+    → (IsTrue b ↔ ((lane_to s j).out ≡ [])) → IsTrue (not b) ↔ IsPossible w (Push i j)
 may_push w i j s differ at within true empty = (
   (λ h. absurd (false≢true h)),
   (λ p. absurd (p.4 (ap (λ (x : Seat). (lane_to x j).out) (same_at w.seats i p.0 s p.2 at) ∙ empty.0 refl))),
 )
-may_push w i j s differ at within false empty = ((λ h. (s, differ, at, within, λ e. false≢true (empty.1 e))), (λ p. refl))
+may_push w i j s differ at within false empty =
+    ((λ h. (s, differ, at, within, λ e. false≢true (empty.1 e))), (λ p. refl))
 
-pub may_take : (w : State) (i j : ℕ) (s u : Seat) → i ≢ j → IsAt w i s → IsFree s → IsAt w j u → (b : Bool) → (IsTrue b ↔ ((lane_to u i).box ≡ [])) → IsTrue (not b) ↔ IsPossible w (Take i j)
+pub may_take : (w : State) (i j : ℕ) (s u : Seat) → i ≢ j → IsAt w i s → IsFree s → IsAt w j u → (b : Bool)
+    → (IsTrue b ↔ ((lane_to u i).box ≡ [])) → IsTrue (not b) ↔ IsPossible w (Take i j)
 may_take w i j s u differ at free at_u true empty = (
   (λ h. absurd (false≢true h)),
   (λ p. absurd (p.6 (ap (λ (x : Seat). (lane_to x i).box) (same_at w.seats j p.1 u p.5 at_u) ∙ empty.0 refl))),
 )
-may_take w i j s u differ at free at_u false empty = ((λ h. (s, u, differ, at, free, at_u, λ e. false≢true (empty.1 e))), (λ p. refl))
+may_take w i j s u differ at free at_u false empty =
+    ((λ h. (s, u, differ, at, free, at_u, λ e. false≢true (empty.1 e))), (λ p. refl))

@@ -28,29 +28,39 @@ get_within [] i l = absurd (omega arith)
 get_within (x ∷ xs) zero l = (x, refl)
 get_within (x ∷ xs) (suc i) l = get_within xs i (omega arith)
 
-map_at : {X Y : Type 0} (f : X → Y) (xs : List X) (i : ℕ) (x : X) (d : Y) → slice_get xs i ≡ Some x → get_or (map f xs) i d ≡ f x
+map_at : {X Y : Type 0} (f : X → Y) (xs : List X) (i : ℕ) (x : X) (d : Y) → slice_get xs i ≡ Some x
+    → get_or (map f xs) i d ≡ f x
 map_at f [] i x d h = absurd (let l = slice_get_within [] i x h in omega arith)
 map_at f (y ∷ ys) zero x d h = ap f (get_or_from_slice_get (y ∷ ys) zero x y h)
 map_at f (y ∷ ys) (suc i) x d h = map_at f ys i x d h
 
 lane_is : (l : Lane) → l.fresh ≡ [] → l.out ≡ [] → l.box ≡ [] → l ≡ empty_lane
-lane_is l f o b = ap (λ x. record l { fresh = x }) f ∙ (ap (λ x. record l { fresh = []; out = x }) o ∙ ap (λ x. record l { fresh = []; out = []; box = x }) b)
+lane_is l f o b = ap (λ x. record l { fresh = x }) f
+    ∙ (ap (λ x. record l { fresh = []; out = x }) o ∙ ap (λ x. record l { fresh = []; out = []; box = x }) b)
 
 -- ---- one seat
 
 module _ (q : Problem) (c : Cut) (i : ℕ) (s : Seat) (sound : IsSoundSeat q c i s) where
   pub seat_well_formed : IsWellFormed c i s.owner.log
-  seat_well_formed = subst (λ x. IsWellFormed x i s.owner.log) sound.cut (subst (λ x. IsWellFormed s.owner.cut x s.owner.log) sound.me sound.sound.well_formed)
+  seat_well_formed =
+      subst (λ x. IsWellFormed x i s.owner.log) sound.cut
+      (subst (λ x. IsWellFormed s.owner.cut x s.owner.log) sound.me sound.sound.well_formed)
 
   seat_list : (b : ℕ) → list_in s.owner b ≡ list_of c i s.owner.log (received_from s.owner) b
-  seat_list b = ap (λ x. list_of x s.owner.me s.owner.log (received_from s.owner) b) sound.cut ∙ ap (λ x. list_of c x s.owner.log (received_from s.owner) b) sound.me
+  seat_list b = ap (λ x. list_of x s.owner.me s.owner.log (received_from s.owner) b) sound.cut
+      ∙ ap (λ x. list_of c x s.owner.log (received_from s.owner) b) sound.me
 
   seat_supported : IsWellSupported q (list_of c i s.owner.log (received_from s.owner)) s.owner.log
-  seat_supported = subst (λ x. IsWellSupported x (list_of c i s.owner.log (received_from s.owner)) s.owner.log) sound.problem
-      (supported_in s.owner.problem (list_in s.owner) (list_of c i s.owner.log (received_from s.owner)) (λ b g h. subst (λ xs. Contains xs g) (seat_list b) h) s.owner.log sound.sound.supported)
+  seat_supported =
+      subst (λ x. IsWellSupported x (list_of c i s.owner.log (received_from s.owner)) s.owner.log) sound.problem
+      (supported_in s.owner.problem (list_in s.owner) (list_of c i s.owner.log (received_from s.owner))
+      (λ b g h. subst (λ xs. Contains xs g) (seat_list b) h) s.owner.log sound.sound.supported)
 
   seat_saturated : IsDone s.owner → IsSaturated q c i (list_of c i s.owner.log (received_from s.owner))
-  seat_saturated done = subst (λ x. IsSaturated x c i list) sound.problem (subst (λ x. IsSaturated s.owner.problem x i list) sound.cut (subst (λ x. IsSaturated s.owner.problem s.owner.cut x list) sound.me here))
+  seat_saturated done =
+      subst (λ x. IsSaturated x c i list) sound.problem
+      (subst (λ x. IsSaturated s.owner.problem x i list) sound.cut
+      (subst (λ x. IsSaturated s.owner.problem s.owner.cut x list) sound.me here))
     where
       list : ℕ → List Growth
       list = list_of c i s.owner.log (received_from s.owner)
@@ -58,7 +68,9 @@ module _ (q : Problem) (c : Cut) (i : ℕ) (s : Seat) (sound : IsSoundSeat q c i
       here : IsSaturated s.owner.problem s.owner.cut s.owner.me (list_of c i s.owner.log (received_from s.owner))
       here = record {
         base = λ r e own b. subst (λ xs. IsTold xs r e) (seat_list r) (done.base r e own b);
-        each = λ k there own e h. subst (λ xs. IsTold xs k.sup e) (seat_list k.sup) (done.each k there own e (asked_weaker s.owner.problem.graph _ k.at _ (λ f t. subst (λ xs. IsTold xs k.sub f) (sym (seat_list k.sub)) t) e h));
+        each = λ k there own e h. subst (λ xs. IsTold xs k.sup e) (seat_list k.sup)
+            (done.each k there own e (asked_weaker s.owner.problem.graph _ k.at _
+            (λ f t. subst (λ xs. IsTold xs k.sub f) (sym (seat_list k.sub)) t) e h));
       }
 
   seat_part : (j : ℕ) → part_for s.owner j ≡ part q c j s.owner.log
@@ -86,20 +98,26 @@ module _ (q : Problem) (c : Cut) (w : State) (sound : IsSoundState q c w) where
   received_at : (i : ℕ) (s : Seat) → IsAt w i s → (j : ℕ) → received_of w i j ≡ received_from s.owner j
   received_at i s at j = ap (λ o. seat_received o j) at
 
-  list_at : (i : ℕ) (s : Seat) → IsAt w i s → (b : ℕ) → list_of c i (log_of (logs_of w) i) (received_of w i) b ≡ list_of c i s.owner.log (received_from s.owner) b
+  list_at : (i : ℕ) (s : Seat) → IsAt w i s → (b : ℕ)
+      → list_of c i (log_of (logs_of w) i) (received_of w i) b ≡ list_of c i s.owner.log (received_from s.owner) b
   list_at i s at b = ⊎_elim
-      (λ same. list_own c i (log_of (logs_of w) i) (received_of w i) b same ∙ (log_at i s at ∙ sym (list_own c i s.owner.log (received_from s.owner) b same)))
-      (λ other. list_other c i (log_of (logs_of w) i) (received_of w i) b other ∙ (received_at i s at (owner_of c b) ∙ sym (list_other c i s.owner.log (received_from s.owner) b other)))
+      (λ same. list_own c i (log_of (logs_of w) i) (received_of w i) b same
+      ∙ (log_at i s at ∙ sym (list_own c i s.owner.log (received_from s.owner) b same)))
+      (λ other. list_other c i (log_of (logs_of w) i) (received_of w i) b other
+      ∙ (received_at i s at (owner_of c b) ∙ sym (list_other c i s.owner.log (received_from s.owner) b other)))
       (cases_eq (owner_of c b) i)
 
   pub world_sound : AreSound q c (logs_of w) (received_of w)
   world_sound = record {
     counted = length-map w.seats (λ (s : Seat). s.owner.log) ∙ sound.count;
-    well_formed = λ i l. let s = seat_at i l in subst (IsWellFormed c i) (sym (log_at i s.0 s.1)) (seat_well_formed q c i s.0 (sound.seats i s.0 s.1));
+    well_formed = λ i l. let s = seat_at i l in
+        subst (IsWellFormed c i) (sym (log_at i s.0 s.1)) (seat_well_formed q c i s.0 (sound.seats i s.0 s.1));
     supported = λ i l.
         let s = seat_at i l in
         subst (IsWellSupported q (list_of c i (log_of (logs_of w) i) (received_of w i))) (sym (log_at i s.0 s.1))
-        (supported_in q _ (list_of c i (log_of (logs_of w) i) (received_of w i)) (λ b g h. subst (λ xs. Contains xs g) (sym (list_at i s.0 s.1 b)) h) s.0.owner.log (seat_supported q c i s.0 (sound.seats i s.0 s.1)));
+        (supported_in q _ (list_of c i (log_of (logs_of w) i) (received_of w i))
+        (λ b g h. subst (λ xs. Contains xs g) (sym (list_at i s.0 s.1 b)) h) s.0.owner.log
+        (seat_supported q c i s.0 (sound.seats i s.0 s.1)));
     heard = λ i j li lj differ g h.
         let s = seat_at i li in
         let t = seat_at j lj in
@@ -136,7 +154,9 @@ module _ (q : Problem) (c : Cut) (w : State) (sound : IsSoundState q c w) where
 
     lane_rest : (i : ℕ) (s : Seat) → IsAt w i s → (j : ℕ) → length (lane_to s j).out + length (lane_to s j).box ≡ 0
     lane_rest i s at j = ⊎_elim
-        (λ within. (let one = get_or-le-sum_by (λ (l : Lane). length l.out + length l.box) s.lanes j empty_lane within in let a = at_rest i s at in omega (arith, one, a)))
+        (λ within. (let one = get_or-le-sum_by
+        (λ (l : Lane). length l.out + length l.box) s.lanes j empty_lane within in let a = at_rest i s at in
+        omega (arith, one, a)))
         (λ past. ap (λ (l : Lane). length l.out + length l.box) (get_or_past s.lanes j empty_lane past))
         (cases_lt j (length s.lanes))
 
@@ -156,26 +176,35 @@ module _ (q : Problem) (c : Cut) (w : State) (sound : IsSoundState q c w) where
     world_settled = record {
       saturated = λ i l.
           let s = seat_at i l in
-          let f = seat_saturated q c i s.0 (sound.seats i s.0 s.1) ((sound.seats i s.0 s.1).done (resting i s.0 s.1).0) in
+          let f = seat_saturated q c i s.0 (sound.seats i s.0 s.1)
+          ((sound.seats i s.0 s.1).done (resting i s.0 s.1).0) in
           record {
             base = λ r e own b. subst (λ xs. IsTold xs r e) (sym (list_at i s.0 s.1 r)) (f.base r e own b);
-            each = λ k there own e h. subst (λ xs. IsTold xs k.sup e) (sym (list_at i s.0 s.1 k.sup)) (f.each k there own e (asked_weaker q.graph _ k.at _ (λ x t. subst (λ xs. IsTold xs k.sub x) (list_at i s.0 s.1 k.sub) t) e h));
+            each = λ k there own e h. subst (λ xs. IsTold xs k.sup e) (sym (list_at i s.0 s.1 k.sup))
+                (f.each k there own e (asked_weaker q.graph _ k.at _
+                (λ x t. subst (λ xs. IsTold xs k.sub x) (list_at i s.0 s.1 k.sub) t) e h));
           };
       told = λ i j li lj differ.
           let s = seat_at i li in
           let t = seat_at j lj in
           let way = sound.ways j i t.0 s.0 (λ x. differ (sym x)) t.1 s.1 in
           let lane = still j i t.0 t.1 in
-          let whole : part_for t.0.owner i ≡ received_from s.0.owner j = way ∙ (ap (λ (l : Lane). received_from s.0.owner j ++ (l.box ++ (l.out ++ l.fresh))) lane ∙ append-nil (received_from s.0.owner j)) in
-          received_at i s.0 s.1 j ∙ (sym whole ∙ (seat_part q c j t.0 (sound.seats j t.0 t.1) i ∙ ap (part q c i) (sym (log_at j t.0 t.1))));
+          let whole : part_for t.0.owner i ≡ received_from s.0.owner j = way
+          ∙ (ap (λ (l : Lane). received_from s.0.owner j ++ (l.box ++ (l.out ++ l.fresh))) lane
+          ∙ append-nil (received_from s.0.owner j)) in
+          received_at i s.0 s.1 j ∙ (sym whole
+          ∙ (seat_part q c j t.0 (sound.seats j t.0 t.1) i ∙ ap (part q c i) (sym (log_at j t.0 t.1))));
     }
 
     module _ (problem : IsSoundProblem q) (cut : IsCutOf q c) where
       says_from : (r e : ℕ) → IsTold (log_of (logs_of w) (owner_of c r)) r e → Says c w r e
       says_from r e h = ⊎_elim
-          (λ within. let s = get_within w.seats (owner_of c r) within in (s.0, s.1, subst (λ xs. IsTold xs r e) (log_at (owner_of c r) s.0 s.1) h))
+          (λ within. let s = get_within w.seats (owner_of c r) within in
+          (s.0, s.1, subst (λ xs. IsTold xs r e) (log_at (owner_of c r) s.0 s.1) h))
           (λ past.
-          let empty : log_of (logs_of w) (owner_of c r) ≡ [] = get_or_past (logs_of w) (owner_of c r) [] (omega (arith, past, length-map w.seats (λ (s : Seat). s.owner.log))) in
+          let empty : log_of (logs_of w) (owner_of c r) ≡ [] =
+          get_or_past (logs_of w) (owner_of c r) []
+          (omega (arith, past, length-map w.seats (λ (s : Seat). s.owner.log))) in
           absurd (let l = (subst (λ xs. IsTold xs r e) empty h).1.1 in omega arith))
           (cases_lt (owner_of c r) (length w.seats))
 
@@ -188,4 +217,6 @@ module _ (q : Problem) (c : Cut) (w : State) (sound : IsSoundState q c w) where
   said_least problem cut r e h =
       let s = said r e h in
       let l = slice_get_within w.seats (owner_of c r) h.0 h.1 in
-      subst (λ x. Least q x e) s.2 (subst (λ f. Least q s.0.region f) s.3 (each_least q c (logs_of w) (received_of w) problem cut world_sound (owner_of c r) s.0 (subst (λ n. owner_of c r < n) sound.count l) s.1))
+      subst (λ x. Least q x e) s.2 (subst (λ f. Least q s.0.region f) s.3
+      (each_least q c (logs_of w) (received_of w) problem cut world_sound (owner_of c r) s.0
+      (subst (λ n. owner_of c r < n) sound.count l) s.1))

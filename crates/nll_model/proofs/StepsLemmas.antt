@@ -26,9 +26,11 @@ all_at zero j x = refl
 all_at (suc n) zero x = refl
 all_at (suc n) (suc j) x = all_at n j x
 
-ones : {X : Type 0} (f : X → ℕ) (xs : List X) → ((j : ℕ) (x : X) → slice_get xs j ≡ Some x → f x ≡ 1) → sum_by f xs ≡ length xs
+ones : {X : Type 0} (f : X → ℕ) (xs : List X) → ((j : ℕ) (x : X) → slice_get xs j ≡ Some x → f x ≡ 1)
+    → sum_by f xs ≡ length xs
 ones f [] h = refl
-ones f (x ∷ xs) h = (let a = h 0 x refl in let b = ones f xs (λ j y p. h (suc j) y p) in omega (arith, a, b, sum_by-cons f x xs))
+ones f (x ∷ xs) h =
+    (let a = h 0 x refl in let b = ones f xs (λ j y p. h (suc j) y p) in omega (arith, a, b, sum_by-cons f x xs))
 
 module _ (q : Problem) (c : Cut) (i : ℕ) (problem : IsSoundProblem q) (cut : IsCutOf q c) (me : i < c.owners) where
   no_lane : (j : ℕ) → lane_to (first_seat q c i) j ≡ empty_lane
@@ -51,52 +53,77 @@ module _ (q : Problem) (c : Cut) (i : ℕ) (problem : IsSoundProblem q) (cut : I
 
 owing_none : (n : ℕ) → sum_by (λ (l : Lane). length l.out + length l.box) (replicate n empty_lane) ≡ 0
 owing_none zero = refl
-owing_none (suc n) = (let r = owing_none n in omega (arith, r, sum_by-cons (λ (l : Lane). length l.out + length l.box) empty_lane (replicate n empty_lane)))
+owing_none (suc n) =
+    (let r = owing_none n in omega (
+      arith,
+      r,
+      sum_by-cons (λ (l : Lane). length l.out + length l.box) empty_lane (replicate n empty_lane),
+    ))
 
-pub first_sound_state : (q : Problem) (c : Cut) (w : State) → IsSoundProblem q → IsCutOf q c → IsFirst q c w → IsSoundState q c w
+pub first_sound_state : (q : Problem) (c : Cut) (w : State) → IsSoundProblem q → IsCutOf q c → IsFirst q c w
+    → IsSoundState q c w
 first_sound_state q c w problem cut first = record {
   count = first.count;
-  seats = λ i s at. subst (IsSoundSeat q c i) (sym (first.each i s at)) (first_is_sound q c i problem cut (subst (λ n. i < n) first.count (slice_get_within w.seats i s at)));
+  seats = λ i s at. subst (IsSoundSeat q c i) (sym (first.each i s at))
+      (first_is_sound q c i problem cut (subst (λ n. i < n) first.count (slice_get_within w.seats i s at)));
   ways = λ i j s t differ hs ht.
-      subst (λ (x : Seat). part_for x.owner j ≡ received_from t.owner i ++ ((lane_to x j).box ++ ((lane_to x j).out ++ (lane_to x j).fresh))) (sym (first.each i s hs))
-      (subst (λ (x : Seat). [] ≡ received_from x.owner i ++ ((lane_to (first_seat q c i) j).box ++ ((lane_to (first_seat q c i) j).out ++ (lane_to (first_seat q c i) j).fresh))) (sym (first.each j t ht))
-      (sym (ap (λ xs. xs ++ ((lane_to (first_seat q c i) j).box ++ ((lane_to (first_seat q c i) j).out ++ (lane_to (first_seat q c i) j).fresh))) (all_at c.owners i [])
+      subst (λ (x : Seat). part_for x.owner j
+      ≡ received_from t.owner i ++ ((lane_to x j).box ++ ((lane_to x j).out ++ (lane_to x j).fresh)))
+      (sym (first.each i s hs))
+      (subst (λ (x : Seat). [] ≡ received_from x.owner i ++
+      ((lane_to (first_seat q c i) j).box ++
+      ((lane_to (first_seat q c i) j).out ++ (lane_to (first_seat q c i) j).fresh))) (sym (first.each j t ht))
+      (sym (ap (λ xs. xs ++ ((lane_to (first_seat q c i) j).box ++
+      ((lane_to (first_seat q c i) j).out ++ (lane_to (first_seat q c i) j).fresh))) (all_at c.owners i [])
       ∙ ap (λ (l : Lane). l.box ++ (l.out ++ l.fresh)) (all_at c.owners j empty_lane))));
   balance =
-      let each = ones under_way w.seats (λ j s at. ap under_way (first.each j s at) ∙ (let z = owing_none c.owners in omega (arith, z))) in
+      let each =
+      ones under_way w.seats (λ j s at. ap under_way (first.each j s at)
+      ∙ (let z = owing_none c.owners in omega (arith, z))) in
       omega (arith, each, first.balance, first.count);
 }
 
 -- ---- one event, and a run
 
-pub step_sound : (q : Problem) (c : Cut) (w new : State) (event : Event) (answer : Step) → IsSoundState q c w → Does w event answer new → IsSoundState q c new
+pub step_sound : (q : Problem) (c : Cut) (w new : State) (event : Event) (answer : Step) → IsSoundState q c w
+    → Does w event answer new → IsSoundState q c new
 step_sound q c w new (Load i) Done sound h =
-    subst (IsSoundState q c) (sym h.6) (load q c w sound i h.0 h.2 h.1 h.4 ((sound.seats i h.0 h.2).unloaded h.3) h.3 h.5)
+    subst (IsSoundState q c) (sym h.6) (load q c w sound i h.0 h.2 h.1 h.4
+    ((sound.seats i h.0 h.2).unloaded h.3) h.3 h.5)
 step_sound q c w new (Load i) Quiet sound h = absurd h
 step_sound q c w new (Load i) Open sound h = absurd h
-step_sound q c w new (Take i j) Done sound (s, t, u, g, rest, differ, at, loaded, idle, stays, at_u, first, turns, same, is) =
+step_sound q c w new (Take i j) Done sound
+    (s, t, u, g, rest, differ, at, loaded, idle, stays, at_u, first, turns, same, is) =
     subst (IsSoundState q c) (sym is) (take q c w sound i s at t turns idle j u g rest differ loaded at_u first same)
 step_sound q c w new (Take i j) Quiet sound h = absurd h
 step_sound q c w new (Take i j) Open sound h = absurd h
-step_sound q c w new (Owe i) Done sound (s, at, fresh, is) = subst (IsSoundState q c) (sym is) (owe q c w sound i s at fresh)
+step_sound q c w new (Owe i) Done sound (s, at, fresh, is) =
+    subst (IsSoundState q c) (sym is) (owe q c w sound i s at fresh)
 step_sound q c w new (Owe i) Quiet sound h = absurd h
 step_sound q c w new (Owe i) Open sound h = absurd h
-step_sound q c w new (Clear i) Done sound (s, at, owed, less, is) = subst (IsSoundState q c) (sym is) (clear q c w sound i s at new.balance owed less)
+step_sound q c w new (Clear i) Done sound (s, at, owed, less, is) =
+    subst (IsSoundState q c) (sym is) (clear q c w sound i s at new.balance owed less)
 step_sound q c w new (Clear i) Quiet sound h = absurd h
 step_sound q c w new (Clear i) Open sound h = absurd h
-step_sound q c w new (Push i j) Done sound (s, g, rest, differ, at, within, first, is) = subst (IsSoundState q c) (sym is) (push q c w sound i s at j g rest differ within first)
+step_sound q c w new (Push i j) Done sound (s, g, rest, differ, at, within, first, is) =
+    subst (IsSoundState q c) (sym is) (push q c w sound i s at j g rest differ within first)
 step_sound q c w new (Push i j) Quiet sound h = absurd h
 step_sound q c w new (Push i j) Open sound h = absurd h
 step_sound q c w new (Leave i) Done sound h = absurd h
-step_sound q c w new (Leave i) Quiet sound (s, at, none, loaded, idle, stays, outs, is) = subst (IsSoundState q c) (sym is) (leave q c w sound i s at)
-step_sound q c w new (Leave i) Open sound (s, at, some, loaded, idle, stays, outs, is) = subst (IsSoundState q c) (sym is) sound
+step_sound q c w new (Leave i) Quiet sound (s, at, none, loaded, idle, stays, outs, is) =
+    subst (IsSoundState q c) (sym is) (leave q c w sound i s at)
+step_sound q c w new (Leave i) Open sound (s, at, some, loaded, idle, stays, outs, is) =
+    subst (IsSoundState q c) (sym is) sound
 
-pub world_step_sound : (q : Problem) (c : Cut) (w new : State) (event : Event) (answer : Option Step) → IsSoundState q c w → IsStep w event answer new → IsSoundState q c new
+pub world_step_sound : (q : Problem) (c : Cut) (w new : State) (event : Event) (answer : Option Step)
+    → IsSoundState q c w → IsStep w event answer new → IsSoundState q c new
 world_step_sound q c w new event (Some answer) sound h = step_sound q c w new event answer sound h
 world_step_sound q c w new event None sound h = subst (IsSoundState q c) (sym h.1) sound
 
-pub steps_sound : (q : Problem) (c : Cut) (w last : State) (events : List Event) (answers : List (Option Step)) → IsSoundState q c w → AreSteps w events answers last → IsSoundState q c last
+pub steps_sound : (q : Problem) (c : Cut) (w last : State) (events : List Event) (answers : List (Option Step))
+    → IsSoundState q c w → AreSteps w events answers last → IsSoundState q c last
 steps_sound q c w last [] [] sound h = subst (IsSoundState q c) (sym h) sound
 steps_sound q c w last [] (a ∷ rest) sound h = absurd h
 steps_sound q c w last (e ∷ es) [] sound h = absurd h
-steps_sound q c w last (e ∷ es) (a ∷ rest) sound h = steps_sound q c h.0 last es rest (world_step_sound q c w h.0 e a sound h.1) h.2
+steps_sound q c w last (e ∷ es) (a ∷ rest) sound h =
+    steps_sound q c h.0 last es rest (world_step_sound q c w h.0 e a sound h.1) h.2

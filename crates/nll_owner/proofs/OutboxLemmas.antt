@@ -22,7 +22,8 @@ no_some : {X : Type 0} (x : X) → None ≡ Some x → ⊥
 no_some x h = false≢true (ap is_some h)
 
 -- what stands at a place stands there in a longer list
-pub get_still : {X : Type 0} (xs ys : List X) (k : ℕ) (x : X) → slice_get xs k ≡ Some x → slice_get (xs ++ ys) k ≡ Some x
+pub get_still : {X : Type 0} (xs ys : List X) (k : ℕ) (x : X) → slice_get xs k ≡ Some x
+    → slice_get (xs ++ ys) k ≡ Some x
 get_still [] ys k x h = absurd (no_some x h)
 get_still (y ∷ xs) ys zero x h = h
 get_still (y ∷ xs) ys (suc k) x h = get_still xs ys k x h
@@ -35,10 +36,12 @@ get_within (y ∷ xs) (suc k) x h = (let l = get_within xs k x h in omega arith)
 pub get_dropped : {X : Type 0} (n k : ℕ) (xs : List X) → slice_get (drop n xs) k ≡ slice_get xs (n + k)
 get_dropped zero k xs = (let same : k ≡ 0 + k = omega arith in ap (slice_get xs) same)
 get_dropped (suc n) k [] = refl
-get_dropped (suc n) k (x ∷ xs) = (let same : suc (n + k) ≡ suc n + k = omega arith in get_dropped n k xs ∙ ap (slice_get (x ∷ xs)) same)
+get_dropped (suc n) k (x ∷ xs) =
+    (let same : suc (n + k) ≡ suc n + k = omega arith in get_dropped n k xs ∙ ap (slice_get (x ∷ xs)) same)
 
 -- the lists that places and what stands at them make up
-pub some_still : {X : Type 0} (xs ys : List X) (ks : List ℕ) (zs : List X) → map (slice_get xs) ks ≡ map Some zs → map (slice_get (xs ++ ys)) ks ≡ map Some zs
+pub some_still : {X : Type 0} (xs ys : List X) (ks : List ℕ) (zs : List X) → map (slice_get xs) ks ≡ map Some zs
+    → map (slice_get (xs ++ ys)) ks ≡ map Some zs
 some_still xs ys [] [] h = refl
 some_still xs ys [] (z ∷ zs) h = absurd (omega (arith, ap length h))
 some_still xs ys (k ∷ ks) [] h = absurd (omega (arith, ap length h))
@@ -51,10 +54,12 @@ some_still {X} xs ys (k ∷ ks) (z ∷ zs) h = λ i. get_still xs ys k z first i
     rest = ap (drop 1) h
 
 -- what stands at the first place comes first
-pub first_is : {X : Type 0} (xs : List X) (ks : List ℕ) (zs : List X) → map (slice_get xs) ks ≡ map Some zs → (k : ℕ) → slice_get ks 0 ≡ Some k → (z : X) × (slice_get xs k ≡ Some z) × (slice_get zs 0 ≡ Some z)
+pub first_is : {X : Type 0} (xs : List X) (ks : List ℕ) (zs : List X) → map (slice_get xs) ks ≡ map Some zs → (k : ℕ)
+    → slice_get ks 0 ≡ Some k → (z : X) × (slice_get xs k ≡ Some z) × (slice_get zs 0 ≡ Some z)
 first_is xs [] zs h k at = absurd (no_some k at)
 first_is xs (j ∷ ks) [] h k at = absurd (omega (arith, ap length h))
-first_is {X} xs (j ∷ ks) (z ∷ zs) h k at = (z, subst (λ i. slice_get xs i ≡ Some z) same (ap (λ os. get_or os 0 None) h), refl)
+first_is {X} xs (j ∷ ks) (z ∷ zs) h k at =
+    (z, subst (λ i. slice_get xs i ≡ Some z) same (ap (λ os. get_or os 0 None) h), refl)
   where
     number : Option ℕ → ℕ
     number None = 0
@@ -64,12 +69,15 @@ first_is {X} xs (j ∷ ks) (z ∷ zs) h k at = (z, subst (λ i. slice_get xs i �
     same = ap number at
 
 -- the places from one on, and what stands at them
-pub picked : (log : List Growth) (place n : ℕ) → place + n ≤ length log → map (slice_get log) (range_with_len place n) ≡ map Some (take n (drop place log))
+pub picked : (log : List Growth) (place n : ℕ) → place + n ≤ length log
+    → map (slice_get log) (range_with_len place n) ≡ map Some (take n (drop place log))
 picked log place zero within = refl
 picked log place (suc n) within =
     let none : Growth = record { region = 0; element = 0; rank = 0 } in
-    let here : slice_get log place ≡ Some (get_or log place none) = get_at log place (get_or log place none) (omega arith) (get_or-get_or log place none) in
-    (λ i. here i ∷ picked log (place + 1) n (omega arith) i) ∙ sym (ap (λ xs. map Some (take (suc n) xs)) (drop_more log place none (omega arith)))
+    let here : slice_get log place ≡ Some (get_or log place none) =
+    get_at log place (get_or log place none) (omega arith) (get_or-get_or log place none) in
+    (λ i. here i ∷ picked log (place + 1) n (omega arith) i)
+    ∙ sym (ap (λ xs. map Some (take (suc n) xs)) (drop_more log place none (omega arith)))
   where
     get_or-get_or : (xs : List Growth) (k : ℕ) (d : Growth) → get_or xs k (get_or xs k d) ≡ get_or xs k d
     get_or-get_or [] k d = refl
@@ -78,11 +86,15 @@ picked log place (suc n) within =
 
 pub filter_all : {X : Type 0} (p : X → Bool) (xs : List X) → ((x : X) → Contains xs x → p x ≡ true) → filter p xs ≡ xs
 filter_all p [] all = refl
-filter_all {X} p (x ∷ xs) all = subst (λ (b : Bool). (if b then x ∷ filter p xs else filter p xs) ≡ x ∷ xs) (sym (all x (0, omega arith, refl))) (ap (λ ys. x ∷ ys) (filter_all p xs (λ y h. all y (suc h.0, (let l = h.1 in omega arith), h.2))))
+filter_all {X} p (x ∷ xs) all =
+    subst (λ (b : Bool). (if b then x ∷ filter p xs else filter p xs) ≡ x ∷ xs) (sym (all x (0, omega arith, refl)))
+    (ap (λ ys. x ∷ ys) (filter_all p xs (λ y h. all y (suc h.0, (let l = h.1 in omega arith), h.2))))
 
 pub filter_none : {X : Type 0} (p : X → Bool) (xs : List X) → ((x : X) → Contains xs x → p x ≡ false) → filter p xs ≡ []
 filter_none p [] all = refl
-filter_none {X} p (x ∷ xs) all = subst (λ (b : Bool). (if b then x ∷ filter p xs else filter p xs) ≡ []) (sym (all x (0, omega arith, refl))) (filter_none p xs (λ y h. all y (suc h.0, (let l = h.1 in omega arith), h.2)))
+filter_none {X} p (x ∷ xs) all =
+    subst (λ (b : Bool). (if b then x ∷ filter p xs else filter p xs) ≡ []) (sym (all x (0, omega arith, refl)))
+    (filter_none p xs (λ y h. all y (suc h.0, (let l = h.1 in omega arith), h.2)))
 
 -- ---- the log grows
 
@@ -90,46 +102,73 @@ module _ (q : Problem) (c : Cut) (log rest : List Growth) (place : ℕ) (within 
   front_still : (j : ℕ) → part q c j (take place (log ++ rest)) ≡ part q c j (take place log)
   front_still j = ap (part q c j) (take-append-le place log rest within)
 
-  queue_still : (j given : ℕ) (queue : List ℕ) → map (slice_get log) queue ≡ map Some (drop given (part q c j (take place log))) → map (slice_get (log ++ rest)) queue ≡ map Some (drop given (part q c j (take place (log ++ rest))))
-  queue_still j given queue h = some_still log rest queue (drop given (part q c j (take place log))) h ∙ ap (λ xs. map Some (drop given xs)) (sym (front_still j))
+  queue_still : (j given : ℕ) (queue : List ℕ)
+      → map (slice_get log) queue ≡ map Some (drop given (part q c j (take place log)))
+      → map (slice_get (log ++ rest)) queue ≡ map Some (drop given (part q c j (take place (log ++ rest))))
+  queue_still j given queue h = some_still log rest queue (drop given (part q c j (take place log))) h
+      ∙ ap (λ xs. map Some (drop given xs)) (sym (front_still j))
 
-pub queued_longer : (o : Owner) (rest : List Growth) (b : Outboxes) → AreQueued o b → AreQueued (record o { log = o.log ++ rest }) b
+pub queued_longer : (o : Owner) (rest : List Growth) (b : Outboxes) → AreQueued o b
+    → AreQueued (record o { log = o.log ++ rest }) b
 queued_longer o rest b queued = record {
   owners = queued.owners;
   within = omega (arith, queued.within, length-append o.log rest);
-  enough = λ j. subst (λ xs. given_to o j ≤ length xs) (sym (front_still o.problem o.cut o.log rest b.place queued.within j)) (queued.enough j);
-  each = λ j h. queue_still o.problem o.cut o.log rest b.place queued.within j (given_to o j) (queue_of b j) (queued.each j h);
+  enough =
+      λ j. subst (λ xs. given_to o j ≤ length xs) (sym (front_still o.problem o.cut o.log rest b.place queued.within j))
+      (queued.enough j);
+  each = λ j h. queue_still o.problem o.cut o.log rest b.place queued.within j (given_to o j) (queue_of b j)
+      (queued.each j h);
 }
 
 -- what is told of an owner holds of each other with the same log, which gave out the same
-module _ (o n : Owner) (b : Outboxes) (problem : n.problem ≡ o.problem) (cut : n.cut ≡ o.cut) (given : n.given ≡ o.given) (log : n.log ≡ o.log) where
+module _ (o n : Owner) (b : Outboxes) (problem : n.problem ≡ o.problem) (cut : n.cut ≡ o.cut)
+    (given : n.given ≡ o.given) (log : n.log ≡ o.log) where
   same_queued : AreQueued o b → AreQueued n b
   same_queued queued = record {
     owners = queued.owners ∙ ap (λ (c : Cut). c.owners) (sym cut);
     within = omega (arith, queued.within, ap length log);
-    enough = λ j. subst (λ (x : ℕ × List Growth). x.0 ≤ length x.1) (λ i. (get_or (sym given i) j 0, part (sym problem i) (sym cut i) j (take b.place (sym log i)))) (queued.enough j);
-    each = λ j h. subst (λ (x : List Growth × (ℕ × List Growth)). map (slice_get x.0) (queue_of b j) ≡ map Some (drop x.1.0 x.1.1)) (λ i. (sym log i, (get_or (sym given i) j 0, part (sym problem i) (sym cut i) j (take b.place (sym log i))))) (queued.each j (subst (λ (c : Cut). j < c.owners) cut h));
+    enough =
+        λ j. subst (λ (x : ℕ × List Growth). x.0 ≤ length x.1)
+        (λ i. (get_or (sym given i) j 0, part (sym problem i) (sym cut i) j (take b.place (sym log i))))
+        (queued.enough j);
+    each = λ j h. subst (λ (x : List Growth × (ℕ × List Growth)). map (slice_get x.0) (queue_of b j)
+        ≡ map Some (drop x.1.0 x.1.1)) (λ i. (
+          sym log i,
+          (get_or (sym given i) j 0, part (sym problem i) (sym cut i) j (take b.place (sym log i))),
+        ))
+        (queued.each j (subst (λ (c : Cut). j < c.owners) cut h));
   }
 
 -- ... or a longer one
-pub queued_begins : (o n : Owner) (b : Outboxes) → n.problem ≡ o.problem → n.cut ≡ o.cut → n.given ≡ o.given → (rest : List Growth) → n.log ≡ o.log ++ rest → AreQueued o b → AreQueued n b
-queued_begins o n b problem cut given rest log queued = same_queued (record o { log = o.log ++ rest }) n b problem cut given log (queued_longer o rest b queued)
+pub queued_begins : (o n : Owner) (b : Outboxes) → n.problem ≡ o.problem → n.cut ≡ o.cut → n.given ≡ o.given
+    → (rest : List Growth) → n.log ≡ o.log ++ rest → AreQueued o b → AreQueued n b
+queued_begins o n b problem cut given rest log queued =
+    same_queued (record o { log = o.log ++ rest }) n b problem cut given log (queued_longer o rest b queued)
 
-pub all_queued_same : (o n : Owner) (b : Outboxes) → n.problem ≡ o.problem → n.cut ≡ o.cut → n.given ≡ o.given → n.log ≡ o.log → AreAllQueued o b → AreAllQueued n b
-all_queued_same o n b problem cut given log queued = (same_queued o n b problem cut given log queued.0, queued.1 ∙ ap length (sym log))
+pub all_queued_same : (o n : Owner) (b : Outboxes) → n.problem ≡ o.problem → n.cut ≡ o.cut → n.given ≡ o.given
+    → n.log ≡ o.log → AreAllQueued o b → AreAllQueued n b
+all_queued_same o n b problem cut given log queued =
+    (same_queued o n b problem cut given log queued.0, queued.1 ∙ ap length (sym log))
 
 pub queued_grows : (old new : Owner) (b : Outboxes) → Grows old new → AreQueued old b → AreQueued new b
-queued_grows old new b grows queued = queued_begins old new b (ap (λ (o : Owner). o.problem) grows.others) (ap (λ (o : Owner). o.cut) grows.others) (ap (λ (o : Owner). o.given) grows.others) grows.begins.0 grows.begins.1 queued
+queued_grows old new b grows queued =
+    queued_begins old new b (ap (λ (o : Owner). o.problem) grows.others) (ap (λ (o : Owner). o.cut) grows.others)
+    (ap (λ (o : Owner). o.given) grows.others) grows.begins.0 grows.begins.1 queued
 
-pub queued_marked : (old new : Owner) (b : Outboxes) → new ≡ record old { loaded = new.loaded; broken = new.broken } → AreAllQueued old b → AreAllQueued new b
-queued_marked old new b same queued = all_queued_same old new b (ap (λ (o : Owner). o.problem) same) (ap (λ (o : Owner). o.cut) same) (ap (λ (o : Owner). o.given) same) (ap (λ (o : Owner). o.log) same) queued
+pub queued_marked : (old new : Owner) (b : Outboxes) → new ≡ record old { loaded = new.loaded; broken = new.broken }
+    → AreAllQueued old b → AreAllQueued new b
+queued_marked old new b same queued =
+    all_queued_same old new b (ap (λ (o : Owner). o.problem) same) (ap (λ (o : Owner). o.cut) same)
+    (ap (λ (o : Owner). o.given) same) (ap (λ (o : Owner). o.log) same) queued
 
 -- ---- the log is looked through
 
-module _ (o : Owner) (readers : List (List Bool)) (tells : TellsAs o readers) (old new : Outboxes) (queued : AreQueued o old) (end region : ℕ) (above : old.place < end) (within : end ≤ length o.log)
+module _ (o : Owner) (readers : List (List Bool)) (tells : TellsAs o readers) (old new : Outboxes)
+    (queued : AreQueued o old) (end region : ℕ) (above : old.place < end) (within : end ≤ length o.log)
     (same : (k : ℕ) (g : Growth) → old.place ≤ k → k < end → slice_get o.log k ≡ Some g → g.region ≡ region)
     (count : length new.queues ≡ length old.queues) (place : new.place ≡ end)
-    (got : GotPlaces (λ j. is_read readers j region) (range_with_len old.place (end - old.place)) (length old.queues) old new) where
+    (got : GotPlaces (λ j. is_read readers j region) (range_with_len old.place (end - old.place))
+    (length old.queues) old new) where
   abbrev n : ℕ
   n = end - old.place
 
@@ -140,8 +179,10 @@ module _ (o : Owner) (readers : List (List Bool)) (tells : TellsAs o readers) (o
   of_region : (g : Growth) → Contains middle g → g.region ≡ region
   of_region g h =
       let short = length-take-le n (drop old.place o.log) (omega (arith, length-drop old.place o.log)) in
-      let there : get_or o.log (old.place + h.0) g ≡ g = sym (get_or-drop old.place o.log h.0 g) ∙ (sym (get_or-take n (drop old.place o.log) h.0 g (omega (arith, h.1, short))) ∙ h.2) in
-      same (old.place + h.0) g (omega arith) (omega (arith, h.1, short)) (get_at o.log (old.place + h.0) g (omega (arith, h.1, short)) there)
+      let there : get_or o.log (old.place + h.0) g ≡ g = sym (get_or-drop old.place o.log h.0 g)
+      ∙ (sym (get_or-take n (drop old.place o.log) h.0 g (omega (arith, h.1, short))) ∙ h.2) in
+      same (old.place + h.0) g (omega arith) (omega (arith, h.1, short))
+      (get_at o.log (old.place + h.0) g (omega (arith, h.1, short)) there)
 
   front : take end o.log ≡ take old.place o.log ++ middle
   front =
@@ -150,17 +191,24 @@ module _ (o : Owner) (readers : List (List Bool)) (tells : TellsAs o readers) (o
       ∙ ((λ i. take-take old.place end o.log (omega arith) i ++ drop old.place (take (sym sum i) o.log))
       ∙ ap (λ xs. take old.place o.log ++ xs) (drop-take old.place n o.log))
 
-  part_front : (j : ℕ) → part o.problem o.cut j (take end o.log) ≡ part o.problem o.cut j (take old.place o.log) ++ part o.problem o.cut j middle
-  part_front j = ap (part o.problem o.cut j) front ∙ filter-append (λ (g : Growth). reads o.problem o.cut j g.region) (take old.place o.log) middle
+  part_front : (j : ℕ) → part o.problem o.cut j (take end o.log)
+      ≡ part o.problem o.cut j (take old.place o.log) ++ part o.problem o.cut j middle
+  part_front j = ap (part o.problem o.cut j) front
+      ∙ filter-append (λ (g : Growth). reads o.problem o.cut j g.region) (take old.place o.log) middle
 
-  read_middle : (j : ℕ) (b : Bool) → is_read readers j region ≡ b → (g : Growth) → Contains middle g → reads o.problem o.cut j g.region ≡ b
+  read_middle : (j : ℕ) (b : Bool) → is_read readers j region ≡ b → (g : Growth) → Contains middle g
+      → reads o.problem o.cut j g.region ≡ b
   read_middle j b is g h = ap (reads o.problem o.cut j) (of_region g h) ∙ (sym (tells j region) ∙ is)
 
   -- a reader of the region
-  told : (j : ℕ) → j < length old.queues → is_read readers j region ≡ true → map (slice_get o.log) (queue_of new j) ≡ map Some (drop (given_to o j) (part o.problem o.cut j (take end o.log)))
+  told : (j : ℕ) → j < length old.queues → is_read readers j region ≡ true
+      → map (slice_get o.log) (queue_of new j)
+      ≡ map Some (drop (given_to o j) (part o.problem o.cut j (take end o.log)))
   told j in_queues is =
       let all = filter_all (λ (g : Growth). reads o.problem o.cut j g.region) middle (read_middle j true is) in
-      let parts = ap (drop (given_to o j)) (part_front j ∙ ap (λ xs. part o.problem o.cut j (take old.place o.log) ++ xs) all) ∙ drop-append-le (given_to o j) (part o.problem o.cut j (take old.place o.log)) middle (queued.enough j) in
+      let parts =
+      ap (drop (given_to o j)) (part_front j ∙ ap (λ xs. part o.problem o.cut j (take old.place o.log) ++ xs) all)
+      ∙ drop-append-le (given_to o j) (part o.problem o.cut j (take old.place o.log)) middle (queued.enough j) in
       ap (map (slice_get o.log)) (got.got j in_queues is)
       ∙ (map-append (slice_get o.log) (queue_of old j) (range_with_len old.place n)
       ∙ ((λ i. queued.each j (omega (arith, in_queues, queued.owners)) i ++ picked o.log old.place n (omega arith) i)
@@ -168,16 +216,27 @@ module _ (o : Owner) (readers : List (List Bool)) (tells : TellsAs o readers) (o
       ∙ ap (map Some) (sym parts))))
 
   -- an owner that doesn't read it
-  part_same : (j : ℕ) → is_read readers j region ≡ false → part o.problem o.cut j (take end o.log) ≡ part o.problem o.cut j (take old.place o.log)
-  part_same j is = part_front j ∙ (ap (λ xs. part o.problem o.cut j (take old.place o.log) ++ xs) (filter_none (λ (g : Growth). reads o.problem o.cut j g.region) middle (read_middle j false is)) ∙ append-nil _)
+  part_same : (j : ℕ) → is_read readers j region ≡ false
+      → part o.problem o.cut j (take end o.log) ≡ part o.problem o.cut j (take old.place o.log)
+  part_same j is =
+      part_front j ∙ (ap (λ xs. part o.problem o.cut j (take old.place o.log) ++ xs)
+      (filter_none (λ (g : Growth). reads o.problem o.cut j g.region) middle (read_middle j false is)) ∙ append-nil _)
 
-  passed_by : (j : ℕ) → j < length old.queues → is_read readers j region ≡ false → map (slice_get o.log) (queue_of new j) ≡ map Some (drop (given_to o j) (part o.problem o.cut j (take end o.log)))
-  passed_by j in_queues is = ap (map (slice_get o.log)) (got.passed j is) ∙ (queued.each j (omega (arith, in_queues, queued.owners)) ∙ ap (λ xs. map Some (drop (given_to o j) xs)) (sym (part_same j is)))
+  passed_by : (j : ℕ) → j < length old.queues → is_read readers j region ≡ false
+      → map (slice_get o.log) (queue_of new j)
+      ≡ map Some (drop (given_to o j) (part o.problem o.cut j (take end o.log)))
+  passed_by j in_queues is = ap (map (slice_get o.log)) (got.passed j is)
+      ∙ (queued.each j (omega (arith, in_queues, queued.owners))
+      ∙ ap (λ xs. map Some (drop (given_to o j) xs)) (sym (part_same j is)))
 
-  each_new : (j : ℕ) → j < length old.queues → map (slice_get o.log) (queue_of new j) ≡ map Some (drop (given_to o j) (part o.problem o.cut j (take end o.log)))
+  each_new : (j : ℕ) → j < length old.queues
+      → map (slice_get o.log) (queue_of new j)
+      ≡ map Some (drop (given_to o j) (part o.problem o.cut j (take end o.log)))
   each_new j in_queues = go (is_read readers j region) refl
     where
-      go : (b : Bool) → is_read readers j region ≡ b → map (slice_get o.log) (queue_of new j) ≡ map Some (drop (given_to o j) (part o.problem o.cut j (take end o.log)))
+      go : (b : Bool) → is_read readers j region ≡ b
+          → map (slice_get o.log) (queue_of new j)
+          ≡ map Some (drop (given_to o j) (part o.problem o.cut j (take end o.log)))
       go true is = told j in_queues is
       go false is = passed_by j in_queues is
 
@@ -185,8 +244,17 @@ module _ (o : Owner) (readers : List (List Bool)) (tells : TellsAs o readers) (o
   looked_through = record {
     owners = count ∙ queued.owners;
     within = omega (arith, place);
-    enough = λ j. subst (λ k. given_to o j ≤ length (part o.problem o.cut j (take k o.log))) (sym place) (omega (arith, queued.enough j, ap length (part_front j), length-append (part o.problem o.cut j (take old.place o.log)) (part o.problem o.cut j middle)));
-    each = λ j h. subst (λ k. map (slice_get o.log) (queue_of new j) ≡ map Some (drop (given_to o j) (part o.problem o.cut j (take k o.log)))) (sym place) (each_new j (omega (arith, h, queued.owners)));
+    enough =
+        λ j. subst (λ k. given_to o j ≤ length (part o.problem o.cut j (take k o.log))) (sym place)
+        (omega (
+          arith,
+          queued.enough j,
+          ap length (part_front j),
+          length-append (part o.problem o.cut j (take old.place o.log)) (part o.problem o.cut j middle),
+        ));
+    each = λ j h. subst (λ k. map (slice_get o.log) (queue_of new j)
+        ≡ map Some (drop (given_to o j) (part o.problem o.cut j (take k o.log)))) (sym place)
+        (each_new j (omega (arith, h, queued.owners)));
   }
 
 -- ---- the log is given out
@@ -195,7 +263,8 @@ module _ (o : Owner) (b : Outboxes) (all : AreAllQueued o b) where
   whole : (j : ℕ) → part o.problem o.cut j (take b.place o.log) ≡ part_for o j
   whole j = ap (part o.problem o.cut j) (take_all b.place o.log (omega (arith, all.1)))
 
-  pub queue_says : (j : ℕ) → j < o.cut.owners → map (slice_get o.log) (queue_of b j) ≡ map Some (drop (given_to o j) (part_for o j))
+  pub queue_says : (j : ℕ) → j < o.cut.owners
+      → map (slice_get o.log) (queue_of b j) ≡ map Some (drop (given_to o j) (part_for o j))
   queue_says j h = all.0.each j h ∙ ap (λ xs. map Some (drop (given_to o j) xs)) (whole j)
 
   pub given_enough : (j : ℕ) → given_to o j ≤ length (part_for o j)
@@ -203,29 +272,43 @@ module _ (o : Owner) (b : Outboxes) (all : AreAllQueued o b) where
 
   -- as many places are left as growths
   pub left_count : (j : ℕ) → j < o.cut.owners → given_to o j + length (queue_of b j) ≡ length (part_for o j)
-  left_count j h = omega (arith, ap length (queue_says j h), length-map (queue_of b j) (slice_get o.log), length-map (drop (given_to o j) (part_for o j)) Some, length-drop (given_to o j) (part_for o j), given_enough j)
+  left_count j h =
+      omega (
+        arith,
+        ap length (queue_says j h),
+        length-map (queue_of b j) (slice_get o.log),
+        length-map (drop (given_to o j) (part_for o j)) Some,
+        length-drop (given_to o j) (part_for o j),
+        given_enough j,
+      )
 
   pub none_past : (j : ℕ) → o.cut.owners ≤ j → queue_of b j ≡ []
   none_past j h = get_or_past b.queues j [] (omega (arith, all.0.owners))
 
   module _ (to place : ℕ) (first : slice_get (queue_of b to) 0 ≡ Some place) where
     pub to_within : to < o.cut.owners
-    to_within = ⊎_elim (λ l. l) (λ past. absurd (no_some place (sym (ap (λ xs. slice_get xs 0) (none_past to past)) ∙ first))) (cases_lt to o.cut.owners)
+    to_within =
+        ⊎_elim (λ l. l) (λ past. absurd (no_some place (sym (ap (λ xs. slice_get xs 0) (none_past to past)) ∙ first)))
+        (cases_lt to o.cut.owners)
 
-    found : (g : Growth) × (slice_get o.log place ≡ Some g) × (slice_get (drop (given_to o to) (part_for o to)) 0 ≡ Some g)
+    found : (g : Growth) × (slice_get o.log place ≡ Some g)
+        × (slice_get (drop (given_to o to) (part_for o to)) 0 ≡ Some g)
     found = first_is o.log (queue_of b to) (drop (given_to o to) (part_for o to)) (queue_says to to_within) place first
 
     pub place_within : place < length o.log
     place_within = get_within o.log place found.0 found.1
 
     pub more_left : given_to o to < length (part_for o to)
-    more_left = (let l = get_within (drop (given_to o to) (part_for o to)) 0 found.0 found.2 in omega (arith, length-drop (given_to o to) (part_for o to)))
+    more_left =
+        (let l = get_within (drop (given_to o to) (part_for o to)) 0 found.0 found.2 in
+        omega (arith, length-drop (given_to o to) (part_for o to)))
 
     -- the growth at that place is the next one
     pub next_is : slice_get (part_for o to) (given_to o to) ≡ slice_get o.log place
     next_is =
         let zero_more : given_to o to + 0 ≡ given_to o to = omega arith in
-        sym (ap (slice_get (part_for o to)) zero_more) ∙ (sym (get_dropped (given_to o to) 0 (part_for o to)) ∙ (found.2 ∙ sym found.1))
+        sym (ap (slice_get (part_for o to)) zero_more)
+        ∙ (sym (get_dropped (given_to o to) 0 (part_for o to)) ∙ (found.2 ∙ sym found.1))
 
     -- once it is given, the rest of the queue is left
     abbrev given : List ℕ
@@ -256,14 +339,18 @@ module _ (o : Owner) (b : Outboxes) (all : AreAllQueued o b) where
           owners = length-set b.queues to (drop 1 (queue_of b to)) ∙ all.0.owners;
           within = all.0.within;
           enough = λ j. subst (λ xs. get_or given j 0 ≤ length xs) (sym (whole j)) (⊎_elim
-              (λ same. subst (λ i. get_or given i 0 ≤ length (part_for o i)) (sym same) (omega (arith, given_here, more_left)))
+              (λ same. subst (λ i. get_or given i 0 ≤ length (part_for o i)) (sym same)
+              (omega (arith, given_here, more_left)))
               (λ differs. omega (arith, given_enough j, get_or-set_other o.given to j (given_to o to + 1) 0 differs))
               (cases_eq j to));
           each = λ j h. ⊎_elim
-              (λ same. subst (λ i. map (slice_get o.log) (queue_of rest i) ≡ map Some (drop (get_or given i 0) (part o.problem o.cut i (take b.place o.log)))) (sym same)
+              (λ same. subst (λ i. map (slice_get o.log) (queue_of rest i)
+              ≡ map Some (drop (get_or given i 0) (part o.problem o.cut i (take b.place o.log)))) (sym same)
               (says_here ∙ ap (λ xs. map Some (drop (get_or given to 0) xs)) (sym (whole to))))
-              (λ differs. ap (map (slice_get o.log)) (get_or-set_other b.queues to j (drop 1 (queue_of b to)) [] differs)
-              ∙ (all.0.each j h ∙ ap (λ k. map Some (drop k (part o.problem o.cut j (take b.place o.log)))) (sym (get_or-set_other o.given to j (given_to o to + 1) 0 differs))))
+              (λ differs. ap (map (slice_get o.log))
+              (get_or-set_other b.queues to j (drop 1 (queue_of b to)) [] differs)
+              ∙ (all.0.each j h ∙ ap (λ k. map Some (drop k (part o.problem o.cut j (take b.place o.log))))
+              (sym (get_or-set_other o.given to j (given_to o to + 1) 0 differs))))
               (cases_eq j to);
         },
         all.1,
@@ -271,13 +358,15 @@ module _ (o : Owner) (b : Outboxes) (all : AreAllQueued o b) where
 
 -- ---- an owner that has done nothing yet
 
-pub queued_first : (q : Problem) (c : Cut) (i : ℕ) → AreAllQueued (first_owner q c i) (outboxes_of (replicate c.owners []) 0)
+pub queued_first : (q : Problem) (c : Cut) (i : ℕ)
+    → AreAllQueued (first_owner q c i) (outboxes_of (replicate c.owners []) 0)
 queued_first q c i = (
   record {
     owners = length-replicate c.owners [];
     within = omega arith;
     enough = λ j. omega (arith, none_given j);
-    each = λ j h. ap (map (slice_get {X = Growth} [])) (get_or-replicate c.owners j [] [] h) ∙ sym (ap (map Some) (nothing (given_to (first_owner q c i) j)));
+    each = λ j h. ap (map (slice_get {X = Growth} [])) (get_or-replicate c.owners j [] [] h)
+        ∙ sym (ap (map Some) (nothing (given_to (first_owner q c i) j)));
   },
   refl,
 )
@@ -303,7 +392,8 @@ none_queues n few = record {
     nothing : (j : ℕ) → get_or (replicate {A = List ℕ} n []) j [] ≡ []
     nothing j = ⊎_elim
         (λ within. get_or-replicate n j [] [] within)
-        (λ past. get_or_past (replicate {A = List ℕ} n []) j [] (omega (arith, past, length-replicate {A = List ℕ} n [])))
+        (λ past. get_or_past (replicate {A = List ℕ} n []) j []
+        (omega (arith, past, length-replicate {A = List ℕ} n [])))
         (cases_lt j n)
 
 module _ (reads : ℕ → Bool) (places : List ℕ) (old : Outboxes) where
@@ -311,9 +401,12 @@ module _ (reads : ℕ → Bool) (places : List ℕ) (old : Outboxes) where
   got_none next = record { got = λ j h is. absurd (omega (arith, h)); passed = λ j is. refl; left = λ j h. refl }
 
   -- no further owner reads
-  pub got_all : (below : ℕ) (new : Outboxes) → GotPlaces reads places below old new → ((j : ℕ) → reads j ≡ true → j < length old.queues) → ((j : ℕ) → below ≤ j → reads j ≡ false) → GotPlaces reads places (length old.queues) old new
+  pub got_all : (below : ℕ) (new : Outboxes) → GotPlaces reads places below old new
+      → ((j : ℕ) → reads j ≡ true → j < length old.queues) → ((j : ℕ) → below ≤ j → reads j ≡ false)
+      → GotPlaces reads places (length old.queues) old new
   got_all below new g owners none = record {
-    got = λ j h is. ⊎_elim (λ l. g.got j l is) (λ above. absurd (false≢true (sym (none j above) ∙ is))) (cases_lt j below);
+    got = λ j h is. ⊎_elim (λ l. g.got j l is) (λ above. absurd (false≢true (sym (none j above) ∙ is)))
+        (cases_lt j below);
     passed = g.passed;
     left = λ j h. g.passed j (not_read (reads j) (λ is. (let l = owners j is in omega (arith, l, h))));
   }
@@ -323,7 +416,9 @@ module _ (reads : ℕ → Bool) (places : List ℕ) (old : Outboxes) where
       not_read false h = refl
 
   -- the next one that reads got them
-  module _ (below reader : ℕ) (new : Outboxes) (g : GotPlaces reads places below old new) (from : below ≤ reader) (is : reads reader ≡ true) (least : (j : ℕ) → below ≤ j → j < reader → reads j ≡ false) (within : reader < length new.queues) where
+  module _ (below reader : ℕ) (new : Outboxes) (g : GotPlaces reads places below old new) (from : below ≤ reader)
+      (is : reads reader ≡ true) (least : (j : ℕ) → below ≤ j → j < reader → reads j ≡ false)
+      (within : reader < length new.queues) where
     abbrev more : Outboxes
     more = record new { queues = set new.queues reader (queue_of new reader ++ places) }
 
@@ -331,7 +426,8 @@ module _ (reads : ℕ → Bool) (places : List ℕ) (old : Outboxes) where
     other j differs = get_or-set_other new.queues reader j (queue_of new reader ++ places) [] differs
 
     here : queue_of more reader ≡ queue_of old reader ++ places
-    here = get_or-set_same new.queues reader (queue_of new reader ++ places) [] within ∙ ap (λ xs. xs ++ places) (g.left reader from)
+    here = get_or-set_same new.queues reader (queue_of new reader ++ places) [] within
+        ∙ ap (λ xs. xs ++ places) (g.left reader from)
 
     before : (j : ℕ) → j ≢ reader → j < reader + 1 → reads j ≡ true → queue_of more j ≡ queue_of old j ++ places
     before j differs h read = ⊎_elim
@@ -341,18 +437,24 @@ module _ (reads : ℕ → Bool) (places : List ℕ) (old : Outboxes) where
 
     pub got_more : GotPlaces reads places (reader + 1) old more
     got_more = record {
-      got = λ j h read. ⊎_elim (λ same. subst (λ i. queue_of more i ≡ queue_of old i ++ places) (sym same) here) (λ differs. before j differs h read) (cases_eq j reader);
-      passed = λ j skipped. ⊎_elim (λ same. absurd (false≢true (sym skipped ∙ (ap reads same ∙ is)))) (λ differs. other j differs ∙ g.passed j skipped) (cases_eq j reader);
+      got = λ j h read. ⊎_elim (λ same. subst (λ i. queue_of more i ≡ queue_of old i ++ places) (sym same) here)
+          (λ differs. before j differs h read) (cases_eq j reader);
+      passed =
+          λ j skipped. ⊎_elim (λ same. absurd (false≢true (sym skipped ∙ (ap reads same ∙ is))))
+          (λ differs. other j differs ∙ g.passed j skipped) (cases_eq j reader);
       left = λ j h. other j (omega (arith, h)) ∙ g.left j (omega (arith, from, h));
     }
 
   -- no queue has more places than were looked through
-  pub got_short : (below : ℕ) (new : Outboxes) → GotPlaces reads places below old new → AreQueues old → length new.queues ≡ length old.queues → old.place + length places ≤ new.place → AreQueues new
-  got_short below new g old_queues count place = record { few = omega (arith, count, old_queues.few); short = λ j. go j (reads j) refl }
+  pub got_short : (below : ℕ) (new : Outboxes) → GotPlaces reads places below old new → AreQueues old
+      → length new.queues ≡ length old.queues → old.place + length places ≤ new.place → AreQueues new
+  got_short below new g old_queues count place =
+      record { few = omega (arith, count, old_queues.few); short = λ j. go j (reads j) refl }
     where
       go : (j : ℕ) (b : Bool) → reads j ≡ b → length (queue_of new j) ≤ new.place
       go j false skipped = omega (arith, ap length (g.passed j skipped), old_queues.short j, place)
       go j true is = ⊎_elim
-          (λ l. (let longer = ap length (g.got j l is) in omega (arith, longer, length-append (queue_of old j) places, old_queues.short j, place)))
+          (λ l. (let longer = ap length (g.got j l is) in
+          omega (arith, longer, length-append (queue_of old j) places, old_queues.short j, place)))
           (λ above. omega (arith, ap length (g.left j above), old_queues.short j, place))
           (cases_lt j below)

@@ -12,7 +12,8 @@ use Rattle.nll_owner.specs.declared.outbox.Places.{Places}
 -- numbers from one on, the first apart
 range_first : (a n : ℕ) → 0 < n → range_with_len a n ≡ a ∷ range_with_len (a + 1) (n - 1)
 range_first a zero h = absurd (omega (arith, h))
-range_first a (suc n) h = (let same : ◌≡◌ {A = ℕ} n (suc n - 1) = omega arith in ap (λ k. a ∷ range_with_len (a + 1) k) same)
+range_first a (suc n) h =
+    (let same : ◌≡◌ {A = ℕ} n (suc n - 1) = omega arith in ap (λ k. a ∷ range_with_len (a + 1) k) same)
 
 -- nothing is queued
 pub none_queued : (ranges : List Places) (at : ℕ) → length ranges ≤ at → queued ranges at ≡ []
@@ -22,43 +23,68 @@ pub queue_none : IsQueue [] 0 0
 queue_none = record { within = omega arith; proper = λ k d h. absurd (omega (arith, h)); counted = refl }
 
 pub some_left : (ranges : List Places) (at : ℕ) → 0 < length (queued ranges at) → at < length ranges
-some_left ranges at h = ⊎_elim (λ l. l) (λ past. absurd (omega (arith, h, ap length (none_queued ranges at past)))) (cases_lt at (length ranges))
+some_left ranges at h =
+    ⊎_elim (λ l. l) (λ past. absurd (omega (arith, h, ap length (none_queued ranges at past))))
+    (cases_lt at (length ranges))
 
 -- the places of one more range come behind
-module _ (ranges : List Places) (at count : ℕ) (queue : IsQueue ranges at count) (range : Places) (proper : range.first < range.end) where
+module _ (ranges : List Places) (at count : ℕ) (queue : IsQueue ranges at count) (range : Places)
+    (proper : range.first < range.end) where
   pub queued_push : queued (ranges ++ range ∷ []) at ≡ queued ranges at ++ places_of range
   queued_push = ap (flat_map places_of) (drop-append-le at ranges (range ∷ []) queue.within)
-      ∙ (flat_map-append places_of (drop at ranges) (range ∷ []) ∙ ap (λ xs. queued ranges at ++ xs) (append-nil (places_of range)))
+      ∙ (flat_map-append places_of (drop at ranges) (range ∷ [])
+      ∙ ap (λ xs. queued ranges at ++ xs) (append-nil (places_of range)))
 
   pub queue_push : IsQueue (ranges ++ range ∷ []) at (count + (range.end - range.first))
   queue_push = record {
     within = omega (arith, queue.within, length_push ranges range);
     proper = λ k d h. ⊎_elim
-        (λ old. subst (λ (p : Places). p.first < p.end) (sym (get_or_append_left ranges (range ∷ []) d k old)) (queue.proper k d old))
-        (λ new. subst (λ (p : Places). p.first < p.end) (sym (get_or_push ranges range d k (omega (arith, new, h, length_push ranges range)))) proper)
+        (λ old. subst (λ (p : Places). p.first < p.end) (sym (get_or_append_left ranges (range ∷ []) d k old))
+        (queue.proper k d old))
+        (λ new. subst (λ (p : Places). p.first < p.end)
+        (sym (get_or_push ranges range d k (omega (arith, new, h, length_push ranges range)))) proper)
         (cases_lt k (length ranges));
-    counted = omega (arith, queue.counted, ap length queued_push, length-append (queued ranges at) (places_of range), length-range_with_len range.first (range.end - range.first));
+    counted =
+        omega (
+          arith,
+          queue.counted,
+          ap length queued_push,
+          length-append (queued ranges at) (places_of range),
+          length-range_with_len range.first (range.end - range.first),
+        );
   }
 
 -- the first place goes
-module _ (ranges : List Places) (at count : ℕ) (queue : IsQueue ranges at count) (range : Places) (within : at < length ranges) (here : get_or ranges at range ≡ range) where
+module _ (ranges : List Places) (at count : ℕ) (queue : IsQueue ranges at count) (range : Places)
+    (within : at < length ranges) (here : get_or ranges at range ≡ range) where
   low : range.first < range.end
   low = subst (λ (p : Places). p.first < p.end) here (queue.proper at range within)
 
   split : queued ranges at ≡ places_of range ++ queued ranges (at + 1)
-  split = ap (flat_map places_of) (drop_more ranges at range within ∙ ap (λ p. p ∷ drop (at + 1) ranges) here) ∙ flat_map-cons places_of range (drop (at + 1) ranges)
+  split = ap (flat_map places_of) (drop_more ranges at range within ∙ ap (λ p. p ∷ drop (at + 1) ranges) here)
+      ∙ flat_map-cons places_of range (drop (at + 1) ranges)
 
   first_apart : places_of range ≡ range.first ∷ range_with_len (range.first + 1) (range.end - range.first - 1)
   first_apart = range_first range.first (range.end - range.first) (omega (arith, low))
 
-  rest_is : drop 1 (queued ranges at) ≡ range_with_len (range.first + 1) (range.end - range.first - 1) ++ queued ranges (at + 1)
+  rest_is : drop 1 (queued ranges at)
+      ≡ range_with_len (range.first + 1) (range.end - range.first - 1) ++ queued ranges (at + 1)
   rest_is = ap (drop 1) (split ∙ ap (λ xs. xs ++ queued ranges (at + 1)) first_apart)
 
   pub first_place : slice_get (queued ranges at) 0 ≡ Some range.first
   first_place = ap (λ xs. slice_get xs 0) (split ∙ ap (λ xs. xs ++ queued ranges (at + 1)) first_apart)
 
   one_less : length (drop 1 (queued ranges at)) + 1 ≡ length (queued ranges at)
-  one_less = omega (arith, ap length split, ap length first_apart, length-append (places_of range) (queued ranges (at + 1)), ap length rest_is, length-append (range_with_len (range.first + 1) (range.end - range.first - 1)) (queued ranges (at + 1)))
+  one_less =
+      omega (
+        arith,
+        ap length split,
+        ap length first_apart,
+        length-append (places_of range) (queued ranges (at + 1)),
+        ap length rest_is,
+        length-append (range_with_len (range.first + 1) (range.end - range.first - 1))
+            (queued ranges (at + 1)),
+      )
 
   -- ... of a range that goes with it
   module _ (last : range.end ≤ range.first + 1) where
@@ -69,7 +95,12 @@ module _ (ranges : List Places) (at count : ℕ) (queue : IsQueue ranges at coun
         gone = omega (arith, last)
 
     pub queue_next : IsQueue ranges (at + 1) (count - 1)
-    queue_next = record { within = omega arith; proper = queue.proper; counted = omega (arith, queue.counted, ap length queued_next, one_less) }
+    queue_next =
+        record {
+          within = omega arith;
+          proper = queue.proper;
+          counted = omega (arith, queue.counted, ap length queued_next, one_less);
+        }
 
   -- ... of one of which places are left
   module _ (more : range.first + 1 < range.end) where
@@ -87,8 +118,11 @@ module _ (ranges : List Places) (at count : ℕ) (queue : IsQueue ranges at coun
     queue_shorter = record {
       within = omega (arith, length-set ranges at shorter);
       proper = λ k d h. ⊎_elim
-          (λ this. subst (λ i. (get_or (set ranges at shorter) i d).first < (get_or (set ranges at shorter) i d).end) (sym this) (subst (λ (p : Places). p.first < p.end) (sym (get_or-set_same ranges at shorter d within)) more))
-          (λ other. subst (λ (p : Places). p.first < p.end) (sym (get_or-set_other ranges at k shorter d other)) (queue.proper k d (omega (arith, h, length-set ranges at shorter))))
+          (λ this. subst (λ i. (get_or (set ranges at shorter) i d).first < (get_or (set ranges at shorter) i d).end)
+          (sym this) (subst (λ (p : Places). p.first < p.end)
+          (sym (get_or-set_same ranges at shorter d within)) more))
+          (λ other. subst (λ (p : Places). p.first < p.end) (sym (get_or-set_other ranges at k shorter d other))
+          (queue.proper k d (omega (arith, h, length-set ranges at shorter))))
           (cases_eq k at);
       counted = omega (arith, queue.counted, ap length queued_shorter, one_less);
     }

@@ -16,14 +16,17 @@ record IsWithout {X : Type 0} (number : X → ℕ) (k : ℕ) (whole less : List 
   pub shorter : length whole ≡ length less + 1
   pub others : (x : X) → Contains whole x → number x ≢ k → Contains less x
 
-without : {X : Type 0} (number : X → ℕ) (k : ℕ) (xs : List X) (x : X) → Contains xs x → number x ≡ k → (less : List X) × IsWithout number k xs less
+without : {X : Type 0} (number : X → ℕ) (k : ℕ) (xs : List X) (x : X) → Contains xs x → number x ≡ k
+    → (less : List X) × IsWithout number k xs less
 without number k [] x h is = absurd (omega (arith, h.1))
 without {X} number k (y ∷ ys) x h is = ⊎_elim
     (λ (here : y ≡ x). (
       ys,
       record {
         shorter = omega arith;
-        others = λ z at differs. ⊎_elim (λ (same : y ≡ z). absurd (differs (ap number (sym same ∙ here) ∙ is))) (λ (t : Contains ys z). t) (contains_cases y ys z at);
+        others =
+            λ z at differs. ⊎_elim (λ (same : y ≡ z). absurd (differs (ap number (sym same ∙ here) ∙ is)))
+            (λ (t : Contains ys z). t) (contains_cases y ys z at);
       },
     ))
     (λ (there : Contains ys x).
@@ -31,13 +34,16 @@ without {X} number k (y ∷ ys) x h is = ⊎_elim
       y ∷ r.0,
       record {
         shorter = (let s = r.1.shorter in omega (arith, s));
-        others = λ z at differs. ⊎_elim (λ (same : y ≡ z). subst (Contains (y ∷ r.0)) same (contains_head y r.0)) (λ (t : Contains ys z). contains_tail y r.0 z (r.1.others z t differs)) (contains_cases y ys z at);
+        others =
+            λ z at differs. ⊎_elim (λ (same : y ≡ z). subst (Contains (y ∷ r.0)) same (contains_head y r.0))
+            (λ (t : Contains ys z). contains_tail y r.0 z (r.1.others z t differs)) (contains_cases y ys z at);
       },
     ))
     (contains_cases y ys x h)
 
 -- a list with an element for each number from 1 to k has k elements at least
-pub enough : {X : Type 0} (number : X → ℕ) (k : ℕ) (xs : List X) → ((m : ℕ) → 0 < m → m ≤ k → (x : X) × Contains xs x × (number x ≡ m)) → k ≤ length xs
+pub enough : {X : Type 0} (number : X → ℕ) (k : ℕ) (xs : List X)
+    → ((m : ℕ) → 0 < m → m ≤ k → (x : X) × Contains xs x × (number x ≡ m)) → k ≤ length xs
 enough number zero xs each = omega arith
 enough {X} number (suc k) xs each =
     let last : (x : X) × Contains xs x × (number x ≡ suc k) = each (suc k) (omega arith) (omega arith) in
@@ -72,12 +78,15 @@ module _ (logs : ℕ → List Growth) where
       let last = short n (omega arith) in
       omega (arith, before, last, length-append (all_of n) (logs n))
 
-  module _ (n : ℕ) (steps : (i : ℕ) (g : Growth) → i < n → Contains (logs i) g → 1 < g.rank → (j : ℕ) × (h : Growth) × (j < n) × Contains (logs j) h × (h.rank + 1 ≡ g.rank)) where
+  module _ (n : ℕ) (steps : (i : ℕ) (g : Growth) → i < n → Contains (logs i) g → 1 < g.rank
+      → (j : ℕ) × (h : Growth) × (j < n) × Contains (logs j) h × (h.rank + 1 ≡ g.rank)) where
     -- below the rank of a growth stands a growth of each rank
-    below : (d m i : ℕ) (g : Growth) → i < n → Contains (logs i) g → 0 < m → m + d ≡ g.rank → (h : Growth) × Contains (all_of n) h × (h.rank ≡ m)
+    below : (d m i : ℕ) (g : Growth) → i < n → Contains (logs i) g → 0 < m → m + d ≡ g.rank
+        → (h : Growth) × Contains (all_of n) h × (h.rank ≡ m)
     below zero m i g low at some is = (g, in_all n i g low at, omega (arith, is))
     below (suc d) m i g low at some is =
-        let s : (j : ℕ) × (h : Growth) × (j < n) × Contains (logs j) h × (h.rank + 1 ≡ g.rank) = steps i g low at (omega (arith, some, is)) in
+        let s : (j : ℕ) × (h : Growth) × (j < n) × Contains (logs j) h × (h.rank + 1 ≡ g.rank) =
+        steps i g low at (omega (arith, some, is)) in
         below d m s.0 s.1 s.2 s.3 some (omega (arith, is, s.4))
 
     pub rank_few : (i : ℕ) (g : Growth) → i < n → Contains (logs i) g → g.rank ≤ length (all_of n)
@@ -88,15 +97,18 @@ module _ (logs : ℕ → List Growth) where
 
 -- Owners of one problem that received only what stands in each other's logs have no rank of 2^61 or
 -- above.
-module _ (n : ℕ) (owner : ℕ → Owner) (few : n ≤ 64) (sound : (i : ℕ) → i < n → IsSound (owner i)) (owners : (i : ℕ) → i < n → (owner i).cut.owners ≡ n) (numbers : (i : ℕ) → i < n → (owner i).me ≡ i)
-    (heard : (i j : ℕ) (g : Growth) → i < n → j < n → i ≢ j → Contains (received_from (owner i) j) g → Contains (owner j).log g) where
+module _ (n : ℕ) (owner : ℕ → Owner) (few : n ≤ 64) (sound : (i : ℕ) → i < n → IsSound (owner i))
+    (owners : (i : ℕ) → i < n → (owner i).cut.owners ≡ n) (numbers : (i : ℕ) → i < n → (owner i).me ≡ i)
+    (heard : (i j : ℕ) (g : Growth) → i < n → j < n → i ≢ j → Contains (received_from (owner i) j) g
+    → Contains (owner j).log g) where
   abbrev logs : ℕ → List Growth
   logs i = (owner i).log
 
   short : (i : ℕ) → i < n → length (logs i) ≤ 137438953472
   short i low = (let s = sound i low in omega (arith, s.few, pair_small (owner i).problem s.problem))
 
-  steps_in_all : (i : ℕ) (g : Growth) → i < n → Contains (logs i) g → 1 < g.rank → (j : ℕ) × (h : Growth) × (j < n) × Contains (logs j) h × (h.rank + 1 ≡ g.rank)
+  steps_in_all : (i : ℕ) (g : Growth) → i < n → Contains (logs i) g → 1 < g.rank
+      → (j : ℕ) × (h : Growth) × (j < n) × Contains (logs j) h × (h.rank + 1 ≡ g.rank)
   steps_in_all i g low at more =
       let s = (sound i low).steps g at more in
       ⊎_elim
@@ -116,7 +128,11 @@ module _ (n : ℕ) (owner : ℕ → Owner) (few : n ≤ 64) (sound : (i : ℕ) �
       received_in : (o : Owner) → IsSound o → (j : ℕ) (h : Growth) → Contains (received_from o j) h → j < o.cut.owners
       received_in o s j h at = ⊎_elim
           (λ inside. inside)
-          (λ past. absurd (omega (arith, (subst (λ (xs : List Growth). Contains xs h) (get_or_past o.received j [] (omega (arith, past, s.senders))) at).1)))
+          (λ past. absurd (omega (
+            arith,
+            (subst (λ (xs : List Growth). Contains xs h)
+                (get_or_past o.received j [] (omega (arith, past, s.senders))) at).1,
+          )))
           (cases_lt j o.cut.owners)
 
   pub ranks_low : (i : ℕ) (g : Growth) → i < n → Contains (owner i).log g → g.rank < 2 ^ 61

@@ -22,17 +22,24 @@ first : (m n : ℕ) (ms ns : List ℕ) → m ∷ ms ≡ n ∷ ns → m ≡ n
 first m n ms ns e = cc
 
 -- a number that is given is lawful
-lawful_in : (given : List Given) (others words : Words) → HasOptions given others words → (n : ℕ) (ns : List ℕ) → filter_map owners_in given ≡ n ∷ ns → IsLawfulCount n
+lawful_in : (given : List Given) (others words : Words) → HasOptions given others words → (n : ℕ) (ns : List ℕ)
+    → filter_map owners_in given ≡ n ∷ ns → IsLawfulCount n
 lawful_in _ _ _ none n ns e = cc
 lawful_in _ _ _ (ends word rest h) n ns e = cc
 lawful_in _ _ _ (plain_word given word others words plain h) n ns e = lawful_in given others words h n ns e
-lawful_in _ _ _ (option (owners m) given front others words written lawful h) n ns e = subst IsLawfulCount (first m n _ ns e) lawful
-lawful_in _ _ _ (option (deal how) given front others words written lawful h) n ns e = lawful_in given others words h n ns e
-lawful_in _ _ _ (option (cut file) given front others words written lawful h) n ns e = lawful_in given others words h n ns e
-lawful_in _ _ _ (option (mail kind) given front others words written lawful h) n ns e = lawful_in given others words h n ns e
-lawful_in _ _ _ (option (schedule file) given front others words written lawful h) n ns e = lawful_in given others words h n ns e
+lawful_in _ _ _ (option (owners m) given front others words written lawful h) n ns e =
+    subst IsLawfulCount (first m n _ ns e) lawful
+lawful_in _ _ _ (option (deal how) given front others words written lawful h) n ns e =
+    lawful_in given others words h n ns e
+lawful_in _ _ _ (option (cut file) given front others words written lawful h) n ns e =
+    lawful_in given others words h n ns e
+lawful_in _ _ _ (option (mail kind) given front others words written lawful h) n ns e =
+    lawful_in given others words h n ns e
+lawful_in _ _ _ (option (schedule file) given front others words written lawful h) n ns e =
+    lawful_in given others words h n ns e
 
-lawful_placed : (given : List Given) (others words : Words) → ArePlaced given others words → (n : ℕ) (ns : List ℕ) → filter_map owners_in given ≡ n ∷ ns → IsLawfulCount n
+lawful_placed : (given : List Given) (others words : Words) → ArePlaced given others words → (n : ℕ) (ns : List ℕ)
+    → filter_map owners_in given ≡ n ∷ ns → IsLawfulCount n
 lawful_placed _ _ _ no_words n ns e = cc
 lawful_placed _ _ _ (unread word rest begins) n ns e = cc
 lawful_placed _ _ _ (behind given word others rest plain h) n ns e = lawful_in given others rest h n ns e
@@ -46,7 +53,8 @@ lawful_count words others said read = at said.owners read.says.owners
 
 -- ---- words that are no line
 
-pub help_told : (words : Words) (e : LineError) (bytes : List ℕ) (status : ℕ) → IsWordsError words e → IsHelpOf e bytes status → IsHelp words bytes status
+pub help_told : (words : Words) (e : LineError) (bytes : List ℕ) (status : ℕ) → IsWordsError words e
+    → IsHelpOf e bytes status → IsHelp words bytes status
 help_told words (line.Help text) bytes status h is = record {
   others = h.0;
   said = h.1;
@@ -59,14 +67,20 @@ help_told words (line.Help text) bytes status h is = record {
 help_told words line.Usage bytes status h is = absurd is
 help_told words line.Memory bytes status h is = absurd is
 
-pub words_told : (holds : Holds) (lacks : Lacks) (words : Words) (e : LineError) (refusal : Refusal) → IsWordsError words e
-    → ((others : Words) (said : Said) → AreRead words others said → AsksPlainlyForHelp others → IsHelpFor others e) → IsRefusalOf e refusal → IsRefused holds lacks words refusal
+pub words_told : (holds : Holds) (lacks : Lacks) (words : Words) (e : LineError) (refusal : Refusal)
+    → IsWordsError words e
+    → ((others : Words) (said : Said) → AreRead words others said → AsksPlainlyForHelp others → IsHelpFor others e)
+    → IsRefusalOf e refusal → IsRefused holds lacks words refusal
 words_told holds lacks words (line.Help text) refusal h help is = absurd is
-words_told holds lacks words line.Usage refusal h help is = subst (IsRefused holds lacks words) (sym is) (λ others said read. ((h others said read).0, help others said read))
+words_told holds lacks words line.Usage refusal h help is =
+    subst (IsRefused holds lacks words) (sym is) (λ others said read. ((h others said read).0, help others said read))
 words_told holds lacks words line.Memory refusal h help is = subst (IsRefused holds lacks words) (sym is) tt
 
 -- ---- words that are a line
 
-pub asked_line : (words : Words) (task : Task) (file : List ℕ) (said : Said) → ((others : Words) × AreRead words others said × IsLine task file others × Suits task said)
-    → ((others : Words) (s : Said) → AreRead words others s → AsksPlainlyForHelp others → ⊥) → IsAsked words task file said
-asked_line words task file said ok other = record { others = ok.0; read = ok.1; line = ok.2; suits = ok.3; other = other ok.0 said ok.1 }
+pub asked_line : (words : Words) (task : Task) (file : List ℕ) (said : Said)
+    → ((others : Words) × AreRead words others said × IsLine task file others × Suits task said)
+    → ((others : Words) (s : Said) → AreRead words others s → AsksPlainlyForHelp others → ⊥)
+    → IsAsked words task file said
+asked_line words task file said ok other =
+    record { others = ok.0; read = ok.1; line = ok.2; suits = ok.3; other = other ok.0 said ok.1 }

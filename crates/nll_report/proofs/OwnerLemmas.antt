@@ -33,7 +33,8 @@ use Rattle.nll_report.specs.declared.messages.Refusal.TheVariants.{Usage, Cannot
 -- ---- so many owners as there may be
 
 pub may_be : (count : ℕ) → 0 < count → count ≤ most_owners → may_be_count count ≡ true
-may_be count some few = and_from (ltb 0 count) (leb count most_owners) (lt-ltb 0 count some) (le-leb count most_owners few)
+may_be count some few =
+    and_from (ltb 0 count) (leb count most_owners) (lt-ltb 0 count some) (le-leb count most_owners few)
 
 -- whether the number of owners is the error
 abbrev is_owners : Option CutError → Bool
@@ -47,7 +48,8 @@ abbrev told_owners : {T : Type 0} → Result T CutError → Bool
 told_owners (Ok value) = false
 told_owners (Err error) = is_owners (Some error)
 
-no_owners : {T : Type 0} (e : Option CutError) (r : Result T CutError) → is_owners e ≡ false → Answers e r → told_owners r ≡ false
+no_owners : {T : Type 0} (e : Option CutError) (r : Result T CutError) → is_owners e ≡ false → Answers e r
+    → told_owners r ≡ false
 no_owners e (Ok value) other h = refl
 no_owners e (Err due.Owners) other h = absurd (⊎_elim
     (λ is. true≢false (sym (ap is_owners is) ∙ other))
@@ -57,65 +59,81 @@ no_owners e (Err due.Length) other h = refl
 no_owners e (Err (due.NoSuchOwner index)) other h = refl
 no_owners e (Err due.Memory) other h = refl
 
-not_owners : {T : Type 0} (e : Option CutError) (r : Result T CutError) → is_owners e ≡ false → Answers e r → r ≢ Err due.Owners
+not_owners : {T : Type 0} (e : Option CutError) (r : Result T CutError) → is_owners e ≡ false → Answers e r
+    → r ≢ Err due.Owners
 not_owners e r other h = λ is. true≢false (sym (ap told_owners is) ∙ no_owners e r other h)
 
 by_deal : (count : ℕ) → may_be_count count ≡ true → owners_error count ≡ None
 by_deal count may = ap (λ b. if b then None else Some due.Owners) may
 
 -- a deal among so many owners is never refused for their number
-pub dealt_not_owners : {T : Type 0} (count : ℕ) (r : Result T CutError) → may_be_count count ≡ true → Answers (owners_error count) r → r ≢ Err due.Owners
+pub dealt_not_owners : {T : Type 0} (count : ℕ) (r : Result T CutError) → may_be_count count ≡ true
+    → Answers (owners_error count) r → r ≢ Err due.Owners
 dealt_not_owners count r may h = not_owners (owners_error count) r (ap is_owners (by_deal count may)) h
 
 by_list : (regions count : ℕ) (list : List ℕ) → may_be_count count ≡ true
-    → list_error regions count list ≡ (if not (eqb (length list) regions) then Some due.Length else stranger_error (position (nat_le count) list))
+    → list_error regions count list ≡ (if not (eqb (length list) regions) then Some due.Length else stranger_error
+    (position (nat_le count) list))
 by_list regions count list may =
-    ap (λ b. if not b then Some due.Owners else if not (eqb (length list) regions) then Some due.Length else stranger_error (position (nat_le count) list)) may
+    ap (λ b. if not b then Some due.Owners else if not (eqb (length list) regions) then Some due.Length
+    else stranger_error (position (nat_le count) list)) may
 
 stranger_other : (found : Option ℕ) → is_owners (stranger_error found) ≡ false
 stranger_other None = refl
 stranger_other (Some index) = refl
 
-entries_other : (same : Bool) (found : Option ℕ) → is_owners (if not same then Some due.Length else stranger_error found) ≡ false
+entries_other : (same : Bool) (found : Option ℕ)
+    → is_owners (if not same then Some due.Length else stranger_error found) ≡ false
 entries_other true found = stranger_other found
 entries_other false found = refl
 
 -- nor is a list
-pub listed_not_owners : {T : Type 0} (regions count : ℕ) (list : List ℕ) (r : Result T CutError) → may_be_count count ≡ true
+pub listed_not_owners : {T : Type 0} (regions count : ℕ) (list : List ℕ) (r : Result T CutError)
+    → may_be_count count ≡ true
     → Answers (list_error regions count list) r → r ≢ Err due.Owners
 listed_not_owners regions count list r may h =
     not_owners (list_error regions count list) r
-    (ap is_owners (by_list regions count list may) ∙ entries_other (eqb (length list) regions) (position (nat_le count) list)) h
+    (ap is_owners (by_list regions count list may)
+    ∙ entries_other (eqb (length list) regions) (position (nat_le count) list)) h
 
-size_by : (same : Bool) (found : Option ℕ) → (if not same then Some due.Length else stranger_error found) ≡ None → same ≡ true
+size_by : (same : Bool) (found : Option ℕ) → (if not same then Some due.Length else stranger_error found) ≡ None
+    → same ≡ true
 size_by true found e = refl
 size_by false found e = absurd (none-some due.Length (sym e))
 
 -- a list that is taken has an owner for each region
-pub listed_ok : (regions count : ℕ) (list : List ℕ) (r : Result Cut CutError) → may_be_count count ≡ true → Answers (list_error regions count list) r
-    → IfOk r (λ c. c ≡ cut_of count list) → IfOk r (λ c. (list_error regions count list ≡ None) × (c ≡ cut_of count list) × (length c.list ≡ regions))
+pub listed_ok : (regions count : ℕ) (list : List ℕ) (r : Result Cut CutError) → may_be_count count ≡ true
+    → Answers (list_error regions count list) r
+    → IfOk r (λ c. c ≡ cut_of count list)
+    → IfOk r (λ c. (list_error regions count list ≡ None) × (c ≡ cut_of count list) × (length c.list ≡ regions))
 listed_ok regions count list (Ok c) may none is = (
   none,
   is,
-  ap (λ (x : Cut). length x.list) is ∙ eqb-true (length list) regions (size_by (eqb (length list) regions) (position (nat_le count) list) (sym (by_list regions count list may) ∙ none)),
+  ap (λ (x : Cut). length x.list) is ∙ eqb-true (length list) regions
+      (size_by (eqb (length list) regions) (position (nat_le count) list)
+      (sym (by_list regions count list may) ∙ none)),
 )
 listed_ok regions count list (Err e) may none is = tt
 
 -- ---- what is made of a cut, and of why there is none
 
-module _ {T : Type 0} (made : Result T CutError) (r : Result T Refusal) (ok : IfOk made (λ value. r ≡ Ok value)) (err : IfErr made (λ e. IsErrAnd r (IsCutRefusal e))) where
+module _ {T : Type 0} (made : Result T CutError) (r : Result T Refusal) (ok : IfOk made (λ value. r ≡ Ok value))
+    (err : IfErr made (λ e. IsErrAnd r (IsCutRefusal e))) where
   pub taken_ok : (P : T → Type 0) → IfOk made P → IfOk r P
   taken_ok P h = at made r ok err h
     where
-      at : (made : Result T CutError) (r : Result T Refusal) → IfOk made (λ value. r ≡ Ok value) → IfErr made (λ e. IsErrAnd r (IsCutRefusal e)) → IfOk made P → IfOk r P
+      at : (made : Result T CutError) (r : Result T Refusal) → IfOk made (λ value. r ≡ Ok value)
+          → IfErr made (λ e. IsErrAnd r (IsCutRefusal e)) → IfOk made P → IfOk r P
       at (Ok value) r ok err h = subst (λ x. IfOk x P) (sym ok) h
       at (Err e) (Ok value) ok err h = absurd err
       at (Err e) (Err f) ok err h = tt
 
-  pub dealt_refused : (count : ℕ) → may_be_count count ≡ true → Answers (owners_error count) made → IfErr r (λ e. e ≡ Memory)
+  pub dealt_refused : (count : ℕ) → may_be_count count ≡ true → Answers (owners_error count) made
+      → IfErr r (λ e. e ≡ Memory)
   dealt_refused count may h = at made r ok err h
     where
-      at : (made : Result T CutError) (r : Result T Refusal) → IfOk made (λ value. r ≡ Ok value) → IfErr made (λ e. IsErrAnd r (IsCutRefusal e))
+      at : (made : Result T CutError) (r : Result T Refusal) → IfOk made (λ value. r ≡ Ok value)
+          → IfErr made (λ e. IsErrAnd r (IsCutRefusal e))
           → Answers (owners_error count) made → IfErr r (λ e. e ≡ Memory)
       at (Ok value) r ok err h = subst (λ x. IfErr x (λ e. e ≡ Memory)) (sym ok) tt
       at (Err e) (Ok value) ok err h = absurd err
@@ -124,12 +142,16 @@ module _ {T : Type 0} (made : Result T CutError) (r : Result T Refusal) (ok : If
           (λ is. subst (λ x. IsCutRefusal x f) is.1 err)
           h
 
-  pub listed_refused : (e : Option CutError) → Answers e made → IfErr r (λ f. (f ≡ Memory) ⊎ ((why : CutError) × (e ≡ Some why) × IsCutRefusal why f))
+  pub listed_refused : (e : Option CutError) → Answers e made
+      → IfErr r (λ f. (f ≡ Memory) ⊎ ((why : CutError) × (e ≡ Some why) × IsCutRefusal why f))
   listed_refused e h = at made r ok err h
     where
-      at : (made : Result T CutError) (r : Result T Refusal) → IfOk made (λ value. r ≡ Ok value) → IfErr made (λ e. IsErrAnd r (IsCutRefusal e))
+      at : (made : Result T CutError) (r : Result T Refusal) → IfOk made (λ value. r ≡ Ok value)
+          → IfErr made (λ e. IsErrAnd r (IsCutRefusal e))
           → Answers e made → IfErr r (λ f. (f ≡ Memory) ⊎ ((why : CutError) × (e ≡ Some why) × IsCutRefusal why f))
-      at (Ok value) r ok err h = subst (λ x. IfErr x (λ f. (f ≡ Memory) ⊎ ((why : CutError) × (e ≡ Some why) × IsCutRefusal why f))) (sym ok) tt
+      at (Ok value) r ok err h =
+          subst (λ x. IfErr x (λ f. (f ≡ Memory) ⊎ ((why : CutError) × (e ≡ Some why) × IsCutRefusal why f)))
+          (sym ok) tt
       at (Err why) (Ok value) ok err h = absurd err
       at (Err why) (Err f) ok err h = ⊎_elim
           (λ is. inr (why, is, err))
@@ -146,22 +168,27 @@ is_memory other = false
 pub fault_of : (format : Format) (text : List ℕ) (error : TextError) → IsRefusal (IsFault format text) error
     → (k : TextKind) → is_memory k ≡ false → error.kind ≡ k → IsFault format text error.line k
 fault_of format text error refusal k other is = subst (IsFault format text error.line) is
-    (⊎_elim (λ wanting. absurd (true≢false (sym (ap (λ (e : TextError). is_memory e.kind) wanting) ∙ ap is_memory is ∙ other))) (λ found. found) refusal)
+    (⊎_elim (λ wanting. absurd (true≢false
+    (sym (ap (λ (e : TextError). is_memory e.kind) wanting) ∙ ap is_memory is ∙ other))) (λ found. found) refusal)
 
 -- ---- the text of a cut file
 
 module _ (regions count : ℕ) (text : List ℕ) where
   -- its list is no cut
   pub list_told : (list : List ℕ) (e : Refusal) → Means text list
-      → (e ≡ Memory) ⊎ ((why : CutError) × (list_error regions count list ≡ Some why) × IsCutRefusal why e) → IsCutTextRefused regions count text e
+      → (e ≡ Memory) ⊎ ((why : CutError) × (list_error regions count list ≡ Some why) × IsCutRefusal why e)
+      → IsCutTextRefused regions count text e
   list_told list e means = ⊎_elim
       (λ is. subst (IsCutTextRefused regions count text) (sym is) refl)
       (λ h. by_error h.0 h.1 h.2)
     where
-      by_error : (why : CutError) → list_error regions count list ≡ Some why → IsCutRefusal why e → IsCutTextRefused regions count text e
+      by_error : (why : CutError) → list_error regions count list ≡ Some why → IsCutRefusal why e
+          → IsCutTextRefused regions count text e
       by_error due.Owners is h = absurd h
-      by_error due.Length is h = subst (IsCutTextRefused regions count text) (sym h) (record { list = list; means = means; due = is })
-      by_error (due.NoSuchOwner index) is h = subst (IsCutTextRefused regions count text) (sym h) (record { list = list; means = means; due = is })
+      by_error due.Length is h =
+          subst (IsCutTextRefused regions count text) (sym h) (record { list = list; means = means; due = is })
+      by_error (due.NoSuchOwner index) is h =
+          subst (IsCutTextRefused regions count text) (sym h) (record { list = list; means = means; due = is })
       by_error due.Memory is h = subst (IsCutTextRefused regions count text) (sym h) refl
 
   -- it has a fault
@@ -189,10 +216,12 @@ is_wanting Memory = true
 is_wanting other = false
 
 -- a refusal of its text is one of the file
-pub cut_file_told : (holds : Holds) (lacks : Lacks) (regions count : ℕ) (path text : List ℕ) (e : Refusal) → holds path text
+pub cut_file_told : (holds : Holds) (lacks : Lacks) (regions count : ℕ) (path text : List ℕ) (e : Refusal)
+    → holds path text
     → IsCutTextRefused regions count text e → IsCutFileRefused holds lacks regions count path e
 cut_file_told holds lacks regions count path text Usage held h = (text, held, h)
-cut_file_told holds lacks regions count path text (CannotRead other) held h = absurd (true≢false (sym (ap is_wanting h)))
+cut_file_told holds lacks regions count path text (CannotRead other) held h =
+    absurd (true≢false (sym (ap is_wanting h)))
 cut_file_told holds lacks regions count path text (Text line k) held h = (text, held, h)
 cut_file_told holds lacks regions count path text (Limit counted) held h = (text, held, h)
 cut_file_told holds lacks regions count path text (CutText line k) held h = (text, held, h)
@@ -206,7 +235,8 @@ cut_file_told holds lacks regions count path text CannotWrite held h = (text, he
 -- ---- owners at work
 
 -- why there is no cut is why there is no report
-pub cut_told : (holds : Holds) (lacks : Lacks) (q : Problem) (count : ℕ) (how : Deal) (path : Option (List ℕ)) (e : Refusal)
+pub cut_told : (holds : Holds) (lacks : Lacks) (q : Problem) (count : ℕ) (how : Deal) (path : Option (List ℕ))
+    (e : Refusal)
     → IsCutRefused holds lacks q.regions count path e → IsWorkRefused holds lacks q count how path e
 cut_told holds lacks q count how path Usage h = h
 cut_told holds lacks q count how path (CannotRead other) h = h
@@ -221,7 +251,8 @@ cut_told holds lacks q count how path Memory h = tt
 cut_told holds lacks q count how path CannotWrite h = h
 
 -- and so is why a run is refused
-pub run_told : (holds : Holds) (lacks : Lacks) (q : Problem) (count : ℕ) (how : Deal) (path : Option (List ℕ)) (e : AnswerError)
+pub run_told : (holds : Holds) (lacks : Lacks) (q : Problem) (count : ℕ) (how : Deal) (path : Option (List ℕ))
+    (e : AnswerError)
     → IsRunError e → IsWorkRefused holds lacks q count how path (refusal_of e)
 run_told holds lacks q count how path (answer.Text error) h = absurd h
 run_told holds lacks q count how path (answer.Rule error) h = absurd h
@@ -231,13 +262,16 @@ run_told holds lacks q count how path answer.Memory h = tt
 
 -- ---- what a line asks for
 
-pub may_be_asked : (count : Option ℕ) (n : ℕ) → IfSome count (λ n. (0 < n) × (n ≤ most_owners)) → n ≡ count_of count → may_be_count n ≡ true
+pub may_be_asked : (count : Option ℕ) (n : ℕ) → IfSome count (λ n. (0 < n) × (n ≤ most_owners)) → n ≡ count_of count
+    → may_be_count n ≡ true
 may_be_asked None n lawful is = ap may_be_count is
 may_be_asked (Some count) n lawful is = ap may_be_count is ∙ may_be count lawful.0 lawful.1
 
-pub owners_told : (holds : Holds) (lacks : Lacks) (file : List ℕ) (said : Said) (n : ℕ) (deal : Deal) (path : Option (List ℕ)) (e : Refusal)
+pub owners_told : (holds : Holds) (lacks : Lacks) (file : List ℕ) (said : Said) (n : ℕ) (deal : Deal)
+    (path : Option (List ℕ)) (e : Refusal)
     → n ≡ count_of said.owners → deal ≡ deal_of said.deal → path ≡ said.cut → AsksForOwners said.owners said.cut
-    → IsFileRefused holds lacks file e ⊎ IsOwnersRefused holds lacks file n deal path e → IsFileRefused holds lacks file e ⊎ AreOwnersRefused holds lacks file said e
+    → IsFileRefused holds lacks file e ⊎ IsOwnersRefused holds lacks file n deal path e
+    → IsFileRefused holds lacks file e ⊎ AreOwnersRefused holds lacks file said e
 owners_told holds lacks file said n deal path e is_count is_deal is_path asks = ⊎_elim
     inl
     (λ h. inr (
@@ -247,8 +281,10 @@ owners_told holds lacks file said n deal path e is_count is_deal is_path asks = 
           (subst (λ p. IsOwnersRefused holds lacks file n deal p e) is_path h)),
     ))
 
-pub file_answer : (holds : Holds) (file : List ℕ) (command : Command) (q : Problem) (labels : Labels) (report : List ℕ) (status : ℕ)
-    → IsFileMeaning holds file q labels → IsProblemAnswer command q labels report status → IsFileAnswer holds command file report status
+pub file_answer : (holds : Holds) (file : List ℕ) (command : Command) (q : Problem) (labels : Labels) (report : List ℕ)
+    (status : ℕ)
+    → IsFileMeaning holds file q labels → IsProblemAnswer command q labels report status
+    → IsFileAnswer holds command file report status
 file_answer holds file command q labels report status means h = record {
   text = means.text;
   held = means.held;

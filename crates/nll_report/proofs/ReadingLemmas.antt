@@ -10,7 +10,8 @@ known_up (Some bytes) limit old new empty h = h ∙ ap (λ xs. xs ++ take limit 
 
 -- what is read to the end through a limit
 pub read_up : {R : Type 0} (remaining : R → Option (List ℕ)) (t : Take R) (file : R) (limit : ℕ) (old new : List ℕ)
-    → take_limit t ≡ limit → take_inner t ≡ file → old ≡ [] → IfSome (take_remaining remaining t) (λ xs. new ≡ old ++ xs)
+    → take_limit t ≡ limit → take_inner t ≡ file → old ≡ []
+    → IfSome (take_remaining remaining t) (λ xs. new ≡ old ++ xs)
     → IfSome (remaining file) (λ bytes. new ≡ take limit bytes)
 read_up remaining t file limit old new limited inner empty h =
     known_up (remaining file) limit old new empty

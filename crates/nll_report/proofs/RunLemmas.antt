@@ -46,8 +46,10 @@ nothing_else _ _ _ (behind given first others rest plain h) e = cc
 
 no_line : AreRefused []
 no_line others said read =
-    let none = nothing_else read.given others [] read.placed refl in
-    (λ task file plain suits. no_plain task file (subst (IsPlainLine task file) none plain), λ h. no_help (subst AsksPlainlyForHelp none h))
+    let none = nothing_else read.given others [] read.placed refl in (
+      λ task file plain suits. no_plain task file (subst (IsPlainLine task file) none plain),
+      λ h. no_help (subst AsksPlainlyForHelp none h),
+    )
 
 -- words that are lost, or want of memory, are refused as no words are
 pub lost_words : (holds : Holds) (lacks : Lacks) (refusal : Refusal) → (refusal ≡ Usage) ⊎ (refusal ≡ Memory)
@@ -71,7 +73,8 @@ begun_by holds words status room old new bytes slice written run is begun refuse
     cut_slice = record { count = written; begun = begun; refused = refused }
 
 -- neither a cut nor a schedule is why words are refused, or why standard output failed
-module _ (holds : Holds) (lacks : Lacks) (count : ℕ) (how : Deal) (refusal : Refusal) (is : (refusal ≡ Usage) ⊎ (refusal ≡ CannotWrite)) where
+module _ (holds : Holds) (lacks : Lacks) (count : ℕ) (how : Deal) (refusal : Refusal)
+    (is : (refusal ≡ Usage) ⊎ (refusal ≡ CannotWrite)) where
   unwanted : (regions : ℕ) (path : Option (List ℕ)) → IsCutRefused holds lacks regions count path refusal → ⊥
   unwanted regions None h = ⊎_elim
       (λ usage. true≢false (sym (ap is_wanting (sym usage ∙ h))))
@@ -79,50 +82,63 @@ module _ (holds : Holds) (lacks : Lacks) (count : ℕ) (how : Deal) (refusal : R
       is
   unwanted regions (Some path) h = ⊎_elim
       (λ usage.
-      let at : IsCutFileRefused holds lacks regions count path Usage = subst (λ r. IsCutFileRefused holds lacks regions count path r) usage h in
+      let at : IsCutFileRefused holds lacks regions count path Usage =
+      subst (λ r. IsCutFileRefused holds lacks regions count path r) usage h in
       true≢false (sym (ap is_wanting at.2)))
       (λ write.
-      let at : IsCutFileRefused holds lacks regions count path CannotWrite = subst (λ r. IsCutFileRefused holds lacks regions count path r) write h in
+      let at : IsCutFileRefused holds lacks regions count path CannotWrite =
+      subst (λ r. IsCutFileRefused holds lacks regions count path r) write h in
       true≢false (sym (ap is_wanting at.2)))
       is
 
   unscheduled : (schedule : List ℕ) → IsScheduleRefused holds lacks count schedule refusal → ⊥
   unscheduled schedule h = ⊎_elim
       (λ usage.
-      let at : IsScheduleRefused holds lacks count schedule Usage = subst (λ r. IsScheduleRefused holds lacks count schedule r) usage h in
+      let at : IsScheduleRefused holds lacks count schedule Usage =
+      subst (λ r. IsScheduleRefused holds lacks count schedule r) usage h in
       true≢false (sym (ap is_wanting at.2)))
       (λ write.
-      let at : IsScheduleRefused holds lacks count schedule CannotWrite = subst (λ r. IsScheduleRefused holds lacks count schedule r) write h in
+      let at : IsScheduleRefused holds lacks count schedule CannotWrite =
+      subst (λ r. IsScheduleRefused holds lacks count schedule r) write h in
       true≢false (sym (ap is_wanting at.2)))
       is
 
-  unreplayed : (regions : ℕ) (path : Option (List ℕ)) (schedule : List ℕ) → IsReplayRefused holds lacks regions count how path schedule refusal → ⊥
+  unreplayed : (regions : ℕ) (path : Option (List ℕ)) (schedule : List ℕ)
+      → IsReplayRefused holds lacks regions count how path schedule refusal → ⊥
   unreplayed regions path schedule = ⊎_elim (unwanted regions path) (λ h. unscheduled schedule h.2)
 
 -- the refusal of what a line asks for
 module _ (holds : Holds) (lacks : Lacks) (words : Words) (file : List ℕ) (said : Said) where
-  line_refused : (task : Task) (asked : IsAsked words task file said) (refusal : Refusal) → IsTaskRefused holds lacks task file said refusal
+  line_refused : (task : Task) (asked : IsAsked words task file said) (refusal : Refusal)
+      → IsTaskRefused holds lacks task file said refusal
       → IsLineRefused holds lacks words refusal
   line_refused task asked refusal h = record { task = task; file = file; said = said; asked = asked; refused = h }
 
   -- nothing of words or of standard output is told behind the file
-  owners_silent : (refusal : Refusal) → (refusal ≡ Usage) ⊎ (refusal ≡ CannotWrite) → AreOwnersRefused holds lacks file said refusal → ⊥
+  owners_silent : (refusal : Refusal) → (refusal ≡ Usage) ⊎ (refusal ≡ CannotWrite)
+      → AreOwnersRefused holds lacks file said refusal → ⊥
   owners_silent refusal is h = ⊎_elim
       (λ usage.
       let at : AreOwnersRefused holds lacks file said Usage = subst (AreOwnersRefused holds lacks file said) usage h in
-      unwanted holds lacks (count_of said.owners) (deal_of said.deal) Usage (inl refl) at.1.problem.regions said.cut at.1.refused)
+      unwanted holds lacks (count_of said.owners) (deal_of said.deal) Usage
+      (inl refl) at.1.problem.regions said.cut at.1.refused)
       (λ write.
-      let at : AreOwnersRefused holds lacks file said CannotWrite = subst (AreOwnersRefused holds lacks file said) write h in
-      unwanted holds lacks (count_of said.owners) (deal_of said.deal) CannotWrite (inr refl) at.1.problem.regions said.cut at.1.refused)
+      let at : AreOwnersRefused holds lacks file said CannotWrite =
+      subst (AreOwnersRefused holds lacks file said) write h in
+      unwanted holds lacks (count_of said.owners) (deal_of said.deal) CannotWrite
+      (inr refl) at.1.problem.regions said.cut at.1.refused)
       is
 
-  silent : (task : Task) (refusal : Refusal) → (refusal ≡ Usage) ⊎ (refusal ≡ CannotWrite) → IsRefusedBehindFile holds lacks task file said refusal → ⊥
+  silent : (task : Task) (refusal : Refusal) → (refusal ≡ Usage) ⊎ (refusal ≡ CannotWrite)
+      → IsRefusedBehindFile holds lacks task file said refusal → ⊥
   silent Values refusal is h = owners_silent refusal is h
   silent Check refusal is h = owners_silent refusal is h
   silent Replay refusal is h =
-      unreplayed holds lacks (count_of said.owners) (deal_of said.deal) refusal is h.2.problem.regions said.cut h.0 h.2.refused
+      unreplayed holds lacks (count_of said.owners)
+      (deal_of said.deal) refusal is h.2.problem.regions said.cut h.0 h.2.refused
 
-  pub line_told : (task : Task) (asked : IsAsked words task file said) (refusal : Refusal) → IsTaskRefused holds lacks task file said refusal
+  pub line_told : (task : Task) (asked : IsAsked words task file said) (refusal : Refusal)
+      → IsTaskRefused holds lacks task file said refusal
       → IsRefused holds lacks words refusal
   line_told task asked Usage h = absurd (⊎_elim (λ none. none) (silent task Usage (inl refl)) h)
   line_told task asked (CannotRead other) h = line_refused task asked (CannotRead other) h
@@ -166,7 +182,9 @@ module _ (holds : Holds) (lacks : Lacks) (file text : List ℕ) (held : holds fi
 
 -- the same, of a text by its path and its bytes
 pub answer_told : (holds : Holds) (lacks : Lacks) (path file slice text : List ℕ) (e : AnswerError) (refusal : Refusal)
-    → path ≡ file → slice ≡ text → refusal ≡ refusal_of e → holds path text → IsAnswerError slice e → IsFileRefused holds lacks file refusal
+    → path ≡ file → slice ≡ text → refusal ≡ refusal_of e → holds path text → IsAnswerError slice e
+    → IsFileRefused holds lacks file refusal
 answer_told holds lacks path file slice text e refusal at bytes is held h =
     subst (IsFileRefused holds lacks file) (sym is)
-    (error_told holds lacks file text (subst (λ (p : List ℕ). holds p text) at held) e (subst (λ (t : List ℕ). IsAnswerError t e) bytes h))
+    (error_told holds lacks file text (subst (λ (p : List ℕ). holds p text) at held) e
+    (subst (λ (t : List ℕ). IsAnswerError t e) bytes h))

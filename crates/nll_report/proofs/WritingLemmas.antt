@@ -19,6 +19,9 @@ Appends-take old mid new bytes i n first next =
 pub begins : (old mid new : Option (List ℕ)) (bytes : List ℕ) (r : Result (Unit {0}) Unwritten)
     → OnOk r (Appends old mid bytes) → IfErr r (λ e. Appends old mid (take e.written bytes)) → Keeps mid new
     → (count : ℕ) × Appends old new (take count bytes)
-begins old mid new bytes (Ok done) all first kept =
-    (length bytes, Appends-kept old mid new _ (subst (Appends old mid) (sym (take_all (length bytes) bytes (omega arith))) all) kept)
+begins old mid new bytes (Ok done) all first kept = (
+  length bytes,
+  Appends-kept old mid new _
+      (subst (Appends old mid) (sym (take_all (length bytes) bytes (omega arith))) all) kept,
+)
 begins old mid new bytes (Err e) all first kept = (e.written, Appends-kept old mid new _ first kept)

@@ -37,7 +37,9 @@ resolved_none s = record {
 }
 
 -- one more node is resolved
-pub resolved_push : (s : Scope) (ns : List TypeNode) (n : TypeNode) (old new : List ResolvedNode) (before after : List Told) → AreBelow (length ns) (texts.parts_of n) → AreResolved s ns old before → IsPushed s n old before new after → AreResolved s (ns ++ n ∷ []) new after
+pub resolved_push : (s : Scope) (ns : List TypeNode) (n : TypeNode) (old new : List ResolvedNode)
+    (before after : List Told) → AreBelow (length ns) (texts.parts_of n) → AreResolved s ns old before
+    → IsPushed s n old before new after → AreResolved s (ns ++ n ∷ []) new after
 resolved_push s ns n old new before after below a p =
     let known : List WrittenType = types_from [] ns in
     let one = p.type known a.told in
@@ -54,21 +56,26 @@ resolved_push s ns n old new before after below a p =
           (λ h. rw (p.made, get_or_append_left old (p.node ∷ []) nodes.Int i h) (a.earlier i h))
           (λ h. let e : i ≡ length old = omega (arith, h, l, ap length p.made, length-append old (p.node ∷ [])) in
           let m : length old ≡ length ns = a.counted in
-          rw (e, p.made, get_or-append_seam old p.node [] nodes.Int) (all_below (length old) (parts_of p.node) (p.parts (length old) (rw m below))))
+          rw (e, p.made, get_or-append_seam old p.node [] nodes.Int)
+          (all_below (length old) (parts_of p.node) (p.parts (length old) (rw m below))))
           (cases_lt i (length old));
     }
 
 -- the nodes that are resolved are those of a type
-pub nodes_made : (s : Scope) (ns : List TypeNode) (made : List ResolvedNode) (told : List Told) → 0 < length ns → AreResolved s ns made told → AreNodes made
+pub nodes_made : (s : Scope) (ns : List TypeNode) (made : List ResolvedNode) (told : List Told) → 0 < length ns
+    → AreResolved s ns made told → AreNodes made
 nodes_made s ns made told some a = record { some = omega (arith, a.counted, some); earlier = a.earlier }
 
 -- of the shapes of parts
-pub shapes_below : (n : ℕ) (done : List ℕ) → AreBelow n done → (is : List ℕ) → AreBelow (length done) is → AreBelow n (map (slice_index done) is)
+pub shapes_below : (n : ℕ) (done : List ℕ) → AreBelow n done → (is : List ℕ) → AreBelow (length done) is
+    → AreBelow n (map (slice_index done) is)
 shapes_below n done have [] b k l = absurd (omega arith)
 shapes_below n done have (i ∷ is) b zero l = have i (b 0 (omega arith))
-shapes_below n done have (i ∷ is) b (suc k) l = shapes_below n done have is (rest_below (length done) i is b) k (omega arith)
+shapes_below n done have (i ∷ is) b (suc k) l =
+    shapes_below n done have is (rest_below (length done) i is b) k (omega arith)
 
-pub shapes_all : (shapes : List Node) (ts : List TypeTree) (done : List ℕ) → AreShaped shapes ts done → (is : List ℕ) → AreBelow (length done) is → table.all_at (shapes_in shapes) (map (slice_index done) is) ≡ shapes_of (all_at ts is)
+pub shapes_all : (shapes : List Node) (ts : List TypeTree) (done : List ℕ) → AreShaped shapes ts done → (is : List ℕ)
+    → AreBelow (length done) is → table.all_at (shapes_in shapes) (map (slice_index done) is) ≡ shapes_of (all_at ts is)
 shapes_all shapes ts done a [] b = refl
 shapes_all shapes ts done a (i ∷ is) b =
     let here = a.each i (b 0 (omega arith)) in
@@ -77,15 +84,22 @@ shapes_all shapes ts done a (i ∷ is) b =
 
 -- no type has a shape yet
 pub shaped_none : (shapes : List Node) → AreShaped shapes [] []
-shaped_none shapes = record { counted = refl; within = λ k l. absurd (omega (arith, l)); each = λ k l. absurd (omega (arith, l)) }
+shaped_none shapes =
+    record { counted = refl; within = λ k l. absurd (omega (arith, l)); each = λ k l. absurd (omega (arith, l)) }
 
 -- one more type has a shape
-pub shaped_push : (old new : List Node) (ts : List TypeTree) (done : List ℕ) (t : TypeTree) (i : ℕ) → Extends old new → AreShaped old ts done → i < length new → shape_in new i ≡ shape_of t → AreShaped new (ts ++ t ∷ []) (done ++ i ∷ [])
+pub shaped_push : (old new : List Node) (ts : List TypeTree) (done : List ℕ) (t : TypeTree) (i : ℕ) → Extends old new
+    → AreShaped old ts done → i < length new → shape_in new i ≡ shape_of t
+    → AreShaped new (ts ++ t ∷ []) (done ++ i ∷ [])
 shaped_push old new ts done t i e a within last = record {
   counted = omega (arith, a.counted, length-append done (i ∷ []), length-append ts (t ∷ []));
   within = below_push (length new) i done (λ k l. let p = a.within k l in let q = e.longer in omega arith) within;
   each = λ k l. ⊎_elim
-      (λ h. rw (get_or_append_left done (i ∷ []) 0 k h, get_or_append_left ts (t ∷ []) int k (omega (arith, h, a.counted))) (e.kept (slice_index done k) (a.within k h) ∙ a.each k h))
+      (λ h. rw (
+        get_or_append_left done (i ∷ []) 0 k h,
+        get_or_append_left ts (t ∷ []) int k (omega (arith, h, a.counted)),
+      )
+      (e.kept (slice_index done k) (a.within k h) ∙ a.each k h))
       (λ h. let m : k ≡ length done = omega (arith, h, l, length-append done (i ∷ [])) in
       let n : k ≡ length ts = omega (arith, m, a.counted) in
       let here = get_or-append_seam done i [] 0 in

@@ -6,15 +6,18 @@ use Rattle.nll_rules.specs.Pairs.{AddsPairs, AtOne}
 pub adds_none : (kind : ℕ × ℕ → Type 0) (list : List (ℕ × ℕ)) → ((x : ℕ × ℕ) → kind x → ⊥) → AddsPairs kind list list
 adds_none kind list nothing = record { each = λ x. (inl, ⊎_elim (λ h. h) (λ k. absurd (nothing x k))) }
 
-pub adds_append : (p q : ℕ × ℕ → Type 0) (a b c : List (ℕ × ℕ)) → AddsPairs p a b → AddsPairs q b c → AddsPairs (λ x. p x ⊎ q x) a c
+pub adds_append : (p q : ℕ × ℕ → Type 0) (a b c : List (ℕ × ℕ)) → AddsPairs p a b → AddsPairs q b c
+    → AddsPairs (λ x. p x ⊎ q x) a c
 adds_append p q a b c h k = record {
   each = λ x. (
     λ n. ⊎_elim (λ m. ⊎_elim inl (λ y. inr (inl y)) ((h.each x).0 m)) (λ y. inr (inr y)) ((k.each x).0 n),
-    ⊎_elim (λ o. (k.each x).1 (inl ((h.each x).1 (inl o)))) (⊎_elim (λ y. (k.each x).1 (inl ((h.each x).1 (inr y)))) (λ y. (k.each x).1 (inr y))),
+    ⊎_elim (λ o. (k.each x).1 (inl ((h.each x).1 (inl o))))
+        (⊎_elim (λ y. (k.each x).1 (inl ((h.each x).1 (inr y)))) (λ y. (k.each x).1 (inr y))),
   );
 }
 
-pub adds_same : (p q : ℕ × ℕ → Type 0) (a b : List (ℕ × ℕ)) → ((x : ℕ × ℕ) → p x ↔ q x) → AddsPairs p a b → AddsPairs q a b
+pub adds_same : (p q : ℕ × ℕ → Type 0) (a b : List (ℕ × ℕ)) → ((x : ℕ × ℕ) → p x ↔ q x) → AddsPairs p a b
+    → AddsPairs q a b
 adds_same p q a b s h = record {
   each = λ x. (
     λ n. ⊎_elim inl (λ y. inr ((s x).0 y)) ((h.each x).0 n),
@@ -29,9 +32,11 @@ AtOneBelow n kind x = (k : ℕ) × (k < n) × kind k x
 pub below_none : (kind : ℕ → ℕ × ℕ → Type 0) (a : List (ℕ × ℕ)) → AddsPairs (AtOneBelow 0 kind) a a
 below_none kind a = adds_none (AtOneBelow 0 kind) a (λ x p. (let l = p.1 in absurd (omega arith)))
 
-pub below_more : (kind : ℕ → ℕ × ℕ → Type 0) (here : ℕ × ℕ → Type 0) (n : ℕ) (a b c : List (ℕ × ℕ)) → ((x : ℕ × ℕ) → here x ↔ kind n x)
+pub below_more : (kind : ℕ → ℕ × ℕ → Type 0) (here : ℕ × ℕ → Type 0) (n : ℕ) (a b c : List (ℕ × ℕ))
+    → ((x : ℕ × ℕ) → here x ↔ kind n x)
     → AddsPairs (AtOneBelow n kind) a b → AddsPairs here b c → AddsPairs (AtOneBelow (n + 1) kind) a c
-below_more kind here n a b c is h k = adds_same _ (AtOneBelow (n + 1) kind) a c (λ x. (⊎_elim (earlier x) (now x), later x)) (adds_append _ _ a b c h k)
+below_more kind here n a b c is h k =
+    adds_same _ (AtOneBelow (n + 1) kind) a c (λ x. (⊎_elim (earlier x) (now x), later x)) (adds_append _ _ a b c h k)
   where
     earlier : (x : ℕ × ℕ) → AtOneBelow n kind x → AtOneBelow (n + 1) kind x
     earlier x p = (p.0, (let l = p.1 in omega arith), p.2)
@@ -45,5 +50,7 @@ below_more kind here n a b c is h k = adds_same _ (AtOneBelow (n + 1) kind) a c 
         (λ l. let e : p.0 ≡ n = (let m = p.1 in omega arith) in inr ((is x).1 (subst (λ (k : ℕ). kind k x) e p.2)))
         (cases_lt p.0 n)
 
-pub below_all : (kind : ℕ → ℕ × ℕ → Type 0) (n : ℕ) (a b : List (ℕ × ℕ)) → ((k : ℕ) (x : ℕ × ℕ) → kind k x → k < n) → AddsPairs (AtOneBelow n kind) a b → AddsPairs (AtOne kind) a b
-below_all kind n a b within h = adds_same (AtOneBelow n kind) (AtOne kind) a b (λ x. (λ p. (p.0, p.2), λ p. (p.0, within p.0 x p.1, p.1))) h
+pub below_all : (kind : ℕ → ℕ × ℕ → Type 0) (n : ℕ) (a b : List (ℕ × ℕ)) → ((k : ℕ) (x : ℕ × ℕ) → kind k x → k < n)
+    → AddsPairs (AtOneBelow n kind) a b → AddsPairs (AtOne kind) a b
+below_all kind n a b within h =
+    adds_same (AtOneBelow n kind) (AtOne kind) a b (λ x. (λ p. (p.0, p.2), λ p. (p.0, within p.0 x p.1, p.1))) h

@@ -18,14 +18,18 @@ use Rattle.nll_rules.proofs.SubtypeLemmas.{form}
 
 -- behind the first n of the projections they go through a reference of the region a
 abbrev Through : List Struct → List Projection → Option TypeTree → ℕ → ℕ → Bool → Type 0
-Through structs ps o n a m = (slice_get ps n ≡ Some Deref) × (u : TypeTree) × (option_and_then (behind_all structs (take n ps)) o ≡ Some (reference a m u))
+Through structs ps o n a m =
+    (slice_get ps n ≡ Some Deref) × (u : TypeTree)
+    × (option_and_then (behind_all structs (take n ps)) o ≡ Some (reference a m u))
 
 -- they go through `mut` references alone
 abbrev AllOpen : List Struct → List Projection → Option TypeTree → Type 0
 AllOpen structs ps o = (k b : ℕ) (q : Bool) → Through structs ps o k b q → q ≡ true
 
 abbrev RestsFrom : List Struct → List Projection → Option TypeTree → ℕ → Type 0
-RestsFrom structs ps o a = (n : ℕ) × (m : Bool) × Through structs ps o n a m × ((k b : ℕ) (q : Bool) → n < k → Through structs ps o k b q → q ≡ true)
+RestsFrom structs ps o a =
+    (n : ℕ) × (m : Bool) × Through structs ps o n a m
+    × ((k b : ℕ) (q : Bool) → n < k → Through structs ps o k b q → q ≡ true)
 
 -- the regions behind all projections, where there is a type
 abbrev rests_of : List Struct → List Projection → Option TypeTree → List ℕ → List ℕ
@@ -47,17 +51,31 @@ First p t a m = (p ≡ Deref) × (u : TypeTree) × (t ≡ reference a m u)
 abbrev FirstOpen : Projection → TypeTree → Type 0
 FirstOpen p t = (b : ℕ) (q : Bool) → First p t b q → q ≡ true
 
-kept : (p : Projection) (t : TypeTree) (regions : List ℕ) (a : ℕ) → ((b : ℕ) (q : Bool) → First p t b q → ⊥) → Contains regions a ↔ (((m : Bool) × First p t a m) ⊎ (Contains regions a × FirstOpen p t))
+kept : (p : Projection) (t : TypeTree) (regions : List ℕ) (a : ℕ) → ((b : ℕ) (q : Bool) → First p t b q → ⊥)
+    → Contains regions a ↔ (((m : Bool) × First p t a m) ⊎ (Contains regions a × FirstOpen p t))
 kept p t regions a none = (λ c. inr (c, λ b q f. absurd (none b q f)), ⊎_elim (λ f. absurd (none a f.0 f.1)) (λ c. c.0))
 
-past_is : (p : Projection) (t : TypeTree) (regions : List ℕ) (a : ℕ) → Contains (past p t regions) a ↔ (((m : Bool) × First p t a m) ⊎ (Contains regions a × FirstOpen p t))
+past_is : (p : Projection) (t : TypeTree) (regions : List ℕ) (a : ℕ)
+    → Contains (past p t regions) a ↔ (((m : Bool) × First p t a m) ⊎ (Contains regions a × FirstOpen p t))
 past_is Deref (reference r true u) regions a = (
-  λ c. ⊎_elim (λ d. inr (d, λ b q f. (let e = f.2 in cc))) (λ e. inl (true, (refl, u, ap (λ (z : ℕ). reference z true u) e))) (Contains-push_cases regions r a c),
-  ⊎_elim (λ f. (let e : r ≡ a = (let d = f.1.2 in cc) in subst (λ (z : ℕ). Contains (regions ++ r ∷ []) z) e (Contains-push regions r))) (λ c. Contains-append_left regions (r ∷ []) a c.0),
+  λ c. ⊎_elim (λ d. inr (d, λ b q f. (let e = f.2 in cc)))
+      (λ e. inl (true, (refl, u, ap (λ (z : ℕ). reference z true u) e))) (Contains-push_cases regions r a c),
+  ⊎_elim (λ f. (let e : r ≡ a = (let d = f.1.2 in cc) in
+      subst (λ (z : ℕ). Contains (regions ++ r ∷ []) z) e (Contains-push regions r)))
+      (λ c. Contains-append_left regions (r ∷ []) a c.0),
 )
 past_is Deref (reference r false u) regions a = (
-  λ c. inl (false, (refl, u, ap (λ (z : ℕ). reference z false u) (⊎_elim (λ d. absurd (let l = d.1 in omega arith)) (λ e. e) (Contains-push_cases [] r a c)))),
-  ⊎_elim (λ f. (let e : r ≡ a = (let d = f.1.2 in cc) in subst (λ (z : ℕ). Contains (r ∷ []) z) e (Contains-push [] r))) (λ c. absurd (let e : false ≡ true = c.1 r false (refl, u, refl) in cc)),
+  λ c. inl (
+    false,
+    (
+      refl,
+      u,
+      ap (λ (z : ℕ). reference z false u)
+          (⊎_elim (λ d. absurd (let l = d.1 in omega arith)) (λ e. e) (Contains-push_cases [] r a c)),
+    ),
+  ),
+  ⊎_elim (λ f. (let e : r ≡ a = (let d = f.1.2 in cc) in subst (λ (z : ℕ). Contains (r ∷ []) z) e (Contains-push [] r)))
+      (λ c. absurd (let e : false ≡ true = c.1 r false (refl, u, refl) in cc)),
 )
 past_is Deref int regions a = kept Deref int regions a (λ b q f. (let e = f.2 in cc))
 past_is Deref (parameter k) regions a = kept Deref (parameter k) regions a (λ b q f. (let e = f.2 in cc))
@@ -66,38 +84,49 @@ past_is Deref (named s rs ts) regions a = kept Deref (named s rs ts) regions a (
 past_is Deref (function ts t) regions a = kept Deref (function ts t) regions a (λ b q f. (let e = f.2 in cc))
 past_is (Field k) t regions a = kept (Field k) t regions a (λ b q f. (let e = f.0 in cc))
 
-first_of : (structs : List Struct) (p : Projection) (ps : List Projection) (t : TypeTree) (a : ℕ) (m : Bool) → Through structs (p ∷ ps) (Some t) 0 a m → First p t a m
+first_of : (structs : List Struct) (p : Projection) (ps : List Projection) (t : TypeTree) (a : ℕ) (m : Bool)
+    → Through structs (p ∷ ps) (Some t) 0 a m → First p t a m
 first_of structs p ps t a m h = (let e = h.0 in let d = h.2 in (cc, h.1, cc))
 
-of_first : (structs : List Struct) (p : Projection) (ps : List Projection) (t : TypeTree) (a : ℕ) (m : Bool) → First p t a m → Through structs (p ∷ ps) (Some t) 0 a m
+of_first : (structs : List Struct) (p : Projection) (ps : List Projection) (t : TypeTree) (a : ℕ) (m : Bool)
+    → First p t a m → Through structs (p ∷ ps) (Some t) 0 a m
 of_first structs p ps t a m h = (ap Some h.0, h.1, ap Some h.2)
 
 -- ---- one projection and those behind it
 
-open_is : (structs : List Struct) (p : Projection) (ps : List Projection) (t : TypeTree) → AllOpen structs (p ∷ ps) (Some t) ↔ (FirstOpen p t × AllOpen structs ps (behind structs p t))
+open_is : (structs : List Struct) (p : Projection) (ps : List Projection) (t : TypeTree)
+    → AllOpen structs (p ∷ ps) (Some t) ↔ (FirstOpen p t × AllOpen structs ps (behind structs p t))
 open_is structs p ps t = (
   λ all. (λ b q f. all 0 b q (of_first structs p ps t b q f), λ k b q h. all (suc k) b q h),
   λ w. each w.0 w.1,
 )
   where
-    each : FirstOpen p t → AllOpen structs ps (behind structs p t) → (k b : ℕ) (q : Bool) → Through structs (p ∷ ps) (Some t) k b q → q ≡ true
+    each : FirstOpen p t → AllOpen structs ps (behind structs p t) → (k b : ℕ) (q : Bool)
+        → Through structs (p ∷ ps) (Some t) k b q → q ≡ true
     each f all zero b q h = f b q (first_of structs p ps t b q h)
     each f all (suc k) b q h = all k b q h
 
 from_is : (structs : List Struct) (p : Projection) (ps : List Projection) (t : TypeTree) (a : ℕ)
-    → RestsFrom structs (p ∷ ps) (Some t) a ↔ (RestsFrom structs ps (behind structs p t) a ⊎ (((m : Bool) × First p t a m) × AllOpen structs ps (behind structs p t)))
-from_is structs p ps t a = (λ w. there w.0 w.1 w.2 w.3, ⊎_elim later (λ w. (0, w.0.0, of_first structs p ps t a w.0.0 w.0.1, open_behind w.1)))
+    → RestsFrom structs (p ∷ ps) (Some t) a
+    ↔ (RestsFrom structs ps (behind structs p t) a
+    ⊎ (((m : Bool) × First p t a m) × AllOpen structs ps (behind structs p t)))
+from_is structs p ps t a =
+    (λ w. there w.0 w.1 w.2 w.3, ⊎_elim later (λ w. (0, w.0.0, of_first structs p ps t a w.0.0 w.0.1, open_behind w.1)))
   where
-    there : (n : ℕ) (m : Bool) → Through structs (p ∷ ps) (Some t) n a m → ((k b : ℕ) (q : Bool) → n < k → Through structs (p ∷ ps) (Some t) k b q → q ≡ true)
-        → RestsFrom structs ps (behind structs p t) a ⊎ (((m : Bool) × First p t a m) × AllOpen structs ps (behind structs p t))
+    there : (n : ℕ) (m : Bool) → Through structs (p ∷ ps) (Some t) n a m
+        → ((k b : ℕ) (q : Bool) → n < k → Through structs (p ∷ ps) (Some t) k b q → q ≡ true)
+        → RestsFrom structs ps (behind structs p t) a
+        ⊎ (((m : Bool) × First p t a m) × AllOpen structs ps (behind structs p t))
     there zero m h all = inr ((m, first_of structs p ps t a m h), λ k b q g. all (suc k) b q (omega arith) g)
     there (suc n) m h all = inl (n, m, h, λ k b q l g. all (suc k) b q (omega arith) g)
 
-    open_behind : AllOpen structs ps (behind structs p t) → (k b : ℕ) (q : Bool) → 0 < k → Through structs (p ∷ ps) (Some t) k b q → q ≡ true
+    open_behind : AllOpen structs ps (behind structs p t) → (k b : ℕ) (q : Bool) → 0 < k
+        → Through structs (p ∷ ps) (Some t) k b q → q ≡ true
     open_behind all zero b q l h = absurd (omega arith)
     open_behind all (suc k) b q l h = all k b q h
 
-    after : (n : ℕ) → ((k b : ℕ) (q : Bool) → n < k → Through structs ps (behind structs p t) k b q → q ≡ true) → (k b : ℕ) (q : Bool) → suc n < k → Through structs (p ∷ ps) (Some t) k b q → q ≡ true
+    after : (n : ℕ) → ((k b : ℕ) (q : Bool) → n < k → Through structs ps (behind structs p t) k b q → q ≡ true)
+        → (k b : ℕ) (q : Bool) → suc n < k → Through structs (p ∷ ps) (Some t) k b q → q ≡ true
     after n all zero b q l h = absurd (omega arith)
     after n all (suc k) b q l h = all k b q (omega arith) h
 
@@ -107,24 +136,34 @@ from_is structs p ps t a = (λ w. there w.0 w.1 w.2 w.3, ⊎_elim later (λ w. (
 -- ---- all projections
 
 of_option : (structs : List Struct) (ps : List Projection) (o : Option TypeTree) (regions : List ℕ) (a : ℕ)
-    → ((t : TypeTree) → Contains (rests structs ps t regions) a ↔ (RestsFrom structs ps (Some t) a ⊎ (Contains regions a × AllOpen structs ps (Some t))))
-    → Contains (rests_of structs ps o regions) a ↔ (RestsFrom structs ps o a ⊎ (Contains regions a × AllOpen structs ps o))
-of_option structs ps None regions a each =
-    (λ c. inr (c, λ k b q h. absurd (no_type structs ps k b q h)), ⊎_elim (λ w. absurd (no_type structs ps w.0 a w.1 w.2)) (λ c. c.0))
+    → ((t : TypeTree) → Contains (rests structs ps t regions) a
+    ↔ (RestsFrom structs ps (Some t) a ⊎ (Contains regions a × AllOpen structs ps (Some t))))
+    → Contains (rests_of structs ps o regions) a
+    ↔ (RestsFrom structs ps o a ⊎ (Contains regions a × AllOpen structs ps o))
+of_option structs ps None regions a each = (
+  λ c. inr (c, λ k b q h. absurd (no_type structs ps k b q h)),
+  ⊎_elim (λ w. absurd (no_type structs ps w.0 a w.1 w.2)) (λ c. c.0),
+)
 of_option structs ps (Some t) regions a each = each t
 
 join : {L R F O C G N : Type 0} → L ↔ (R ⊎ (C × O)) → C ↔ (F ⊎ (N × G)) → L ↔ ((R ⊎ (F × O)) ⊎ (N × (G × O)))
 join u v = (
   λ l. ⊎_elim (λ r. inl (inl r)) (λ c. ⊎_elim (λ f. inl (inr (f, c.1))) (λ n. inr (n.0, (n.1, c.1))) (v.0 c.0)) (u.0 l),
-  ⊎_elim (⊎_elim (λ r. u.1 (inl r)) (λ f. u.1 (inr (v.1 (inl f.0), f.1)))) (λ n. u.1 (inr (v.1 (inr (n.0, n.1.0)), n.1.1))),
+  ⊎_elim (⊎_elim (λ r. u.1 (inl r)) (λ f. u.1 (inr (v.1 (inl f.0), f.1))))
+      (λ n. u.1 (inr (v.1 (inr (n.0, n.1.0)), n.1.1))),
 )
 
 rests_is : (structs : List Struct) (ps : List Projection) (t : TypeTree) (regions : List ℕ) (a : ℕ)
-    → Contains (rests structs ps t regions) a ↔ (RestsFrom structs ps (Some t) a ⊎ (Contains regions a × AllOpen structs ps (Some t)))
-rests_is structs [] t regions a =
-    (λ c. inr (c, λ k b q h. absurd (no_projection structs (Some t) k b q h)), ⊎_elim (λ w. absurd (no_projection structs (Some t) w.0 a w.1 w.2)) (λ c. c.0))
+    → Contains (rests structs ps t regions) a
+    ↔ (RestsFrom structs ps (Some t) a ⊎ (Contains regions a × AllOpen structs ps (Some t)))
+rests_is structs [] t regions a = (
+  λ c. inr (c, λ k b q h. absurd (no_projection structs (Some t) k b q h)),
+  ⊎_elim (λ w. absurd (no_projection structs (Some t) w.0 a w.1 w.2)) (λ c. c.0),
+)
 rests_is structs (p ∷ ps) t regions a =
-    let behind_is = of_option structs ps (behind structs p t) (past p t regions) a (λ u. rests_is structs ps u (past p t regions) a) in
+    let behind_is =
+    of_option structs ps (behind structs p t) (past p t regions) a
+    (λ u. rests_is structs ps u (past p t regions) a) in
     let both = join behind_is (past_is p t regions a) in
     let from = from_is structs p ps t a in
     let opens = open_is structs p ps t in (
@@ -134,42 +173,61 @@ rests_is structs (p ∷ ps) t regions a =
 
 -- what is found from the variable is what a reborrow of the place rests on
 pub rests_on_is : (structs : List Struct) (variables : List TypeTree) (p : PlacePath) (a : ℕ)
-    → Contains (unwrap_or (option_map (λ u. rests structs p.projections u []) (slice_get variables p.variable)) []) a ↔ RestsOn structs variables p a
+    → Contains (unwrap_or (option_map (λ u. rests structs p.projections u []) (slice_get variables p.variable)) []) a
+    ↔ RestsOn structs variables p a
 rests_on_is structs variables p a =
-    let w = of_option structs p.projections (slice_get variables p.variable) [] a (λ t. rests_is structs p.projections t [] a) in
+    let w = of_option structs p.projections (slice_get variables p.variable) [] a
+    (λ t. rests_is structs p.projections t [] a) in
     (λ c. ⊎_elim (λ r. r) (λ n. absurd (let l = n.0.1 in omega arith)) (w.0 c), λ r. w.1 (inl r))
 
 -- ---- one step of the walk
 
-step : (structs : List Struct) (ps : List Projection) (n : ℕ) (d p : Projection) (t : TypeTree) (regions : List ℕ) → n < length ps → get_or ps n d ≡ p
-    → rests structs (drop n ps) t regions ≡ unwrap_or (option_map (λ u. rests structs (drop (n + 1) ps) u (past p t regions)) (behind structs p t)) (past p t regions)
+step : (structs : List Struct) (ps : List Projection) (n : ℕ) (d p : Projection) (t : TypeTree) (regions : List ℕ)
+    → n < length ps → get_or ps n d ≡ p
+    → rests structs (drop n ps) t regions
+    ≡ unwrap_or (option_map (λ u. rests structs (drop (n + 1) ps) u (past p t regions)) (behind structs p t))
+    (past p t regions)
 step structs ps n d p t regions l is =
     let e : n + 1 ≡ suc n = omega arith in
-    ap (λ (z : List Projection). rests structs z t regions) (drop-cons ps n d l ∙ ap (λ (z : Projection). z ∷ drop (suc n) ps) is)
-    ∙ ap (λ (z : ℕ). unwrap_or (option_map (λ u. rests structs (drop z ps) u (past p t regions)) (behind structs p t)) (past p t regions)) (sym e)
+    ap (λ (z : List Projection). rests structs z t regions)
+    (drop-cons ps n d l ∙ ap (λ (z : Projection). z ∷ drop (suc n) ps) is)
+    ∙ ap (λ (z : ℕ). unwrap_or (option_map (λ u. rests structs (drop z ps) u (past p t regions)) (behind structs p t))
+    (past p t regions)) (sym e)
 
-pub step_none : (structs : List Struct) (ps : List Projection) (n : ℕ) (d p : Projection) (t : TypeTree) (regions : List ℕ) → n < length ps → get_or ps n d ≡ p
+pub step_none : (structs : List Struct) (ps : List Projection) (n : ℕ) (d p : Projection) (t : TypeTree)
+    (regions : List ℕ) → n < length ps → get_or ps n d ≡ p
     → behind structs p t ≡ None → rests structs (drop n ps) t regions ≡ past p t regions
 step_none structs ps n d p t regions l is e =
-    step structs ps n d p t regions l is ∙ ap (λ (o : Option TypeTree). unwrap_or (option_map (λ u. rests structs (drop (n + 1) ps) u (past p t regions)) o) (past p t regions)) e
+    step structs ps n d p t regions l is
+    ∙ ap (λ (o : Option TypeTree). unwrap_or
+    (option_map (λ u. rests structs (drop (n + 1) ps) u (past p t regions)) o) (past p t regions)) e
 
-pub step_on : (structs : List Struct) (ps : List Projection) (n : ℕ) (d p : Projection) (t u : TypeTree) (regions : List ℕ) → n < length ps → get_or ps n d ≡ p
-    → behind structs p t ≡ Some u → rests structs (drop n ps) t regions ≡ rests structs (drop (n + 1) ps) u (past p t regions)
+pub step_on : (structs : List Struct) (ps : List Projection) (n : ℕ) (d p : Projection) (t u : TypeTree)
+    (regions : List ℕ) → n < length ps → get_or ps n d ≡ p
+    → behind structs p t ≡ Some u → rests structs (drop n ps) t regions
+    ≡ rests structs (drop (n + 1) ps) u (past p t regions)
 step_on structs ps n d p t u regions l is e =
-    step structs ps n d p t regions l is ∙ ap (λ (o : Option TypeTree). unwrap_or (option_map (λ u. rests structs (drop (n + 1) ps) u (past p t regions)) o) (past p t regions)) e
+    step structs ps n d p t regions l is
+    ∙ ap (λ (o : Option TypeTree). unwrap_or
+    (option_map (λ u. rests structs (drop (n + 1) ps) u (past p t regions)) o) (past p t regions)) e
 
 -- ---- where the walk ends
 
-pub deref_ends : (structs : List Struct) (ps : List Projection) (n : ℕ) (d : Projection) (t : TypeTree) (regions : List ℕ) → n < length ps → get_or ps n d ≡ Deref
+pub deref_ends : (structs : List Struct) (ps : List Projection) (n : ℕ) (d : Projection) (t : TypeTree)
+    (regions : List ℕ) → n < length ps → get_or ps n d ≡ Deref
     → (form t ≡ 2 → ⊥) → rests structs (drop n ps) t regions ≡ regions
 deref_ends structs ps n d int regions l is differs = step_none structs ps n d Deref int regions l is refl
-deref_ends structs ps n d (parameter k) regions l is differs = step_none structs ps n d Deref (parameter k) regions l is refl
+deref_ends structs ps n d (parameter k) regions l is differs =
+    step_none structs ps n d Deref (parameter k) regions l is refl
 deref_ends structs ps n d (reference r m t) regions l is differs = absurd (differs refl)
 deref_ends structs ps n d (tuple ts) regions l is differs = step_none structs ps n d Deref (tuple ts) regions l is refl
-deref_ends structs ps n d (named s rs ts) regions l is differs = step_none structs ps n d Deref (named s rs ts) regions l is refl
-deref_ends structs ps n d (function ts t) regions l is differs = step_none structs ps n d Deref (function ts t) regions l is refl
+deref_ends structs ps n d (named s rs ts) regions l is differs =
+    step_none structs ps n d Deref (named s rs ts) regions l is refl
+deref_ends structs ps n d (function ts t) regions l is differs =
+    step_none structs ps n d Deref (function ts t) regions l is refl
 
-pub no_field : (structs : List Struct) (k : ℕ) (t : TypeTree) → (form t ≡ 3 → ⊥) → (form t ≡ 4 → ⊥) → behind structs (Field k) t ≡ None
+pub no_field : (structs : List Struct) (k : ℕ) (t : TypeTree) → (form t ≡ 3 → ⊥) → (form t ≡ 4 → ⊥)
+    → behind structs (Field k) t ≡ None
 no_field structs k int a b = refl
 no_field structs k (parameter j) a b = refl
 no_field structs k (reference r m t) a b = refl
@@ -185,17 +243,22 @@ left ps (Some r) = (length ps - r.1) + 1
 -- what is walked so far
 abbrev pub Walked : List Struct → List Projection → TypeTree → List ℕ → List ℕ → Option (Ty × ℕ) → Type 0
 Walked structs ps t old now None = rests structs ps t old ≡ now
-Walked structs ps t old now (Some r) = (rests structs ps t old ≡ rests structs (drop r.1 ps) (tree r.0) now) × (r.1 ≤ length ps)
+Walked structs ps t old now (Some r) =
+    (rests structs ps t old ≡ rests structs (drop r.1 ps) (tree r.0) now) × (r.1 ≤ length ps)
 
 -- ---- from the variable
 
-pub get_mapped : {X Y : Type 0} (f : X → Y) (xs : List X) (k : ℕ) (x : X) → slice_get xs k ≡ Some x → slice_get (map f xs) k ≡ Some (f x)
+pub get_mapped : {X Y : Type 0} (f : X → Y) (xs : List X) (k : ℕ) (x : X) → slice_get xs k ≡ Some x
+    → slice_get (map f xs) k ≡ Some (f x)
 get_mapped f [] k x e = absurd cc
 get_mapped {X} f (y ∷ xs) zero x e = ap (λ o. option_map f o) e
 get_mapped f (y ∷ xs) (suc k) x e = get_mapped f xs k x e
 
-pub rests_from : (structs : List Struct) (variables : List TypeTree) (p : PlacePath) (o : Option TypeTree) (regions : List ℕ) → slice_get variables p.variable ≡ o
-    → regions ≡ unwrap_or (option_map (λ u. rests structs p.projections u []) o) [] → (a : ℕ) → Contains regions a ↔ RestsOn structs variables p a
+pub rests_from : (structs : List Struct) (variables : List TypeTree) (p : PlacePath) (o : Option TypeTree)
+    (regions : List ℕ) → slice_get variables p.variable ≡ o
+    → regions ≡ unwrap_or (option_map (λ u. rests structs p.projections u []) o) [] → (a : ℕ)
+    → Contains regions a ↔ RestsOn structs variables p a
 rests_from structs variables p o regions e r a =
-    subst (λ (z : List ℕ). Contains z a ↔ RestsOn structs variables p a) (ap (λ (o : Option TypeTree). unwrap_or (option_map (λ u. rests structs p.projections u []) o) []) e ∙ sym r)
+    subst (λ (z : List ℕ). Contains z a ↔ RestsOn structs variables p a)
+    (ap (λ (o : Option TypeTree). unwrap_or (option_map (λ u. rests structs p.projections u []) o) []) e ∙ sym r)
     (rests_on_is structs variables p a)

@@ -24,9 +24,11 @@ some_is a b e = cc
 
 -- it asks the pair by types that meet, or by itself
 abbrev AsksByForm : List Struct → List TypeTree → Statement ℕ TypeTree → ℕ × ℕ → Type 0
-AsksByForm structs variables i x = ((t u : TypeTree) × Meet structs variables i t u × SubtypeAsks structs t u x) ⊎ AsksPair structs variables i x
+AsksByForm structs variables i x =
+    ((t u : TypeTree) × Meet structs variables i t u × SubtypeAsks structs t u x) ⊎ AsksPair structs variables i x
 
-asks_by_form : (structs : List Struct) (variables : List TypeTree) (i : Statement ℕ TypeTree) (x : ℕ × ℕ) → AsksByForm structs variables i x ↔ Asks structs variables i x
+asks_by_form : (structs : List Struct) (variables : List TypeTree) (i : Statement ℕ TypeTree) (x : ℕ × ℕ)
+    → AsksByForm structs variables i x ↔ Asks structs variables i x
 asks_by_form structs variables i x = (
   ⊎_elim (λ w. inl (w.0, w.1, (pairs_meet structs variables i w.0 w.1).1 w.2, w.3)) inr,
   ⊎_elim (λ w. inl (w.0, w.1, (pairs_meet structs variables i w.0 w.1).0 w.2, w.3)) inr,
@@ -36,11 +38,13 @@ both_ways : {A B C : Type 0} → A ↔ B → B ↔ C → A ↔ C
 both_ways f g = (λ a. g.0 (f.0 a), λ c. f.1 (g.1 c))
 
 -- what no types meet in, and asks no pair by itself, asks nothing
-pub asks_nothing : (structs : List Struct) (variables : List TypeTree) (i : Statement ℕ TypeTree) (x : ℕ × ℕ) → (AsksByForm structs variables i x → ⊥) → Asks structs variables i x → ⊥
+pub asks_nothing : (structs : List Struct) (variables : List TypeTree) (i : Statement ℕ TypeTree) (x : ℕ × ℕ)
+    → (AsksByForm structs variables i x → ⊥) → Asks structs variables i x → ⊥
 asks_nothing structs variables i x none h = none ((asks_by_form structs variables i x).1 h)
 
 pub asks_assign : (structs : List Struct) (variables : List TypeTree) (p : PlacePath) (op : Operand) (x : ℕ × ℕ)
-    → BothAsk structs (operand_type structs variables op) (type_of structs variables p) x ↔ Asks structs variables (assign p op) x
+    → BothAsk structs (operand_type structs variables op) (type_of structs variables p) x
+    ↔ Asks structs variables (assign p op) x
 asks_assign structs variables p op x = both_ways
     (λ b. inl (b.0, b.1, (b.2, b.3), b.4), ⊎_elim (λ w. (w.0, w.1, w.2.0, w.2.1, w.3)) (λ h. absurd h))
     (asks_by_form structs variables (assign p op) x)
@@ -50,41 +54,58 @@ no_region_in_int [] r h = h
 no_region_in_int (own ∷ way) r h = h
 no_region_in_int (turn ∷ way) r h = h
 
-inner_of : (r : ℕ) (m : Bool) (o : Option TypeTree) (t : TypeTree) → option_map (reference r m) o ≡ Some t → (inner : TypeTree) × (o ≡ Some inner) × (t ≡ reference r m inner)
+inner_of : (r : ℕ) (m : Bool) (o : Option TypeTree) (t : TypeTree) → option_map (reference r m) o ≡ Some t
+    → (inner : TypeTree) × (o ≡ Some inner) × (t ≡ reference r m inner)
 inner_of r m None t e = absurd cc
 inner_of r m (Some inner) t e = (inner, refl, cc)
 
-pub asks_borrow : (structs : List Struct) (variables : List TypeTree) (p : PlacePath) (r : ℕ) (m : Bool) (q : PlacePath) (x : ℕ × ℕ)
-    → (BothAsk structs (option_map (reference r m) (type_of structs variables q)) (type_of structs variables p) x ⊎ (RestsOn structs variables q x.0 × (x.1 ≡ r))) ↔ Asks structs variables (borrow p r m q) x
-asks_borrow structs variables p r m q x = both_ways (⊎_elim there inr, ⊎_elim back inr) (asks_by_form structs variables (borrow p r m q) x)
+pub asks_borrow : (structs : List Struct) (variables : List TypeTree) (p : PlacePath) (r : ℕ) (m : Bool) (q : PlacePath)
+    (x : ℕ × ℕ)
+    → (BothAsk structs (option_map (reference r m) (type_of structs variables q)) (type_of structs variables p) x
+    ⊎ (RestsOn structs variables q x.0 × (x.1 ≡ r))) ↔ Asks structs variables (borrow p r m q) x
+asks_borrow structs variables p r m q x =
+    both_ways (⊎_elim there inr, ⊎_elim back inr) (asks_by_form structs variables (borrow p r m q) x)
   where
-    there : BothAsk structs (option_map (reference r m) (type_of structs variables q)) (type_of structs variables p) x → AsksByForm structs variables (borrow p r m q) x
+    there : BothAsk structs (option_map (reference r m) (type_of structs variables q)) (type_of structs variables p) x
+        → AsksByForm structs variables (borrow p r m q) x
     there b = (let i = inner_of r m (type_of structs variables q) b.0 b.2 in inl (b.0, b.1, (i.0, i.1, i.2, b.3), b.4))
 
-    back : ((t u : TypeTree) × ((inner : TypeTree) × (type_of structs variables q ≡ Some inner) × (t ≡ reference r m inner) × (type_of structs variables p ≡ Some u)) × SubtypeAsks structs t u x)
-        → BothAsk structs (option_map (reference r m) (type_of structs variables q)) (type_of structs variables p) x ⊎ (RestsOn structs variables q x.0 × (x.1 ≡ r))
+    back : ((t u : TypeTree) × ((inner : TypeTree) × (type_of structs variables q ≡ Some inner)
+        × (t ≡ reference r m inner) × (type_of structs variables p ≡ Some u)) × SubtypeAsks structs t u x)
+        → BothAsk structs (option_map (reference r m) (type_of structs variables q)) (type_of structs variables p) x
+        ⊎ (RestsOn structs variables q x.0 × (x.1 ≡ r))
     back w = (let i = w.2 in inl (w.0, w.1, ap (option_map (reference r m)) i.1 ∙ ap Some (sym i.2), i.3, w.3))
 
 -- the regions on which a reborrow rests, one by one
-pub outlives_rests : (structs : List Struct) (variables : List TypeTree) (q : PlacePath) (regions : List ℕ) (r : ℕ) (a b : List (ℕ × ℕ)) → ((s : ℕ) → Contains regions s ↔ RestsOn structs variables q s)
+pub outlives_rests : (structs : List Struct) (variables : List TypeTree) (q : PlacePath) (regions : List ℕ) (r : ℕ)
+    (a b : List (ℕ × ℕ)) → ((s : ℕ) → Contains regions s ↔ RestsOn structs variables q s)
     → AddsPairs (OneOutlives regions r) a b → AddsPairs (λ x. RestsOn structs variables q x.0 × (x.1 ≡ r)) a b
-outlives_rests structs variables q regions r a b rests = adds_same _ _ a b (λ x. (λ w. ((rests x.0).0 w.0, w.1), λ w. ((rests x.0).1 w.0, w.1)))
+outlives_rests structs variables q regions r a b rests =
+    adds_same _ _ a b (λ x. (λ w. ((rests x.0).0 w.0, w.1), λ w. ((rests x.0).1 w.0, w.1)))
 
-pub asks_make : (structs : List Struct) (variables : List TypeTree) (p : PlacePath) (made : TypeTree) (ops : List Operand) (x : ℕ × ℕ)
-    → (AtOne (PartAsks structs variables made ops) x ⊎ BothAsk structs (Some made) (type_of structs variables p) x) ↔ Asks structs variables (make p made ops) x
+pub asks_make : (structs : List Struct) (variables : List TypeTree) (p : PlacePath) (made : TypeTree)
+    (ops : List Operand) (x : ℕ × ℕ)
+    → (AtOne (PartAsks structs variables made ops) x ⊎ BothAsk structs (Some made) (type_of structs variables p) x)
+    ↔ Asks structs variables (make p made ops) x
 asks_make structs variables p made ops x = both_ways (
-  ⊎_elim (λ w. (let k = w.1 in let b = k.2 in inl (b.0, b.1, inl (w.0, k.0, k.1, b.2, b.3), b.4))) (λ b. inl (b.0, b.1, inr (sym (some_is made b.0 b.2), b.3), b.4)),
-  ⊎_elim (λ w. ⊎_elim (λ k. inl (k.0, (k.1, k.2, (w.0, w.1, k.3, k.4, w.3)))) (λ k. inr (w.0, w.1, ap Some (sym k.0), k.1, w.3)) w.2) (λ h. absurd h),
+  ⊎_elim (λ w. (let k = w.1 in let b = k.2 in inl (b.0, b.1, inl (w.0, k.0, k.1, b.2, b.3), b.4)))
+      (λ b. inl (b.0, b.1, inr (sym (some_is made b.0 b.2), b.3), b.4)),
+  ⊎_elim (λ w. ⊎_elim (λ k. inl (k.0, (k.1, k.2, (w.0, w.1, k.3, k.4, w.3))))
+      (λ k. inr (w.0, w.1, ap Some (sym k.0), k.1, w.3)) w.2) (λ h. absurd h),
 ) (asks_by_form structs variables (make p made ops) x)
 
-pub asks_call : (structs : List Struct) (variables : List TypeTree) (p : PlacePath) (args : List (Operand × TypeTree)) (result : TypeTree) (wheres : List (ℕ × ℕ)) (b : ℕ) (unwind : Option ℕ) (x : ℕ × ℕ)
-    → ((AtOne (InputAsks structs variables args) x ⊎ BothAsk structs (Some result) (type_of structs variables p) x) ⊎ Contains wheres x) ↔ Asks structs variables (call p args result wheres b unwind) x
+pub asks_call : (structs : List Struct) (variables : List TypeTree) (p : PlacePath) (args : List (Operand × TypeTree))
+    (result : TypeTree) (wheres : List (ℕ × ℕ)) (b : ℕ) (unwind : Option ℕ) (x : ℕ × ℕ)
+    → ((AtOne (InputAsks structs variables args) x ⊎ BothAsk structs (Some result) (type_of structs variables p) x)
+    ⊎ Contains wheres x) ↔ Asks structs variables (call p args result wheres b unwind) x
 asks_call structs variables p args result wheres b unwind x = both_ways (
   ⊎_elim (⊎_elim input (λ b. inl (b.0, b.1, inr (sym (some_is result b.0 b.2), b.3), b.4))) inr,
-  ⊎_elim (λ w. inl (⊎_elim (λ k. inl (k.0, (k.1, w.1, k.2, (w.0, w.1, k.3, refl, w.3)))) (λ k. inr (w.0, w.1, ap Some (sym k.0), k.1, w.3)) w.2)) inr,
+  ⊎_elim (λ w. inl (⊎_elim (λ k. inl (k.0, (k.1, w.1, k.2, (w.0, w.1, k.3, refl, w.3))))
+      (λ k. inr (w.0, w.1, ap Some (sym k.0), k.1, w.3)) w.2)) inr,
 ) (asks_by_form structs variables (call p args result wheres b unwind) x)
   where
-    input : AtOne (InputAsks structs variables args) x → AsksByForm structs variables (call p args result wheres b unwind) x
+    input : AtOne (InputAsks structs variables args) x
+        → AsksByForm structs variables (call p args result wheres b unwind) x
     input w =
         let k = w.1 in
         let c = k.3 in
@@ -92,21 +113,32 @@ asks_call structs variables p args result wheres b unwind x = both_ways (
         inl (c.0, c.1, inl (w.0, k.0, k.2 ∙ ap (λ (u : TypeTree). Some (k.0, u)) e, c.2), c.4)
 
 -- no region stands in an `int`, so what is switched on asks nothing
-pub asks_switch : (structs : List Struct) (variables : List TypeTree) (op : Operand) (bs : List ℕ) (x : ℕ × ℕ) → Asks structs variables (switch op bs) x → ⊥
+pub asks_switch : (structs : List Struct) (variables : List TypeTree) (op : Operand) (bs : List ℕ) (x : ℕ × ℕ)
+    → Asks structs variables (switch op bs) x → ⊥
 asks_switch structs variables op bs x = asks_nothing structs variables (switch op bs) x
-    (⊎_elim (λ w. (let b = w.3 in no_region_in_int b.0 b.2 (subst (λ (z : TypeTree). HasRegionAt z b.0 b.2) w.2.1 b.4))) (λ h. h))
+    (⊎_elim (λ w. (let b = w.3 in no_region_in_int b.0 b.2 (subst (λ (z : TypeTree). HasRegionAt z b.0 b.2) w.2.1 b.4)))
+    (λ h. h))
 
 -- ---- places of operands
 
 -- what an operand asks is what its place asks
-pub part_at : (structs : List Struct) (variables : List TypeTree) (made : TypeTree) (ops : List Operand) (n : ℕ) (op : Operand) (x : ℕ × ℕ) → slice_get ops n ≡ Some op
-    → BothAsk structs (operand_type structs variables op) (behind structs (Field n) made) x ↔ PartAsks structs variables made ops n x
-part_at structs variables made ops n op x e = (λ h. (op, e, h), λ p. subst (λ (z : Operand). BothAsk structs (operand_type structs variables z) (behind structs (Field n) made) x) (some_is p.0 op (sym p.1 ∙ e)) p.2)
+pub part_at : (structs : List Struct) (variables : List TypeTree) (made : TypeTree) (ops : List Operand) (n : ℕ)
+    (op : Operand) (x : ℕ × ℕ) → slice_get ops n ≡ Some op
+    → BothAsk structs (operand_type structs variables op) (behind structs (Field n) made) x
+    ↔ PartAsks structs variables made ops n x
+part_at structs variables made ops n op x e = (
+  λ h. (op, e, h),
+  λ p. subst (λ (z : Operand).
+      BothAsk structs (operand_type structs variables z) (behind structs (Field n) made) x)
+      (some_is p.0 op (sym p.1 ∙ e)) p.2,
+)
 
-pub parts_within : (structs : List Struct) (variables : List TypeTree) (made : TypeTree) (ops : List Operand) (n k : ℕ) (x : ℕ × ℕ) → length ops ≤ n → PartAsks structs variables made ops k x → k < n
+pub parts_within : (structs : List Struct) (variables : List TypeTree) (made : TypeTree) (ops : List Operand) (n k : ℕ)
+    (x : ℕ × ℕ) → length ops ≤ n → PartAsks structs variables made ops k x → k < n
 parts_within structs variables made ops n k x le p = (let l = get_below ops k p.0 p.1 in omega arith)
 
-pub input_at : (structs : List Struct) (variables : List TypeTree) (args : List (Operand × TypeTree)) (n : ℕ) (op : Operand) (u : TypeTree) (x : ℕ × ℕ) → slice_get args n ≡ Some (op, u)
+pub input_at : (structs : List Struct) (variables : List TypeTree) (args : List (Operand × TypeTree)) (n : ℕ)
+    (op : Operand) (u : TypeTree) (x : ℕ × ℕ) → slice_get args n ≡ Some (op, u)
     → BothAsk structs (operand_type structs variables op) (Some u) x ↔ InputAsks structs variables args n x
 input_at structs variables args n op u x e = (
   λ h. (op, u, e, h),
@@ -114,7 +146,8 @@ input_at structs variables args n op u x e = (
       subst (λ (z : Operand × TypeTree). BothAsk structs (operand_type structs variables z.0) (Some z.1) x) d p.3),
 )
 
-pub inputs_within : (structs : List Struct) (variables : List TypeTree) (args : List (Operand × TypeTree)) (n k : ℕ) (x : ℕ × ℕ) → length args ≤ n → InputAsks structs variables args k x → k < n
+pub inputs_within : (structs : List Struct) (variables : List TypeTree) (args : List (Operand × TypeTree)) (n k : ℕ)
+    (x : ℕ × ℕ) → length args ≤ n → InputAsks structs variables args k x → k < n
 inputs_within structs variables args n k x le p = (let l = get_below args k (p.0, p.1) p.2 in omega arith)
 
 -- ---- pairs of a row
@@ -125,30 +158,42 @@ both_none structs one x b = (let e = b.3 in cc)
 pub none_both : (structs : List Struct) (other : Option TypeTree) (x : ℕ × ℕ) → BothAsk structs None other x → ⊥
 none_both structs other x b = (let e = b.2 in cc)
 
-pub both_there : (structs : List Struct) (t u : TypeTree) (x : ℕ × ℕ) → SubtypeAsks structs t u x ↔ BothAsk structs (Some t) (Some u) x
+pub both_there : (structs : List Struct) (t u : TypeTree) (x : ℕ × ℕ)
+    → SubtypeAsks structs t u x ↔ BothAsk structs (Some t) (Some u) x
 both_there structs t u x = (
   λ h. (t, u, refl, refl, h),
-  λ b. subst (λ (z : TypeTree). SubtypeAsks structs z u x) (sym (some_is t b.0 b.2)) (subst (λ (z : TypeTree). SubtypeAsks structs b.0 z x) (sym (some_is u b.1 b.3)) b.4),
+  λ b. subst (λ (z : TypeTree). SubtypeAsks structs z u x) (sym (some_is t b.0 b.2))
+      (subst (λ (z : TypeTree). SubtypeAsks structs b.0 z x) (sym (some_is u b.1 b.3)) b.4),
 )
 
 -- where both types are there, what the subtyping asks is all
-pub adds_both : (structs : List Struct) (one other : Option TypeTree) (t u : TypeTree) (a b : List (ℕ × ℕ)) → one ≡ Some t → other ≡ Some u
+pub adds_both : (structs : List Struct) (one other : Option TypeTree) (t u : TypeTree) (a b : List (ℕ × ℕ))
+    → one ≡ Some t → other ≡ Some u
     → AddsPairs (SubtypeAsks structs t u) a b → AddsPairs (BothAsk structs one other) a b
 adds_both structs one other t u a b e d h = rw (e, d) (adds_same _ _ a b (both_there structs t u) h)
 
 -- the pairs that are put behind the others are those
 pub adds_list : (old new pairs : List (ℕ × ℕ)) → new ≡ old ++ pairs → AddsPairs (Contains pairs) old new
-adds_list old new pairs e = rw e (record { each = λ x. (Contains-append_cases old pairs x, ⊎_elim (Contains-append_left old pairs x) (Contains-append_right old pairs x)) })
+adds_list old new pairs e =
+    rw e (record {
+      each = λ x. (
+        Contains-append_cases old pairs x,
+        ⊎_elim (Contains-append_left old pairs x) (Contains-append_right old pairs x),
+      );
+    })
 
 pub outlives_none : (r : ℕ) (old : List (ℕ × ℕ)) → AddsPairs (OneOutlives [] r) old old
 outlives_none r old = adds_none _ old (λ x w. (let l = w.0.1 in absurd (omega arith)))
 
-pub outlives_more : (xs : List ℕ) (y r : ℕ) (old now next : List (ℕ × ℕ)) → next ≡ now ++ (y, r) ∷ [] → AddsPairs (OneOutlives xs r) old now → AddsPairs (OneOutlives (xs ++ y ∷ []) r) old next
+pub outlives_more : (xs : List ℕ) (y r : ℕ) (old now next : List (ℕ × ℕ)) → next ≡ now ++ (y, r) ∷ []
+    → AddsPairs (OneOutlives xs r) old now → AddsPairs (OneOutlives (xs ++ y ∷ []) r) old next
 outlives_more xs y r old now next e h = rw e (record {
   each = λ x. (
-    λ c. ⊎_elim (λ d. ⊎_elim inl (λ o. inr (Contains-append_left xs (y ∷ []) x.0 o.0, o.1)) ((h.each x).0 d)) (λ p. inr (here x p)) (Contains-push_cases now (y, r) x c),
+    λ c. ⊎_elim (λ d. ⊎_elim inl (λ o. inr (Contains-append_left xs (y ∷ []) x.0 o.0, o.1)) ((h.each x).0 d))
+        (λ p. inr (here x p)) (Contains-push_cases now (y, r) x c),
     ⊎_elim (λ o. Contains-append_left now ((y, r) ∷ []) x ((h.each x).1 (inl o)))
-        (λ o. ⊎_elim (λ d. Contains-append_left now ((y, r) ∷ []) x ((h.each x).1 (inr (d, o.1)))) (λ p. last x p o.1) (Contains-push_cases xs y x.0 o.0)),
+        (λ o. ⊎_elim (λ d. Contains-append_left now ((y, r) ∷ []) x ((h.each x).1 (inr (d, o.1)))) (λ p. last x p o.1)
+        (Contains-push_cases xs y x.0 o.0)),
   );
 })
   where
@@ -156,12 +201,14 @@ outlives_more xs y r old now next e h = rw e (record {
     here x p = subst (OneOutlives (xs ++ y ∷ []) r) p (Contains-push xs y, refl)
 
     last : (x : ℕ × ℕ) → y ≡ x.0 → x.1 ≡ r → Contains (now ++ (y, r) ∷ []) x
-    last x p q = subst (Contains (now ++ (y, r) ∷ [])) (let d : (y, r) ≡ (x.0, x.1) = cc in d) (Contains-push now (y, r))
+    last x p q =
+        subst (Contains (now ++ (y, r) ∷ [])) (let d : (y, r) ≡ (x.0, x.1) = cc in d) (Contains-push now (y, r))
 
 -- ---- the code's calls
 
 pub arguments_seen : {W T : Type 0} (op : W → Operand) (h : T → TypeTree) (xs : List (W × T))
-    → map {B = Operand × TypeTree} (λ x. (op x.0, h x.1)) xs ≡ map {B = Operand × TypeTree} (λ a. (a.0, h a.1)) (map {B = Operand × T} (λ x. (op x.0, x.1)) xs)
+    → map {B = Operand × TypeTree} (λ x. (op x.0, h x.1)) xs
+    ≡ map {B = Operand × TypeTree} (λ a. (a.0, h a.1)) (map {B = Operand × T} (λ x. (op x.0, x.1)) xs)
 arguments_seen op h [] = refl
 arguments_seen op h (x ∷ xs) = ap (λ as'. (op x.0, h x.1) ∷ as') (arguments_seen op h xs)
 

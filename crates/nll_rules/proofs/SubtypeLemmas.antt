@@ -81,7 +81,8 @@ form_is (parameter j) (own ∷ way) r h = absurd h
 form_is t way r h = absurd h
 
 -- types of different forms ask nothing of one another
-pub unlike : (structs : List Struct) (outer : Sign) (t u : TypeTree) (x : ℕ × ℕ) → (form t ≡ form u → ⊥) → SubtypeAsksBehind structs outer t u x → ⊥
+pub unlike : (structs : List Struct) (outer : Sign) (t u : TypeTree) (x : ℕ × ℕ) → (form t ≡ form u → ⊥)
+    → SubtypeAsksBehind structs outer t u x → ⊥
 unlike structs outer t u x different w = different (form_is t w.0 w.1 w.3 ∙ sym (form_is u w.0 w.2 w.4))
 
 none_in_int : (way : List Turn) (r : ℕ) → HasRegionAt int way r → ⊥
@@ -92,31 +93,64 @@ none_in_parameter : (j : ℕ) (way : List Turn) (r : ℕ) → HasRegionAt (param
 none_in_parameter j (own ∷ way) r h = h
 none_in_parameter j way r h = h
 
-pub int_asks : (structs : List Struct) (outer : Sign) (u : TypeTree) (x : ℕ × ℕ) → SubtypeAsksBehind structs outer int u x → ⊥
+pub int_asks : (structs : List Struct) (outer : Sign) (u : TypeTree) (x : ℕ × ℕ)
+    → SubtypeAsksBehind structs outer int u x → ⊥
 int_asks structs outer u x w = none_in_int w.0 w.1 w.3
 
-pub parameter_asks : (structs : List Struct) (outer : Sign) (j : ℕ) (u : TypeTree) (x : ℕ × ℕ) → SubtypeAsksBehind structs outer (parameter j) u x → ⊥
+pub parameter_asks : (structs : List Struct) (outer : Sign) (j : ℕ) (u : TypeTree) (x : ℕ × ℕ)
+    → SubtypeAsksBehind structs outer (parameter j) u x → ⊥
 parameter_asks structs outer j u x w = none_in_parameter j w.0 w.1 w.3
 
 -- ---- one layer
 
 -- the pair is asked of the references' own regions, or behind them
 pub asks_reference : (structs : List Struct) (outer : Sign) (q p : ℕ) (m : Bool) (t u : TypeTree) (x : ℕ × ℕ)
-    → (IsAsked outer q p x ⊎ SubtypeAsksBehind structs (times outer (target_sign m)) t u x) ↔ SubtypeAsksBehind structs outer (reference q m t) (reference p m u) x
+    → (IsAsked outer q p x ⊎ SubtypeAsksBehind structs (times outer (target_sign m)) t u x)
+    ↔ SubtypeAsksBehind structs outer (reference q m t) (reference p m u) x
 asks_reference structs outer q p m t u x = (⊎_elim here inside, λ w. back w.0 w.1 w.2 w.3 w.4 w.5)
   where
     here : IsAsked outer q p x → SubtypeAsksBehind structs outer (reference q m t) (reference p m u) x
-    here a = (own ∷ [], q, p, (refl, refl), (refl, refl), asked_as outer (times outer Covariant) q p x (sym (times_covariant outer)) a)
+    here a = (
+      own ∷ [],
+      q,
+      p,
+      (refl, refl),
+      (refl, refl),
+      asked_as outer (times outer Covariant) q p x (sym (times_covariant outer)) a,
+    )
 
-    inside : SubtypeAsksBehind structs (times outer (target_sign m)) t u x → SubtypeAsksBehind structs outer (reference q m t) (reference p m u) x
-    inside w = (target m ∷ w.0, w.1, w.2, (refl, w.3), (refl, w.4), asked_as (times (times outer (target_sign m)) (sign_of structs w.0)) (times outer (times (target_sign m) (sign_of structs w.0))) w.1 w.2 x (sym (times_assoc outer (target_sign m) (sign_of structs w.0))) w.5)
+    inside : SubtypeAsksBehind structs (times outer (target_sign m)) t u x
+        → SubtypeAsksBehind structs outer (reference q m t) (reference p m u) x
+    inside w = (
+      target m ∷ w.0,
+      w.1,
+      w.2,
+      (refl, w.3),
+      (refl, w.4),
+      asked_as (times (times outer (target_sign m)) (sign_of structs w.0))
+          (times outer (times (target_sign m) (sign_of structs w.0))) w.1 w.2 x
+          (sym (times_assoc outer (target_sign m) (sign_of structs w.0))) w.5,
+    )
 
-    back : (way : List Turn) (a b : ℕ) → HasRegionAt (reference q m t) way a → HasRegionAt (reference p m u) way b → IsAsked (times outer (sign_of structs way)) a b x
+    back : (way : List Turn) (a b : ℕ) → HasRegionAt (reference q m t) way a → HasRegionAt (reference p m u) way b
+        → IsAsked (times outer (sign_of structs way)) a b x
         → IsAsked outer q p x ⊎ SubtypeAsksBehind structs (times outer (target_sign m)) t u x
     back (own ∷ way) a b h k ask =
-        inl (asked_of outer a b q p x (sym h.1) (sym k.1) (asked_as (times outer (times Covariant (sign_of structs way))) outer a b x (ap (λ (w : List Turn). times outer (sign_of structs w)) h.0 ∙ times_covariant outer) ask))
+        inl (asked_of outer a b q p x (sym h.1) (sym k.1)
+        (asked_as (times outer (times Covariant (sign_of structs way))) outer a b x
+        (ap (λ (w : List Turn). times outer (sign_of structs w)) h.0 ∙ times_covariant outer) ask))
     back (target n ∷ way) a b h k ask =
-        inr (way, a, b, h.1, k.1, asked_as (times outer (times (target_sign n) (sign_of structs way))) (times (times outer (target_sign m)) (sign_of structs way)) a b x (ap (λ (z : Bool). times outer (times (target_sign z) (sign_of structs way))) h.0 ∙ times_assoc outer (target_sign m) (sign_of structs way)) ask)
+        inr (
+          way,
+          a,
+          b,
+          h.1,
+          k.1,
+          asked_as (times outer (times (target_sign n) (sign_of structs way)))
+              (times (times outer (target_sign m)) (sign_of structs way)) a b x
+              (ap (λ (z : Bool). times outer (times (target_sign z) (sign_of structs way))) h.0
+              ∙ times_assoc outer (target_sign m) (sign_of structs way)) ask,
+        )
     back way a b h k ask = absurd h
 
 -- of a `mut` reference and a shared one the pair is asked of their own regions alone
@@ -125,11 +159,21 @@ pub asks_own : (structs : List Struct) (outer : Sign) (q p : ℕ) (m n : Bool) (
 asks_own structs outer q p m n t u x different = (here, λ w. back w.0 w.1 w.2 w.3 w.4 w.5)
   where
     here : IsAsked outer q p x → SubtypeAsksBehind structs outer (reference q m t) (reference p n u) x
-    here a = (own ∷ [], q, p, (refl, refl), (refl, refl), asked_as outer (times outer Covariant) q p x (sym (times_covariant outer)) a)
+    here a = (
+      own ∷ [],
+      q,
+      p,
+      (refl, refl),
+      (refl, refl),
+      asked_as outer (times outer Covariant) q p x (sym (times_covariant outer)) a,
+    )
 
-    back : (way : List Turn) (a b : ℕ) → HasRegionAt (reference q m t) way a → HasRegionAt (reference p n u) way b → IsAsked (times outer (sign_of structs way)) a b x → IsAsked outer q p x
+    back : (way : List Turn) (a b : ℕ) → HasRegionAt (reference q m t) way a → HasRegionAt (reference p n u) way b
+        → IsAsked (times outer (sign_of structs way)) a b x → IsAsked outer q p x
     back (own ∷ way) a b h k ask =
-        asked_of outer a b q p x (sym h.1) (sym k.1) (asked_as (times outer (times Covariant (sign_of structs way))) outer a b x (ap (λ (w : List Turn). times outer (sign_of structs w)) h.0 ∙ times_covariant outer) ask)
+        asked_of outer a b q p x (sym h.1) (sym k.1)
+        (asked_as (times outer (times Covariant (sign_of structs way))) outer a b x
+        (ap (λ (w : List Turn). times outer (sign_of structs w)) h.0 ∙ times_covariant outer) ask)
     back (target o ∷ way) a b h k ask = absurd (different (sym h.0 ∙ k.0))
     back way a b h k ask = absurd h
 
@@ -137,17 +181,43 @@ pub asks_tuple : (structs : List Struct) (outer : Sign) (ts us : TypeTrees) (x :
     → AtOne (TypeAsks structs [] Covariant outer ts us) x ↔ SubtypeAsksBehind structs outer (tuple ts) (tuple us) x
 asks_tuple structs outer ts us x = (inside, λ w. back w.0 w.1 w.2 w.3 w.4 w.5)
   where
-    inside : AtOne (TypeAsks structs [] Covariant outer ts us) x → SubtypeAsksBehind structs outer (tuple ts) (tuple us) x
-    inside k = (let y = k.1 in let w = y.4 in
-        (part k.0 ∷ w.0, w.1, w.2, (y.0, y.2, w.3), (y.1, y.3, w.4), asked_as (times (times outer Covariant) (sign_of structs w.0)) (times outer (sign_of structs w.0)) w.1 w.2 x (ap (λ (z : Sign). times z (sign_of structs w.0)) (times_covariant outer)) w.5))
+    inside : AtOne (TypeAsks structs [] Covariant outer ts us) x
+        → SubtypeAsksBehind structs outer (tuple ts) (tuple us) x
+    inside k = (let y = k.1 in let w = y.4 in (
+      part k.0 ∷ w.0,
+      w.1,
+      w.2,
+      (y.0, y.2, w.3),
+      (y.1, y.3, w.4),
+      asked_as (times (times outer Covariant) (sign_of structs w.0)) (times outer (sign_of structs w.0)) w.1 w.2 x
+          (ap (λ (z : Sign). times z (sign_of structs w.0)) (times_covariant outer)) w.5,
+    ))
 
-    back : (way : List Turn) (a b : ℕ) → HasRegionAt (tuple ts) way a → HasRegionAt (tuple us) way b → IsAsked (times outer (sign_of structs way)) a b x → AtOne (TypeAsks structs [] Covariant outer ts us) x
-    back (part i ∷ way) a b h k ask =
-        (i, (h.0, k.0, h.1, k.1, (way, a, b, h.2, k.2, asked_as (times outer (sign_of structs way)) (times (times outer Covariant) (sign_of structs way)) a b x (ap (λ (z : Sign). times z (sign_of structs way)) (sym (times_covariant outer))) ask)))
+    back : (way : List Turn) (a b : ℕ) → HasRegionAt (tuple ts) way a → HasRegionAt (tuple us) way b
+        → IsAsked (times outer (sign_of structs way)) a b x → AtOne (TypeAsks structs [] Covariant outer ts us) x
+    back (part i ∷ way) a b h k ask = (
+      i,
+      (
+        h.0,
+        k.0,
+        h.1,
+        k.1,
+        (
+          way,
+          a,
+          b,
+          h.2,
+          k.2,
+          asked_as (times outer (sign_of structs way)) (times (times outer Covariant) (sign_of structs way)) a b x
+              (ap (λ (z : Sign). times z (sign_of structs way)) (sym (times_covariant outer))) ask,
+        ),
+      ),
+    )
     back way a b h k ask = absurd h
 
 pub asks_named : (structs : List Struct) (outer : Sign) (s : ℕ) (rs qs : List ℕ) (ts us : TypeTrees) (x : ℕ × ℕ)
-    → (AtOne (ArgumentAsks (struct_at structs s).regions outer rs qs) x ⊎ AtOne (TypeAsks structs (struct_at structs s).types Invariant outer ts us) x)
+    → (AtOne (ArgumentAsks (struct_at structs s).regions outer rs qs) x
+    ⊎ AtOne (TypeAsks structs (struct_at structs s).types Invariant outer ts us) x)
     ↔ SubtypeAsksBehind structs outer (named s rs ts) (named s qs us) x
 asks_named structs outer s rs qs ts us x = (⊎_elim here inside, λ w. back w.0 w.1 w.2 w.3 w.4 w.5)
   where
@@ -157,16 +227,36 @@ asks_named structs outer s rs qs ts us x = (⊎_elim here inside, λ w. back w.0
     type_sign : ℕ → ℕ → Sign
     type_sign n k = sign_or (struct_at structs n).types k Invariant
 
-    here : AtOne (ArgumentAsks (struct_at structs s).regions outer rs qs) x → SubtypeAsksBehind structs outer (named s rs ts) (named s qs us) x
-    here k = (let y = k.1 in
-        (region_argument s k.0 ∷ [], y.0, y.1, (refl, refl, y.2), (refl, refl, y.3), asked_as (times outer (sign_or (struct_at structs s).regions k.0 Invariant)) (times outer (times (sign_or (struct_at structs s).regions k.0 Invariant) Covariant)) y.0 y.1 x (ap (times outer) (sym (times_covariant (sign_or (struct_at structs s).regions k.0 Invariant)))) y.4))
+    here : AtOne (ArgumentAsks (struct_at structs s).regions outer rs qs) x
+        → SubtypeAsksBehind structs outer (named s rs ts) (named s qs us) x
+    here k = (let y = k.1 in (
+      region_argument s k.0 ∷ [],
+      y.0,
+      y.1,
+      (refl, refl, y.2),
+      (refl, refl, y.3),
+      asked_as (times outer (sign_or (struct_at structs s).regions k.0 Invariant))
+          (times outer (times (sign_or (struct_at structs s).regions k.0 Invariant) Covariant)) y.0 y.1 x
+          (ap (times outer) (sym (times_covariant (sign_or (struct_at structs s).regions k.0 Invariant)))) y.4,
+    ))
 
-    inside : AtOne (TypeAsks structs (struct_at structs s).types Invariant outer ts us) x → SubtypeAsksBehind structs outer (named s rs ts) (named s qs us) x
-    inside k = (let y = k.1 in let w = y.4 in
-        (type_argument s k.0 ∷ w.0, w.1, w.2, (y.0, refl, y.2, w.3), (y.1, refl, y.3, w.4), asked_as (times (times outer (sign_or (struct_at structs s).types k.0 Invariant)) (sign_of structs w.0)) (times outer (times (sign_or (struct_at structs s).types k.0 Invariant) (sign_of structs w.0))) w.1 w.2 x (sym (times_assoc outer (sign_or (struct_at structs s).types k.0 Invariant) (sign_of structs w.0))) w.5))
+    inside : AtOne (TypeAsks structs (struct_at structs s).types Invariant outer ts us) x
+        → SubtypeAsksBehind structs outer (named s rs ts) (named s qs us) x
+    inside k = (let y = k.1 in let w = y.4 in (
+      type_argument s k.0 ∷ w.0,
+      w.1,
+      w.2,
+      (y.0, refl, y.2, w.3),
+      (y.1, refl, y.3, w.4),
+      asked_as (times (times outer (sign_or (struct_at structs s).types k.0 Invariant)) (sign_of structs w.0))
+          (times outer (times (sign_or (struct_at structs s).types k.0 Invariant) (sign_of structs w.0))) w.1 w.2 x
+          (sym (times_assoc outer (sign_or (struct_at structs s).types k.0 Invariant) (sign_of structs w.0))) w.5,
+    ))
 
-    back : (way : List Turn) (a b : ℕ) → HasRegionAt (named s rs ts) way a → HasRegionAt (named s qs us) way b → IsAsked (times outer (sign_of structs way)) a b x
-        → AtOne (ArgumentAsks (struct_at structs s).regions outer rs qs) x ⊎ AtOne (TypeAsks structs (struct_at structs s).types Invariant outer ts us) x
+    back : (way : List Turn) (a b : ℕ) → HasRegionAt (named s rs ts) way a → HasRegionAt (named s qs us) way b
+        → IsAsked (times outer (sign_of structs way)) a b x
+        → AtOne (ArgumentAsks (struct_at structs s).regions outer rs qs) x
+        ⊎ AtOne (TypeAsks structs (struct_at structs s).types Invariant outer ts us) x
     back (region_argument n i ∷ way) a b h k ask =
         inl (
           i,
@@ -175,8 +265,12 @@ asks_named structs outer s rs qs ts us x = (⊎_elim here inside, λ w. back w.0
             b,
             h.2,
             k.2,
-            asked_as (times outer (times (sign_or (struct_at structs n).regions i Invariant) (sign_of structs way))) (times outer (sign_or (struct_at structs s).regions i Invariant)) a b x
-                (ap (λ (w : List Turn). times outer (times (sign_or (struct_at structs n).regions i Invariant) (sign_of structs w))) h.0 ∙ ap (times outer) (times_covariant (sign_or (struct_at structs n).regions i Invariant)) ∙ ap (λ (z : ℕ). times outer (sign_or (struct_at structs z).regions i Invariant)) h.1) ask,
+            asked_as (times outer (times (sign_or (struct_at structs n).regions i Invariant) (sign_of structs way)))
+                (times outer (sign_or (struct_at structs s).regions i Invariant)) a b x
+                (ap (λ (w : List Turn). times outer
+                (times (sign_or (struct_at structs n).regions i Invariant) (sign_of structs w))) h.0
+                ∙ ap (times outer) (times_covariant (sign_or (struct_at structs n).regions i Invariant))
+                ∙ ap (λ (z : ℕ). times outer (sign_or (struct_at structs z).regions i Invariant)) h.1) ask,
           ),
         )
     back (type_argument n i ∷ way) a b h k ask =
@@ -193,33 +287,66 @@ asks_named structs outer s rs qs ts us x = (⊎_elim here inside, λ w. back w.0
               b,
               h.3,
               k.3,
-              asked_as (times outer (times (sign_or (struct_at structs n).types i Invariant) (sign_of structs way))) (times (times outer (sign_or (struct_at structs s).types i Invariant)) (sign_of structs way)) a b x
-                  (ap (λ (z : ℕ). times outer (times (sign_or (struct_at structs z).types i Invariant) (sign_of structs way))) h.1 ∙ times_assoc outer (sign_or (struct_at structs s).types i Invariant) (sign_of structs way)) ask,
+              asked_as (times outer (times (sign_or (struct_at structs n).types i Invariant) (sign_of structs way)))
+                  (times (times outer (sign_or (struct_at structs s).types i Invariant)) (sign_of structs way)) a b x
+                  (ap (λ (z : ℕ). times outer (times (sign_or (struct_at structs z).types i Invariant)
+                  (sign_of structs way))) h.1 ∙ times_assoc outer (sign_or (struct_at structs s).types i Invariant)
+                  (sign_of structs way)) ask,
             ),
           ),
         )
     back way a b h k ask = absurd h
 
 pub asks_function : (structs : List Struct) (outer : Sign) (ts us : TypeTrees) (t u : TypeTree) (x : ℕ × ℕ)
-    → (AtOne (TypeAsks structs [] Contravariant outer ts us) x ⊎ SubtypeAsksBehind structs outer t u x) ↔ SubtypeAsksBehind structs outer (function ts t) (function us u) x
+    → (AtOne (TypeAsks structs [] Contravariant outer ts us) x ⊎ SubtypeAsksBehind structs outer t u x)
+    ↔ SubtypeAsksBehind structs outer (function ts t) (function us u) x
 asks_function structs outer ts us t u x = (⊎_elim inside through, λ w. back w.0 w.1 w.2 w.3 w.4 w.5)
   where
-    inside : AtOne (TypeAsks structs [] Contravariant outer ts us) x → SubtypeAsksBehind structs outer (function ts t) (function us u) x
-    inside k = (let y = k.1 in let w = y.4 in
-        (input k.0 ∷ w.0, w.1, w.2, (y.0, y.2, w.3), (y.1, y.3, w.4), asked_as (times (times outer Contravariant) (sign_of structs w.0)) (times outer (times Contravariant (sign_of structs w.0))) w.1 w.2 x (sym (times_assoc outer Contravariant (sign_of structs w.0))) w.5))
+    inside : AtOne (TypeAsks structs [] Contravariant outer ts us) x
+        → SubtypeAsksBehind structs outer (function ts t) (function us u) x
+    inside k = (let y = k.1 in let w = y.4 in (
+      input k.0 ∷ w.0,
+      w.1,
+      w.2,
+      (y.0, y.2, w.3),
+      (y.1, y.3, w.4),
+      asked_as (times (times outer Contravariant) (sign_of structs w.0))
+          (times outer (times Contravariant (sign_of structs w.0))) w.1 w.2 x
+          (sym (times_assoc outer Contravariant (sign_of structs w.0))) w.5,
+    ))
 
     through : SubtypeAsksBehind structs outer t u x → SubtypeAsksBehind structs outer (function ts t) (function us u) x
     through w = (output ∷ w.0, w.1, w.2, w.3, w.4, w.5)
 
-    back : (way : List Turn) (a b : ℕ) → HasRegionAt (function ts t) way a → HasRegionAt (function us u) way b → IsAsked (times outer (sign_of structs way)) a b x
+    back : (way : List Turn) (a b : ℕ) → HasRegionAt (function ts t) way a → HasRegionAt (function us u) way b
+        → IsAsked (times outer (sign_of structs way)) a b x
         → AtOne (TypeAsks structs [] Contravariant outer ts us) x ⊎ SubtypeAsksBehind structs outer t u x
     back (input i ∷ way) a b h k ask =
-        inl (i, (h.0, k.0, h.1, k.1, (way, a, b, h.2, k.2, asked_as (times outer (times Contravariant (sign_of structs way))) (times (times outer Contravariant) (sign_of structs way)) a b x (times_assoc outer Contravariant (sign_of structs way)) ask)))
+        inl (
+          i,
+          (
+            h.0,
+            k.0,
+            h.1,
+            k.1,
+            (
+              way,
+              a,
+              b,
+              h.2,
+              k.2,
+              asked_as (times outer (times Contravariant (sign_of structs way)))
+                  (times (times outer Contravariant) (sign_of structs way)) a b x
+                  (times_assoc outer Contravariant (sign_of structs way)) ask,
+            ),
+          ),
+        )
     back (output ∷ way) a b h k ask = inr (way, a, b, h, k, ask)
     back way a b h k ask = absurd h
 
 -- uses of two structs ask nothing of one another
-pub other_named : (structs : List Struct) (outer : Sign) (s n : ℕ) (rs qs : List ℕ) (ts us : TypeTrees) (x : ℕ × ℕ) → (s ≡ n → ⊥) → SubtypeAsksBehind structs outer (named s rs ts) (named n qs us) x → ⊥
+pub other_named : (structs : List Struct) (outer : Sign) (s n : ℕ) (rs qs : List ℕ) (ts us : TypeTrees) (x : ℕ × ℕ)
+    → (s ≡ n → ⊥) → SubtypeAsksBehind structs outer (named s rs ts) (named n qs us) x → ⊥
 other_named structs outer s n rs qs ts us x different w = back w.0 w.1 w.2 w.3 w.4
   where
     back : (way : List Turn) (a b : ℕ) → HasRegionAt (named s rs ts) way a → HasRegionAt (named n qs us) way b → ⊥
@@ -238,21 +365,34 @@ some_is : {X : Type 0} (a b : X) → Some a ≡ Some b → a ≡ b
 some_is a b e = cc
 
 -- what two region arguments ask is what their place asks
-pub argument_at : (parameters : List Parameter) (outer : Sign) (rs qs : List ℕ) (n a b : ℕ) (x : ℕ × ℕ) → slice_get rs n ≡ Some a → slice_get qs n ≡ Some b
+pub argument_at : (parameters : List Parameter) (outer : Sign) (rs qs : List ℕ) (n a b : ℕ) (x : ℕ × ℕ)
+    → slice_get rs n ≡ Some a → slice_get qs n ≡ Some b
     → IsAsked (times outer (sign_or parameters n Invariant)) a b x ↔ ArgumentAsks parameters outer rs qs n x
-argument_at parameters outer rs qs n a b x e d = (λ h. (a, b, e, d, h), λ p. asked_of _ p.0 p.1 a b x (some_is p.0 a (sym p.2 ∙ e)) (some_is p.1 b (sym p.3 ∙ d)) p.4)
-
-pub type_at_place : (structs : List Struct) (parameters : List Parameter) (other outer : Sign) (ts us : TypeTrees) (n : ℕ) (t u : TypeTree) (x : ℕ × ℕ) → type_at ts n ≡ Some t → type_at us n ≡ Some u
-    → SubtypeAsksBehind structs (times outer (sign_or parameters n other)) t u x ↔ TypeAsks structs parameters other outer ts us n x
-type_at_place structs parameters other outer ts us n t u x e d = (
-  λ h. (t, u, e, d, h),
-  λ p. subst (λ (z : TypeTree). SubtypeAsksBehind structs (times outer (sign_or parameters n other)) z u x) (some_is p.0 t (sym p.2 ∙ e))
-      (subst (λ (z : TypeTree). SubtypeAsksBehind structs (times outer (sign_or parameters n other)) p.0 z x) (some_is p.1 u (sym p.3 ∙ d)) p.4),
+argument_at parameters outer rs qs n a b x e d = (
+  λ h. (a, b, e, d, h),
+  λ p. asked_of _ p.0 p.1 a b x (some_is p.0 a (sym p.2 ∙ e))
+      (some_is p.1 b (sym p.3 ∙ d)) p.4,
 )
 
-pub arguments_within : (parameters : List Parameter) (outer : Sign) (rs qs : List ℕ) (n k : ℕ) (x : ℕ × ℕ) → min (length rs) (length qs) ≤ n → ArgumentAsks parameters outer rs qs k x → k < n
-arguments_within parameters outer rs qs n k x le p = (let l = get_below rs k p.0 p.2 in let m = get_below qs k p.1 p.3 in omega arith)
+pub type_at_place : (structs : List Struct) (parameters : List Parameter) (other outer : Sign) (ts us : TypeTrees)
+    (n : ℕ) (t u : TypeTree) (x : ℕ × ℕ) → type_at ts n ≡ Some t → type_at us n ≡ Some u
+    → SubtypeAsksBehind structs (times outer (sign_or parameters n other)) t u x
+    ↔ TypeAsks structs parameters other outer ts us n x
+type_at_place structs parameters other outer ts us n t u x e d = (
+  λ h. (t, u, e, d, h),
+  λ p. subst (λ (z : TypeTree). SubtypeAsksBehind structs (times outer (sign_or parameters n other)) z u x)
+      (some_is p.0 t (sym p.2 ∙ e))
+      (subst (λ (z : TypeTree). SubtypeAsksBehind structs (times outer (sign_or parameters n other)) p.0 z x)
+      (some_is p.1 u (sym p.3 ∙ d)) p.4),
+)
 
-pub types_within : (structs : List Struct) (parameters : List Parameter) (other outer : Sign) (ts us : List Ty) (n k : ℕ) (x : ℕ × ℕ) → min (length ts) (length us) ≤ n
+pub arguments_within : (parameters : List Parameter) (outer : Sign) (rs qs : List ℕ) (n k : ℕ) (x : ℕ × ℕ)
+    → min (length rs) (length qs) ≤ n → ArgumentAsks parameters outer rs qs k x → k < n
+arguments_within parameters outer rs qs n k x le p =
+    (let l = get_below rs k p.0 p.2 in let m = get_below qs k p.1 p.3 in omega arith)
+
+pub types_within : (structs : List Struct) (parameters : List Parameter) (other outer : Sign) (ts us : List Ty)
+    (n k : ℕ) (x : ℕ × ℕ) → min (length ts) (length us) ≤ n
     → TypeAsks structs parameters other outer (trees ts) (trees us) k x → k < n
-types_within structs parameters other outer ts us n k x le p = (let l = type_within ts k p.0 p.2 in let m = type_within us k p.1 p.3 in omega arith)
+types_within structs parameters other outer ts us n k x le p =
+    (let l = type_within ts k p.0 p.2 in let m = type_within us k p.1 p.3 in omega arith)

@@ -44,9 +44,11 @@ prefix_rest (x ∷ xs) (y ∷ ys) p =
 -- nothing is left behind a whole
 no_rest : {X : Type 0} (whole front rest : List X) → whole ≡ front ++ rest → front ≡ whole → rest ≡ []
 no_rest whole front [] e same = refl
-no_rest whole front (x ∷ xs) e same = absurd (let m = ap length e in let n = ap length same in omega (arith, length-append front (x ∷ xs), m, n))
+no_rest whole front (x ∷ xs) e same =
+    absurd (let m = ap length e in let n = ap length same in omega (arith, length-append front (x ∷ xs), m, n))
 
-sum_places : {X : Type 0} (f : X → ℕ) (xs : List X) → sum_by f xs ≡ sum_to (length xs) (λ k. slice_index_or (map f xs) k 0)
+sum_places : {X : Type 0} (f : X → ℕ) (xs : List X)
+    → sum_by f xs ≡ sum_to (length xs) (λ k. slice_index_or (map f xs) k 0)
 sum_places f xs = from_front f xs ∙ same (length xs) f xs
   where
     total : (ℕ → ℕ) → ℕ → ℕ
@@ -61,11 +63,13 @@ sum_places f xs = from_front f xs ∙ same (length xs) f xs
     total_sum g zero = refl
     total_sum g (suc n) = let r = total_sum g n in let l = total_last g n in omega (arith, r, l)
 
-    from_front : {X : Type 0} (f : X → ℕ) (xs : List X) → sum_by f xs ≡ total (λ k. slice_index_or (map f xs) k 0) (length xs)
+    from_front : {X : Type 0} (f : X → ℕ) (xs : List X)
+        → sum_by f xs ≡ total (λ k. slice_index_or (map f xs) k 0) (length xs)
     from_front f [] = refl
     from_front f (x ∷ xs) = sum_by-cons f x xs ∙ ap (λ n. f x + n) (from_front f xs)
 
-    same : {X : Type 0} (n : ℕ) (f : X → ℕ) (xs : List X) → total (λ k. slice_index_or (map f xs) k 0) n ≡ sum_to n (λ k. slice_index_or (map f xs) k 0)
+    same : {X : Type 0} (n : ℕ) (f : X → ℕ) (xs : List X)
+        → total (λ k. slice_index_or (map f xs) k 0) n ≡ sum_to n (λ k. slice_index_or (map f xs) k 0)
     same n f xs = total_sum (λ k. slice_index_or (map f xs) k 0) n
 
 no_error_cases : (w : Ending) → IsCalm w → (w ≡ Quiet) ⊎ ((w ≡ Stopped) ⊎ (w ≡ Stray))
@@ -97,9 +101,12 @@ error_bad endings.Unstarted t e = absurd t
 error_bad endings.NoOwner t e = absurd t
 
 module _ {D M S R C P L B H E : Type 0} (m : Mail.Ghosts M S R C P) (b : Ledger.Ghosts L B H E) (book : B)
-    (log : D → List Growth) (left : D → E) (closed : D → List C) (kept : D → List R) (why_of : D → Ending) (q : Problem) (c : Cut) (cut : IsCutOf q c) (ds : List D) (count : length ds ≡ c.owners)
+    (log : D → List Growth) (left : D → E) (closed : D → List C) (kept : D → List R) (why_of : D → Ending) (q : Problem)
+    (c : Cut) (cut : IsCutOf q c) (ds : List D) (count : length ds ≡ c.owners)
     (leaves : (k : ℕ) (d : D) → slice_get ds k ≡ Some d → Leaves b book k (left d) (why_of d))
-    (finishes : (k : ℕ) (d : D) → slice_get ds k ≡ Some d → WasMade (why_of d) → FinishedAs q c k (log_of (map m.all_sent (closed d))) (log_of (map m.received (kept d))) (b.left_owed (left d)) (b.left_cleared (left d)) (why_of d) (log d))
+    (finishes : (k : ℕ) (d : D) → slice_get ds k ≡ Some d → WasMade (why_of d)
+    → FinishedAs q c k (log_of (map m.all_sent (closed d))) (log_of (map m.received (kept d)))
+    (b.left_owed (left d)) (b.left_cleared (left d)) (why_of d) (log d))
     (calm : (k : ℕ) (d : D) → slice_get ds k ≡ Some d → IsCalm (why_of d)) where
   abbrev sent : ℕ → ℕ → List Growth
   sent i j = sent_by m.all_sent (map closed ds) i j
@@ -132,11 +139,20 @@ module _ {D M S R C P L B H E : Type 0} (m : Mail.Ghosts M S R C P) (b : Ledger.
         f.0,
         (
           f.1 ∙ sym (mapped log ds i d.0 [] d.1),
-          subst (λ (x : List C). Finishes q c i f.0 (λ j. log_of (map m.all_sent x) j) (λ j. got j i) (owed i) (cleared i) (ending i)) (sym (mapped closed ds i d.0 [] d.1))
-              (subst (λ (x : List R). Finishes q c i f.0 (log_of (map m.all_sent (closed d.0))) (λ j. log_of (map m.received x) j) (owed i) (cleared i) (ending i)) (sym (mapped kept ds i d.0 [] d.1))
-              (subst (λ (x : ℕ). Finishes q c i f.0 (log_of (map m.all_sent (closed d.0))) (log_of (map m.received (kept d.0))) x (cleared i) (ending i)) (sym (mapped (λ (y : D). b.left_owed (left y)) ds i d.0 0 d.1))
-              (subst (λ (x : ℕ). Finishes q c i f.0 (log_of (map m.all_sent (closed d.0))) (log_of (map m.received (kept d.0))) (b.left_owed (left d.0)) x (ending i)) (sym (mapped (λ (y : D). b.left_cleared (left y)) ds i d.0 0 d.1))
-              (subst (λ (x : Ending). Finishes q c i f.0 (log_of (map m.all_sent (closed d.0))) (log_of (map m.received (kept d.0))) (b.left_owed (left d.0)) (b.left_cleared (left d.0)) x) (sym (mapped why_of ds i d.0 Quiet d.1)) f.2)))),
+          subst (λ (x : List C). Finishes q c i f.0 (λ j. log_of (map m.all_sent x) j) (λ j. got j i) (owed i)
+              (cleared i) (ending i)) (sym (mapped closed ds i d.0 [] d.1))
+              (subst (λ (x : List R). Finishes q c i f.0 (log_of (map m.all_sent (closed d.0)))
+              (λ j. log_of (map m.received x) j) (owed i) (cleared i) (ending i))
+              (sym (mapped kept ds i d.0 [] d.1))
+              (subst (λ (x : ℕ). Finishes q c i f.0 (log_of (map m.all_sent (closed d.0)))
+              (log_of (map m.received (kept d.0))) x (cleared i) (ending i))
+              (sym (mapped (λ (y : D). b.left_owed (left y)) ds i d.0 0 d.1))
+              (subst (λ (x : ℕ). Finishes q c i f.0 (log_of (map m.all_sent (closed d.0)))
+              (log_of (map m.received (kept d.0))) (b.left_owed (left d.0)) x (ending i))
+              (sym (mapped (λ (y : D). b.left_cleared (left y)) ds i d.0 0 d.1))
+              (subst (λ (x : Ending). Finishes q c i f.0 (log_of (map m.all_sent (closed d.0)))
+              (log_of (map m.received (kept d.0))) (b.left_owed (left d.0)) (b.left_cleared (left d.0)) x)
+              (sym (mapped why_of ds i d.0 Quiet d.1)) f.2)))),
         ),
       )
 
@@ -157,27 +173,34 @@ module _ {D M S R C P L B H E : Type 0} (m : Mail.Ghosts M S R C P) (b : Ledger.
   log_count = map_size log ds ∙ count
 
   well_formed : (i : ℕ) → i < c.owners → IsWellFormed c i (log_of logs i)
-  well_formed i l = subst (IsWellFormed c i) (sym (log_is i l)) (subst (λ x. IsWellFormed x i (owner i).log) (ends i l).cut (subst (λ x. IsWellFormed (owner i).cut x (owner i).log) (ends i l).me (ends i l).sound.well_formed))
+  well_formed i l =
+      subst (IsWellFormed c i) (sym (log_is i l))
+      (subst (λ x. IsWellFormed x i (owner i).log) (ends i l).cut
+      (subst (λ x. IsWellFormed (owner i).cut x (owner i).log) (ends i l).me (ends i l).sound.well_formed))
 
   region_in : (i : ℕ) (g : Growth) → i < c.owners → owner_of c g.region ≡ i → g.region < q.regions
   region_in i g l own = ⊎_elim
       (λ (h : g.region < length c.list). subst (λ n. g.region < n) cut.regions h)
-      (λ (h : length c.list ≤ g.region). absurd (let past = get_or_past c.list g.region c.owners h in omega (arith, past, own, l)))
+      (λ (h : length c.list ≤ g.region). absurd
+      (let past = get_or_past c.list g.region c.owners h in omega (arith, past, own, l)))
       (cases_lt g.region (length c.list))
 
   -- each growth of a log is of the problem's numbers
-  pub in_range : (log : List Growth) (g : Growth) → Contains logs log → Contains log g → (g.region < q.regions) × (g.element < element_count q.graph)
+  pub in_range : (log : List Growth) (g : Growth) → Contains logs log → Contains log g
+      → (g.region < q.regions) × (g.element < element_count q.graph)
   in_range log g h at =
       let k = contains_place logs log h in
       let l : k.0 < c.owners = (let w = within logs k.0 log k.1 in omega (arith, w, log_count)) in
       let here : log_of logs k.0 ≡ log = read_place logs k.0 log [] k.1 in
       let at' : Contains (log_of logs k.0) g = subst (λ xs. Contains xs g) (sym here) at in (
         region_in k.0 g l ((well_formed k.0 l).own g at'),
-        subst (λ (p : Problem). g.element < element_count p.graph) (ends k.0 l).problem ((ends k.0 l).sound.elements g (subst (λ xs. Contains xs g) (log_is k.0 l) at')),
+        subst (λ (p : Problem). g.element < element_count p.graph) (ends k.0 l).problem
+            ((ends k.0 l).sound.elements g (subst (λ xs. Contains xs g) (log_is k.0 l) at')),
       )
 
   module _ (posts : List P)
-      (settled : ArePostsOf m (sent_by m.all_sent (map closed ds)) (got_by m.received (map kept ds)) (InRows c.owners c.owners) posts) where
+      (settled : ArePostsOf m (sent_by m.all_sent (map closed ds)) (got_by m.received (map kept ds))
+      (InRows c.owners c.owners) posts) where
     abbrev rest : ℕ → ℕ → List Growth
     rest i j = drop (length (got i j)) (sent i j)
 
@@ -187,9 +210,12 @@ module _ {D M S R C P L B H E : Type 0} (m : Mail.Ghosts M S R C P) (b : Ledger.
     never_stray : (i : ℕ) → i < c.owners → ending i ≢ Stray
     never_stray = not_stray q c owner sent got rest owed cleared ending ends tied
 
-    module _ (total_owed total_cleared : ℕ) (owed_is : total_owed ≡ sum_by b.left_owed (map left ds)) (cleared_is : total_cleared ≡ sum_by b.left_cleared (map left ds))
-        (quiets : ((k : ℕ) (l : E) → slice_get (map left ds) k ≡ Some l → b.left_quiet l ≡ true) → total_owed ≡ total_cleared)
-        (stopped : (k : ℕ) (l : E) → slice_get (map left ds) k ≡ Some l → b.left_quiet l ≡ false → (j : ℕ) × (x : E) × (slice_get (map left ds) j ≡ Some x) × (b.left_called x ≡ true)) where
+    module _ (total_owed total_cleared : ℕ) (owed_is : total_owed ≡ sum_by b.left_owed (map left ds))
+        (cleared_is : total_cleared ≡ sum_by b.left_cleared (map left ds))
+        (quiets : ((k : ℕ) (l : E) → slice_get (map left ds) k ≡ Some l → b.left_quiet l ≡ true)
+        → total_owed ≡ total_cleared)
+        (stopped : (k : ℕ) (l : E) → slice_get (map left ds) k ≡ Some l → b.left_quiet l ≡ false
+        → (j : ℕ) × (x : E) × (slice_get (map left ds) j ≡ Some x) × (b.left_called x ≡ true)) where
       why_at : (i : ℕ) (d : D) → slice_get ds i ≡ Some d → ending i ≡ why_of d
       why_at i d e = mapped why_of ds i d Quiet e
 
@@ -205,7 +231,8 @@ module _ {D M S R C P L B H E : Type 0} (m : Mail.Ghosts M S R C P) (b : Ledger.
           let s = stopped i (left d) (map_place left ds i d e) off in
           let w = map_from left ds s.0 s.1 s.2 in
           let call = subst (λ (x : E). b.left_called x ≡ true) (sym w.2) s.3 in
-          absurd (not_bad_at s.0 w.0 w.1 (error_bad (why_of w.0) (calm s.0 w.0 w.1) ((leaves s.0 w.0 w.1).called_is call))))
+          absurd (not_bad_at s.0 w.0 w.1 (error_bad (why_of w.0) (calm s.0 w.0 w.1)
+          ((leaves s.0 w.0 w.1).called_is call))))
           (λ (h : why_of d ≡ Stray). absurd (not_bad_at i d e h)) t)
           (no_error_cases (why_of d) (calm i d e))
         where
@@ -216,23 +243,31 @@ module _ {D M S R C P L B H E : Type 0} (m : Mail.Ghosts M S R C P) (b : Ledger.
       quiet i l = let d = done i l in why_at i d.0 d.1 ∙ quiet_at i d.0 d.1
 
       all_quiet_left : (k : ℕ) (l : E) → slice_get (map left ds) k ≡ Some l → b.left_quiet l ≡ true
-      all_quiet_left k l e = let w = map_from left ds k l e in subst (λ (x : E). b.left_quiet x ≡ true) w.2 ((leaves k w.0 w.1).quiet_is (quiet_at k w.0 w.1))
+      all_quiet_left k l e = let w = map_from left ds k l e in
+          subst (λ (x : E). b.left_quiet x ≡ true) w.2 ((leaves k w.0 w.1).quiet_is (quiet_at k w.0 w.1))
 
-      sum_of : (f : E → ℕ) → sum_by f (map left ds) ≡ sum_to c.owners (λ i. slice_index_or (map (λ d. f (left d)) ds) i 0)
-      sum_of f = sum_map f ds ∙ (sum_places (λ d. f (left d)) ds ∙ ap (λ n. sum_to n (λ i. slice_index_or (map (λ d. f (left d)) ds) i 0)) count)
+      sum_of : (f : E → ℕ) → sum_by f (map left ds)
+          ≡ sum_to c.owners (λ i. slice_index_or (map (λ d. f (left d)) ds) i 0)
+      sum_of f =
+          sum_map f ds ∙ (sum_places (λ d. f (left d)) ds
+          ∙ ap (λ n. sum_to n (λ i. slice_index_or (map (λ d. f (left d)) ds) i 0)) count)
         where
           sum_map : (f : E → ℕ) (xs : List D) → sum_by f (map left xs) ≡ sum_by (λ d. f (left d)) xs
           sum_map f [] = refl
-          sum_map f (x ∷ xs) = sum_by-cons f (left x) (map left xs) ∙ (ap (λ n. f (left x) + n) (sum_map f xs) ∙ sym (sum_by-cons (λ d. f (left d)) x xs))
+          sum_map f (x ∷ xs) = sum_by-cons f (left x) (map left xs)
+              ∙ (ap (λ n. f (left x) + n) (sum_map f xs) ∙ sym (sum_by-cons (λ d. f (left d)) x xs))
 
       sums : sum_to c.owners owed ≡ sum_to c.owners cleared
       sums = sym (sum_of b.left_owed) ∙ (sym owed_is ∙ (quiets all_quiet_left ∙ (cleared_is ∙ sum_of b.left_cleared)))
 
       module _ (problem : IsSoundProblem q) (values : List (List Bool)) (shaped : IsShaped q values)
           (held : (r e : ℕ) → IsHeld values r e ↔ ((l : List Growth) × Contains logs l × IsTold l r e)) where
-        law : ((i j : ℕ) → i < c.owners → j < c.owners → i ≢ j → (sent i j ≡ part q c j (log_of logs i)) × (got i j ≡ sent i j) × (rest i j ≡ []))
-            × AreSound q c logs (λ i j. part q c i (log_of logs j)) × ((r e : ℕ) → IsTold (log_of logs (owner_of c r)) r e ↔ Least q r e)
-        law = concludes q c owner sent got rest owed cleared ending ends tied logs problem cut log_count log_is quiet sums
+        law : ((i j : ℕ) → i < c.owners → j < c.owners → i ≢ j
+            → (sent i j ≡ part q c j (log_of logs i)) × (got i j ≡ sent i j) × (rest i j ≡ []))
+            × AreSound q c logs (λ i j. part q c i (log_of logs j))
+            × ((r e : ℕ) → IsTold (log_of logs (owner_of c r)) r e ↔ Least q r e)
+        law = concludes q c owner sent got rest owed cleared ending ends tied logs problem cut log_count log_is quiet
+            sums
 
         logged : (r e : ℕ) → IsHeld values r e ↔ IsTold (log_of logs (owner_of c r)) r e
         logged r e = (
@@ -242,31 +277,43 @@ module _ {D M S R C P L B H E : Type 0} (m : Mail.Ghosts M S R C P) (b : Ledger.
               let l : k.0 < c.owners = (let w = within logs k.0 x.0 k.1 in omega (arith, w, log_count)) in
               let here : log_of logs k.0 ≡ x.0 = read_place logs k.0 x.0 [] k.1 in
               let g = x.2 in
-              let own : owner_of c r ≡ k.0 = ap (owner_of c) (sym g.2) ∙ (well_formed k.0 l).own g.0 (subst (λ xs. Contains xs g.0) (sym here) g.1) in
+              let own : owner_of c r ≡ k.0 = ap (owner_of c) (sym g.2)
+              ∙ (well_formed k.0 l).own g.0 (subst (λ xs. Contains xs g.0) (sym here) g.1) in
               subst (λ xs. IsTold xs r e) (sym (ap (log_of logs) own ∙ here)) x.2),
           (λ h. ⊎_elim
               (λ (low : owner_of c r < length logs).
               let p = place logs (owner_of c r) low in
-              (held r e).1 (p.0, contained logs (owner_of c r) p.0 p.1, subst (λ xs. IsTold xs r e) (read_place logs (owner_of c r) p.0 [] p.1) h))
+              (held r e).1 (
+                p.0,
+                contained logs (owner_of c r) p.0 p.1,
+                subst (λ xs. IsTold xs r e) (read_place logs (owner_of c r) p.0 [] p.1) h,
+              ))
               (λ (past : length logs ≤ owner_of c r).
-              absurd (let none = get_or_past logs (owner_of c r) [] past in let l = (subst (λ xs. IsTold xs r e) none h).1.1 in omega (arith, l)))
+              absurd (let none = get_or_past logs (owner_of c r) [] past in
+              let l = (subst (λ xs. IsTold xs r e) none h).1.1 in omega (arith, l)))
               (cases_lt (owner_of c r) (length logs))),
         )
 
         ranked : AreRanked q c logs
-        ranked = are_ranked q c cut owner logs (λ i l. (ends i l).sound) (λ i l. (ends i l).cut) (λ i l. (ends i l).me) log_is
+        ranked =
+            are_ranked q c cut owner logs (λ i l. (ends i l).sound) (λ i l. (ends i l).cut)
+            (λ i l. (ends i l).me) log_is
             (λ i j li lj differ.
             let l = law.0 j i lj li (λ e. differ (sym e)) in
             sym ((ends i li).heard (quiet i li) j lj) ∙ (l.1 ∙ l.0))
 
         -- what is said of one post
-        said : (p : P) → Contains posts p → (m.post_sent p ≡ part q c (m.post_ends p).1 (log_of logs (m.post_ends p).0)) × (m.post_received p ≡ m.post_sent p) × (m.post_rest p ≡ [])
+        said : (p : P) → Contains posts p → (m.post_sent p ≡ part q c (m.post_ends p).1 (log_of logs (m.post_ends p).0))
+            × (m.post_received p ≡ m.post_sent p) × (m.post_rest p ≡ [])
         said p h =
             let x = settled.only p h in
             let i = x.0 in let j = x.1 in let s = x.3 in
             let l = law.0 i j x.2.0 x.2.1 s.apart in
-            let received_all : m.post_received p ≡ m.post_sent p = s.received_is ∙ (l.1 ∙ sym s.sent_is) in
-            (s.sent_is ∙ (l.0 ∙ ap (λ (e : ℕ × ℕ). part q c e.1 (log_of logs e.0)) (sym s.ends_are)), received_all, no_rest (m.post_sent p) (m.post_received p) (m.post_rest p) s.whole received_all)
+            let received_all : m.post_received p ≡ m.post_sent p = s.received_is ∙ (l.1 ∙ sym s.sent_is) in (
+              s.sent_is ∙ (l.0 ∙ ap (λ (e : ℕ × ℕ). part q c e.1 (log_of logs e.0)) (sym s.ends_are)),
+              received_all,
+              no_rest (m.post_sent p) (m.post_received p) (m.post_rest p) s.whole received_all,
+            )
 
         pub says_least : AllPairs IsPairBefore (map m.post_ends posts) → IsOutcome m q c values logs posts
         says_least in_order = record {
@@ -280,7 +327,9 @@ module _ {D M S R C P L B H E : Type 0} (m : Mail.Ghosts M S R C P) (b : Ledger.
               (λ h.
                   let y = settled.each x.0 x.1 (h.0, h.1) h.2 in
                   let k = contains_place posts y.0 y.1 in
-                  subst (λ (z : ℕ × ℕ). Contains (map m.post_ends posts) z) y.2 (contained (map m.post_ends posts) k.0 (m.post_ends y.0) (map_place m.post_ends posts k.0 y.0 k.1))),
+                  subst (λ (z : ℕ × ℕ). Contains (map m.post_ends posts) z) y.2
+                  (contained (map m.post_ends posts) k.0 (m.post_ends y.0)
+                  (map_place m.post_ends posts k.0 y.0 k.1))),
             );
             whole_part = λ p h. (said p h).0;
             all_of_it = λ p h. (said p h).1;

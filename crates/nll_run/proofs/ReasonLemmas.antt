@@ -72,21 +72,28 @@ up_to P all n e at below here k d l is = ⊎_elim
     one_item : {o : _} (x y : Ending) → o ≡ Some x → o ≡ Some y → x ≡ y
     one_item x y p q = cc
 
-pub calm_step : (all : List Ending) (n : ℕ) (e : Ending) (r : Option RunError) → slice_get all n ≡ Some e → IsCalm e → IsReasonSoFar all n r → IsReasonSoFar all (n + 1) r
+pub calm_step : (all : List Ending) (n : ℕ) (e : Ending) (r : Option RunError) → slice_get all n ≡ Some e → IsCalm e
+    → IsReasonSoFar all n r → IsReasonSoFar all (n + 1) r
 calm_step all n e None at calm so_far = up_to IsCalm all n e at so_far calm
 calm_step all n e (Some errors.Thread) at calm so_far = so_far
-calm_step all n e (Some errors.Memory) at calm so_far = (up_to WasStarted all n e at so_far.0 (calm_started e calm), so_far.1)
+calm_step all n e (Some errors.Memory) at calm so_far =
+    (up_to WasStarted all n e at so_far.0 (calm_started e calm), so_far.1)
 
-started_so_far : (all : List Ending) (n : ℕ) (r : Option RunError) → IsReasonSoFar all n r → (k : ℕ) (e : Ending) → k < n → slice_get all k ≡ Some e → WasStarted e
+started_so_far : (all : List Ending) (n : ℕ) (r : Option RunError) → IsReasonSoFar all n r → (k : ℕ) (e : Ending)
+    → k < n → slice_get all k ≡ Some e → WasStarted e
 started_so_far all n None so_far k e l is = calm_started e (so_far k e l is)
 started_so_far all n (Some errors.Thread) so_far k e l is = absurd so_far
 started_so_far all n (Some errors.Memory) so_far k e l is = so_far.0 k e l is
 
-pub memory_step : (all : List Ending) (n : ℕ) (e : Ending) (r : Option RunError) → slice_get all n ≡ Some e → IsOutOfMemory e → IsReasonSoFar all n r
+pub memory_step : (all : List Ending) (n : ℕ) (e : Ending) (r : Option RunError) → slice_get all n ≡ Some e
+    → IsOutOfMemory e → IsReasonSoFar all n r
     → IsReasonSoFar all (n + 1) (Some errors.Memory)
-memory_step all n e r at out so_far = (up_to WasStarted all n e at (started_so_far all n r so_far) (out_started e out), (n, e, at, out))
+memory_step all n e r at out so_far =
+    (up_to WasStarted all n e at (started_so_far all n r so_far) (out_started e out), (n, e, at, out))
 
-pub whole_reason : (all : List Ending) (n : ℕ) (r : Option RunError) → length all ≤ n → IsReasonSoFar all n r → IsReason all r
+pub whole_reason : (all : List Ending) (n : ℕ) (r : Option RunError) → length all ≤ n → IsReasonSoFar all n r
+    → IsReason all r
 whole_reason all n None l so_far = λ k e is. so_far k e (let w = within all k e is in omega (arith, w, l)) is
 whole_reason all n (Some errors.Thread) l so_far = absurd so_far
-whole_reason all n (Some errors.Memory) l so_far = ((λ k e is. so_far.0 k e (let w = within all k e is in omega (arith, w, l)) is), so_far.1)
+whole_reason all n (Some errors.Memory) l so_far =
+    ((λ k e is. so_far.0 k e (let w = within all k e is in omega (arith, w, l)) is), so_far.1)

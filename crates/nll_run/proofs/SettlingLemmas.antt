@@ -20,10 +20,18 @@ in_one x y (suc k, l, e) = absurd (omega (arith, l))
 
 module _ {M S R C P : Type 0} (m : Mail.Ghosts M S R C P) (out into : ℕ → ℕ → List Growth) where
   pub settled_none : (done : ℕ → ℕ → Type 0) → ((i j : ℕ) → done i j → ⊥) → ArePostsOf m out into done []
-  settled_none done none = record { prefix = λ i j d. absurd (none i j d); each = λ i j d. absurd (none i j d); only = λ p h. absurd (omega (arith, h.1)) }
+  settled_none done none =
+      record {
+        prefix = λ i j d. absurd (none i j d);
+        each = λ i j d. absurd (none i j d);
+        only = λ p h. absurd (omega (arith, h.1));
+      }
 
-  pub settled_join : (first second both : ℕ → ℕ → Type 0) (posts more : List P) → ((i j : ℕ) → both i j → first i j ⊎ second i j) → ((i j : ℕ) → first i j → both i j) → ((i j : ℕ) → second i j → both i j)
-      → ArePostsOf m out into first posts → ArePostsOf m out into second more → ArePostsOf m out into both (posts ++ more)
+  pub settled_join : (first second both : ℕ → ℕ → Type 0) (posts more : List P)
+      → ((i j : ℕ) → both i j → first i j ⊎ second i j) → ((i j : ℕ) → first i j → both i j)
+      → ((i j : ℕ) → second i j → both i j)
+      → ArePostsOf m out into first posts → ArePostsOf m out into second more
+      → ArePostsOf m out into both (posts ++ more)
   settled_join first second both posts more split left right a b = record {
     prefix = λ i j d. ⊎_elim (λ (h : first i j). a.prefix i j h) (λ (h : second i j). b.prefix i j h) (split i j d);
     each = λ i j d apart. ⊎_elim
@@ -37,7 +45,8 @@ module _ {M S R C P : Type 0} (m : Mail.Ghosts M S R C P) (out into : ℕ → �
   }
 
   -- one mailbox between two owners
-  pub settled_one : (i j : ℕ) (p : P) → IsPrefix (into i j) (out i j) → IsPostOf m out into i j p → ArePostsOf m out into (λ a b. (a ≡ i) × (b ≡ j)) (p ∷ [])
+  pub settled_one : (i j : ℕ) (p : P) → IsPrefix (into i j) (out i j) → IsPostOf m out into i j p
+      → ArePostsOf m out into (λ a b. (a ≡ i) × (b ≡ j)) (p ∷ [])
   settled_one i j p prefix says = record {
     prefix = λ a b d. subst (λ (y : ℕ × ℕ). IsPrefix (into y.0 y.1) (out y.0 y.1)) (λ k. (sym d.0 k, sym d.1 k)) prefix;
     each = λ a b d apart. (p, (0, omega arith, refl), says.ends_are ∙ (λ k. (sym d.0 k, sym d.1 k)));
@@ -45,7 +54,8 @@ module _ {M S R C P : Type 0} (m : Mail.Ghosts M S R C P) (out into : ℕ → �
   }
 
   -- one from an owner to itself
-  pub settled_own : (i j : ℕ) → i ≡ j → IsPrefix (into i j) (out i j) → ArePostsOf m out into (λ a b. (a ≡ i) × (b ≡ j)) []
+  pub settled_own : (i j : ℕ) → i ≡ j → IsPrefix (into i j) (out i j)
+      → ArePostsOf m out into (λ a b. (a ≡ i) × (b ≡ j)) []
   settled_own i j same prefix = record {
     prefix = λ a b d. subst (λ (y : ℕ × ℕ). IsPrefix (into y.0 y.1) (out y.0 y.1)) (λ k. (sym d.0 k, sym d.1 k)) prefix;
     each = λ a b d apart. absurd (apart (d.0 ∙ (same ∙ sym d.1)));
@@ -54,33 +64,48 @@ module _ {M S R C P : Type 0} (m : Mail.Ghosts M S R C P) (out into : ℕ → �
 
   -- one more mailbox of a row
   row_split : (from made i j : ℕ) → InRow from (made + 1) i j → InRow from made i j ⊎ ((i ≡ from) × (j ≡ made))
-  row_split from made i j d = ⊎_elim (λ (h : j < made). inl (d.0, h)) (λ (h : j ≡ made). inr (d.0, h)) (cases_last j made d.1)
+  row_split from made i j d =
+      ⊎_elim (λ (h : j < made). inl (d.0, h)) (λ (h : j ≡ made). inr (d.0, h)) (cases_last j made d.1)
 
-  pub row_post : (from made : ℕ) (more : List P) (p : P) → ArePostsOf m out into (InRow from made) more → IsPrefix (into from made) (out from made) → IsPostOf m out into from made p
+  pub row_post : (from made : ℕ) (more : List P) (p : P) → ArePostsOf m out into (InRow from made) more
+      → IsPrefix (into from made) (out from made) → IsPostOf m out into from made p
       → ArePostsOf m out into (InRow from (made + 1)) (more ++ p ∷ [])
-  row_post from made more p a prefix says = settled_join (InRow from made) (λ i j. (i ≡ from) × (j ≡ made)) (InRow from (made + 1)) more (p ∷ []) (row_split from made)
+  row_post from made more p a prefix says =
+      settled_join (InRow from made) (λ i j. (i ≡ from) × (j ≡ made)) (InRow from (made + 1)) more (p ∷ [])
+      (row_split from made)
       (λ i j d. (d.0, omega (arith, d.1))) (λ i j d. (d.0, omega (arith, d.1))) a (settled_one from made p prefix says)
 
-  pub row_own : (from made : ℕ) (more : List P) → ArePostsOf m out into (InRow from made) more → IsPrefix (into from made) (out from made) → from ≡ made
+  pub row_own : (from made : ℕ) (more : List P) → ArePostsOf m out into (InRow from made) more
+      → IsPrefix (into from made) (out from made) → from ≡ made
       → ArePostsOf m out into (InRow from (made + 1)) more
   row_own from made more a prefix same = record {
-    prefix = λ i j d. ⊎_elim (λ (h : InRow from made i j). a.prefix i j h) (λ (h : (i ≡ from) × (j ≡ made)). subst (λ (y : ℕ × ℕ). IsPrefix (into y.0 y.1) (out y.0 y.1)) (λ k. (sym h.0 k, sym h.1 k)) prefix) (row_split from made i j d);
-    each = λ i j d apart. ⊎_elim (λ (h : InRow from made i j). a.each i j h apart) (λ (h : (i ≡ from) × (j ≡ made)). absurd (apart (h.0 ∙ (same ∙ sym h.1)))) (row_split from made i j d);
+    prefix =
+        λ i j d. ⊎_elim (λ (h : InRow from made i j). a.prefix i j h)
+        (λ (h : (i ≡ from) × (j ≡ made)). subst (λ (y : ℕ × ℕ). IsPrefix (into y.0 y.1) (out y.0 y.1))
+        (λ k. (sym h.0 k, sym h.1 k)) prefix) (row_split from made i j d);
+    each = λ i j d apart. ⊎_elim (λ (h : InRow from made i j). a.each i j h apart)
+        (λ (h : (i ≡ from) × (j ≡ made)). absurd (apart (h.0 ∙ (same ∙ sym h.1)))) (row_split from made i j d);
     only = λ p h. let x = a.only p h in (x.0, x.1, (x.2.0, omega (arith, x.2.1)), x.3);
   }
 
   -- one more row
-  pub rows_more : (made owners : ℕ) (posts more : List P) → ArePostsOf m out into (InRows made owners) posts → ArePostsOf m out into (InRow made owners) more
+  pub rows_more : (made owners : ℕ) (posts more : List P) → ArePostsOf m out into (InRows made owners) posts
+      → ArePostsOf m out into (InRow made owners) more
       → ArePostsOf m out into (InRows (made + 1) owners) (posts ++ more)
-  rows_more made owners posts more a b = settled_join (InRows made owners) (InRow made owners) (InRows (made + 1) owners) posts more
+  rows_more made owners posts more a b =
+      settled_join (InRows made owners) (InRow made owners) (InRows (made + 1) owners) posts more
       (λ i j d. ⊎_elim (λ (h : i < made). inl (h, d.1)) (λ (h : i ≡ made). inr (h, d.1)) (cases_last i made d.0))
       (λ i j d. (omega (arith, d.0), d.1)) (λ i j d. (omega (arith, d.0), d.1)) a b
 
 -- the same with other words for what was sent and received
-pub settled_as : {M S R C P : Type 0} (m : Mail.Ghosts M S R C P) (out into out' into' : ℕ → ℕ → List Growth) (done : ℕ → ℕ → Type 0) (posts : List P)
-    → ((i j : ℕ) → done i j → out i j ≡ out' i j) → ((i j : ℕ) → done i j → into i j ≡ into' i j) → ArePostsOf m out into done posts → ArePostsOf m out' into' done posts
+pub settled_as : {M S R C P : Type 0} (m : Mail.Ghosts M S R C P) (out into out' into' : ℕ → ℕ → List Growth)
+    (done : ℕ → ℕ → Type 0) (posts : List P)
+    → ((i j : ℕ) → done i j → out i j ≡ out' i j) → ((i j : ℕ) → done i j → into i j ≡ into' i j)
+    → ArePostsOf m out into done posts → ArePostsOf m out' into' done posts
 settled_as m out into out' into' done posts same_out same_into a = record {
-  prefix = λ i j d. subst (λ (y : List Growth × List Growth). IsPrefix y.0 y.1) (λ k. (same_into i j d k, same_out i j d k)) (a.prefix i j d);
+  prefix =
+      λ i j d. subst (λ (y : List Growth × List Growth). IsPrefix y.0 y.1) (λ k. (same_into i j d k, same_out i j d k))
+      (a.prefix i j d);
   each = a.each;
   only = λ p h. let x = a.only p h in (
     x.0,
@@ -96,7 +121,8 @@ settled_as m out into out' into' done posts same_out same_into a = record {
   );
 }
 
-pub read_dropped : {R : Type 0} (f : R → List Growth) (xs : List R) (m : ℕ) → log_of (map f (drop m xs)) 0 ≡ log_of (map f xs) m
+pub read_dropped : {R : Type 0} (f : R → List Growth) (xs : List R) (m : ℕ)
+    → log_of (map f (drop m xs)) 0 ≡ log_of (map f xs) m
 read_dropped f [] zero = refl
 read_dropped f [] (suc m) = refl
 read_dropped f (x ∷ xs) zero = refl
@@ -112,21 +138,38 @@ pub drop_drop : {R : Type 0} (xs : List R) (m : ℕ) → drop 1 (drop m xs) ≡ 
 drop_drop xs m = let n : suc m ≡ m + 1 = omega arith in drop_drop_suc xs m ∙ ap (λ k. drop k xs) n
 
 -- what row m has for j, and the first of column j once m were taken off
-pub head_of : {C R : Type 0} (closes : C → R → Type 0) (ends : R → ℕ × ℕ) (owners m j : ℕ) (rows : List (List C)) (columns : List (List R)) (row : List C) (column : List R)
-    → IsTable closes ends owners owners rows columns → m < owners → j < owners → row ≡ list_at rows m → column ≡ drop m (list_at columns j) → AreNextEnds closes ends m j row column
+pub head_of : {C R : Type 0} (closes : C → R → Type 0) (ends : R → ℕ × ℕ) (owners m j : ℕ) (rows : List (List C))
+    (columns : List (List R)) (row : List C) (column : List R)
+    → IsTable closes ends owners owners rows columns → m < owners → j < owners → row ≡ list_at rows m
+    → column ≡ drop m (list_at columns j) → AreNextEnds closes ends m j row column
 head_of closes ends owners m j rows columns row column t lm lj row_is column_is =
-    let x = t.cell m j lm lj in
-    (x.0, x.1, drop (m + 1) (list_at columns j), subst (λ l. slice_get l j ≡ Some x.0) (sym row_is) x.2, column_is ∙ drop_at (list_at columns j) m x.1 x.3, x.4, x.5)
+    let x = t.cell m j lm lj in (
+      x.0,
+      x.1,
+      drop (m + 1) (list_at columns j),
+      subst (λ l. slice_get l j ≡ Some x.0) (sym row_is) x.2,
+      column_is
+          ∙ drop_at (list_at columns j) m x.1 x.3,
+      x.4,
+      x.5,
+    )
 
 -- what is known of the two ends that are settled, once they were taken
-pub settle_cell : {C R : Type 0} (closes : C → R → Type 0) (ends : R → ℕ × ℕ) (from to : ℕ) (row row_rest : List C) (column column_rest : List R) (z : C) (r : R)
+pub settle_cell : {C R : Type 0} (closes : C → R → Type 0) (ends : R → ℕ × ℕ) (from to : ℕ) (row row_rest : List C)
+    (column column_rest : List R) (z : C) (r : R)
     → AreNextEnds closes ends from to row column → drop to row ≡ z ∷ row_rest → column ≡ r ∷ column_rest
-    → (slice_get row to ≡ Some z) × closes z r × (ends r ≡ (from, to)) × (row_rest ≡ drop (to + 1) row) × (column_rest ≡ drop 1 column)
+    → (slice_get row to ≡ Some z) × closes z r × (ends r ≡ (from, to)) × (row_rest ≡ drop (to + 1) row)
+    × (column_rest ≡ drop 1 column)
 settle_cell {C} {R} closes ends from to row row_rest column column_rest z r h row_is column_is =
     let front = drop_front row to z row_rest row_is in
     let same_z : h.0 ≡ z = same_place row to h.0 z h.3 front.0 in
-    let same_r : h.1 ≡ r = first_same h.1 r h.2 column_rest (sym h.4 ∙ column_is) in
-    (front.0, subst (λ (y : C × R). closes y.0 y.1) (λ i. (same_z i, same_r i)) h.5, subst (λ y. ends y ≡ (from, to)) same_r h.6, front.1, sym (ap (drop 1) column_is ∙ drop_one r column_rest))
+    let same_r : h.1 ≡ r = first_same h.1 r h.2 column_rest (sym h.4 ∙ column_is) in (
+      front.0,
+      subst (λ (y : C × R). closes y.0 y.1) (λ i. (same_z i, same_r i)) h.5,
+      subst (λ y. ends y ≡ (from, to)) same_r h.6,
+      front.1,
+      sym (ap (drop 1) column_is ∙ drop_one r column_rest),
+    )
   where
     first_same : {R : Type 0} (x y : R) (xs ys : List R) → x ∷ xs ≡ y ∷ ys → x ≡ y
     first_same x y xs ys e = cc
@@ -136,8 +179,11 @@ settle_cell {C} {R} closes ends from to row row_rest column column_rest z r h ro
     drop_one x (y ∷ ys) = refl
 
 module _ {M S R C P : Type 0} (m : Mail.Ghosts M S R C P) (from to : ℕ) (row : List C) (columns : List (List R))
-    (z : C) (r : R) (column_rest : List R) (p : P) (place_z : slice_get row to ≡ Some z) (column_is : list_at columns to ≡ r ∷ column_rest)
-    (ends_are : m.post_ends p ≡ (from, to)) (sent_is : m.post_sent p ≡ m.all_sent z) (received_is : m.post_received p ≡ m.received r) (whole : m.post_sent p ≡ m.post_received p ++ m.post_rest p) where
+    (z : C) (r : R) (column_rest : List R) (p : P) (place_z : slice_get row to ≡ Some z)
+    (column_is : list_at columns to ≡ r ∷ column_rest)
+    (ends_are : m.post_ends p ≡ (from, to)) (sent_is : m.post_sent p ≡ m.all_sent z)
+    (received_is : m.post_received p ≡ m.received r)
+    (whole : m.post_sent p ≡ m.post_received p ++ m.post_rest p) where
   out_is : m.post_sent p ≡ log_of (map m.all_sent row) to
   out_is = sent_is ∙ sym (mapped m.all_sent row to z [] place_z)
 
@@ -147,45 +193,63 @@ module _ {M S R C P : Type 0} (m : Mail.Ghosts M S R C P) (from to : ℕ) (row :
   prefix_is : IsPrefix (log_of (map m.received (list_at columns to)) 0) (log_of (map m.all_sent row) to)
   prefix_is = (m.post_rest p, sym out_is ∙ (whole ∙ ap (λ l. l ++ m.post_rest p) into_is))
 
-  pub settle_post : (old now : List P) → from ≢ to → AddsPosts m (λ _ j. log_of (map m.all_sent row) j) (λ _ j. log_of (map m.received (list_at columns j)) 0) (InRow from to) old now
-      → AddsPosts m (λ _ j. log_of (map m.all_sent row) j) (λ _ j. log_of (map m.received (list_at columns j)) 0) (InRow from (to + 1)) old (now ++ p ∷ [])
+  pub settle_post : (old now : List P) → from ≢ to
+      → AddsPosts m (λ _ j. log_of (map m.all_sent row) j) (λ _ j. log_of (map m.received (list_at columns j)) 0)
+      (InRow from to) old now
+      → AddsPosts m (λ _ j. log_of (map m.all_sent row) j) (λ _ j. log_of (map m.received (list_at columns j)) 0)
+      (InRow from (to + 1)) old (now ++ p ∷ [])
   settle_post old now apart a = (
     a.0 ++ p ∷ [],
     ap (λ l. l ++ p ∷ []) a.1 ∙ append_assoc old a.0 (p ∷ []),
-    row_post m (λ _ j. log_of (map m.all_sent row) j) (λ _ j. log_of (map m.received (list_at columns j)) 0) from to a.0 p a.2 prefix_is
+    row_post m (λ _ j. log_of (map m.all_sent row) j)
+        (λ _ j. log_of (map m.received (list_at columns j)) 0) from to a.0 p a.2 prefix_is
         (record { apart = apart; ends_are = ends_are; sent_is = out_is; received_is = into_is; whole = whole }),
   )
 
-  pub settle_own : (old now : List P) → from ≡ to → AddsPosts m (λ _ j. log_of (map m.all_sent row) j) (λ _ j. log_of (map m.received (list_at columns j)) 0) (InRow from to) old now
-      → AddsPosts m (λ _ j. log_of (map m.all_sent row) j) (λ _ j. log_of (map m.received (list_at columns j)) 0) (InRow from (to + 1)) old now
+  pub settle_own : (old now : List P) → from ≡ to
+      → AddsPosts m (λ _ j. log_of (map m.all_sent row) j) (λ _ j. log_of (map m.received (list_at columns j)) 0)
+      (InRow from to) old now
+      → AddsPosts m (λ _ j. log_of (map m.all_sent row) j) (λ _ j. log_of (map m.received (list_at columns j)) 0)
+      (InRow from (to + 1)) old now
   settle_own old now same a = (
     a.0,
     a.1,
-    row_own m (λ _ j. log_of (map m.all_sent row) j) (λ _ j. log_of (map m.received (list_at columns j)) 0) from to a.0 a.2 prefix_is same,
+    row_own m (λ _ j. log_of (map m.all_sent row) j)
+        (λ _ j. log_of (map m.received (list_at columns j)) 0) from to a.0 a.2 prefix_is same,
   )
 
 -- ---- the order of the posts
 
 pub come_none : {P : Type 0} (ends : P → ℕ × ℕ) (pair : ℕ × ℕ) → ComeBefore ends [] pair
-come_none ends pair = record { in_order = λ i j d low l. absurd (omega (arith, l)); before = λ p h. absurd (omega (arith, h.1)) }
+come_none ends pair =
+    record { in_order = λ i j d low l. absurd (omega (arith, l)); before = λ p h. absurd (omega (arith, h.1)) }
 
-pub come_later : {P : Type 0} (ends : P → ℕ × ℕ) (posts : List P) (pair later : ℕ × ℕ) → ((x : ℕ × ℕ) → IsPairBefore x pair → IsPairBefore x later) → ComeBefore ends posts pair → ComeBefore ends posts later
-come_later ends posts pair later weaker c = record { in_order = c.in_order; before = λ p h. weaker (ends p) (c.before p h) }
+pub come_later : {P : Type 0} (ends : P → ℕ × ℕ) (posts : List P) (pair later : ℕ × ℕ)
+    → ((x : ℕ × ℕ) → IsPairBefore x pair → IsPairBefore x later) → ComeBefore ends posts pair
+    → ComeBefore ends posts later
+come_later ends posts pair later weaker c =
+    record { in_order = c.in_order; before = λ p h. weaker (ends p) (c.before p h) }
 
 -- a pair before (i, j) comes before (i, j + 1), and before (i + 1, 0) where j is above all that count
 pub next_in_row : (i j : ℕ) (x : ℕ × ℕ) → IsPairBefore x (i, j) → IsPairBefore x (i, j + 1)
 next_in_row i j x b = ⊎_elim (λ (l : x.0 < i). inl l) (λ (r : (x.0 ≡ i) × (x.1 < j)). inr (r.0, omega (arith, r.1))) b
 
 pub next_row : (i j : ℕ) (x : ℕ × ℕ) → IsPairBefore x (i, j) → IsPairBefore x (i + 1, 0)
-next_row i j x b = ⊎_elim (λ (l : x.0 < i). inl (omega (arith, l))) (λ (r : (x.0 ≡ i) × (x.1 < j)). inl (omega (arith, r.0))) b
+next_row i j x b =
+    ⊎_elim (λ (l : x.0 < i). inl (omega (arith, l))) (λ (r : (x.0 ≡ i) × (x.1 < j)). inl (omega (arith, r.0))) b
 
-pub come_push : {P : Type 0} (ends : P → ℕ × ℕ) (posts : List P) (i j : ℕ) (p : P) → ends p ≡ (i, j) → ComeBefore ends posts (i, j) → ComeBefore ends (posts ++ p ∷ []) (i, j + 1)
+pub come_push : {P : Type 0} (ends : P → ℕ × ℕ) (posts : List P) (i j : ℕ) (p : P) → ends p ≡ (i, j)
+    → ComeBefore ends posts (i, j) → ComeBefore ends (posts ++ p ∷ []) (i, j + 1)
 come_push {P} ends posts i j p is c = record {
-  in_order = subst (AllPairs IsPairBefore) (sym (map_push ends posts p)) (all_pairs_push IsPairBefore (map ends posts) (ends p) c.in_order (λ k d l.
+  in_order =
+      subst (AllPairs IsPairBefore) (sym (map_push ends posts p))
+      (all_pairs_push IsPairBefore (map ends posts) (ends p) c.in_order (λ k d l.
       let at = place posts k (omega (arith, l, map_size ends posts)) in
-      subst (λ (y : (ℕ × ℕ) × (ℕ × ℕ)). IsPairBefore y.0 y.1) (λ n. (sym (mapped ends posts k at.0 d at.1) n, sym is n)) (c.before at.0 (contained posts k at.0 at.1))));
+      subst (λ (y : (ℕ × ℕ) × (ℕ × ℕ)). IsPairBefore y.0 y.1) (λ n. (sym (mapped ends posts k at.0 d at.1) n, sym is n))
+      (c.before at.0 (contained posts k at.0 at.1))));
   before = λ q h. ⊎_elim
       (λ (old : Contains posts q). next_in_row i j (ends q) (c.before q old))
-      (λ (new : Contains (p ∷ []) q). subst (λ (y : ℕ × ℕ). IsPairBefore y (i, j + 1)) (sym is ∙ ap ends (in_one p q new)) (inr (refl, omega arith)))
+      (λ (new : Contains (p ∷ []) q). subst (λ (y : ℕ × ℕ). IsPairBefore y (i, j + 1))
+      (sym is ∙ ap ends (in_one p q new)) (inr (refl, omega arith)))
       (Contains-append_cases posts (p ∷ []) q h);
 }

@@ -8,25 +8,46 @@ cases_last k n l = grind arith
 
 module _ {S R : Type 0} (tied : S → R → Type 0) (ends : R → ℕ × ℕ) where
   pub part_none : (from : ℕ) (old : List (List R)) → IsPartRow tied ends 0 from [] old old
-  part_none from old = record { size = refl; column_count = refl; each = λ j l. absurd (omega (arith, l)); others = λ j l. refl }
+  part_none from old =
+      record { size = refl; column_count = refl; each = λ j l. absurd (omega (arith, l)); others = λ j l. refl }
 
-  pub part_more : (made from : ℕ) (row : List S) (old now : List (List R)) (s : S) (r : R) (column : List R) → IsPartRow tied ends made from row old now → made < length now → list_at now made ≡ column
-      → tied s r → ends r ≡ (from, made) → IsPartRow tied ends (made + 1) from (row ++ s ∷ []) old (slice_set now made (column ++ r ∷ []))
+  pub part_more : (made from : ℕ) (row : List S) (old now : List (List R)) (s : S) (r : R) (column : List R)
+      → IsPartRow tied ends made from row old now → made < length now → list_at now made ≡ column
+      → tied s r → ends r ≡ (from, made) → IsPartRow tied ends (made + 1) from (row ++ s ∷ []) old
+      (slice_set now made (column ++ r ∷ []))
   part_more made from row old now s r column p inside column_is t e = record {
     size = push_size row s ∙ ap (λ n. n + 1) p.size;
     column_count = set_size now made (column ++ r ∷ []) ∙ p.column_count;
     each = λ j l. ⊎_elim
         (λ (h : j < made).
-        let x = p.each j h in
-        (x.0, x.1, push_low row s j x.0 x.2, set_there now made j (column ++ r ∷ []) (λ q. absurd (omega (arith, h, q))) ∙ x.3, x.4, x.5))
+        let x = p.each j h in (
+          x.0,
+          x.1,
+          push_low row s j x.0 x.2,
+          set_there now made j (column ++ r ∷ []) (λ q. absurd (omega (arith, h, q)))
+              ∙ x.3,
+          x.4,
+          x.5,
+        ))
         (λ (h : j ≡ made).
-        subst (λ k. (a : S) × (b : R) × (slice_get (row ++ s ∷ []) k ≡ Some a) × (list_at (slice_set now made (column ++ r ∷ [])) k ≡ list_at old k ++ b ∷ []) × tied a b × (ends b ≡ (from, k))) (sym h)
-        (s, r, push_last row s made p.size, set_here now made (column ++ r ∷ []) inside ∙ ap (λ l. l ++ r ∷ []) (sym column_is ∙ p.others made (omega arith)), t, e))
+        subst (λ k. (a : S) × (b : R) × (slice_get (row ++ s ∷ []) k ≡ Some a)
+        × (list_at (slice_set now made (column ++ r ∷ [])) k ≡ list_at old k ++ b ∷ []) × tied a b
+        × (ends b ≡ (from, k))) (sym h) (
+          s,
+          r,
+          push_last row s made p.size,
+          set_here now made (column ++ r ∷ []) inside
+              ∙ ap (λ l. l ++ r ∷ []) (sym column_is ∙ p.others made (omega arith)),
+          t,
+          e,
+        ))
         (cases_last j made l);
-    others = λ j l. set_there now made j (column ++ r ∷ []) (λ q. absurd (omega (arith, l, q))) ∙ p.others j (omega (arith, l));
+    others = λ j l. set_there now made j (column ++ r ∷ []) (λ q. absurd (omega (arith, l, q)))
+        ∙ p.others j (omega (arith, l));
   }
 
-  pub table_none : (owners : ℕ) (columns : List (List R)) → length columns ≡ owners → ((j : ℕ) → list_at columns j ≡ []) → IsTable tied ends 0 owners [] columns
+  pub table_none : (owners : ℕ) (columns : List (List R)) → length columns ≡ owners → ((j : ℕ) → list_at columns j ≡ [])
+      → IsTable tied ends 0 owners [] columns
   table_none owners columns count none = record {
     row_count = refl;
     column_count = count;
@@ -35,7 +56,9 @@ module _ {S R : Type 0} (tied : S → R → Type 0) (ends : R → ℕ × ℕ) wh
     cell = λ i j li lj. absurd (omega (arith, li));
   }
 
-  pub table_more : (done owners : ℕ) (rows : List (List S)) (old new : List (List R)) (row : List S) → IsTable tied ends done owners rows old → IsPartRow tied ends owners done row old new → IsTable tied ends (done + 1) owners (rows ++ row ∷ []) new
+  pub table_more : (done owners : ℕ) (rows : List (List S)) (old new : List (List R)) (row : List S)
+      → IsTable tied ends done owners rows old → IsPartRow tied ends owners done row old new
+      → IsTable tied ends (done + 1) owners (rows ++ row ∷ []) new
   table_more done owners rows old new row t p = record {
     row_count = push_size rows row ∙ ap (λ n. n + 1) t.row_count;
     column_count = p.column_count ∙ t.column_count;
@@ -43,7 +66,8 @@ module _ {S R : Type 0} (tied : S → R → Type 0) (ends : R → ℕ × ℕ) wh
         (λ (h : i < done). ap length (list_low rows row i (omega (arith, h, t.row_count))) ∙ t.width i h)
         (λ (h : i ≡ done). ap length (list_last rows row i (t.row_count ∙ sym h)) ∙ p.size)
         (cases_last i done l);
-    height = λ j l. let x = p.each j l in ap length x.3 ∙ (push_size (list_at old j) x.1 ∙ ap (λ n. n + 1) (t.height j l));
+    height = λ j l. let x = p.each j l in
+        ap length x.3 ∙ (push_size (list_at old j) x.1 ∙ ap (λ n. n + 1) (t.height j l));
     cell = λ i j li lj.
         let x = p.each j lj in
         ⊎_elim

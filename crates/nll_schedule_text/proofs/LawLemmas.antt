@@ -37,10 +37,12 @@ unspelled _ = Load 0
 unspelled_spelled : (e : Event) → AllByRecursion IsSmall (parts e) → unspelled (map token_of (parts e)) ≡ e
 unfolding unspelled
 unspelled_spelled (Load i) small = ap Load (printed i small.1.0)
-unspelled_spelled (Take i j) small = ap (λ n. Take n (digits_value 10 (decimal j))) (printed i small.1.0) ∙ ap (Take i) (printed j small.1.1.0)
+unspelled_spelled (Take i j) small = ap (λ n. Take n (digits_value 10 (decimal j))) (printed i small.1.0)
+    ∙ ap (Take i) (printed j small.1.1.0)
 unspelled_spelled (Owe i) small = ap Owe (printed i small.1.0)
 unspelled_spelled (Clear i) small = ap Clear (printed i small.1.0)
-unspelled_spelled (Push i j) small = ap (λ n. Push n (digits_value 10 (decimal j))) (printed i small.1.0) ∙ ap (Push i) (printed j small.1.1.0)
+unspelled_spelled (Push i j) small = ap (λ n. Push n (digits_value 10 (decimal j))) (printed i small.1.0)
+    ∙ ap (Push i) (printed j small.1.1.0)
 unspelled_spelled (Leave i) small = ap Leave (printed i small.1.0)
 
 one_form : (line : List ℕ) (d e : Event) → Spells line (parts d) → Spells line (parts e) → d ≡ e
@@ -49,16 +51,21 @@ one_form = lemmas.one_form Event parts unspelled unspelled_spelled
 form_or_none : (line : List ℕ) → ((e : Event) × Spells line (parts e)) ⊎ ((e : Event) → Spells line (parts e) → ⊥)
 form_or_none = lemmas.form_or_none Event parts unspelled unspelled_spelled
 
-pub one_fault_lem : (owners : ℕ) (text : List ℕ) (l m : ℕ) (j k : TextKind) → IsFault (schedule owners) text l j → IsFault (schedule owners) text m k → (l ≡ m) × (j ≡ k)
+pub one_fault_lem : (owners : ℕ) (text : List ℕ) (l m : ℕ) (j k : TextKind) → IsFault (schedule owners) text l j
+    → IsFault (schedule owners) text m k → (l ≡ m) × (j ≡ k)
 one_fault_lem owners = laws.one_fault_lem (schedule owners) one_form
 
-pub not_both_lem : (owners : ℕ) (text : List ℕ) (list : List Event) (l : ℕ) (k : TextKind) → Means owners text list → IsFault (schedule owners) text l k → ⊥
+pub not_both_lem : (owners : ℕ) (text : List ℕ) (list : List Event) (l : ℕ) (k : TextKind) → Means owners text list
+    → IsFault (schedule owners) text l k → ⊥
 not_both_lem owners = laws.not_both_lem (schedule owners) one_form
 
-pub one_meaning_lem : (owners : ℕ) (text : List ℕ) (list other : List Event) → Means owners text list → Means owners text other → list ≡ other
+pub one_meaning_lem : (owners : ℕ) (text : List ℕ) (list other : List Event) → Means owners text list
+    → Means owners text other → list ≡ other
 one_meaning_lem owners = laws.one_forms_lem (schedule owners) one_form
 
-pub some_meaning_or_fault_lem : (owners : ℕ) (text : List ℕ) → ((list : List Event) × Means owners text list) ⊎ ((line : ℕ) × (kind : TextKind) × IsFault (schedule owners) text line kind)
+pub some_meaning_or_fault_lem : (owners : ℕ) (text : List ℕ)
+    → ((list : List Event) × Means owners text list)
+    ⊎ ((line : ℕ) × (kind : TextKind) × IsFault (schedule owners) text line kind)
 some_meaning_or_fault_lem owners = laws.text_or_fault_lem (schedule owners) form_or_none (λ entries. inl tt)
 
 -- no event has a fault at the end
@@ -69,5 +76,6 @@ never_end owners e = go (names_owners owners e)
     go true e = cc
     go false e = cc
 
-pub never_at_end_lem : (owners : ℕ) (text : List ℕ) (line : ℕ) (kind : TextKind) → IsFault (schedule owners) text line kind → kind ≢ End
+pub never_at_end_lem : (owners : ℕ) (text : List ℕ) (line : ℕ) (kind : TextKind)
+    → IsFault (schedule owners) text line kind → kind ≢ End
 never_at_end_lem owners = listing.no_end_fault (events owners) (never_end owners)

@@ -12,27 +12,33 @@ use Rattle.nll_schedule_text.specs.ScheduleText.{parts}
 -- ---- what stands behind the first word of a line
 
 module _ (line rest : List ℕ) where
-  pub behind_load : (e : Event) → BeginsWith line (word (codes "load")) rest → Spells line (parts e) → (n : ℕ) × Spells rest (one_number n)
+  pub behind_load : (e : Event) → BeginsWith line (word (codes "load")) rest → Spells line (parts e)
+      → (n : ℕ) × Spells rest (one_number n)
   behind_load (Load i) begins h = (i, (spells_rest line rest _ _ _ begins h).1)
   behind_load e begins h = absurd (other_word _ _ refl (spells_rest line rest _ _ _ begins h).0)
 
-  pub behind_take : (e : Event) → BeginsWith line (word (codes "take")) rest → Spells line (parts e) → (n : ℕ × ℕ) × Spells rest (two_numbers n)
+  pub behind_take : (e : Event) → BeginsWith line (word (codes "take")) rest → Spells line (parts e)
+      → (n : ℕ × ℕ) × Spells rest (two_numbers n)
   behind_take (Take i j) begins h = ((i, j), (spells_rest line rest _ _ _ begins h).1)
   behind_take e begins h = absurd (other_word _ _ refl (spells_rest line rest _ _ _ begins h).0)
 
-  pub behind_owe : (e : Event) → BeginsWith line (word (codes "owe")) rest → Spells line (parts e) → (n : ℕ) × Spells rest (one_number n)
+  pub behind_owe : (e : Event) → BeginsWith line (word (codes "owe")) rest → Spells line (parts e)
+      → (n : ℕ) × Spells rest (one_number n)
   behind_owe (Owe i) begins h = (i, (spells_rest line rest _ _ _ begins h).1)
   behind_owe e begins h = absurd (other_word _ _ refl (spells_rest line rest _ _ _ begins h).0)
 
-  pub behind_clear : (e : Event) → BeginsWith line (word (codes "clear")) rest → Spells line (parts e) → (n : ℕ) × Spells rest (one_number n)
+  pub behind_clear : (e : Event) → BeginsWith line (word (codes "clear")) rest → Spells line (parts e)
+      → (n : ℕ) × Spells rest (one_number n)
   behind_clear (Clear i) begins h = (i, (spells_rest line rest _ _ _ begins h).1)
   behind_clear e begins h = absurd (other_word _ _ refl (spells_rest line rest _ _ _ begins h).0)
 
-  pub behind_push : (e : Event) → BeginsWith line (word (codes "push")) rest → Spells line (parts e) → (n : ℕ × ℕ) × Spells rest (two_numbers n)
+  pub behind_push : (e : Event) → BeginsWith line (word (codes "push")) rest → Spells line (parts e)
+      → (n : ℕ × ℕ) × Spells rest (two_numbers n)
   behind_push (Push i j) begins h = ((i, j), (spells_rest line rest _ _ _ begins h).1)
   behind_push e begins h = absurd (other_word _ _ refl (spells_rest line rest _ _ _ begins h).0)
 
-  pub behind_leave : (e : Event) → BeginsWith line (word (codes "leave")) rest → Spells line (parts e) → (n : ℕ) × Spells rest (one_number n)
+  pub behind_leave : (e : Event) → BeginsWith line (word (codes "leave")) rest → Spells line (parts e)
+      → (n : ℕ) × Spells rest (one_number n)
   behind_leave (Leave i) begins h = (i, (spells_rest line rest _ _ _ begins h).1)
   behind_leave e begins h = absurd (other_word _ _ refl (spells_rest line rest _ _ _ begins h).0)
 

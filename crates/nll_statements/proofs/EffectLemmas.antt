@@ -8,7 +8,8 @@ use Rattle.nll_types.specs.Operands.{Operand, operand_of}
 use Rattle.nll_types.specs.declared.operand.Operand.{Operand as Written}
 use Rattle.nll_statements.specs.Effects.{operands_of, place_in}
 
-pub operands_same : {T : Type 0} → (args : List (Written × T)) → map (λ a. operand_of a.0) args ≡ operands_of (map (λ a. (operand_of a.0, a.1)) args)
+pub operands_same : {T : Type 0} → (args : List (Written × T))
+    → map (λ a. operand_of a.0) args ≡ operands_of (map (λ a. (operand_of a.0, a.1)) args)
 operands_same [] = refl
 operands_same (a ∷ args) = ap (λ ops. operand_of a.0 ∷ ops) (operands_same args)
 
@@ -17,17 +18,22 @@ module _ {X : Type 0} (h : X → Operand) where
   abbrev pub variables_of : List X → List ℕ
   variables_of xs = map (λ p. p.variable) (flat_map place_in (map h xs))
 
-  variables_first : (x : X) (xs : List X) → variables_of (x ∷ xs) ≡ map (λ p. p.variable) (place_in (h x)) ++ variables_of xs
+  variables_first : (x : X) (xs : List X)
+      → variables_of (x ∷ xs) ≡ map (λ p. p.variable) (place_in (h x)) ++ variables_of xs
   variables_first x xs = map-append (λ p. p.variable) (place_in (h x)) (flat_map place_in (map h xs))
 
-  pub variables_more : (used longer whole : List ℕ) (xs : List X) (i : ℕ) (x : X) → i < length xs → x ≡ get_or xs i x → longer ≡ used ++ map (λ p. p.variable) (place_in (h x))
+  pub variables_more : (used longer whole : List ℕ) (xs : List X) (i : ℕ) (x : X) → i < length xs → x ≡ get_or xs i x
+      → longer ≡ used ++ map (λ p. p.variable) (place_in (h x))
       → used ++ variables_of (drop i xs) ≡ whole → longer ++ variables_of (drop (i + 1) xs) ≡ whole
   variables_more used longer whole xs i x l is e told =
-      let rest : drop i xs ≡ x ∷ drop (i + 1) xs = drop-cons xs i x l ∙ ap (λ y. y ∷ drop (suc i) xs) (sym is) ∙ ap (λ n. x ∷ drop n xs) (sym (add-one i)) in
+      let rest : drop i xs ≡ x ∷ drop (i + 1) xs = drop-cons xs i x l ∙ ap (λ y. y ∷ drop (suc i) xs) (sym is)
+      ∙ ap (λ n. x ∷ drop n xs) (sym (add-one i)) in
       ap (λ ns. ns ++ variables_of (drop (i + 1) xs)) e
       ∙ (append_assoc used _ _
       ∙ (ap (λ ns. used ++ ns) (sym (variables_first x (drop (i + 1) xs)))
       ∙ (ap (λ ys. used ++ variables_of ys) (sym rest) ∙ told)))
 
-  pub variables_all : (used whole : List ℕ) (xs : List X) (i : ℕ) → length xs ≤ i → used ++ variables_of (drop i xs) ≡ whole → used ≡ whole
-  variables_all used whole xs i l told = sym (append-nil used) ∙ (ap (λ ys. used ++ variables_of ys) (sym (drop_all i xs l)) ∙ told)
+  pub variables_all : (used whole : List ℕ) (xs : List X) (i : ℕ) → length xs ≤ i
+      → used ++ variables_of (drop i xs) ≡ whole → used ≡ whole
+  variables_all used whole xs i l told = sym (append-nil used)
+      ∙ (ap (λ ys. used ++ variables_of ys) (sym (drop_all i xs l)) ∙ told)

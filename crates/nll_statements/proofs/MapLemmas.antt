@@ -21,15 +21,18 @@ renamed f w = (f w.0, f w.1)
 abbrev both : {R : Type 0} → R × R → List R
 both w = w.0 ∷ w.1 ∷ []
 
-operands_same : {T U : Type 0} (g : T → U) (args : List (Operand × T)) → operands_of (map (retyped g) args) ≡ operands_of args
+operands_same : {T U : Type 0} (g : T → U) (args : List (Operand × T))
+    → operands_of (map (retyped g) args) ≡ operands_of args
 operands_same g [] = refl
 operands_same g (a ∷ args) = ap (λ (ops : List Operand). a.0 ∷ ops) (operands_same g args)
 
-arguments_mapped : {T U : Type 0} (g : T → U) (args : List (Operand × T)) (t : T) → map type_of_argument (map (retyped g) args) ++ g t ∷ [] ≡ map g (map type_of_argument args ++ t ∷ [])
+arguments_mapped : {T U : Type 0} (g : T → U) (args : List (Operand × T)) (t : T)
+    → map type_of_argument (map (retyped g) args) ++ g t ∷ [] ≡ map g (map type_of_argument args ++ t ∷ [])
 arguments_mapped g [] t = refl
 arguments_mapped g (a ∷ args) t = ap (λ ts. g a.1 ∷ ts) (arguments_mapped g args t)
 
-bounds_mapped : {R S : Type 0} (f : R → S) (wheres : List (R × R)) → flat_map both (map (renamed f) wheres) ≡ map f (flat_map both wheres)
+bounds_mapped : {R S : Type 0} (f : R → S) (wheres : List (R × R))
+    → flat_map both (map (renamed f) wheres) ≡ map f (flat_map both wheres)
 bounds_mapped f [] = refl
 bounds_mapped f (w ∷ wheres) = ap (λ rs. f w.0 ∷ f w.1 ∷ rs) (bounds_mapped f wheres)
 
@@ -92,7 +95,8 @@ module _ {R S T U : Type 0} (f : R → S) (g : T → U) where
   same_variables (switch op bs) = refl
   same_variables (drop x b unwind) = refl
   same_variables (call p args t wheres b unwind) =
-      ap (λ (ops : List Operand). map (λ (q : PlacePath). q.variable) (p ∷ flat_map place_in ops)) (operands_same g args)
+      ap (λ (ops : List Operand). map (λ (q : PlacePath). q.variable) (p ∷ flat_map place_in ops))
+      (operands_same g args)
   same_variables return = refl
   same_variables stop = refl
 
@@ -128,16 +132,19 @@ module _ {R S T U : Type 0} (f : R → S) (g : T → U) where
 
 -- ---- two changes, one after the other
 
-arguments_twice : {T U V : Type 0} (g : T → U) (h : U → V) (args : List (Operand × T)) → map (retyped h) (map (retyped g) args) ≡ map (retyped (λ t. h (g t))) args
+arguments_twice : {T U V : Type 0} (g : T → U) (h : U → V) (args : List (Operand × T))
+    → map (retyped h) (map (retyped g) args) ≡ map (retyped (λ t. h (g t))) args
 arguments_twice g h [] = refl
 arguments_twice g h (a ∷ args) = ap (λ bs. retyped (λ t. h (g t)) a ∷ bs) (arguments_twice g h args)
 
-bounds_twice : {R S Q : Type 0} (f : R → S) (e : S → Q) (wheres : List (R × R)) → map (renamed e) (map (renamed f) wheres) ≡ map (renamed (λ r. e (f r))) wheres
+bounds_twice : {R S Q : Type 0} (f : R → S) (e : S → Q) (wheres : List (R × R))
+    → map (renamed e) (map (renamed f) wheres) ≡ map (renamed (λ r. e (f r))) wheres
 bounds_twice f e [] = refl
 bounds_twice f e (w ∷ wheres) = ap (λ vs. renamed (λ r. e (f r)) w ∷ vs) (bounds_twice f e wheres)
 
 -- a statement whose regions and types become others twice
-pub mapped_twice : {R S Q T U V : Type 0} (f : R → S) (e : S → Q) (g : T → U) (h : U → V) (i : Statement R T) → map_statement e h (map_statement f g i) ≡ map_statement (λ r. e (f r)) (λ t. h (g t)) i
+pub mapped_twice : {R S Q T U V : Type 0} (f : R → S) (e : S → Q) (g : T → U) (h : U → V) (i : Statement R T)
+    → map_statement e h (map_statement f g i) ≡ map_statement (λ r. e (f r)) (λ t. h (g t)) i
 mapped_twice f e g h (assign p op) = refl
 mapped_twice f e g h (borrow p r m q) = refl
 mapped_twice f e g h (make p t ops) = refl
@@ -149,7 +156,9 @@ mapped_twice f e g h (goto b) = refl
 mapped_twice f e g h (switch op bs) = refl
 mapped_twice f e g h (drop x b unwind) = refl
 mapped_twice {Q = Q} {V = V} f e g h (call p args t wheres b unwind) =
-    ap (λ (bs : List (Operand × V)). call p bs (h (g t)) (map (renamed e) (map (renamed f) wheres)) b unwind) (arguments_twice g h args)
-    ∙ ap (λ (ws : List (Q × Q)). call p (map (retyped (λ u. h (g u))) args) (h (g t)) ws b unwind) (bounds_twice f e wheres)
+    ap (λ (bs : List (Operand × V)). call p bs (h (g t)) (map (renamed e) (map (renamed f) wheres)) b unwind)
+    (arguments_twice g h args)
+    ∙ ap (λ (ws : List (Q × Q)). call p (map (retyped (λ u. h (g u))) args) (h (g t)) ws b unwind)
+    (bounds_twice f e wheres)
 mapped_twice f e g h return = refl
 mapped_twice f e g h stop = refl

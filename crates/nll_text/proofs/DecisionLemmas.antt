@@ -23,8 +23,10 @@ pub same_rest : {X : Type 0} {x y : X} {xs ys : List X} → x ∷ xs ≡ y ∷ y
 same_rest e = cc
 
 token_or_not : (t u : Token) → (t ≡ u) ⊎ (t ≡ u → ⊥)
-token_or_not (word a) (word b) = ⊎_elim (λ e. inl (ap word e)) (λ no. inr (λ e. no cc)) (holds_or_not (bytes_eq a b) (bytes_eq-Decides a b))
-token_or_not (region a) (region b) = ⊎_elim (λ e. inl (ap region e)) (λ no. inr (λ e. no cc)) (holds_or_not (bytes_eq a b) (bytes_eq-Decides a b))
+token_or_not (word a) (word b) =
+    ⊎_elim (λ e. inl (ap word e)) (λ no. inr (λ e. no cc)) (holds_or_not (bytes_eq a b) (bytes_eq-Decides a b))
+token_or_not (region a) (region b) =
+    ⊎_elim (λ e. inl (ap region e)) (λ no. inr (λ e. no cc)) (holds_or_not (bytes_eq a b) (bytes_eq-Decides a b))
 token_or_not arrow arrow = inl refl
 token_or_not (sign a) (sign b) = ⊎_elim (λ e. inl (ap sign e)) (λ no. inr (λ e. no cc)) (cases_eq a b)
 token_or_not t u = inr (λ e. cc)
@@ -34,6 +36,7 @@ tokens_or_not [] [] = inl refl
 tokens_or_not [] (u ∷ us) = inr (λ e. cc)
 tokens_or_not (t ∷ ts) [] = inr (λ e. cc)
 tokens_or_not (t ∷ ts) (u ∷ us) = ⊎_elim
-    (λ e. ⊎_elim (λ k. inl (ap (λ (x : Token). x ∷ ts) e ∙ ap (λ (xs : List Token). u ∷ xs) k)) (λ no. inr (λ k. no (same_rest k))) (tokens_or_not ts us))
+    (λ e. ⊎_elim (λ k. inl (ap (λ (x : Token). x ∷ ts) e ∙ ap (λ (xs : List Token). u ∷ xs) k))
+    (λ no. inr (λ k. no (same_rest k))) (tokens_or_not ts us))
     (λ no. inr (λ e. no (same_first e)))
     (token_or_not t u)

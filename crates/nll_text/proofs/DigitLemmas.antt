@@ -46,7 +46,9 @@ module _ (core : List ℕ) (n count : ℕ) (f : IsDigitFront (take 9 core) n cou
       ∙ get_or-take 9 core (length d) 0 (omega (arith, lt, at_most_nine))
       ∙ ap (λ (l : List ℕ). get_or l (length d) 0) e
       ∙ get_or-append_seam d b bs 0 in
-      let range = digit_at (take count (take 9 core)) (length d) f.digits (omega (arith, lt, length-take count (take 9 core), f.within)) in
+      let range =
+      digit_at (take count (take 9 core)) (length d) f.digits
+      (omega (arith, lt, length-take count (take 9 core), f.within)) in
       let low : 48 ≤ b = omega (arith, here, range.0) in
       let high : b ≤ 57 = omega (arith, here, range.1) in
       false≢true (sym stop ∙ digit_passes b low high)
@@ -54,7 +56,8 @@ module _ (core : List ℕ) (n count : ℕ) (f : IsDigitFront (take 9 core) n cou
   -- all digits of a number that is spelled there are counted
   short_of : (d more : List ℕ) → core ≡ d ++ more → AllDigits 10 d → length d ≤ 9 → count < length d → ⊥
   short_of d more e digits short lt =
-      let inside : count < length (take 9 core) = omega (arith, lt, short, length-take 9 core, ap length e, length-append d more) in
+      let inside : count < length (take 9 core) =
+      omega (arith, lt, short, length-take 9 core, ap length e, length-append d more) in
       let here : get_or (take 9 core) count 0 ≡ get_or d count 0 =
       get_or-take 9 core count 0 (omega (arith, lt, short))
       ∙ ap (λ (l : List ℕ). get_or l count 0) e
@@ -71,7 +74,8 @@ module _ (core : List ℕ) (n count : ℕ) (f : IsDigitFront (take 9 core) n cou
       (cases_lt (length d) count))
       (cases_lt count (length d))
 
-  module _ (line gap : List ℕ) (s : SplitsWhile is_blank line gap core) (ds rest : List ℕ) (front : ds ≡ take count core) (back : rest ≡ drop count core) where
+  module _ (line gap : List ℕ) (s : SplitsWhile is_blank line gap core) (ds rest : List ℕ)
+      (front : ds ≡ take count core) (back : rest ≡ drop count core) where
     -- a number that is the first token is as long as the digits at the front
     record Spelled (m : ℕ) (more : List ℕ) : Type 0 where
       joined : core ≡ decimal m ++ more
@@ -103,7 +107,8 @@ module _ (core : List ℕ) (n count : ℕ) (f : IsDigitFront (take 9 core) n cou
         ∙ get_or_append_left (decimal m) h.1 0 0 k.form.some in
         omega (arith, long, k.counted, k.form.lone (sym here ∙ nought)))
 
-    pub word_goes_on : true ≡ first_passes is_word_byte rest → (m : ℕ) → m < 10 ^ 9 → BeginsNotWith line (word (decimal m))
+    pub word_goes_on : true ≡ first_passes is_word_byte rest → (m : ℕ) → m < 10 ^ 9
+        → BeginsNotWith line (word (decimal m))
     word_goes_on on m small = λ ts h. (
         let k = spelled m small ts h in
         let same : rest ≡ h.1 =
@@ -118,7 +123,8 @@ module _ (core : List ℕ) (n count : ℕ) (f : IsDigitFront (take 9 core) n cou
     is_number some lone =
         let short : length ds ≤ 9 = omega (arith, at_most_nine, ap length front, length-take count core) in
         let is = number_from_form ds (record { some = some; short = short; lone = lone; digits = all_digits }) in
-        let value : digits_value 10 ds ≡ n = ap (digits_value 10) (front ∙ sym (take_less count 9 core at_most_nine)) ∙ sym f.value in
+        let value : digits_value 10 ds ≡ n = ap (digits_value 10) (front ∙ sym (take_less count 9 core at_most_nine))
+        ∙ sym f.value in
         subst (IsNumber ds) value is
 
     pub number_there : 0 < length ds → (get_or ds 0 0 ≡ 48 → length ds ≡ 1) → false ≡ first_passes is_word_byte rest
@@ -126,5 +132,6 @@ module _ (core : List ℕ) (n count : ℕ) (f : IsDigitFront (take 9 core) n cou
     number_there some lone off =
         let joined : core ≡ ds ++ rest = sym (take-append-drop count core) ∙ rw (front, back) refl in
         let is = is_number some lone in
-        let split : SplitsWhile is_word_byte core ds rest = record { joined = joined; each = digits_pass ds all_digits; stops = sym off } in
+        let split : SplitsWhile is_word_byte core ds rest =
+        record { joined = joined; each = digits_pass ds all_digits; stops = sym off } in
         (is.small, this_number line gap core s ds rest n split is)

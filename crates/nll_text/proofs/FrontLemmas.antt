@@ -18,7 +18,9 @@ use Rattle.nll_text.proofs.TokenLemmas.{token_solid, token_after, begins_with, w
 module _ (line gap core : List ℕ) (s : SplitsWhile is_blank line gap core) where
   -- what stands behind the blanks of a line begins with the line's first token
   pub first_token : (t : Token) (ts : List Token) (h : IsMadeOf line (t ∷ ts)) → core ≡ spelling t ++ h.1
-  first_token t ts h = (same_split is_blank gap core h.0 (spelling t ++ h.1) s.each s.stops h.3 (token_solid t h.1 h.4) (sym s.joined ∙ h.2)).1
+  first_token t ts h =
+      (same_split is_blank gap core h.0 (spelling t ++ h.1) s.each s.stops h.3 (token_solid t h.1 h.4)
+      (sym s.joined ∙ h.2)).1
 
   -- ---- a word
 
@@ -44,7 +46,8 @@ module _ (line gap core : List ℕ) (s : SplitsWhile is_blank line gap core) whe
   this_word w front rest is split eq off =
       let yes : bytes_eq front w ≡ true = not_false (bytes_eq front w) eq in
       let same : front ≡ w = (bytes_eq-Decides front w).0 yes in
-      let joined : core ≡ w ++ rest = sym (take-append-drop (length w) core) ∙ rw (sym split.1, sym split.2, same) refl in
+      let joined : core ≡ w ++ rest = sym (take-append-drop (length w) core)
+      ∙ rw (sym split.1, sym split.2, same) refl in
       token_after line gap core (word w) rest s (begins_with core (word w) rest joined is (sym off))
     where
       not_false : (b : Bool) → false ≡ not b → b ≡ true
@@ -56,7 +59,9 @@ module _ (line gap core : List ℕ) (s : SplitsWhile is_blank line gap core) whe
   pub no_number : (w rest : List ℕ) → SplitsWhile is_word_byte core w rest
       → ((n : ℕ) → IsNumber w n → ⊥) → (n : ℕ) → n < 10 ^ 9 → BeginsNotWith line (word (decimal n))
   no_number w rest split none n small = λ ts h. (
-      let same = same_split is_word_byte w rest (decimal n) h.1 split.each split.stops h.4.1 h.5 (sym split.joined ∙ first_token (word (decimal n)) ts h) in
+      let same =
+      same_split is_word_byte w rest (decimal n) h.1 split.each split.stops h.4.1 h.5
+      (sym split.joined ∙ first_token (word (decimal n)) ts h) in
       none n (record { small = small; printed = same.0 }))
 
   pub this_number : (w rest : List ℕ) (n : ℕ) → SplitsWhile is_word_byte core w rest → IsNumber w n

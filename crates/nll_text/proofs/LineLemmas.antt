@@ -134,14 +134,17 @@ length-lines_of-le text =
 -- ---- the first line feed
 
 -- the first byte that passes a test stands at its position
-pub first_place : (test : ℕ → Bool) (bytes : List ℕ) (found : Option ℕ) → IsFirstByte test bytes found → found ≡ position test bytes
+pub first_place : (test : ℕ → Bool) (bytes : List ℕ) (found : Option ℕ) → IsFirstByte test bytes found
+    → found ≡ position test bytes
 first_place test bytes None nowhere =
     let none : position_or_len test bytes ≡ length bytes =
-    position_or_len_is test bytes (length bytes) 0 (omega arith) (λ k below. false_from_ne_true _ (nowhere k (omega arith) below)) (λ below. absurd (omega arith)) in
+    position_or_len_is test bytes (length bytes) 0 (omega arith)
+    (λ k below. false_from_ne_true _ (nowhere k (omega arith) below)) (λ below. absurd (omega arith)) in
     rw (none, le-ltb (length bytes) (length bytes) (omega arith)) refl
 first_place test bytes (Some k) first =
     let here : position_or_len test bytes ≡ k =
-    position_or_len_is test bytes k 0 (omega (arith, first.0.high)) (λ j below. false_from_ne_true _ (first.0.before j (omega arith) below)) (λ below. first.1) in
+    position_or_len_is test bytes k 0 (omega (arith, first.0.high))
+    (λ j below. false_from_ne_true _ (first.0.before j (omega arith) below)) (λ below. first.1) in
     rw (here, lt-ltb k (length bytes) first.0.high) refl
 
 -- ---- the first of all places
@@ -168,7 +171,8 @@ module _ (test : ℕ → Bool) (hay : List ℕ) where
         ap (λ m. test (slice_index hay m)) (sym same) ∙ e,
       )
   one_place i n None rest later false e h more =
-      nowhere_more (Passes test hay) i (i + suc n) (λ p. false≢true (sym e ∙ p)) (λ k low high. more h k low (omega (arith, high)))
+      nowhere_more (Passes test hay) i (i + suc n) (λ p. false≢true (sym e ∙ p))
+      (λ k low high. more h k low (omega (arith, high)))
   one_place i n (Some k) rest later false e h more =
       let f = more h in (
         record {
@@ -185,20 +189,25 @@ module _ (test : ℕ → Bool) (hay : List ℕ) where
   unfolding places_from
   first_of i zero None later h = λ k low high. absurd (omega (arith, low, high))
   first_of i zero (Some k) later h = absurd cc
-  first_of i (suc n) r later h = one_place i n r (places_from test hay (i + 1) n) later (test (slice_index hay i)) refl h (first_of (i + 1) n r later)
+  first_of i (suc n) r later h =
+      one_place i n r (places_from test hay (i + 1) n) later (test (slice_index hay i)) refl h
+      (first_of (i + 1) n r later)
 
   from_start : (r : Option ℕ) → IsFirst (Passes test hay) 0 (0 + length hay) r → IsFirstByte test hay r
-  from_start r h = (let e : 0 + length hay ≡ length hay = omega arith in subst (λ (j : ℕ). IsFirst (Passes test hay) 0 j r) e h)
+  from_start r h =
+      (let e : 0 + length hay ≡ length hay = omega arith in subst (λ (j : ℕ). IsFirst (Passes test hay) 0 j r) e h)
 
   -- the first of all places of bytes that pass is the first such place
   pub first_yielded : (r : Option ℕ) (s later : List ℕ) → s ≡ places test hay
       → MatchOption r ((s ≡ []) × (later ≡ [])) (λ k. s ≡ k ∷ later) → IsFirstByte test hay r
   first_yielded r s later e h = by r (e ∙ ap (places_from test hay 0) (omega arith)) h
     where
-      by : (found : Option ℕ) → s ≡ places_from test hay 0 (length hay) → MatchOption found ((s ≡ []) × (later ≡ [])) (λ k. s ≡ k ∷ later) → IsFirstByte test hay found
+      by : (found : Option ℕ) → s ≡ places_from test hay 0 (length hay)
+          → MatchOption found ((s ≡ []) × (later ≡ [])) (λ k. s ≡ k ∷ later) → IsFirstByte test hay found
       by None all none = from_start None (first_of 0 (length hay) None later (sym all ∙ none.0))
       by (Some k) all some = from_start (Some k) (first_of 0 (length hay) (Some k) later (sym all ∙ some))
 
-pub first_within : (test : ℕ → Bool) (hay : List ℕ) (r : Option ℕ) → IsFirstByte test hay r → IfSome r (λ i. i < length hay)
+pub first_within : (test : ℕ → Bool) (hay : List ℕ) (r : Option ℕ) → IsFirstByte test hay r
+    → IfSome r (λ i. i < length hay)
 first_within test hay None h = tt
 first_within test hay (Some k) h = h.0.high

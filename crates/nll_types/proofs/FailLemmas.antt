@@ -15,8 +15,10 @@ handed (Ok u) (Ok t) P Q R p q on = on u t p q
 handed (Ok u) (Err e) P Q R p q on = absurd q
 
 -- what is made of two values that other calls made
-pub handed_both : {T S U E : Type 0} (r : Result U E) (s : Result T E) (o : Result S E) (P : T → Type 0) (O : S → Type 0) (Q : U → T → S → Type 0) (R : U → Type 0)
-    → IfOk s P → IfOk o O → IfOk r (λ u. IsOkAnd s (λ t. IsOkAnd o (Q u t))) → ((u : U) (t : T) (v : S) → P t → O v → Q u t v → R u) → IfOk r R
+pub handed_both : {T S U E : Type 0} (r : Result U E) (s : Result T E) (o : Result S E) (P : T → Type 0)
+    (O : S → Type 0) (Q : U → T → S → Type 0) (R : U → Type 0)
+    → IfOk s P → IfOk o O → IfOk r (λ u. IsOkAnd s (λ t. IsOkAnd o (Q u t)))
+    → ((u : U) (t : T) (v : S) → P t → O v → Q u t v → R u) → IfOk r R
 handed_both (Err e) s o P O Q R p i q on = tt
 handed_both (Ok u) (Ok t) (Ok v) P O Q R p i q on = on u t v p i q
 handed_both (Ok u) (Ok t) (Err e) P O Q R p i q on = absurd q

@@ -30,7 +30,8 @@ same_region : (n q : ℕ) → q ≤ n → region_in (after 0 n) q ≡ q
 same_region n zero h = refl
 same_region n (suc j) h = at_after 0 n j (omega arith) ∙ (omega arith)
 
-same_regions : (n bound : ℕ) (rs : List ℕ) → bound ≤ n + 1 → All (λ r. r < bound) rs → map (region_in (after 0 n)) rs ≡ rs
+same_regions : (n bound : ℕ) (rs : List ℕ) → bound ≤ n + 1 → All (λ r. r < bound) rs
+    → map (region_in (after 0 n)) rs ≡ rs
 same_regions n bound [] h all = refl
 same_regions n bound (r ∷ rs) h all =
     let b : r < bound = all 0 0 (omega arith) in
@@ -39,7 +40,8 @@ same_regions n bound (r ∷ rs) h all =
     cc
 
 mutual
-  put_same : (structs : List Struct) (n bound : ℕ) (t : TypeTree) → bound ≤ n + 1 → IsWellFormed structs bound 0 t → put_in (after 0 n) none t ≡ t
+  put_same : (structs : List Struct) (n bound : ℕ) (t : TypeTree) → bound ≤ n + 1 → IsWellFormed structs bound 0 t
+      → put_in (after 0 n) none t ≡ t
   put_same structs n bound int h w = refl
   put_same structs n bound (parameter k) h w = absurd (omega arith)
   put_same structs n bound (reference r m t) h w =
@@ -57,7 +59,8 @@ mutual
       let rest = put_same structs n bound t h w.1 in
       cc
 
-  put_all_same : (structs : List Struct) (n bound : ℕ) (ts : TypeTrees) → bound ≤ n + 1 → AreWellFormed structs bound 0 ts → put_in_all (after 0 n) none ts ≡ ts
+  put_all_same : (structs : List Struct) (n bound : ℕ) (ts : TypeTrees) → bound ≤ n + 1
+      → AreWellFormed structs bound 0 ts → put_in_all (after 0 n) none ts ≡ ts
   put_all_same structs n bound none h w = refl
   put_all_same structs n bound (more t ts) h w =
       let here = put_same structs n bound t h w.0 in
@@ -66,7 +69,8 @@ mutual
 
 -- ---- regions among sources
 
-pub among_push : (xs : List Source) (x : Source) → regions_among (xs ++ x ∷ []) ≡ regions_among xs ++ regions_among (x ∷ [])
+pub among_push : (xs : List Source) (x : Source)
+    → regions_among (xs ++ x ∷ []) ≡ regions_among xs ++ regions_among (x ∷ [])
 among_push [] x = refl
 among_push (Region q ∷ xs) x = ap (λ (l : List ℕ). q ∷ l) (among_push xs x)
 among_push (AnyOf k ∷ xs) x = among_push xs x
@@ -91,7 +95,8 @@ among_from (AnyOf j ∷ xs) q (suc k, l, e) = among_from xs q (k, omega arith, e
 among_from (DropOf j ∷ xs) q (zero, l, e) = absurd (let h : DropOf j ≡ Region q = e in cc)
 among_from (DropOf j ∷ xs) q (suc k, l, e) = among_from xs q (k, omega arith, e)
 
-not_later : (x : Source) (xs : List Source) → AllByRecursion (λ y. (derived.eq-value).it x y ≡ false) xs → Contains xs x → ⊥
+not_later : (x : Source) (xs : List Source) → AllByRecursion (λ y. (derived.eq-value).it x y ≡ false) xs → Contains xs x
+    → ⊥
 not_later x [] all c = (let l = c.1 in absurd (omega arith))
 not_later x (y ∷ xs) all (zero, l, e) = false≢true (sym all.0 ∙ ap ((derived.eq-value).it x) e ∙ eq_source x)
 not_later x (y ∷ xs) all (suc k, l, e) = not_later x xs all.1 (k, omega arith, e)
@@ -101,8 +106,10 @@ unfolding IsDistinct
 among_once [] distinct i j d less h = absurd (omega arith)
 among_once (Region q ∷ xs) distinct i zero d less h = absurd (omega arith)
 among_once (Region q ∷ xs) distinct zero (suc j) d less h = λ e.
-    not_later (Region q) xs distinct.0 (among_to xs q (subst (Contains (regions_among xs)) (sym e) (Contains-get_or (regions_among xs) j d (omega arith))))
-among_once (Region q ∷ xs) distinct (suc i) (suc j) d less h = among_once xs distinct.1 i j d (omega arith) (omega arith)
+    not_later (Region q) xs distinct.0 (among_to xs q
+    (subst (Contains (regions_among xs)) (sym e) (Contains-get_or (regions_among xs) j d (omega arith))))
+among_once (Region q ∷ xs) distinct (suc i) (suc j) d less h =
+    among_once xs distinct.1 i j d (omega arith) (omega arith)
 among_once (AnyOf k ∷ xs) distinct i j d less h = among_once xs distinct.1 i j d less h
 among_once (DropOf k ∷ xs) distinct i j d less h = among_once xs distinct.1 i j d less h
 
@@ -111,7 +118,8 @@ number_of (Region p) = p
 number_of (AnyOf k) = 0
 number_of (DropOf k) = 0
 
-bound_more : (x : Source) (xs : List Source) (n : ℕ) → ((q : ℕ) → Contains xs (Region q) → q ≤ n) → (q : ℕ) → Contains (x ∷ xs) (Region q) → q ≤ number_of x + n
+bound_more : (x : Source) (xs : List Source) (n : ℕ) → ((q : ℕ) → Contains xs (Region q) → q ≤ n) → (q : ℕ)
+    → Contains (x ∷ xs) (Region q) → q ≤ number_of x + n
 unfolding number_of
 bound_more x xs n rest q (zero, l, e) = (let f : number_of x ≡ q = ap number_of e in omega arith)
 bound_more x xs n rest q (suc k, l, e) = (let f = rest q (k, omega arith, e) in omega arith)
@@ -122,13 +130,17 @@ bound_of (x ∷ xs) = (let rest = bound_of xs in (number_of x + rest.0, bound_mo
 
 -- ---- what is found
 
-one_region : (structs : List Struct) (n : ℕ) (keys : List Source) (r : ℕ) → ((q : ℕ) → Contains keys (Region q) → q ≤ n) → OneYields structs (after 0 n) none keys r → Contains keys (Region r)
-one_region structs n keys r small (Region q, c, y) = (let s : q ≡ r = sym (same_region n q (small q c)) ∙ y in subst (λ z. Contains keys (Region z)) s c)
+one_region : (structs : List Struct) (n : ℕ) (keys : List Source) (r : ℕ) → ((q : ℕ) → Contains keys (Region q) → q ≤ n)
+    → OneYields structs (after 0 n) none keys r → Contains keys (Region r)
+one_region structs n keys r small (Region q, c, y) =
+    (let s : q ≡ r = sym (same_region n q (small q c)) ∙ y in subst (λ z. Contains keys (Region z)) s c)
 one_region structs n keys r small (AnyOf k, c, y) = absurd y
 one_region structs n keys r small (DropOf k, c, y) = absurd (no_drop_int structs r y)
 
-found_at : (structs : List Struct) (bound : ℕ) (w d : Type 0) (t : TypeTree) (keys : List Source) (n : ℕ) → bound ≤ n + 1 → ((q : ℕ) → Contains keys (Region q) → q ≤ n) → IsWellFormed structs bound 0 t
-    → AddsSources structs (IsWantedOf structs w d t) [] keys → (r : ℕ) → Contains keys (Region r) ↔ IsWanted structs w d t r
+found_at : (structs : List Struct) (bound : ℕ) (w d : Type 0) (t : TypeTree) (keys : List Source) (n : ℕ)
+    → bound ≤ n + 1 → ((q : ℕ) → Contains keys (Region q) → q ≤ n) → IsWellFormed structs bound 0 t
+    → AddsSources structs (IsWantedOf structs w d t) [] keys → (r : ℕ)
+    → Contains keys (Region r) ↔ IsWanted structs w d t r
 found_at structs bound w d t keys n h small good adds r =
     let e = adds.each (after 0 n) none r in
     let same = put_same structs n bound t h good in (
@@ -139,8 +151,10 @@ found_at structs bound w d t keys n h small good adds r =
       λ x. one_region structs n keys r small (e.1 (inr (subst (λ z. IsWanted structs w d z r) (sym same) x))),
     )
 
-pub found : (structs : List Struct) (bound : ℕ) (w d : Type 0) (t : TypeTree) (keys : List Source) → IsWellFormed structs bound 0 t
-    → AddsSources (structs ++ []) (IsWantedOf (structs ++ []) w d t) [] keys → (r : ℕ) → Contains (regions_among keys) r ↔ IsWanted structs w d t r
+pub found : (structs : List Struct) (bound : ℕ) (w d : Type 0) (t : TypeTree) (keys : List Source)
+    → IsWellFormed structs bound 0 t
+    → AddsSources (structs ++ []) (IsWantedOf (structs ++ []) w d t) [] keys → (r : ℕ)
+    → Contains (regions_among keys) r ↔ IsWanted structs w d t r
 found structs bound w d t keys good adds r =
     let b = bound_of keys in
     let e = found_at structs bound w d t keys (b.0 + bound) (omega arith) (λ q c. (let l = b.1 q c in omega arith)) good

@@ -11,7 +11,8 @@ use Rattle.nll_types.specs.declared.node.Node.{Node}
 use Rattle.nll_types.specs.declared.node.Node.TheVariants as nodes
 
 -- the shape at a place of shapes of numbers
-pub shape_at_all : (known : List Shape) (is : List ℕ) (k : ℕ) → option_map (at known) (slice_get is k) ≡ shape_at (all_at known is) k
+pub shape_at_all : (known : List Shape) (is : List ℕ) (k : ℕ)
+    → option_map (at known) (slice_get is k) ≡ shape_at (all_at known is) k
 shape_at_all known [] k = refl
 shape_at_all known (i ∷ is) zero = refl
 shape_at_all known (i ∷ is) (suc k) = shape_at_all known is k
@@ -37,7 +38,8 @@ length_of_row : (known : List Shape) (is : List ℕ) → row_length (all_at know
 length_of_row known [] = refl
 length_of_row known (i ∷ is) = (let e = length_of_row known is in omega arith)
 
-part_count_agrees : (structs : List Struct) (t : TypeTree) → part_count structs t ≡ shape_part_count structs (shape_of t)
+part_count_agrees : (structs : List Struct) (t : TypeTree)
+    → part_count structs t ≡ shape_part_count structs (shape_of t)
 part_count_agrees structs int = refl
 part_count_agrees structs (parameter k) = refl
 part_count_agrees structs (reference r m t) = refl
@@ -46,10 +48,13 @@ part_count_agrees structs (named s rs ts) = refl
 part_count_agrees structs (function ts t) = refl
 
 -- the parts of a node are counted
-pub count_at : (structs : List Struct) (known : List Shape) (node : Node) (t : TypeTree) → shape_of t ≡ shape_over known node
+pub count_at : (structs : List Struct) (known : List Shape) (node : Node) (t : TypeTree)
+    → shape_of t ≡ shape_over known node
     → part_count structs t ≡ shape_part_count structs (shape_over known node)
 count_at structs known node t e = part_count_agrees structs t ∙ ap (shape_part_count structs) e
 
-pub count_tuple : (structs : List Struct) (known : List Shape) (ts : Vec ℕ) (t : TypeTree) → shape_of t ≡ shape_over known (nodes.Tuple ts)
+pub count_tuple : (structs : List Struct) (known : List Shape) (ts : Vec ℕ) (t : TypeTree)
+    → shape_of t ≡ shape_over known (nodes.Tuple ts)
     → Some (length ts.items) ≡ part_count structs t
-count_tuple structs known ts t e = sym (count_at structs known (nodes.Tuple ts) t e ∙ ap Some (length_of_row known ts.items))
+count_tuple structs known ts t e =
+    sym (count_at structs known (nodes.Tuple ts) t e ∙ ap Some (length_of_row known ts.items))

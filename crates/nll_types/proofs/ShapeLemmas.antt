@@ -30,15 +30,19 @@ argument_shape_of (more t ts) (suc k) = argument_shape_of ts k
 
 mutual
   -- arguments put into a type are their shapes put into its shape
-  pub shape_of_put_in : (rs : List ℕ) (ts : TypeTrees) (t : TypeTree) → shape_of (put_in rs ts t) ≡ put_in_shape (shapes_of ts) (shape_of t)
+  pub shape_of_put_in : (rs : List ℕ) (ts : TypeTrees) (t : TypeTree)
+      → shape_of (put_in rs ts t) ≡ put_in_shape (shapes_of ts) (shape_of t)
   shape_of_put_in rs ts int = refl
   shape_of_put_in rs ts (parameter k) = argument_shape_of ts k
   shape_of_put_in rs ts (reference r m t) = ap (reference_shape m) (shape_of_put_in rs ts t)
   shape_of_put_in rs ts (tuple us) = ap tuple_shape (shapes_of_put_in rs ts us)
-  shape_of_put_in rs ts (named s qs us) = (let l : length (map (region_in rs) qs) ≡ length qs = length-map qs (region_in rs) in let i = shapes_of_put_in rs ts us in cc)
+  shape_of_put_in rs ts (named s qs us) =
+      (let l : length (map (region_in rs) qs) ≡ length qs = length-map qs (region_in rs) in
+      let i = shapes_of_put_in rs ts us in cc)
   shape_of_put_in rs ts (function us u) = (let a = shapes_of_put_in rs ts us in let b = shape_of_put_in rs ts u in cc)
 
-  pub shapes_of_put_in : (rs : List ℕ) (ts us : TypeTrees) → shapes_of (put_in_all rs ts us) ≡ put_in_shapes (shapes_of ts) (shapes_of us)
+  pub shapes_of_put_in : (rs : List ℕ) (ts us : TypeTrees)
+      → shapes_of (put_in_all rs ts us) ≡ put_in_shapes (shapes_of ts) (shapes_of us)
   shapes_of_put_in rs ts none = refl
   shapes_of_put_in rs ts (more u us) = (let a = shape_of_put_in rs ts u in let b = shapes_of_put_in rs ts us in cc)
 
@@ -48,12 +52,15 @@ shape_at_of none k = refl
 shape_at_of (more t ts) zero = refl
 shape_at_of (more t ts) (suc k) = shape_at_of ts k
 
-field_shape : (rs : List ℕ) (ts : TypeTrees) (o : Option TypeTree) → option_map shape_of (option_map (put_in rs ts) o) ≡ option_map (put_in_shape (shapes_of ts)) (option_map shape_of o)
+field_shape : (rs : List ℕ) (ts : TypeTrees) (o : Option TypeTree)
+    → option_map shape_of (option_map (put_in rs ts) o)
+    ≡ option_map (put_in_shape (shapes_of ts)) (option_map shape_of o)
 field_shape rs ts None = refl
 field_shape rs ts (Some t) = ap Some (shape_of_put_in rs ts t)
 
 -- the shape behind a projection is that of the type behind it
-pub behind_agrees : (structs : List Struct) (p : Projection) (t : TypeTree) → option_map shape_of (behind structs p t) ≡ behind_shape structs p (shape_of t)
+pub behind_agrees : (structs : List Struct) (p : Projection) (t : TypeTree)
+    → option_map shape_of (behind structs p t) ≡ behind_shape structs p (shape_of t)
 behind_agrees structs Deref int = refl
 behind_agrees structs Deref (parameter k) = refl
 behind_agrees structs Deref (reference r m t) = refl
@@ -66,4 +73,5 @@ behind_agrees structs (Field k) (reference r m t) = refl
 behind_agrees structs (Field k) (tuple ts) = shape_at_of ts k
 behind_agrees structs (Field k) (function ts t) = refl
 behind_agrees structs (Field k) (named s rs ts) =
-    field_shape rs ts (type_at (struct_at structs s).fields k) ∙ ap (option_map (put_in_shape (shapes_of ts))) (shape_at_of (struct_at structs s).fields k)
+    field_shape rs ts (type_at (struct_at structs s).fields k)
+    ∙ ap (option_map (put_in_shape (shapes_of ts))) (shape_at_of (struct_at structs s).fields k)

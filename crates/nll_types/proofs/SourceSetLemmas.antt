@@ -26,12 +26,24 @@ eq_source (AnyOf a) = eq-eqb a a refl
 eq_source (DropOf a) = eq-eqb a a refl
 
 -- a source that is inserted is there, and so is each that was there
-pub contains_inserted : (ks : List Source) (new x : Source) → Contains (insert_key (derived.eq-value).it ks new) x ↔ (Contains ks x ⊎ (new ≡ x))
+pub contains_inserted : (ks : List Source) (new x : Source)
+    → Contains (insert_key (derived.eq-value).it ks new) x ↔ (Contains ks x ⊎ (new ≡ x))
 contains_inserted ks new x = by (list_any ((derived.eq-value).it new) ks) refl
   where
-    by : (b : Bool) → list_any ((derived.eq-value).it new) ks ≡ b → Contains (insert_key (derived.eq-value).it ks new) x ↔ (Contains ks x ⊎ (new ≡ x))
-    by true e = rw e (inl, ⊎_elim (λ h. h) (λ s. subst (Contains ks) s (Contains-list_any (derived.eq-value).it same_source ks new e)))
-    by false e = rw e (Contains-push_cases ks new x, ⊎_elim (Contains-append_left ks (new ∷ []) x) (λ s. subst (Contains (ks ++ new ∷ [])) s (Contains-push ks new)))
+    by : (b : Bool) → list_any ((derived.eq-value).it new) ks ≡ b
+        → Contains (insert_key (derived.eq-value).it ks new) x ↔ (Contains ks x ⊎ (new ≡ x))
+    by true e =
+        rw e (
+          inl,
+          ⊎_elim (λ h. h) (λ s. subst (Contains ks) s
+              (Contains-list_any (derived.eq-value).it same_source ks new e)),
+        )
+    by false e =
+        rw e (
+          Contains-push_cases ks new x,
+          ⊎_elim (Contains-append_left ks (new ∷ []) x)
+              (λ s. subst (Contains (ks ++ new ∷ [])) s (Contains-push ks new)),
+        )
 
 found_source : (ks : List Source) (x : Source) → Contains ks x → list_any ((derived.eq-value).it x) ks ≡ true
 found_source [] x c = absurd (omega (arith, c.1))

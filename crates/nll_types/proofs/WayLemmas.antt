@@ -22,19 +22,22 @@ behind_shapes structs (p ∷ ps) s = option_and_then (behind_shapes structs ps) 
 -- whether the shape is small and so is each shape behind the first projections
 abbrev pub small_shapes : List Struct → List Projection → Shape → Bool
 small_shapes structs [] s = is_small_shape s
-small_shapes structs (p ∷ ps) s = is_small_shape s && unwrap_or (option_map (small_shapes structs ps) (behind_shape structs p s)) true
+small_shapes structs (p ∷ ps) s =
+    is_small_shape s && unwrap_or (option_map (small_shapes structs ps) (behind_shape structs p s)) true
 
 small_agrees : (t : TypeTree) → is_small t ≡ is_small_shape (shape_of t)
 small_agrees t = ap (λ (n : ℕ). nat_le n most_nodes) (same_nodes t)
 
 rest_agrees : (structs : List Struct) (ps : List Projection) (o : Option TypeTree)
     → ((t : TypeTree) → option_map shape_of (behind_all structs ps t) ≡ behind_shapes structs ps (shape_of t))
-    → option_map shape_of (option_and_then (behind_all structs ps) o) ≡ option_and_then (behind_shapes structs ps) (option_map shape_of o)
+    → option_map shape_of (option_and_then (behind_all structs ps) o)
+    ≡ option_and_then (behind_shapes structs ps) (option_map shape_of o)
 rest_agrees structs ps None on = refl
 rest_agrees structs ps (Some t) on = on t
 
 -- what is told of types is told of their shapes
-behind_all_agrees : (structs : List Struct) (ps : List Projection) (t : TypeTree) → option_map shape_of (behind_all structs ps t) ≡ behind_shapes structs ps (shape_of t)
+behind_all_agrees : (structs : List Struct) (ps : List Projection) (t : TypeTree)
+    → option_map shape_of (behind_all structs ps t) ≡ behind_shapes structs ps (shape_of t)
 behind_all_agrees structs [] t = refl
 behind_all_agrees structs (p ∷ ps) t =
     rest_agrees structs ps (behind structs p t) (λ u. behind_all_agrees structs ps u)
@@ -42,28 +45,34 @@ behind_all_agrees structs (p ∷ ps) t =
 
 small_rest_agrees : (structs : List Struct) (ps : List Projection) (o : Option TypeTree)
     → ((t : TypeTree) → small_behind structs ps t ≡ small_shapes structs ps (shape_of t))
-    → unwrap_or (option_map (small_behind structs ps) o) true ≡ unwrap_or (option_map (small_shapes structs ps) (option_map shape_of o)) true
+    → unwrap_or (option_map (small_behind structs ps) o) true
+    ≡ unwrap_or (option_map (small_shapes structs ps) (option_map shape_of o)) true
 small_rest_agrees structs ps None on = refl
 small_rest_agrees structs ps (Some t) on = on t
 
-small_behind_agrees : (structs : List Struct) (ps : List Projection) (t : TypeTree) → small_behind structs ps t ≡ small_shapes structs ps (shape_of t)
+small_behind_agrees : (structs : List Struct) (ps : List Projection) (t : TypeTree)
+    → small_behind structs ps t ≡ small_shapes structs ps (shape_of t)
 small_behind_agrees structs [] t = small_agrees t
 small_behind_agrees structs (p ∷ ps) t =
     let here = small_agrees t in
     let there = small_rest_agrees structs ps (behind structs p t) (λ u. small_behind_agrees structs ps u)
     ∙ ap (λ (o : Option Shape). unwrap_or (option_map (small_shapes structs ps) o) true) (behind_agrees structs p t) in
-    ap (λ (b : Bool). b && unwrap_or (option_map (small_behind structs ps) (behind structs p t)) true) here ∙ ap (λ (b : Bool). is_small_shape (shape_of t) && b) there
+    ap (λ (b : Bool). b && unwrap_or (option_map (small_behind structs ps) (behind structs p t)) true) here
+    ∙ ap (λ (b : Bool). is_small_shape (shape_of t) && b) there
 
 -- ---- the way that is gone
 
 -- after n projections the number is that of the shape come to, and the flag tells of those before it
-pub record IsOnWay (structs : List Struct) (first now : List Node) (ps : List Projection) (n from number : ℕ) (small : Bool) : Type 0 where
+pub record IsOnWay (structs : List Struct) (first now : List Node) (ps : List Projection) (n from number : ℕ)
+    (small : Bool) : Type 0 where
   pub extends : Extends first now
   pub within : number < length now
   pub same : behind_shapes structs ps (shape_in first from) ≡ behind_shapes structs (drop n ps) (shape_in now number)
-  pub told : small_shapes structs ps (shape_in first from) ≡ (small && small_shapes structs (drop n ps) (shape_in now number))
+  pub told : small_shapes structs ps (shape_in first from)
+      ≡ (small && small_shapes structs (drop n ps) (shape_in now number))
 
-pub way_starts : (structs : List Struct) (first : List Node) (ps : List Projection) (from : ℕ) → from < length first → IsOnWay structs first first ps 0 from from true
+pub way_starts : (structs : List Struct) (first : List Node) (ps : List Projection) (from : ℕ) → from < length first
+    → IsOnWay structs first first ps 0 from from true
 way_starts structs first ps from h = record {
   extends = record { longer = omega arith; kept = λ i l. refl };
   within = h;
@@ -80,19 +89,24 @@ and_assoc : (a b c : Bool) → (a && (b && c)) ≡ ((a && b) && c)
 and_assoc true b c = refl
 and_assoc false b c = refl
 
-step_shapes : (structs : List Struct) (ps : List Projection) (n : ℕ) (d : Projection) (s : Shape) (o : Option Shape) → n < length ps → o ≡ behind_shape structs (get_or ps n d) s
+step_shapes : (structs : List Struct) (ps : List Projection) (n : ℕ) (d : Projection) (s : Shape) (o : Option Shape)
+    → n < length ps → o ≡ behind_shape structs (get_or ps n d) s
     → behind_shapes structs (drop n ps) s ≡ option_and_then (behind_shapes structs (drop (n + 1) ps)) o
 step_shapes structs ps n d s o l e =
-    ap (λ (z : List Projection). behind_shapes structs z s) (next_is ps n d l) ∙ ap (option_and_then (behind_shapes structs (drop (n + 1) ps))) (sym e)
+    ap (λ (z : List Projection). behind_shapes structs z s) (next_is ps n d l)
+    ∙ ap (option_and_then (behind_shapes structs (drop (n + 1) ps))) (sym e)
 
-step_small : (structs : List Struct) (ps : List Projection) (n : ℕ) (d : Projection) (s u : Shape) → n < length ps → Some u ≡ behind_shape structs (get_or ps n d) s
+step_small : (structs : List Struct) (ps : List Projection) (n : ℕ) (d : Projection) (s u : Shape) → n < length ps
+    → Some u ≡ behind_shape structs (get_or ps n d) s
     → small_shapes structs (drop n ps) s ≡ (is_small_shape s && small_shapes structs (drop (n + 1) ps) u)
 step_small structs ps n d s u l e =
     ap (λ (z : List Projection). small_shapes structs z s) (next_is ps n d l)
-    ∙ ap (λ (o : Option Shape). is_small_shape s && unwrap_or (option_map (small_shapes structs (drop (n + 1) ps)) o) true) (sym e)
+    ∙ ap (λ (o : Option Shape). is_small_shape s && unwrap_or
+    (option_map (small_shapes structs (drop (n + 1) ps)) o) true) (sym e)
 
 -- one projection more is taken
-pub way_on : (structs : List Struct) (first now next : List Node) (ps : List Projection) (n from number m : ℕ) (d : Projection) (small : Bool)
+pub way_on : (structs : List Struct) (first now next : List Node) (ps : List Projection) (n from number m : ℕ)
+    (d : Projection) (small : Bool)
     → n < length ps → IsOnWay structs first now ps n from number small → Extends now next → m < length next
     → Some (shape_in next m) ≡ behind_shape structs (get_or ps n d) (shape_in now number)
     → IsOnWay structs first next ps (n + 1) from m (small && is_small_shape (shape_in now number))
@@ -100,13 +114,17 @@ way_on structs first now next ps n from number m d small l way e within to = rec
   extends = extends_then first now next way.extends e;
   within = within;
   same = way.same ∙ step_shapes structs ps n d (shape_in now number) (Some (shape_in next m)) l to;
-  told = way.told ∙ ap (λ (b : Bool). small && b) (step_small structs ps n d (shape_in now number) (shape_in next m) l to)
-      ∙ and_assoc small (is_small_shape (shape_in now number)) (small_shapes structs (drop (n + 1) ps) (shape_in next m));
+  told = way.told ∙ ap (λ (b : Bool). small && b)
+      (step_small structs ps n d (shape_in now number) (shape_in next m) l to)
+      ∙ and_assoc small (is_small_shape (shape_in now number))
+      (small_shapes structs (drop (n + 1) ps) (shape_in next m));
 }
 
 -- no type is behind the next projection
-pub way_ends : (structs : List Struct) (first now : List Node) (ps : List Projection) (n from number : ℕ) (d : Projection) (small : Bool) (t : TypeTree)
-    → n < length ps → IsOnWay structs first now ps n from number small → None ≡ behind_shape structs (get_or ps n d) (shape_in now number)
+pub way_ends : (structs : List Struct) (first now : List Node) (ps : List Projection) (n from number : ℕ)
+    (d : Projection) (small : Bool) (t : TypeTree)
+    → n < length ps → IsOnWay structs first now ps n from number small
+    → None ≡ behind_shape structs (get_or ps n d) (shape_in now number)
     → shape_of t ≡ shape_in first from → None ≡ option_map shape_of (behind_all structs ps t)
 way_ends structs first now ps n from number d small t l way ends e =
     sym (behind_all_agrees structs ps t ∙ ap (behind_shapes structs ps) e ∙ way.same
@@ -114,14 +132,18 @@ way_ends structs first now ps n from number d small t l way ends e =
     ∙ ap (option_and_then (behind_shapes structs (drop (suc n) ps))) (sym ends))
 
 -- all projections are taken
-pub way_at : (structs : List Struct) (first now : List Node) (ps : List Projection) (n from number : ℕ) (small : Bool) (t : TypeTree)
+pub way_at : (structs : List Struct) (first now : List Node) (ps : List Projection) (n from number : ℕ) (small : Bool)
+    (t : TypeTree)
     → length ps ≤ n → IsOnWay structs first now ps n from number small → shape_of t ≡ shape_in first from
     → Some (shape_in now number) ≡ option_map shape_of (behind_all structs ps t)
 way_at structs first now ps n from number small t past way e =
-    sym (behind_all_agrees structs ps t ∙ ap (behind_shapes structs ps) e ∙ way.same ∙ ap (λ (z : List Projection). behind_shapes structs z (shape_in now number)) (drop_all n ps past))
+    sym (behind_all_agrees structs ps t ∙ ap (behind_shapes structs ps) e ∙ way.same
+    ∙ ap (λ (z : List Projection). behind_shapes structs z (shape_in now number)) (drop_all n ps past))
 
-pub way_small : (structs : List Struct) (first now : List Node) (ps : List Projection) (n from number : ℕ) (small : Bool) (t : TypeTree)
+pub way_small : (structs : List Struct) (first now : List Node) (ps : List Projection) (n from number : ℕ)
+    (small : Bool) (t : TypeTree)
     → length ps ≤ n → IsOnWay structs first now ps n from number small → shape_of t ≡ shape_in first from
     → (small && is_small_shape (shape_in now number)) ≡ small_behind structs ps t
 way_small structs first now ps n from number small t past way e =
-    sym (small_behind_agrees structs ps t ∙ ap (small_shapes structs ps) e ∙ way.told ∙ ap (λ (z : List Projection). small && small_shapes structs z (shape_in now number)) (drop_all n ps past))
+    sym (small_behind_agrees structs ps t ∙ ap (small_shapes structs ps) e ∙ way.told
+    ∙ ap (λ (z : List Projection). small && small_shapes structs z (shape_in now number)) (drop_all n ps past))

@@ -4,17 +4,20 @@ use Rattle.std.specs.Prelude.{Result, Ok, Err, OnOk, IsFalse, is_err, Bool}
 use Rattle.nll_mail.specs.declared.mail.Mail as Mail
 use Rattle.nll_worker.specs.Mailboxes.{Alike, Stays, Keeps, Shuts}
 
-pub map_set : {X Y : Type 0} (f : X → Y) (xs : List X) (k : ℕ) (y : X) → map f (slice_set xs k y) ≡ slice_set (map f xs) k (f y)
+pub map_set : {X Y : Type 0} (f : X → Y) (xs : List X) (k : ℕ) (y : X)
+    → map f (slice_set xs k y) ≡ slice_set (map f xs) k (f y)
 map_set f [] k y = refl
 map_set f (x ∷ xs) zero y = refl
 map_set f (x ∷ xs) (suc k) y = ap (λ l. f x ∷ l) (map_set f xs k y)
 
-pub map_read : {X Y : Type 0} (f : X → Y) (xs : List X) (k : ℕ) (x : X) (d : Y) → k < length xs → x ≡ slice_index_or xs k x → slice_index_or (map f xs) k d ≡ f x
+pub map_read : {X Y : Type 0} (f : X → Y) (xs : List X) (k : ℕ) (x : X) (d : Y) → k < length xs
+    → x ≡ slice_index_or xs k x → slice_index_or (map f xs) k d ≡ f x
 map_read f [] k x d lt e = absurd (omega arith)
 map_read f (y ∷ ys) zero x d lt e = ap f (sym e)
 map_read f (y ∷ ys) (suc k) x d lt e = map_read f ys k x d (omega arith) e
 
-pub read_set : {X Y : Type 0} (f : X → Y) (xs : List X) (k : ℕ) (y : X) (d : Y) → k < length xs → slice_index_or (map f (slice_set xs k y)) k d ≡ f y
+pub read_set : {X Y : Type 0} (f : X → Y) (xs : List X) (k : ℕ) (y : X) (d : Y) → k < length xs
+    → slice_index_or (map f (slice_set xs k y)) k d ≡ f y
 read_set f [] k y d lt = absurd (omega arith)
 read_set f (x ∷ xs) zero y d lt = refl
 read_set f (x ∷ xs) (suc k) y d lt = read_set f xs k y d (omega arith)
@@ -37,12 +40,14 @@ pub alike_refl : {X : Type 0} (P : X → X → Type 0) → ((x : X) → P x x) �
 alike_refl P r [] = tt
 alike_refl P r (x ∷ xs) = (r x, alike_refl P r xs)
 
-pub alike_set : {X : Type 0} (P : X → X → Type 0) → ((x : X) → P x x) → (xs : List X) (k : ℕ) (x y : X) → x ≡ slice_index_or xs k x → P x y → Alike P xs (slice_set xs k y)
+pub alike_set : {X : Type 0} (P : X → X → Type 0) → ((x : X) → P x x) → (xs : List X) (k : ℕ) (x y : X)
+    → x ≡ slice_index_or xs k x → P x y → Alike P xs (slice_set xs k y)
 alike_set P r [] k x y e p = tt
 alike_set P r (z ∷ zs) zero x y e p = (subst (λ w. P w y) e p, alike_refl P r zs)
 alike_set P r (z ∷ zs) (suc k) x y e p = (r z, alike_set P r zs k x y e p)
 
-pub alike_trans : {X Y Z : Type 0} (P : X → Y → Type 0) (Q : Y → Z → Type 0) (R : X → Z → Type 0) → ((x : X) (y : Y) (z : Z) → P x y → Q y z → R x z)
+pub alike_trans : {X Y Z : Type 0} (P : X → Y → Type 0) (Q : Y → Z → Type 0) (R : X → Z → Type 0)
+    → ((x : X) (y : Y) (z : Z) → P x y → Q y z → R x z)
     → (xs : List X) (ys : List Y) (zs : List Z) → Alike P xs ys → Alike Q ys zs → Alike R xs zs
 alike_trans P Q R t [] [] [] p q = tt
 alike_trans P Q R t (x ∷ xs) (y ∷ ys) (z ∷ zs) p q = (t x y z p.0 q.0, alike_trans P Q R t xs ys zs p.1 q.1)
@@ -51,7 +56,8 @@ alike_trans P Q R t (x ∷ xs) [] zs p q = absurd p
 alike_trans P Q R t [] [] (z ∷ zs) p q = absurd q
 alike_trans P Q R t (x ∷ xs) (y ∷ ys) [] p q = absurd q
 
-pub alike_length : {X Y : Type 0} (P : X → Y → Type 0) (xs : List X) (ys : List Y) → Alike P xs ys → length ys ≡ length xs
+pub alike_length : {X Y : Type 0} (P : X → Y → Type 0) (xs : List X) (ys : List Y) → Alike P xs ys
+    → length ys ≡ length xs
 alike_length P [] [] a = refl
 alike_length P (x ∷ xs) (y ∷ ys) a = ap suc (alike_length P xs ys a.1)
 alike_length P [] (y ∷ ys) a = absurd a
@@ -70,18 +76,24 @@ pub ok_of : {T E : Type 0} (r : Result T E) (b : Bool) (P : Type 0) → b ≡ is
 ok_of (Ok v) b P e f h = h
 ok_of (Err v) b P e f h = absurd (cc)
 
-pub stays_on : {M S R C P : Type 0} (m : Mail.Ghosts M S R C P) (xs ys zs : List S) → Alike (Stays m) xs ys → Alike (Stays m) ys zs → Alike (Stays m) xs zs
+pub stays_on : {M S R C P : Type 0} (m : Mail.Ghosts M S R C P) (xs ys zs : List S) → Alike (Stays m) xs ys
+    → Alike (Stays m) ys zs → Alike (Stays m) xs zs
 stays_on m = alike_trans (Stays m) (Stays m) (Stays m) (λ x y z a b r p. b r (a r p))
 
-pub keeps_on : {M S R C P : Type 0} (m : Mail.Ghosts M S R C P) (xs ys zs : List R) → Alike (Keeps m) xs ys → Alike (Keeps m) ys zs → Alike (Keeps m) xs zs
-keeps_on m = alike_trans (Keeps m) (Keeps m) (Keeps m) (λ x y z a b. ((λ s p. b.0 s (a.0 s p)), (λ s p. b.1 s (a.1 s p)), b.2 ∙ a.2))
+pub keeps_on : {M S R C P : Type 0} (m : Mail.Ghosts M S R C P) (xs ys zs : List R) → Alike (Keeps m) xs ys
+    → Alike (Keeps m) ys zs → Alike (Keeps m) xs zs
+keeps_on m =
+    alike_trans (Keeps m) (Keeps m) (Keeps m)
+    (λ x y z a b. ((λ s p. b.0 s (a.0 s p)), (λ s p. b.1 s (a.1 s p)), b.2 ∙ a.2))
 
-pub alike_ended : {X Y : Type 0} (P : X → Y → Type 0) (xs rest : List X) (ys : List Y) → length rest ≡ 0 → ((more : List Y) → Alike P rest more → Alike P xs (ys ++ more)) → Alike P xs ys
+pub alike_ended : {X Y : Type 0} (P : X → Y → Type 0) (xs rest : List X) (ys : List Y) → length rest ≡ 0
+    → ((more : List Y) → Alike P rest more → Alike P xs (ys ++ more)) → Alike P xs ys
 alike_ended P xs [] ys e h = subst (λ l. Alike P xs l) (append-nil ys) (h [] tt)
 alike_ended P xs (r ∷ rest) ys e h = absurd (omega (arith, e))
 
 -- the lists of closed senders are those of the senders
-pub shut_lists : {M S R C P : Type 0} (m : Mail.Ghosts M S R C P) (xs : List S) (ys : List C) → Alike (Shuts m) xs ys → map m.all_sent ys ≡ map m.sent xs
+pub shut_lists : {M S R C P : Type 0} (m : Mail.Ghosts M S R C P) (xs : List S) (ys : List C) → Alike (Shuts m) xs ys
+    → map m.all_sent ys ≡ map m.sent xs
 shut_lists m [] [] a = refl
 shut_lists m (x ∷ xs) (y ∷ ys) a = ap (λ (z : _ × _). z.0 ∷ z.1) (λ i. (a.0.0 i, shut_lists m xs ys a.1 i))
 shut_lists m [] (y ∷ ys) a = absurd a
@@ -90,4 +102,6 @@ shut_lists m (x ∷ xs) [] a = absurd a
 -- a sender that stayed the end of its mailbox and was then closed
 pub shut_on : {M S R C P : Type 0} (m : Mail.Ghosts M S R C P) (xs ys : List S) (zs : List C)
     → Alike (Stays m) xs ys → Alike (Shuts m) ys zs → Alike (λ s z. (r : R) → m.pairs s r → m.closes z r) xs zs
-shut_on {M} {S} {R} {C} {P} m = alike_trans (Stays m) (Shuts m) (λ (s : S) (z : C). (r : R) → m.pairs s r → m.closes z r) (λ x y z a b r p. b.1 r (a r p))
+shut_on {M} {S} {R} {C} {P} m =
+    alike_trans (Stays m) (Shuts m) (λ (s : S) (z : C). (r : R) → m.pairs s r → m.closes z r)
+    (λ x y z a b r p. b.1 r (a r p))

@@ -17,7 +17,8 @@ use Rattle.nll_worker.proofs.SumLemmas.{sum_same}
 use Rattle.nll_worker.proofs.ListLemmas.{set_length}
 use Rattle.nll_worker.proofs.TallyLemmas.{part_grows, given_same, all_given}
 
-pub other_read : {X : Type 0} (xs : List X) (n j : ℕ) (x d : X) → j ≢ n → slice_index_or (slice_set xs n x) j d ≡ slice_index_or xs j d
+pub other_read : {X : Type 0} (xs : List X) (n j : ℕ) (x d : X) → j ≢ n
+    → slice_index_or (slice_set xs n x) j d ≡ slice_index_or xs j d
 other_read xs n j x d differs = get_or-set_other xs n j x d differs
 
 pub read_replicate : {X : Type 0} (n j : ℕ) (x : X) → slice_index_or (replicate n x) j x ≡ x
@@ -38,55 +39,79 @@ take_within (suc n) (x ∷ xs) ys l = ap (λ zs. x ∷ zs) (take_within n xs ys 
 -- the growth that comes next is the one that is given out
 pub gives_next : (old new : Owner) (to : ℕ) (r : Option Growth) (g : Growth) → old.broken ≡ false → to < old.cut.owners
     → slice_get (part_for old to) (given_to old to) ≡ Some g
-    → IfSome r (λ growth. (old.broken ≡ false) × (slice_get (part_for old to) (given_to old to) ≡ Some growth) × (new ≡ record old { given = slice_set old.given to (given_to old to + 1) }))
+    → IfSome r (λ growth. (old.broken ≡ false) × (slice_get (part_for old to) (given_to old to) ≡ Some growth)
+    × (new ≡ record old { given = slice_set old.given to (given_to old to + 1) }))
     → IfNone r ((new ≡ old) × (old.broken ≡ false → to < old.cut.owners → given_to old to ≡ length (part_for old to)))
     → new ≡ record old { given = slice_set old.given to (given_to old to + 1) }
 gives_next old new to (Some x) g whole to_in next some none = some.2
-gives_next old new to None g whole to_in next some none = absurd (let l = slice_get_within (part_for old to) (given_to old to) g next in omega (arith, l, none.1 whole to_in))
+gives_next old new to None g whole to_in next some none =
+    absurd (let l = slice_get_within (part_for old to) (given_to old to) g next in omega (arith, l, none.1 whole to_in))
 
-module _ (old next : Owner) (before after : List (List Growth)) (to : ℕ) (p : HasPosted old before) (others : next ≡ record old { given = next.given })
-    (other_given : (j : ℕ) → j ≢ to → given_to next j ≡ given_to old j) (sent : log_of after to ≡ take (given_to next to) (part_for old to)) (rest : after ≡ slice_set before to (log_of after to)) where
+module _ (old next : Owner) (before after : List (List Growth)) (to : ℕ) (p : HasPosted old before)
+    (others : next ≡ record old { given = next.given })
+    (other_given : (j : ℕ) → j ≢ to → given_to next j ≡ given_to old j)
+    (sent : log_of after to ≡ take (given_to next to) (part_for old to))
+    (rest : after ≡ slice_set before to (log_of after to)) where
   part_was : (j : ℕ) → part_for next j ≡ part_for old j
   part_was j = ap (λ (o : Owner). part_for o j) others
 
   pub posted_on : HasPosted next after
   posted_on = record {
-    count = ap length rest ∙ (set_length before to (log_of after to) ∙ (p.count ∙ sym (ap (λ (o : Owner). o.cut.owners) others)));
+    count = ap length rest ∙ (set_length before to (log_of after to)
+        ∙ (p.count ∙ sym (ap (λ (o : Owner). o.cut.owners) others)));
     front = λ j l. ⊎_elim
-        (λ (here : j ≡ to). ap (log_of after) here ∙ (sent ∙ (ap (take (given_to next to)) (sym (part_was to)) ∙ ap (λ k. take (given_to next k) (part_for next k)) (sym here))))
-        (λ (other : j ≢ to). ap (λ xs. log_of xs j) rest ∙ (other_read before to j (log_of after to) [] other ∙ (p.front j (subst (λ (o : Owner). j < o.cut.owners) others l) ∙ (ap (λ n. take n (part_for old j)) (sym (other_given j other)) ∙ ap (take (given_to next j)) (sym (part_was j))))))
+        (λ (here : j ≡ to). ap (log_of after) here
+        ∙ (sent ∙ (ap (take (given_to next to)) (sym (part_was to))
+        ∙ ap (λ k. take (given_to next k) (part_for next k)) (sym here))))
+        (λ (other : j ≢ to). ap (λ xs. log_of xs j) rest
+        ∙ (other_read before to j (log_of after to) [] other
+        ∙ (p.front j (subst (λ (o : Owner). j < o.cut.owners) others l)
+        ∙ (ap (λ n. take n (part_for old j)) (sym (other_given j other))
+        ∙ ap (take (given_to next j)) (sym (part_was j))))))
         (cases_eq j to);
   }
 
-pub posts_grown : (old new : Owner) (posts : List (List Growth)) → HasGrown old new → IsSound old → HasPosted old posts → HasPosted new posts
+pub posts_grown : (old new : Owner) (posts : List (List Growth)) → HasGrown old new → IsSound old → HasPosted old posts
+    → HasPosted new posts
 posts_grown old new posts h sound p = record {
   count = p.count ∙ sym (ap (λ (k : Cut). k.owners) h.cut);
   front = λ j l.
       let b = part_grows old new h j in
-      p.front j (subst (λ (k : Cut). j < k.owners) h.cut l) ∙ (sym (take_within (given_to old j) (part_for old j) b.0 (sound.given j)) ∙ (ap (take (given_to old j)) (sym b.1) ∙ ap (λ n. take n (part_for new j)) (sym (given_same old new h j))));
+      p.front j (subst (λ (k : Cut). j < k.owners) h.cut l)
+      ∙ (sym (take_within (given_to old j) (part_for old j) b.0 (sound.given j))
+      ∙ (ap (take (given_to old j)) (sym b.1) ∙ ap (λ n. take n (part_for new j)) (sym (given_same old new h j))));
 }
 
-pub posts_first : (q : Problem) (c : Cut) (i : ℕ) (o : Owner) (posts : List (List Growth)) → o ≡ first_owner q c i → length posts ≡ c.owners → ((j : ℕ) → log_of posts j ≡ []) → HasPosted o posts
+pub posts_first : (q : Problem) (c : Cut) (i : ℕ) (o : Owner) (posts : List (List Growth)) → o ≡ first_owner q c i
+    → length posts ≡ c.owners → ((j : ℕ) → log_of posts j ≡ []) → HasPosted o posts
 posts_first q c i o posts first count none = subst (λ (x : Owner). HasPosted x posts) (sym first) (record {
   count = count;
-  front = λ j l. none j ∙ sym (ap (λ n. take n (part_for (first_owner q c i) j)) (read_replicate c.owners j 0) ∙ take_none (part_for (first_owner q c i) j));
+  front = λ j l. none j ∙ sym (ap (λ n. take n (part_for (first_owner q c i) j)) (read_replicate c.owners j 0)
+      ∙ take_none (part_for (first_owner q c i) j));
 })
 
 -- the front of each part was posted
-pub posts_front : (o : Owner) (posts : List (List Growth)) → HasPosted o posts → (j : ℕ) → j < o.cut.owners → IsPrefix (log_of posts j) (part_for o j)
-posts_front o posts p j l = subst (λ xs. IsPrefix xs (part_for o j)) (sym (p.front j l)) (drop (given_to o j) (part_for o j), sym (take-append-drop (given_to o j) (part_for o j)))
+pub posts_front : (o : Owner) (posts : List (List Growth)) → HasPosted o posts → (j : ℕ) → j < o.cut.owners
+    → IsPrefix (log_of posts j) (part_for o j)
+posts_front o posts p j l =
+    subst (λ xs. IsPrefix xs (part_for o j)) (sym (p.front j l))
+    (drop (given_to o j) (part_for o j), sym (take-append-drop (given_to o j) (part_for o j)))
 
 -- where nothing waits, all was posted
-pub posts_all : (o : Owner) (posts : List (List Growth)) (t : Tally) → IsSound o → HasPosted o posts → IsCounted o t → t.waiting ≡ 0 → (j : ℕ) → j < o.cut.owners → log_of posts j ≡ part_for o j
-posts_all o posts t sound p is none j l = p.front j l ∙ (ap (λ n. take n (part_for o j)) (all_given o t sound is none j l) ∙ take_all (part_for o j))
+pub posts_all : (o : Owner) (posts : List (List Growth)) (t : Tally) → IsSound o → HasPosted o posts → IsCounted o t
+    → t.waiting ≡ 0 → (j : ℕ) → j < o.cut.owners → log_of posts j ≡ part_for o j
+posts_all o posts t sound p is none j l = p.front j l
+    ∙ (ap (λ n. take n (part_for o j)) (all_given o t sound is none j l) ∙ take_all (part_for o j))
 
 -- all of one part more was given out
-pub given_more : (old next : Owner) (to : ℕ) → HasGivenAll to old → next ≡ record old { given = next.given } → ((j : ℕ) → j ≢ to → given_to next j ≡ given_to old j)
+pub given_more : (old next : Owner) (to : ℕ) → HasGivenAll to old → next ≡ record old { given = next.given }
+    → ((j : ℕ) → j ≢ to → given_to next j ≡ given_to old j)
     → given_to next to ≡ length (part_for old to) → HasGivenAll (to + 1) next
 given_more old next to was others other_given given j l =
     let part_was : (k : ℕ) → part_for next k ≡ part_for old k = λ k. ap (λ (o : Owner). part_for o k) others in
     ⊎_elim
-    (λ (here : j ≡ to). ap (given_to next) here ∙ (given ∙ (ap length (sym (part_was to)) ∙ ap (λ k. length (part_for next k)) (sym here))))
+    (λ (here : j ≡ to). ap (given_to next) here
+    ∙ (given ∙ (ap length (sym (part_was to)) ∙ ap (λ k. length (part_for next k)) (sym here))))
     (λ (other : j ≢ to). other_given j other ∙ (was j (below j to l other) ∙ ap length (sym (part_was j))))
     (cases_eq j to)
   where

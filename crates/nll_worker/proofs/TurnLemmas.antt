@@ -25,7 +25,8 @@ pub sum_more : (n : ℕ) (f f' : ℕ → ℕ) (j more : ℕ) → j < n → f' j 
     → sum_to n f' ≡ sum_to n f + more
 sum_more zero f f' j more l e other = absurd (omega (arith, l))
 sum_more (suc n) f f' j more l e other = ⊎_elim
-    (λ (h : j < n). let r = sum_more n f f' j more h e other in let x = other n (λ q. absurd (omega (arith, h, q))) in omega (arith, r, x))
+    (λ (h : j < n). let r = sum_more n f f' j more h e other in let x = other n (λ q. absurd (omega (arith, h, q))) in
+    omega (arith, r, x))
     (λ (h : j ≡ n).
     let r = sum_same n f' f (λ k m. other k (λ q. absurd (omega (arith, m, h, q)))) in
     let x : f' n ≡ f n + more = subst (λ k. f' k ≡ f k + more) h e in
@@ -36,36 +37,61 @@ sum_more (suc n) f f' j more l e other = ⊎_elim
     cases_last k n l = grind arith
 
 -- what was taken was received
-pub taken_all : (o : Owner) (taken : List (List Growth)) (cleared items : ℕ) → HasTaken o taken cleared items → HasTakenAll o taken
+pub taken_all : (o : Owner) (taken : List (List Growth)) (cleared items : ℕ) → HasTaken o taken cleared items
+    → HasTakenAll o taken
 taken_all o taken cleared items t j g l h = subst (λ xs. Contains xs g) (sym (t.heard j l)) h
 
 -- how an owner is before and after it received growths, or was refused to
-pub grown_some : (old new : Owner) → IsPrefix old.log new.log → new ≡ record old { log = new.log; received = new.received; clock = new.clock } → HasGrown old new
-grown_some old new b others = record { problem = ap (λ (o : Owner). o.problem) others; cut = ap (λ (o : Owner). o.cut) others; me = ap (λ (o : Owner). o.me) others; begins = b; given = ap (λ (o : Owner). o.given) others }
+pub grown_some : (old new : Owner) → IsPrefix old.log new.log
+    → new ≡ record old { log = new.log; received = new.received; clock = new.clock } → HasGrown old new
+grown_some old new b others =
+    record {
+      problem = ap (λ (o : Owner). o.problem) others;
+      cut = ap (λ (o : Owner). o.cut) others;
+      me = ap (λ (o : Owner). o.me) others;
+      begins = b;
+      given = ap (λ (o : Owner). o.given) others;
+    }
 
 pub grown_lost : (old new : Owner) (j : ℕ) (gs : List Growth) → IsGivenUp j gs old new → HasGrown old new
 grown_lost old new j gs lost =
     let others = lost.2 in
-    record { problem = ap (λ (o : Owner). o.problem) others; cut = ap (λ (o : Owner). o.cut) others; me = ap (λ (o : Owner). o.me) others; begins = lost.0; given = ap (λ (o : Owner). o.given) others }
+    record {
+      problem = ap (λ (o : Owner). o.problem) others;
+      cut = ap (λ (o : Owner). o.cut) others;
+      me = ap (λ (o : Owner). o.me) others;
+      begins = lost.0;
+      given = ap (λ (o : Owner). o.given) others;
+    }
 
-module _ (old : Owner) (taken : List (List Growth)) (owed cleared : ℕ) (t : Tally) (r : IsAtRest old taken owed cleared t) where
+module _ (old : Owner) (taken : List (List Growth)) (owed cleared : ℕ) (t : Tally)
+    (r : IsAtRest old taken owed cleared t) where
   -- more growths were taken, and received or not
-  module _ (after : List (List Growth)) (from : ℕ) (gs : List Growth) (more : log_of after from ≡ log_of taken from ++ gs) (rest : after ≡ slice_set taken from (log_of after from)) where
+  module _ (after : List (List Growth)) (from : ℕ) (gs : List Growth)
+      (more : log_of after from ≡ log_of taken from ++ gs)
+      (rest : after ≡ slice_set taken from (log_of after from)) where
     taken_here : (h : Growth) (some : List Growth) → IsPrefix some gs → from < old.cut.owners
         → Contains (received_from old from ++ some) h → Contains (log_of after from) h
     taken_here h some begins l at =
         let all : log_of after from ≡ (received_from old from ++ some) ++ begins.0 = more
-        ∙ (ap (λ xs. xs ++ gs) (r.taking.heard from l) ∙ (ap (λ xs. received_from old from ++ xs) begins.1 ∙ sym (append_assoc (received_from old from) some begins.0))) in
+        ∙ (ap (λ xs. xs ++ gs) (r.taking.heard from l)
+        ∙ (ap (λ xs. received_from old from ++ xs) begins.1
+        ∙ sym (append_assoc (received_from old from) some begins.0))) in
         subst (λ xs. Contains xs h) (sym all) (Contains-append_left (received_from old from ++ some) begins.0 h at)
 
     taken_still : (j : ℕ) (h : Growth) → Contains (log_of taken j) h → Contains (log_of after j) h
     taken_still j h at = ⊎_elim
-        (λ (here : j ≡ from). subst (λ k. Contains (log_of after k) h) (sym here) (subst (λ xs. Contains xs h) (sym more) (Contains-append_left (log_of taken from) gs h (subst (λ k. Contains (log_of taken k) h) here at))))
-        (λ (other : j ≢ from). subst (λ xs. Contains xs h) (sym (ap (λ xs. log_of xs j) rest ∙ other_read taken from j (log_of after from) [] other)) at)
+        (λ (here : j ≡ from). subst (λ k. Contains (log_of after k) h) (sym here)
+        (subst (λ xs. Contains xs h) (sym more)
+        (Contains-append_left (log_of taken from) gs h (subst (λ k. Contains (log_of taken k) h) here at))))
+        (λ (other : j ≢ from). subst (λ xs. Contains xs h)
+        (sym (ap (λ xs. log_of xs j) rest ∙ other_read taken from j (log_of after from) [] other)) at)
         (cases_eq j from)
 
     pub taken_same : (new : Owner) → new ≡ old → HasTakenAll new after
-    taken_same new same = subst (λ (o : Owner). HasTakenAll o after) (sym same) (λ j h l at. taken_still j h (taken_all old taken cleared 0 r.taking j h l at))
+    taken_same new same =
+        subst (λ (o : Owner). HasTakenAll o after) (sym same)
+        (λ j h l at. taken_still j h (taken_all old taken cleared 0 r.taking j h l at))
 
     pub taken_lost : (new : Owner) → from < old.cut.owners → IsGivenUp from gs old new → HasTakenAll new after
     taken_lost new from_in lost j h l at =
@@ -74,19 +100,27 @@ module _ (old : Owner) (taken : List (List Growth)) (owed cleared : ℕ) (t : Ta
         let got = lost.3 in
         ⊎_elim
         (λ (here : j ≡ from).
-        let lists : received_from new from ≡ received_from old from ++ got.0 = ap (λ xs. slice_index_or xs from []) got.2
-        ∙ set_log old.received from (received_from old from ++ got.0) [] (omega (arith, from_in, r.working.sound.senders)) in
+        let lists : received_from new from ≡ received_from old from ++ got.0 =
+        ap (λ xs. slice_index_or xs from []) got.2
+        ∙ set_log old.received from (received_from old from ++ got.0) []
+        (omega (arith, from_in, r.working.sound.senders)) in
         subst (λ k. Contains (log_of after k) h) (sym here)
-        (taken_here h got.0 got.1 from_in (subst (λ xs. Contains xs h) lists (subst (λ k. Contains (received_from new k) h) here at))))
+        (taken_here h got.0 got.1 from_in (subst (λ xs. Contains xs h) lists
+        (subst (λ k. Contains (received_from new k) h) here at))))
         (λ (other : j ≢ from).
         taken_still j h
-        (before j h was (subst (λ xs. Contains xs h) (ap (λ xs. slice_index_or xs j []) got.2 ∙ other_read old.received from j (received_from old from ++ got.0) [] other) at)))
+        (before j h was (subst (λ xs. Contains xs h)
+        (ap (λ xs. slice_index_or xs j []) got.2
+        ∙ other_read old.received from j (received_from old from ++ got.0) [] other) at)))
         (cases_eq j from)
 
-  pub rests_same : (new : Owner) (after : List (List Growth)) (from : ℕ) → new ≡ old → log_of after from ≡ log_of taken from → after ≡ slice_set taken from (log_of after from) → IsAtRest new after owed cleared t
+  pub rests_same : (new : Owner) (after : List (List Growth)) (from : ℕ) → new ≡ old
+      → log_of after from ≡ log_of taken from → after ≡ slice_set taken from (log_of after from)
+      → IsAtRest new after owed cleared t
   rests_same new after from same none others =
       let kept : after ≡ taken = others ∙ (ap (slice_set taken from) none ∙ set_own taken from []) in
-      subst (λ (o : Owner). IsAtRest o after owed cleared t) (sym same) (subst (λ xs. IsAtRest old xs owed cleared t) (sym kept) r)
+      subst (λ (o : Owner). IsAtRest o after owed cleared t) (sym same)
+      (subst (λ xs. IsAtRest old xs owed cleared t) (sym kept) r)
 
   module _ (new : Owner) (others : new ≡ record old { log = new.log; received = new.received; clock = new.clock }) where
     owners_same : new.cut.owners ≡ old.cut.owners
@@ -101,43 +135,54 @@ module _ (old : Owner) (taken : List (List Growth)) (owed cleared : ℕ) (t : Ta
       owes = owes;
     }
 
-    module _ (from : ℕ) (gs : List Growth) (after : List (List Growth)) (from_in : from < old.cut.owners) (received : new.received ≡ with_growths old.received from gs)
-        (more : log_of after from ≡ log_of taken from ++ gs) (rest : after ≡ slice_set taken from (log_of after from)) (few : length (log_of after from) ≤ 2 ^ 37) where
+    module _ (from : ℕ) (gs : List Growth) (after : List (List Growth)) (from_in : from < old.cut.owners)
+        (received : new.received ≡ with_growths old.received from gs)
+        (more : log_of after from ≡ log_of taken from ++ gs) (rest : after ≡ slice_set taken from (log_of after from))
+        (few : length (log_of after from) ≤ 2 ^ 37) where
       apart : (k : ℕ) → k ≢ from → log_of after k ≡ log_of taken k
       apart k differs = ap (λ xs. log_of xs k) rest ∙ other_read taken from k (log_of after from) [] differs
 
       heard_at : log_of after from ≡ received_from new from
       heard_at = more ∙ (ap (λ xs. xs ++ gs) (r.taking.heard from from_in)
-          ∙ sym (ap (λ xs. slice_index_or xs from []) received ∙ set_log old.received from (received_from old from ++ gs) [] (omega (arith, from_in, r.working.sound.senders))))
+          ∙ sym (ap (λ xs. slice_index_or xs from []) received
+          ∙ set_log old.received from (received_from old from ++ gs) []
+          (omega (arith, from_in, r.working.sound.senders))))
 
       heard_other : (k : ℕ) → k < old.cut.owners → k ≢ from → log_of after k ≡ received_from new k
       heard_other k l differs = apart k differs
-          ∙ (r.taking.heard k l ∙ sym (ap (λ xs. slice_index_or xs k []) received ∙ other_read old.received from k (received_from old from ++ gs) [] differs))
+          ∙ (r.taking.heard k l ∙ sym (ap (λ xs. slice_index_or xs k []) received
+          ∙ other_read old.received from k (received_from old from ++ gs) [] differs))
 
       by_place : (P : ℕ → Type 0) → P from → ((k : ℕ) → k ≢ from → P k) → (k : ℕ) → P k
-      by_place P here there k = ⊎_elim (λ (e : k ≡ from). subst P (sym e) here) (λ (e : k ≢ from). there k e) (cases_eq k from)
+      by_place P here there k =
+          ⊎_elim (λ (e : k ≡ from). subst P (sym e) here) (λ (e : k ≢ from). there k e) (cases_eq k from)
 
       pub some_take : (cleared' : ℕ) → cleared' ≡ cleared + length gs → HasTaken new after cleared' 0
       some_take cleared' is = record {
         count = ap length rest ∙ (set_length taken from (log_of after from) ∙ (r.taking.count ∙ sym owners_same));
-        heard = by_place (λ k. k < new.cut.owners → log_of after k ≡ received_from new k) (λ l. heard_at) (λ k differs l. heard_other k (omega (arith, l, owners_same)) differs);
+        heard = by_place (λ k. k < new.cut.owners → log_of after k ≡ received_from new k) (λ l. heard_at)
+            (λ k differs l. heard_other k (omega (arith, l, owners_same)) differs);
         few = by_place (λ k. k < new.cut.owners → length (log_of after k) ≤ 2 ^ 37) (λ l. few)
-            (λ k differs l. subst (λ xs. length xs ≤ 2 ^ 37) (sym (apart k differs)) (r.taking.few k (omega (arith, l, owners_same))));
+            (λ k differs l. subst (λ xs. length xs ≤ 2 ^ 37) (sym (apart k differs))
+            (r.taking.few k (omega (arith, l, owners_same))));
         clears =
-            let s = sum_more old.cut.owners (λ k. length (log_of taken k)) (λ k. length (log_of after k)) from (length gs) from_in
+            let s = sum_more old.cut.owners (λ k. length (log_of taken k)) (λ k. length (log_of after k)) from
+            (length gs) from_in
             (ap length more ∙ length-append (log_of taken from) gs) (λ k differs. ap length (apart k differs)) in
             let same = ap (λ n. sum_to n (λ k. length (log_of after k))) owners_same in
             omega (arith, is, s, same, r.taking.clears);
       }
 
 -- few items are cleared
-pub cleared_small : (o : Owner) (taken : List (List Growth)) (cleared items : ℕ) → o.cut.owners ≤ 64 → HasTaken o taken cleared items → cleared ≤ 1 + 64 * 2 ^ 37
+pub cleared_small : (o : Owner) (taken : List (List Growth)) (cleared items : ℕ) → o.cut.owners ≤ 64
+    → HasTaken o taken cleared items → cleared ≤ 1 + 64 * 2 ^ 37
 cleared_small o taken cleared items few t =
     let s = sum_bound o.cut.owners (λ j. length (log_of taken j)) (2 ^ 37) t.few in
     omega (arith, s, few, t.clears)
 
 -- a growth that can't be its sender's
-pub stray_same : (old new : Owner) (got : ℕ → List Growth) → new ≡ old → HasStray old.problem old.cut old.me got → HasStray new.problem new.cut new.me got
+pub stray_same : (old new : Owner) (got : ℕ → List Growth) → new ≡ old → HasStray old.problem old.cut old.me got
+    → HasStray new.problem new.cut new.me got
 stray_same old new got same h = subst (λ (o : Owner). HasStray o.problem o.cut o.me got) (sym same) h
 
 -- ---- what was given out changes nothing of this
@@ -146,7 +191,9 @@ module _ (old new : Owner) (others : new ≡ record old { given = new.given }) (
   pub taken_given : HasTakenAll old taken → HasTakenAll new taken
   taken_given h = subst (λ (o : Owner). HasTakenAll o taken) (sym others) h
 
-  pub rests_given : (owed cleared : ℕ) (t t' : Tally) → IsSound new → IsCounted new t' → (t'.turns ≡ t.turns) × (t'.cleared ≡ t.cleared) → IsAtRest old taken owed cleared t → IsAtRest new taken owed cleared t'
+  pub rests_given : (owed cleared : ℕ) (t t' : Tally) → IsSound new → IsCounted new t'
+      → (t'.turns ≡ t.turns) × (t'.cleared ≡ t.cleared) → IsAtRest old taken owed cleared t
+      → IsAtRest new taken owed cleared t'
   rests_given owed cleared t t' sound counted same r = record {
     working = subst (λ (o : Owner). IsWorking o owed) (sym others) (record {
       sound = subst IsSound others sound;
@@ -166,34 +213,52 @@ module _ (old new : Owner) (others : new ≡ record old { given = new.given }) (
     turns = omega (arith, same.0, r.turns);
   }
 
-  pub comes_given : (owed cleared : ℕ) (t t' : Tally) → IsSound new → IsCounted new t' → (t'.turns ≡ t.turns) × (t'.cleared ≡ t.cleared) → (heard : Heard) → ComesTo old taken owed cleared t heard → ComesTo new taken owed cleared t' heard
+  pub comes_given : (owed cleared : ℕ) (t t' : Tally) → IsSound new → IsCounted new t'
+      → (t'.turns ≡ t.turns) × (t'.cleared ≡ t.cleared) → (heard : Heard) → ComesTo old taken owed cleared t heard
+      → ComesTo new taken owed cleared t' heard
   comes_given owed cleared t t' sound counted same Nothing came = rests_given owed cleared t t' sound counted same came
   comes_given owed cleared t t' sound counted same Growths came = rests_given owed cleared t t' sound counted same came
-  comes_given owed cleared t t' sound counted same Stray came = (subst (λ (o : Owner). HasStray o.problem o.cut o.me (log_of taken)) (sym others) came.0, taken_given came.1)
+  comes_given owed cleared t t' sound counted same Stray came =
+      (subst (λ (o : Owner). HasStray o.problem o.cut o.me (log_of taken)) (sym others) came.0, taken_given came.1)
   comes_given owed cleared t t' sound counted same Memory came = taken_given came
 
-pub rests_open : (o : Owner) (taken : List (List Growth)) (owed cleared owed' cleared' : ℕ) (t : Tally) → owed' ≡ owed → cleared' ≡ cleared → IsAtRest o taken owed cleared t → IsAtRest o taken owed' cleared' t
-rests_open o taken owed cleared owed' cleared' t a b r = subst (λ (y : ℕ × ℕ). IsAtRest o taken y.0 y.1 t) (λ i. (sym a i, sym b i)) r
+pub rests_open : (o : Owner) (taken : List (List Growth)) (owed cleared owed' cleared' : ℕ) (t : Tally) → owed' ≡ owed
+    → cleared' ≡ cleared → IsAtRest o taken owed cleared t → IsAtRest o taken owed' cleared' t
+rests_open o taken owed cleared owed' cleared' t a b r =
+    subst (λ (y : ℕ × ℕ). IsAtRest o taken y.0 y.1 t) (λ i. (sym a i, sym b i)) r
 
 -- ---- the first turn
 
-sum_empty : (n : ℕ) (lists : List (List Growth)) → ((j : ℕ) → log_of lists j ≡ []) → sum_to n (λ j. length (log_of lists j)) ≡ 0
+sum_empty : (n : ℕ) (lists : List (List Growth)) → ((j : ℕ) → log_of lists j ≡ [])
+    → sum_to n (λ j. length (log_of lists j)) ≡ 0
 sum_empty n lists none = sum_same n (λ j. length (log_of lists j)) (λ j. 0) (λ j l. ap length (none j)) ∙ sum_zero n
 
-module _ (q : Problem) (c : Cut) (i : ℕ) (old new : Owner) (first : old ≡ first_owner q c i) (others : new ≡ record old { log = new.log; clock = new.clock; loaded = new.loaded; broken = new.broken }) where
-  begun : new ≡ record (first_owner q c i) { log = new.log; clock = new.clock; loaded = new.loaded; broken = new.broken }
-  begun = others ∙ ap (λ (o : Owner). record o { log = new.log; clock = new.clock; loaded = new.loaded; broken = new.broken }) first
+module _ (q : Problem) (c : Cut) (i : ℕ) (old new : Owner) (first : old ≡ first_owner q c i)
+    (others : new ≡ record old { log = new.log; clock = new.clock; loaded = new.loaded; broken = new.broken }) where
+  begun : new ≡ record (first_owner q c i)
+      { log = new.log; clock = new.clock; loaded = new.loaded; broken = new.broken }
+  begun = others ∙ ap (λ (o : Owner). record o
+      { log = new.log; clock = new.clock; loaded = new.loaded; broken = new.broken }) first
 
   pub first_grows : IsPrefix old.log new.log → HasGrown old new
-  first_grows b = record { problem = ap (λ (o : Owner). o.problem) others; cut = ap (λ (o : Owner). o.cut) others; me = ap (λ (o : Owner). o.me) others; begins = b; given = ap (λ (o : Owner). o.given) others }
+  first_grows b =
+      record {
+        problem = ap (λ (o : Owner). o.problem) others;
+        cut = ap (λ (o : Owner). o.cut) others;
+        me = ap (λ (o : Owner). o.me) others;
+        begins = b;
+        given = ap (λ (o : Owner). o.given) others;
+      }
 
   -- it received nothing
   pub none_taken : (taken : List (List Growth)) → HasTakenAll new taken
   none_taken taken j g l h =
-      let none : received_from new j ≡ [] = ap (λ (o : Owner). received_from o j) begun ∙ read_replicate c.owners j [] in
+      let none : received_from new j ≡ [] = ap (λ (o : Owner). received_from o j) begun
+      ∙ read_replicate c.owners j [] in
       absurd (omega (arith, (subst (λ (xs : List Growth). Contains xs g) none h).1))
 
-  pub first_takes : (taken : List (List Growth)) (cleared : ℕ) → AreAllEmpty c.owners taken → cleared ≡ 1 → HasTaken new taken cleared 0
+  pub first_takes : (taken : List (List Growth)) (cleared : ℕ) → AreAllEmpty c.owners taken → cleared ≡ 1
+      → HasTaken new taken cleared 0
   first_takes taken cleared none is = record {
     count = none.0 ∙ sym (ap (λ (o : Owner). o.cut.owners) begun);
     heard = λ j l. none.1 j ∙ sym (ap (λ (o : Owner). received_from o j) begun ∙ read_replicate c.owners j []);

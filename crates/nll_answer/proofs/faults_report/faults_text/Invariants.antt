@@ -5,4 +5,5 @@ use Rattle.nll_answer.specs.Report.{fault_line}
 use Rattle.nll_answer.proofs.faults_report.faults_text.Given as goal
 
 abbrev pub invariant-loop-longer : goal.invariant-loop-longer
-invariant-loop-longer l = string_bytes l.out ≡ string_bytes l.initial.out ++ flat_map (fault_line l.labels) (take l.longer-index l.faults)
+invariant-loop-longer l =
+    string_bytes l.out ≡ string_bytes l.initial.out ++ flat_map (fault_line l.labels) (take l.longer-index l.faults)

@@ -7,4 +7,5 @@ pub returns-clause-ok : goal.returns-clause-ok
 returns-clause-ok c = IfOk-weaker c.facts_of.result _ _ (λ q means. inl means) c.facts_of.ensures.ok
 
 pub returns-clause-err : goal.returns-clause-err
-returns-clause-err c = IfErr-weaker c.facts_of.result _ _ (λ e wrong. as_facts c.args.text.now e c.requires wrong) c.facts_of.ensures.err
+returns-clause-err c =
+    IfErr-weaker c.facts_of.result _ _ (λ e wrong. as_facts c.args.text.now e c.requires wrong) c.facts_of.ensures.err

@@ -3,8 +3,10 @@ use Rattle.nll_answer.proofs.MeaningLemmas.{told_err, told_ok}
 use Rattle.nll_answer.proofs.meant_problem.facts_of.Goals as goal
 
 pub returns-clause-ok : goal.returns-clause-ok
-returns-clause-ok c = told_ok _ c.read_facts.result c.told.result c.told.ensures.ok c.told.ensures.err c.read_facts.ensures.ok
+returns-clause-ok c =
+    told_ok _ c.read_facts.result c.told.result c.told.ensures.ok c.told.ensures.err c.read_facts.ensures.ok
 
 pub returns-clause-err : goal.returns-clause-err
 returns-clause-err c =
-    told_err (IsFactsFault c.args.text.now) c.read_facts.result c.told.result c.told.ensures.ok c.told.ensures.err c.read_facts.ensures.fault
+    told_err (IsFactsFault c.args.text.now) c.read_facts.result c.told.result c.told.ensures.ok c.told.ensures.err
+    c.read_facts.ensures.fault

@@ -8,4 +8,5 @@ read_mir_meaning-requires c = subst IsMir c.as_slice.ensures.value (c.is_mir.ens
 
 pub facts_meaning-facts-requires : goal.facts_meaning-facts-requires
 facts_meaning-facts-requires c = λ of. false≢true
-    (sym c.if-is_mir.false ∙ c.is_mir.ensures.1 (subst IsMir (c.as_slice-else-is_mir.ensures.value ∙ sym c.as_slice.ensures.value) of))
+    (sym c.if-is_mir.false ∙ c.is_mir.ensures.1
+    (subst IsMir (c.as_slice-else-is_mir.ensures.value ∙ sym c.as_slice.ensures.value) of))

@@ -10,10 +10,15 @@ returns-in_err-body-clause-err c =
 
 pub returns-clause-ok : goal.returns-clause-ok
 returns-clause-ok c =
-    IfOk-weaker c.facts_of_body.result _ _ (λ q h. inr (c.in_ok-body.body, c.in_ok-body.ensures.ok, h)) c.facts_of_body.ensures.ok
+    IfOk-weaker c.facts_of_body.result _ _
+    (λ q h. inr (c.in_ok-body.body, c.in_ok-body.ensures.ok, h)) c.facts_of_body.ensures.ok
 
 pub returns-clause-named : goal.returns-clause-named
-returns-clause-named c = IfOk-weaker c.facts_of_body.result _ _ (λ q h. named c.in_ok-body.body q.problem q.labels h) c.facts_of_body.ensures.ok
+returns-clause-named c =
+    IfOk-weaker c.facts_of_body.result _ _
+    (λ q h. named c.in_ok-body.body q.problem q.labels h) c.facts_of_body.ensures.ok
 
 pub returns-clause-err : goal.returns-clause-err
-returns-clause-err c = IfErr-weaker c.facts_of_body.result _ _ (λ e wrong. as_body c.args.text.items c.in_ok-body.body e c.in_ok-body.ensures.ok wrong) c.facts_of_body.ensures.err
+returns-clause-err c =
+    IfErr-weaker c.facts_of_body.result _ _
+    (λ e wrong. as_body c.args.text.items c.in_ok-body.body e c.in_ok-body.ensures.ok wrong) c.facts_of_body.ensures.err

@@ -5,4 +5,6 @@ use Rattle.nll_answer.specs.Report.{element_text}
 use Rattle.nll_answer.proofs.values_report.push_runs.Given as goal
 
 abbrev pub invariant-loop-run : goal.invariant-loop-run
-invariant-loop-run l = l.out.items ≡ l.fn.out.items ++ flat_map (λ e. 32 ∷ element_text l.labels l.points e) (numbers (take l.run-index l.runs))
+invariant-loop-run l =
+    l.out.items ≡ l.fn.out.items ++ flat_map (λ e. 32 ∷ element_text l.labels l.points e)
+    (numbers (take l.run-index l.runs))

@@ -15,10 +15,14 @@ loop-place-preserved c =
     let within : c.loop-place.place < length c.args.one.now = omega arith in
     let there : c.loop-place.place < length c.args.other.now = omega (arith, c.loop-place.invariant.lengths) in record {
       lengths = c.loop-place.invariant.lengths;
-      same = λ structs variables known. more_like {B = Option TypeTree × TypeTree} (λ a. (operand_type structs variables (operand_of a.0), tree a.1)) c.args.one.now c.args.other.now c.loop-place.place one other
+      same = λ structs variables known. more_like {B = Option TypeTree × TypeTree}
+          (λ a. (operand_type structs variables (operand_of a.0), tree a.1)) c.args.one.now c.args.other.now
+          c.loop-place.place one other
           within there c.index-one-place.is c.index-other-place.is
-          (ap (λ (o : Option TypeTree). (o, tree one.1)) (c.is_like_argument.ensures.operand c.if-not-is_like_argument.false structs variables known)
-          ∙ ap (λ (t : TypeTree). (operand_type structs variables (operand_of other.0), t)) (c.is_like_argument.ensures.ty c.if-not-is_like_argument.false))
+          (ap (λ (o : Option TypeTree). (o, tree one.1))
+          (c.is_like_argument.ensures.operand c.if-not-is_like_argument.false structs variables known)
+          ∙ ap (λ (t : TypeTree). (operand_type structs variables (operand_of other.0), t))
+          (c.is_like_argument.ensures.ty c.if-not-is_like_argument.false))
           (c.loop-place.invariant.same structs variables known);
     }
 
@@ -26,4 +30,6 @@ pub returns : goal.returns
 returns c = λ _ structs variables known.
     let past : length c.args.one.now ≤ c.loop-place.place = omega arith in
     let over : length c.args.other.now ≤ c.loop-place.place = omega (arith, c.loop-place.invariant.lengths) in
-    all_like {B = Option TypeTree × TypeTree} (λ a. (operand_type structs variables (operand_of a.0), tree a.1)) c.args.one.now c.args.other.now c.loop-place.place past over (c.loop-place.invariant.same structs variables known)
+    all_like {B = Option TypeTree × TypeTree}
+    (λ a. (operand_type structs variables (operand_of a.0), tree a.1)) c.args.one.now c.args.other.now
+    c.loop-place.place past over (c.loop-place.invariant.same structs variables known)

@@ -7,4 +7,5 @@ returns c = λ _.
     let lengths = c.loop-place.invariant.lengths in
     let past : length c.args.one.now ≤ c.loop-place.place = omega arith in
     let past_other : length c.args.other.now ≤ c.loop-place.place = omega arith in
-    sym (take_all c.loop-place.place c.args.one.now past) ∙ (c.loop-place.invariant.same ∙ take_all c.loop-place.place c.args.other.now past_other)
+    sym (take_all c.loop-place.place c.args.one.now past)
+    ∙ (c.loop-place.invariant.same ∙ take_all c.loop-place.place c.args.other.now past_other)

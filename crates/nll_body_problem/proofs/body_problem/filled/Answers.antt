@@ -2,12 +2,15 @@ use Rattle.nll_body_problem.proofs.WholeLemmas.{finished_is, not_too_many, is_no
 use Rattle.nll_body_problem.proofs.body_problem.filled.Goals as goal
 
 pub returns-in-Ok-clause-ok : goal.returns-in-Ok-clause-ok
-returns-in-Ok-clause-ok c = finished_is c.args.body.now c.fill.new.builder c.finished.result c.in-Ok.ensures.ok c.finished.ensures.same c.finished.ensures.others
+returns-in-Ok-clause-ok c =
+    finished_is c.args.body.now c.fill.new.builder c.finished.result c.in-Ok.ensures.ok c.finished.ensures.same
+    c.finished.ensures.others
 
 pub returns-in-Ok-clause-few : goal.returns-in-Ok-clause-few
 returns-in-Ok-clause-few c =
     not_too_many c.args.body.now c.finished.result
-    (finished_is c.args.body.now c.fill.new.builder c.finished.result c.in-Ok.ensures.ok c.finished.ensures.same c.finished.ensures.others)
+    (finished_is c.args.body.now c.fill.new.builder c.finished.result c.in-Ok.ensures.ok c.finished.ensures.same
+    c.finished.ensures.others)
     c.finished.ensures.sound
 
 pub told_of-requires-clause-points : goal.told_of-requires-clause-points

@@ -13,7 +13,11 @@ next_of-requires c = omega (arith, c.graph.ensures.points, c.requires.point)
 
 -- the successors are the points that may come after
 goes : (c : After-next_of) → (q : ℕ) → Contains c.next_of.result.now q ↔ GoesOn c.args.body.now c.args.point q
-goes c = λ q. (λ h. (c.graph.ensures.next c.args.point q).0 ((c.next_of.ensures.each q).0 h), λ g. (c.next_of.ensures.each q).1 ((c.graph.ensures.next c.args.point q).1 g))
+goes c =
+    λ q. (
+      λ h. (c.graph.ensures.next c.args.point q).0 ((c.next_of.ensures.each q).0 h),
+      λ g. (c.next_of.ensures.each q).1 ((c.graph.ensures.next c.args.point q).1 g),
+    )
 
 pub add_pairs-requires-clause-points : goal.add_pairs-requires-clause-points
 add_pairs-requires-clause-points c =
@@ -29,7 +33,8 @@ pub returns-clause-ok : goal.returns-clause-ok
 returns-clause-ok c =
     let d = goal.at.returns-clause-ok c in
     adds_same _ (IsAskedAt c.args.body.now c.args.point) c.args.builder.now c.add_pairs.new.builder
-    (known_here c.args.body.now c.args.point c.next_of.result.now c.args.pairs.now (goes d.After-next_of) c.requires.asked)
+    (known_here c.args.body.now c.args.point c.next_of.result.now c.args.pairs.now
+    (goes d.After-next_of) c.requires.asked)
     c.in_ok-add_pairs.ensures.ok
 
 pub returns-in_err-add_pairs-clause-err : goal.returns-in_err-add_pairs-clause-err
@@ -37,5 +42,6 @@ returns-in_err-add_pairs-clause-err c =
     let d = goal.at.returns-in_err-add_pairs-clause-err c in
     let p = err_from_is_err_and c.from_residual.result c.from_residual.ensures.1 in
     rw (p.1, p.2) (refused_same _ (IsAskedAt c.args.body.now c.args.point) c.args.builder.now _
-    (λ k. (known_here c.args.body.now c.args.point c.next_of.result.now c.args.pairs.now (goes d.After-next_of) c.requires.asked k).0)
+    (λ k. (known_here c.args.body.now c.args.point c.next_of.result.now c.args.pairs.now
+    (goes d.After-next_of) c.requires.asked k).0)
     c.in_err-add_pairs.ensures.err)

@@ -15,20 +15,31 @@ pub next_of-requires : goal.next_of-requires
 next_of-requires c = omega (arith, c.graph.ensures.points, c.requires.point)
 
 -- the successors are the points that may come after
-goes : (c : After-next_of) → (q : ℕ) → Contains c.next_of.result.now q ↔ GoesOn c.args.survey.now.body.now c.args.point q
-goes c = λ q. (λ h. (c.graph.ensures.next c.args.point q).0 ((c.next_of.ensures.each q).0 h), λ g. (c.next_of.ensures.each q).1 ((c.graph.ensures.next c.args.point q).1 g))
+goes : (c : After-next_of) → (q : ℕ)
+    → Contains c.next_of.result.now q ↔ GoesOn c.args.survey.now.body.now c.args.point q
+goes c =
+    λ q. (
+      λ h. (c.graph.ensures.next c.args.point q).0 ((c.next_of.ensures.each q).0 h),
+      λ g. (c.next_of.ensures.each q).1 ((c.graph.ensures.next c.args.point q).1 g),
+    )
 
 -- the pairs are what the statement asks
-pairs : (c : After-as_slice) → (x : ℕ × ℕ) → Contains c.as_slice.result.now x ↔ Asks c.args.survey.now.body.now.structs c.args.survey.now.body.now.variables (meant c.line_at.result.now) x
+pairs : (c : After-as_slice) → (x : ℕ × ℕ)
+    → Contains c.as_slice.result.now x ↔ Asks c.args.survey.now.body.now.structs c.args.survey.now.body.now.variables
+    (meant c.line_at.result.now) x
 pairs c =
-    kept_asked c.args.survey.now.body.now (meant c.line_at.result.now) _ _ c.clear.new.self.items c.asks.new.asked.items c.keep_once-many.new.pairs.items c.as_slice.result.now
-    c.structs.ensures c.variable_types.ensures c.clear.ensures.items c.in_ok-asks.ensures c.keep_once-many.ensures c.as_slice.ensures.value
+    kept_asked c.args.survey.now.body.now
+    (meant c.line_at.result.now) _ _ c.clear.new.self.items c.asks.new.asked.items c.keep_once-many.new.pairs.items
+    c.as_slice.result.now
+    c.structs.ensures c.variable_types.ensures c.clear.ensures.items c.in_ok-asks.ensures c.keep_once-many.ensures
+    c.as_slice.ensures.value
 
 pub returns-clause-asked : goal.returns-clause-asked
 returns-clause-asked c =
     let d = (goal.at.returns-clause-asked c).After-as_slice in
     subst (AreAskedAt c.args.survey.now.body.now c.args.point) c.as_slice.ensures.value
-    (asked_pairs c.args.survey.now.body.now c.args.point (meant c.line_at.result.now) c.as_slice.result.now c.line_at.ensures (pairs d))
+    (asked_pairs c.args.survey.now.body.now c.args.point
+    (meant c.line_at.result.now) c.as_slice.result.now c.line_at.ensures (pairs d))
 
 pub add_pairs-requires-clause-points : goal.add_pairs-requires-clause-points
 add_pairs-requires-clause-points c =
@@ -39,13 +50,16 @@ pub add_pairs-requires-clause-regions : goal.add_pairs-requires-clause-regions
 add_pairs-requires-clause-regions c =
     let d = (goal.at.add_pairs-requires-clause-regions c).After-as_slice in
     λ x h. subst (λ (n : ℕ). (x.0 < n) × (x.1 < n)) (sym c.requires.regions)
-    (asks_below c.args.survey.now.body.now c.requires.sound c.args.point (meant c.line_at.result.now) c.line_at.ensures x ((pairs d x).0 h))
+    (asks_below c.args.survey.now.body.now c.requires.sound c.args.point
+    (meant c.line_at.result.now) c.line_at.ensures x ((pairs d x).0 h))
 
 pub returns-clause-ok : goal.returns-clause-ok
 returns-clause-ok c =
     let d = goal.at.returns-clause-ok c in
     adds_same _ (IsAskedAt c.args.survey.now.body.now c.args.point) c.args.builder.now c.add_pairs.new.builder
-    (asked_here c.args.survey.now.body.now c.args.point (meant c.line_at.result.now) c.next_of.result.now c.as_slice.result.now c.line_at.ensures (goes d.After-next_of) (pairs d.After-as_slice))
+    (asked_here c.args.survey.now.body.now c.args.point
+    (meant c.line_at.result.now) c.next_of.result.now c.as_slice.result.now c.line_at.ensures (goes d.After-next_of)
+    (pairs d.After-as_slice))
     c.in_ok-add_pairs.ensures.ok
 
 pub returns-in_err-add_pairs-clause-err : goal.returns-in_err-add_pairs-clause-err
@@ -53,5 +67,7 @@ returns-in_err-add_pairs-clause-err c =
     let d = goal.at.returns-in_err-add_pairs-clause-err c in
     let p = err_from_is_err_and c.from_residual-in_err-add_pairs.result c.from_residual-in_err-add_pairs.ensures.1 in
     rw (p.1, p.2) (refused_same _ (IsAskedAt c.args.survey.now.body.now c.args.point) c.args.builder.now _
-    (λ k. (asked_here c.args.survey.now.body.now c.args.point (meant c.line_at.result.now) c.next_of.result.now c.as_slice.result.now c.line_at.ensures (goes d.After-next_of) (pairs d.After-as_slice) k).0)
+    (λ k. (asked_here c.args.survey.now.body.now c.args.point
+    (meant c.line_at.result.now) c.next_of.result.now c.as_slice.result.now c.line_at.ensures (goes d.After-next_of)
+    (pairs d.After-as_slice) k).0)
     c.in_err-add_pairs.ensures.err)

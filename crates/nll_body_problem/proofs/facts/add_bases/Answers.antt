@@ -13,7 +13,9 @@ pub loop-run-init : goal.loop-run-init
 loop-run-init c = bases_none c.args.builder.now
 
 -- the run is of a region and of points of the problem
-known : (c : After-run-item) → IsProper c.run-item.result → (c.run-item.result.region < c.loop-run.builder.regions) × (c.run-item.result.end ≤ c.loop-run.builder.graph.points)
+known : (c : After-run-item) → IsProper c.run-item.result
+    → (c.run-item.result.region < c.loop-run.builder.regions)
+    × (c.run-item.result.end ≤ c.loop-run.builder.graph.points)
 known c proper =
     let run = c.run-item.result in
     let kept = c.loop-run.invariant.others in
@@ -30,7 +32,12 @@ pub add_run-requires-clause-points : goal.add_run-requires-clause-points
 add_run-requires-clause-points c = λ proper. (known (goal.at.add_run-requires-clause-points c).After-run-item proper).1
 
 pub loop-run-preserved : goal.loop-run-preserved
-loop-run-preserved c = bases_more c.args.runs.now c.loop-run.run-index c.run-item.result c.loop-run-test.true c.run-item.is c.args.builder.now c.loop-run.builder c.add_run.new.builder c.loop-run.invariant c.in_ok-add_run.ensures.ok c.add_run.ensures.others
+loop-run-preserved c =
+    bases_more c.args.runs.now c.loop-run.run-index c.run-item.result c.loop-run-test.true c.run-item.is
+    c.args.builder.now c.loop-run.builder c.add_run.new.builder c.loop-run.invariant c.in_ok-add_run.ensures.ok
+    c.add_run.ensures.others
 
 pub returns-clause-ok : goal.returns-clause-ok
-returns-clause-ok c = subst (λ (xs : List BaseRun). AddsBases xs c.args.builder.now c.loop-run.builder) (take_all c.loop-run.run-index c.args.runs.now (omega arith)) c.loop-run.invariant
+returns-clause-ok c =
+    subst (λ (xs : List BaseRun). AddsBases xs c.args.builder.now c.loop-run.builder)
+    (take_all c.loop-run.run-index c.args.runs.now (omega arith)) c.loop-run.invariant

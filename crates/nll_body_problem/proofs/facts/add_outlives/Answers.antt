@@ -11,10 +11,12 @@ pub loop-fact-init : goal.loop-fact-init
 loop-fact-init c = outlives_none c.args.builder.now
 
 -- the fact is of universal regions
-known : (c : In-loop-fact) → (let x = slice_index_or c.args.facts.now c.loop-fact.fact-index (0, 0) in IsUniversal c.loop-fact.builder x.0 × IsUniversal c.loop-fact.builder x.1)
+known : (c : In-loop-fact) → (let x = slice_index_or c.args.facts.now c.loop-fact.fact-index (0, 0) in
+    IsUniversal c.loop-fact.builder x.0 × IsUniversal c.loop-fact.builder x.1)
 known c =
     let x = slice_index_or c.args.facts.now c.loop-fact.fact-index (0, 0) in
-    subst (λ (n : ℕ). (x.0 < n) × (x.1 < n)) (sym (ap (λ (q : Problem). q.graph.universals) c.loop-fact.invariant.others))
+    subst (λ (n : ℕ). (x.0 < n) × (x.1 < n))
+    (sym (ap (λ (q : Problem). q.graph.universals) c.loop-fact.invariant.others))
     (c.requires x.0 x.1 (Contains-get_or c.args.facts.now c.loop-fact.fact-index (0, 0) c.loop-fact-test.true))
 
 pub add_fact-requires-clause-longer : goal.add_fact-requires-clause-longer
@@ -28,7 +30,10 @@ loop-fact-preserved c =
     let n = c.loop-fact.fact-index in
     let x = slice_index_or c.args.facts.now n (0, 0) in
     rw (take_more c.args.facts.now n (0, 0) c.loop-fact-test.true)
-    (outlives_more (take n c.args.facts.now) x c.args.builder.now c.loop-fact.builder c.add_fact.new.builder c.loop-fact.invariant c.in_ok-add_fact.ensures.ok c.add_fact.ensures.others)
+    (outlives_more (take n c.args.facts.now) x c.args.builder.now c.loop-fact.builder c.add_fact.new.builder
+    c.loop-fact.invariant c.in_ok-add_fact.ensures.ok c.add_fact.ensures.others)
 
 pub returns-clause-ok : goal.returns-clause-ok
-returns-clause-ok c = subst (λ (xs : List (ℕ × ℕ)). AddsOutlives xs c.args.builder.now c.loop-fact.builder) (take_all c.loop-fact.fact-index c.args.facts.now (omega arith)) c.loop-fact.invariant
+returns-clause-ok c =
+    subst (λ (xs : List (ℕ × ℕ)). AddsOutlives xs c.args.builder.now c.loop-fact.builder)
+    (take_all c.loop-fact.fact-index c.args.facts.now (omega arith)) c.loop-fact.invariant

@@ -12,7 +12,10 @@ pub add_region-requires-clause-room : goal.add_region-requires-clause-room
 add_region-requires-clause-room c = omega (arith, c.loop-number-test.true, c.requires.few)
 
 pub loop-number-preserved : goal.loop-number-preserved
-loop-number-preserved c = c.add_region.ensures ∙ ap (λ (q : Problem). record q { regions = c.loop-number.number + 1 }) c.loop-number.invariant
+loop-number-preserved c = c.add_region.ensures
+    ∙ ap (λ (q : Problem). record q { regions = c.loop-number.number + 1 }) c.loop-number.invariant
 
 pub returns : goal.returns
-returns c = subst (λ (n : ℕ). c.loop-number.builder ≡ record c.args.builder.now { regions = n }) (omega arith) c.loop-number.invariant
+returns c =
+    subst (λ (n : ℕ). c.loop-number.builder ≡ record c.args.builder.now { regions = n })
+    (omega arith) c.loop-number.invariant

@@ -16,14 +16,19 @@ returns-in-Ok c =
     let app_is = c.in_ok-grammar.ensures in
     let read : subcommand_rows_of c.in-Ok.matches ≡ subcommand_of program texts =
     (c.in-Ok.ensures.matches (ap is_simple app_is ∙ is_simple-program)).1 ∙ ap (λ a. subcommand_of a texts) app_is in
-    let none = ap (λ a. fault_of a texts) (sym app_is) ∙ c.in-Ok.ensures.kinds (ap is_simple_and_free app_is ∙ is_simple_and_free-program) in
+    let none = ap (λ a. fault_of a texts) (sym app_is)
+    ∙ c.in-Ok.ensures.kinds (ap is_simple_and_free app_is ∙ is_simple_and_free-program) in
     record {
-      ok = IfOk-weaker c.line_of-line.result _ _ (λ l h. line_is texts _ _ none (sym (ap line_of_matches read) ∙ h)) c.line_of-line.ensures.ok;
+      ok = IfOk-weaker c.line_of-line.result _ _
+          (λ l h. line_is texts _ _ none (sym (ap line_of_matches read) ∙ h)) c.line_of-line.ensures.ok;
       plain = λ task file h.
-          plain_result c.line_of-line.result task file (sym (line_by_grammar-plain task file _ h) ∙ ap line_of_matches (sym read)) c.line_of-line.ensures.ok c.line_of-line.ensures.err;
+          plain_result c.line_of-line.result task file
+          (sym (line_by_grammar-plain task file _ h) ∙ ap line_of_matches (sym read)) c.line_of-line.ensures.ok
+          c.line_of-line.ensures.err;
       help = λ h. absurd (help_is_not_taken texts none h);
       taken = λ ok asks. help_alone_is_not_taken texts none asks;
-      err = matches_without_line texts c.line_of-line.result none (ap line_of_matches (sym read)) c.line_of-line.ensures.err;
+      err = matches_without_line texts c.line_of-line.result none
+          (ap line_of_matches (sym read)) c.line_of-line.ensures.err;
     }
 
 pub returns-in-Err : goal.returns-in-Err
@@ -39,7 +44,8 @@ returns-in-Err c =
     record {
       ok = tt;
       plain = λ task file h.
-          memory_told texts c.refusal-refusal.result (subst (λ k. IsTold texts k c.refusal-refusal.result) (passes (takes-plain task file texts h)) told);
+          memory_told texts c.refusal-refusal.result
+          (subst (λ k. IsTold texts k c.refusal-refusal.result) (passes (takes-plain task file texts h)) told);
       help = λ h. help_given texts c.refusal-refusal.result h refused;
       taken = λ ok asks. true≢false (sym ok);
       err = refused;

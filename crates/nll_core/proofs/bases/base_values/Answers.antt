@@ -12,13 +12,20 @@ pub insert_universals-requires : goal.insert_universals-requires
 insert_universals-requires c = empty_shaped (goal.at.insert_universals-requires c).In_ok-values
 
 pub insert_bases-requires : goal.insert_bases-requires
-insert_bases-requires c = shaped_gains c.args.problem.now _ _ _ (empty_shaped (goal.at.insert_bases-requires c).In_ok-values) c.in_ok-insert_universals.ensures.gains
+insert_bases-requires c =
+    shaped_gains c.args.problem.now _ _ _
+    (empty_shaped (goal.at.insert_bases-requires c).In_ok-values) c.in_ok-insert_universals.ensures.gains
 
 pub returns-clause-shaped : goal.returns-clause-shaped
-returns-clause-shaped c = shaped_gains c.args.problem.now _ _ _ (shaped_gains c.args.problem.now _ _ _ (empty_shaped (goal.at.returns-clause-shaped c).In_ok-values) c.in_ok-insert_universals.ensures.gains) c.in_ok-insert_bases.ensures.gains
+returns-clause-shaped c =
+    shaped_gains c.args.problem.now _ _ _
+    (shaped_gains c.args.problem.now _ _ _
+    (empty_shaped (goal.at.returns-clause-shaped c).In_ok-values) c.in_ok-insert_universals.ensures.gains)
+    c.in_ok-insert_bases.ensures.gains
 
 pub returns-clause-exact : goal.returns-clause-exact
-returns-clause-exact c = base_exact c.args.problem.now c.in_ok-values.values c.insert_universals.new.values c.insert_bases.new.values
+returns-clause-exact c =
+    base_exact c.args.problem.now c.in_ok-values.values c.insert_universals.new.values c.insert_bases.new.values
     (λ r e h. nothing_held _ _ r e (subst (λ values. IsHeld values r e) c.in_ok-values.ensures h))
     c.in_ok-insert_universals.ensures.gains c.in_ok-insert_bases.ensures.gains
     c.in_ok-insert_universals.ensures.points c.in_ok-insert_universals.ensures.ends c.in_ok-insert_bases.ensures.covers

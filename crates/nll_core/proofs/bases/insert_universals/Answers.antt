@@ -11,8 +11,24 @@ loop-number-preserved c =
     let number = c.loop-number.number in
     let values = c.insert_points.new.values in
     let universal : number < c.args.problem.now.graph.universals = omega arith in
-    let region : number < c.args.problem.now.regions = omega (arith, universal, c.points-points.ensures.sound.universals_are_regions) in
-    let within : number < length values = omega (arith, region, c.requires.regions, c.loop-number.invariant.gains.width, c.in_ok-insert_points.ensures.gains.width) in
-    let below : c.points-points.result + number < length (set_of values number) = omega (arith, universal, c.requires.elements number region, c.loop-number.invariant.gains.widths number, c.in_ok-insert_points.ensures.gains.widths number) in
+    let region : number < c.args.problem.now.regions =
+    omega (arith, universal, c.points-points.ensures.sound.universals_are_regions) in
+    let within : number < length values =
+    omega (
+      arith,
+      region,
+      c.requires.regions,
+      c.loop-number.invariant.gains.width,
+      c.in_ok-insert_points.ensures.gains.width,
+    ) in
+    let below : c.points-points.result + number < length (set_of values number) =
+    omega (
+      arith,
+      universal,
+      c.requires.elements number region,
+      c.loop-number.invariant.gains.widths number,
+      c.in_ok-insert_points.ensures.gains.widths number,
+    ) in
     rw c.in_ok-insert.ensures.ok
-    (filling_more c.args.problem.now _ _ _ number _ c.points-points.ensures.value universal c.loop-number.invariant c.in_ok-insert_points.ensures.gains c.in_ok-insert_points.ensures.covers within below)
+    (filling_more c.args.problem.now _ _ _ number _ c.points-points.ensures.value universal c.loop-number.invariant
+    c.in_ok-insert_points.ensures.gains c.in_ok-insert_points.ensures.covers within below)

@@ -12,5 +12,11 @@ returns-in_ok-enter_point-clause-grows c =
     let set = c.args.seen.now in
     let point = c.args.point in
     grows_weaker g set (Reaches g (IsIn set) (point + 1)) (IsLedTo g set c.args.reached.now)
-    (λ x way. (point, c.requires.reached, reaches_append g set point (point + 1) x (reaches_more g (IsIn set) point point (point + 1) (reaches_first g (IsIn set) point c.requires.here) (inl (c.line_end.ensures.line point (omega arith) (omega arith))) c.requires.seen) way))
+    (λ x way. (
+      point,
+      c.requires.reached,
+      reaches_append g set point (point + 1) x
+          (reaches_more g (IsIn set) point point (point + 1) (reaches_first g (IsIn set) point c.requires.here)
+          (inl (c.line_end.ensures.line point (omega arith) (omega arith))) c.requires.seen) way,
+    ))
     _ _ _ _ c.in_ok-enter_point.ensures.grows

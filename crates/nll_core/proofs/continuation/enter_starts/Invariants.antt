@@ -3,7 +3,8 @@ use Rattle.nll_core.proofs.FrontierLemmas.{Beginning}
 use Rattle.nll_core.proofs.continuation.enter_starts.Given as goal
 
 abbrev pub invariant-loop-start : goal.invariant-loop-start
-invariant-loop-start l = Beginning l.lines l.seen l.starts l.part.first l.fn.reached l.reached l.fn.found.items l.found.items l.next
+invariant-loop-start l =
+    Beginning l.lines l.seen l.starts l.part.first l.fn.reached l.reached l.fn.found.items l.found.items l.next
 
 abbrev pub decreases-loop-start : goal.decreases-loop-start
 decreases-loop-start l = l.part.last + 1 - l.next

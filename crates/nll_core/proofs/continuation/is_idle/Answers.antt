@@ -9,7 +9,8 @@ begun : (c : After-points-points) (p : ℕ) → Contains c.args.starts.now (Poin
 begun c p h = (point_in c.points-points.result p).0 (subst (λ ps. Contains ps (Point p)) c.points-points.ensures h)
 
 starts : (c : After-points-points) (p : ℕ) → Contains c.points-points.result p → Contains c.args.starts.now (Point p)
-starts c p h = subst (λ ps. Contains ps (Point p)) (sym c.points-points.ensures) ((point_in c.points-points.result p).1 h)
+starts c p h =
+    subst (λ ps. Contains ps (Point p)) (sym c.points-points.ensures) ((point_in c.points-points.result p).1 h)
 
 pub returns : goal.returns
 returns c =

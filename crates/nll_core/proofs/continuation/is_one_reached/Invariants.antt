@@ -4,4 +4,5 @@ use Rattle.nll_core.proofs.FrontierLemmas.{no_landing}
 use Rattle.nll_core.proofs.continuation.is_one_reached.Given as goal
 
 abbrev pub invariant-loop-landing : goal.invariant-loop-landing
-invariant-loop-landing l = (k : ℕ) → k < l.landing-index → flag l.reached (get_or l.landing-items k no_landing).from ≡ false
+invariant-loop-landing l = (k : ℕ) → k < l.landing-index
+    → flag l.reached (get_or l.landing-items k no_landing).from ≡ false

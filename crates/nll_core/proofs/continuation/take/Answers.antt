@@ -5,5 +5,7 @@ use Rattle.nll_core.proofs.ListingLemmas.{lists_gaps}
 use Rattle.nll_core.proofs.continuation.take.Goals as goal
 
 pub returns-clause-found : goal.returns-clause-found
-returns-clause-found c = subst (λ (list : List Run). ListsNew c.args.reached.now c.insert_run.new.self list c.gaps.new.out.items) c.requires.none
+returns-clause-found c =
+    subst (λ (list : List Run). ListsNew c.args.reached.now c.insert_run.new.self list c.gaps.new.out.items)
+    c.requires.none
     (lists_gaps _ _ _ _ _ c.in_ok-gaps.ensures c.in_ok-insert_run.ensures.ok)

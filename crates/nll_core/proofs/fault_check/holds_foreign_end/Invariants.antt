@@ -4,4 +4,5 @@ use Rattle.nll_core.specs.Values.{holds}
 use Rattle.nll_core.proofs.fault_check.holds_foreign_end.Given as goal
 
 abbrev pub invariant-loop-other : goal.invariant-loop-other
-invariant-loop-other l = (other : ℕ) → other < l.other → other ≢ l.region → holds l.values l.region (end_of l.problem other) ≡ false
+invariant-loop-other l = (other : ℕ) → other < l.other → other ≢ l.region
+    → holds l.values l.region (end_of l.problem other) ≡ false

@@ -5,11 +5,14 @@ use Rattle.nll_core.proofs.jumps.push_jumps.Goals as goal
 
 pub returns-in_ok-push-clause-jumps : goal.returns-in_ok-push-clause-jumps
 returns-in_ok-push-clause-jumps c = rw c.in_ok-push.ensures.items
-    (jumps_return c.args.graph.now c.args.point c.next_of.result.now c.next_of.ensures.each _ _ c.points-then-is_return.result c.points-then-is_return.ensures.value (c.is_return.ensures.0 c.if-is_return.true) c.in_ok-goes_on.ensures.others)
+    (jumps_return c.args.graph.now c.args.point c.next_of.result.now c.next_of.ensures.each _ _
+    c.points-then-is_return.result c.points-then-is_return.ensures.value
+    (c.is_return.ensures.0 c.if-is_return.true) c.in_ok-goes_on.ensures.others)
 
 pub returns-else-is_return-clause-jumps : goal.returns-else-is_return-clause-jumps
 returns-else-is_return-clause-jumps c =
-    jumps_others c.args.graph.now c.args.point c.next_of.result.now c.next_of.ensures.each _ _ (λ h. false≢true (sym c.if-is_return.false ∙ c.is_return.ensures.1 h)) c.in_ok-goes_on.ensures.others
+    jumps_others c.args.graph.now c.args.point c.next_of.result.now c.next_of.ensures.each _ _
+    (λ h. false≢true (sym c.if-is_return.false ∙ c.is_return.ensures.1 h)) c.in_ok-goes_on.ensures.others
 
 pub returns-in_ok-push-clause-line : goal.returns-in_ok-push-clause-line
 returns-in_ok-push-clause-line c = (

@@ -13,20 +13,30 @@ loop-successor-init c = (
 pub loop-successor-preserved : goal.loop-successor-preserved
 loop-successor-preserved c = elim c.if-successor-point.branch [
   | then-successor-point w ↦ rw w.targets-is (rw w.goes_on-is (
-    pushes_same (AmongFirst c.args.successors.now (c.args.point + 1) c.loop-successor.successor-index) _ _ _ (among_first_skip c.args.successors.now (c.args.point + 1) c.loop-successor.successor-index w.if-successor-point.true) c.loop-successor.invariant.0,
+    pushes_same (AmongFirst c.args.successors.now (c.args.point + 1) c.loop-successor.successor-index) _ _ _
+        (among_first_skip c.args.successors.now
+        (c.args.point + 1) c.loop-successor.successor-index w.if-successor-point.true) c.loop-successor.invariant.0,
     is_among_here c.args.successors.now c.loop-successor.successor-index (c.args.point + 1) w.if-successor-point.true,
   ))
   | else-successor-point+in_ok-push w ↦ rw w.targets-is (rw w.goes_on-is (rw w.in_ok-push.ensures.items (
-    pushes_more (AmongFirst c.args.successors.now (c.args.point + 1) c.loop-successor.successor-index) _ _ _ _ (among_first_more c.args.successors.now (c.args.point + 1) c.loop-successor.successor-index _ refl w.if-successor-point.false) c.loop-successor.invariant.0,
-    is_among_other c.args.successors.now c.loop-successor.successor-index (c.args.point + 1) _ w.if-successor-point.false c.loop-successor.invariant.1,
+    pushes_more (AmongFirst c.args.successors.now (c.args.point + 1) c.loop-successor.successor-index) _ _ _ _
+        (among_first_more c.args.successors.now
+        (c.args.point + 1) c.loop-successor.successor-index _ refl w.if-successor-point.false)
+        c.loop-successor.invariant.0,
+    is_among_other c.args.successors.now c.loop-successor.successor-index
+        (c.args.point + 1) _ w.if-successor-point.false c.loop-successor.invariant.1,
   )))
 ]
 
 pub returns-clause-others : goal.returns-clause-others
-returns-clause-others c = pushes_same (AmongFirst c.args.successors.now (c.args.point + 1) c.loop-successor.successor-index) _ _ _
-    (among_all c.args.successors.now (c.args.point + 1) c.loop-successor.successor-index c.loop-successor-test.false c.loop-successor.auto.successor-index-end) c.loop-successor.invariant.0
+returns-clause-others c =
+    pushes_same (AmongFirst c.args.successors.now (c.args.point + 1) c.loop-successor.successor-index) _ _ _
+    (among_all c.args.successors.now (c.args.point + 1) c.loop-successor.successor-index c.loop-successor-test.false
+    c.loop-successor.auto.successor-index-end) c.loop-successor.invariant.0
 
 pub returns-clause-line : goal.returns-clause-line
 returns-clause-line c =
-    let all = is_among_all c.args.successors.now c.loop-successor.successor-index (c.args.point + 1) c.loop-successor-test.false c.loop-successor.auto.successor-index-end in
+    let all =
+    is_among_all c.args.successors.now c.loop-successor.successor-index
+    (c.args.point + 1) c.loop-successor-test.false c.loop-successor.auto.successor-index-end in
     (λ h. all.0 (c.loop-successor.invariant.1.0 h), λ h. c.loop-successor.invariant.1.1 (all.1 h))

@@ -7,8 +7,13 @@ pub loop-target-init : goal.loop-target-init
 loop-target-init c = landed_first _ _ _
 
 pub loop-target-preserved : goal.loop-target-preserved
-loop-target-preserved c = subst (λ (items : List Landing). Landed c.args.point c.jumps-target-items.result.now c.args.list.now.items items (c.loop-target.target-index + 1)) (sym c.in_ok-push.ensures.items)
+loop-target-preserved c =
+    subst (λ (items : List Landing). Landed c.args.point c.jumps-target-items.result.now c.args.list.now.items items
+    (c.loop-target.target-index + 1)) (sym c.in_ok-push.ensures.items)
     (landed_more _ _ _ _ _ _ refl c.loop-target.invariant)
 
 pub returns : goal.returns
-returns c = landed_end c.args.lines.now c.args.point c.jumps-target-items.result.now _ _ _ (omega (arith, c.loop-target-test.false, c.loop-target.auto.target-index-end)) c.jumps-target-items.ensures c.loop-target.invariant
+returns c =
+    landed_end c.args.lines.now c.args.point c.jumps-target-items.result.now _ _ _
+    (omega (arith, c.loop-target-test.false, c.loop-target.auto.target-index-end)) c.jumps-target-items.ensures
+    c.loop-target.invariant

@@ -2,4 +2,6 @@ use Rattle.nll_core.proofs.LineLemmas.{ends_on}
 use Rattle.nll_core.proofs.line_ends.pass_point.Goals as goal
 
 pub returns-else-not-goes_on : goal.returns-else-not-goes_on
-returns-else-not-goes_on c = ends_on c.args.graph.now c.args.point c.args.ends.now.items (c.requires.line.0 c.if-not-goes_on.false) c.requires.before
+returns-else-not-goes_on c =
+    ends_on c.args.graph.now c.args.point c.args.ends.now.items
+    (c.requires.line.0 c.if-not-goes_on.false) c.requires.before

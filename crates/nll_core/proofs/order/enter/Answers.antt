@@ -10,6 +10,8 @@ returns c =
     record {
       next_sized = d.next_sized;
       seen_sized = length-set c.args.descent.now.seen.items c.args.region true ∙ d.seen_sized;
-      path_within = subst (AreBelow c.args.regions) (sym c.in_ok-push.ensures.items) (below_more c.args.regions c.args.descent.now.path.items c.args.region c.requires.region d.path_within);
+      path_within =
+          subst (AreBelow c.args.regions) (sym c.in_ok-push.ensures.items)
+          (below_more c.args.regions c.args.descent.now.path.items c.args.region c.requires.region d.path_within);
       left_within = d.left_within;
     }

@@ -6,4 +6,11 @@ pub index_mut-requires : goal.index_mut-requires
 index_mut-requires c =
     let k = c.index-constraints-place.result in
     let own = c.requires k (c.loop-place.place, c.loop-place-test.true, sym c.index-constraints-place.is) in
-    omega (arith, own.0, ap (λ (d : Constraint). d.sub) c.index-constraints-place.is, c.sub.view_is, c.loop-place.invariant, c.loop-place.starts.ok.0)
+    omega (
+      arith,
+      own.0,
+      ap (λ (d : Constraint). d.sub) c.index-constraints-place.is,
+      c.sub.view_is,
+      c.loop-place.invariant,
+      c.loop-place.starts.ok.0,
+    )

@@ -14,8 +14,10 @@ positive zero is e other = absurd (false≢true (sym other ∙ e))
 positive (suc n) is e other = omega arith
 
 -- where the first constraint holds at a point, none holds at all points
-none_everywhere : (pair : List Constraint) (past : Constraint) (point : ℕ) → PointsAscend pair → (get_or pair 0 past).at ≡ Point point → (c : Constraint) → Contains pair c → c.at ≡ All → ⊥
-none_everywhere pair past point ascending is c listed every = omega (arith, ap at_rank (sym (first_everywhere pair past ascending c listed every) ∙ is))
+none_everywhere : (pair : List Constraint) (past : Constraint) (point : ℕ) → PointsAscend pair
+    → (get_or pair 0 past).at ≡ Point point → (c : Constraint) → Contains pair c → c.at ≡ All → ⊥
+none_everywhere pair past point ascending is c listed every =
+    omega (arith, ap at_rank (sym (first_everywhere pair past ascending c listed every) ∙ is))
 
 pub returns-then-is_empty-clause-none : goal.returns-then-is_empty-clause-none
 returns-then-is_empty-clause-none c = λ told k h every.
@@ -29,4 +31,5 @@ returns-in-All-clause-some c = λ told.
     (_, (0, some, get_or_default c.args.pair.now 0 _ _ some), c.in-All.is)
 
 pub returns-in-Point-clause-none : goal.returns-in-Point-clause-none
-returns-in-Point-clause-none c = λ told. none_everywhere c.args.pair.now _ c.in-Point.field-0 c.requires.ascending c.in-Point.is
+returns-in-Point-clause-none c =
+    λ told. none_everywhere c.args.pair.now _ c.in-Point.field-0 c.requires.ascending c.in-Point.is

@@ -11,7 +11,8 @@ returns-then-not-has g c = record {
     λ h. absurd (contains_none x (subst (λ (xs : List ℕ). Contains xs x) c.new.ensures.items h)),
     λ h. absurd (false≢true (sym c.if-not-has.true ∙ (c.has.ensures ∙ reaches_starts _ _ _ x h))),
   );
-  once = subst (λ (xs : List ℕ). AllPairs (λ x y. x ≢ y) xs) (sym c.new.ensures.items) (λ i j d before within. absurd (omega (arith, within)));
+  once = subst (λ (xs : List ℕ). AllPairs (λ x y. x ≢ y) xs) (sym c.new.ensures.items)
+      (λ i j d before within. absurd (omega (arith, within)));
 }
 
 pub returns : goal.returns
@@ -19,7 +20,9 @@ returns g c =
     let found = c.in_ok-search.ensures.found in
     record {
       each = λ x.
-          let reaches = leads_inside c.args.graph.now (g.S.ElementSet.flags c.args.set.now) c.args.at x (sym c.has.ensures ∙ c.if-not-has.false) in (
+          let reaches =
+          leads_inside c.args.graph.now (g.S.ElementSet.flags c.args.set.now) c.args.at x
+          (sym c.has.ensures ∙ c.if-not-has.false) in (
             λ h. reaches.0 ((found.list x).0 (subst (λ (xs : List ℕ). Contains xs x) c.into_list.ensures h)),
             λ h. subst (λ (xs : List ℕ). Contains xs x) (sym c.into_list.ensures) ((found.list x).1 (reaches.1 h)),
           );

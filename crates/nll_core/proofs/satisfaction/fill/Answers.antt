@@ -15,30 +15,47 @@ use Rattle.nll_core.proofs.satisfaction.fill.Goals.{After-fill_whole, After-fill
 
 pub reach-requires-clause-points : goal.reach-requires-clause-points
 reach-requires-clause-points c = among_points c.args.lines.now c.args.pair.now
-    (λ k h. subst (λ (g : Graph). IsAmong g.points k.at) (sym c.requires.lines) (c.regions-regions.ensures.sound.constraint_points k (c.requires.pair k h).0))
+    (λ k h. subst (λ (g : Graph). IsAmong g.points k.at) (sym c.requires.lines)
+    (c.regions-regions.ensures.sound.constraint_points k (c.requires.pair k h).0))
     (c.is_everywhere.ensures.none c.if-is_everywhere.false)
 
 -- what runs have that make up what is asked for
-made_up : (g : Graph) (sub : List Bool) (pair : List Constraint) (runs : List Run) (found : List Bool) → MakeUp runs found → AreAskedOf g sub pair found → (e : ℕ) → IsInRuns runs e ↔ IsAskedOf g sub pair e
+made_up : (g : Graph) (sub : List Bool) (pair : List Constraint) (runs : List Run) (found : List Bool)
+    → MakeUp runs found → AreAskedOf g sub pair found → (e : ℕ) → IsInRuns runs e ↔ IsAskedOf g sub pair e
 made_up g sub pair runs found make_up asked e = (λ h. (asked e).0 ((make_up e).0 h), λ w. (make_up e).1 ((asked e).1 w))
 
 -- at all points, it is all that the region has
-whole : (c : After-fill_whole) → (e : ℕ) → IsIn (set_of c.args.values.now c.args.sub) e ↔ IsAskedOf c.args.problem.now.graph (set_of c.args.values.now c.args.sub) c.args.pair.now e
-whole c = whole_asked c.args.problem.now.graph (set_of c.args.values.now c.args.sub) c.args.pair.now (c.is_everywhere.ensures.some c.if-is_everywhere.true)
+whole : (c : After-fill_whole) → (e : ℕ)
+    → IsIn (set_of c.args.values.now c.args.sub) e
+    ↔ IsAskedOf c.args.problem.now.graph (set_of c.args.values.now c.args.sub) c.args.pair.now e
+whole c =
+    whole_asked c.args.problem.now.graph (set_of c.args.values.now c.args.sub) c.args.pair.now
+    (c.is_everywhere.ensures.some c.if-is_everywhere.true)
 
 pub returns-then-is_everywhere-clause-gains : goal.returns-then-is_everywhere-clause-gains
-returns-then-is_everywhere-clause-gains c = on_ok_weaker c.fill_whole.result (λ gains. gains_weaker _ _ (λ r e h. (h.0, (whole c e).0 h.1)) _ _ gains) c.fill_whole.ensures.gains
+returns-then-is_everywhere-clause-gains c =
+    on_ok_weaker c.fill_whole.result (λ gains. gains_weaker _ _ (λ r e h. (h.0, (whole c e).0 h.1)) _ _ gains)
+    c.fill_whole.ensures.gains
 
 pub returns-then-is_everywhere-clause-asks : goal.returns-then-is_everywhere-clause-asks
-returns-then-is_everywhere-clause-asks c = on_ok_weaker c.fill_whole.result (λ covers e h. covers e ((whole c e).1 h)) c.fill_whole.ensures.covers
+returns-then-is_everywhere-clause-asks c =
+    on_ok_weaker c.fill_whole.result (λ covers e h. covers e ((whole c e).1 h)) c.fill_whole.ensures.covers
 
 -- else they are of what walks reach
-walked : (c : After-fill_all) → (e : ℕ) → IsInRuns c.as_runs.result.now e ↔ IsAskedOf c.args.problem.now.graph (set_of c.args.values.now c.args.sub) c.args.pair.now e
-walked c = made_up c.args.problem.now.graph (set_of c.args.values.now c.args.sub) c.args.pair.now c.as_runs.result.now c.reach.new.self.reached c.as_runs.ensures.make_up
-    (subst (λ (of : Graph × List Bool). AreAskedOf of.0 of.1 c.args.pair.now c.reach.new.self.reached) (λ i. (c.requires.lines i, c.set.ensures i)) c.in_ok-reach.ensures.reached)
+walked : (c : After-fill_all) → (e : ℕ)
+    → IsInRuns c.as_runs.result.now e ↔ IsAskedOf c.args.problem.now.graph
+    (set_of c.args.values.now c.args.sub) c.args.pair.now e
+walked c =
+    made_up c.args.problem.now.graph (set_of c.args.values.now c.args.sub) c.args.pair.now c.as_runs.result.now
+    c.reach.new.self.reached c.as_runs.ensures.make_up
+    (subst (λ (of : Graph × List Bool). AreAskedOf of.0 of.1 c.args.pair.now c.reach.new.self.reached)
+    (λ i. (c.requires.lines i, c.set.ensures i)) c.in_ok-reach.ensures.reached)
 
 pub returns-clause-gains : goal.returns-clause-gains
-returns-clause-gains c = on_ok_weaker c.fill_all.result (λ gains. gains_weaker _ _ (λ r e h. (h.0, (walked c e).0 h.1)) _ _ gains) c.fill_all.ensures.gains
+returns-clause-gains c =
+    on_ok_weaker c.fill_all.result (λ gains. gains_weaker _ _ (λ r e h. (h.0, (walked c e).0 h.1)) _ _ gains)
+    c.fill_all.ensures.gains
 
 pub returns-clause-asks : goal.returns-clause-asks
-returns-clause-asks c = on_ok_weaker c.fill_all.result (λ covers e h. covers e ((walked c e).1 h)) c.fill_all.ensures.covers
+returns-clause-asks c =
+    on_ok_weaker c.fill_all.result (λ covers e h. covers e ((walked c e).1 h)) c.fill_all.ensures.covers

@@ -5,7 +5,8 @@ use Rattle.nll_core.proofs.satisfaction.fill_all.Goals as goal
 
 pub loop-run-preserved : goal.loop-run-preserved
 loop-run-preserved c =
-    filling_more c.args.region c.args.runs.now _ _ _ _ _ c.loop-run.run-index (get_or c.args.runs.now c.loop-run.run-index no_run) refl refl c.loop-run-test.true
+    filling_more c.args.region c.args.runs.now _ _ _ _ _ c.loop-run.run-index
+    (get_or c.args.runs.now c.loop-run.run-index no_run) refl refl c.loop-run-test.true
     c.loop-run.invariant c.in_ok-new.ensures.gains c.in_ok-new.ensures.covers c.in_ok-new.ensures.tells
 
 pub returns-clause-covers : goal.returns-clause-covers

@@ -13,13 +13,19 @@ pub visit-requires : goal.visit-requires
 visit-requires g c = omega (arith, width g (goal.at.visit-requires g c).In_ok-search, c.count.ensures, c.requires)
 
 pub spread-requires-clause-width : goal.spread-requires-clause-width
-spread-requires-clause-width g c = c.in_ok-visit.ensures.adds.width ∙ (width g (goal.at.spread-requires-clause-width g c).In_ok-search ∙ c.count.ensures)
+spread-requires-clause-width g c = c.in_ok-visit.ensures.adds.width
+    ∙ (width g (goal.at.spread-requires-clause-width g c).In_ok-search ∙ c.count.ensures)
 
 pub returns-clause-width : goal.returns-clause-width
-returns-clause-width g c = c.in_ok-spread.ensures.adds.width ∙ (c.in_ok-visit.ensures.adds.width ∙ (width g (goal.at.returns-clause-width g c).In_ok-search ∙ c.count.ensures))
+returns-clause-width g c = c.in_ok-spread.ensures.adds.width
+    ∙ (c.in_ok-visit.ensures.adds.width ∙ (width g (goal.at.returns-clause-width g c).In_ok-search ∙ c.count.ensures))
 
 pub spread-requires-clause-pending : goal.spread-requires-clause-pending
-spread-requires-clause-pending g c = begun (g.P.Relation.step c.args.relation.now) c.args.at c.count.result c.visit.new.self (rw c.in_ok-search.ensures at c.in_ok-visit.ensures)
+spread-requires-clause-pending g c =
+    begun (g.P.Relation.step c.args.relation.now) c.args.at c.count.result c.visit.new.self
+    (rw c.in_ok-search.ensures at c.in_ok-visit.ensures)
 
 pub returns-clause-found : goal.returns-clause-found
-returns-clause-found g c = found (g.P.Relation.step c.args.relation.now) c.args.at c.count.result c.visit.new.self (rw c.in_ok-search.ensures at c.in_ok-visit.ensures) c.spread.new.self c.in_ok-spread.ensures
+returns-clause-found g c =
+    found (g.P.Relation.step c.args.relation.now) c.args.at c.count.result c.visit.new.self
+    (rw c.in_ok-search.ensures at c.in_ok-visit.ensures) c.spread.new.self c.in_ok-spread.ensures

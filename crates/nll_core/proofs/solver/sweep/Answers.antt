@@ -5,7 +5,8 @@ use Rattle.nll_core.proofs.WorklistLemmas.{closed_clean}
 use Rattle.nll_core.proofs.solver.sweep.Goals as goal
 
 -- a sweep is a part of the way
-goes_on : (q : Problem) (first now new : List (List Bool)) (marks after : List Bool) (changed : Bool) → IsOnTheWay q first now marks → Turns q now new after changed → IsOnTheWay q first new after
+goes_on : (q : Problem) (first now new : List (List Bool)) (marks after : List Bool) (changed : Bool)
+    → IsOnTheWay q first now marks → Turns q now new after changed → IsOnTheWay q first new after
 goes_on q first now new marks after changed way turns = record {
   shaped = turns.advances.shaped;
   kept = λ r e h. turns.advances.kept r e (way.kept r e h);
@@ -27,4 +28,6 @@ loop-2-preserved c = record {
 }
 
 pub returns-clause-closed : goal.returns-clause-closed
-returns-clause-closed c = closed_clean c.args.problem.now c.regions-regions.ensures.sound c.sweep_all.new.values c.sweep_all.new.marks.items c.in_ok-sweep_all.ensures.turns.tracked (c.in_ok-sweep_all.ensures.clean c.if-branch-2.false)
+returns-clause-closed c =
+    closed_clean c.args.problem.now c.regions-regions.ensures.sound c.sweep_all.new.values c.sweep_all.new.marks.items
+    c.in_ok-sweep_all.ensures.turns.tracked (c.in_ok-sweep_all.ensures.clean c.if-branch-2.false)

@@ -5,4 +5,5 @@ use Rattle.nll_core.proofs.solver.sweep_backwards.Goals as goal
 pub turn-requires-clause-region : goal.turn-requires-clause-region
 turn-requires-clause-region c =
     let at = c.loop-place.place - 1 in
-    c.requires.order (get_or c.args.order.now at 0) (Contains-get_or c.args.order.now at 0 (omega (arith, c.loop-place-test.true, c.loop-place.invariant.within)))
+    c.requires.order (get_or c.args.order.now at 0)
+    (Contains-get_or c.args.order.now at 0 (omega (arith, c.loop-place-test.true, c.loop-place.invariant.within)))

@@ -5,7 +5,8 @@ use Rattle.nll_core.proofs.solver.visit.Given as goal
 
 abbrev pub invariant-loop-place : goal.invariant-loop-place
 invariant-loop-place l = record {
-  visiting : Visiting l.problem l.sub l.constraints l.fn.values l.values l.fn.marks.items l.marks.items l.changed l.place;
+  visiting : Visiting l.problem l.sub l.constraints l.fn.values l.values l.fn.marks.items l.marks.items l.changed
+      l.place;
   walk : length l.walk.reached ≡ element_count l.lines;
 }
 

@@ -7,16 +7,26 @@ use Rattle.nll_core.proofs.tail_copy.fill_from.Goals.{In-Some}
 
 -- the run is of elements of the set
 within : (c : In-Some) → c.in-Some.run'.last < length c.args.sub.now
-within c = flag_within c.args.sub.now _ (c.in-Some.ensures.some.all c.in-Some.run'.last c.in-Some.ensures.some.proper (omega arith))
+within c =
+    flag_within c.args.sub.now _ (c.in-Some.ensures.some.all c.in-Some.run'.last c.in-Some.ensures.some.proper
+    (omega arith))
 
 pub loop-run-init : goal.loop-run-init
-loop-run-init c = (filling_none c.args.sub.now c.args.from c.args.reached.now, lists_none c.args.reached.now c.args.list.now.items)
+loop-run-init c =
+    (filling_none c.args.sub.now c.args.from c.args.reached.now, lists_none c.args.reached.now c.args.list.now.items)
 
 pub gaps-requires-clause-below : goal.gaps-requires-clause-below
-gaps-requires-clause-below c = omega (arith, within (goal.at.gaps-requires-clause-below c).In-Some, c.loop-run.invariant.0.width, c.requires.width)
+gaps-requires-clause-below c =
+    omega (arith, within (goal.at.gaps-requires-clause-below c).In-Some, c.loop-run.invariant.0.width, c.requires.width)
 
 pub insert_run-requires-clause-below : goal.insert_run-requires-clause-below
-insert_run-requires-clause-below c = omega (arith, within (goal.at.insert_run-requires-clause-below c).In-Some, c.loop-run.invariant.0.width, c.requires.width)
+insert_run-requires-clause-below c =
+    omega (
+      arith,
+      within (goal.at.insert_run-requires-clause-below c).In-Some,
+      c.loop-run.invariant.0.width,
+      c.requires.width,
+    )
 
 pub overflow_add-next : goal.overflow_add-next
 overflow_add-next c = omega (arith, within (goal.at.overflow_add-next c).In-Some, c.requires.short)
@@ -25,10 +35,16 @@ pub loop-run-preserved : goal.loop-run-preserved
 loop-run-preserved c =
     let some = c.in-Some.ensures.some in
     let fills = c.in_ok-insert_run.ensures.ok in (
-      filling_more c.args.sub.now c.args.from c.args.reached.now c.loop-run.reached c.insert_run.new.self c.loop-run.next c.max.result c.in-Some.run'.last _ c.loop-run.invariant.0 refl refl (omega (arith, c.max.ensures)) (omega (arith, c.max.ensures, some.proper, some.reach))
-          (λ x a b. some.all x (omega (arith, a, c.max.ensures)) b) (λ x a b. some.none x a (omega (arith, a, b, c.max.ensures))) fills,
-      lists_append c.args.reached.now c.loop-run.reached c.insert_run.new.self _ _ _ c.loop-run.invariant.0.kept fills.kept c.loop-run.invariant.1 (lists_gaps _ _ _ _ _ c.in_ok-gaps.ensures fills),
+      filling_more c.args.sub.now c.args.from c.args.reached.now c.loop-run.reached c.insert_run.new.self
+          c.loop-run.next c.max.result c.in-Some.run'.last _ c.loop-run.invariant.0 refl refl
+          (omega (arith, c.max.ensures)) (omega (arith, c.max.ensures, some.proper, some.reach))
+          (λ x a b. some.all x (omega (arith, a, c.max.ensures)) b)
+          (λ x a b. some.none x a (omega (arith, a, b, c.max.ensures))) fills,
+      lists_append c.args.reached.now c.loop-run.reached c.insert_run.new.self _ _ _ c.loop-run.invariant.0.kept
+          fills.kept c.loop-run.invariant.1 (lists_gaps _ _ _ _ _ c.in_ok-gaps.ensures fills),
     )
 
 pub returns-clause-fills : goal.returns-clause-fills
-returns-clause-fills c = filling_end c.args.sub.now c.args.from c.args.reached.now c.loop-run.reached c.loop-run.next c.loop-run.invariant.0 c.in_default.ensures.none
+returns-clause-fills c =
+    filling_end c.args.sub.now c.args.from c.args.reached.now c.loop-run.reached c.loop-run.next c.loop-run.invariant.0
+    c.in_default.ensures.none

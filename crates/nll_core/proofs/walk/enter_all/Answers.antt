@@ -27,8 +27,10 @@ enter-requires-clause-point c =
     omega (arith, c.point_at-point.ensures, point_below c.args.lines.now _ here)
 
 pub enter-requires-clause-inside : goal.enter-requires-clause-inside
-enter-requires-clause-inside c =
-    (omega (arith, c.point_at-point.ensures, c.in-Some.ensures.has.0), omega (arith, c.point_at-point.ensures, c.in-Some.ensures.has.1))
+enter-requires-clause-inside c = (
+  omega (arith, c.point_at-point.ensures, c.in-Some.ensures.has.0),
+  omega (arith, c.point_at-point.ensures, c.in-Some.ensures.has.1),
+)
 
 pub loop-found-preserved : goal.loop-found-preserved
 loop-found-preserved c =
@@ -39,13 +41,19 @@ loop-found-preserved c =
     let within = c.in-Some.ensures.found.1 in
     let is = c.point_at-point.ensures in
     let from = subst (λ p. IsRunFrom sub p c.in-Some.found.run) (sym is) c.in-Some.ensures.run in
-    entering_more graph sub pair _ _ _ _ _ _ place c.point_at-point.result c.in_ok-next.next c.place_from-place.result c.requires.ascending is within
-    (entering_skip graph sub pair _ _ _ _ c.loop-found.place place (omega (arith, within)) c.in-Some.ensures.before c.loop-found.invariant)
-    (c.in_ok-next.ensures.grows sub from) (λ x a b _. c.in_ok-next.ensures.settled sub from c.loop-found.invariant.closed x a b) (λ _. c.in_ok-next.ensures.covers)
+    entering_more graph sub pair _ _ _ _ _ _ place c.point_at-point.result c.in_ok-next.next c.place_from-place.result
+    c.requires.ascending is within
+    (entering_skip graph sub pair _ _ _ _ c.loop-found.place place
+    (omega (arith, within)) c.in-Some.ensures.before c.loop-found.invariant)
+    (c.in_ok-next.ensures.grows sub from)
+    (λ x a b _. c.in_ok-next.ensures.settled sub from c.loop-found.invariant.closed x a b)
+    (λ _. c.in_ok-next.ensures.covers)
     c.place_from-place.ensures.bound c.place_from-place.ensures.before
 
 pub returns-clause-covers : goal.returns-clause-covers
-returns-clause-covers c = each_contained (λ (k : Constraint). IsIn c.args.sub.now (point_of k) → IsIn c.loop-found.reached (point_of k)) c.args.pair.now (λ k l s. ⊎_elim
+returns-clause-covers c =
+    each_contained (λ (k : Constraint). IsIn c.args.sub.now (point_of k) → IsIn c.loop-found.reached (point_of k))
+    c.args.pair.now (λ k l s. ⊎_elim
     (λ front. c.loop-found.invariant.covers k front s)
     (λ past. absurd (false≢true (sym (c.in_default.ensures.none k past l) ∙ s)))
     (cases_lt k c.loop-found.place))

@@ -9,8 +9,10 @@ use Rattle.nll_core.proofs.WalkingLemmas.{contained_at}
 use Rattle.nll_core.proofs.walk.point_at.Goals as goal
 
 -- the point of what stands at a place of the list, whatever would be read past its end
-point_read : (pair : List Constraint) (place : ℕ) (past : Constraint) (at : At) → place < length pair → (get_or pair place past).at ≡ at → point_of (constraint_at pair place) ≡ at_rank at - 1
-point_read pair place past at within is = ap point_of (get_or_default pair place no_constraint past within) ∙ ap (λ (a : At). at_rank a - 1) is
+point_read : (pair : List Constraint) (place : ℕ) (past : Constraint) (at : At) → place < length pair
+    → (get_or pair place past).at ≡ at → point_of (constraint_at pair place) ≡ at_rank at - 1
+point_read pair place past at within is = ap point_of (get_or_default pair place no_constraint past within)
+    ∙ ap (λ (a : At). at_rank a - 1) is
 
 pub unreachable-requires : goal.unreachable-requires
 unreachable-requires c =

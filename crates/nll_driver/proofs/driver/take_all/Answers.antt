@@ -17,7 +17,11 @@ loop-turn-preserved g c =
       turns = λ k t low at. ⊎_elim
           (λ (here : k ≡ c.loop-turn.turn-index).
           rw (sym was.cut)
-          (subst (IsTurnOf c.loop-turn.network.cut) (get_or_from_slice_get c.args.turns.now c.loop-turn.turn-index t _ (subst (λ j. slice_get c.args.turns.now j ≡ Some t) here at)) (taken_turn c.loop-turn.network.cut _ c.take.result c.in_ok-take.field-0 c.take.ensures.wrong c.in_ok-take.was)))
+          (subst (IsTurnOf c.loop-turn.network.cut)
+          (get_or_from_slice_get c.args.turns.now c.loop-turn.turn-index t _
+          (subst (λ j. slice_get c.args.turns.now j ≡ Some t) here at))
+          (taken_turn c.loop-turn.network.cut _ c.take.result c.in_ok-take.field-0 c.take.ensures.wrong
+          c.in_ok-take.was)))
           (λ other. was.turns k t (omega (arith, low, other)) at)
           (cases_eq k c.loop-turn.turn-index);
     }
@@ -25,4 +29,5 @@ loop-turn-preserved g c =
 pub returns-clause-turns : goal.returns-clause-turns
 returns-clause-turns g c = λ t inside.
     let low = inside.1 in
-    c.loop-turn.invariant.turns inside.0 t (omega (arith, low, c.loop-turn-test.false)) (get_at c.args.turns.now inside.0 t inside.1 inside.2)
+    c.loop-turn.invariant.turns inside.0 t (omega (arith, low, c.loop-turn-test.false))
+    (get_at c.args.turns.now inside.0 t inside.1 inside.2)

@@ -15,4 +15,6 @@ loop-channel-preserved g c =
     c.loop-channel.invariant)
 
 pub returns-clause-says : goal.returns-clause-says
-returns-clause-says g c = settled_all _ _ c.loop-channel.channels.items _ (omega (arith, c.in_default.ensures.cases.0, c.loop-channel.channels.ok.0)) c.loop-channel.invariant
+returns-clause-says g c =
+    settled_all _ _ c.loop-channel.channels.items _
+    (omega (arith, c.in_default.ensures.cases.0, c.loop-channel.channels.ok.0)) c.loop-channel.invariant

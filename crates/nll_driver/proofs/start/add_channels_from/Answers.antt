@@ -13,8 +13,10 @@ loop-to-preserved g c =
           let made = w.in_ok-between.ensures in
           let is : c.if-to-from.channels.items ≡ c.loop-to.channels.items ++ x ∷ [] = cc w.in_ok-push.ensures.items in
           record {
-            pairs = rw is (before_added ends_of _ _ _ _ x was.pairs c.requires.from c.loop-to-test.true (omega arith) (ap ends_of made));
-            empty = rw is (each_added (λ (y : Channel). (y.sent ≡ []) × (y.received ≡ [])) _ x was.empty (ap (λ (y : Channel). y.sent) made, ap (λ (y : Channel). y.received) made));
+            pairs = rw is (before_added ends_of _ _ _ _ x was.pairs c.requires.from c.loop-to-test.true (omega arith)
+                (ap ends_of made));
+            empty = rw is (each_added (λ (y : Channel). (y.sent ≡ []) × (y.received ≡ [])) _ x was.empty
+                (ap (λ (y : Channel). y.sent) made, ap (λ (y : Channel). y.received) made));
           }
       | else-to-from w ↦
           let is : c.if-to-from.channels ≡ c.loop-to.channels = w.channels-is in

@@ -3,7 +3,8 @@ use Rattle.nll_owner.specs.Owner.{Owner, first_owner}
 use Rattle.nll_driver.proofs.start.owners_of.Goals as goal
 
 -- what is found in a list with one more
-get_pushed : {X : Type 0} (xs : List X) (x : X) (i : ℕ) (y : X) → slice_get (xs ++ x ∷ []) i ≡ Some y → (slice_get xs i ≡ Some y) ⊎ ((i ≡ length xs) × (y ≡ x))
+get_pushed : {X : Type 0} (xs : List X) (x : X) (i : ℕ) (y : X) → slice_get (xs ++ x ∷ []) i ≡ Some y
+    → (slice_get xs i ≡ Some y) ⊎ ((i ≡ length xs) × (y ≡ x))
 get_pushed [] x zero y h = inr (refl, sym (cc h))
 get_pushed [] x (suc i) y h = inl h
 get_pushed (z ∷ zs) x zero y h = inl h
@@ -23,6 +24,7 @@ loop-me-preserved c =
       first = λ i p h. ⊎_elim
           (λ (before : slice_get owners i ≡ Some p). was.first i p before)
           (λ (t : (i ≡ length owners) × (p ≡ o)).
-          t.1 ∙ (c.in_ok-new.ensures ∙ ap (λ j. first_owner c.args.problem.now c.args.cut.now j) (sym (t.0 ∙ was.count))))
+          t.1 ∙ (c.in_ok-new.ensures ∙ ap (λ j. first_owner c.args.problem.now c.args.cut.now j)
+          (sym (t.0 ∙ was.count))))
           (get_pushed owners o i p (rw is at h));
     }

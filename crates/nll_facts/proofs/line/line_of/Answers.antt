@@ -12,21 +12,24 @@ returns-in-Some c = spells_more _ _ (keyword _) _ c.in-Some.ensures tt c.in_ok-n
 
 pub returns-in_err-from : goal.returns-in_err-from
 returns-in_err-from c =
-    rw c.from_residual-in_err-from.ensures (λ f h. (let r = behind_next _ _ f c.in-Some-after_word.ensures h in c.in_err-from.ensures r.0 r.1))
+    rw c.from_residual-in_err-from.ensures
+    (λ f h. (let r = behind_next _ _ f c.in-Some-after_word.ensures h in c.in_err-from.ensures r.0 r.1))
 
 pub returns-in-Some-after_word : goal.returns-in-Some-after_word
 returns-in-Some-after_word c = spells_more _ _ (keyword _) _ c.in-Some-after_word.ensures tt c.in_ok-from.ensures
 
 pub returns-in_err-sup : goal.returns-in_err-sup
 returns-in_err-sup c =
-    rw c.from_residual-in_err-sup.ensures (λ f h. (let r = behind_constraint _ _ f c.in-Some-after_word-2.ensures h in c.in_err-sup.ensures r.0 r.1))
+    rw c.from_residual-in_err-sup.ensures
+    (λ f h. (let r = behind_constraint _ _ f c.in-Some-after_word-2.ensures h in c.in_err-sup.ensures r.0 r.1))
 
 pub returns-in-Some-after_word-2 : goal.returns-in-Some-after_word-2
 returns-in-Some-after_word-2 c = spells_more _ _ (keyword _) _ c.in-Some-after_word-2.ensures tt c.in_ok-sup.ensures
 
 pub returns-in_err-number : goal.returns-in_err-number
 returns-in_err-number c =
-    rw c.from_residual-in_err-number.ensures (λ f h. (let r = behind_return _ _ f c.in-Some-after_word-3.ensures h in c.in_err-number.ensures r.0 r.1))
+    rw c.from_residual-in_err-number.ensures
+    (λ f h. (let r = behind_return _ _ f c.in-Some-after_word-3.ensures h in c.in_err-number.ensures r.0 r.1))
 
 pub returns-in-Some-after_word-3 : goal.returns-in-Some-after_word-3
 returns-in-Some-after_word-3 c = spells_more _ _ (keyword _) _ c.in-Some-after_word-3.ensures tt c.in_ok-number.ensures

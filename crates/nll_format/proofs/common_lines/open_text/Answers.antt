@@ -10,7 +10,12 @@ returns-then-text-gt-MAX_TEXT-clause-fault c = inl (refl, c.if-text-gt-MAX_TEXT.
 pub returns-in_err-check_header-clause-fault : goal.returns-in_err-check_header-clause-fault
 returns-in_err-check_header-clause-fault c =
     let p = err_from_is_err_and c.from_residual.result c.from_residual.ensures.1 in
-    rw (p.1, p.2) (inr (c.next_line.result.0.now, lines_left c.next_line.result.1, record { short = omega arith; cut = c.next_line.ensures }, c.in_err-check_header.ensures.fault))
+    rw (p.1, p.2) (inr (
+      c.next_line.result.0.now,
+      lines_left c.next_line.result.1,
+      record { short = omega arith; cut = c.next_line.ensures },
+      c.in_err-check_header.ensures.fault,
+    ))
 
 pub returns-clause-ok : goal.returns-clause-ok
 returns-clause-ok c = record {

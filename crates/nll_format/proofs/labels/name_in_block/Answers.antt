@@ -11,8 +11,11 @@ within : (c : After-blocks_begun-block) → c.blocks_begun-block.result - 1 < le
 within c = omega (arith, some c, c.blocks_begun-block.ensures.within)
 
 -- the last block that is counted begins at the point or before it
-last : (c : After-blocks_begun-block) → slice_index_or c.args.starts.now (c.blocks_begun-block.result - 1) 0 ≤ c.args.point
-last c = last_begun c.args.starts.now c.args.point c.blocks_begun-block.result (some c) c.blocks_begun-block.ensures.count c.blocks_begun-block.ensures.front
+last : (c : After-blocks_begun-block)
+    → slice_index_or c.args.starts.now (c.blocks_begun-block.result - 1) 0 ≤ c.args.point
+last c =
+    last_begun c.args.starts.now c.args.point c.blocks_begun-block.result
+    (some c) c.blocks_begun-block.ensures.count c.blocks_begun-block.ensures.front
 
 low : (c : After-blocks_begun-block) → c.blocks_begun-block.result - 1 ≤ c.args.point
 low c = omega (arith, at_least c.args.starts.now c.requires.rise (c.blocks_begun-block.result - 1) (within c), last c)
@@ -21,10 +24,12 @@ pub overflow_sub-block : goal.overflow_sub-block
 overflow_sub-block c = some (goal.at.overflow_sub-block c).After-blocks_begun-block
 
 pub overflow_cast-result : goal.overflow_cast-result
-overflow_cast-result c = omega (arith, low (goal.at.overflow_cast-result c).After-blocks_begun-block, c.ranges.point.fits)
+overflow_cast-result c =
+    omega (arith, low (goal.at.overflow_cast-result c).After-blocks_begun-block, c.ranges.point.fits)
 
 pub offset_bounds-starts-block : goal.offset_bounds-starts-block
-offset_bounds-starts-block c = omega (arith, low (goal.at.offset_bounds-starts-block c).After-blocks_begun-block, c.ranges.point.fits)
+offset_bounds-starts-block c =
+    omega (arith, low (goal.at.offset_bounds-starts-block c).After-blocks_begun-block, c.ranges.point.fits)
 
 pub bounds-starts-block : goal.bounds-starts-block
 bounds-starts-block c = within (goal.at.bounds-starts-block c).After-blocks_begun-block
@@ -36,4 +41,5 @@ pub returns : goal.returns
 returns c =
     let count = c.blocks_begun-block.ensures.count in
     let here = c.blocks_begun-block.ensures.front in
-    rw (sym count) (rw here (rw (get_or-take c.blocks_begun-block.result c.args.starts.now (c.blocks_begun-block.result - 1) 0 (omega (arith, some (goal.at.returns c).After-blocks_begun-block))) refl))
+    rw (sym count) (rw here (rw (get_or-take c.blocks_begun-block.result c.args.starts.now
+    (c.blocks_begun-block.result - 1) 0 (omega (arith, some (goal.at.returns c).After-blocks_begun-block))) refl))

@@ -16,7 +16,8 @@ loop-rest-init g c = record {
 pub returns-in_err-rest-2-clause-fault : goal.returns-in_err-rest-2-clause-fault
 returns-in_err-rest-2-clause-fault g c =
     let p = err_from_is_err_and c.from_residual-in_err-rest-2.result c.from_residual-in_err-rest-2.ensures.1 in
-    rw (p.1, p.2) (refuses_then (g.R.LineReader.format_of c.args.format.now) _ _ _ _ _ _ _ (rw c.in-Some.is at c.loop-rest.invariant.read) c.in_err-rest-2.ensures.fault)
+    rw (p.1, p.2) (refuses_then (g.R.LineReader.format_of c.args.format.now) _ _ _ _ _ _ _
+    (rw c.in-Some.is at c.loop-rest.invariant.read) c.in_err-rest-2.ensures.fault)
 
 pub loop-rest-preserved : goal.loop-rest-preserved
 loop-rest-preserved g c =
@@ -27,7 +28,8 @@ loop-rest-preserved g c =
       short = more.short;
       counted = omega (arith, left, more.counted, more.one, c.loop-rest.invariant.counted);
       fewer = omega (arith, left, more.one, c.loop-rest.invariant.fewer);
-      read = advances_then (g.R.LineReader.format_of c.args.format.now) _ _ _ _ _ _ _ _ _ (rw c.in-Some.is at c.loop-rest.invariant.read) more.read;
+      read = advances_then (g.R.LineReader.format_of c.args.format.now) _ _ _ _ _ _ _ _ _
+          (rw c.in-Some.is at c.loop-rest.invariant.read) more.read;
     }
 
 pub returns-clause-read : goal.returns-clause-read

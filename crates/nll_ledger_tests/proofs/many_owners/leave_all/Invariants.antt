@@ -5,8 +5,10 @@ use Rattle.nll_ledger_tests.proofs.many_owners.leave_all.Given as goal
 abbrev pub invariant-loop-share : goal.invariant-loop-share
 invariant-loop-share g l = record {
   count : vec_len l.lefts + deque_len l.coming ≡ vec_len l.fn.shares;
-  coming : (k : ℕ) (share : _) → slice_get l.coming.items k ≡ Some share → g.L.Ledger.belongs l.book share × (g.L.Ledger.number share ≡ vec_len l.lefts + k);
-  lefts : (k : ℕ) (left : _) → slice_get l.lefts.items k ≡ Some left → g.L.Ledger.left_belongs l.book left × (g.L.Ledger.left_number left ≡ k);
+  coming : (k : ℕ) (share : _) → slice_get l.coming.items k ≡ Some share
+      → g.L.Ledger.belongs l.book share × (g.L.Ledger.number share ≡ vec_len l.lefts + k);
+  lefts : (k : ℕ) (left : _) → slice_get l.lefts.items k ≡ Some left
+      → g.L.Ledger.left_belongs l.book left × (g.L.Ledger.left_number left ≡ k);
 }
 
 abbrev pub decreases-loop-share : goal.decreases-loop-share

@@ -7,4 +7,5 @@ use Rattle.nll_list_text.proofs.list.read_body.Goals as goal
 pub returns-clause-ok : goal.returns-clause-ok
 returns-clause-ok g c =
     let read = c.in_default.ensures.read in
-    subst (λ forms. Says (format_of (g.F.ListFormat.listing c.args.format.now)) [] (lines_left c.args.body) forms) read.3 read.1
+    subst (λ forms. Says (format_of (g.F.ListFormat.listing c.args.format.now)) [] (lines_left c.args.body) forms)
+    read.3 read.1

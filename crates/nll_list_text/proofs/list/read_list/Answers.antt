@@ -9,10 +9,16 @@ pub returns-in_err-body-clause-fault : goal.returns-in_err-body-clause-fault
 returns-in_err-body-clause-fault g c =
     let p = err_from_is_err_and c.from_residual.result c.from_residual.ensures.1 in
     rw (p.1, p.2)
-    (unopened_refused (format_of (g.F.ListFormat.listing c.args.format.now)) _ _ (rw (c.kind.ensures, c.version.ensures) at c.in_err-body.ensures.fault))
+    (unopened_refused (format_of (g.F.ListFormat.listing c.args.format.now)) _ _
+    (rw (c.kind.ensures, c.version.ensures) at c.in_err-body.ensures.fault))
 
 pub read_body-requires : goal.read_body-requires
-read_body-requires g c = record { long = c.in_ok-body.ensures.few; short = let headed = c.in_ok-body.ensures.ok in body_short c.args.text.now headed.header _ headed.cut }
+read_body-requires g c =
+    record {
+      long = c.in_ok-body.ensures.few;
+      short = let headed = c.in_ok-body.ensures.ok in
+          body_short c.args.text.now headed.header _ headed.cut;
+    }
 
 pub returns-clause-ok : goal.returns-clause-ok
 returns-clause-ok g c =

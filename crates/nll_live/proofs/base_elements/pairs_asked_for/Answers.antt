@@ -8,4 +8,6 @@ returns-clause-each c = λ r p.
     (λ h. covers.0 (each.0 h), λ h. each.1 (covers.1 h))
 
 pub returns-clause-within : goal.returns-clause-within
-returns-clause-within c = λ r p h. base_within c.args.body.now c.in_ok-push_variables.ensures.sound r p ((c.in_ok-push_variables.ensures.each r p).0 ((c.in_ok-pairs.ensures.each r p).0 h))
+returns-clause-within c =
+    λ r p h. base_within c.args.body.now c.in_ok-push_variables.ensures.sound r p
+    ((c.in_ok-push_variables.ensures.each r p).0 ((c.in_ok-pairs.ensures.each r p).0 h))

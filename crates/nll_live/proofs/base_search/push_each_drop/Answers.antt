@@ -12,16 +12,25 @@ use Rattle.nll_live.proofs.base_search.push_each_drop.Goals as goal
 use Rattle.nll_live.proofs.base_search.push_each_drop.Goals.{After-as_slice-list}
 
 -- the list of the variable
-list_is : (c : After-as_slice-list) → c.as_slice-list.result.now ≡ row_at (map (λ list. list.items) c.args.lists.now) c.loop-variable.variable
-list_is c = c.as_slice-list.ensures.value ∙ row_here (λ list. list.items) c.args.lists.now c.loop-variable.variable c.index-lists-variable.result
-    (omega (arith, c.loop-variable-test.true, c.variables-variable-end.ensures.value, c.requires.listed.counted, length-map c.args.lists.now (λ list. list.items)))
+list_is : (c : After-as_slice-list)
+    → c.as_slice-list.result.now ≡ row_at (map (λ list. list.items) c.args.lists.now) c.loop-variable.variable
+list_is c = c.as_slice-list.ensures.value
+    ∙ row_here (λ list. list.items) c.args.lists.now c.loop-variable.variable c.index-lists-variable.result
+    (omega (
+      arith,
+      c.loop-variable-test.true,
+      c.variables-variable-end.ensures.value,
+      c.requires.listed.counted,
+      length-map c.args.lists.now (λ list. list.items),
+    ))
     c.index-lists-variable.is
 
 pub push_found-requires-clause-points : goal.push_found-requires-clause-points
 push_found-requires-clause-points c =
     let d = (goal.at.push_found-requires-clause-points c).After-as_slice-list in
     λ p h.
-    (listed_within (length c.args.body.now.variables) (DropsAt c.args.body.now) (length c.args.body.now.points) (map (λ list. list.items) c.args.lists.now) c.requires.listed
+    (listed_within (length c.args.body.now.variables) (DropsAt c.args.body.now) (length c.args.body.now.points)
+    (map (λ list. list.items) c.args.lists.now) c.requires.listed
     c.loop-variable.variable p (subst (λ row. Contains row p) (list_is d) h)).2
 
 pub loop-variable-preserved : goal.loop-variable-preserved
@@ -30,23 +39,30 @@ loop-variable-preserved c =
     let body = c.args.body.now in
     let x : ℕ = c.loop-variable.variable in
     let list = c.as_slice-list.result.now in
-    let within : x < length body.variables = omega (arith, c.loop-variable-test.true, c.variables-variable-end.ensures.value) in
+    let within : x < length body.variables =
+    omega (arith, c.loop-variable-test.true, c.variables-variable-end.ensures.value) in
     record {
       width = c.in_ok-push_found.ensures.width;
       tall = c.in_ok-push_found.ensures.tall;
       fresh = c.in_ok-push_found.ensures.fresh;
-      asked = asked_to_step (AsksForDrop body) c.args.base_runs.now.items x c.loop-variable.base_runs.items c.push_found.new.base_runs.items c.loop-variable.invariant.asked
-          (asked_of body x c.as_slice.result.now (IsDropRegion c.args.body.now.structs) (IsLive body (Contains list) x) (IsDropLive body x) c.loop-variable.base_runs.items c.push_found.new.base_runs.items within
+      asked = asked_to_step (AsksForDrop body) c.args.base_runs.now.items x c.loop-variable.base_runs.items
+          c.push_found.new.base_runs.items c.loop-variable.invariant.asked
+          (asked_of body x c.as_slice.result.now (IsDropRegion c.args.body.now.structs) (IsLive body (Contains list) x)
+          (IsDropLive body x) c.loop-variable.base_runs.items c.push_found.new.base_runs.items within
           (rw c.as_slice.ensures.value c.in_ok-regions.ensures.each)
           (λ p. (
-            live_same body (Contains list) (DropsAt body x) x p (λ q k. ((c.requires.listed.each x q within).0 (subst (λ row. Contains row q) (list_is d) k)).0),
-            live_same body (DropsAt body x) (Contains list) x p (λ q k. subst (λ row. Contains row q) (sym (list_is d)) ((c.requires.listed.each x q within).1 (k, slice_get_within body.points q k.0 k.1))),
+            live_same body (Contains list) (DropsAt body x) x p
+                (λ q k. ((c.requires.listed.each x q within).0 (subst (λ row. Contains row q) (list_is d) k)).0),
+            live_same body (DropsAt body x) (Contains list) x p
+                (λ q k. subst (λ row. Contains row q) (sym (list_is d))
+                ((c.requires.listed.each x q within).1 (k, slice_get_within body.points q k.0 k.1))),
           ))
           c.in_ok-push_found.ensures.gains);
     }
 
 pub returns : goal.returns
 returns c =
-    asked_to_last (AsksForDrop c.args.body.now) c.args.base_runs.now.items c.loop-variable.variable c.loop-variable.base_runs.items
+    asked_to_last (AsksForDrop c.args.body.now) c.args.base_runs.now.items c.loop-variable.variable
+    c.loop-variable.base_runs.items
     (λ x r p h. omega (arith, drop_declared c.args.body.now x r p h, c.variables-variable-end.ensures.value))
     c.loop-variable.invariant.asked

@@ -7,7 +7,8 @@ use Rattle.nll_live.proofs.chains.chain_starts.Goals as goal
 pub loop-point-preserved : goal.loop-point-preserved
 loop-point-preserved c =
     subst (AreStarts (IsNext c.args.previous.now) (c.loop-point.point + 1)) (sym c.in_ok-push.ensures.items)
-    (starts_step (IsNext c.args.previous.now) c.loop-point.point c.loop-point.starts.items c.start_of-start.result c.loop-point.invariant c.start_of-start.ensures.before c.start_of-start.ensures.chain)
+    (starts_step (IsNext c.args.previous.now) c.loop-point.point c.loop-point.starts.items c.start_of-start.result
+    c.loop-point.invariant c.start_of-start.ensures.before c.start_of-start.ensures.chain)
 
 pub returns : goal.returns
 returns c =

@@ -11,9 +11,17 @@ use Rattle.nll_live.proofs.live_points.find_set.Goals as goal
 use Rattle.nll_live.proofs.live_points.find_set.Goals.{After-as_slice-definitions}
 
 -- the definitions are those of the variable
-definitions_are : (c : After-as_slice-definitions) → c.as_slice-definitions.result.now ≡ row_at (map (λ list. list.items) c.args.ways.now.definitions.items) c.args.variable
-definitions_are c = c.as_slice-definitions.ensures.value ∙ row_here (λ list. list.items) c.args.ways.now.definitions.items c.args.variable c.index.result.now
-    (omega (arith, c.requires.variable, c.requires.ways.defined.counted, length-map c.args.ways.now.definitions.items (λ list. list.items)))
+definitions_are : (c : After-as_slice-definitions)
+    → c.as_slice-definitions.result.now
+    ≡ row_at (map (λ list. list.items) c.args.ways.now.definitions.items) c.args.variable
+definitions_are c = c.as_slice-definitions.ensures.value
+    ∙ row_here (λ list. list.items) c.args.ways.now.definitions.items c.args.variable c.index.result.now
+    (omega (
+      arith,
+      c.requires.variable,
+      c.requires.ways.defined.counted,
+      length-map c.args.ways.now.definitions.items (λ list. list.items),
+    ))
     c.index.ensures
 
 pub search_back-requires-clause-definitions : goal.search_back-requires-clause-definitions
@@ -23,15 +31,19 @@ search_back-requires-clause-definitions c =
     (c.requires.ways.defined.each c.args.variable (omega (arith, c.requires.variable, c.requires.ways.defined.counted)))
 
 pub search_back-requires-clause-ends : goal.search_back-requires-clause-ends
-search_back-requires-clause-ends c = λ k low. c.requires.points (slice_index c.args.list.now k) (Contains-get_or c.args.list.now k 0 low)
+search_back-requires-clause-ends c =
+    λ k low. c.requires.points (slice_index c.args.list.now k) (Contains-get_or c.args.list.now k 0 low)
 
 pub set_found-requires-clause-within : goal.set_found-requires-clause-within
 set_found-requires-clause-within c = λ p h.
-    let below = live_within c.args.body.now (Contains c.args.list.now) c.args.variable c.requires.points p ((c.in_ok-search_back.ensures.each p).0 h) in
+    let below =
+    live_within c.args.body.now (Contains c.args.list.now) c.args.variable c.requires.points p
+    ((c.in_ok-search_back.ensures.each p).0 h) in
     omega (arith, below, c.points-points.ensures.value)
 
 pub returns-clause-each : goal.returns-clause-each
 returns-clause-each c =
     if_ok c.set_found.result _ _
-    (λ set each p. let live = c.in_ok-search_back.ensures.each p in (λ h. live.0 ((each p).0 h), λ h. (each p).1 (live.1 h)))
+    (λ set each p. let live = c.in_ok-search_back.ensures.each p in
+    (λ h. live.0 ((each p).0 h), λ h. (each p).1 (live.1 h)))
     c.set_found.ensures.each

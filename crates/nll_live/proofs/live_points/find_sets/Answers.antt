@@ -9,8 +9,12 @@ use Rattle.nll_live.proofs.live_points.find_sets.Goals as goal
 use Rattle.nll_live.proofs.live_points.find_sets.Goals.{After-as_slice-list}
 
 -- the list of the variable
-list_is : (c : After-as_slice-list) → c.as_slice-list.result.now ≡ row_at (map (λ list. list.items) c.args.lists.now) c.loop-variable.variable
-list_is c = c.as_slice-list.ensures.value ∙ row_here (λ list. list.items) c.args.lists.now c.loop-variable.variable c.index-lists-variable.result (omega (arith, c.loop-variable-test.true, c.variables-variable-end.ensures.value, c.requires.counted)) c.index-lists-variable.is
+list_is : (c : After-as_slice-list)
+    → c.as_slice-list.result.now ≡ row_at (map (λ list. list.items) c.args.lists.now) c.loop-variable.variable
+list_is c = c.as_slice-list.ensures.value
+    ∙ row_here (λ list. list.items) c.args.lists.now c.loop-variable.variable c.index-lists-variable.result
+    (omega (arith, c.loop-variable-test.true, c.variables-variable-end.ensures.value, c.requires.counted))
+    c.index-lists-variable.is
 
 pub find_set-requires-clause-points : goal.find_set-requires-clause-points
 find_set-requires-clause-points c =
@@ -28,6 +32,8 @@ loop-variable-preserved c =
       tall = c.in_ok-set.ensures.tall;
       fresh = c.in_ok-set.ensures.fresh;
       sets = subst (AreSetsUpTo (length body.points) holds (x + 1)) (sym c.in_ok-push.ensures.items)
-          (sets_step (length body.points) holds x c.loop-variable.sets.items c.in_ok-set.set c.loop-variable.invariant.sets c.in_ok-set.ensures.set_width
-          (λ p. subst (λ row. (flag c.in_ok-set.set p ≡ true) ↔ IsLive body (Contains row) x p) (list_is d) (c.in_ok-set.ensures.each p)));
+          (sets_step (length body.points) holds x c.loop-variable.sets.items c.in_ok-set.set
+          c.loop-variable.invariant.sets c.in_ok-set.ensures.set_width
+          (λ p. subst (λ row. (flag c.in_ok-set.set p ≡ true) ↔ IsLive body (Contains row) x p) (list_is d)
+          (c.in_ok-set.ensures.each p)));
     }

@@ -9,5 +9,6 @@ invariant-loop-variable l = record {
   width : length l.room.marks.items ≡ length l.body.points;
   tall : length l.room.heights.items ≡ length l.body.points;
   fresh : (p : ℕ) → slice_index l.room.marks.items p ≤ l.variable;
-  sets : AreSetsUpTo (length l.body.points) (λ x. IsLive l.body (IsListed (map (λ list. list.items) l.lists) x) x) l.variable l.sets.items;
+  sets : AreSetsUpTo (length l.body.points)
+      (λ x. IsLive l.body (IsListed (map (λ list. list.items) l.lists) x) x) l.variable l.sets.items;
 }

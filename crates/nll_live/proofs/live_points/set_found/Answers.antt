@@ -7,17 +7,22 @@ use Rattle.nll_live.proofs.live_points.set_found.Goals as goal
 use Rattle.nll_live.proofs.live_points.set_found.Goals.{After-as_slice-2}
 
 -- the sorted points cover what the room's do
-covered : (c : After-as_slice-2) (p : ℕ) → IsCovered c.as_slice.result.now c.as_slice-2.result.now p ↔ IsCovered c.args.room.now.heights.items c.args.room.now.lows.items p
+covered : (c : After-as_slice-2) (p : ℕ)
+    → IsCovered c.as_slice.result.now c.as_slice-2.result.now p
+    ↔ IsCovered c.args.room.now.heights.items c.args.room.now.lows.items p
 covered c p =
     let heights = c.args.room.now.heights.items in
     let lows = c.args.room.now.lows.items in
-    subst (λ (hs : List ℕ). IsCovered hs c.as_slice-2.result.now p ↔ IsCovered heights lows p) (sym c.as_slice.ensures.value)
+    subst (λ (hs : List ℕ). IsCovered hs c.as_slice-2.result.now p ↔ IsCovered heights lows p)
+    (sym c.as_slice.ensures.value)
     (subst (λ (xs : List ℕ). IsCovered heights xs p ↔ IsCovered heights lows p) (sym c.as_slice-2.ensures.value)
     (covered_moved heights lows c.sort_unstable.new.self.items c.sort_unstable.ensures.permutation p))
 
 pub set_of-requires-clause-proper : goal.set_of-requires-clause-proper
 set_of-requires-clause-proper c = λ low h.
-    let has = (contains_moved c.args.room.now.lows.items c.sort_unstable.new.self.items c.sort_unstable.ensures.permutation low).0 (subst (λ (xs : List ℕ). Contains xs low) c.as_slice-2.ensures.value h) in
+    let has =
+    (contains_moved c.args.room.now.lows.items c.sort_unstable.new.self.items c.sort_unstable.ensures.permutation
+    low).0 (subst (λ (xs : List ℕ). Contains xs low) c.as_slice-2.ensures.value h) in
     subst (λ (hs : List ℕ). low ≤ slice_index hs low) (sym c.as_slice.ensures.value) (c.requires.proper low has)
 
 pub set_of-requires-clause-within : goal.set_of-requires-clause-within

@@ -26,7 +26,11 @@ insert_run-requires-clause-below c =
     omega (arith, below, c.loop-low.invariant.wide)
 
 pub loop-low-preserved : goal.loop-low-preserved
-loop-low-preserved c = covers_step c.args.heights.now c.args.lows.now c.loop-low.low-index c.args.points c.loop-low.set _ _ c.loop-low-test.true refl refl c.loop-low.invariant c.in_ok-insert_run.ensures.ok
+loop-low-preserved c =
+    covers_step c.args.heights.now c.args.lows.now c.loop-low.low-index c.args.points c.loop-low.set _ _
+    c.loop-low-test.true refl refl c.loop-low.invariant c.in_ok-insert_run.ensures.ok
 
 pub returns-clause-each : goal.returns-clause-each
-returns-clause-each c = λ p. subst (λ (xs : List ℕ). (flag c.loop-low.set p ≡ true) ↔ IsCovered c.args.heights.now xs p) (take_all c.loop-low.low-index c.args.lows.now (omega arith)) (c.loop-low.invariant.each p)
+returns-clause-each c =
+    λ p. subst (λ (xs : List ℕ). (flag c.loop-low.set p ≡ true) ↔ IsCovered c.args.heights.now xs p)
+    (take_all c.loop-low.low-index c.args.lows.now (omega arith)) (c.loop-low.invariant.each p)

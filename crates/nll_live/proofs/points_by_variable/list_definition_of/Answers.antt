@@ -12,4 +12,5 @@ returns-in_ok-list_at-clause-lists c =
     c.in_ok-list_at.ensures.lists
 
 pub returns-in_default-clause-ascending : goal.returns-in_default-clause-ascending
-returns-in_default-clause-ascending c = ascend_later c.args.point (c.args.point + 1) (map (λ list. list.items) c.args.lists.now.items) (omega arith)
+returns-in_default-clause-ascending c =
+    ascend_later c.args.point (c.args.point + 1) (map (λ list. list.items) c.args.lists.now.items) (omega arith)

@@ -4,4 +4,5 @@ use Rattle.nll_live.specs.Gathering.{AreListed}
 use Rattle.nll_live.proofs.points_by_variable.list_uses.Given as goal
 
 abbrev pub invariant-loop-point : goal.invariant-loop-point
-invariant-loop-point l = AreListed (length l.body.variables) (UsesAt l.body) l.point (map (λ list. list.items) l.lists.items)
+invariant-loop-point l =
+    AreListed (length l.body.variables) (UsesAt l.body) l.point (map (λ list. list.items) l.lists.items)

@@ -7,13 +7,17 @@ use Rattle.nll_live.proofs.search.search_back.Given as goal
 
 abbrev pub invariant-loop-point : goal.invariant-loop-point
 invariant-loop-point l = record {
-  reaches : ReachesMore (λ low p. Contains l.ends p × IsLow (slice_index l.starts p) l.definitions p low) l.turn l.fn.room.marks.items l.fn.room.heights.items l.fn.room.lows.items l.room.marks.items l.room.heights.items l.room.lows.items;
+  reaches : ReachesMore (λ low p. Contains l.ends p × IsLow (slice_index l.starts p) l.definitions p low) l.turn
+      l.fn.room.marks.items l.fn.room.heights.items l.fn.room.lows.items l.room.marks.items l.room.heights.items
+      l.room.lows.items;
   found : AreFound l.room.marks.items l.room.heights.items l.turn l.room.lows.items;
   all : (k : ℕ) → k < l.point-index → IsReached l.room.marks.items l.room.heights.items l.turn (slice_index l.ends k);
 }
 
 abbrev pub invariant-loop-place : goal.invariant-loop-place
-invariant-loop-place l = Searching l.body l.variable l.turn l.ends l.fn.room.marks.items l.fn.room.heights.items l.room.marks.items l.room.heights.items l.room.lows.items l.place
+invariant-loop-place l =
+    Searching l.body l.variable l.turn l.ends l.fn.room.marks.items l.fn.room.heights.items l.room.marks.items
+    l.room.heights.items l.room.lows.items l.place
 
 abbrev pub decreases-loop-place : goal.decreases-loop-place
 decreases-loop-place l = (length l.room.lows.items - l.place) + unmarked l.room.marks.items l.turn

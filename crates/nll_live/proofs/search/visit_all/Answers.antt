@@ -10,13 +10,25 @@ use Rattle.nll_live.proofs.search.visit_all.Goals as goal
 
 pub loop-point-preserved : goal.loop-point-preserved
 loop-point-preserved c =
-    let step = reaches_weaker _ (λ low p. Contains c.args.points.now p × (DefinesAt c.args.body.now c.args.variable p → ⊥) × IsLow (slice_index c.args.starts.now p) c.args.definitions.now p low) _ _ _ _ _ _ _
-    (λ low p h. (subst (Contains c.args.points.now) (sym h.0) (Contains-get_or c.args.points.now c.loop-point.point-index 0 c.loop-point-test.true), h.1, h.2)) c.in_ok-visit_undefined.ensures.reaches in
+    let step =
+    reaches_weaker _ (λ low p. Contains c.args.points.now p × (DefinesAt c.args.body.now c.args.variable p → ⊥)
+    × IsLow (slice_index c.args.starts.now p) c.args.definitions.now p low) _ _ _ _ _ _ _
+    (λ low p h. (
+      subst (Contains c.args.points.now) (sym h.0)
+          (Contains-get_or c.args.points.now c.loop-point.point-index 0 c.loop-point-test.true),
+      h.1,
+      h.2,
+    ))
+    c.in_ok-visit_undefined.ensures.reaches in
     record {
       reaches = reaches_append _ _ _ _ _ _ _ _ _ _ _ c.loop-point.invariant.reaches step;
       found = c.in_ok-visit_undefined.ensures.found;
-      all = below_more _ _ (λ k h n. reached_kept _ _ _ _ _ _ _ _ step _ (c.loop-point.invariant.all k h n)) c.in_ok-visit_undefined.ensures.all;
+      all = below_more _ _ (λ k h n. reached_kept _ _ _ _ _ _ _ _ step _ (c.loop-point.invariant.all k h n))
+          c.in_ok-visit_undefined.ensures.all;
     }
 
 pub returns-clause-all : goal.returns-clause-all
-returns-clause-all c = at_each (λ p. (DefinesAt c.args.body.now c.args.variable p → ⊥) → IsReached c.loop-point.room.marks.items c.loop-point.room.heights.items c.args.turn p) c.args.points.now (λ k h. c.loop-point.invariant.all k (omega arith))
+returns-clause-all c =
+    at_each (λ p. (DefinesAt c.args.body.now c.args.variable p → ⊥)
+    → IsReached c.loop-point.room.marks.items c.loop-point.room.heights.items c.args.turn p) c.args.points.now
+    (λ k h. c.loop-point.invariant.all k (omega arith))

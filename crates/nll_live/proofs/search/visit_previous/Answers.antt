@@ -6,14 +6,26 @@ use Rattle.nll_live.proofs.SearchLemmas.{going_on, going_within}
 use Rattle.nll_live.proofs.search.visit_previous.Goals as goal
 
 pub visit_all-requires-clause-points : goal.visit_all-requires-clause-points
-visit_all-requires-clause-points c = going_within c.args.body.now c.args.previous.now c.requires.shown c.args.point c.previous_of-points.result.now c.previous_of-points.ensures.each
+visit_all-requires-clause-points c =
+    going_within c.args.body.now c.args.previous.now c.requires.shown c.args.point c.previous_of-points.result.now
+    c.previous_of-points.ensures.each
 
 pub returns-clause-reaches : goal.returns-clause-reaches
 returns-clause-reaches c =
-    reaches_weaker _ (λ low p. GoesOnUndefined c.args.body.now c.args.variable p c.args.point × IsLow (slice_index c.args.starts.now p) c.args.definitions.now p low) _ _ _ _ _ _ _
-    (λ low p h. ((h.1, (going_on c.args.body.now c.args.previous.now c.requires.shown c.args.point c.previous_of-points.result.now c.previous_of-points.ensures.each p).0 h.0), h.2))
+    reaches_weaker _ (λ low p. GoesOnUndefined c.args.body.now c.args.variable p c.args.point
+    × IsLow (slice_index c.args.starts.now p) c.args.definitions.now p low) _ _ _ _ _ _ _
+    (λ low p h. (
+      (
+        h.1,
+        (going_on c.args.body.now c.args.previous.now c.requires.shown c.args.point
+            c.previous_of-points.result.now c.previous_of-points.ensures.each p).0 h.0,
+      ),
+      h.2,
+    ))
     c.in_ok-visit_all.ensures.reaches
 
 pub returns-clause-all : goal.returns-clause-all
 returns-clause-all c =
-    λ p h. c.in_ok-visit_all.ensures.all p ((going_on c.args.body.now c.args.previous.now c.requires.shown c.args.point c.previous_of-points.result.now c.previous_of-points.ensures.each p).1 h.1) h.0
+    λ p h. c.in_ok-visit_all.ensures.all p
+    ((going_on c.args.body.now c.args.previous.now c.requires.shown c.args.point c.previous_of-points.result.now
+    c.previous_of-points.ensures.each p).1 h.1) h.0

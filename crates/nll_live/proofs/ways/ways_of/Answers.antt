@@ -7,6 +7,7 @@ use Rattle.nll_live.proofs.ways.ways_of.Goals as goal
 pub returns-in-Ok : goal.returns-in-Ok
 returns-in-Ok c = record {
   chains = starts_of_body c.args.body.now c.args.previous.now c.in_ok-starts.starts.items c.requires
-      (subst (λ (n : ℕ). AreStarts (IsNext c.args.previous.now) n c.in_ok-starts.starts.items) c.points.ensures.value c.in_ok-starts.ensures);
+      (subst (λ (n : ℕ). AreStarts (IsNext c.args.previous.now) n c.in_ok-starts.starts.items) c.points.ensures.value
+      c.in_ok-starts.ensures);
   defined = c.in-Ok.ensures;
 }

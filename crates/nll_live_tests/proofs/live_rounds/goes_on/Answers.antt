@@ -13,7 +13,18 @@ returns-then-defines c = (
 
 pub returns : goal.returns
 returns c = (
-  λ h. let any = c.is_any.ensures.0 h in
-      (any.0, any.1, (λ d. false≢true (sym c.if-defines.false ∙ c.defines.ensures.1 d), (c.graph-graph.ensures.next c.args.point any.0).0 ((c.next_of.ensures.each any.0).0 any.2))),
-  λ h. c.is_any.ensures.1 (h.0, h.1, (c.next_of.ensures.each h.0).1 ((c.graph-graph.ensures.next c.args.point h.0).1 h.2.1)),
+  λ h. let any = c.is_any.ensures.0 h in (
+    any.0,
+    any.1,
+    (
+      λ d. false≢true (sym c.if-defines.false ∙ c.defines.ensures.1 d),
+      (c.graph-graph.ensures.next c.args.point any.0).0 ((c.next_of.ensures.each any.0).0 any.2),
+    ),
+  ),
+  λ h. c.is_any.ensures.1 (
+    h.0,
+    h.1,
+    (c.next_of.ensures.each h.0).1
+        ((c.graph-graph.ensures.next c.args.point h.0).1 h.2.1),
+  ),
 )

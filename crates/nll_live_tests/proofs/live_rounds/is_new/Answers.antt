@@ -10,6 +10,9 @@ returns-then-is_flagged c = (
 
 pub returns : goal.returns
 returns c = (
-  λ h. (false_from_ne_true _ (λ on. false≢true (sym c.if-is_flagged.false ∙ c.is_flagged.ensures.1 on)), c.goes_on.ensures.0 h),
+  λ h. (
+    false_from_ne_true _ (λ on. false≢true (sym c.if-is_flagged.false ∙ c.is_flagged.ensures.1 on)),
+    c.goes_on.ensures.0 h,
+  ),
   λ new. c.goes_on.ensures.1 new.1,
 )

@@ -9,15 +9,18 @@ returns-then-not-is_new-clause-flags c = flags_none c.args.body.now c.args.varia
 pub returns-then-not-is_new-clause-closed : goal.returns-then-not-is_new-clause-closed
 returns-then-not-is_new-clause-closed c =
     let exact = rw c.as_slice.ensures.value at c.is_new.ensures in
-    λ h q on step. flagged_or_new c.args.body.now c.args.variable c.args.flags.now.items c.args.point (λ new. false≢true (sym c.if-not-is_new.true ∙ exact.1 new)) q on step
+    λ h q on step. flagged_or_new c.args.body.now c.args.variable c.args.flags.now.items c.args.point
+    (λ new. false≢true (sym c.if-not-is_new.true ∙ exact.1 new)) q on step
 
 pub returns-clause-flags : goal.returns-clause-flags
 returns-clause-flags c =
     let exact = rw c.as_slice.ensures.value at c.is_new.ensures in
     let new = exact.0 c.if-not-is_new.false in
-    flags_one c.args.body.now c.args.variable c.args.flags.now.items c.args.point new.1.0 new.1.1 new.1.2 (omega (arith, c.requires.width, c.requires.point))
+    flags_one c.args.body.now c.args.variable c.args.flags.now.items c.args.point new.1.0 new.1.1 new.1.2
+    (omega (arith, c.requires.width, c.requires.point))
 
 pub returns-clause-fewer : goal.returns-clause-fewer
 returns-clause-fewer c =
     let exact = rw c.as_slice.ensures.value at c.is_new.ensures in
-    λ h. unflagged_one c.args.flags.now.items c.args.point (omega (arith, c.requires.width, c.requires.point)) (exact.0 c.if-not-is_new.false).0
+    λ h. unflagged_one c.args.flags.now.items c.args.point (omega (arith, c.requires.width, c.requires.point))
+    (exact.0 c.if-not-is_new.false).0

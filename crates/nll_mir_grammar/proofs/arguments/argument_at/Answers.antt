@@ -11,4 +11,5 @@ pub returns : goal.returns
 returns c =
     let found = rw c.in-Some.is at c.in_ok-operand.ensures in
     rw c.with.ensures
-    (read_pair parts.operands (behind (sign 58) parts.types) operands_one operands_join_colon _ _ c.in-Some.operand operand_of written (λ r. from r c.args.tokens.now) _ found c.type_behind.ensures)
+    (read_pair parts.operands (behind (sign 58) parts.types) operands_one operands_join_colon _ _ c.in-Some.operand
+    operand_of written (λ r. from r c.args.tokens.now) _ found c.type_behind.ensures)

@@ -15,4 +15,6 @@ returns-in-None c =
 pub returns-in-Some-2 : goal.returns-in-Some-2
 returns-in-Some-2 c =
     let found = rw c.in-Some-2.is at c.in_ok-behind.ensures in
-    parentheses_end parts.arguments arguments_listable _ _ _ _ (λ r. from r c.args.tokens.now) _ c.in-Some.ensures c.in_default-after_sign.ensures found c.after_sign-in-Some-2.ensures
+    parentheses_end parts.arguments arguments_listable _ _ _ _
+    (λ r. from r c.args.tokens.now) _ c.in-Some.ensures c.in_default-after_sign.ensures found
+    c.after_sign-in-Some-2.ensures

@@ -10,7 +10,9 @@ pub loop-block-smaller : goal.loop-block-smaller
 loop-block-smaller c = fewer_left block_names _ _ c.in-Some.block (blocks_solid c.in-Some.block) c.in-Some.ensures
 
 pub loop-block-preserved : goal.loop-block-preserved
-loop-block-preserved c = rw c.in_ok-push.ensures.items (read_more block_names _ _ _ _ c.in-Some.block c.loop-block.invariant c.in-Some.ensures)
+loop-block-preserved c =
+    rw c.in_ok-push.ensures.items (read_more block_names _ _ _ _ c.in-Some.block c.loop-block.invariant
+    c.in-Some.ensures)
 
 pub returns : goal.returns
 returns c = many_found block_names _ _ _ c.loop-block.invariant c.in_default.ensures

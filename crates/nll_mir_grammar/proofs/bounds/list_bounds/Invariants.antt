@@ -5,7 +5,8 @@ use Rattle.nll_mir_grammar.proofs.GrammarLemmas.{HasListed}
 use Rattle.nll_mir_grammar.proofs.bounds.list_bounds.Given as goal
 
 abbrev pub invariant-loop-next : goal.invariant-loop-next
-invariant-loop-next l = HasListed parts.bounds (from l.at l.tokens) (map (λ w. (w.0.now, w.1.now)) l.bounds.items) (from l.rest l.tokens)
+invariant-loop-next l =
+    HasListed parts.bounds (from l.at l.tokens) (map (λ w. (w.0.now, w.1.now)) l.bounds.items) (from l.rest l.tokens)
 
 abbrev pub decreases-loop-next : goal.decreases-loop-next
 decreases-loop-next l = length (from l.rest l.tokens)

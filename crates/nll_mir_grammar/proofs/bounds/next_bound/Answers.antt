@@ -5,4 +5,6 @@ use Rattle.nll_mir_grammar.proofs.GrammarLemmas.{put_behind}
 use Rattle.nll_mir_grammar.proofs.bounds.next_bound.Goals as goal
 
 pub returns-in-Some : goal.returns-in-Some
-returns-in-Some c = put_behind parts.bounds (sign 44) (λ w. (w.0.now, w.1.now)) (λ r. from r c.args.tokens.now) _ _ _ _ _ c.in-Some.ensures c.push_bound.ensures
+returns-in-Some c =
+    put_behind parts.bounds (sign 44) (λ w. (w.0.now, w.1.now))
+    (λ r. from r c.args.tokens.now) _ _ _ _ _ c.in-Some.ensures c.push_bound.ensures

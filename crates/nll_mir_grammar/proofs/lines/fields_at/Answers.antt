@@ -8,4 +8,6 @@ use Rattle.nll_mir_grammar.proofs.lines.fields_at.Goals as goal
 
 pub returns : goal.returns
 returns c = rw c.with.ensures
-    (read_pair drop_marks tuples drop_marks_one drops_join _ _ c.drop_mark_at-has_drop.result.0 (λ m. m) (λ t. parts (written t)) (λ r. from r c.args.tokens.now) _ c.drop_mark_at-has_drop.ensures c.tuple_front.ensures)
+    (read_pair drop_marks tuples drop_marks_one drops_join _ _ c.drop_mark_at-has_drop.result.0 (λ m. m)
+    (λ t. parts (written t)) (λ r. from r c.args.tokens.now) _ c.drop_mark_at-has_drop.ensures
+    c.tuple_front.ensures)

@@ -10,10 +10,13 @@ use Rattle.nll_mir_grammar.proofs.KindLemmas.{parameters_join}
 use Rattle.nll_mir_grammar.proofs.lines.struct_behind.Goals as goal
 
 pub returns-in_default : goal.returns-in_default
-returns-in_default c = let none = rw c.in_default.is at c.in_ok-parameters.ensures in pair_none parameter_lists (pair drop_marks tuples) parameters_join _ none
+returns-in_default c = let none = rw c.in_default.is at c.in_ok-parameters.ensures in
+    pair_none parameter_lists (pair drop_marks tuples) parameters_join _ none
 
 pub returns : goal.returns
 returns c =
     let found = rw c.in-Some.is at c.in_ok-parameters.ensures in
     rw c.with.ensures
-    (read_pair parameter_lists (pair drop_marks tuples) parameter_lists_one parameters_join _ _ c.in-Some.parameters (λ v. map parameter_of v.items) (λ f. (f.0, parts (written f.1))) (λ r. from r c.args.tokens.now) _ found c.fields_at.ensures)
+    (read_pair parameter_lists (pair drop_marks tuples) parameter_lists_one parameters_join _ _ c.in-Some.parameters
+    (λ v. map parameter_of v.items) (λ f. (f.0, parts (written f.1)))
+    (λ r. from r c.args.tokens.now) _ found c.fields_at.ensures)

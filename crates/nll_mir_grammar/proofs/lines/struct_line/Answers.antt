@@ -7,4 +7,5 @@ use Rattle.nll_mir_grammar.proofs.lines.struct_line.Goals as goal
 pub returns-in_default-2 : goal.returns-in_default-2
 returns-in_default-2 c =
     let none = rw c.in_default-2.is at c.in_ok-parameters.ensures in
-    pair_none_behind parts.names (pair parts.parameter_lists (pair parts.drop_marks parts.tuples)) names_one (names_join (pair parts.parameter_lists (pair parts.drop_marks parts.tuples))) _ _ _ c.in-Some.ensures none
+    pair_none_behind parts.names (pair parts.parameter_lists (pair parts.drop_marks parts.tuples)) names_one
+    (names_join (pair parts.parameter_lists (pair parts.drop_marks parts.tuples))) _ _ _ c.in-Some.ensures none

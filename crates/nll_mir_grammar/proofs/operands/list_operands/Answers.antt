@@ -6,16 +6,25 @@ use Rattle.nll_mir_grammar.proofs.PartLemmas.{operands_listable}
 use Rattle.nll_mir_grammar.proofs.operands.list_operands.Goals as goal
 
 pub returns-in_default : goal.returns-in_default
-returns-in_default c = let none = rw c.in_default.is at c.in_ok-first.ensures in commas_none parts.operands operands_listable.comma _ none.0
+returns-in_default c = let none = rw c.in_default.is at c.in_ok-first.ensures in
+    commas_none parts.operands operands_listable.comma _ none.0
 
 pub loop-next-init : goal.loop-next-init
-loop-next-init c = put_first parts.operands operand_of (λ r. from r c.args.tokens.now) _ _ _ c.in-Some.first c.requires (rw c.in-Some.is at c.in_ok-first.ensures)
+loop-next-init c =
+    put_first parts.operands operand_of (λ r. from r c.args.tokens.now) _ _ _ c.in-Some.first c.requires
+    (rw c.in-Some.is at c.in_ok-first.ensures)
 
 pub loop-next-smaller : goal.loop-next-smaller
-loop-next-smaller c = put_fewer parts.operands operand_of (λ r. from r c.args.tokens.now) _ _ _ c.in-Some-2.next (rw c.in-Some-2.is at c.in_ok-next.ensures)
+loop-next-smaller c =
+    put_fewer parts.operands operand_of (λ r. from r c.args.tokens.now) _ _ _ c.in-Some-2.next
+    (rw c.in-Some-2.is at c.in_ok-next.ensures)
 
 pub loop-next-preserved : goal.loop-next-preserved
-loop-next-preserved c = put_next parts.operands operand_of (λ r. from r c.args.tokens.now) _ _ _ _ c.in-Some-2.next c.loop-next.invariant (rw c.in-Some-2.is at c.in_ok-next.ensures)
+loop-next-preserved c =
+    put_next parts.operands operand_of (λ r. from r c.args.tokens.now) _ _ _ _ c.in-Some-2.next c.loop-next.invariant
+    (rw c.in-Some-2.is at c.in_ok-next.ensures)
 
 pub returns : goal.returns
-returns c = put_last parts.operands operand_of (λ r. from r c.args.tokens.now) _ _ _ _ c.loop-next.invariant (rw c.in_default-2.is at c.in_ok-next.ensures)
+returns c =
+    put_last parts.operands operand_of (λ r. from r c.args.tokens.now) _ _ _ _ c.loop-next.invariant
+    (rw c.in_default-2.is at c.in_ok-next.ensures)

@@ -10,4 +10,5 @@ returns-in_default-2 c =
 pub returns-in_default-after_sign : goal.returns-in_default-after_sign
 returns-in_default-after_sign c =
     let found = rw c.in-Some-2.is at c.in_ok-behind.ensures in
-    no_parameters _ _ c.in-Some.ensures (inside_open _ _ parameters_listable _ _ _ found c.in_default-after_sign.ensures)
+    no_parameters _ _ c.in-Some.ensures
+    (inside_open _ _ parameters_listable _ _ _ found c.in_default-after_sign.ensures)

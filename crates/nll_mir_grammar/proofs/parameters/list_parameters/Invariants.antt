@@ -6,7 +6,8 @@ use Rattle.nll_mir_grammar.proofs.GrammarLemmas.{HasListed}
 use Rattle.nll_mir_grammar.proofs.parameters.list_parameters.Given as goal
 
 abbrev pub invariant-loop-next : goal.invariant-loop-next
-invariant-loop-next l = HasListed parts.parameters (from l.at l.tokens) (map parameter_of l.parameters.items) (from l.rest l.tokens)
+invariant-loop-next l =
+    HasListed parts.parameters (from l.at l.tokens) (map parameter_of l.parameters.items) (from l.rest l.tokens)
 
 abbrev pub decreases-loop-next : goal.decreases-loop-next
 decreases-loop-next l = length (from l.rest l.tokens)

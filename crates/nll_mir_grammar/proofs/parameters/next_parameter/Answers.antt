@@ -6,4 +6,6 @@ use Rattle.nll_mir_grammar.proofs.GrammarLemmas.{put_behind}
 use Rattle.nll_mir_grammar.proofs.parameters.next_parameter.Goals as goal
 
 pub returns-in-Some : goal.returns-in-Some
-returns-in-Some c = put_behind parts.parameters (sign 44) parameter_of (λ r. from r c.args.tokens.now) _ _ _ _ _ c.in-Some.ensures c.push_parameter.ensures
+returns-in-Some c =
+    put_behind parts.parameters (sign 44) parameter_of
+    (λ r. from r c.args.tokens.now) _ _ _ _ _ c.in-Some.ensures c.push_parameter.ensures

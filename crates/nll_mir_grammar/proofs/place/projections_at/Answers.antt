@@ -7,10 +7,13 @@ pub loop-projection-init : goal.loop-projection-init
 loop-projection-init c = rw c.new-projections.ensures.items (nothing_read projections _)
 
 pub loop-projection-smaller : goal.loop-projection-smaller
-loop-projection-smaller c = fewer_left projections _ _ c.in-Some.projection (projections_solid c.in-Some.projection) c.in-Some.ensures
+loop-projection-smaller c =
+    fewer_left projections _ _ c.in-Some.projection (projections_solid c.in-Some.projection) c.in-Some.ensures
 
 pub loop-projection-preserved : goal.loop-projection-preserved
-loop-projection-preserved c = rw c.in_ok-push_projection.ensures (read_more projections _ _ _ _ c.in-Some.projection c.loop-projection.invariant c.in-Some.ensures)
+loop-projection-preserved c =
+    rw c.in_ok-push_projection.ensures (read_more projections _ _ _ _ c.in-Some.projection c.loop-projection.invariant
+    c.in-Some.ensures)
 
 pub returns : goal.returns
 returns c = many_found projections _ _ _ c.loop-projection.invariant c.in_default.ensures

@@ -5,7 +5,8 @@ use Rattle.nll_mir_grammar.proofs.KindLemmas.{switch_join}
 use Rattle.nll_mir_grammar.proofs.points.switch_line.Goals as goal
 
 pub returns-in_default : goal.returns-in_default
-returns-in_default c = let none = rw c.in_default.is at c.in_ok-operand.ensures in pair_none parts.operands parts.block_lists switch_join _ none
+returns-in_default c = let none = rw c.in_default.is at c.in_ok-operand.ensures in
+    pair_none parts.operands parts.block_lists switch_join _ none
 
 pub returns-in_default-2 : goal.returns-in_default-2
 returns-in_default-2 c =

@@ -8,10 +8,13 @@ use Rattle.nll_mir_grammar.proofs.KindLemmas.{bounds_join}
 use Rattle.nll_mir_grammar.proofs.right.call_end_at.Goals as goal
 
 pub returns-in_default : goal.returns-in_default
-returns-in_default c = let none = rw c.in_default.is at c.in_ok-bounds.ensures in pair_none parts.bound_lists parts.exits bounds_join _ none
+returns-in_default c = let none = rw c.in_default.is at c.in_ok-bounds.ensures in
+    pair_none parts.bound_lists parts.exits bounds_join _ none
 
 pub returns : goal.returns
 returns c =
     let found = rw c.in-Some.is at c.in_ok-bounds.ensures in
     rw c.with.ensures
-    (read_pair parts.bound_lists parts.exits bound_lists_one bounds_join _ _ c.in-Some.bounds (λ v. map (λ w. (w.0.now, w.1.now)) v.items) (λ e. e) (λ r. from r c.args.tokens.now) (Ok c.exits_at.result) found c.exits_at.ensures)
+    (read_pair parts.bound_lists parts.exits bound_lists_one bounds_join _ _ c.in-Some.bounds
+    (λ v. map (λ w. (w.0.now, w.1.now)) v.items) (λ e. e) (λ r. from r c.args.tokens.now)
+    (Ok c.exits_at.result) found c.exits_at.ensures)

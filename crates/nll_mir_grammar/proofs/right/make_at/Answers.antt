@@ -9,10 +9,12 @@ use Rattle.nll_mir_grammar.proofs.KindLemmas.{makes_join}
 use Rattle.nll_mir_grammar.proofs.right.make_at.Goals as goal
 
 pub returns-in_default : goal.returns-in_default
-returns-in_default c = let none = rw c.in_default.is at c.in_ok-ty.ensures in pair_none parts.types (parentheses parts.operands) makes_join _ none
+returns-in_default c = let none = rw c.in_default.is at c.in_ok-ty.ensures in
+    pair_none parts.types (parentheses parts.operands) makes_join _ none
 
 pub returns : goal.returns
 returns c =
     let found = rw c.in-Some.is at c.in_ok-ty.ensures in
     rw c.with.ensures
-    (read_pair parts.types (parentheses parts.operands) types_one makes_join _ _ c.in-Some.ty written (λ v. map operand_of v.items) (λ r. from r c.args.tokens.now) _ found c.operands_in.ensures)
+    (read_pair parts.types (parentheses parts.operands) types_one makes_join _ _ c.in-Some.ty written
+    (λ v. map operand_of v.items) (λ r. from r c.args.tokens.now) _ found c.operands_in.ensures)

@@ -6,4 +6,6 @@ use Rattle.nll_mir_grammar.proofs.GrammarLemmas.{read_behind}
 use Rattle.nll_mir_grammar.proofs.right.result_behind.Goals as goal
 
 pub returns-in-Some : goal.returns-in-Some
-returns-in-Some c = read_behind results (sign 58) _ _ (λ p. result_of p.0) (λ p. from p.1 c.args.tokens.now) _ c.in-Some.ensures c.result_at.ensures
+returns-in-Some c =
+    read_behind results (sign 58) _ _ (λ p. result_of p.0)
+    (λ p. from p.1 c.args.tokens.now) _ c.in-Some.ensures c.result_at.ensures

@@ -18,4 +18,6 @@ pub returns : goal.returns
 returns c =
     let found = rw c.in-Some.is at c.in_ok-arguments.ensures in
     rw c.with.ensures
-    (read_pair (parentheses parts.arguments) (behind (sign 58) results) (parentheses_one parts.arguments arguments_listable) signatures_join _ _ c.in-Some.arguments (λ v. map argument_of v.items) result_of (λ r. from r c.args.tokens.now) _ found c.result_behind.ensures)
+    (read_pair (parentheses parts.arguments) (behind (sign 58) results)
+    (parentheses_one parts.arguments arguments_listable) signatures_join _ _ c.in-Some.arguments
+    (λ v. map argument_of v.items) result_of (λ r. from r c.args.tokens.now) _ found c.result_behind.ensures)

@@ -6,4 +6,6 @@ use Rattle.nll_mir_grammar.proofs.GrammarLemmas.{read_behind}
 use Rattle.nll_mir_grammar.proofs.type_front.type_behind.Goals as goal
 
 pub returns-in-Some : goal.returns-in-Some
-returns-in-Some c = read_behind types (sign 58) _ _ (λ p. written p.0) (λ p. from p.1 c.args.tokens.now) _ c.in-Some.ensures c.type_front.ensures
+returns-in-Some c =
+    read_behind types (sign 58) _ _ (λ p. written p.0)
+    (λ p. from p.1 c.args.tokens.now) _ c.in-Some.ensures c.type_front.ensures

@@ -10,7 +10,8 @@ pub returns-in-Some : goal.returns-in-Some
 returns-in-Some c =
     let found = rw c.in-Some.is at c.in_ok-ty.ensures.reads in
     let here = rw (take_rest c.args.tokens.now c.args.at) at found in
-    type_found _ _ _ (rw (further c.args.tokens.now c.args.at c.in-Some.count, of_rest c.args.tokens.now c.args.at) at here)
+    type_found _ _ _ (rw (further c.args.tokens.now c.args.at c.in-Some.count, of_rest c.args.tokens.now c.args.at) at
+    here)
 
 pub returns-in-None : goal.returns-in-None
 returns-in-None c =

@@ -7,13 +7,17 @@ use Rattle.nll_mir_grammar.proofs.version.are_first_arguments.Goals as goal
 
 pub loop-argument-preserved : goal.loop-argument-preserved
 loop-argument-preserved c =
-    all_more (λ a. written a.1) (λ t. not (has_function t)) c.args.arguments.now c.loop-argument.argument-index c.argument-item.result _ c.loop-argument-test.true c.argument-item.is
+    all_more (λ a. written a.1) (λ t. not (has_function t)) c.args.arguments.now c.loop-argument.argument-index
+    c.argument-item.result _ c.loop-argument-test.true c.argument-item.is
     (sym c.in_ok-is_first_type.ensures ∙ c.if-not-branch.false) c.loop-argument.invariant
 
 pub returns-then-not-branch : goal.returns-then-not-branch
 returns-then-not-branch c =
-    not_all (λ a. written a.1) (λ t. not (has_function t)) c.args.arguments.now c.loop-argument.argument-index c.argument-item.result _ c.loop-argument-test.true c.argument-item.is
+    not_all (λ a. written a.1) (λ t. not (has_function t)) c.args.arguments.now c.loop-argument.argument-index
+    c.argument-item.result _ c.loop-argument-test.true c.argument-item.is
     (sym c.in_ok-is_first_type.ensures ∙ c.if-not-branch.true) c.loop-argument.invariant
 
 pub returns : goal.returns
-returns c = all_passed (λ a. written a.1) (λ t. not (has_function t)) c.args.arguments.now c.loop-argument.argument-index (omega arith) c.loop-argument.invariant
+returns c =
+    all_passed (λ a. written a.1) (λ t. not (has_function t)) c.args.arguments.now c.loop-argument.argument-index
+    (omega arith) c.loop-argument.invariant

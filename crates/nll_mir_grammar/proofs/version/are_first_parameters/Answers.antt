@@ -12,13 +12,17 @@ no_parameter = parameters.Region record { ref_ptr = (0, 0); now = [] } record { 
 
 pub loop-parameter-preserved : goal.loop-parameter-preserved
 loop-parameter-preserved c =
-    all_more parameter_of is_first_parameter c.args.parameters.now c.loop-parameter.parameter-index _ no_parameter c.loop-parameter-test.true refl
+    all_more parameter_of is_first_parameter c.args.parameters.now c.loop-parameter.parameter-index _ no_parameter
+    c.loop-parameter-test.true refl
     (sym c.is_first_parameter.ensures ∙ c.if-not-is_first_parameter.false) c.loop-parameter.invariant
 
 pub returns-then-not-is_first_parameter : goal.returns-then-not-is_first_parameter
 returns-then-not-is_first_parameter c =
-    not_all parameter_of is_first_parameter c.args.parameters.now c.loop-parameter.parameter-index _ no_parameter c.loop-parameter-test.true refl
+    not_all parameter_of is_first_parameter c.args.parameters.now c.loop-parameter.parameter-index _ no_parameter
+    c.loop-parameter-test.true refl
     (sym c.is_first_parameter.ensures ∙ c.if-not-is_first_parameter.true) c.loop-parameter.invariant
 
 pub returns : goal.returns
-returns c = all_passed parameter_of is_first_parameter c.args.parameters.now c.loop-parameter.parameter-index (omega arith) c.loop-parameter.invariant
+returns c =
+    all_passed parameter_of is_first_parameter c.args.parameters.now c.loop-parameter.parameter-index
+    (omega arith) c.loop-parameter.invariant

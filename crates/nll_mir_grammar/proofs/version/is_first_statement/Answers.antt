@@ -9,13 +9,17 @@ use Rattle.nll_mir_grammar.proofs.VersionLemmas.{and_true, all_push, call_types}
 use Rattle.nll_mir_grammar.proofs.version.is_first_statement.Goals as goal
 
 pub returns-in-Make : goal.returns-in-Make
-returns-in-Make c = rw c.in-Make.is (IfOk-weaker c.is_first_type.result _ _ (λ b told. (rw c.deref.ensures at told) ∙ sym (and_true _)) c.is_first_type.ensures)
+returns-in-Make c =
+    rw c.in-Make.is (IfOk-weaker c.is_first_type.result _ _
+    (λ b told. (rw c.deref.ensures at told) ∙ sym (and_true _)) c.is_first_type.ensures)
 
 pub returns-then-not-branch : goal.returns-then-not-branch
 returns-then-not-branch c =
     let call = c.in-Call.call.value in
     let plain = λ (t : WrittenType). not (has_function t) in
-    let told = sym (rw c.deref-in-Call.ensures at (rw c.as_slice.ensures.value at c.in_ok-are_first_arguments-in-Call.ensures)) ∙ c.if-not-branch.true in
+    let told =
+    sym (rw c.deref-in-Call.ensures at (rw c.as_slice.ensures.value at c.in_ok-are_first_arguments-in-Call.ensures))
+    ∙ c.if-not-branch.true in
     rw c.in-Call.is (sym (ap (λ ts. list_all plain (ts ++ written call.result ∷ [])) (call_types call.arguments.items)
     ∙ (all_push plain (map (λ a. written a.1) call.arguments.items) (written call.result)
     ∙ ap (λ b. b && plain (written call.result)) told)))
@@ -24,7 +28,10 @@ pub returns-else-not-branch : goal.returns-else-not-branch
 returns-else-not-branch c = rw c.in-Call.is (IfOk-weaker c.is_first_type-in-Call.result _ _ (λ b said.
     let call = c.in-Call.call.value in
     let plain = λ (t : WrittenType). not (has_function t) in
-    let told = sym (rw c.deref-in-Call.ensures at (rw c.as_slice.ensures.value at c.in_ok-are_first_arguments-in-Call.ensures)) ∙ c.if-not-branch.false in
-    (rw c.deref-in-Call-2.ensures at said) ∙ sym (ap (λ ts. list_all plain (ts ++ written call.result ∷ [])) (call_types call.arguments.items)
+    let told =
+    sym (rw c.deref-in-Call.ensures at (rw c.as_slice.ensures.value at c.in_ok-are_first_arguments-in-Call.ensures))
+    ∙ c.if-not-branch.false in
+    (rw c.deref-in-Call-2.ensures at said)
+    ∙ sym (ap (λ ts. list_all plain (ts ++ written call.result ∷ [])) (call_types call.arguments.items)
     ∙ (all_push plain (map (λ a. written a.1) call.arguments.items) (written call.result)
     ∙ ap (λ b. b && plain (written call.result)) told))) c.is_first_type-in-Call.ensures)

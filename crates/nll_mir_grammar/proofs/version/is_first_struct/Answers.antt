@@ -10,10 +10,12 @@ use Rattle.nll_mir_grammar.proofs.version.is_first_struct.Goals as goal
 pub returns-then-not-are_first_parameters : goal.returns-then-not-are_first_parameters
 returns-then-not-are_first_parameters c =
     let fields = not (have_function (parts (written c.args.text.now.fields))) in
-    sym (ap (λ b. b && fields) (sym (rw c.as_slice.ensures.value at c.are_first_parameters.ensures) ∙ c.if-not-are_first_parameters.true))
+    sym (ap (λ b. b && fields) (sym (rw c.as_slice.ensures.value at c.are_first_parameters.ensures)
+    ∙ c.if-not-are_first_parameters.true))
 
 pub returns : goal.returns
 returns c = IfOk-weaker c.is_first_type.result _ _ (λ b told.
     let fields = not (have_function (parts (written c.args.text.now.fields))) in
     told ∙ (ap (λ t. not t) (rw c.as_type.ensures.value (fields_alike _ c.as_type.ensures.tuple))
-    ∙ ap (λ z. z && fields) (sym (sym (rw c.as_slice.ensures.value at c.are_first_parameters.ensures) ∙ c.if-not-are_first_parameters.false)))) c.is_first_type.ensures
+    ∙ ap (λ z. z && fields) (sym (sym (rw c.as_slice.ensures.value at c.are_first_parameters.ensures)
+    ∙ c.if-not-are_first_parameters.false)))) c.is_first_type.ensures

@@ -8,11 +8,13 @@ use Rattle.nll_mir_text.proofs.fields.declaration.Goals as goal
 
 pub returns-clause-regions : goal.returns-clause-regions
 returns-clause-regions c = IfOk-weaker c.declared_with.result _ _
-    (λ d same. same ∙ ap (λ (ps : List ParameterText). region_marks (map parameter_of ps)) c.as_slice.ensures.value) c.declared_with.ensures.regions
+    (λ d same. same ∙ ap (λ (ps : List ParameterText). region_marks (map parameter_of ps)) c.as_slice.ensures.value)
+    c.declared_with.ensures.regions
 
 pub returns-clause-types : goal.returns-clause-types
 returns-clause-types c = IfOk-weaker c.declared_with.result _ _
-    (λ d same. same ∙ ap (λ (ps : List ParameterText). type_marks (map parameter_of ps)) c.as_slice.ensures.value) c.declared_with.ensures.types
+    (λ d same. same ∙ ap (λ (ps : List ParameterText). type_marks (map parameter_of ps)) c.as_slice.ensures.value)
+    c.declared_with.ensures.types
 
 pub returns-clause-has_drop : goal.returns-clause-has_drop
 returns-clause-has_drop c = c.declared_with.ensures.has_drop

@@ -9,5 +9,6 @@ pub returns-clause-judged : goal.returns-clause-judged
 returns-clause-judged c = λ s t is of. record {
   known = sym (ap (is_known s) is) ∙ of.known;
   fits = c.fits.ensures ∙ (of.fits ∙ ap (has_arguments s) is);
-  small = (rw c.shapes.ensures at c.has_small_parts-small.ensures) (all_meant s (parts t)) (c.in_ok-shape.ensures.shape ∙ ap shape_of (fields_are s t _ is of.tree));
+  small = (rw c.shapes.ensures at c.has_small_parts-small.ensures) (all_meant s (parts t))
+      (c.in_ok-shape.ensures.shape ∙ ap shape_of (fields_are s t _ is of.tree));
 }

@@ -18,7 +18,8 @@ loop-argument-preserved c =
           (ap (map argument_kept) c.in_ok-push.ensures.items
           ∙ (map_push argument_kept l.meant.items _
           ∙ ap (λ (a : Operand × TypeTree). map argument_kept l.meant.items ++ a ∷ []) c.in_ok-argument_meant.ensures))
-          (ap (λ (xs : List (KeptOperand × Resolved)). map argument_kept l.meant.items ++ map argument_resolved xs) (sym steps.0) ∙ l.invariant.meant);
+          (ap (λ (xs : List (KeptOperand × Resolved)). map argument_kept l.meant.items ++ map argument_resolved xs)
+          (sym steps.0) ∙ l.invariant.meant);
       counted = omega (arith, steps.1, ap length steps.0, l.invariant.counted);
     }
 
@@ -27,6 +28,8 @@ returns c =
     let l = c.loop-argument in
     let empty = none_left (into_iter_items l.argument-iterator) (sym l.invariant.counted ∙ c.in-None.ensures.steps.0) in
     sym (append-nil (map argument_kept l.meant.items))
-    ∙ (ap (λ (xs : List (KeptOperand × Resolved)). map argument_kept l.meant.items ++ map argument_resolved xs) (sym empty)
+    ∙ (ap (λ (xs : List (KeptOperand × Resolved)). map argument_kept l.meant.items ++ map argument_resolved xs)
+    (sym empty)
     ∙ (l.invariant.meant
-    ∙ ap (λ (xs : List (KeptOperand × Resolved)). map argument_kept c.args.meant.now.items ++ map argument_resolved xs) c.into_iter-argument-iterator.ensures.into_iter_gives.0))
+    ∙ ap (λ (xs : List (KeptOperand × Resolved)). map argument_kept c.args.meant.now.items ++ map argument_resolved xs)
+    c.into_iter-argument-iterator.ensures.into_iter_gives.0))

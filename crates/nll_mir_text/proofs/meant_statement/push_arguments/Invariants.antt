@@ -5,6 +5,7 @@ use Rattle.nll_mir_text.proofs.meant_statement.push_arguments.Given as goal
 
 abbrev pub invariant-loop-argument : goal.invariant-loop-argument
 invariant-loop-argument l = record {
-  meant : map argument_kept l.meant.items ++ map argument_resolved (into_iter_items l.argument-iterator) ≡ map argument_kept l.fn.meant.items ++ map argument_resolved (into_iter_items l.initial.argument-iterator);
+  meant : map argument_kept l.meant.items ++ map argument_resolved (into_iter_items l.argument-iterator)
+      ≡ map argument_kept l.fn.meant.items ++ map argument_resolved (into_iter_items l.initial.argument-iterator);
   counted : into_iter_len l.argument-iterator ≡ length (into_iter_items l.argument-iterator);
 }

@@ -13,7 +13,8 @@ body-requires-clause-sound c =
 pub returns-clause-ok : goal.returns-clause-ok
 returns-clause-ok c =
     let h = c.in_ok-reader.ensures.ok in
-    IfOk-weaker c.body.result _ _ (λ body same. record { version = h.0; forms = h.1; fits = h.2; same = same ∙ sym (ap body_said h.3) }) c.body.ensures.ok
+    IfOk-weaker c.body.result _ _ (λ body same.
+    record { version = h.0; forms = h.1; fits = h.2; same = same ∙ sym (ap body_said h.3) }) c.body.ensures.ok
 
 pub returns-clause-fault : goal.returns-clause-fault
 returns-clause-fault c = IfErr-weaker c.body.result _ _ (λ error same. inl same) c.body.ensures.err

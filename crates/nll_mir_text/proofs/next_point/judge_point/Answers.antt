@@ -10,12 +10,15 @@ use Rattle.nll_mir_text.proofs.next_point.judge_point.Goals as goal
 pub returns-clause-judged : goal.returns-clause-judged
 returns-clause-judged c = λ regions structs i of.
     let t = c.in_ok-types.ensures.shaped in
-    let count : c.len.result ≡ length c.args.variables.now.types.items = omega (arith, c.len.ensures, c.args.variables.now.types.ok.0) in
+    let count : c.len.result ≡ length c.args.variables.now.types.items =
+    omega (arith, c.len.ensures, c.args.variables.now.types.ok.0) in
     let numbers = c.as_slice-shapes.ensures.value in
     let shapes = c.as_slice.ensures in
     let variables = rw (sym numbers) at (have_shapes _ _ _ _ c.in_ok-types.ensures.extends c.requires) in
     let types = rw (sym shapes) at t.same in
-    let judged = c.in_ok-judged.ensures.judged (map tree c.args.variables.now.types.items) (λ (r : ℕ). r) tree_of variables types in
+    let judged =
+    c.in_ok-judged.ensures.judged (map tree c.args.variables.now.types.items)
+    (λ (r : ℕ). r) tree_of variables types in
     point_judged regions structs c.args.variables.now i (statement_of c.args.statement.now) of
     c.variables_declared-known.result c.in_ok-types.types.fit c.in_ok-judged.judged _ refl refl refl
     (rw count at c.variables_declared-known.ensures)
@@ -35,7 +38,8 @@ pub returns-in_err-judged-clause-structs : goal.returns-in_err-judged-clause-str
 returns-in_err-judged-clause-structs c = c.in_err-judged.ensures.structs ∙ c.in_ok-types.ensures.structs
 
 pub returns-in_err-judged-clause-extends : goal.returns-in_err-judged-clause-extends
-returns-in_err-judged-clause-extends c = extends_then _ _ _ c.in_ok-types.ensures.extends c.in_err-judged.ensures.extends
+returns-in_err-judged-clause-extends c =
+    extends_then _ _ _ c.in_ok-types.ensures.extends c.in_err-judged.ensures.extends
 
 pub returns-in_err-types-clause-others : goal.returns-in_err-types-clause-others
 returns-in_err-types-clause-others c = refl

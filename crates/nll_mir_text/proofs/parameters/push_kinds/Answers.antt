@@ -9,4 +9,5 @@ pub loop-parameter-preserved : goal.loop-parameter-preserved
 loop-parameter-preserved c =
     let rest = drop_more c.args.parameters.now c.loop-parameter.parameter-index _ c.loop-parameter-test.true in
     moved _ _ _ _ _ (c.in_ok-push.ensures.items ∙ ap (λ b. c.loop-parameter.kinds.items ++ b ∷ []) c.is_region.ensures)
-    (ap (λ xs. c.loop-parameter.kinds.items ++ map is_region (map parameter_of xs)) (sym rest) ∙ c.loop-parameter.invariant)
+    (ap (λ xs. c.loop-parameter.kinds.items ++ map is_region (map parameter_of xs)) (sym rest)
+    ∙ c.loop-parameter.invariant)

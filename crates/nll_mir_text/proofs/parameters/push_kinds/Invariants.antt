@@ -4,4 +4,6 @@ use Rattle.nll_mir_text.specs.MirSaid.{is_region}
 use Rattle.nll_mir_text.proofs.parameters.push_kinds.Given as goal
 
 abbrev pub invariant-loop-parameter : goal.invariant-loop-parameter
-invariant-loop-parameter l = l.kinds.items ++ map is_region (map parameter_of (drop l.parameter-index l.parameters)) ≡ l.fn.kinds.items ++ map is_region (map parameter_of l.parameters)
+invariant-loop-parameter l =
+    l.kinds.items ++ map is_region (map parameter_of (drop l.parameter-index l.parameters))
+    ≡ l.fn.kinds.items ++ map is_region (map parameter_of l.parameters)

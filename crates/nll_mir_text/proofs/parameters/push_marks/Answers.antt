@@ -10,8 +10,11 @@ loop-parameter-preserved c =
     let ps = c.args.parameters.now in
     let within = c.loop-parameter-test.true in
     record {
-      regions = moved _ _ _ _ _ e.regions (ap (λ ms. l.declaration.regions.items ++ ms) (region_marks_from ps l.parameter-index _ within) ∙ i.regions);
-      types = moved _ _ _ _ _ e.types (ap (λ ms. l.declaration.types.items ++ ms) (type_marks_from ps l.parameter-index _ within) ∙ i.types);
+      regions =
+          moved _ _ _ _ _ e.regions (ap (λ ms. l.declaration.regions.items ++ ms)
+          (region_marks_from ps l.parameter-index _ within) ∙ i.regions);
+      types = moved _ _ _ _ _ e.types (ap (λ ms. l.declaration.types.items ++ ms)
+          (type_marks_from ps l.parameter-index _ within) ∙ i.types);
       has_drop = e.has_drop ∙ i.has_drop;
       fields = e.fields ∙ i.fields;
     }

@@ -35,4 +35,5 @@ pub returns-in_err-read_parts-clause-fault : goal.returns-in_err-read_parts-clau
 returns-in_err-read_parts-clause-fault c =
     let p = err_from_is_err_and c.from_residual-in_err-read_parts.result c.from_residual-in_err-read_parts.ensures.1 in
     let first = rw c.as_slice.ensures.value at c.in_ok-first.ensures.under_way in
-    rw (p.1, p.2) (refused_in _ _ _ _ first.headed (c.in_err-read_parts.ensures.fault first.body first.amid c.args.text.items first.headed))
+    rw (p.1, p.2) (refused_in _ _ _ _ first.headed
+    (c.in_err-read_parts.ensures.fault first.body first.amid c.args.text.items first.headed))

@@ -29,7 +29,8 @@ pub returns-in_err-rest-2-clause-fault : goal.returns-in_err-rest-2-clause-fault
 returns-in_err-rest-2-clause-fault c =
     let p = err_from_is_err_and c.from_residual-in_err-rest-2.result c.from_residual-in_err-rest-2.ensures.1 in
     rw (p.1, p.2) (λ all amid. c.in_err-rest-2.ensures.fault all
-    (subst (λ left. IsAmid c.args.version all left (said_by c.loop-rest.reader) c.loop-rest.number) (ap lines_left c.in-Some.is) (c.loop-rest.invariant.advances.read all amid)))
+    (subst (λ left. IsAmid c.args.version all left (said_by c.loop-rest.reader) c.loop-rest.number)
+    (ap lines_left c.in-Some.is) (c.loop-rest.invariant.advances.read all amid)))
 
 pub loop-rest-smaller : goal.loop-rest-smaller
 loop-rest-smaller c = omega (arith, ap length (ap lines_left c.in-Some.is), c.in_ok-rest-2.ensures.fewer)
@@ -37,7 +38,9 @@ loop-rest-smaller c = omega (arith, ap length (ap lines_left c.in-Some.is), c.in
 pub loop-rest-preserved : goal.loop-rest-preserved
 loop-rest-preserved c =
     let lines = lines_of c.args.text.now in
-    let before = subst (λ (left : List (List ℕ)). Advances c.args.version lines left c.args.reader.now c.args.number.now c.loop-rest.reader c.loop-rest.number) (ap lines_left c.in-Some.is) c.loop-rest.invariant.advances in
+    let before =
+    subst (λ (left : List (List ℕ)). Advances c.args.version lines left c.args.reader.now c.args.number.now
+    c.loop-rest.reader c.loop-rest.number) (ap lines_left c.in-Some.is) c.loop-rest.invariant.advances in
     let after = c.in_ok-rest-2.ensures in
     record {
       advances = advances_then c.args.version _ _ _ _ _ _ _ _ _ before after.advances;

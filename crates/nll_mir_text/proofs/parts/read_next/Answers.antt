@@ -24,6 +24,7 @@ returns-in-Err-clause-fault c = λ all amid text headed.
     body_refused (mir c.args.version) text _ _ headed (⊎_elim inl
     (λ told. ⊎_elim
     (λ memory. absurd (told.1 memory))
-    (λ wrong. let found = amid_fault c.args.version all _ _ _ _ _ c.next_line.ensures c.in-Err.kind wrong amid in rw told.0 (inr (omega (arith, found.0), found.1)))
+    (λ wrong. let found = amid_fault c.args.version all _ _ _ _ _ c.next_line.ensures c.in-Err.kind wrong amid in
+    rw told.0 (inr (omega (arith, found.0), found.1)))
     c.in-Err.ensures.fault)
     c.refusal.ensures.fault)

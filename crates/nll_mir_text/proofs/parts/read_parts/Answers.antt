@@ -35,7 +35,8 @@ loop-left-preserved c =
 pub returns-in_err-left-clause-fault : goal.returns-in_err-left-clause-fault
 returns-in_err-left-clause-fault c =
     let p = err_from_is_err_and c.from_residual.result c.from_residual.ensures.1 in
-    rw (p.1, p.2) (λ all amid. (rw c.as_slice.ensures.value at c.in_err-left.ensures.fault) all (rw c.in-Some.is at (c.loop-left.invariant.read all amid)))
+    rw (p.1, p.2) (λ all amid. (rw c.as_slice.ensures.value at c.in_err-left.ensures.fault) all
+    (rw c.in-Some.is at (c.loop-left.invariant.read all amid)))
 
 pub returns-then-not-has_ended-clause-fault : goal.returns-then-not-has_ended-clause-fault
 returns-then-not-has_ended-clause-fault c = λ all amid text headed.
@@ -43,8 +44,10 @@ returns-then-not-has_ended-clause-fault c = λ all amid text headed.
     let last : length (lines_of text) ≡ c.loop-left.number = omega (arith, ap length headed.cut.cut, done.3) in
     inr (subst (λ n. IsFault (mir c.args.version) text n End) last
     (no_end _ _ headed done.1
-    (not_ended _ (λ h. false≢true (sym c.if-not-has_ended.true ∙ (c.has_ended.ensures ∙ (sym (ap (λ (s : Said). has_reached s groups.End) done.2) ∙ h)))))))
+    (not_ended _ (λ h. false≢true (sym c.if-not-has_ended.true
+    ∙ (c.has_ended.ensures ∙ (sym (ap (λ (s : Said). has_reached s groups.End) done.2) ∙ h)))))))
 
 pub returns-clause-read : goal.returns-clause-read
 returns-clause-read c = λ all amid.
-    let done = amid_all c.args.version all _ _ (rw c.in_default.is at (c.loop-left.invariant.read all amid)) in (done.0, done.1, done.2)
+    let done = amid_all c.args.version all _ _ (rw c.in_default.is at (c.loop-left.invariant.read all amid)) in
+    (done.0, done.1, done.2)

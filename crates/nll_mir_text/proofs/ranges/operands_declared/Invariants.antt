@@ -4,4 +4,5 @@ use Rattle.nll_mir_text.specs.Stating.{operand_within}
 use Rattle.nll_mir_text.proofs.ranges.operands_declared.Given as goal
 
 abbrev pub invariant-loop-operand : goal.invariant-loop-operand
-invariant-loop-operand l = list_all (operand_within l.count) (drop l.operand-index l.operands) ≡ list_all (operand_within l.count) l.operands
+invariant-loop-operand l =
+    list_all (operand_within l.count) (drop l.operand-index l.operands) ≡ list_all (operand_within l.count) l.operands

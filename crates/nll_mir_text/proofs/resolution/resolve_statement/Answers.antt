@@ -7,7 +7,9 @@ pub returns-in-Assign : goal.returns-in-Assign
 returns-in-Assign c = rw c.in-Assign.is (record { known = refl; fits = refl; meant = refl })
 
 pub returns-in-Borrow : goal.returns-in-Borrow
-returns-in-Borrow c = rw c.in-Borrow.is (borrow_resolved (scope_in c.args.regions.now c.args.structs.now) c.in-Borrow.target c.in-Borrow.region c.in-Borrow.mutable c.in-Borrow.source c.resolve_borrow.result c.resolve_borrow.ensures)
+returns-in-Borrow c =
+    rw c.in-Borrow.is (borrow_resolved (scope_in c.args.regions.now c.args.structs.now) c.in-Borrow.target
+    c.in-Borrow.region c.in-Borrow.mutable c.in-Borrow.source c.resolve_borrow.result c.resolve_borrow.ensures)
 
 pub returns-in-Make : goal.returns-in-Make
 returns-in-Make c = rw c.in-Make.is c.resolve_make.ensures

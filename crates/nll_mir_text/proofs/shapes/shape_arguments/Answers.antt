@@ -13,7 +13,10 @@ loop-argument-preserved c =
     record {
       structs = e.structs ∙ i.structs;
       extends = extends_then _ _ _ i.extends e.extends;
-      shaped = subst (λ ts. AddsTypes ts c.args.table.now.shapes c.args.shaped.now c.shape_further.new.table.shapes c.shape_further.new.shaped)
-          (sym (map_item (λ a. a.1) c.args.arguments.now l.argument-index _ c.loop-argument-test.true c.argument-item.is))
+      shaped =
+          subst (λ ts. AddsTypes ts c.args.table.now.shapes c.args.shaped.now c.shape_further.new.table.shapes
+          c.shape_further.new.shaped)
+          (sym (map_item (λ a. a.1) c.args.arguments.now l.argument-index _ c.loop-argument-test.true
+          c.argument-item.is))
           (adds_then _ _ _ _ _ _ _ _ i.shaped e.shaped);
     }

@@ -7,5 +7,6 @@ abbrev pub invariant-loop-argument : goal.invariant-loop-argument
 invariant-loop-argument l = record {
   structs : l.table.structs ≡ l.fn.table.structs;
   extends : Extends l.fn.table.shapes l.table.shapes;
-  shaped : AddsTypes (map (λ a. a.1) (take l.argument-index l.arguments)) l.fn.table.shapes l.fn.shaped l.table.shapes l.shaped;
+  shaped : AddsTypes (map (λ a. a.1) (take l.argument-index l.arguments)) l.fn.table.shapes l.fn.shaped l.table.shapes
+      l.shaped;
 }

@@ -9,9 +9,11 @@ use Rattle.nll_mir_text.proofs.shapes.shape_call.Goals as goal
 
 pub returns-clause-shaped : goal.returns-clause-shaped
 returns-clause-shaped c =
-    let types = ap (map (λ (a : Operand × Resolved). a.1)) c.as_slice.ensures.value ∙ same_types c.args.call.now.arguments.items in
+    let types = ap (map (λ (a : Operand × Resolved). a.1)) c.as_slice.ensures.value
+    ∙ same_types c.args.call.now.arguments.items in
     let first = rw types at c.in_ok-shape_arguments.ensures.shaped in
-    on_ok_weaker c.shape_further.result (λ second. adds_then _ _ _ _ _ _ _ _ first second) c.shape_further.ensures.shaped
+    on_ok_weaker c.shape_further.result
+    (λ second. adds_then _ _ _ _ _ _ _ _ first second) c.shape_further.ensures.shaped
 
 pub returns-clause-structs : goal.returns-clause-structs
 returns-clause-structs c = c.shape_further.ensures.structs ∙ c.in_ok-shape_arguments.ensures.structs

@@ -9,7 +9,8 @@ abbrev pub invariant-loop-rest : goal.invariant-loop-rest
 invariant-loop-rest l = record {
   ready : IsReady l.reader;
   short : AreShort (lines_left l.rest);
-  read : (front : List (List ℕ)) × (forms : List Form) × IsRead l.version (lines_left l.fn.body) front (lines_left l.rest) forms (said_by l.reader) l.number;
+  read : (front : List (List ℕ)) × (forms : List Form)
+      × IsRead l.version (lines_left l.fn.body) front (lines_left l.rest) forms (said_by l.reader) l.number;
 }
 
 abbrev pub decreases-loop-rest : goal.decreases-loop-rest

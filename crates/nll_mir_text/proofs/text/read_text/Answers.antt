@@ -21,16 +21,19 @@ returns-then-text-gt-MAX_TEXT-clause-fault c = inr (too_long_for_mir c.args.text
 pub returns-in_err-version-clause-fault : goal.returns-in_err-version-clause-fault
 returns-in_err-version-clause-fault c =
     let p = err_from_is_err_and c.from_residual.result c.from_residual.ensures.1 in
-    rw (p.1, p.2) (refused_at_header _ _ _ _ (cut (goal.at.returns-in_err-version-clause-fault c).After-next_line) c.in_err-version.ensures.fault)
+    rw (p.1, p.2) (refused_at_header _ _ _ _
+    (cut (goal.at.returns-in_err-version-clause-fault c).After-next_line) c.in_err-version.ensures.fault)
 
 pub read_body-requires-clause-short : goal.read_body-requires-clause-short
-read_body-requires-clause-short c = (subst AreShort c.next_line.ensures (lines_short c.args.text.now most_bytes (omega arith))).1
+read_body-requires-clause-short c =
+    (subst AreShort c.next_line.ensures (lines_short c.args.text.now most_bytes (omega arith))).1
 
 pub read_body-requires-clause-long : goal.read_body-requires-clause-long
 read_body-requires-clause-long c = omega (arith, ap length c.next_line.ensures, length-lines_of-le c.args.text.now)
 
 -- the text has a header, and these lines behind it
-headed : (c : After-read_body) → IsHeaded (mir c.in_ok-version.version) c.args.text.now (lines_left c.next_line.result.1)
+headed : (c : After-read_body) → IsHeaded (mir c.in_ok-version.version) c.args.text.now
+    (lines_left c.next_line.result.1)
 headed c = record {
   header = c.next_line.result.0.now;
   cut = record { short = omega arith; cut = c.next_line.ensures };
@@ -39,7 +42,12 @@ headed c = record {
 }
 
 pub returns-clause-ok : goal.returns-clause-ok
-returns-clause-ok c = IfOk-weaker c.read_body.result _ _ (λ q means. means c.args.text.now (headed (goal.at.returns-clause-ok c).After-read_body)) c.read_body.ensures.ok
+returns-clause-ok c =
+    IfOk-weaker c.read_body.result _ _ (λ q means.
+    means c.args.text.now (headed (goal.at.returns-clause-ok c).After-read_body)) c.read_body.ensures.ok
 
 pub returns-clause-fault : goal.returns-clause-fault
-returns-clause-fault c = IfErr-weaker c.read_body.result _ _ (λ e refuses. refused_in _ _ _ e (headed (goal.at.returns-clause-fault c).After-read_body) (refuses c.args.text.now (headed (goal.at.returns-clause-fault c).After-read_body))) c.read_body.ensures.fault
+returns-clause-fault c =
+    IfErr-weaker c.read_body.result _ _
+    (λ e refuses. refused_in _ _ _ e (headed (goal.at.returns-clause-fault c).After-read_body)
+    (refuses c.args.text.now (headed (goal.at.returns-clause-fault c).After-read_body))) c.read_body.ensures.fault

@@ -19,9 +19,14 @@ loop-event-preserved c =
     let events = c.args.events.now in let k = c.loop-event.event-index in
     let es = take k events in
     let e : Event = get_or events k (Load 0) in
-    let more = steps_push start c.loop-event.world.state end es c.loop-event.answers.items e c.in_ok-answer.answer inv.steps c.in_ok-answer.ensures.step in
-    let next = take_next events k e c.loop-event-test.true (get_or_default events k e (Load 0) c.loop-event-test.true) in
+    let more =
+    steps_push start c.loop-event.world.state end es c.loop-event.answers.items e c.in_ok-answer.answer inv.steps
+    c.in_ok-answer.ensures.step in
+    let next =
+    take_next events k e c.loop-event-test.true (get_or_default events k e (Load 0) c.loop-event-test.true) in
     record {
-      steps = subst (λ (xs : List Event). AreSteps start xs c.push.new.self.items end) (sym next) (subst (λ (ys : List (Option Step)). AreSteps start (es ++ e ∷ []) ys end) (sym c.in_ok-push.ensures.items) more);
+      steps = subst (λ (xs : List Event). AreSteps start xs c.push.new.self.items end) (sym next)
+          (subst (λ (ys : List (Option Step)). AreSteps start (es ++ e ∷ []) ys end)
+          (sym c.in_ok-push.ensures.items) more);
       others = c.in_ok-answer.ensures.others ∙ ap (λ (w : World). record w { state = end }) inv.others;
     }

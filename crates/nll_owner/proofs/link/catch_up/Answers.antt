@@ -16,38 +16,62 @@ loop-part-init c = record {
   followed = awoken c.args.knowledge.now c.args.due.now.region c.args.due.now.place _ c.args.link.now _ 4294967295
       (λ x h.
       let graph = c.requires.sound.problem.graph in
-      omega (arith, flag_within c.set-inside.result.now x ((c.set-inside.ensures.has c.args.due.now.region c.requires.due.slot x).1 h), c.set-inside.ensures.width, graph.point_limit, graph.universal_limit))
+      omega (
+        arith,
+        flag_within c.set-inside.result.now x
+            ((c.set-inside.ensures.has c.args.due.now.region c.requires.due.slot x).1 h),
+        c.set-inside.ensures.width,
+        graph.point_limit,
+        graph.universal_limit,
+      ))
       c.requires.followed;
 }
 
 pub set-requires : goal.set-requires
-set-requires c = (slot_still _ _ c.loop-part.invariant.grows c.args.due.now.slot c.args.due.now.region c.requires.due.slot).0
+set-requires c =
+    (slot_still _ _ c.loop-part.invariant.grows c.args.due.now.slot c.args.due.now.region c.requires.due.slot).0
 
 pub hand_run-requires-clause-steps : goal.hand_run-requires-clause-steps
-hand_run-requires-clause-steps c = c.requires.steps ∙ sym (ap (λ (o : Owner). o.problem.graph) c.loop-part.invariant.grows.others)
+hand_run-requires-clause-steps c = c.requires.steps
+    ∙ sym (ap (λ (o : Owner). o.problem.graph) c.loop-part.invariant.grows.others)
 
 pub hand_run-requires-clause-slot : goal.hand_run-requires-clause-slot
 hand_run-requires-clause-slot c = slot_still _ _ c.loop-part.invariant.grows _ _ c.requires.due.slot
 
 pub hand_run-requires-clause-has : goal.hand_run-requires-clause-has
-hand_run-requires-clause-has c x own = (c.set.ensures.has c.args.due.now.region (slot_still _ _ c.loop-part.invariant.grows _ _ c.requires.due.slot) x).0 (c.in-Some.ensures.some.all x own.0 own.1)
+hand_run-requires-clause-has c x own =
+    (c.set.ensures.has c.args.due.now.region (slot_still _ _ c.loop-part.invariant.grows _ _ c.requires.due.slot) x).0
+    (c.in-Some.ensures.some.all x own.0 own.1)
 
 pub hand_run-requires-clause-place : goal.hand_run-requires-clause-place
 hand_run-requires-clause-place c = omega (arith, c.requires.due.place, grows_le _ _ c.loop-part.invariant.grows)
 
 pub hand_run-requires-clause-link : goal.hand_run-requires-clause-link
-hand_run-requires-clause-link c = subst (λ (o : Owner). IsLinkOf o.cut o.me c.args.due.now.region o.problem.constraints c.loop-part.link) (sym c.loop-part.invariant.grows.others)
-    (same_link c.args.knowledge.now.cut c.args.knowledge.now.me c.args.due.now.region c.args.knowledge.now.problem.constraints c.args.link.now c.loop-part.link (sym c.loop-part.invariant.same) c.requires.link)
+hand_run-requires-clause-link c =
+    subst (λ (o : Owner). IsLinkOf o.cut o.me c.args.due.now.region o.problem.constraints c.loop-part.link)
+    (sym c.loop-part.invariant.grows.others)
+    (same_link c.args.knowledge.now.cut c.args.knowledge.now.me c.args.due.now.region
+    c.args.knowledge.now.problem.constraints c.args.link.now c.loop-part.link
+    (sym c.loop-part.invariant.same) c.requires.link)
 
 pub hand_run-requires-clause-followed : goal.hand_run-requires-clause-followed
-hand_run-requires-clause-followed c = due_from c.loop-part.knowledge c.args.due.now.region c.args.due.now.place _ c.loop-part.link c.set.result.now
-    (c.set.ensures.has c.args.due.now.region (slot_still _ _ c.loop-part.invariant.grows _ _ c.requires.due.slot)) c.loop-part.next 4294967295 c.loop-part.invariant.followed c.in-Some.part c.in-Some.ensures.some
+hand_run-requires-clause-followed c =
+    due_from c.loop-part.knowledge c.args.due.now.region c.args.due.now.place _ c.loop-part.link c.set.result.now
+    (c.set.ensures.has c.args.due.now.region (slot_still _ _ c.loop-part.invariant.grows _ _ c.requires.due.slot))
+    c.loop-part.next 4294967295 c.loop-part.invariant.followed c.in-Some.part c.in-Some.ensures.some
 
 pub overflow_add-next : goal.overflow_add-next
 overflow_add-next c =
     let graph = c.loop-part.invariant.grows.sound.problem.graph in
     let from = c.in-Some.ensures.some in
-    omega (arith, flag_within c.set.result.now c.in-Some.part.last (from.all c.in-Some.part.last from.proper (omega arith)), c.set.ensures.width, graph.point_limit, graph.universal_limit)
+    omega (
+      arith,
+      flag_within c.set.result.now c.in-Some.part.last
+          (from.all c.in-Some.part.last from.proper (omega arith)),
+      c.set.ensures.width,
+      graph.point_limit,
+      graph.universal_limit,
+    )
 
 pub loop-part-preserved : goal.loop-part-preserved
 loop-part-preserved c = record {
@@ -70,6 +94,10 @@ pub returns-clause-same : goal.returns-clause-same
 returns-clause-same c = c.loop-part.invariant.same
 
 pub returns-clause-followed : goal.returns-clause-followed
-returns-clause-followed c = subst (λ xs. IsFollowed c.loop-part.knowledge c.args.due.now.region (IsLeft c.loop-part.knowledge c.args.due.now.place (IsToldByRuns xs) c.args.due.now.region) c.loop-part.link) (take_rest c.args.runs.now c.args.due.now.count)
+returns-clause-followed c =
+    subst (λ xs. IsFollowed c.loop-part.knowledge c.args.due.now.region
+    (IsLeft c.loop-part.knowledge c.args.due.now.place (IsToldByRuns xs) c.args.due.now.region) c.loop-part.link)
+    (take_rest c.args.runs.now c.args.due.now.count)
     (none_due_from c.loop-part.knowledge c.args.due.now.region c.args.due.now.place _ c.loop-part.link c.set.result.now
-    (c.set.ensures.has c.args.due.now.region (slot_still _ _ c.loop-part.invariant.grows _ _ c.requires.due.slot)) c.loop-part.next 4294967295 c.loop-part.invariant.followed c.in_default.ensures.none)
+    (c.set.ensures.has c.args.due.now.region (slot_still _ _ c.loop-part.invariant.grows _ _ c.requires.due.slot))
+    c.loop-part.next 4294967295 c.loop-part.invariant.followed c.in_default.ensures.none)

@@ -9,7 +9,8 @@ invariant-loop-part l = record {
   grows : Grows l.fn.knowledge l.knowledge;
   same : link_shape l.link ≡ link_shape l.fn.link;
   awake : l.link.rests ≡ false;
-  followed : IsFollowed l.knowledge l.due.region (IsLeft l.knowledge l.due.place (OfRunOr l.rest l.due.region l.next 4294967295) l.due.region) l.link;
+  followed : IsFollowed l.knowledge l.due.region
+      (IsLeft l.knowledge l.due.place (OfRunOr l.rest l.due.region l.next 4294967295) l.due.region) l.link;
 }
 
 abbrev pub decreases-loop-part : goal.decreases-loop-part

@@ -30,7 +30,8 @@ loop-number-init c = record {
 }
 
 pub hand_run-requires-clause-steps : goal.hand_run-requires-clause-steps
-hand_run-requires-clause-steps c = c.requires.steps ∙ sym (ap (λ (o : Owner). o.problem.graph) c.loop-number.invariant.grows.others)
+hand_run-requires-clause-steps c = c.requires.steps
+    ∙ sym (ap (λ (o : Owner). o.problem.graph) c.loop-number.invariant.grows.others)
 
 pub hand_run-requires-clause-slot : goal.hand_run-requires-clause-slot
 hand_run-requires-clause-slot c = slot_still _ _ c.loop-number.invariant.grows _ _ c.requires.due.slot
@@ -47,24 +48,33 @@ pub hand_run-requires-clause-has : goal.hand_run-requires-clause-has
 hand_run-requires-clause-has c x own =
     let d = (goal.at.hand_run-requires-clause-has c).After-index-runs-number in
     has_grows _ _ c.loop-number.invariant.grows c.args.due.now.region x
-    (subst (λ r. Has c.args.knowledge.now r x) (region d) (c.requires.due.held.has (here d) (c.loop-number.number, within d, at d) x own))
+    (subst (λ r. Has c.args.knowledge.now r x) (region d)
+    (c.requires.due.held.has (here d) (c.loop-number.number, within d, at d) x own))
 
 pub hand_run-requires-clause-link : goal.hand_run-requires-clause-link
-hand_run-requires-clause-link c = subst (λ (o : Owner). IsLinkOf o.cut o.me c.args.due.now.region o.problem.constraints c.loop-number.link) (sym c.loop-number.invariant.grows.others)
-    (same_link c.args.knowledge.now.cut c.args.knowledge.now.me c.args.due.now.region c.args.knowledge.now.problem.constraints c.args.link.now c.loop-number.link (sym c.loop-number.invariant.same) c.requires.link)
+hand_run-requires-clause-link c =
+    subst (λ (o : Owner). IsLinkOf o.cut o.me c.args.due.now.region o.problem.constraints c.loop-number.link)
+    (sym c.loop-number.invariant.grows.others)
+    (same_link c.args.knowledge.now.cut c.args.knowledge.now.me c.args.due.now.region
+    c.args.knowledge.now.problem.constraints c.args.link.now c.loop-number.link
+    (sym c.loop-number.invariant.same) c.requires.link)
 
 pub hand_run-requires-clause-followed : goal.hand_run-requires-clause-followed
 hand_run-requires-clause-followed c =
     let d = (goal.at.hand_run-requires-clause-followed c).After-index-runs-number in
-    due_next c.loop-number.knowledge c.args.due.now.region c.args.due.now.place c.loop-number.link c.args.runs.now c.loop-number.number (here d) _
-    (take_rest c.args.runs.now (c.loop-number.number + 1)) (within d) (sym (at d)) (region d) c.loop-number.invariant.followed
+    due_next c.loop-number.knowledge c.args.due.now.region c.args.due.now.place c.loop-number.link c.args.runs.now
+    c.loop-number.number (here d) _
+    (take_rest c.args.runs.now (c.loop-number.number + 1)) (within d) (sym (at d))
+    (region d) c.loop-number.invariant.followed
 
 pub loop-number-preserved : goal.loop-number-preserved
 loop-number-preserved c = record {
   grows = grows_append _ _ _ c.loop-number.invariant.grows c.hand_run.ensures.grows;
   same = c.hand_run.ensures.same ∙ c.loop-number.invariant.same;
   awake = c.hand_run.ensures.awake;
-  followed = due_done c.hand_run.new.knowledge c.args.due.now.region c.args.due.now.place c.hand_run.new.link c.args.runs.now c.loop-number.number _ _
+  followed =
+      due_done c.hand_run.new.knowledge c.args.due.now.region c.args.due.now.place c.hand_run.new.link c.args.runs.now
+      c.loop-number.number _ _
       (take_rest c.args.runs.now (c.loop-number.number + 1)) c.in_ok-hand_run.ensures.followed;
 }
 

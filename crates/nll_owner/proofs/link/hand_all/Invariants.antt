@@ -10,5 +10,6 @@ invariant-loop-number l = record {
   grows : Grows l.fn.knowledge l.knowledge;
   same : link_shape l.link ≡ link_shape l.fn.link;
   awake : l.link.rests ≡ false;
-  followed : IsFollowed l.knowledge l.due.region (IsLeft l.knowledge l.due.place (IsToldByRuns (drop l.number l.runs)) l.due.region) l.link;
+  followed : IsFollowed l.knowledge l.due.region
+      (IsLeft l.knowledge l.due.place (IsToldByRuns (drop l.number l.runs)) l.due.region) l.link;
 }

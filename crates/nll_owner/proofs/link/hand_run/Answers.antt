@@ -7,10 +7,14 @@ use Rattle.nll_owner.proofs.link.hand_run.Goals as goal
 use Rattle.nll_owner.proofs.link.hand_run.Goals.{In_ok-go_on}
 
 pub go_on-requires-clause-starts : goal.go_on-requires-clause-starts
-go_on-requires-clause-starts c = rw c.requires.steps (starts_are_among c.args.knowledge.now c.args.due.now.region c.args.link.now c.requires.sound c.requires.link)
+go_on-requires-clause-starts c =
+    rw c.requires.steps (starts_are_among c.args.knowledge.now c.args.due.now.region c.args.link.now c.requires.sound
+    c.requires.link)
 
 pub go_on-requires-clause-sound : goal.go_on-requires-clause-sound
-go_on-requires-clause-sound c = λ whole. rw c.requires.steps (sound_inside c.args.knowledge.now c.args.due.now.region _ c.args.link.now c.set.result.now (c.set.ensures.has c.args.due.now.region c.requires.slot) c.requires.followed)
+go_on-requires-clause-sound c =
+    λ whole. rw c.requires.steps (sound_inside c.args.knowledge.now c.args.due.now.region _ c.args.link.now
+    c.set.result.now (c.set.ensures.has c.args.due.now.region c.requires.slot) c.requires.followed)
 
 -- the link as its frontier has gone on
 abbrev then : In_ok-go_on → Link
@@ -22,14 +26,20 @@ same c = ap (λ starts. (c.args.link.now.sup, starts)) c.go_on.ensures.starts
 pub grow_runs-requires-clause-elements : goal.grow_runs-requires-clause-elements
 grow_runs-requires-clause-elements c =
     let d = (goal.at.grow_runs-requires-clause-elements c).In_ok-go_on in
-    rw c.deref.ensures.value (found_below c.args.knowledge.now c.args.due.now.region c.args.run c.set.result.now c.args.link.now (then d) c.go_on.new.found.items
-    c.requires.link (c.set.ensures.has c.args.due.now.region c.requires.slot) (same d) (rw c.requires.steps at c.in_ok-go_on.ensures.fits) (rw c.requires.steps at c.in_ok-go_on.ensures.reached) c.in_ok-go_on.ensures.found)
+    rw c.deref.ensures.value (found_below c.args.knowledge.now c.args.due.now.region c.args.run c.set.result.now
+    c.args.link.now (then d) c.go_on.new.found.items
+    c.requires.link (c.set.ensures.has c.args.due.now.region c.requires.slot) (same d)
+    (rw c.requires.steps at c.in_ok-go_on.ensures.fits)
+    (rw c.requires.steps at c.in_ok-go_on.ensures.reached) c.in_ok-go_on.ensures.found)
 
 pub grow_runs-requires-clause-called : goal.grow_runs-requires-clause-called
 grow_runs-requires-clause-called c =
     let d = (goal.at.grow_runs-requires-clause-called c).In_ok-go_on in
-    rw c.deref.ensures.value (found_called c.args.knowledge.now c.args.due.now.region c.args.run c.set.result.now c.args.link.now (then d) c.go_on.new.found.items
-    c.requires.link (c.set.ensures.has c.args.due.now.region c.requires.slot) (same d) (rw c.requires.steps at c.in_ok-go_on.ensures.fits) (rw c.requires.steps at c.in_ok-go_on.ensures.reached) c.in_ok-go_on.ensures.found)
+    rw c.deref.ensures.value (found_called c.args.knowledge.now c.args.due.now.region c.args.run c.set.result.now
+    c.args.link.now (then d) c.go_on.new.found.items
+    c.requires.link (c.set.ensures.has c.args.due.now.region c.requires.slot) (same d)
+    (rw c.requires.steps at c.in_ok-go_on.ensures.fits)
+    (rw c.requires.steps at c.in_ok-go_on.ensures.reached) c.in_ok-go_on.ensures.found)
 
 pub returns-in_err-go_on-clause-grows : goal.returns-in_err-go_on-clause-grows
 returns-in_err-go_on-clause-grows c = grows_none _ c.requires.sound
@@ -37,9 +47,14 @@ returns-in_err-go_on-clause-grows c = grows_none _ c.requires.sound
 pub returns-clause-followed : goal.returns-clause-followed
 returns-clause-followed c =
     let d = (goal.at.returns-clause-followed c).In_ok-go_on in
-    advanced_on c.args.knowledge.now c.args.due.now.region c.args.run c.set.result.now c.args.link.now (then d) c.go_on.new.found.items
-    c.requires.link (c.set.ensures.has c.args.due.now.region c.requires.slot) (same d) (rw c.requires.steps at c.in_ok-go_on.ensures.fits) (rw c.requires.steps at c.in_ok-go_on.ensures.reached) c.in_ok-go_on.ensures.found
-    c.grow_runs.new.self c.grow_runs.ensures.grows c.args.due.now.place c.args.limit c.args.rest.now c.requires.place c.requires.followed c.requires.awake c.requires.awake c.in_ok-go_on.ensures.ok.1 (rw c.deref.ensures.value at c.in_ok-grow_runs.ensures.covers)
+    advanced_on c.args.knowledge.now c.args.due.now.region c.args.run c.set.result.now c.args.link.now
+    (then d) c.go_on.new.found.items
+    c.requires.link (c.set.ensures.has c.args.due.now.region c.requires.slot) (same d)
+    (rw c.requires.steps at c.in_ok-go_on.ensures.fits)
+    (rw c.requires.steps at c.in_ok-go_on.ensures.reached) c.in_ok-go_on.ensures.found
+    c.grow_runs.new.self c.grow_runs.ensures.grows c.args.due.now.place c.args.limit c.args.rest.now c.requires.place
+    c.requires.followed c.requires.awake c.requires.awake c.in_ok-go_on.ensures.ok.1
+    (rw c.deref.ensures.value at c.in_ok-grow_runs.ensures.covers)
 
 pub returns-in_err-go_on-clause-same : goal.returns-in_err-go_on-clause-same
 returns-in_err-go_on-clause-same c = ap (λ starts. (c.args.link.now.sup, starts)) c.go_on.ensures.starts

@@ -15,12 +15,21 @@ pub has_first-requires-clause-below : goal.has_first-requires-clause-below
 has_first-requires-clause-below c n k low is =
     let within : n < length c.args.runs.now = omega (arith, low, c.requires.due.count) in
     let proper : k.run.first ≤ k.run.last = c.requires.due.held.proper k (n, within, is) in
-    let has = subst (λ r. Has c.args.knowledge.now r k.run.last) (c.requires.due.first n k low is) (c.requires.due.held.has k (n, within, is) k.run.last (proper, omega arith)) in
+    let has =
+    subst (λ r. Has c.args.knowledge.now r k.run.last) (c.requires.due.first n k low is)
+    (c.requires.due.held.has k (n, within, is) k.run.last (proper, omega arith)) in
     let here = (c.set-inside.ensures.has c.args.due.now.region c.requires.due.slot k.run.last).1 has in
-    omega (arith, flag_within c.set-inside.result.now k.run.last here, c.set-inside.ensures.width, c.set-own.ensures.width)
+    omega (
+      arith,
+      flag_within c.set-inside.result.now k.run.last here,
+      c.set-inside.ensures.width,
+      c.set-own.ensures.width,
+    )
 
 pub returns-then-link-clause-still : goal.returns-then-link-clause-still
-returns-then-link-clause-still c = λ told _ n k low is x own. (c.set-own.ensures.has c.args.link.now.sup c.slot.ensures x).0 (c.has_first.ensures told n k low is x own)
+returns-then-link-clause-still c =
+    λ told _ n k low is x own. (c.set-own.ensures.has c.args.link.now.sup c.slot.ensures x).0
+    (c.has_first.ensures told n k low is x own)
 
 pub returns-else-link-clause-all : goal.returns-else-link-clause-all
 returns-else-link-clause-all c = λ told _ x h. (c.set-own.ensures.has c.args.link.now.sup c.slot.ensures x).0

@@ -6,7 +6,9 @@ use Rattle.nll_owner.proofs.LinkingLemmas.{each_pushed, links_of_same, links_of_
 use Rattle.nll_owner.proofs.link_table.links_of.Goals as goal
 
 pub row_of-requires-clause-sups : goal.row_of-requires-clause-sups
-row_of-requires-clause-sups c k h = (let low = (c.regions-regions.ensures.sound.constraint_regions k ((c.requires.index k).0 ((c.reading.ensures.each k).0 h).0)).0 in omega (arith, low, c.requires.cut))
+row_of-requires-clause-sups c k h =
+    (let low = (c.regions-regions.ensures.sound.constraint_regions k
+    ((c.requires.index k).0 ((c.reading.ensures.each k).0 h).0)).0 in omega (arith, low, c.requires.cut))
 
 pub row_of-requires-clause-subs : goal.row_of-requires-clause-subs
 row_of-requires-clause-subs c k h = ((c.reading.ensures.each k).0 h).1
@@ -16,17 +18,25 @@ loop-slot-preserved c =
     let row = c.in_ok-row_of.field-0 in
     let sub = c.region-sub.result in
     let here : AreLinksOf c.args.cut.now c.args.me sub c.args.problem.now.constraints row.items × AreFresh row.items = (
-      links_of_set c.args.cut.now c.args.me sub c.args.index.now c.args.problem.now.constraints row.items c.requires.index
-          (links_of_same c.args.cut.now c.args.me sub c.reading.result.now c.args.index.now row.items c.reading.ensures.each c.in_ok-row_of.ensures.links),
+      links_of_set c.args.cut.now c.args.me sub c.args.index.now c.args.problem.now.constraints row.items
+          c.requires.index
+          (links_of_same c.args.cut.now c.args.me sub c.reading.result.now c.args.index.now row.items
+          c.reading.ensures.each c.in_ok-row_of.ensures.links),
       c.in_ok-row_of.ensures.fresh,
     ) in
-    let of : (r : ℕ) → IsSlotIn c.args.slots.now c.loop-slot.slot r → sub ≡ r = λ r at. sym c.region-sub.ensures.1 ∙ (get_or_default c.args.slots.now c.loop-slot.slot sub r at.0 ∙ at.1) in
+    let of : (r : ℕ) → IsSlotIn c.args.slots.now c.loop-slot.slot r
+    → sub ≡ r = λ r at. sym c.region-sub.ensures.1
+    ∙ (get_or_default c.args.slots.now c.loop-slot.slot sub r at.0 ∙ at.1) in
     record {
       count = omega (arith, c.in_ok-push.ensures.len, c.loop-slot.invariant.count);
       links = λ s r v low at is.
-          let each = each_pushed (λ s v. (r : ℕ) → IsSlotIn c.args.slots.now s r → AreLinksOf c.args.cut.now c.args.me r c.args.problem.now.constraints v.items × AreFresh v.items) c.loop-slot.rows.items row c.loop-slot.slot
+          let each =
+          each_pushed (λ s v. (r : ℕ) → IsSlotIn c.args.slots.now s r
+          → AreLinksOf c.args.cut.now c.args.me r c.args.problem.now.constraints v.items × AreFresh v.items)
+          c.loop-slot.rows.items row c.loop-slot.slot
           c.loop-slot.invariant.count (λ k v low is r at. c.loop-slot.invariant.links k r v low at is)
-          (λ r at. subst (λ x. AreLinksOf c.args.cut.now c.args.me x c.args.problem.now.constraints row.items × AreFresh row.items) (of r at) here) in
+          (λ r at. subst (λ x. AreLinksOf c.args.cut.now c.args.me x c.args.problem.now.constraints row.items
+          × AreFresh row.items) (of r at) here) in
           each s v low (subst (λ xs. get_or xs s v ≡ v) c.in_ok-push.ensures.items is) r at;
     }
 
@@ -34,4 +44,5 @@ pub returns-clause-count : goal.returns-clause-count
 returns-clause-count c = omega (arith, c.loop-slot.invariant.count, c.loop-slot-test.false, c.len-slot-end.ensures)
 
 pub returns-clause-links : goal.returns-clause-links
-returns-clause-links c s r row at = c.loop-slot.invariant.links s r row (omega (arith, at.0, c.loop-slot-test.false, c.len-slot-end.ensures)) at
+returns-clause-links c s r row at =
+    c.loop-slot.invariant.links s r row (omega (arith, at.0, c.loop-slot-test.false, c.len-slot-end.ensures)) at

@@ -7,5 +7,6 @@ use Rattle.nll_owner.proofs.link_table.links_of.Given as goal
 abbrev pub invariant-loop-slot : goal.invariant-loop-slot
 invariant-loop-slot l = record {
   count : length l.rows.items ≡ l.slot;
-  links : (s r : ℕ) (row : _) → s < l.slot → IsSlotIn l.slots s r → get_or l.rows.items s row ≡ row → AreLinksOf l.cut l.me r l.problem.constraints row.items × AreFresh row.items;
+  links : (s r : ℕ) (row : _) → s < l.slot → IsSlotIn l.slots s r → get_or l.rows.items s row ≡ row
+      → AreLinksOf l.cut l.me r l.problem.constraints row.items × AreFresh row.items;
 }

@@ -14,7 +14,9 @@ pub enter-requires-clause-sub : goal.enter-requires-clause-sub
 enter-requires-clause-sub c = c.requires.subs c.k-item.result (there (goal.at.enter-requires-clause-sub c).After-k-item)
 
 pub enter-requires-clause-later : goal.enter-requires-clause-later
-enter-requires-clause-later c = place_below c.args.cut.now c.args.me c.args.sub c.loop-k.k-index c.args.constraints.now c.k-item.result c.loop-k.row.items
+enter-requires-clause-later c =
+    place_below c.args.cut.now c.args.me c.args.sub c.loop-k.k-index c.args.constraints.now c.k-item.result
+    c.loop-k.row.items
     c.requires.ascending c.loop-k-test.true (sym c.k-item.is) c.loop-k.invariant.links
 
 pub loop-k-preserved : goal.loop-k-preserved

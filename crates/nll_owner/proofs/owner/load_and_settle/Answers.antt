@@ -10,7 +10,9 @@ pub returns-clause-following : goal.returns-clause-following
 returns-clause-following c = c.in_ok-settle.ensures.followed.0
 
 pub returns-clause-done : goal.returns-clause-done
-returns-clause-done c = filled_after _ _ _ c.in_ok-enter_bases.ensures.covers c.enter_bases.ensures.grows c.settle.ensures.grows c.in_ok-settle.ensures.closed
+returns-clause-done c =
+    filled_after _ _ _ c.in_ok-enter_bases.ensures.covers c.enter_bases.ensures.grows c.settle.ensures.grows
+    c.in_ok-settle.ensures.closed
 
 pub returns-in_err-settle-clause-grows : goal.returns-in_err-settle-clause-grows
 returns-in_err-settle-clause-grows c = grows_append _ _ _ c.enter_bases.ensures.grows c.settle.ensures.grows

@@ -6,7 +6,11 @@ pub loop-place-init : goal.loop-place-init
 loop-place-init c = listed_none c.args.growths.now c.args.list.now.items c.requires.none
 
 pub loop-place-preserved : goal.loop-place-preserved
-loop-place-preserved c = rw c.in_ok-push.ensures.items (listed_more c.args.growths.now c.loop-place.place _ _ _ c.loop-place.list.items c.run_at-region.ensures c.loop-place.invariant)
+loop-place-preserved c =
+    rw c.in_ok-push.ensures.items (listed_more c.args.growths.now c.loop-place.place _ _ _ c.loop-place.list.items
+    c.run_at-region.ensures c.loop-place.invariant)
 
 pub returns : goal.returns
-returns c = listed_all c.args.growths.now c.loop-place.place c.loop-place.list.items (omega (arith, c.loop-place-test.false)) c.loop-place.invariant
+returns c =
+    listed_all c.args.growths.now c.loop-place.place c.loop-place.list.items
+    (omega (arith, c.loop-place-test.false)) c.loop-place.invariant

@@ -10,6 +10,9 @@ abbrev pub invariant-loop-number : goal.invariant-loop-number
 invariant-loop-number l = record {
   grows : Grows l.fn.knowledge l.knowledge;
   same : map link_shape l.row.items ≡ map link_shape l.fn.row.items;
-  done : (k : ℕ) (x : Link) → k < l.number → get_or l.row.items k x ≡ x → IsFollowed l.knowledge l.due.region (IsLeft l.knowledge l.due.place (IsToldByRuns (drop l.due.count l.runs)) l.due.region) x;
-  left : (k : ℕ) (x : Link) → l.number ≤ k → k < length l.row.items → get_or l.row.items k x ≡ x → IsFollowed l.knowledge l.due.region (IsLeft l.knowledge l.due.place (IsToldByRuns l.runs) l.due.region) x;
+  done : (k : ℕ) (x : Link) → k < l.number → get_or l.row.items k x ≡ x
+      → IsFollowed l.knowledge l.due.region
+      (IsLeft l.knowledge l.due.place (IsToldByRuns (drop l.due.count l.runs)) l.due.region) x;
+  left : (k : ℕ) (x : Link) → l.number ≤ k → k < length l.row.items → get_or l.row.items k x ≡ x
+      → IsFollowed l.knowledge l.due.region (IsLeft l.knowledge l.due.place (IsToldByRuns l.runs) l.due.region) x;
 }

@@ -8,7 +8,8 @@ use Rattle.nll_owner.proofs.rows.follow_runs.Given as goal
 abbrev pub invariant-loop-next : goal.invariant-loop-next
 invariant-loop-next l = record {
   grows : Grows l.fn.knowledge l.knowledge;
-  following : IsFollowing (IsToldByRuns (drop l.next l.runs)) l.knowledge (following_of (map (λ row. row.items) l.rows.items) l.place);
+  following : IsFollowing (IsToldByRuns (drop l.next l.runs)) l.knowledge
+      (following_of (map (λ row. row.items) l.rows.items) l.place);
 }
 
 abbrev pub decreases-loop-next : goal.decreases-loop-next

@@ -10,6 +10,15 @@ returns-else-reads_below c = record {
   below = c.loop-place.invariant.below;
   others = λ k d low within.
       let here = ltb-false _ c.args.sub (sym c.reads_below.ensures ∙ c.if-reads_below.false) in
-      let read = ap (λ (x : Constraint). x.sub) (c.index-constraints-place.is ∙ get_or_default c.args.constraints.now c.loop-place.place c.index-constraints-place.result d c.loop-place-test.true) in
-      omega (arith, here, read, subs_rise c.args.constraints.now c.requires.ascending c.loop-place.place k d low within);
+      let read =
+      ap (λ (x : Constraint). x.sub) (c.index-constraints-place.is
+      ∙ get_or_default c.args.constraints.now c.loop-place.place c.index-constraints-place.result d
+      c.loop-place-test.true) in
+      omega (
+        arith,
+        here,
+        read,
+        subs_rise c.args.constraints.now c.requires.ascending c.loop-place.place k d low
+            within,
+      );
 }

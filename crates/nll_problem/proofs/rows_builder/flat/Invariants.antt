@@ -9,7 +9,10 @@ invariant-loop-index l = record {
   room : length l.items.items ≡ item_count (chains l.fn.heads.items l.entries);
   end : l.end ≡ start_of (chains l.fn.heads.items l.entries) l.index;
   heads : (k : ℕ) → k < l.index → slice_index l.starts.items k ≡ slice_index l.fn.heads.items k;
-  starts : (k : ℕ) → l.index ≤ k → k ≤ length l.fn.heads.items → slice_index l.starts.items k ≡ start_of (chains l.fn.heads.items l.entries) k;
-  filled : (q k : ℕ) → l.index ≤ q → q < length l.fn.heads.items → k < length (row_at (chains l.fn.heads.items l.entries) q)
-      → slice_index l.items.items (start_of (chains l.fn.heads.items l.entries) q + k) ≡ slice_index (row_at (chains l.fn.heads.items l.entries) q) k;
+  starts : (k : ℕ) → l.index ≤ k → k ≤ length l.fn.heads.items
+      → slice_index l.starts.items k ≡ start_of (chains l.fn.heads.items l.entries) k;
+  filled : (q k : ℕ) → l.index ≤ q → q < length l.fn.heads.items
+      → k < length (row_at (chains l.fn.heads.items l.entries) q)
+      → slice_index l.items.items (start_of (chains l.fn.heads.items l.entries) q + k)
+      ≡ slice_index (row_at (chains l.fn.heads.items l.entries) q) k;
 }

@@ -6,4 +6,5 @@ use Rattle.nll_replay.proofs.replay_report.push_answers.Goals as goal
 
 pub loop-index-preserved : goal.loop-index-preserved
 loop-index-preserved c =
-    answers_more (λ k. answer_line (k + 1) (slice_index_or c.args.answers.now k None)) c.loop-index.index _ _ _ c.loop-index.invariant c.in_ok-push_answer.ensures
+    answers_more (λ k. answer_line (k + 1) (slice_index_or c.args.answers.now k None)) c.loop-index.index _ _ _
+    c.loop-index.invariant c.in_ok-push_answer.ensures

@@ -7,6 +7,10 @@ pub returns-in-Ok-clause-told : goal.returns-in-Ok-clause-told
 returns-in-Ok-clause-told g c _ = (
   CannotWrite,
   sym c.tell.ensures.status,
-  inr (refl, begun_by _ _ c.in-Ok.status _ _ _ c.in-Ok.bytes.items _ c.in-Err-put.field-0.written c.in-Ok.ensures.ok c.as_slice.ensures.value c.in-Err-put.ensures.first c.in-Err-put.ensures.refused),
+  inr (
+    refl,
+    begun_by _ _ c.in-Ok.status _ _ _ c.in-Ok.bytes.items _ c.in-Err-put.field-0.written c.in-Ok.ensures.ok
+        c.as_slice.ensures.value c.in-Err-put.ensures.first c.in-Err-put.ensures.refused,
+  ),
   c.tell.ensures.told,
 )

@@ -6,7 +6,8 @@ use Rattle.nll_report.proofs.RunLemmas.{line_told}
 use Rattle.nll_report.proofs.program.report.Goals as goal
 
 pub answered-requires-clause-owners : goal.answered-requires-clause-owners
-answered-requires-clause-owners g c = λ κs bounds. let ok = c.in-Ok.ensures.ok in lawful_count _ ok.0 (said_by c.in-Ok.line) ok.1
+answered-requires-clause-owners g c = λ κs bounds. let ok = c.in-Ok.ensures.ok in
+    lawful_count _ ok.0 (said_by c.in-Ok.line) ok.1
 
 pub returns-in-Ok-clause-ok : goal.returns-in-Ok-clause-ok
 returns-in-Ok-clause-ok g c =
@@ -35,5 +36,6 @@ returns-in-Err-clause-ok g c =
 pub returns-in-Err-clause-err : goal.returns-in-Err-clause-err
 returns-in-Err-clause-err g c =
     IfErr-weaker c.without_line.result _ _
-    (λ e h. words_told (g.T.Texts.holds c.args.texts.now) (g.T.Texts.lacks c.args.texts.now) _ c.in-Err.error e c.in-Err.ensures.err c.in-Err.ensures.help h)
+    (λ e h. words_told (g.T.Texts.holds c.args.texts.now)
+    (g.T.Texts.lacks c.args.texts.now) _ c.in-Err.error e c.in-Err.ensures.err c.in-Err.ensures.help h)
     (MatchResult-weaker c.without_line.result c.without_line.ensures (λ r h. tt) (λ e h. h))

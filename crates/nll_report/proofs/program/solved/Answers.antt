@@ -5,13 +5,15 @@ use Rattle.nll_report.proofs.OwnerLemmas.{may_be_asked, owners_told}
 use Rattle.nll_report.proofs.program.solved.Goals as goal
 
 pub answered_by_owners-requires-after_bounds : goal.answered_by_owners-requires-after_bounds
-answered_by_owners-requires-after_bounds g c = λ κs bounds. may_be_asked c.args.line.owners _ c.requires c.in-Some.ensures.1
+answered_by_owners-requires-after_bounds g c =
+    λ κs bounds. may_be_asked c.args.line.owners _ c.requires c.in-Some.ensures.1
 
 pub returns-in-Some-clause-err : goal.returns-in-Some-clause-err
 returns-in-Some-clause-err g c =
     let asked = c.in-Some.ensures in
     IfErr-weaker c.answered_by_owners.result _ _
-    (λ e h. owners_told (g.T.Texts.holds c.args.texts.now) (g.T.Texts.lacks c.args.texts.now) (string_bytes c.args.line.file) (said_by c.args.line)
+    (λ e h. owners_told (g.T.Texts.holds c.args.texts.now) (g.T.Texts.lacks c.args.texts.now)
+    (string_bytes c.args.line.file) (said_by c.args.line)
     _ _ _ e asked.1 asked.2 (ap (option_map string_bytes) asked.3) asked.0 h)
     c.answered_by_owners.ensures.err
 

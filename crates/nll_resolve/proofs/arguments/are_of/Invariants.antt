@@ -6,5 +6,6 @@ use Rattle.nll_resolve.proofs.arguments.are_of.Given as goal
 abbrev pub invariant-loop-number : goal.invariant-loop-number
 invariant-loop-number l = record {
   lengths : length l.arguments ≡ length l.kinds;
-  left : same_kinds (map is_region (drop l.number l.arguments)) (drop l.number l.kinds) ≡ same_kinds (map is_region l.arguments) l.kinds;
+  left : same_kinds (map is_region (drop l.number l.arguments)) (drop l.number l.kinds)
+      ≡ same_kinds (map is_region l.arguments) l.kinds;
 }

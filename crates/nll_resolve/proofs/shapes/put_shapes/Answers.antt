@@ -10,7 +10,13 @@ pub shape_of_node-requires-clause-parts : goal.shape_of_node-requires-clause-par
 shape_of_node-requires-clause-parts c =
     let ns = c.args.nodes.now in
     let within : c.loop-node.node-index < length ns = c.loop-node-test.true in
-    let count : length c.as_slice.result.now ≡ c.loop-node.node-index = omega (arith, ap length c.as_slice.ensures, c.loop-node.invariant.shaped.counted, count_taken ns c.loop-node.node-index (omega arith)) in
+    let count : length c.as_slice.result.now ≡ c.loop-node.node-index =
+    omega (
+      arith,
+      ap length c.as_slice.ensures,
+      c.loop-node.invariant.shaped.counted,
+      count_taken ns c.loop-node.node-index (omega arith),
+    ) in
     rw count (parts_at ns c.requires.sound c.loop-node.node-index c.node-item.result within c.node-item.is)
 
 pub shape_of_node-requires-clause-shapes : goal.shape_of_node-requires-clause-shapes
@@ -26,7 +32,8 @@ loop-node-preserved c =
       structs = e.structs ∙ i.structs;
       extends = extends_then _ _ _ i.extends e.extends;
       shaped = rw (c.in_ok-push.ensures.ok, one_more ns c.loop-node.node-index c.node-item.result within c.node-item.is)
-          (shaped_push _ _ (trees_from [] (take c.loop-node.node-index ns)) c.loop-node.done.items _ _ e.extends i.shaped e.within (e.shape _ (rw c.as_slice.ensures i.shaped)));
+          (shaped_push _ _ (trees_from [] (take c.loop-node.node-index ns)) c.loop-node.done.items _ _ e.extends
+          i.shaped e.within (e.shape _ (rw c.as_slice.ensures i.shaped)));
     }
 
 pub bounds-as_slice-nodes : goal.bounds-as_slice-nodes
@@ -34,14 +41,25 @@ bounds-as_slice-nodes c =
     let ns = c.args.nodes.now in
     let past : length ns ≤ c.loop-node.node-index = c.loop-node-test.false in
     let last : c.loop-node.node-index ≤ length ns = c.loop-node.auto.node-index-end in
-    rw c.as_slice-2.ensures (omega (arith, c.requires.sound.some, c.loop-node.invariant.shaped.counted, count_taken ns c.loop-node.node-index last))
+    rw c.as_slice-2.ensures (omega (
+      arith,
+      c.requires.sound.some,
+      c.loop-node.invariant.shaped.counted,
+      count_taken ns c.loop-node.node-index last,
+    ))
 
 pub returns-clause-within : goal.returns-clause-within
 returns-clause-within c =
     let ns = c.args.nodes.now in
     let past : length ns ≤ c.loop-node.node-index = c.loop-node-test.false in
     let last : c.loop-node.node-index ≤ length ns = c.loop-node.auto.node-index-end in
-    let within : length ns - 1 < length c.loop-node.done.items = omega (arith, c.requires.sound.some, c.loop-node.invariant.shaped.counted, count_taken ns c.loop-node.node-index last) in
+    let within : length ns - 1 < length c.loop-node.done.items =
+    omega (
+      arith,
+      c.requires.sound.some,
+      c.loop-node.invariant.shaped.counted,
+      count_taken ns c.loop-node.node-index last,
+    ) in
     rw c.as_slice-2.ensures (c.loop-node.invariant.shaped.within (length ns - 1) within)
 
 pub returns-clause-shape : goal.returns-clause-shape
@@ -51,5 +69,11 @@ returns-clause-shape c =
     let last : c.loop-node.node-index ≤ length ns = c.loop-node.auto.node-index-end in
     let whole : c.loop-node.node-index ≡ length ns = omega arith in
     let shaped = rw (whole, take-length ns) at c.loop-node.invariant.shaped in
-    let within : length ns - 1 < length c.loop-node.done.items = omega (arith, c.requires.sound.some, c.loop-node.invariant.shaped.counted, count_taken ns c.loop-node.node-index last) in
+    let within : length ns - 1 < length c.loop-node.done.items =
+    omega (
+      arith,
+      c.requires.sound.some,
+      c.loop-node.invariant.shaped.counted,
+      count_taken ns c.loop-node.node-index last,
+    ) in
     rw c.as_slice-2.ensures (shaped.each (length ns - 1) within)

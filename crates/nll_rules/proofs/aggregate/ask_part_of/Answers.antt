@@ -16,7 +16,8 @@ returns-in_ok-ask_operand-in-Tuple c =
     let parts = c.in-Tuple.parts.items in
     let item = c.index.result.now in
     let within : c.args.place < length parts = omega arith in
-    let there = ap (behind structs (Field c.args.place)) (ap tree c.in-Tuple.is ∙ tree_tuple _) ∙ type_at_item parts c.args.place item (slice_get_read parts _ c.args.place item refl within c.index.ensures) in
+    let there = ap (behind structs (Field c.args.place)) (ap tree c.in-Tuple.is ∙ tree_tuple _)
+    ∙ type_at_item parts c.args.place item (slice_get_read parts _ c.args.place item refl within c.index.ensures) in
     rw there c.in_ok-ask_operand-in-Tuple.ensures
 
 pub returns-else-place-len : goal.returns-else-place-len
@@ -24,7 +25,8 @@ returns-else-place-len c =
     let structs = structs_of c.args.variables.now.structs.now in
     let parts = c.in-Tuple.parts.items in
     let past : length parts ≤ c.args.place = omega arith in
-    let none = ap (behind structs (Field c.args.place)) (ap tree c.in-Tuple.is ∙ tree_tuple _) ∙ type_at_trees parts c.args.place ∙ ap (option_map tree) (slice_get_past parts c.args.place past) in
+    let none = ap (behind structs (Field c.args.place)) (ap tree c.in-Tuple.is ∙ tree_tuple _)
+    ∙ type_at_trees parts c.args.place ∙ ap (option_map tree) (slice_get_past parts c.args.place past) in
     rw none (adds_none _ _ (both_none structs _))
 
 pub returns-in_ok-ask_operand_to-in-Named : goal.returns-in_ok-ask_operand_to-in-Named

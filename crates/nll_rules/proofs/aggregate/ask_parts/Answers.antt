@@ -18,11 +18,15 @@ loop-place-preserved c =
     let ops = c.args.operands.now in
     let op = c.index-operands-place.result in
     let here : n < length ops = omega arith in
-    below_more _ _ n _ _ _ (λ x. part_at (structs_of c.args.variables.now.structs.now) (map tree c.args.variables.now.types.now) (tree c.args.ty.now) (map operand_of ops) n (operand_of op) x
-    (get_mapped operand_of ops n op (slice_get_read ops _ n op refl here c.index-operands-place.is))) c.loop-place.invariant c.in_ok-ask_part.ensures
+    below_more _ _ n _ _ _ (λ x. part_at (structs_of c.args.variables.now.structs.now)
+    (map tree c.args.variables.now.types.now) (tree c.args.ty.now) (map operand_of ops) n (operand_of op) x
+    (get_mapped operand_of ops n op (slice_get_read ops _ n op refl here c.index-operands-place.is)))
+    c.loop-place.invariant c.in_ok-ask_part.ensures
 
 pub returns : goal.returns
 returns c =
     let ops = c.args.operands.now in
     let past : length (map operand_of ops) ≤ c.loop-place.place = omega (arith, length-map ops operand_of) in
-    below_all _ c.loop-place.place _ _ (λ k x p. parts_within (structs_of c.args.variables.now.structs.now) (map tree c.args.variables.now.types.now) (tree c.args.ty.now) (map operand_of ops) c.loop-place.place k x past p) c.loop-place.invariant
+    below_all _ c.loop-place.place _ _ (λ k x p.
+    parts_within (structs_of c.args.variables.now.structs.now) (map tree c.args.variables.now.types.now)
+    (tree c.args.ty.now) (map operand_of ops) c.loop-place.place k x past p) c.loop-place.invariant

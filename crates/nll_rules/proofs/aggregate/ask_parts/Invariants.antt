@@ -7,4 +7,6 @@ use Rattle.nll_rules.proofs.PairLemmas.{AtOneBelow}
 use Rattle.nll_rules.proofs.aggregate.ask_parts.Given as goal
 
 abbrev pub invariant-loop-place : goal.invariant-loop-place
-invariant-loop-place l = AddsPairs (AtOneBelow l.place (PartAsks (structs_of l.variables.structs.now) (map tree l.variables.types.now) (tree l.ty) (map operand_of l.operands))) l.fn.asked.items l.asked.items
+invariant-loop-place l =
+    AddsPairs (AtOneBelow l.place (PartAsks (structs_of l.variables.structs.now) (map tree l.variables.types.now)
+    (tree l.ty) (map operand_of l.operands))) l.fn.asked.items l.asked.items

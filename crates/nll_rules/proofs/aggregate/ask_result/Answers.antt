@@ -6,4 +6,7 @@ use Rattle.nll_rules.proofs.RegionFreeLemmas.{adds_into_silent}
 use Rattle.nll_rules.proofs.aggregate.ask_result.Goals as goal
 
 pub returns-then-is_of_marked : goal.returns-then-is_of_marked
-returns-then-is_of_marked c = adds_into_silent (structs_of c.args.variables.now.structs.now) (map tree c.args.variables.now.types.now) c.args.variables.now.region_free.now c.args.variables.now.free (path_of c.args.place.now) _ _ (c.is_of_marked.ensures c.if-is_of_marked.true)
+returns-then-is_of_marked c =
+    adds_into_silent (structs_of c.args.variables.now.structs.now)
+    (map tree c.args.variables.now.types.now) c.args.variables.now.region_free.now c.args.variables.now.free
+    (path_of c.args.place.now) _ _ (c.is_of_marked.ensures c.if-is_of_marked.true)

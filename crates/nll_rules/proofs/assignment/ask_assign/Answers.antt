@@ -7,7 +7,13 @@ use Rattle.nll_rules.proofs.RegionFreeLemmas.{adds_of_silent, adds_into_silent}
 use Rattle.nll_rules.proofs.assignment.ask_assign.Goals as goal
 
 pub returns-then-is_silent : goal.returns-then-is_silent
-returns-then-is_silent c = adds_of_silent (structs_of c.args.variables.now.structs.now) (map tree c.args.variables.now.types.now) c.args.variables.now.region_free.now c.args.variables.now.free (operand_of c.args.operand.now) _ _ (c.is_silent.ensures c.if-is_silent.true)
+returns-then-is_silent c =
+    adds_of_silent (structs_of c.args.variables.now.structs.now)
+    (map tree c.args.variables.now.types.now) c.args.variables.now.region_free.now c.args.variables.now.free
+    (operand_of c.args.operand.now) _ _ (c.is_silent.ensures c.if-is_silent.true)
 
 pub returns-then-is_of_marked : goal.returns-then-is_of_marked
-returns-then-is_of_marked c = adds_into_silent (structs_of c.args.variables.now.structs.now) (map tree c.args.variables.now.types.now) c.args.variables.now.region_free.now c.args.variables.now.free (path_of c.args.place.now) _ _ (c.is_of_marked.ensures c.if-is_of_marked.true)
+returns-then-is_of_marked c =
+    adds_into_silent (structs_of c.args.variables.now.structs.now)
+    (map tree c.args.variables.now.types.now) c.args.variables.now.region_free.now c.args.variables.now.free
+    (path_of c.args.place.now) _ _ (c.is_of_marked.ensures c.if-is_of_marked.true)

@@ -8,5 +8,8 @@ use Rattle.nll_rules.proofs.borrows.ask_borrow.Goals as goal
 
 pub returns : goal.returns
 returns c =
-    adds_same _ _ _ _ (λ x. asks_borrow (structs_of c.args.variables.now.structs.now) (map tree c.args.variables.now.types.now) (path_of c.args.place.now) c.args.borrow.now.region c.args.borrow.now.mutable (path_of c.args.borrow.now.borrowed.now) x)
+    adds_same _ _ _ _ (λ x. asks_borrow (structs_of c.args.variables.now.structs.now)
+    (map tree c.args.variables.now.types.now)
+    (path_of c.args.place.now) c.args.borrow.now.region c.args.borrow.now.mutable
+    (path_of c.args.borrow.now.borrowed.now) x)
     (adds_append _ _ _ _ _ c.in_ok-ask_reference.ensures c.in_ok-ask_rests.ensures)

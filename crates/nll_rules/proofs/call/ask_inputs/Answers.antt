@@ -19,11 +19,19 @@ loop-place-preserved c =
     let args = c.args.arguments.now in
     let arg = c.index-arguments-place.result in
     let here : n < length args = omega arith in
-    below_more _ _ n _ _ _ (λ x. input_at (structs_of c.args.variables.now.structs.now) (map tree c.args.variables.now.types.now) (map {B = Operand × TypeTree} (λ a. (operand_of a.0, tree a.1)) args) n (operand_of arg.0) (tree arg.1) x
-    (get_mapped {Y = Operand × TypeTree} (λ a. (operand_of a.0, tree a.1)) args n arg (slice_get_read args _ n arg refl here c.index-arguments-place.is))) c.loop-place.invariant c.in_ok-ask_input.ensures
+    below_more _ _ n _ _ _ (λ x. input_at (structs_of c.args.variables.now.structs.now)
+    (map tree c.args.variables.now.types.now)
+    (map {B = Operand × TypeTree} (λ a. (operand_of a.0, tree a.1)) args) n (operand_of arg.0) (tree arg.1) x
+    (get_mapped {Y = Operand × TypeTree} (λ a. (operand_of a.0, tree a.1)) args n arg
+    (slice_get_read args _ n arg refl here c.index-arguments-place.is))) c.loop-place.invariant
+    c.in_ok-ask_input.ensures
 
 pub returns : goal.returns
 returns c =
     let args = c.args.arguments.now in
-    let past : length (map {B = Operand × TypeTree} (λ a. (operand_of a.0, tree a.1)) args) ≤ c.loop-place.place = omega (arith, length-map {B = Operand × TypeTree} args (λ a. (operand_of a.0, tree a.1))) in
-    below_all _ c.loop-place.place _ _ (λ k x p. inputs_within (structs_of c.args.variables.now.structs.now) (map tree c.args.variables.now.types.now) (map {B = Operand × TypeTree} (λ a. (operand_of a.0, tree a.1)) args) c.loop-place.place k x past p) c.loop-place.invariant
+    let past : length (map {B = Operand × TypeTree} (λ a. (operand_of a.0, tree a.1)) args) ≤ c.loop-place.place =
+    omega (arith, length-map {B = Operand × TypeTree} args (λ a. (operand_of a.0, tree a.1))) in
+    below_all _ c.loop-place.place _ _ (λ k x p.
+    inputs_within (structs_of c.args.variables.now.structs.now) (map tree c.args.variables.now.types.now)
+    (map {B = Operand × TypeTree} (λ a. (operand_of a.0, tree a.1)) args) c.loop-place.place k x past p)
+    c.loop-place.invariant

@@ -8,4 +8,6 @@ use Rattle.nll_rules.proofs.PairLemmas.{AtOneBelow}
 use Rattle.nll_rules.proofs.call.ask_inputs.Given as goal
 
 abbrev pub invariant-loop-place : goal.invariant-loop-place
-invariant-loop-place l = AddsPairs (AtOneBelow l.place (InputAsks (structs_of l.variables.structs.now) (map tree l.variables.types.now) (map {B = Operand × TypeTree} (λ a. (operand_of a.0, tree a.1)) l.arguments))) l.fn.asked.items l.asked.items
+invariant-loop-place l =
+    AddsPairs (AtOneBelow l.place (InputAsks (structs_of l.variables.structs.now) (map tree l.variables.types.now)
+    (map {B = Operand × TypeTree} (λ a. (operand_of a.0, tree a.1)) l.arguments))) l.fn.asked.items l.asked.items

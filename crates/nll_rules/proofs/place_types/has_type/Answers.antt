@@ -14,6 +14,8 @@ returns c = λ yes.
     let within : c.variable-variable.result < length types = omega arith in
     let ty = c.index-variables-variable.result in
     let found = slice_get_read types _ c.variable-variable.result ty refl within c.index-variables-variable.is in
-    let at' = get_mapped tree types p.variable ty (subst (λ i. slice_get types i ≡ Some ty) c.variable-variable.ensures found) in
+    let at' =
+    get_mapped tree types p.variable ty
+    (subst (λ i. slice_get types i ≡ Some ty) c.variable-variable.ensures found) in
     let there = (rw c.projections-projections.ensures at c.leads_on-leads.ensures) yes (tree ty) (inl refl) in
     (there.0, ap (option_and_then (behind_all (structs_of c.args.structs.now) p.projections)) at' ∙ there.1)

@@ -6,4 +6,6 @@ use Rattle.nll_rules.proofs.places.ask_behind.Goals as goal
 
 pub returns-in_ok-subtyping-in-Some : goal.returns-in_ok-subtyping-in-Some
 returns-in_ok-subtyping-in-Some c =
-    rw c.in-Some.is (adds_same _ _ _ _ (λ x. both_there (structs_of c.args.structs.now) (tree c.args.one.now) (tree c.in-Some.other) x) c.in_ok-subtyping-in-Some.ensures)
+    rw c.in-Some.is (adds_same _ _ _ _ (λ x.
+    both_there (structs_of c.args.structs.now) (tree c.args.one.now) (tree c.in-Some.other) x)
+    c.in_ok-subtyping-in-Some.ensures)

@@ -4,4 +4,6 @@ use Rattle.nll_rules.proofs.StatementLemmas.{adds_both}
 use Rattle.nll_rules.proofs.places.ask_into.Goals as goal
 
 pub returns-in_ok-subtyping-in-Some : goal.returns-in_ok-subtyping-in-Some
-returns-in_ok-subtyping-in-Some c = adds_both _ _ _ _ _ _ _ refl (c.in-Some.ensures (structs_of c.args.variables.now.structs.now)) c.in_ok-subtyping-in-Some.ensures
+returns-in_ok-subtyping-in-Some c =
+    adds_both _ _ _ _ _ _ _ refl (c.in-Some.ensures (structs_of c.args.variables.now.structs.now))
+    c.in_ok-subtyping-in-Some.ensures

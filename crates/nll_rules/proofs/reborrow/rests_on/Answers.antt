@@ -10,8 +10,10 @@ use Rattle.nll_rules.proofs.reborrow.rests_on.Goals as goal
 pub returns-then-variable-variables : goal.returns-then-variable-variables
 returns-then-variable-variables c =
     let p = path_of c.args.place.now in
-    let past : length (map tree c.args.variables.now) ≤ p.variable = omega (arith, length-map c.args.variables.now tree, c.variable-variable.ensures) in
-    rests_from (structs_of c.args.structs.now) (map tree c.args.variables.now) p None _ (slice_get_past _ _ past) c.new-regions.ensures.items
+    let past : length (map tree c.args.variables.now) ≤ p.variable =
+    omega (arith, length-map c.args.variables.now tree, c.variable-variable.ensures) in
+    rests_from (structs_of c.args.structs.now) (map tree c.args.variables.now) p None _
+    (slice_get_past _ _ past) c.new-regions.ensures.items
 
 pub returns : goal.returns
 returns c =

@@ -13,6 +13,7 @@ loop-number-preserved c =
     let kept = c.loop-number.invariant in
     rw c.in_ok-push.ensures.items (
       more_fields structs marks c.has_bare_fields-bare.result kept.0
-          (λ yes. subst (λ (n : ℕ). AreBare marks (struct_at structs n).fields) (sym kept.1) ((rw c.as_slice.ensures.value at c.has_bare_fields-bare.ensures) yes)),
+          (λ yes. subst (λ (n : ℕ). AreBare marks (struct_at structs n).fields) (sym kept.1)
+          ((rw c.as_slice.ensures.value at c.has_bare_fields-bare.ensures) yes)),
       omega (arith, length-append marks (c.has_bare_fields-bare.result ∷ [])),
     )

@@ -13,7 +13,9 @@ use Rattle.nll_rules.proofs.statement.asks.Goals as goal
 
 pub returns-in_ok-ask_assign-in-Assign : goal.returns-in_ok-ask_assign-in-Assign
 returns-in_ok-ask_assign-in-Assign c =
-    rw c.in-Assign.is (adds_same _ _ _ _ (λ x. asks_assign (structs_of c.args.variables.now.structs.now) (map tree c.args.variables.now.types.now) (path_of c.in-Assign.place) (operand_of c.in-Assign.operand) x) c.in_ok-ask_assign-in-Assign.ensures)
+    rw c.in-Assign.is (adds_same _ _ _ _
+    (λ x. asks_assign (structs_of c.args.variables.now.structs.now) (map tree c.args.variables.now.types.now)
+    (path_of c.in-Assign.place) (operand_of c.in-Assign.operand) x) c.in_ok-ask_assign-in-Assign.ensures)
 
 pub returns-in_ok-ask_call-in-Call : goal.returns-in_ok-ask_call-in-Call
 returns-in_ok-ask_call-in-Call c =
@@ -24,11 +26,17 @@ returns-in_ok-ask_call-in-Call c =
     let new = c.ask_call.new.asked.items in
     let told = rw c.deref-in-Call.ensures at c.in_ok-ask_call-in-Call.ensures in
     rw c.in-Call.is
-    (subst (λ (as' : List (Operand × TypeTree)). AddsPairs (Asks structs types (call (path_of called.place) as' (tree called.result) (map {B = ℕ × ℕ} (λ w. (w.0, w.1)) called.wheres.items) called.target called.unwind)) old new)
+    (subst (λ (as' : List (Operand × TypeTree)).
+    AddsPairs (Asks structs types (call (path_of called.place) as' (tree called.result)
+    (map {B = ℕ × ℕ} (λ w. (w.0, w.1)) called.wheres.items) called.target called.unwind)) old new)
     (arguments_seen operand_of tree called.arguments.items)
-    (subst (λ (ws : List (ℕ × ℕ)). AddsPairs (Asks structs types (call (path_of called.place) (map {B = Operand × TypeTree} (λ a. (operand_of a.0, tree a.1)) called.arguments.items) (tree called.result) ws called.target called.unwind)) old new)
+    (subst (λ (ws : List (ℕ × ℕ)). AddsPairs
+    (Asks structs types (call (path_of called.place)
+    (map {B = Operand × TypeTree} (λ a. (operand_of a.0, tree a.1)) called.arguments.items)
+    (tree called.result) ws called.target called.unwind)) old new)
     (pairs_seen called.wheres.items) told))
 
 pub returns-in-Switch : goal.returns-in-Switch
 returns-in-Switch c =
-    rw c.in-Switch.is (adds_none _ _ (asks_switch (structs_of c.args.variables.now.structs.now) (map tree c.args.variables.now.types.now) (operand_of c.in-Switch.field-0) c.in-Switch.field-1.items))
+    rw c.in-Switch.is (adds_none _ _ (asks_switch (structs_of c.args.variables.now.structs.now)
+    (map tree c.args.variables.now.types.now) (operand_of c.in-Switch.field-0) c.in-Switch.field-1.items))

@@ -16,8 +16,13 @@ loop-place-preserved c =
     let b = c.index-qs-place.result in
     let here : n < length rs = omega (arith, c.min-place-end.ensures) in
     let there : n < length qs = omega (arith, c.min-place-end.ensures) in
-    below_more _ _ n _ _ _ (λ x. argument_at c.args.parameters.now c.args.outer rs qs n a b x (slice_get_read rs _ n a refl here c.index-rs-place.is) (slice_get_read qs _ n b refl there c.index-qs-place.is))
+    below_more _ _ n _ _ _ (λ x. argument_at c.args.parameters.now c.args.outer rs qs n a b x
+    (slice_get_read rs _ n a refl here c.index-rs-place.is)
+    (slice_get_read qs _ n b refl there c.index-qs-place.is))
     c.loop-place.invariant (rw (c.times-sign.ensures, c.sign_or.ensures) at c.in_ok-ask_pair.ensures)
 
 pub returns : goal.returns
-returns c = below_all _ c.loop-place.place _ _ (λ k x p. arguments_within c.args.parameters.now c.args.outer c.args.rs.now c.args.qs.now c.loop-place.place k x (omega (arith, c.min-place-end.ensures)) p) c.loop-place.invariant
+returns c =
+    below_all _ c.loop-place.place _ _ (λ k x p.
+    arguments_within c.args.parameters.now c.args.outer c.args.rs.now c.args.qs.now c.loop-place.place k x
+    (omega (arith, c.min-place-end.ensures)) p) c.loop-place.invariant

@@ -16,14 +16,18 @@ returns-in_ok-ask-in-Reference c =
     let both = adds_append _ _ _ _ _ c.in_ok-ask_pair-in-Reference.ensures inner in
     let same = same_flag c.args.one.now.mutable w.other_mutable c.if-one-other_mutable.true in
     rw (ap tree w.is ∙ tree_reference w.other_region w.other_mutable w.other_target, ← same)
-    (adds_same _ _ _ _ (λ x. asks_reference s Covariant c.args.one.now.region w.other_region c.args.one.now.mutable (tree c.args.one.now.target.now) (tree w.other_target.value) x) both)
+    (adds_same _ _ _ _ (λ x. asks_reference s Covariant c.args.one.now.region w.other_region c.args.one.now.mutable
+    (tree c.args.one.now.target.now) (tree w.other_target.value) x) both)
 
 pub returns-else-one-other_mutable : goal.returns-else-one-other_mutable
 returns-else-one-other_mutable c =
     let s = structs_of c.args.structs.now in
     let w = c.in-Reference in
     rw (ap tree w.is ∙ tree_reference w.other_region w.other_mutable w.other_target)
-    (adds_same _ _ _ _ (λ x. asks_own s Covariant c.args.one.now.region w.other_region c.args.one.now.mutable w.other_mutable (tree c.args.one.now.target.now) (tree w.other_target.value) x (other_flag c.args.one.now.mutable w.other_mutable c.if-one-other_mutable.false)) c.in_ok-ask_pair-in-Reference.ensures)
+    (adds_same _ _ _ _ (λ x. asks_own s Covariant c.args.one.now.region w.other_region c.args.one.now.mutable
+    w.other_mutable (tree c.args.one.now.target.now) (tree w.other_target.value) x
+    (other_flag c.args.one.now.mutable w.other_mutable c.if-one-other_mutable.false))
+    c.in_ok-ask_pair-in-Reference.ensures)
 
 pub returns-in-Int : goal.returns-in-Int
 returns-in-Int c = unlike_reference (structs_of c.args.structs.now) Covariant _ _ _ _ _ (no_reference _ c.in-Int.is)

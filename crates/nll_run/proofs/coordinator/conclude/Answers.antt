@@ -15,19 +15,26 @@ pub gather-requires-clause-each : goal.gather-requires-clause-each
 gather-requires-clause-each g c = λ k l e.
     let lefts = c.in_ok-lefts.ensures.lefts ∙ ap (map (λ d. d.left)) c.from.ensures.0 in
     let d = map_from (λ d. d.left) c.args.finished.items k l (subst (λ xs. slice_get xs k ≡ Some l) lefts e) in
-    let w = c.requires.leaves k d.0 d.1 in
-    (subst (λ x. g.L.Ledger.left_belongs c.args.book x) d.2 w.of_book, ap g.L.Ledger.left_number (sym d.2) ∙ w.number_is)
+    let w = c.requires.leaves k d.0 d.1 in (
+      subst (λ x. g.L.Ledger.left_belongs c.args.book x) d.2 w.of_book,
+      ap g.L.Ledger.left_number (sym d.2)
+          ∙ w.number_is,
+    )
 
 pub values_of-requires : goal.values_of-requires
 values_of-requires g c =
     let m = g.M.Mail in let b = g.L.Ledger in
-    let grown = ap (map (λ x. x.items)) c.deref-2.ensures.value ∙ (c.in_ok-lefts.ensures.grown ∙ ap (map (λ d. d.log.items)) c.from.ensures.0) in
+    let grown = ap (map (λ x. x.items)) c.deref-2.ensures.value
+    ∙ (c.in_ok-lefts.ensures.grown ∙ ap (map (λ d. d.log.items)) c.from.ensures.0) in
     let count : length c.args.finished.items ≡ c.args.cut.now.owners = omega (arith, c.requires.count) in
     record {
       range = λ log x h at.
           in_range m b c.args.book
-          (λ d. d.log.items) (λ d. d.left) (λ d. d.closed.items) (λ d. d.receivers.items) (λ d. d.ending) c.args.problem.now c.args.cut.now c.requires.cut c.args.finished.items count c.requires.leaves c.requires.finishes
-          (λ k d e. subst (λ xs. IsReason (map (λ d. d.ending) xs) None) c.deref.ensures.value c.in_default.ensures k d.ending (map_place (λ d. d.ending) c.args.finished.items k d e))
+          (λ d. d.log.items) (λ d. d.left) (λ d. d.closed.items) (λ d. d.receivers.items)
+          (λ d. d.ending) c.args.problem.now c.args.cut.now c.requires.cut c.args.finished.items count
+          c.requires.leaves c.requires.finishes
+          (λ k d e. subst (λ xs. IsReason (map (λ d. d.ending) xs) None) c.deref.ensures.value c.in_default.ensures k
+          d.ending (map_place (λ d. d.ending) c.args.finished.items k d e))
           log x (subst (λ ls. Contains ls log) grown h) at;
     }
 
@@ -38,21 +45,34 @@ returns-clause-ok g c =
     let count : length ds ≡ c.args.cut.now.owners = omega (arith, c.requires.count) in
     let lefts = c.in_ok-lefts.ensures.lefts ∙ ap (map (λ d. d.left)) c.from.ensures.0 in
     let grown = c.in_ok-lefts.ensures.grown ∙ ap (map (λ d. d.log.items)) c.from.ensures.0 in
-    let rows = ap (map (λ x. x.items)) c.from-2.ensures.0 ∙ (c.in_ok-lefts.ensures.rows ∙ ap (map (λ d. d.closed.items)) c.from.ensures.0) in
+    let rows = ap (map (λ x. x.items)) c.from-2.ensures.0
+    ∙ (c.in_ok-lefts.ensures.rows ∙ ap (map (λ d. d.closed.items)) c.from.ensures.0) in
     let columns = c.in_ok-lefts.ensures.columns ∙ ap (map (λ d. d.receivers.items)) c.from.ensures.0 in
     let values = ap (map (λ x. x.items)) c.deref-2.ensures.value ∙ grown in
-    let settled = subst (λ (y : List (List _) × (List (List _) × ℕ)). ArePostsOf m (sent_by m.all_sent y.0) (got_by m.received y.1.0) (InRows y.1.1 y.1.1) c.settle_all.new.posts.items)
+    let settled =
+    subst (λ (y : List (List _) × (List (List _) × ℕ)).
+    ArePostsOf m (sent_by m.all_sent y.0) (got_by m.received y.1.0)
+    (InRows y.1.1 y.1.1) c.settle_all.new.posts.items)
     (λ i. (rows i, (columns i, c.owners-owners.ensures.value i))) c.in_ok-settle_all.ensures.posts in
-    subst (λ ls. IsOutcome m c.args.problem.now c.args.cut.now c.in_ok-values.values ls c.settle_all.new.posts.items) (sym grown)
+    subst (λ ls. IsOutcome m c.args.problem.now c.args.cut.now c.in_ok-values.values ls c.settle_all.new.posts.items)
+    (sym grown)
     (says_least m b c.args.book
-    (λ d. d.log.items) (λ d. d.left) (λ d. d.closed.items) (λ d. d.receivers.items) (λ d. d.ending) c.args.problem.now c.args.cut.now c.requires.cut ds count c.requires.leaves c.requires.finishes
-    (λ k d e. subst (λ xs. IsReason (map (λ d. d.ending) xs) None) c.deref.ensures.value c.in_default.ensures k d.ending (map_place (λ d. d.ending) c.args.finished.items k d e))
+    (λ d. d.log.items) (λ d. d.left) (λ d. d.closed.items) (λ d. d.receivers.items)
+    (λ d. d.ending) c.args.problem.now c.args.cut.now c.requires.cut ds count c.requires.leaves c.requires.finishes
+    (λ k d e. subst (λ xs. IsReason (map (λ d. d.ending) xs) None) c.deref.ensures.value c.in_default.ensures k d.ending
+    (map_place (λ d. d.ending) c.args.finished.items k d e))
     c.settle_all.new.posts.items settled
-    c.gather.result.owed c.gather.result.cleared (c.gather.ensures.owed ∙ ap (sum_by b.left_owed) lefts) (c.gather.ensures.cleared ∙ ap (sum_by b.left_cleared) lefts)
+    c.gather.result.owed c.gather.result.cleared (c.gather.ensures.owed ∙ ap (sum_by b.left_owed) lefts)
+    (c.gather.ensures.cleared ∙ ap (sum_by b.left_cleared) lefts)
     (λ f. c.gather.ensures.quiet (λ k l e. f k l (subst (λ xs. slice_get xs k ≡ Some l) lefts e)))
-    (λ k l e off. let s = c.gather.ensures.stopped k l (subst (λ xs. slice_get xs k ≡ Some l) (sym lefts) e) off in (s.0, s.1, subst (λ xs. slice_get xs s.0 ≡ Some s.1) lefts s.2, s.3))
+    (λ k l e off. let s = c.gather.ensures.stopped k l (subst (λ xs. slice_get xs k ≡ Some l) (sym lefts) e) off in
+    (s.0, s.1, subst (λ xs. slice_get xs s.0 ≡ Some s.1) lefts s.2, s.3))
     c.requires.problem c.in_ok-values.values c.in_ok-values.ensures.shaped
-    (λ r e. (λ h. let x = (c.in_ok-values.ensures.held r e).0 h in (x.0, subst (λ ls. Contains ls x.0) values x.1, x.2), λ x. (c.in_ok-values.ensures.held r e).1 (x.0, subst (λ ls. Contains ls x.0) (sym values) x.1, x.2)))
+    (λ r e. (
+      λ h. let x = (c.in_ok-values.ensures.held r e).0 h in
+          (x.0, subst (λ ls. Contains ls x.0) values x.1, x.2),
+      λ x. (c.in_ok-values.ensures.held r e).1 (x.0, subst (λ ls. Contains ls x.0) (sym values) x.1, x.2),
+    ))
     c.in_ok-settle_all.ensures.order)
 
 pub returns-in-Some-clause-refused : goal.returns-in-Some-clause-refused
@@ -70,20 +90,25 @@ returns-in-Some-clause-thread g c = λ is.
 
 pub returns-in_err-lefts-clause-refused : goal.returns-in_err-lefts-clause-refused
 returns-in_err-lefts-clause-refused g c = λ error is.
-    absurd (none_or (map (λ d. d.ending) c.args.finished.items) error (subst (λ xs. IsReason (map (λ d. d.ending) xs) None) c.deref.ensures.value c.in_default.ensures) is)
+    absurd (none_or (map (λ d. d.ending) c.args.finished.items) error
+    (subst (λ xs. IsReason (map (λ d. d.ending) xs) None) c.deref.ensures.value c.in_default.ensures) is)
 
 pub returns-in_err-settle_all-clause-refused : goal.returns-in_err-settle_all-clause-refused
 returns-in_err-settle_all-clause-refused g c = λ error is.
-    absurd (none_or (map (λ d. d.ending) c.args.finished.items) error (subst (λ xs. IsReason (map (λ d. d.ending) xs) None) c.deref.ensures.value c.in_default.ensures) is)
+    absurd (none_or (map (λ d. d.ending) c.args.finished.items) error
+    (subst (λ xs. IsReason (map (λ d. d.ending) xs) None) c.deref.ensures.value c.in_default.ensures) is)
 
 pub returns-in_err-values-clause-refused : goal.returns-in_err-values-clause-refused
 returns-in_err-values-clause-refused g c = λ error is.
-    absurd (none_or (map (λ d. d.ending) c.args.finished.items) error (subst (λ xs. IsReason (map (λ d. d.ending) xs) None) c.deref.ensures.value c.in_default.ensures) is)
+    absurd (none_or (map (λ d. d.ending) c.args.finished.items) error
+    (subst (λ xs. IsReason (map (λ d. d.ending) xs) None) c.deref.ensures.value c.in_default.ensures) is)
 
 pub returns-clause-refused : goal.returns-clause-refused
 returns-clause-refused g c = λ error is.
-    absurd (none_or (map (λ d. d.ending) c.args.finished.items) error (subst (λ xs. IsReason (map (λ d. d.ending) xs) None) c.deref.ensures.value c.in_default.ensures) is)
+    absurd (none_or (map (λ d. d.ending) c.args.finished.items) error
+    (subst (λ xs. IsReason (map (λ d. d.ending) xs) None) c.deref.ensures.value c.in_default.ensures) is)
 
 pub returns-clause-started : goal.returns-clause-started
 returns-clause-started g c = λ k d e.
-    calm_started d.ending (subst (λ xs. IsReason (map (λ d. d.ending) xs) None) c.deref.ensures.value c.in_default.ensures k d.ending (map_place (λ d. d.ending) c.args.finished.items k d e))
+    calm_started d.ending (subst (λ xs. IsReason (map (λ d. d.ending) xs) None) c.deref.ensures.value
+    c.in_default.ensures k d.ending (map_place (λ d. d.ending) c.args.finished.items k d e))

@@ -12,11 +12,18 @@ run_all-requires-clause-given g c κs within' =
     let p = c.in_ok-book.ensures in
     let n = c.owners-owners.ensures.value in
     let ws = c.in_ok-book.workers.items in
-    all_of (λ w. IsGiven b m c.args.cut.now c.in_ok-book.book w.me w.share w.outbox.senders.items w.receivers.items w.room.items (vec_capacity w.room)) ws (λ k w e.
+    all_of (λ w. IsGiven b m c.args.cut.now c.in_ok-book.book w.me w.share w.outbox.senders.items w.receivers.items
+    w.room.items (vec_capacity w.room)) ws (λ k w e.
     let x = p.each k w e in let s = p.shares k w e in
-    let l : k < c.owners-owners.result = (let h = within ws k w e in let r = p.table.row_count in let z = map_size (λ y. y.outbox.senders.items) ws in omega (arith, h, r, z)) in
-    let row = empty_row m c.owners-owners.result _ _ p.table k w.outbox.senders.items l (mapped (λ y. y.outbox.senders.items) ws k w [] e) in
-    let column = empty_column m c.owners-owners.result _ _ p.table k w.receivers.items l (mapped (λ y. y.receivers.items) ws k w [] e) in
+    let l : k < c.owners-owners.result =
+    (let h = within ws k w e in let r = p.table.row_count in let z = map_size (λ y. y.outbox.senders.items) ws in
+    omega (arith, h, r, z)) in
+    let row =
+    empty_row m c.owners-owners.result _ _ p.table k w.outbox.senders.items l
+    (mapped (λ y. y.outbox.senders.items) ws k w [] e) in
+    let column =
+    empty_column m c.owners-owners.result _ _ p.table k w.receivers.items l
+    (mapped (λ y. y.receivers.items) ws k w [] e) in
     record {
       me_in = omega (arith, l, n, x.0);
       few = c.owners-owners.ensures.sound.owner_limit;
@@ -31,40 +38,52 @@ pub conclude-requires-clause-table : goal.conclude-requires-clause-table
 conclude-requires-clause-table g c κs within' =
     let m = g.M.Mail in
     let each = c.in-Ok.ensures.ended in
-    let table = table_then m (λ w. w.outbox.senders.items) (λ w. w.receivers.items) (λ d. d.closed.items) (λ d. d.receivers.items)
-    c.in_ok-book.workers.items c.in-Ok.finished.items c.owners-owners.result each.len (λ k w d a z. (each.at k w d a z).shuts) (λ k w d a z. (each.at k w d a z).keeps) c.in_ok-book.ensures.table in
-    subst (λ n. IsTable m.closes m.ends n n (map (λ d. d.closed.items) c.in-Ok.finished.items) (map (λ d. d.receivers.items) c.in-Ok.finished.items)) c.owners-owners.ensures.value table
+    let table =
+    table_then m (λ w. w.outbox.senders.items) (λ w. w.receivers.items) (λ d. d.closed.items)
+    (λ d. d.receivers.items)
+    c.in_ok-book.workers.items c.in-Ok.finished.items c.owners-owners.result each.len
+    (λ k w d a z. (each.at k w d a z).shuts) (λ k w d a z. (each.at k w d a z).keeps) c.in_ok-book.ensures.table in
+    subst (λ n. IsTable m.closes m.ends n n (map (λ d. d.closed.items) c.in-Ok.finished.items)
+    (map (λ d. d.receivers.items) c.in-Ok.finished.items)) c.owners-owners.ensures.value table
 
 pub conclude-requires-clause-leaves : goal.conclude-requires-clause-leaves
 conclude-requires-clause-leaves g c κs within' = λ k d e.
     let b = g.L.Ledger in
     let each = c.in-Ok.ensures.ended in
-    let w = place c.in_ok-book.workers.items k (let h = within c.in-Ok.finished.items k d e in omega (arith, h, each.len)) in
-    subst (λ i. Leaves b c.in_ok-book.book i d.left d.ending) (c.in_ok-book.ensures.each k w.0 w.1).0 (each.at k w.0 d w.1 e).leaves
+    let w = place c.in_ok-book.workers.items k
+    (let h = within c.in-Ok.finished.items k d e in omega (arith, h, each.len)) in
+    subst (λ i. Leaves b c.in_ok-book.book i d.left d.ending) (c.in_ok-book.ensures.each k w.0 w.1).0
+    (each.at k w.0 d w.1 e).leaves
 
 pub conclude-requires-clause-finishes : goal.conclude-requires-clause-finishes
 conclude-requires-clause-finishes g c κs within' = λ k d e made.
     let m = g.M.Mail in let b = g.L.Ledger in
     let each = c.in-Ok.ensures.ended in
-    let w = place c.in_ok-book.workers.items k (let h = within c.in-Ok.finished.items k d e in omega (arith, h, each.len)) in
-    subst (λ i. FinishedAs c.args.problem.now c.args.cut.now i (log_of (map m.all_sent d.closed.items)) (log_of (map m.received d.receivers.items)) (b.left_owed d.left) (b.left_cleared d.left) d.ending d.log.items)
+    let w = place c.in_ok-book.workers.items k
+    (let h = within c.in-Ok.finished.items k d e in omega (arith, h, each.len)) in
+    subst (λ i. FinishedAs c.args.problem.now c.args.cut.now i (log_of (map m.all_sent d.closed.items))
+    (log_of (map m.received d.receivers.items)) (b.left_owed d.left) (b.left_cleared d.left) d.ending d.log.items)
     (c.in_ok-book.ensures.each k w.0 w.1).0 ((each.at k w.0 d w.1 e).finishes made)
 
 pub returns-in-Ok-clause-permitted : goal.returns-in-Ok-clause-permitted
 returns-in-Ok-clause-permitted g c =
     let answered = c.in-Ok.ensures.answered in
     if_ok_map c.conclude.result _ _ (λ _ started k l.
-    let w = place c.in_ok-book.workers.items k (let n = c.owners-owners.ensures.value in let z = c.in_ok-book.ensures.count in omega (arith, l, n, z)) in
-    let d = place c.in-Ok.finished.items k (let h = within c.in_ok-book.workers.items k w.0 w.1 in omega (arith, h, answered.len)) in
+    let w = place c.in_ok-book.workers.items k
+    (let n = c.owners-owners.ensures.value in let z = c.in_ok-book.ensures.count in omega (arith, l, n, z)) in
+    let d = place c.in-Ok.finished.items k
+    (let h = within c.in_ok-book.workers.items k w.0 w.1 in omega (arith, h, answered.len)) in
     subst (λ i. g.P.Permit.permits c.args.permit.now i true) (c.in_ok-book.ensures.each k w.0 w.1).0
-    (started_answer (g.P.Permit.permits c.args.permit.now w.0.me) d.0.ending (started k d.0 d.1) (answered.at k w.0 d.0 w.1 d.1)))
+    (started_answer (g.P.Permit.permits c.args.permit.now w.0.me) d.0.ending (started k d.0 d.1)
+    (answered.at k w.0 d.0 w.1 d.1)))
     c.conclude.ensures.started
 
 pub returns-in-Ok-clause-thread : goal.returns-in-Ok-clause-thread
 returns-in-Ok-clause-thread g c = λ is.
     let answered = c.in-Ok.ensures.answered in
     let x = c.conclude.ensures.thread is in
-    let w = place c.in_ok-book.workers.items x.0 (let h = within c.in-Ok.finished.items x.0 x.1 x.2 in omega (arith, h, answered.len)) in
+    let w = place c.in_ok-book.workers.items x.0
+    (let h = within c.in-Ok.finished.items x.0 x.1 x.2 in omega (arith, h, answered.len)) in
     let a = answer_of (g.P.Permit.permits c.args.permit.now w.0.me) x.1.ending (answered.at x.0 w.0 x.1 w.1 x.2) in
     let l = within c.in_ok-book.workers.items x.0 w.0 w.1 in
     let k = (c.in_ok-book.ensures.each x.0 w.0 w.1).0 in

@@ -6,4 +6,5 @@ abbrev pub invariant-loop-to : goal.invariant-loop-to
 invariant-loop-to g l =
     let m = g.M.Mail in
     (l.owners ≤ vec_capacity l.row.senders)
-    × IsPartRow (AreNewEnds m) m.ends l.to l.from l.row.senders.items (map (λ c. c.items) l.fn.columns.items) (map (λ c. c.items) l.columns.items)
+    × IsPartRow (AreNewEnds m) m.ends l.to l.from l.row.senders.items (map (λ c. c.items) l.fn.columns.items)
+    (map (λ c. c.items) l.columns.items)

@@ -5,4 +5,5 @@ use Rattle.nll_run.proofs.mailboxes.make_rows.Given as goal
 abbrev pub invariant-loop-from : goal.invariant-loop-from
 invariant-loop-from g l =
     let m = g.M.Mail in
-    IsTable (AreNewEnds m) m.ends l.from l.owners (map (λ o. o.senders.items) l.rows.items) (map (λ c. c.items) l.columns.items)
+    IsTable (AreNewEnds m) m.ends l.from l.owners (map (λ o. o.senders.items) l.rows.items)
+    (map (λ c. c.items) l.columns.items)

@@ -9,7 +9,9 @@ invariant-loop-from g l =
     record {
       rows : map (λ c. c.items) l.rows.items ≡ drop l.from (map (λ c. c.items) l.initial.rows.items);
       count : length (map (λ c. c.items) l.columns.items) ≡ length (map (λ c. c.items) l.fn.columns.items);
-      cut : (j : ℕ) → j < l.owners → list_at (map (λ c. c.items) l.columns.items) j ≡ drop l.from (list_at (map (λ c. c.items) l.fn.columns.items) j);
+      cut : (j : ℕ) → j < l.owners → list_at (map (λ c. c.items) l.columns.items) j
+          ≡ drop l.from (list_at (map (λ c. c.items) l.fn.columns.items) j);
       order : ComeBefore m.post_ends l.posts.items (l.from, 0);
-      posts : ArePostsOf m (sent_by m.all_sent (map (λ c. c.items) l.initial.rows.items)) (got_by m.received (map (λ c. c.items) l.fn.columns.items)) (InRows l.from l.owners) l.posts.items;
+      posts : ArePostsOf m (sent_by m.all_sent (map (λ c. c.items) l.initial.rows.items))
+          (got_by m.received (map (λ c. c.items) l.fn.columns.items)) (InRows l.from l.owners) l.posts.items;
     }

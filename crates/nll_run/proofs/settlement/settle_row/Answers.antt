@@ -16,15 +16,29 @@ loop-to-init g c =
       cut = λ j l. absurd (omega (arith, l));
       others = λ j l. refl;
       order = c.requires.order;
-      posts = ([], sym (append-nil c.args.posts.now.items), settled_none m _ _ (InRow c.args.from 0) (λ i j d. absurd (omega (arith, d.1))));
+      posts = (
+        [],
+        sym (append-nil c.args.posts.now.items),
+        settled_none m _ _ (InRow c.args.from 0) (λ i j d. absurd (omega (arith, d.1))),
+      );
     }
 
 pub unreachable-requires-in_default-pop_front : goal.unreachable-requires-in_default-pop_front
 unreachable-requires-in_default-pop_front g c =
     let inv = c.loop-to.invariant in
     let h = c.requires.heads c.loop-to.to c.loop-to-test.true in
-    let inside : c.loop-to.to < length c.loop-to.columns.items = omega (arith, c.loop-to-test.true, c.requires.columns, inv.count, map_size (λ x. x.items) c.loop-to.columns.items, map_size (λ x. x.items) c.args.columns.now.items) in
-    let column = sym (list_read (λ x. x.items) c.loop-to.columns.items c.loop-to.to c.index_mut.result.now inside c.index_mut.ensures.value) ∙ (inv.others c.loop-to.to (omega arith) ∙ h.4) in
+    let inside : c.loop-to.to < length c.loop-to.columns.items =
+    omega (
+      arith,
+      c.loop-to-test.true,
+      c.requires.columns,
+      inv.count,
+      map_size (λ x. x.items) c.loop-to.columns.items,
+      map_size (λ x. x.items) c.args.columns.now.items,
+    ) in
+    let column =
+    sym (list_read (λ x. x.items) c.loop-to.columns.items c.loop-to.to c.index_mut.result.now inside
+    c.index_mut.ensures.value) ∙ (inv.others c.loop-to.to (omega arith) ∙ h.4) in
     let none : length c.index_mut.result.now.items ≡ 0 = search rules in
     absurd (omega (arith, none, ap length column))
 
@@ -32,9 +46,20 @@ pub settle-post-requires : goal.settle-post-requires
 settle-post-requires g c =
     let m = g.M.Mail in let inv = c.loop-to.invariant in
     let h = c.requires.heads c.loop-to.to c.loop-to-test.true in
-    let inside : c.loop-to.to < length c.loop-to.columns.items = omega (arith, c.loop-to-test.true, c.requires.columns, inv.count, map_size (λ x. x.items) c.loop-to.columns.items, map_size (λ x. x.items) c.args.columns.now.items) in
-    let column = sym (inv.others c.loop-to.to (omega arith)) ∙ (list_read (λ x. x.items) c.loop-to.columns.items c.loop-to.to c.index_mut.result.now inside c.index_mut.ensures.value ∙ c.in-Some-pop_front.ensures.items) in
-    (settle_cell m.closes m.ends c.args.from c.loop-to.to c.args.row.items c.pop_front.new.self.items (list_at (map (λ x. x.items) c.args.columns.now.items) c.loop-to.to) c.pop_front-in-loop-to.new.self.items
+    let inside : c.loop-to.to < length c.loop-to.columns.items =
+    omega (
+      arith,
+      c.loop-to-test.true,
+      c.requires.columns,
+      inv.count,
+      map_size (λ x. x.items) c.loop-to.columns.items,
+      map_size (λ x. x.items) c.args.columns.now.items,
+    ) in
+    let column = sym (inv.others c.loop-to.to (omega arith))
+    ∙ (list_read (λ x. x.items) c.loop-to.columns.items c.loop-to.to c.index_mut.result.now inside
+    c.index_mut.ensures.value ∙ c.in-Some-pop_front.ensures.items) in
+    (settle_cell m.closes m.ends c.args.from c.loop-to.to c.args.row.items c.pop_front.new.self.items
+    (list_at (map (λ x. x.items) c.args.columns.now.items) c.loop-to.to) c.pop_front-in-loop-to.new.self.items
     c.in-Some.closed c.in-Some-pop_front.receiver h (sym inv.row ∙ c.in-Some.ensures.items) column).1
 
 pub loop-to-preserved : goal.loop-to-preserved
@@ -43,10 +68,22 @@ loop-to-preserved g c =
     let h = c.requires.heads to c.loop-to-test.true in
     let now = c.loop-to.columns.items in let v = c.pop_front-in-loop-to.new.self in
     let lists = map (λ x. x.items) now in
-    let inside : to < length now = omega (arith, c.loop-to-test.true, c.requires.columns, inv.count, map_size (λ x. x.items) now, map_size (λ x. x.items) c.args.columns.now.items) in
+    let inside : to < length now =
+    omega (
+      arith,
+      c.loop-to-test.true,
+      c.requires.columns,
+      inv.count,
+      map_size (λ x. x.items) now,
+      map_size (λ x. x.items) c.args.columns.now.items,
+    ) in
     let inside' : to < length lists = omega (arith, inside, map_size (λ x. x.items) now) in
-    let column = sym (inv.others to (omega arith)) ∙ (list_read (λ x. x.items) now to c.index_mut.result.now inside c.index_mut.ensures.value ∙ c.in-Some-pop_front.ensures.items) in
-    let cell = settle_cell m.closes m.ends c.args.from to c.args.row.items c.pop_front.new.self.items (list_at (map (λ x. x.items) c.args.columns.now.items) to) v.items
+    let column = sym (inv.others to (omega arith))
+    ∙ (list_read (λ x. x.items) now to c.index_mut.result.now inside c.index_mut.ensures.value
+    ∙ c.in-Some-pop_front.ensures.items) in
+    let cell =
+    settle_cell m.closes m.ends c.args.from to c.args.row.items c.pop_front.new.self.items
+    (list_at (map (λ x. x.items) c.args.columns.now.items) to) v.items
     c.in-Some.closed c.in-Some-pop_front.receiver h (sym inv.row ∙ c.in-Some.ensures.items) column in
     let set = map_set (λ x. x.items) now to v in
     record {
@@ -54,29 +91,43 @@ loop-to-preserved g c =
       count = ap length set ∙ (set_size lists to v.items ∙ inv.count);
       cut = λ j l. ap (λ ls. list_at ls j) set ∙ ⊎_elim
           (λ (k : j < to). set_there lists to j v.items (λ e. absurd (omega (arith, k, e))) ∙ inv.cut j k)
-          (λ (k : j ≡ to). subst (λ n. list_at (slice_set lists to v.items) n ≡ drop 1 (list_at (map (λ x. x.items) c.args.columns.now.items) n)) (sym k) (set_here lists to v.items inside' ∙ cell.4))
+          (λ (k : j ≡ to). subst (λ n. list_at (slice_set lists to v.items) n
+          ≡ drop 1 (list_at (map (λ x. x.items) c.args.columns.now.items) n)) (sym k)
+          (set_here lists to v.items inside' ∙ cell.4))
           (cases_last j to l);
-      others = λ j l. ap (λ ls. list_at ls j) set ∙ (set_there lists to j v.items (λ e. absurd (omega (arith, l, e))) ∙ inv.others j (omega (arith, l)));
+      others = λ j l. ap (λ ls. list_at ls j) set
+          ∙ (set_there lists to j v.items (λ e. absurd (omega (arith, l, e))) ∙ inv.others j (omega (arith, l)));
       order = elim c.if-from-to.branch [
         | then-from-to+in_ok-push w ↦
-            subst (λ ps. ComeBefore m.post_ends ps (c.args.from, to + 1)) (sym (ap (λ v. v.items) w.posts-is ∙ w.in_ok-push.ensures.items))
-            (come_push m.post_ends c.loop-to.posts.items c.args.from to c.settle-post.result (c.settle-post.ensures.ends ∙ cell.2) inv.order)
+            subst (λ ps. ComeBefore m.post_ends ps (c.args.from, to + 1))
+            (sym (ap (λ v. v.items) w.posts-is ∙ w.in_ok-push.ensures.items))
+            (come_push m.post_ends c.loop-to.posts.items c.args.from to c.settle-post.result
+            (c.settle-post.ensures.ends ∙ cell.2) inv.order)
         | else-from-to w ↦
             subst (λ ps. ComeBefore m.post_ends ps (c.args.from, to + 1)) (sym (ap (λ v. v.items) w.posts-is))
-            (come_later m.post_ends c.loop-to.posts.items (c.args.from, to) (c.args.from, to + 1) (next_in_row c.args.from to) inv.order)
+            (come_later m.post_ends c.loop-to.posts.items (c.args.from, to) (c.args.from, to + 1)
+            (next_in_row c.args.from to) inv.order)
       ];
       posts = elim c.if-from-to.branch [
         | then-from-to+in_ok-push w ↦
-            subst (λ ps. AddsPosts m (λ _ j. log_of (map m.all_sent c.args.row.items) j) (λ _ j. log_of (map m.received (list_at (map (λ x. x.items) c.args.columns.now.items) j)) 0) (InRow c.args.from (to + 1)) c.args.posts.now.items ps)
+            subst (λ ps. AddsPosts m (λ _ j. log_of (map m.all_sent c.args.row.items) j)
+            (λ _ j. log_of (map m.received (list_at (map (λ x. x.items) c.args.columns.now.items) j)) 0)
+            (InRow c.args.from (to + 1)) c.args.posts.now.items ps)
             (sym (ap (λ v. v.items) w.posts-is ∙ w.in_ok-push.ensures.items))
             (settle_post m c.args.from to c.args.row.items (map (λ x. x.items) c.args.columns.now.items)
-            c.in-Some.closed c.in-Some-pop_front.receiver v.items c.settle-post.result cell.0 column (c.settle-post.ensures.ends ∙ cell.2) c.settle-post.ensures.sent c.settle-post.ensures.received c.settle-post.ensures.rest
+            c.in-Some.closed c.in-Some-pop_front.receiver v.items c.settle-post.result cell.0 column
+            (c.settle-post.ensures.ends ∙ cell.2) c.settle-post.ensures.sent c.settle-post.ensures.received
+            c.settle-post.ensures.rest
             c.args.posts.now.items c.loop-to.posts.items (search rules) inv.posts)
         | else-from-to w ↦
-            subst (λ ps. AddsPosts m (λ _ j. log_of (map m.all_sent c.args.row.items) j) (λ _ j. log_of (map m.received (list_at (map (λ x. x.items) c.args.columns.now.items) j)) 0) (InRow c.args.from (to + 1)) c.args.posts.now.items ps)
+            subst (λ ps. AddsPosts m (λ _ j. log_of (map m.all_sent c.args.row.items) j)
+            (λ _ j. log_of (map m.received (list_at (map (λ x. x.items) c.args.columns.now.items) j)) 0)
+            (InRow c.args.from (to + 1)) c.args.posts.now.items ps)
             (sym (ap (λ v. v.items) w.posts-is))
             (settle_own m c.args.from to c.args.row.items (map (λ x. x.items) c.args.columns.now.items)
-            c.in-Some.closed c.in-Some-pop_front.receiver v.items c.settle-post.result cell.0 column (c.settle-post.ensures.ends ∙ cell.2) c.settle-post.ensures.sent c.settle-post.ensures.received c.settle-post.ensures.rest
+            c.in-Some.closed c.in-Some-pop_front.receiver v.items c.settle-post.result cell.0 column
+            (c.settle-post.ensures.ends ∙ cell.2) c.settle-post.ensures.sent c.settle-post.ensures.received
+            c.settle-post.ensures.rest
             c.args.posts.now.items c.loop-to.posts.items (search rules) inv.posts)
       ];
     }
@@ -85,9 +136,12 @@ pub returns-clause-posts : goal.returns-clause-posts
 returns-clause-posts g c =
     let m = g.M.Mail in
     let e : c.loop-to.to ≡ c.args.owners = omega (arith, c.loop-to-test.false, c.loop-to.auto.to-end) in
-    subst (λ n. AddsPosts m (λ _ j. log_of (map m.all_sent c.args.row.items) j) (λ _ j. log_of (map m.received (list_at (map (λ x. x.items) c.args.columns.now.items) j)) 0) (InRow c.args.from n) c.args.posts.now.items c.loop-to.posts.items) e c.loop-to.invariant.posts
+    subst (λ n. AddsPosts m (λ _ j. log_of (map m.all_sent c.args.row.items) j)
+    (λ _ j. log_of (map m.received (list_at (map (λ x. x.items) c.args.columns.now.items) j)) 0)
+    (InRow c.args.from n) c.args.posts.now.items c.loop-to.posts.items) e c.loop-to.invariant.posts
 
 pub returns-clause-order : goal.returns-clause-order
 returns-clause-order g c =
     let m = g.M.Mail in
-    come_later m.post_ends c.loop-to.posts.items (c.args.from, c.loop-to.to) (c.args.from + 1, 0) (next_row c.args.from c.loop-to.to) c.loop-to.invariant.order
+    come_later m.post_ends c.loop-to.posts.items (c.args.from, c.loop-to.to) (c.args.from + 1, 0)
+    (next_row c.args.from c.loop-to.to) c.loop-to.invariant.order

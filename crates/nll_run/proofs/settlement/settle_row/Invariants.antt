@@ -10,8 +10,12 @@ invariant-loop-to g l =
     record {
       row : l.row.items ≡ drop l.to l.initial.row.items;
       count : length (map (λ c. c.items) l.columns.items) ≡ length (map (λ c. c.items) l.fn.columns.items);
-      cut : (j : ℕ) → j < l.to → list_at (map (λ c. c.items) l.columns.items) j ≡ drop 1 (list_at (map (λ c. c.items) l.fn.columns.items) j);
-      others : (j : ℕ) → l.to ≤ j → list_at (map (λ c. c.items) l.columns.items) j ≡ list_at (map (λ c. c.items) l.fn.columns.items) j;
+      cut : (j : ℕ) → j < l.to → list_at (map (λ c. c.items) l.columns.items) j
+          ≡ drop 1 (list_at (map (λ c. c.items) l.fn.columns.items) j);
+      others : (j : ℕ) → l.to ≤ j → list_at (map (λ c. c.items) l.columns.items) j
+          ≡ list_at (map (λ c. c.items) l.fn.columns.items) j;
       order : ComeBefore m.post_ends l.posts.items (l.from, l.to);
-      posts : AddsPosts m (λ _ j. log_of (map m.all_sent l.initial.row.items) j) (λ _ j. log_of (map m.received (list_at (map (λ c. c.items) l.fn.columns.items) j)) 0) (InRow l.from l.to) l.fn.posts.items l.posts.items;
+      posts : AddsPosts m (λ _ j. log_of (map m.all_sent l.initial.row.items) j)
+          (λ _ j. log_of (map m.received (list_at (map (λ c. c.items) l.fn.columns.items) j)) 0)
+          (InRow l.from l.to) l.fn.posts.items l.posts.items;
     }

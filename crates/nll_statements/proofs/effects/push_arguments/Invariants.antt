@@ -5,4 +5,7 @@ use Rattle.nll_statements.specs.Effects.{place_in}
 use Rattle.nll_statements.proofs.effects.push_arguments.Given as goal
 
 abbrev pub invariant-loop-argument : goal.invariant-loop-argument
-invariant-loop-argument g l = l.used.items ++ map (λ p. p.variable) (flat_map place_in (map (λ a. operand_of a.0) (drop l.argument-index l.arguments))) ≡ l.fn.used.items ++ map (λ p. p.variable) (flat_map place_in (map (λ a. operand_of a.0) l.arguments))
+invariant-loop-argument g l =
+    l.used.items ++ map (λ p. p.variable)
+    (flat_map place_in (map (λ a. operand_of a.0) (drop l.argument-index l.arguments)))
+    ≡ l.fn.used.items ++ map (λ p. p.variable) (flat_map place_in (map (λ a. operand_of a.0) l.arguments))

@@ -3,7 +3,12 @@ use Rattle.nll_statements.proofs.EffectLemmas.{variables_more, variables_all}
 use Rattle.nll_statements.proofs.effects.push_operands.Goals as goal
 
 pub loop-operand-preserved : goal.loop-operand-preserved
-loop-operand-preserved c = variables_more operand_of c.loop-operand.used.items c.push_operand.new.used.items _ c.args.operands.now c.loop-operand.operand-index c.operand-item.result c.loop-operand-test.true c.operand-item.is c.in_ok-push_operand.ensures c.loop-operand.invariant
+loop-operand-preserved c =
+    variables_more operand_of c.loop-operand.used.items c.push_operand.new.used.items _ c.args.operands.now
+    c.loop-operand.operand-index c.operand-item.result c.loop-operand-test.true c.operand-item.is
+    c.in_ok-push_operand.ensures c.loop-operand.invariant
 
 pub returns : goal.returns
-returns c = variables_all operand_of c.loop-operand.used.items _ c.args.operands.now c.loop-operand.operand-index c.loop-operand-test.false c.loop-operand.invariant
+returns c =
+    variables_all operand_of c.loop-operand.used.items _ c.args.operands.now c.loop-operand.operand-index
+    c.loop-operand-test.false c.loop-operand.invariant

@@ -5,4 +5,6 @@ use Rattle.nll_statements.specs.Effects.{place_in}
 use Rattle.nll_statements.proofs.effects.push_operands.Given as goal
 
 abbrev pub invariant-loop-operand : goal.invariant-loop-operand
-invariant-loop-operand l = l.used.items ++ map (λ p. p.variable) (flat_map place_in (map operand_of (drop l.operand-index l.operands))) ≡ l.fn.used.items ++ map (λ p. p.variable) (flat_map place_in (map operand_of l.operands))
+invariant-loop-operand l =
+    l.used.items ++ map (λ p. p.variable) (flat_map place_in (map operand_of (drop l.operand-index l.operands)))
+    ≡ l.fn.used.items ++ map (λ p. p.variable) (flat_map place_in (map operand_of l.operands))

@@ -5,4 +5,6 @@ use Rattle.nll_core.proofs.FrontierLemmas.{frontier_none}
 use Rattle.nll_tests.proofs.frontiers.write_one.Goals as goal
 
 pub write_grown-told-requires-clause-reached : goal.write_grown-told-requires-clause-reached
-write_grown-told-requires-clause-reached c = rw (c.new-frontier.ensures, c.requires.none) (frontier_none c.args.steps.now (element_count c.args.steps.now) (Point 0 ∷ []))
+write_grown-told-requires-clause-reached c =
+    rw (c.new-frontier.ensures, c.requires.none)
+    (frontier_none c.args.steps.now (element_count c.args.steps.now) (Point 0 ∷ []))

@@ -20,7 +20,8 @@ loop-number-preserved c x =
       | then-has+in_ok-push w ↦ rw (w.found-is, w.in_ok-push.ensures.items) (
         λ h. ⊎_elim
             (λ old. let own = (c.loop-number.invariant x).0 old in (omega (arith, own.0), own.1))
-            (λ is. subst (λ n. (n < c.loop-number.number + 1) × (flag c.args.set.now n ≡ true)) is (omega arith, sym c.has.ensures ∙ w.if-has.true))
+            (λ is. subst (λ n. (n < c.loop-number.number + 1) × (flag c.args.set.now n ≡ true)) is
+            (omega arith, sym c.has.ensures ∙ w.if-has.true))
             (Contains-push_cases _ _ x h),
         λ own. ⊎_elim
             (λ low. Contains-append_left _ _ x ((c.loop-number.invariant x).1 (low, own.1)))
@@ -31,7 +32,8 @@ loop-number-preserved c x =
         λ h. let own = (c.loop-number.invariant x).0 h in (omega (arith, own.0), own.1),
         λ own. ⊎_elim
             (λ low. (c.loop-number.invariant x).1 (low, own.1))
-            (λ is. absurd (false≢true (sym w.if-has.false ∙ (c.has.ensures ∙ subst (λ n. flag c.args.set.now n ≡ true) is own.1))))
+            (λ is. absurd (false≢true (sym w.if-has.false
+            ∙ (c.has.ensures ∙ subst (λ n. flag c.args.set.now n ≡ true) is own.1))))
             (next x c.loop-number.number own.0),
       )
     ]

@@ -9,4 +9,5 @@ pub reached_from-requires-clause-at : goal.reached_from-requires-clause-at
 reached_from-requires-clause-at c = omega (arith, rw c.in-Point.is at c.requires.among)
 
 pub returns-in-Point : goal.returns-in-Point
-returns-in-Point c = rw c.in-Point.is (IfOk-weaker c.reached_from.result _ _ (λ found reached. reached.each) c.reached_from.ensures)
+returns-in-Point c =
+    rw c.in-Point.is (IfOk-weaker c.reached_from.result _ _ (λ found reached. reached.each) c.reached_from.ensures)

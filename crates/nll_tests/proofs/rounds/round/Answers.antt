@@ -10,13 +10,17 @@ pub apply-requires-clause-shaped : goal.apply-requires-clause-shaped
 apply-requires-clause-shaped c = c.loop-constraint.invariant.shaped
 
 within : (c : After-apply) → c.loop-constraint.constraint-index < length c.args.problem.now.constraints
-within c = subst (λ xs. c.loop-constraint.constraint-index < length xs) c.constraints-constraint-items.ensures.value c.loop-constraint-test.true
+within c =
+    subst (λ xs. c.loop-constraint.constraint-index < length xs) c.constraints-constraint-items.ensures.value
+    c.loop-constraint-test.true
 
-is_item : (c : After-apply) → get_or c.args.problem.now.constraints c.loop-constraint.constraint-index c.constraint-item.result ≡ c.constraint-item.result
+is_item : (c : After-apply) → get_or c.args.problem.now.constraints c.loop-constraint.constraint-index
+    c.constraint-item.result ≡ c.constraint-item.result
 is_item c = sym (rw c.constraints-constraint-items.ensures.value at c.constraint-item.is)
 
 pub returns-in_err-new-clause-shaped : goal.returns-in_err-new-clause-shaped
-returns-in_err-new-clause-shaped c = shaped_gains c.args.problem.now _ _ _ c.loop-constraint.invariant.shaped c.apply.ensures.gains
+returns-in_err-new-clause-shaped c =
+    shaped_gains c.args.problem.now _ _ _ c.loop-constraint.invariant.shaped c.apply.ensures.gains
 
 pub returns-in_err-new-clause-kept : goal.returns-in_err-new-clause-kept
 returns-in_err-new-clause-kept c = λ s e h. c.apply.ensures.gains.kept s e (c.loop-constraint.invariant.kept s e h)
@@ -24,12 +28,14 @@ returns-in_err-new-clause-kept c = λ s e h. c.apply.ensures.gains.kept s e (c.l
 pub returns-in_err-new-clause-below : goal.returns-in_err-new-clause-below
 returns-in_err-new-clause-below c =
     let d = (goal.at.returns-in_err-new-clause-below c).After-apply in
-    rounding_stays c.args.problem.now _ _ _ c.constraint-item.result c.loop-constraint.invariant.below (c.loop-constraint.constraint-index, within d, is_item d) c.apply.ensures.gains
+    rounding_stays c.args.problem.now _ _ _ c.constraint-item.result c.loop-constraint.invariant.below
+    (c.loop-constraint.constraint-index, within d, is_item d) c.apply.ensures.gains
 
 pub loop-constraint-preserved : goal.loop-constraint-preserved
 loop-constraint-preserved c =
     let d = (goal.at.loop-constraint-preserved c).After-apply in
-    rounding_more c.args.problem.now _ _ _ _ _ _ c.constraint-item.result (within d) (is_item d) c.loop-constraint.invariant c.apply.ensures.gains c.in_ok-new.ensures.asks c.in_ok-new.ensures.tells
+    rounding_more c.args.problem.now _ _ _ _ _ _ c.constraint-item.result (within d)
+    (is_item d) c.loop-constraint.invariant c.apply.ensures.gains c.in_ok-new.ensures.asks c.in_ok-new.ensures.tells
 
 pub returns-clause-shaped : goal.returns-clause-shaped
 returns-clause-shaped c = c.loop-constraint.invariant.shaped
@@ -44,4 +50,7 @@ pub returns-clause-tells : goal.returns-clause-tells
 returns-clause-tells c = c.loop-constraint.invariant.tells
 
 pub returns-clause-closed : goal.returns-clause-closed
-returns-clause-closed c = rounding_closed c.args.problem.now _ _ _ _ (subst (λ xs. length xs ≤ c.loop-constraint.constraint-index) c.constraints-constraint-items.ensures.value c.loop-constraint-test.false) c.loop-constraint.invariant
+returns-clause-closed c =
+    rounding_closed c.args.problem.now _ _ _ _
+    (subst (λ xs. length xs ≤ c.loop-constraint.constraint-index) c.constraints-constraint-items.ensures.value
+    c.loop-constraint-test.false) c.loop-constraint.invariant

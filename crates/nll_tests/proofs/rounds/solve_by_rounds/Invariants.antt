@@ -9,7 +9,8 @@ abbrev pub invariant-loop-values : goal.invariant-loop-values
 invariant-loop-values l = record {
   shaped : IsShaped l.problem l.values;
   base : (r e : ℕ) → IsBase l.problem r e → IsHeld l.values r e;
-  below : (assignment : ℕ → ℕ → Bool) → Satisfies l.problem (λ s f. IsTrue (assignment s f)) → IsBelow l.values assignment;
+  below : (assignment : ℕ → ℕ → Bool) → Satisfies l.problem (λ s f. IsTrue (assignment s f))
+      → IsBelow l.values assignment;
 }
 
 abbrev pub decreases-loop-values : goal.decreases-loop-values

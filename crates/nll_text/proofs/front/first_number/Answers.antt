@@ -6,11 +6,13 @@ use Rattle.nll_text.proofs.front.first_number.Goals as goal
 pub returns-in_err-first : goal.returns-in_err-first
 returns-in_err-first c = rw c.from_residual.ensures
     (no_digit_there _ _ _ c.digits_in_front-number.ensures.front c.digits_in_front-number.ensures.within
-    _ _ c.split_gap.ensures _ _ c.split_at.ensures.front c.split_at.ensures.back (omega (arith, c.in_err-first.ensures.item.3)))
+    _ _ c.split_gap.ensures _ _ c.split_at.ensures.front c.split_at.ensures.back
+    (omega (arith, c.in_err-first.ensures.item.3)))
 
 pub returns-then-count-gt1 : goal.returns-then-count-gt1
 returns-then-count-gt1 c =
-    let zero : get_or c.split_at.result.0.now 0 0 ≡ 48 = sym (c.in_ok-first.ensures.item.3.1 0) ∙ c.if-first-eq48.true in
+    let zero : get_or c.split_at.result.0.now 0 0 ≡ 48 = sym (c.in_ok-first.ensures.item.3.1 0)
+    ∙ c.if-first-eq48.true in
     zero_in_front _ _ _ c.digits_in_front-number.ensures.front c.digits_in_front-number.ensures.within
     _ _ c.split_gap.ensures _ _ c.split_at.ensures.front c.split_at.ensures.back zero c.if-count-gt1.true
 

@@ -5,10 +5,13 @@ use Rattle.nll_type_check.proofs.judged.agree.Goals as goal
 
 pub returns-in-Some-other : goal.returns-in-Some-other
 returns-in-Some-other c = λ t u p q x y.
-    agree_found c.args.shapes.now c.in-Some.one c.in-Some-other.other t u p q c.is_same-fits.result (rw c.in-Some.is at x) (rw c.in-Some-other.is at y) c.is_same-fits.ensures _ refl refl
+    agree_found c.args.shapes.now c.in-Some.one c.in-Some-other.other t u p q c.is_same-fits.result
+    (rw c.in-Some.is at x) (rw c.in-Some-other.is at y) c.is_same-fits.ensures _ refl refl
 
 pub returns-in-None-other : goal.returns-in-None-other
-returns-in-None-other c = λ t u p q x y. judged_as (sym (unfit_right _ t u q (rw c.in-None-other.is at y))) refl (c.unfit.ensures (p && q))
+returns-in-None-other c =
+    λ t u p q x y. judged_as (sym (unfit_right _ t u q (rw c.in-None-other.is at y))) refl (c.unfit.ensures (p && q))
 
 pub returns-in-None : goal.returns-in-None
-returns-in-None c = λ t u p q x y. judged_as (sym (unfit_left _ t u p (rw c.in-None.is at x))) refl (c.unfit-in-None.ensures (p && q))
+returns-in-None c =
+    λ t u p q x y. judged_as (sym (unfit_left _ t u p (rw c.in-None.is at x))) refl (c.unfit-in-None.ensures (p && q))

@@ -17,15 +17,24 @@ loop-place-preserved g c =
       λ types others f h e.
           let within : k < length xs = omega arith in
           let x = c.index-arguments-place.result in
-          let shape = shape_at c.args.table.now.shapes c.args.written.now _ k (f x.1) e (type_of_argument (λ a. f a.1) xs others k x within c.index-arguments-place.is) in
-          let judged = (rw on.0 at c.in_ok-one.ensures.judged) types (f x.1) (shapes_later _ _ _ types on.1 c.requires.variables h) (shape_later _ _ _ (f x.1) on.1 (c.requires.written k (omega arith)) shape) in
-          arguments_more structs types (λ a. operand_of a.0) (λ a. f a.1) xs k x c.loop-place.judged c.in_ok-one.one _ _ _ within c.index-arguments-place.is (on.2 types others f h e) judged c.both-judged.ensures.fits c.both-judged.ensures.small,
+          let shape =
+          shape_at c.args.table.now.shapes c.args.written.now _ k (f x.1) e
+          (type_of_argument (λ a. f a.1) xs others k x within c.index-arguments-place.is) in
+          let judged =
+          (rw on.0 at c.in_ok-one.ensures.judged) types (f x.1)
+          (shapes_later _ _ _ types on.1 c.requires.variables h)
+          (shape_later _ _ _ (f x.1) on.1 (c.requires.written k (omega arith)) shape) in
+          arguments_more structs types (λ a. operand_of a.0)
+          (λ a. f a.1) xs k x c.loop-place.judged c.in_ok-one.one _ _ _ within c.index-arguments-place.is
+          (on.2 types others f h e) judged c.both-judged.ensures.fits c.both-judged.ensures.small,
     )
 
 pub returns-clause-judged : goal.returns-clause-judged
 returns-clause-judged g c = λ types others f h e.
     let past : length c.args.arguments.now ≤ c.loop-place.place = omega arith in
-    arguments_all (structs_of c.args.table.now.structs) types (λ a. operand_of a.0) (λ a. f a.1) c.args.arguments.now c.loop-place.place c.loop-place.judged _ _ past (c.loop-place.invariant.2 types others f h e)
+    arguments_all (structs_of c.args.table.now.structs) types (λ a. operand_of a.0)
+    (λ a. f a.1) c.args.arguments.now c.loop-place.place c.loop-place.judged _ _ past
+    (c.loop-place.invariant.2 types others f h e)
 
 pub returns-clause-structs : goal.returns-clause-structs
 returns-clause-structs g c = c.loop-place.invariant.0

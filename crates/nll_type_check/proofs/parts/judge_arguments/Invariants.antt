@@ -19,7 +19,13 @@ invariant-loop-place g l = (l.table.structs ≡ l.fn.table.structs)
     × ((types others : List TypeTree) (h : g.row.T.Denot → TypeTree) → HaveShapes l.fn.table.shapes l.variables types
     → HaveShapes l.fn.table.shapes l.written (map (λ a. h a.1) l.arguments ++ others)
     → IsSoFar l.judged
-    (list_all (λ a. agree (operand_type (structs_of l.fn.table.structs) types (operand_of a.0)) (Some (h a.1))) (drop l.place l.arguments))
-    (list_all (small_prefixes (structs_of l.fn.table.structs) types) (flat_map place_in (map (λ a. operand_of a.0) (drop l.place l.arguments))) && list_all is_small (map (λ a. h a.1) (drop l.place l.arguments)))
-    (list_all (λ a. agree (operand_type (structs_of l.fn.table.structs) types (operand_of a.0)) (Some (h a.1))) l.arguments)
-    (list_all (small_prefixes (structs_of l.fn.table.structs) types) (flat_map place_in (map (λ a. operand_of a.0) l.arguments)) && list_all is_small (map (λ a. h a.1) l.arguments)))
+    (list_all (λ a. agree (operand_type (structs_of l.fn.table.structs) types (operand_of a.0)) (Some (h a.1)))
+    (drop l.place l.arguments))
+    (list_all (small_prefixes (structs_of l.fn.table.structs) types)
+    (flat_map place_in (map (λ a. operand_of a.0) (drop l.place l.arguments))) && list_all is_small
+    (map (λ a. h a.1) (drop l.place l.arguments)))
+    (list_all (λ a. agree (operand_type (structs_of l.fn.table.structs) types (operand_of a.0)) (Some (h a.1)))
+    l.arguments)
+    (list_all (small_prefixes (structs_of l.fn.table.structs) types)
+    (flat_map place_in (map (λ a. operand_of a.0) l.arguments)) && list_all is_small
+    (map (λ a. h a.1) l.arguments)))

@@ -10,7 +10,9 @@ pub returns-in-Some-clause-judged : goal.returns-in-Some-clause-judged
 returns-in-Some-clause-judged c =
     let at = rw c.in-Some.is at c.in_ok-part.ensures.at in
     IfOk-weaker c.judge_operand.result _ _ (λ j told. λ types t u h e is.
-    told types u (shapes_later _ _ _ types c.part.ensures.extends c.requires.variables h) (part_shape (structs_of c.args.table.now.structs) c.args.table.now.shapes c.part.new.self.shapes c.args.shape c.in-Some.part c.args.place t u at e is)) (rw c.part.ensures.structs at c.judge_operand.ensures.judged)
+    told types u (shapes_later _ _ _ types c.part.ensures.extends c.requires.variables h)
+    (part_shape (structs_of c.args.table.now.structs) c.args.table.now.shapes c.part.new.self.shapes c.args.shape
+    c.in-Some.part c.args.place t u at e is)) (rw c.part.ensures.structs at c.judge_operand.ensures.judged)
 
 pub returns-in-Some-clause-structs : goal.returns-in-Some-clause-structs
 returns-in-Some-clause-structs c = c.judge_operand.ensures.structs ∙ c.part.ensures.structs

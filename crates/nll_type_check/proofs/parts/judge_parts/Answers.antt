@@ -16,7 +16,8 @@ use Rattle.nll_type_check.proofs.parts.judge_parts.Goals as goal
 
 pub returns-then-not-has_parts-clause-judged : goal.returns-then-not-has_parts-clause-judged
 returns-then-not-has_parts-clause-judged c = λ types t h e.
-    judged_as (sym (makes_none (structs_of c.args.table.now.structs) types t c.args.operands.now c.has_parts.result (c.has_parts.ensures t e) c.if-not-has_parts.true)) refl (c.unfit.ensures _)
+    judged_as (sym (makes_none (structs_of c.args.table.now.structs) types t c.args.operands.now c.has_parts.result
+    (c.has_parts.ensures t e) c.if-not-has_parts.true)) refl (c.unfit.ensures _)
 
 pub loop-place-preserved : goal.loop-place-preserved
 loop-place-preserved c =
@@ -31,8 +32,13 @@ loop-place-preserved c =
           let count = parts_counted structs t (length ops) ts has is in
           let within : k < length ops = omega arith in
           let row = row_next ts k (omega arith) in
-          let judged = (rw on.0 at c.in_ok-part.ensures.judged) types t row.0 (shapes_later _ _ _ types on.1 c.requires.variables h) (shape_later _ _ _ t on.1 c.requires.shape e) (part_behind structs t ts k row.0 is row.1) in
-          parts_more structs types ops ts k c.index-operands-place.result row.0 c.loop-place.judged c.in_ok-part.part _ _ _ within c.index-operands-place.is row.2 (on.2 types t ts h e is) judged c.both-judged.ensures.fits c.both-judged.ensures.small,
+          let judged =
+          (rw on.0 at c.in_ok-part.ensures.judged) types t row.0
+          (shapes_later _ _ _ types on.1 c.requires.variables h) (shape_later _ _ _ t on.1 c.requires.shape e)
+          (part_behind structs t ts k row.0 is row.1) in
+          parts_more structs types ops ts k c.index-operands-place.result row.0 c.loop-place.judged c.in_ok-part.part _
+          _ _ within c.index-operands-place.is row.2
+          (on.2 types t ts h e is) judged c.both-judged.ensures.fits c.both-judged.ensures.small,
     )
 
 pub returns-clause-judged : goal.returns-clause-judged
@@ -43,9 +49,12 @@ returns-clause-judged c = λ types t h e.
     let has = (c.has_parts.ensures t e).0 c.if-not-has_parts.false in
     let parts = parts_there structs t (length ops) has in
     let past : length ops ≤ c.loop-place.place = omega arith in
-    let judged = parts_all structs types ops parts.0 c.loop-place.place c.loop-place.judged _ _ past parts.2 (on.2 types t parts.0 h e parts.1) in
+    let judged =
+    parts_all structs types ops parts.0 c.loop-place.place c.loop-place.judged _ _ past parts.2
+    (on.2 types t parts.0 h e parts.1) in
     judged_as (ap (makes (operand_types structs types (map operand_of ops))) (sym parts.1))
-    (ap (λ (z : Option TypeTrees). list_all (small_prefixes structs types) (flat_map place_in (map operand_of ops)) && parts_are_small z) (sym parts.1)) judged
+    (ap (λ (z : Option TypeTrees). list_all (small_prefixes structs types) (flat_map place_in (map operand_of ops))
+    && parts_are_small z) (sym parts.1)) judged
 
 pub returns-clause-structs : goal.returns-clause-structs
 returns-clause-structs c = c.loop-place.invariant.0

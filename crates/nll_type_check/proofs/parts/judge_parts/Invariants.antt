@@ -21,7 +21,10 @@ invariant-loop-place l = (l.table.structs ≡ l.fn.table.structs)
     × ((types : List TypeTree) (t : TypeTree) (ts : TypeTrees) → HaveShapes l.fn.table.shapes l.variables types
     → shape_in l.fn.table.shapes l.shape ≡ shape_of t → parts_of_type (structs_of l.fn.table.structs) t ≡ Some ts
     → IsSoFar l.judged
-    (all_agree (operand_types (structs_of l.fn.table.structs) types (map operand_of (drop l.place l.operands))) (row_after l.place ts))
-    (list_all (small_prefixes (structs_of l.fn.table.structs) types) (flat_map place_in (map operand_of (drop l.place l.operands))) && are_small (row_after l.place ts))
+    (all_agree (operand_types (structs_of l.fn.table.structs) types (map operand_of (drop l.place l.operands)))
+    (row_after l.place ts))
+    (list_all (small_prefixes (structs_of l.fn.table.structs) types)
+    (flat_map place_in (map operand_of (drop l.place l.operands))) && are_small (row_after l.place ts))
     (all_agree (operand_types (structs_of l.fn.table.structs) types (map operand_of l.operands)) ts)
-    (list_all (small_prefixes (structs_of l.fn.table.structs) types) (flat_map place_in (map operand_of l.operands)) && are_small ts))
+    (list_all (small_prefixes (structs_of l.fn.table.structs) types) (flat_map place_in (map operand_of l.operands))
+    && are_small ts))

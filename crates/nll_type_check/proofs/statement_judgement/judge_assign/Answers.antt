@@ -6,8 +6,11 @@ use Rattle.nll_type_check.proofs.statement_judgement.judge_assign.Goals as goal
 pub returns-clause-judged : goal.returns-clause-judged
 returns-clause-judged c = λ types h.
     let first = c.in_ok-source.ensures.found types h in
-    let second = (rw c.operand_found.ensures.structs at c.in_ok-target.ensures.found) types (shapes_later _ _ _ types c.operand_found.ensures.extends c.requires h) in
-    (rw c.shapes.ensures at c.agree.ensures) _ _ _ _ (found_later _ _ _ _ _ c.place_found.ensures.extends c.in_ok-source.ensures.within first) second
+    let second =
+    (rw c.operand_found.ensures.structs at c.in_ok-target.ensures.found) types
+    (shapes_later _ _ _ types c.operand_found.ensures.extends c.requires h) in
+    (rw c.shapes.ensures at c.agree.ensures) _ _ _ _
+    (found_later _ _ _ _ _ c.place_found.ensures.extends c.in_ok-source.ensures.within first) second
 
 pub returns-clause-structs : goal.returns-clause-structs
 returns-clause-structs c = c.place_found.ensures.structs ∙ c.operand_found.ensures.structs
@@ -19,4 +22,5 @@ pub returns-in_err-target-clause-structs : goal.returns-in_err-target-clause-str
 returns-in_err-target-clause-structs c = c.place_found.ensures.structs ∙ c.operand_found.ensures.structs
 
 pub returns-in_err-target-clause-extends : goal.returns-in_err-target-clause-extends
-returns-in_err-target-clause-extends c = extends_then _ _ _ c.operand_found.ensures.extends c.place_found.ensures.extends
+returns-in_err-target-clause-extends c =
+    extends_then _ _ _ c.operand_found.ensures.extends c.place_found.ensures.extends

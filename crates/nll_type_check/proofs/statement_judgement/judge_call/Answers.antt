@@ -14,10 +14,15 @@ returns-clause-judged g c = λ types f t wheres b unwind h e.
     let xs = c.args.arguments.now in
     let inputs = c.in_ok-inputs.ensures.judged types _ f h e in
     let shape = shape_at c.args.table.now.shapes c.args.written.now _ (length xs) t e (last_type (λ a. f a.1) xs t) in
-    let later = shape_later _ _ _ t c.judge_arguments.ensures.extends (c.requires.written (length xs) (omega arith)) shape in
-    let result = (rw c.judge_arguments.ensures.structs at c.in_ok-result.ensures.judged) types t (shapes_later _ _ _ types c.judge_arguments.ensures.extends c.requires.variables h) later in
+    let later =
+    shape_later _ _ _ t c.judge_arguments.ensures.extends (c.requires.written (length xs) (omega arith)) shape in
+    let result =
+    (rw c.judge_arguments.ensures.structs at c.in_ok-result.ensures.judged) types t
+    (shapes_later _ _ _ types c.judge_arguments.ensures.extends c.requires.variables h) later in
     let p = path_of c.args.place.now in
-    judged_as (call_fits structs types (λ a. operand_of a.0) (λ a. f a.1) xs t p wheres b unwind) (call_small structs types (λ a. operand_of a.0) (λ a. f a.1) xs t p wheres b unwind) (both_judged _ _ _ _ _ _ _ inputs result c.both.ensures.fits c.both.ensures.small)
+    judged_as (call_fits structs types (λ a. operand_of a.0) (λ a. f a.1) xs t p wheres b unwind)
+    (call_small structs types (λ a. operand_of a.0) (λ a. f a.1) xs t p wheres b unwind)
+    (both_judged _ _ _ _ _ _ _ inputs result c.both.ensures.fits c.both.ensures.small)
 
 pub returns-clause-structs : goal.returns-clause-structs
 returns-clause-structs g c = c.judge_result.ensures.structs ∙ c.judge_arguments.ensures.structs
@@ -29,7 +34,8 @@ pub returns-in_err-result-clause-structs : goal.returns-in_err-result-clause-str
 returns-in_err-result-clause-structs g c = c.judge_result.ensures.structs ∙ c.judge_arguments.ensures.structs
 
 pub returns-in_err-result-clause-extends : goal.returns-in_err-result-clause-extends
-returns-in_err-result-clause-extends g c = extends_then _ _ _ c.judge_arguments.ensures.extends c.judge_result.ensures.extends
+returns-in_err-result-clause-extends g c =
+    extends_then _ _ _ c.judge_arguments.ensures.extends c.judge_result.ensures.extends
 
 pub judge_result-requires-clause-variables : goal.judge_result-requires-clause-variables
 judge_result-requires-clause-variables g c = below_later _ _ _ c.judge_arguments.ensures.extends c.requires.variables

@@ -15,11 +15,18 @@ use Rattle.nll_type_check.proofs.statement_judgement.judge_make.Goals as goal
 pub returns-clause-judged : goal.returns-clause-judged
 returns-clause-judged c = λ types t h e.
     let parts = c.in_ok-parts.ensures.judged types t h e in
-    let result = (rw c.judge_parts.ensures.structs at c.in_ok-result.ensures.judged) types t (shapes_later _ _ _ types c.judge_parts.ensures.extends c.requires.variables h) (shape_later _ _ _ t c.judge_parts.ensures.extends c.requires.shape e) in
+    let result =
+    (rw c.judge_parts.ensures.structs at c.in_ok-result.ensures.judged) types t
+    (shapes_later _ _ _ types c.judge_parts.ensures.extends c.requires.variables h)
+    (shape_later _ _ _ t c.judge_parts.ensures.extends c.requires.shape e) in
     let structs = structs_of c.args.table.now.structs in
     let places = list_all (small_prefixes structs types) (flat_map place_in (map operand_of c.args.operands.now)) in
-    let pairs = beside_parts (operand_types structs types (map operand_of c.args.operands.now)) (parts_of_type structs t) in
-    judged_as (last_agrees pairs (Some t) (type_of structs types (path_of c.args.place.now))) (make_order places (parts_are_small (parts_of_type structs t)) (is_small t) (small_prefixes structs types (path_of c.args.place.now))) (both_judged _ _ _ _ _ _ _ parts result c.both.ensures.fits c.both.ensures.small)
+    let pairs =
+    beside_parts (operand_types structs types (map operand_of c.args.operands.now)) (parts_of_type structs t) in
+    judged_as (last_agrees pairs (Some t) (type_of structs types (path_of c.args.place.now)))
+    (make_order places (parts_are_small (parts_of_type structs t)) (is_small t)
+    (small_prefixes structs types (path_of c.args.place.now)))
+    (both_judged _ _ _ _ _ _ _ parts result c.both.ensures.fits c.both.ensures.small)
 
 pub returns-clause-structs : goal.returns-clause-structs
 returns-clause-structs c = c.judge_result.ensures.structs ∙ c.judge_parts.ensures.structs

@@ -6,4 +6,5 @@ use Rattle.nll_type_check.proofs.statement_judgement.judge_return.Goals as goal
 pub returns : goal.returns
 returns c = λ structs types h.
     let some : 0 < length c.args.variables.now = grind arith in
-    judged_as refl (c.is_small.ensures ∙ return_small structs c.args.shapes.now c.args.variables.now types h some) c.fitting-2.ensures
+    judged_as refl (c.is_small.ensures ∙ return_small structs c.args.shapes.now c.args.variables.now types h some)
+    c.fitting-2.ensures

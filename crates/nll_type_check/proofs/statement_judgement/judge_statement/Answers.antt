@@ -19,8 +19,11 @@ pub returns-in-Borrow-clause-judged : goal.returns-in-Borrow-clause-judged
 returns-in-Borrow-clause-judged g c =
     let structs = structs_of c.args.table.now.structs in
     rw c.in-Borrow.is (IfOk-weaker c.judge_borrow.result _ _ (λ j told. λ types f h e w.
-    let agrees = one_agrees (reference_to (f c.in-Borrow.field-1) c.in-Borrow.mutable (type_of structs types (path_of c.in-Borrow.borrowed))) (type_of structs types (path_of c.in-Borrow.place)) in
-    judged_as agrees (borrow_order (small_prefixes structs types (path_of c.in-Borrow.borrowed)) (small_prefixes structs types (path_of c.in-Borrow.place)))
+    let agrees =
+    one_agrees (reference_to (f c.in-Borrow.field-1) c.in-Borrow.mutable
+    (type_of structs types (path_of c.in-Borrow.borrowed))) (type_of structs types (path_of c.in-Borrow.place)) in
+    judged_as agrees (borrow_order (small_prefixes structs types (path_of c.in-Borrow.borrowed))
+    (small_prefixes structs types (path_of c.in-Borrow.place)))
     (told types (f c.in-Borrow.field-1) e)) c.judge_borrow.ensures.judged)
 
 pub returns-in-Call-clause-judged : goal.returns-in-Call-clause-judged
@@ -36,20 +39,28 @@ returns-in-Call-clause-judged g c =
     let wheres = map {B = ℕ × ℕ} (λ x. (f x.0, f x.1)) called.wheres.items in
     let written = written_mapped operand_of h called.arguments.items called.result in
     let here = told types h (h called.result) wheres called.target called.unwind e (rw written at w) in
-    subst (λ (as' : List (Operand × TypeTree)). IsJudged (types_agree structs types (call (path_of called.place) as' (h called.result) wheres called.target called.unwind)) (types_are_small structs types (call (path_of called.place) as' (h called.result) wheres called.target called.unwind)) j)
+    subst (λ (as' : List (Operand × TypeTree)).
+    IsJudged (types_agree structs types
+    (call (path_of called.place) as' (h called.result) wheres called.target called.unwind))
+    (types_are_small structs types (call (path_of called.place) as'
+    (h called.result) wheres called.target called.unwind)) j)
     (arguments_mapped operand_of h called.arguments.items) here) judged)
 
 pub returns-in-Return-clause-judged : goal.returns-in-Return-clause-judged
 returns-in-Return-clause-judged g c =
     let structs = structs_of c.args.table.now.structs in
-    rw c.in-Return.is (λ types f h e w. judged_as refl (return_order _) ((rw c.shapes.ensures at c.judge_return.ensures) structs types e))
+    rw c.in-Return.is (λ types f h e w. judged_as refl (return_order _)
+    ((rw c.shapes.ensures at c.judge_return.ensures) structs types e))
 
 pub returns-in-Assign-clause-judged : goal.returns-in-Assign-clause-judged
 returns-in-Assign-clause-judged g c =
     let structs = structs_of c.args.table.now.structs in
     rw c.in-Assign.is (IfOk-weaker c.judge_assign.result _ _ (λ j told. λ types f h e w.
-    let agrees = one_agrees (operand_type structs types (operand_of c.in-Assign.operand)) (type_of structs types (path_of c.in-Assign.place)) in
-    judged_as agrees (assign_order (list_all (small_prefixes structs types) (place_in (operand_of c.in-Assign.operand))) (small_prefixes structs types (path_of c.in-Assign.place)))
+    let agrees =
+    one_agrees (operand_type structs types (operand_of c.in-Assign.operand))
+    (type_of structs types (path_of c.in-Assign.place)) in
+    judged_as agrees (assign_order (list_all (small_prefixes structs types) (place_in (operand_of c.in-Assign.operand)))
+    (small_prefixes structs types (path_of c.in-Assign.place)))
     (told types e)) c.judge_assign.ensures.judged)
 
 pub returns-in-Assign-clause-structs : goal.returns-in-Assign-clause-structs
@@ -111,13 +122,16 @@ judge_call-requires-clause-written g c = c.requires.written
 
 pub returns-in-Read-clause-judged : goal.returns-in-Read-clause-judged
 returns-in-Read-clause-judged g c =
-    rw c.in-Read.is (IfOk-weaker c.judge_read.result _ _ (λ j told. λ types f h e w. judged_as refl (return_order _) (told types e)) c.judge_read.ensures.judged)
+    rw c.in-Read.is (IfOk-weaker c.judge_read.result _ _
+    (λ j told. λ types f h e w. judged_as refl (return_order _) (told types e)) c.judge_read.ensures.judged)
 
 pub returns-in-Switch-clause-judged : goal.returns-in-Switch-clause-judged
 returns-in-Switch-clause-judged g c =
     let structs = structs_of c.args.table.now.structs in
     rw c.in-Switch.is (IfOk-weaker c.judge_switch.result _ _ (λ j told. λ types f h e w.
-    judged_as (one_agrees (operand_type structs types (operand_of c.in-Switch.operand)) (Some int)) (switch_order (list_all (small_prefixes structs types) (place_in (operand_of c.in-Switch.operand)))) (told types e))
+    judged_as (one_agrees (operand_type structs types (operand_of c.in-Switch.operand)) (Some int))
+    (switch_order (list_all (small_prefixes structs types) (place_in (operand_of c.in-Switch.operand))))
+    (told types e))
     c.judge_switch.ensures.judged)
 
 pub returns-in-Make-clause-judged : goal.returns-in-Make-clause-judged
@@ -128,4 +142,5 @@ returns-in-Make-clause-judged g c =
     let second = c.deref-in-Make.ensures in
     let operands : c.as_slice-operands.result.now ≡ made.operands.items = cc in
     rw c.in-Make.is (IfOk-weaker c.judge_make.result _ _ (λ j told. λ types f h e w.
-    told types (h made.ty) e (shape_at c.args.table.now.shapes c.args.written.now (h made.ty ∷ []) 0 (h made.ty) w refl)) (rw (operands, first) at c.judge_make.ensures.judged))
+    told types (h made.ty) e (shape_at c.args.table.now.shapes c.args.written.now (h made.ty ∷ []) 0
+    (h made.ty) w refl)) (rw (operands, first) at c.judge_make.ensures.judged))

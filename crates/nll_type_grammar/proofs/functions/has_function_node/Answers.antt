@@ -20,4 +20,5 @@ returns-then-is_function c = λ h. absurd (false≢true (sym h))
 pub returns : goal.returns
 returns c =
     let past : length c.args.nodes.now ≤ c.loop-node.node-index = c.loop-node-test.false in
-    λ h. (rw (take_all c.loop-node.node-index c.args.nodes.now past) at c.loop-node.invariant) (length c.args.nodes.now - 1)
+    λ h. (rw (take_all c.loop-node.node-index c.args.nodes.now past) at c.loop-node.invariant)
+    (length c.args.nodes.now - 1)

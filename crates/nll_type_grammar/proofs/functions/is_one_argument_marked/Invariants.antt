@@ -6,4 +6,5 @@ use Rattle.nll_type_grammar.proofs.functions.is_one_argument_marked.Given as goa
 
 abbrev pub invariant-loop-argument : goal.invariant-loop-argument
 invariant-loop-argument l = (known : List WrittenType) → l.marks ≡ map has_function known
-    → arguments_have_function (arguments_at known (drop l.argument-index l.arguments)) ≡ arguments_have_function (arguments_at known l.arguments)
+    → arguments_have_function (arguments_at known (drop l.argument-index l.arguments))
+    ≡ arguments_have_function (arguments_at known l.arguments)

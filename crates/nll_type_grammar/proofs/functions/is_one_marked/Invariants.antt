@@ -5,4 +5,5 @@ use Rattle.nll_type_grammar.specs.TypeTexts.{all_at}
 use Rattle.nll_type_grammar.proofs.functions.is_one_marked.Given as goal
 
 abbrev pub invariant-loop-number : goal.invariant-loop-number
-invariant-loop-number l = (known : List WrittenType) → l.marks ≡ map has_function known → have_function (all_at known (drop l.number-index l.numbers)) ≡ have_function (all_at known l.numbers)
+invariant-loop-number l = (known : List WrittenType) → l.marks ≡ map has_function known
+    → have_function (all_at known (drop l.number-index l.numbers)) ≡ have_function (all_at known l.numbers)

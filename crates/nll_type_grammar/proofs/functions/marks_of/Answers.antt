@@ -7,8 +7,10 @@ use Rattle.nll_type_grammar.proofs.functions.marks_of.Goals as goal
 pub loop-node-preserved : goal.loop-node-preserved
 loop-node-preserved c =
     let i = c.loop-node.node-index in
-    marks_more c.args.nodes.now i c.node-item.result c.loop-node.marks.items c.push.new.self.items c.has_function_over-mark.result c.loop-node-test.true c.node-item.is c.loop-node.invariant
-    (c.has_function_over-mark.ensures (types_from [] (take i c.args.nodes.now)) (c.as_slice.ensures.value ∙ c.loop-node.invariant)) c.in_ok-push.ensures.items
+    marks_more c.args.nodes.now i c.node-item.result c.loop-node.marks.items c.push.new.self.items
+    c.has_function_over-mark.result c.loop-node-test.true c.node-item.is c.loop-node.invariant
+    (c.has_function_over-mark.ensures (types_from [] (take i c.args.nodes.now))
+    (c.as_slice.ensures.value ∙ c.loop-node.invariant)) c.in_ok-push.ensures.items
 
 pub returns : goal.returns
 returns c =

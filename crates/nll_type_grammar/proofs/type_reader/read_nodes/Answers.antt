@@ -11,7 +11,8 @@ use Rattle.nll_type_grammar.proofs.type_reader.read_nodes.Goals as goal
 
 pub returns-in_default-clause-reads : goal.returns-in_default-clause-reads
 returns-in_default-clause-reads c =
-    none_here c.loop-opened.state (frames_of c.loop-opened.nodes.items c.loop-opened.opened.items) _ _ (written c.loop-opened.nodes.items) c.loop-opened.invariant.same
+    none_here c.loop-opened.state (frames_of c.loop-opened.nodes.items c.loop-opened.opened.items) _ _
+    (written c.loop-opened.nodes.items) c.loop-opened.invariant.same
     (rw (← take_rest c.args.tokens.now c.loop-opened.at) (rw c.in_default.is at c.in_ok-next.ensures))
 
 pub returns-then-is_sign-clause-reads : goal.returns-then-is_sign-clause-reads
@@ -19,14 +20,18 @@ returns-then-is_sign-clause-reads c =
     let h : c.loop-opened.state ≡ Have = search rules in
     let y : (length c.loop-opened.opened.items == 0) ≡ true = sym c.is_empty.ensures ∙ c.if-not-is_empty.false in
     let k : c.loop-opened.opened.items ≡ [] = nil_from_length _ (eqb-true _ _ y) in
-    none_before _ _ _ _ (at_end c.loop-opened.state c.loop-opened.nodes.items c.loop-opened.opened.items _ _ h k c.loop-opened.invariant.same) (rw (take_rest c.args.tokens.now c.loop-opened.at) at (c.is_sign.ensures.yes c.if-is_sign.true))
+    none_before _ _ _ _ (at_end c.loop-opened.state c.loop-opened.nodes.items c.loop-opened.opened.items _ _ h k
+    c.loop-opened.invariant.same) (rw (take_rest c.args.tokens.now c.loop-opened.at) at
+    (c.is_sign.ensures.yes c.if-is_sign.true))
 
 pub returns-clause-reads : goal.returns-clause-reads
 returns-clause-reads c =
     let h : c.loop-opened.state ≡ Have = search rules in
     let y : (length c.loop-opened.opened.items == 0) ≡ true = sym c.is_empty.ensures ∙ c.if-not-is_empty.false in
     let k : c.loop-opened.opened.items ≡ [] = nil_from_length _ (eqb-true _ _ y) in
-    type_here _ _ _ (at_end c.loop-opened.state c.loop-opened.nodes.items c.loop-opened.opened.items _ _ h k c.loop-opened.invariant.same) (rw (take_rest c.args.tokens.now c.loop-opened.at) at (c.is_sign.ensures.other c.if-is_sign.false))
+    type_here _ _ _ (at_end c.loop-opened.state c.loop-opened.nodes.items c.loop-opened.opened.items _ _ h k
+    c.loop-opened.invariant.same) (rw (take_rest c.args.tokens.now c.loop-opened.at) at
+    (c.is_sign.ensures.other c.if-is_sign.false))
 
 pub loop-opened-preserved : goal.loop-opened-preserved
 loop-opened-preserved c =
@@ -40,7 +45,9 @@ loop-opened-preserved c =
     }
 
 pub loop-opened-smaller : goal.loop-opened-smaller
-loop-opened-smaller c = falls_further _ _ c.args.tokens.now _ c.loop-opened.at _ _ _ _ _ c.loop-opened.invariant.within (take_rest c.args.tokens.now c.loop-opened.at) (rw c.in-Some.is at c.in_ok-next.ensures)
+loop-opened-smaller c =
+    falls_further _ _ c.args.tokens.now _ c.loop-opened.at _ _ _ _ _ c.loop-opened.invariant.within
+    (take_rest c.args.tokens.now c.loop-opened.at) (rw c.in-Some.is at c.in_ok-next.ensures)
 
 pub returns-clause-nodes : goal.returns-clause-nodes
 returns-clause-nodes c =

@@ -9,7 +9,8 @@ use Rattle.nll_type_grammar.proofs.type_reader.read_nodes.Given as goal
 abbrev pub invariant-loop-opened : goal.invariant-loop-opened
 invariant-loop-opened l = record {
   within : l.at ≤ length l.tokens;
-  same : Steps Want [] int (views l.tokens) l.state (frames_of l.nodes.items l.opened.items) (written l.nodes.items) (views (drop l.at l.tokens));
+  same : Steps Want [] int (views l.tokens) l.state (frames_of l.nodes.items l.opened.items) (written l.nodes.items)
+      (views (drop l.at l.tokens));
   read : AreRead l.nodes.items l.opened.items;
   some : l.state ≡ Have → 0 < length l.nodes.items;
 }

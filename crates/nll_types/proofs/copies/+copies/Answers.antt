@@ -16,7 +16,8 @@ pub copy-returns-in-Reference : goal.copy-returns-in-Reference
 copy-returns-in-Reference t c =
     let target = rw c.deref.ensures at c.copy.ensures in
     rw (ap tree c.in-Reference.is ∙ tree_reference _ _ _)
-    (handed c.reference.result c.copy.result _ _ _ target c.reference.ensures (λ u v p q. q ∙ ap (reference c.in-Reference.region c.in-Reference.mutable) p))
+    (handed c.reference.result c.copy.result _ _ _ target c.reference.ensures
+    (λ u v p q. q ∙ ap (reference c.in-Reference.region c.in-Reference.mutable) p))
 
 pub copy-returns-in-Tuple : goal.copy-returns-in-Tuple
 copy-returns-in-Tuple t c =
@@ -29,15 +30,18 @@ copy-returns-in-Named t c =
     let types = rw c.as_slice-in-Named-2.ensures.value at c.copy_all-in-Named.ensures in
     let made = rw c.as_slice-in-Named.ensures.value at c.named.ensures in
     rw (ap tree c.in-Named.is ∙ tree_named _ _ _)
-    (handed c.named.result c.copy_all-in-Named.result _ _ _ types made (λ u v p q. q ∙ ap (λ z. named c.in-Named.number c.in-Named.regions.items (row_of z)) p))
+    (handed c.named.result c.copy_all-in-Named.result _ _ _ types made
+    (λ u v p q. q ∙ ap (λ z. named c.in-Named.number c.in-Named.regions.items (row_of z)) p))
 
 pub copy-returns-in-Function : goal.copy-returns-in-Function
 copy-returns-in-Function t c =
     let arguments = rw c.as_slice-in-Function.ensures.value at c.copy_all-arguments.ensures in
     let returned = rw c.deref-in-Function.ensures at c.copy-in-Function.ensures in
     rw (ap tree c.in-Function.is ∙ tree_function _ _)
-    (handed_both c.function.result c.copy_all-arguments.result c.copy-in-Function.result _ _ _ _ arguments returned c.function.ensures
-    (λ u v w p o q. q ∙ (ap (λ z. function (row_of z) (tree w)) p ∙ ap (function (trees c.in-Function.arguments.items)) o)))
+    (handed_both c.function.result c.copy_all-arguments.result c.copy-in-Function.result _ _ _ _ arguments returned
+    c.function.ensures
+    (λ u v w p o q. q ∙ (ap (λ z. function (row_of z) (tree w)) p
+    ∙ ap (function (trees c.in-Function.arguments.items)) o)))
 
 pub copy_all-push_reserved-requires : goal.copy_all-push_reserved-requires
 copy_all-push_reserved-requires t c = omega arith
@@ -46,7 +50,9 @@ pub copy_all-loop-ty-preserved : goal.copy_all-loop-ty-preserved
 copy_all-loop-ty-preserved t c =
     let pushed = c.push_reserved.ensures in (
       rw pushed.items (map_push tree _ _ ∙ (ap (λ z. z ++ tree c.in_ok-copy.field-0 ∷ []) c.loop-ty.invariant.0
-          ∙ (ap (λ z. map tree (take c.loop-ty.ty-index c.args.types.now) ++ z ∷ []) (c.in_ok-copy.ensures ∙ ap tree c.ty-item.is) ∙ sym (map_more tree c.args.types.now c.loop-ty.ty-index c.ty-item.result c.loop-ty-test.true)))),
+          ∙ (ap (λ z. map tree (take c.loop-ty.ty-index c.args.types.now) ++ z ∷ [])
+          (c.in_ok-copy.ensures ∙ ap tree c.ty-item.is)
+          ∙ sym (map_more tree c.args.types.now c.loop-ty.ty-index c.ty-item.result c.loop-ty-test.true)))),
       omega arith,
       omega arith,
     )

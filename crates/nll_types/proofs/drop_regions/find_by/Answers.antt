@@ -9,7 +9,8 @@ returns-clause-each c =
     let good = c.requires.good in
     let told = rw c.requires.empty at c.in_ok-collect.ensures in
     let among = rw c.as_slice.ensures.keys at c.regions_of.ensures in
-    IfOk-weaker c.regions_of.result _ _ (λ v e. λ r. rw e (found _ good.0 _ _ _ _ good.1 (told [] good.0 0 good.1) r)) among
+    IfOk-weaker c.regions_of.result _ _
+    (λ v e. λ r. rw e (found _ good.0 _ _ _ _ good.1 (told [] good.0 0 good.1) r)) among
 
 pub returns-clause-once : goal.returns-clause-once
 returns-clause-once c =

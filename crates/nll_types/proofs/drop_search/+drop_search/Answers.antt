@@ -11,7 +11,8 @@ use Rattle.nll_types.proofs.DropLemmas.{adds_nothing, below_none, below_more, be
 use Rattle.nll_types.proofs.drop_search.+drop_search.Goals as goal
 
 pub collect-returns-in-Int : goal.collect-returns-in-Int
-collect-returns-in-Int t c = λ later n p. rw (ap tree c.in-Int.is ∙ tree_int) (λ w. adds_nothing _ _ _ (wanted_int _ _ _))
+collect-returns-in-Int t c =
+    λ later n p. rw (ap tree c.in-Int.is ∙ tree_int) (λ w. adds_nothing _ _ _ (wanted_int _ _ _))
 
 pub collect-returns-in-Parameter : goal.collect-returns-in-Parameter
 collect-returns-in-Parameter t c = OnOk-map c.collect_parameter.result _ _ (λ e. λ later n p.
@@ -21,7 +22,8 @@ pub collect-returns-in_ok-add_where-in-Reference : goal.collect-returns-in_ok-ad
 collect-returns-in_ok-add_where-in-Reference t c =
     let inner = rw c.deref.ensures at c.collect.ensures in
     OnOk-map c.collect.result _ _ (λ e. λ later n p.
-    rw (ap tree c.in-Reference.is ∙ tree_reference _ _ _) (λ w. wanted_reference _ _ _ _ _ _ _ _ _ (c.in_ok-add_where-in-Reference.ensures _) (e later n p w.1))) inner
+    rw (ap tree c.in-Reference.is ∙ tree_reference _ _ _)
+    (λ w. wanted_reference _ _ _ _ _ _ _ _ _ (c.in_ok-add_where-in-Reference.ensures _) (e later n p w.1))) inner
 
 pub collect-returns-in-Tuple : goal.collect-returns-in-Tuple
 collect-returns-in-Tuple t c =
@@ -31,11 +33,14 @@ collect-returns-in-Tuple t c =
 
 pub collect-returns-in_ok-collect_use-in-Named : goal.collect-returns-in_ok-collect_use-in-Named
 collect-returns-in_ok-collect_use-in-Named t c =
-    let first = rw (c.as_slice-in-Named.ensures.keys, c.as_slice-in-Named-2.ensures.value) at c.in_ok-collect_use-in-Named.ensures in
+    let first =
+    rw (c.as_slice-in-Named.ensures.keys, c.as_slice-in-Named-2.ensures.value) at
+    c.in_ok-collect_use-in-Named.ensures in
     let third = rw c.as_slice-in-Named-3.ensures.value at c.collect_arguments.ensures in
     OnOk-map c.collect_arguments.result _ _ (λ e. λ later n p.
     rw (ap tree c.in-Named.is ∙ tree_named _ _ _) (λ w.
-    wanted_named (structs_of c.args.structs.now) later c.in-Named.number c.in-Named.regions.items (trees c.in-Named.types.items) c.in-Some.sources.now.keys c.args.written c.args.dropped
+    wanted_named (structs_of c.args.structs.now) later c.in-Named.number c.in-Named.regions.items
+    (trees c.in-Named.types.items) c.in-Some.sources.now.keys c.args.written c.args.dropped
     c.in-Some.ensures w.1 _ _ _ (first _) (e later n p w.4))) third
 
 pub collect-returns-in_ok-collect_parts-in-Function : goal.collect-returns-in_ok-collect_parts-in-Function
@@ -43,16 +48,20 @@ collect-returns-in_ok-collect_parts-in-Function t c =
     let first = rw c.as_slice-in-Function.ensures.value at c.in_ok-collect_parts-in-Function.ensures in
     let last = rw c.deref-in-Function.ensures at c.collect-in-Function.ensures in
     OnOk-map c.collect-in-Function.result _ _ (λ e. λ later n p.
-    rw (ap tree c.in-Function.is ∙ tree_function _ _) (λ w. wanted_function _ _ _ _ _ _ _ _ (first later n p w.0) (e later n p w.1))) last
+    rw (ap tree c.in-Function.is ∙ tree_function _ _)
+    (λ w. wanted_function _ _ _ _ _ _ _ _ (first later n p w.0) (e later n p w.1))) last
 
 pub collect-returns-in_err-collect_parts-in-Function : goal.collect-returns-in_err-collect_parts-in-Function
-collect-returns-in_err-collect_parts-in-Function t c = failed c.from_residual-in_err-collect_parts-in-Function.result _ _ c.from_residual-in_err-collect_parts-in-Function.ensures.1
+collect-returns-in_err-collect_parts-in-Function t c =
+    failed c.from_residual-in_err-collect_parts-in-Function.result _ _
+    c.from_residual-in_err-collect_parts-in-Function.ensures.1
 
 pub collect-returns-in_err-add_where-in-Reference : goal.collect-returns-in_err-add_where-in-Reference
 collect-returns-in_err-add_where-in-Reference t c = failed c.from_residual.result _ _ c.from_residual.ensures.1
 
 pub collect-returns-in_err-collect_use-in-Named : goal.collect-returns-in_err-collect_use-in-Named
-collect-returns-in_err-collect_use-in-Named t c = failed c.from_residual-in_err-collect_use-in-Named.result _ _ c.from_residual-in_err-collect_use-in-Named.ensures.1
+collect-returns-in_err-collect_use-in-Named t c =
+    failed c.from_residual-in_err-collect_use-in-Named.result _ _ c.from_residual-in_err-collect_use-in-Named.ensures.1
 
 pub collect_parts-returns-in_err-collect : goal.collect_parts-returns-in_err-collect
 collect_parts-returns-in_err-collect t c = failed c.from_residual.result _ _ c.from_residual.ensures.1
@@ -68,22 +77,31 @@ collect_arguments-loop-place-init t c = λ later n p w. below_none _ _ _ _
 
 pub collect_parts-loop-part-preserved : goal.collect_parts-loop-part-preserved
 collect_parts-loop-part-preserved t c = λ later n p w.
-    let item = type_at_item c.args.parts.now c.loop-part.part-index c.part-item.result (slice_get_read c.args.parts.now _ c.loop-part.part-index c.part-item.result refl c.loop-part-test.true c.part-item.is) in
+    let item =
+    type_at_item c.args.parts.now c.loop-part.part-index c.part-item.result
+    (slice_get_read c.args.parts.now _ c.loop-part.part-index c.part-item.result refl c.loop-part-test.true
+    c.part-item.is) in
     below_more _ (type_at (trees c.args.parts.now)) _ c.loop-part.part-index (tree c.part-item.result) _ _ _ item
-    (c.loop-part.invariant later n p w) (c.in_ok-collect.ensures later n p (well_formed_at _ n p _ c.loop-part.part-index _ w item))
+    (c.loop-part.invariant later n p w)
+    (c.in_ok-collect.ensures later n p (well_formed_at _ n p _ c.loop-part.part-index _ w item))
 
 pub collect_parts-returns : goal.collect_parts-returns
 collect_parts-returns t c = λ later n p w.
-    below_all _ (type_at (trees c.args.parts.now)) _ c.loop-part.part-index _ _ (λ k u e. (let l = type_within c.args.parts.now k u e in omega arith)) (c.loop-part.invariant later n p w)
+    below_all _ (type_at (trees c.args.parts.now)) _ c.loop-part.part-index _ _
+    (λ k u e. (let l = type_within c.args.parts.now k u e in omega arith)) (c.loop-part.invariant later n p w)
 
 pub collect_arguments-loop-place-preserved : goal.collect_arguments-loop-place-preserved
 collect_arguments-loop-place-preserved t c = λ later n p w.
     let within : c.loop-place.place < length c.args.arguments.now = omega arith in
-    let item = type_at_item c.args.arguments.now c.loop-place.place _ (slice_get_read c.args.arguments.now _ c.loop-place.place _ refl within c.index-arguments-place.is) in
+    let item =
+    type_at_item c.args.arguments.now c.loop-place.place _
+    (slice_get_read c.args.arguments.now _ c.loop-place.place _ refl within c.index-arguments-place.is) in
     below_more _ (type_at (trees c.args.arguments.now)) _ c.loop-place.place _ _ _ _ item
     (c.loop-place.invariant later n p w)
-    (wanted_flags _ _ _ _ _ _ _ _ c.wants_written-written.ensures c.wants-dropped.ensures (c.in_ok-collect.ensures later n p (well_formed_at _ n p _ c.loop-place.place _ w item)))
+    (wanted_flags _ _ _ _ _ _ _ _ c.wants_written-written.ensures c.wants-dropped.ensures
+    (c.in_ok-collect.ensures later n p (well_formed_at _ n p _ c.loop-place.place _ w item)))
 
 pub collect_arguments-returns : goal.collect_arguments-returns
 collect_arguments-returns t c = λ later n p w.
-    below_all _ (type_at (trees c.args.arguments.now)) _ c.loop-place.place _ _ (λ k u e. (let l = type_within c.args.arguments.now k u e in omega arith)) (c.loop-place.invariant later n p w)
+    below_all _ (type_at (trees c.args.arguments.now)) _ c.loop-place.place _ _
+    (λ k u e. (let l = type_within c.args.arguments.now k u e in omega arith)) (c.loop-place.invariant later n p w)

@@ -12,8 +12,10 @@ pub loop-region-init : goal.loop-region-init
 loop-region-init c = λ all. below_none all _ _ _
 
 pub loop-region-preserved : goal.loop-region-preserved
-loop-region-preserved c = λ all. below_more all (slice_get c.args.regions.now) _ c.loop-region.region-index c.region-item.result _ _ _
-    (slice_get_read c.args.regions.now _ c.loop-region.region-index c.region-item.result refl c.loop-region-test.true c.region-item.is)
+loop-region-preserved c =
+    λ all. below_more all (slice_get c.args.regions.now) _ c.loop-region.region-index c.region-item.result _ _ _
+    (slice_get_read c.args.regions.now _ c.loop-region.region-index c.region-item.result refl c.loop-region-test.true
+    c.region-item.is)
     (c.loop-region.invariant all) (c.in_ok-add.ensures all)
 
 pub returns : goal.returns

@@ -13,11 +13,15 @@ pub loop-source-init : goal.loop-source-init
 loop-source-init c = λ all. below_none all _ _ _
 
 pub loop-source-preserved : goal.loop-source-preserved
-loop-source-preserved c = λ all. below_more all (slice_get c.args.sources.now) _ c.loop-source.source-index c.source-item.result _ _ _
-    (slice_get_read c.args.sources.now _ c.loop-source.source-index c.source-item.result refl c.loop-source-test.true c.source-item.is)
+loop-source-preserved c =
+    λ all. below_more all (slice_get c.args.sources.now) _ c.loop-source.source-index c.source-item.result _ _ _
+    (slice_get_read c.args.sources.now _ c.loop-source.source-index c.source-item.result refl c.loop-source-test.true
+    c.source-item.is)
     (c.loop-source.invariant all) (c.in_ok-collect_source.ensures all)
 
 pub returns : goal.returns
-returns c = λ all. adds_as all _ _ _ _ (λ rs ts r h. (c.if-not-wanted.false, (h.0, h.3.0, h.2 ∙ ap Some h.3.1, h.3.2))) (λ rs ts r h. (h.1.0, Region h.1.1, h.1.2, (h.1.1, refl, h.1.3)))
+returns c =
+    λ all. adds_as all _ _ _ _ (λ rs ts r h. (c.if-not-wanted.false, (h.0, h.3.0, h.2 ∙ ap Some h.3.1, h.3.2)))
+    (λ rs ts r h. (h.1.0, Region h.1.1, h.1.2, (h.1.1, refl, h.1.3)))
     (below_all all (slice_get c.args.sources.now) _ c.loop-source.source-index _ _
     (λ k x e. (let l = slice_get_within c.args.sources.now k x e in omega arith)) (c.loop-source.invariant all))

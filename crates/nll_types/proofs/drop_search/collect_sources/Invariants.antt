@@ -7,4 +7,7 @@ use Rattle.nll_types.proofs.DropLemmas.{IsWantedBelow}
 use Rattle.nll_types.proofs.drop_search.collect_sources.Given as goal
 
 abbrev pub invariant-loop-source : goal.invariant-loop-source
-invariant-loop-source l = (all : List Struct) → AddsSources all (IsWantedBelow (slice_get l.sources) (λ k source rs ts r. (q : ℕ) × (source ≡ Region q) × (region_in rs (region_in l.regions q) ≡ r)) l.source-index) l.fn.out.keys l.out.keys
+invariant-loop-source l = (all : List Struct)
+    → AddsSources all (IsWantedBelow (slice_get l.sources)
+    (λ k source rs ts r. (q : ℕ) × (source ≡ Region q) × (region_in rs (region_in l.regions q) ≡ r)) l.source-index)
+    l.fn.out.keys l.out.keys

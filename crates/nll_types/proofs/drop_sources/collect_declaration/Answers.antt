@@ -10,6 +10,9 @@ pub returns : goal.returns
 returns c =
     let first = rw c.requires.empty at c.in_ok-collect_own.ensures in
     let second = rw c.as_slice.ensures.value at c.collect_parts.ensures in
-    OnOk-map c.collect_parts.result _ _ (λ next. subst (λ (n : ℕ). AreSourcesOf (structs_of c.args.structs.now ++ declared c.args.declaration.now ∷ []) n c.collect_parts.new.out.keys)
+    OnOk-map c.collect_parts.result _ _
+    (λ next. subst (λ (n : ℕ). AreSourcesOf
+    (structs_of c.args.structs.now ++ declared c.args.declaration.now ∷ []) n c.collect_parts.new.out.keys)
     (length-map c.args.structs.now declared)
-    (sources_declared (structs_of c.args.structs.now) (declared c.args.declaration.now) _ _ first (λ later. next later _ _ c.requires.fields))) second
+    (sources_declared (structs_of c.args.structs.now) (declared c.args.declaration.now) _ _ first
+    (λ later. next later _ _ c.requires.fields))) second

@@ -8,4 +8,6 @@ use Rattle.nll_types.proofs.DropLemmas.{IsWantedBelow}
 use Rattle.nll_types.proofs.drop_sources.collect_kept_types.Given as goal
 
 abbrev pub invariant-loop-place : goal.invariant-loop-place
-invariant-loop-place l = (all : List Struct) → AddsSources all (IsWantedBelow (slice_get l.parameters) (λ k p rs ts r. IsKept l.parameters k × (HasRegion (argument ts k) r)) l.place) l.fn.out.keys l.out.keys
+invariant-loop-place l = (all : List Struct)
+    → AddsSources all (IsWantedBelow (slice_get l.parameters)
+    (λ k p rs ts r. IsKept l.parameters k × (HasRegion (argument ts k) r)) l.place) l.fn.out.keys l.out.keys

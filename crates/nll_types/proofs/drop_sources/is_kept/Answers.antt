@@ -10,10 +10,12 @@ turned : (b : Bool) → IsTrue (not b) ↔ (b ≡ false)
 turned true = (λ h. absurd (false≢true h), λ e. absurd (true≢false e))
 turned false = (λ h. refl, λ e. refl)
 
-kept_at : (ps : List Parameter) (k : ℕ) (d : Parameter) → k < length ps → IsTrue (not (get_or ps k d).may_dangle) ↔ IsKept ps k
+kept_at : (ps : List Parameter) (k : ℕ) (d : Parameter) → k < length ps
+    → IsTrue (not (get_or ps k d).may_dangle) ↔ IsKept ps k
 kept_at ps k d l = (
   λ h. (get_or ps k d, slice_get-get_or ps k d l, (turned (get_or ps k d).may_dangle).0 h),
-  λ w. (turned (get_or ps k d).may_dangle).1 (ap (λ (p : Parameter). p.may_dangle) (get_or_from_slice_get ps k w.0 d w.1) ∙ w.2),
+  λ w. (turned (get_or ps k d).may_dangle).1
+      (ap (λ (p : Parameter). p.may_dangle) (get_or_from_slice_get ps k w.0 d w.1) ∙ w.2),
 )
 
 pub returns : goal.returns

@@ -17,7 +17,9 @@ returns-in_err-made-clause-memo c = remembered_stay _ _ _ _ c.requires.memo c.pa
 pub returns-in_ok-insert-in-Some-2-clause-memo : goal.returns-in_ok-insert-in-Some-2-clause-memo
 returns-in_ok-insert-in-Some-2-clause-memo c =
     let made = c.in-Some-2.made in
-    let new = insert_entry-new (derived.eq-value).it c.args.fields.now (record { shape = c.args.number; place = c.args.place }) made c.in_default.ensures.none in
+    let new =
+    insert_entry-new (derived.eq-value).it c.args.fields.now
+    (record { shape = c.args.number; place = c.args.place }) made c.in_default.ensures.none in
     let within = rw c.in-Some-2.is at c.in_ok-made.ensures.within in
     rw (c.in_ok-insert-in-Some-2.ensures.entries, new)
     (remembered_more _ _ _ _ _ made c.requires.memo c.part.ensures.extends c.requires.within within
@@ -69,10 +71,12 @@ pub returns-in_err-made-clause-at : goal.returns-in_err-made-clause-at
 returns-in_err-made-clause-at c = failed c.from_residual.result _ _ c.from_residual.ensures.1
 
 pub returns-in_err-insert-in-Some-2-clause-within : goal.returns-in_err-insert-in-Some-2-clause-within
-returns-in_err-insert-in-Some-2-clause-within c = failed c.from_residual-in_err-insert-in-Some-2.result _ _ c.from_residual-in_err-insert-in-Some-2.ensures.1
+returns-in_err-insert-in-Some-2-clause-within c =
+    failed c.from_residual-in_err-insert-in-Some-2.result _ _ c.from_residual-in_err-insert-in-Some-2.ensures.1
 
 pub returns-in_err-insert-in-Some-2-clause-at : goal.returns-in_err-insert-in-Some-2-clause-at
-returns-in_err-insert-in-Some-2-clause-at c = failed c.from_residual-in_err-insert-in-Some-2.result _ _ c.from_residual-in_err-insert-in-Some-2.ensures.1
+returns-in_err-insert-in-Some-2-clause-at c =
+    failed c.from_residual-in_err-insert-in-Some-2.result _ _ c.from_residual-in_err-insert-in-Some-2.ensures.1
 
 pub returns-in-None-clause-within : goal.returns-in-None-clause-within
 returns-in-None-clause-within c = tt

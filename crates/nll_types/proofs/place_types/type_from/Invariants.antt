@@ -9,4 +9,5 @@ decreases-loop-taken l = length l.projections - l.taken
 
 abbrev pub invariant-loop-taken : goal.invariant-loop-taken
 invariant-loop-taken l = (l.taken ≤ length l.projections)
-    × (behind_all (structs_of l.structs) (drop l.first l.projections) (tree l.fn.from) ≡ behind_all (structs_of l.structs) (drop l.taken l.projections) (tree l.current))
+    × (behind_all (structs_of l.structs) (drop l.first l.projections) (tree l.fn.from)
+    ≡ behind_all (structs_of l.structs) (drop l.taken l.projections) (tree l.current))

@@ -18,7 +18,8 @@ returns-then-place-parts-clause-at c =
     let l = rw c.as_slice-parts.ensures.value at c.if-place-parts.true in
     rw c.as_slice-parts.ensures.value
     (ap (option_map (at known)) (sym (slice_get-get_or parts c.args.place 0 l)) ∙ shape_at_all known parts c.args.place
-    ∙ ap (behind_shape (structs_of c.args.structs.now) (Field c.args.place)) (sym (c.node.ensures.at ∙ ap (shape_over known) c.in-Tuple.is)))
+    ∙ ap (behind_shape (structs_of c.args.structs.now) (Field c.args.place))
+    (sym (c.node.ensures.at ∙ ap (shape_over known) c.in-Tuple.is)))
 
 pub returns-else-place-parts-clause-at : goal.returns-else-place-parts-clause-at
 returns-else-place-parts-clause-at c =
@@ -26,7 +27,8 @@ returns-else-place-parts-clause-at c =
     let parts = c.in-Tuple.parts.items in
     let l = rw c.as_slice-parts.ensures.value at c.if-place-parts.false in
     ap (option_map (at known)) (sym (slice_get_past parts c.args.place l)) ∙ shape_at_all known parts c.args.place
-    ∙ ap (behind_shape (structs_of c.args.structs.now) (Field c.args.place)) (sym (c.node.ensures.at ∙ ap (shape_over known) c.in-Tuple.is))
+    ∙ ap (behind_shape (structs_of c.args.structs.now) (Field c.args.place))
+    (sym (c.node.ensures.at ∙ ap (shape_over known) c.in-Tuple.is))
 
 pub returns-in_ok-arguments-in-Named-clause-extends : goal.returns-in_ok-arguments-in-Named-clause-extends
 returns-in_ok-arguments-in-Named-clause-extends c = c.field_with.ensures.extends
@@ -38,10 +40,12 @@ pub returns-in_ok-arguments-in-Named-clause-at : goal.returns-in_ok-arguments-in
 returns-in_ok-arguments-in-Named-clause-at c =
     let known = shapes_in c.args.shapes.now in
     let over = rw (ap parts_of c.in-Named.is) at c.node.ensures.over in
-    let below : AreBelow (length c.args.shapes.now) c.in-Named.arguments.items = λ k l. (let x = over k l in omega arith) in
+    let below : AreBelow (length c.args.shapes.now) c.in-Named.arguments.items =
+    λ k l. (let x = over k l in omega arith) in
     let taken = c.in_ok-arguments-in-Named.ensures.items ∙ c.as_slice.ensures.value in
     IfOk-weaker c.field_with.result _ _ (λ o made.
-    (rw taken at made) below ∙ ap (behind_shape (structs_of c.args.structs.now) (Field c.args.place)) (sym (c.node.ensures.at ∙ ap (shape_over known) c.in-Named.is)))
+    (rw taken at made) below ∙ ap (behind_shape (structs_of c.args.structs.now) (Field c.args.place))
+    (sym (c.node.ensures.at ∙ ap (shape_over known) c.in-Named.is)))
     c.field_with.ensures.at
 
 pub returns-in_err-arguments-in-Named-clause-within : goal.returns-in_err-arguments-in-Named-clause-within

@@ -12,7 +12,8 @@ returns-in-Reference-clause-within c =
 
 pub returns-in-Reference-clause-at : goal.returns-in-Reference-clause-at
 returns-in-Reference-clause-at c = λ structs.
-    ap (behind_shape structs Deref) (sym (c.node.ensures.at ∙ ap (shape_over (shapes_in c.args.shapes.now)) c.in-Reference.is))
+    ap (behind_shape structs Deref) (sym
+    (c.node.ensures.at ∙ ap (shape_over (shapes_in c.args.shapes.now)) c.in-Reference.is))
 
 pub returns-in-Int-clause-within : goal.returns-in-Int-clause-within
 returns-in-Int-clause-within c = tt

@@ -7,7 +7,8 @@ use Rattle.nll_types.proofs.shapes.count.Goals as goal
 pub loop-part-preserved : goal.loop-part-preserved
 loop-part-preserved c =
     let more = take_more c.args.parts.now c.loop-part.part-index 0 c.loop-part-test.true in
-    rw (more, sum_by_push (λ p. slice_index c.args.sizes.now p)) (omega (arith, c.loop-part.invariant, c.min.ensures, c.min-all.ensures))
+    rw (more, sum_by_push (λ p. slice_index c.args.sizes.now p))
+    (omega (arith, c.loop-part.invariant, c.min.ensures, c.min-all.ensures))
 
 pub returns : goal.returns
 returns c =

@@ -27,7 +27,8 @@ put_in-returns-in-Reference t c =
     let target = rw c.deref.ensures at c.put_in-target.ensures in
     let made = rw c.region_in.ensures at c.reference.ensures in
     rw (ap tree c.in-Reference.is ∙ tree_reference _ _ _)
-    (handed c.reference.result c.put_in-target.result _ _ _ target made (λ u v p q. q ∙ ap (reference (region_in c.args.regions.now c.in-Reference.region) c.in-Reference.mutable) p))
+    (handed c.reference.result c.put_in-target.result _ _ _ target made
+    (λ u v p q. q ∙ ap (reference (region_in c.args.regions.now c.in-Reference.region) c.in-Reference.mutable) p))
 
 pub put_in-returns-in-Tuple : goal.put_in-returns-in-Tuple
 put_in-returns-in-Tuple t c =
@@ -51,13 +52,15 @@ put_in-returns-in-Function t c =
     let returned = rw c.deref-in-Function.ensures at c.put_in.ensures in
     rw (ap tree c.in-Function.is ∙ tree_function _ _)
     (handed_both c.function.result c.put_in_all-inputs.result c.put_in.result _ _ _ _ inputs returned c.function.ensures
-    (λ u v w p o q. q ∙ (ap (λ z. function z (tree w)) p ∙ ap (function (put_in_all regions types (trees c.in-Function.inputs.items))) o)))
+    (λ u v w p o q. q ∙ (ap (λ z. function z (tree w)) p
+    ∙ ap (function (put_in_all regions types (trees c.in-Function.inputs.items))) o)))
 
 pub put_in_all-returns-in_err-put : goal.put_in_all-returns-in_err-put
 put_in_all-returns-in_err-put t c = failed c.from_residual.result _ _ c.from_residual.ensures.1
 
 pub put_in_all-returns-in_err-put_in : goal.put_in_all-returns-in_err-put_in
-put_in_all-returns-in_err-put_in t c = failed c.from_residual-in_err-put_in.result _ _ c.from_residual-in_err-put_in.ensures.1
+put_in_all-returns-in_err-put_in t c =
+    failed c.from_residual-in_err-put_in.result _ _ c.from_residual-in_err-put_in.ensures.1
 
 pub put_in_all-push_reserved-requires : goal.put_in_all-push_reserved-requires
 put_in_all-push_reserved-requires t c = omega arith
@@ -67,7 +70,8 @@ put_in_all-loop-part-preserved t c =
     let pushed = c.push_reserved.ensures in
     let put = λ (part : Ty). put_in c.args.regions.now (trees c.args.types.now) (tree part) in (
       rw pushed.items (map_push tree _ _ ∙ (ap (λ z. z ++ tree c.in_ok-put_in.field-0 ∷ []) c.loop-part.invariant.0
-          ∙ (ap (λ z. map put (take c.loop-part.part-index c.args.parts.now) ++ z ∷ []) (c.in_ok-put_in.ensures ∙ ap put c.part-item.is)
+          ∙ (ap (λ z. map put (take c.loop-part.part-index c.args.parts.now) ++ z ∷ [])
+          (c.in_ok-put_in.ensures ∙ ap put c.part-item.is)
           ∙ sym (map_more put c.args.parts.now c.loop-part.part-index c.part-item.result c.loop-part-test.true)))),
       omega arith,
       omega arith,

@@ -12,4 +12,5 @@ pub returns : goal.returns
 returns c =
     let within : c.args.number < length c.args.types.now = omega arith in
     IfOk-weaker c.copy.result _ _
-    (λ u e. e ∙ ap tree c.index-types-number.is ∙ argument_view c.args.types.now c.args.number c.index-types-number.result within) c.copy.ensures
+    (λ u e. e ∙ ap tree c.index-types-number.is
+    ∙ argument_view c.args.types.now c.args.number c.index-types-number.result within) c.copy.ensures

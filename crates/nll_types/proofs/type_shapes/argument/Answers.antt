@@ -10,4 +10,5 @@ returns-in-Some-clause-at c = λ b. let f = c.in-Some.ensures.found in
 
 pub returns-in-None-clause-at : goal.returns-in-None-clause-at
 returns-in-None-clause-at c = IfOk-weaker c.add.result _ _ (λ i at. λ b.
-    at ∙ argument_past (shapes_in c.args.shapes.now) c.args.arguments.now c.args.number (c.in-None.ensures.none b)) c.add.ensures.at
+    at ∙ argument_past (shapes_in c.args.shapes.now) c.args.arguments.now c.args.number (c.in-None.ensures.none b))
+    c.add.ensures.at

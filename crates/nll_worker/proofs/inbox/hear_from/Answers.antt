@@ -9,8 +9,12 @@ pub returns-clause-hears : goal.returns-clause-hears
 returns-clause-hears g c =
     let xs = c.args.receivers.now.items in let lt : c.args.from < length xs = search rules in
     let f = g.M.Mail.received in
-    subst (λ (y : _ × _). LooksInto c.args.from c.args.owner.now c.hear.new.owner y.0 y.1 c.hear.new.batch.items c.hear.result)
-    (λ i. (sym (map_read f xs c.args.from c.index_mut.result.now [] lt c.index_mut.ensures.value) i, sym (read_set f xs c.args.from c.hear.new.receiver [] lt) i)) c.hear.ensures.hears
+    subst (λ (y : _ × _). LooksInto c.args.from c.args.owner.now c.hear.new.owner y.0 y.1 c.hear.new.batch.items
+    c.hear.result)
+    (λ i. (
+      sym (map_read f xs c.args.from c.index_mut.result.now [] lt c.index_mut.ensures.value) i,
+      sym (read_set f xs c.args.from c.hear.new.receiver [] lt) i,
+    )) c.hear.ensures.hears
 
 pub returns-clause-few : goal.returns-clause-few
 returns-clause-few g c =
@@ -24,7 +28,12 @@ returns-clause-few g c =
 pub returns-clause-others : goal.returns-clause-others
 returns-clause-others g c =
     let xs = c.args.receivers.now.items in let lt : c.args.from < length xs = search rules in
-    map_set g.M.Mail.received xs c.args.from c.hear.new.receiver ∙ ap (λ y. slice_set (map g.M.Mail.received xs) c.args.from y) (sym (read_set g.M.Mail.received xs c.args.from c.hear.new.receiver [] lt))
+    map_set g.M.Mail.received xs c.args.from c.hear.new.receiver
+    ∙ ap (λ y. slice_set (map g.M.Mail.received xs) c.args.from y)
+    (sym (read_set g.M.Mail.received xs c.args.from c.hear.new.receiver [] lt))
 
 pub returns-clause-keeps : goal.returns-clause-keeps
-returns-clause-keeps g c = alike_set (Keeps g.M.Mail) (λ r. ((λ s p. p), (λ s p. p), refl)) c.args.receivers.now.items c.args.from c.index_mut.result.now c.hear.new.receiver c.index_mut.ensures.value (c.hear.ensures.pair, c.hear.ensures.closed, c.hear.ensures.ends)
+returns-clause-keeps g c =
+    alike_set (Keeps g.M.Mail) (λ r. ((λ s p. p), (λ s p. p), refl)) c.args.receivers.now.items c.args.from
+    c.index_mut.result.now c.hear.new.receiver c.index_mut.ensures.value
+    (c.hear.ensures.pair, c.hear.ensures.closed, c.hear.ensures.ends)

@@ -20,8 +20,12 @@ returns-in_err-post_to-clause-pairs g c = stays_on g.M.Mail _ _ _ c.loop-to.inva
 pub loop-to-preserved : goal.loop-to-preserved
 loop-to-preserved g c = record {
   sound = c.post_to.ensures.sound;
-  others = c.post_to.ensures.others ∙ ap (λ (o : Owner). record o { given = c.post_to.new.owner.given }) c.loop-to.invariant.others;
-  all = λ unbounded. given_more c.loop-to.owner c.post_to.new.owner c.loop-to.to (c.loop-to.invariant.all unbounded) c.post_to.ensures.others c.post_to.ensures.other_given (c.in_ok-post_to.ensures.all unbounded);
+  others =
+      c.post_to.ensures.others ∙ ap (λ (o : Owner). record o { given = c.post_to.new.owner.given })
+      c.loop-to.invariant.others;
+  all = λ unbounded. given_more c.loop-to.owner c.post_to.new.owner c.loop-to.to
+      (c.loop-to.invariant.all unbounded) c.post_to.ensures.others c.post_to.ensures.other_given
+      (c.in_ok-post_to.ensures.all unbounded);
   posts = c.post_to.ensures.posts;
   pairs = stays_on g.M.Mail _ _ _ c.loop-to.invariant.pairs c.post_to.ensures.pairs;
 }

@@ -7,18 +7,25 @@ use Rattle.nll_worker.proofs.posts.post_part.Goals as goal
 pub post-requires : goal.post-requires
 post-requires g c = posted_few _ _ _ _ c.loop-growth.invariant.posting
 
-gives : (g : _) (c : goal.After-outgoing g) → c.outgoing.new.self ≡ record c.loop-growth.owner { given = slice_set c.loop-growth.owner.given c.args.to (given_to c.loop-growth.owner c.args.to + 1) }
+gives : (g : _) (c : goal.After-outgoing g)
+    → c.outgoing.new.self ≡ record c.loop-growth.owner
+    { given = slice_set c.loop-growth.owner.given c.args.to (given_to c.loop-growth.owner c.args.to + 1) }
 gives g c =
     let p = c.loop-growth.invariant.posting in
     gives_next c.loop-growth.owner c.outgoing.new.self c.args.to c.outgoing.result c.in-Some.growth
-    (ap (λ (o : Owner). o.broken) p.others ∙ c.requires.whole) (subst (λ (o : Owner). c.args.to < o.cut.owners) (sym p.others) c.requires.to)
+    (ap (λ (o : Owner). o.broken) p.others ∙ c.requires.whole)
+    (subst (λ (o : Owner). c.args.to < o.cut.owners) (sym p.others) c.requires.to)
     c.in-Some.ensures.some.1 c.outgoing.ensures.some c.outgoing.ensures.none
 
 pub loop-growth-smaller : goal.loop-growth-smaller
-loop-growth-smaller g c = fewer _ _ _ _ _ c.loop-growth.invariant.posting c.requires.to c.in-Some.growth c.in-Some.ensures.some.1 (gives g c) c.outgoing.ensures.sound
+loop-growth-smaller g c =
+    fewer _ _ _ _ _ c.loop-growth.invariant.posting c.requires.to c.in-Some.growth c.in-Some.ensures.some.1
+    (gives g c) c.outgoing.ensures.sound
 
 pub loop-growth-preserved : goal.loop-growth-preserved
 loop-growth-preserved g c = record {
-  posting = rw c.in-Ok.ensures.ok (posting_more _ _ _ _ _ c.loop-growth.invariant.posting c.requires.to c.in-Some.growth c.in-Some.ensures.some.1 (gives g c) c.outgoing.ensures.sound);
+  posting =
+      rw c.in-Ok.ensures.ok (posting_more _ _ _ _ _ c.loop-growth.invariant.posting c.requires.to c.in-Some.growth
+      c.in-Some.ensures.some.1 (gives g c) c.outgoing.ensures.sound);
   pair = λ r h. c.post.ensures.pair r (c.loop-growth.invariant.pair r h);
 }

@@ -13,5 +13,7 @@ pub returns-clause-all : goal.returns-clause-all
 returns-clause-all g c = λ unbounded.
     let p = c.post_all-posted in
     on_ok_then p.result _ _
-    (λ all. none_waits p.new.owner _ (subst (λ n. HasGivenAll n p.new.owner) (c.requires.owners ∙ sym (ap (λ (o : Owner). o.cut.owners) p.ensures.others)) all) c.unsent_count-tally.ensures.count)
+    (λ all. none_waits p.new.owner _ (subst (λ n. HasGivenAll n p.new.owner)
+    (c.requires.owners ∙ sym (ap (λ (o : Owner). o.cut.owners) p.ensures.others)) all)
+    c.unsent_count-tally.ensures.count)
     (p.ensures.all unbounded)

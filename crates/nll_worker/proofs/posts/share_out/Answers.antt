@@ -12,4 +12,5 @@ returns-in-Memory-clause-pairs g c = alike_refl (Stays g.M.Mail) (λ s r p. p) c
 pub returns-in-Ok-clause-comes : goal.returns-in-Ok-clause-comes
 returns-in-Ok-clause-comes g c = λ taken owed cleared came.
     let p = c.post_waiting.ensures in
-    comes_given c.args.owner.now c.post_waiting.new.owner p.others taken owed cleared c.args.tally.now c.post_waiting.new.tally p.sound p.counted p.same c.args.heard came
+    comes_given c.args.owner.now c.post_waiting.new.owner p.others taken owed cleared c.args.tally.now
+    c.post_waiting.new.tally p.sound p.counted p.same c.args.heard came

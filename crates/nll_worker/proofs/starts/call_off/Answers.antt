@@ -9,7 +9,8 @@ pub returns-clause-ended : goal.returns-clause-ended
 returns-clause-ended g c = λ q cut.
     let m = g.M.Mail in
     record {
-      shuts = shut_on m _ _ _ (alike_refl (Stays m) (λ s r p. p) c.args.worker.outbox.senders.items) c.close_all-closed.ensures;
+      shuts = shut_on m _ _ _ (alike_refl (Stays m) (λ s r p. p) c.args.worker.outbox.senders.items)
+          c.close_all-closed.ensures;
       keeps = alike_refl (Keeps m) (λ r. ((λ s p. p), (λ s p. p), refl)) c.args.worker.receivers.items;
       finishes = λ made. absurd (unmade c.args.ending c.requires.reason made);
       leaves = record {

@@ -9,8 +9,10 @@ loop-start-preserved g c =
     let l = c.loop-start in (
       search rules,
       AllOf-tail _ l.starts.items c.pop_front.new.self.items c.in-Some.start c.in-Some.ensures.items l.invariant.1,
-      alike_more _ l.starts.items c.pop_front.new.self.items c.args.starts.items l.finished.items c.push_reserved.new.self.items c.in-Some.start c.join.result
-          c.in-Some.ensures.items c.push_reserved.ensures.items (c.join.ensures.joined, c.join.ensures.over) l.invariant.2,
+      alike_more _ l.starts.items c.pop_front.new.self.items c.args.starts.items l.finished.items
+          c.push_reserved.new.self.items c.in-Some.start c.join.result
+          c.in-Some.ensures.items c.push_reserved.ensures.items
+          (c.join.ensures.joined, c.join.ensures.over) l.invariant.2,
     )
 
 pub returns : goal.returns

@@ -16,9 +16,13 @@ returns-then-grown-tally-clause-more c = λ before h was.
 pub overflow_sub-new : goal.overflow_sub-new
 overflow_sub-new c =
     let w = c.requires.grew in
-    waiting_grows w.0 c.args.owner.now w.1 c.args.tally.now w.2 c.unsent_count-waiting.result c.unsent_count-waiting.ensures.count
+    waiting_grows w.0 c.args.owner.now w.1 c.args.tally.now w.2 c.unsent_count-waiting.result
+    c.unsent_count-waiting.ensures.count
 
 pub returns-clause-more : goal.returns-clause-more
 returns-clause-more c = λ before h was.
-    let small = waiting_grows before c.args.owner.now h c.args.tally.now was c.unsent_count-waiting.result c.unsent_count-waiting.ensures.count in
-    due_more before c.args.owner.now h c.args.tally.now was c.unsent_count-waiting.result _ c.unsent_count-waiting.ensures.count (omega (arith, small))
+    let small =
+    waiting_grows before c.args.owner.now h c.args.tally.now was c.unsent_count-waiting.result
+    c.unsent_count-waiting.ensures.count in
+    due_more before c.args.owner.now h c.args.tally.now was c.unsent_count-waiting.result _
+    c.unsent_count-waiting.ensures.count (omega (arith, small))

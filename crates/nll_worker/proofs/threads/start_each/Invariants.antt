@@ -10,12 +10,15 @@ invariant-loop-worker g l =
     let m = g.M.Mail in
     let b = g.L.Ledger in
     (vec_len l.starts + deque_len l.workers ≤ vec_capacity l.starts)
-    × AllOf l.workers.items (λ w. IsGiven b m l.cut l.book w.me w.share w.outbox.senders.items w.receivers.items w.room.items (vec_capacity w.room))
+    × AllOf l.workers.items (λ w. IsGiven b m l.cut l.book w.me w.share w.outbox.senders.items w.receivers.items
+    w.room.items (vec_capacity w.room))
     × HaveStarts
-    (λ w h. (h.promise.worker.value ≡ w) × (h.promise.book.value ≡ l.book) × (h.promise.problem.value ≡ l.problem) × (h.promise.cut.value ≡ l.cut)
+    (λ w h. (h.promise.worker.value ≡ w) × (h.promise.book.value ≡ l.book) × (h.promise.problem.value ≡ l.problem)
+    × (h.promise.cut.value ≡ l.cut)
     × g.P.Permit.permits l.permit w.me true
     × IsGiven b m l.cut l.book w.me w.share w.outbox.senders.items w.receivers.items w.room.items (vec_capacity w.room))
-    (λ w done. IsEnded b m l.problem l.cut l.book w.me w.outbox.senders.items w.receivers.items done.log.items done.left done.closed.items done.receivers.items done.ending
+    (λ w done. IsEnded b m l.problem l.cut l.book w.me w.outbox.senders.items w.receivers.items done.log.items done.left
+    done.closed.items done.receivers.items done.ending
     × IsAnswered (g.P.Permit.permits l.permit w.me) done.ending)
     l.initial.workers.items l.starts.items l.workers.items
 

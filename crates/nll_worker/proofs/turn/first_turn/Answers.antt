@@ -5,10 +5,12 @@ use Rattle.nll_worker.proofs.turn.first_turn.Goals as goal
 
 pub returns-in-Err : goal.returns-in-Err
 returns-in-Err g c = record {
-  grows = first_grows _ _ _ c.args.owner.now c.load.new.self c.requires.first.2 c.load.ensures.others c.load.ensures.begins;
+  grows = first_grows _ _ _ c.args.owner.now c.load.new.self c.requires.first.2 c.load.ensures.others
+      c.load.ensures.begins;
   sound = c.load.ensures.sound;
   book = (c.requires.fresh.of_book, refl, refl);
-  comes = λ taken none. none_taken _ _ _ c.args.owner.now c.load.new.self c.requires.first.2 c.load.ensures.others taken;
+  comes = λ taken none. none_taken _ _ _ c.args.owner.now c.load.new.self c.requires.first.2 c.load.ensures.others
+      taken;
 }
 
 pub keep_book-requires-clause-grew : goal.keep_book-requires-clause-grew
@@ -20,7 +22,8 @@ keep_book-requires-clause-grew g c κs within = (
 )
 
 pub returns-clause-grows : goal.returns-clause-grows
-returns-clause-grows g c = first_grows _ _ _ c.args.owner.now c.load.new.self c.requires.first.2 c.load.ensures.others c.load.ensures.begins
+returns-clause-grows g c =
+    first_grows _ _ _ c.args.owner.now c.load.new.self c.requires.first.2 c.load.ensures.others c.load.ensures.begins
 
 pub returns-clause-comes : goal.returns-clause-comes
 returns-clause-comes g c = λ taken none. record {

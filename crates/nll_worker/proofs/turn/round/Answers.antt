@@ -18,7 +18,8 @@ loop-from-init g c = record {
 }
 
 pub turn-heard-requires-clause-owners : goal.turn-heard-requires-clause-owners
-turn-heard-requires-clause-owners g c κs within = c.requires.owners ∙ sym (ap (λ (k : Cut). k.owners) c.loop-from.invariant.grows.cut)
+turn-heard-requires-clause-owners g c κs within = c.requires.owners
+    ∙ sym (ap (λ (k : Cut). k.owners) c.loop-from.invariant.grows.cut)
 
 pub returns-in-Stray-clause-grows : goal.returns-in-Stray-clause-grows
 returns-in-Stray-clause-grows g c = grown_on _ _ _ c.loop-from.invariant.grows c.turn-heard.ensures.grows
@@ -34,7 +35,9 @@ returns-in-Memory-clause-keeps g c = keeps_on g.M.Mail _ _ _ c.loop-from.invaria
 
 pub loop-from-preserved : goal.loop-from-preserved
 loop-from-preserved g c =
-    let rests : IsAtRest c.turn-heard.new.owner (map g.M.Mail.received c.turn-heard.new.receivers.items) (g.L.Ledger.owed c.turn-heard.new.share) (g.L.Ledger.cleared c.turn-heard.new.share) c.turn-heard.new.tally = elim c.match-heard.branch [
+    let rests : IsAtRest c.turn-heard.new.owner (map g.M.Mail.received c.turn-heard.new.receivers.items)
+    (g.L.Ledger.owed c.turn-heard.new.share) (g.L.Ledger.cleared c.turn-heard.new.share) c.turn-heard.new.tally =
+    elim c.match-heard.branch [
       | in-Nothing w ↦ w.in-Nothing.ensures.comes
       | in-Growths w ↦ w.in-Growths.ensures.comes
     ] in

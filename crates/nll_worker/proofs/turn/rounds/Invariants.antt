@@ -12,6 +12,7 @@ invariant-loop g l = record {
   book : g.L.Ledger.belongs l.book l.share;
   number : g.L.Ledger.number l.share ≡ g.L.Ledger.number l.fn.share;
   called : g.L.Ledger.called l.share ≡ g.L.Ledger.called l.fn.share;
-  comes : ComesTo l.owner (map g.M.Mail.received l.receivers.items) (g.L.Ledger.owed l.share) (g.L.Ledger.cleared l.share) l.tally l.heard;
+  comes : ComesTo l.owner (map g.M.Mail.received l.receivers.items) (g.L.Ledger.owed l.share)
+      (g.L.Ledger.cleared l.share) l.tally l.heard;
   keeps : Alike (Keeps g.M.Mail) l.fn.receivers.items l.receivers.items;
 }

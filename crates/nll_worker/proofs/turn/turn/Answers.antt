@@ -9,25 +9,34 @@ use Rattle.nll_worker.proofs.turn.turn.Goals as goal
 
 pub overflow_add-turn : goal.overflow_add-turn
 overflow_add-turn g c =
-    let few = cleared_small c.args.owner.now _ _ 0 c.requires.rests.working.sound.cut.cut.owner_limit c.requires.rests.taking in
+    let few =
+    cleared_small c.args.owner.now _ _ 0 c.requires.rests.working.sound.cut.cut.owner_limit c.requires.rests.taking
+    in
     omega (arith, few, c.requires.rests.turns)
 
 pub keep_book-requires-clause-owners : goal.keep_book-requires-clause-owners
-keep_book-requires-clause-owners g c κs within = c.requires.owners ∙ sym (ap (λ (o : Owner). o.cut.owners) c.in-Growths.ensures.hears.1.4)
+keep_book-requires-clause-owners g c κs within = c.requires.owners
+    ∙ sym (ap (λ (o : Owner). o.cut.owners) c.in-Growths.ensures.hears.1.4)
 
 pub keep_book-requires-clause-whole : goal.keep_book-requires-clause-whole
-keep_book-requires-clause-whole g c κs within = ap (λ (o : Owner). o.broken) c.in-Growths.ensures.hears.1.4 ∙ c.requires.rests.working.whole
+keep_book-requires-clause-whole g c κs within = ap (λ (o : Owner). o.broken) c.in-Growths.ensures.hears.1.4
+    ∙ c.requires.rests.working.whole
 
 pub keep_book-requires-clause-grew : goal.keep_book-requires-clause-grew
 keep_book-requires-clause-grew g c κs within =
-    let h = c.in-Growths.ensures.hears in
-    (c.args.owner.now, grown_some c.args.owner.now c.hear_from.new.owner h.1.1 h.1.4, c.requires.rests.counted, c.requires.rests.working.owes)
+    let h = c.in-Growths.ensures.hears in (
+      c.args.owner.now,
+      grown_some c.args.owner.now c.hear_from.new.owner h.1.1 h.1.4,
+      c.requires.rests.counted,
+      c.requires.rests.working.owes,
+    )
 
 pub keep_book-requires-clause-small : goal.keep_book-requires-clause-small
 keep_book-requires-clause-small g c κs within =
     let rests = c.requires.rests in
     let h = c.in-Growths.ensures.hears in
-    let from_in : c.args.from < c.args.owner.now.cut.owners = subst (λ n. c.args.from < n) c.requires.owners c.requires.from in
+    let from_in : c.args.from < c.args.owner.now.cut.owners =
+    subst (λ n. c.args.from < n) c.requires.owners c.requires.from in
     let cleared = cleared_small c.args.owner.now _ _ 0 rests.working.sound.cut.cut.owner_limit rests.taking in
     let few = c.hear_from.ensures.few (rests.taking.few c.args.from from_in) in
     let before = log_of (map g.M.Mail.received c.args.receivers.now.items) c.args.from in
@@ -40,7 +49,8 @@ returns-in-Nothing-clause-grows g c = grown_self c.args.owner.now c.hear_from.ne
 pub returns-in-Nothing-clause-comes : goal.returns-in-Nothing-clause-comes
 returns-in-Nothing-clause-comes g c =
     let h = c.in-Nothing.ensures.hears in
-    rests_same c.args.owner.now _ _ _ _ c.requires.rests c.hear_from.new.owner _ c.args.from h.0 h.1 c.hear_from.ensures.others
+    rests_same c.args.owner.now _ _ _ _ c.requires.rests c.hear_from.new.owner _ c.args.from h.0 h.1
+    c.hear_from.ensures.others
 
 pub returns-in-Stray-clause-grows : goal.returns-in-Stray-clause-grows
 returns-in-Stray-clause-grows g c = grown_self c.args.owner.now c.hear_from.new.owner c.in-Stray.ensures.hears.1.1
@@ -51,7 +61,8 @@ returns-in-Stray-clause-comes g c =
     let gs = c.hear_from.new.batch.items in
     let stray = h.1.0 in
     let before = log_of (map g.M.Mail.received c.args.receivers.now.items) c.args.from in
-    let from_in : c.args.from < c.args.owner.now.cut.owners = subst (λ n. c.args.from < n) c.requires.owners c.requires.from in (
+    let from_in : c.args.from < c.args.owner.now.cut.owners =
+    subst (λ n. c.args.from < n) c.requires.owners c.requires.from in (
       stray_same c.args.owner.now c.hear_from.new.owner _ h.1.1 (
         c.args.from,
         stray.0,
@@ -65,23 +76,27 @@ returns-in-Stray-clause-comes g c =
     )
 
 pub returns-in-Memory-clause-grows : goal.returns-in-Memory-clause-grows
-returns-in-Memory-clause-grows g c = grown_lost c.args.owner.now c.hear_from.new.owner c.args.from _ c.in-Memory.ensures.hears.1
+returns-in-Memory-clause-grows g c =
+    grown_lost c.args.owner.now c.hear_from.new.owner c.args.from _ c.in-Memory.ensures.hears.1
 
 pub returns-in-Memory-clause-comes : goal.returns-in-Memory-clause-comes
 returns-in-Memory-clause-comes g c =
     let h = c.in-Memory.ensures.hears in
-    let from_in : c.args.from < c.args.owner.now.cut.owners = subst (λ n. c.args.from < n) c.requires.owners c.requires.from in
+    let from_in : c.args.from < c.args.owner.now.cut.owners =
+    subst (λ n. c.args.from < n) c.requires.owners c.requires.from in
     taken_lost c.args.owner.now _ _ _ _ c.requires.rests _ c.args.from c.hear_from.new.batch.items h.0
     c.hear_from.ensures.others c.hear_from.new.owner from_in h.1
 
 pub returns-in-Growths-clause-grows : goal.returns-in-Growths-clause-grows
-returns-in-Growths-clause-grows g c = let h = c.in-Growths.ensures.hears in grown_some c.args.owner.now c.hear_from.new.owner h.1.1 h.1.4
+returns-in-Growths-clause-grows g c = let h = c.in-Growths.ensures.hears in
+    grown_some c.args.owner.now c.hear_from.new.owner h.1.1 h.1.4
 
 pub returns-in-Growths-clause-comes : goal.returns-in-Growths-clause-comes
 returns-in-Growths-clause-comes g c =
     let h = c.in-Growths.ensures.hears in
     let k = c.keep_book.ensures in
-    let from_in : c.args.from < c.args.owner.now.cut.owners = subst (λ n. c.args.from < n) c.requires.owners c.requires.from in
+    let from_in : c.args.from < c.args.owner.now.cut.owners =
+    subst (λ n. c.args.from < n) c.requires.owners c.requires.from in
     record {
       working = some_works c.args.owner.now _ _ _ _ c.requires.rests c.hear_from.new.owner h.1.4 _ h.1.2 h.1.3 k.owes;
       taking = some_take c.args.owner.now _ _ _ _ c.requires.rests c.hear_from.new.owner h.1.4 c.args.from

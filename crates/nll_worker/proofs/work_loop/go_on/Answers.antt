@@ -9,43 +9,61 @@ use Rattle.nll_worker.proofs.work_loop.go_on.Goals as goal
 use Rattle.nll_worker.proofs.work_loop.go_on.Goals.{in-Growths, in-Nothing}
 
 pub loop-init : goal.loop-init
-loop-init g c =
-    (tt, tt, record { problem = refl; cut = refl; me = c.requires.me }, c.requires.sound, c.requires.book, c.requires.came, c.requires.posts, alike_refl (Stays g.M.Mail) (λ s r p. p) c.args.senders.now.items, alike_refl (Keeps g.M.Mail) (λ r. ((λ s p. p), (λ s p. p), refl)) c.args.receivers.now.items)
+loop-init g c = (
+  tt,
+  tt,
+  record { problem = refl; cut = refl; me = c.requires.me },
+  c.requires.sound,
+  c.requires.book,
+  c.requires.came,
+  c.requires.posts,
+  alike_refl (Stays g.M.Mail) (λ s r p. p) c.args.senders.now.items,
+  alike_refl (Keeps g.M.Mail) (λ r. ((λ s p. p), (λ s p. p), refl)) c.args.receivers.now.items,
+)
 
 pub returns-in-Stray-clause-finishes : goal.returns-in-Stray-clause-finishes
 returns-in-Stray-clause-finishes g c =
     let l = c.loop.invariant in
     let s = c.share_out-heard in
     let came = c.in-Stray.ensures.comes _ _ _ l.5 in
-    finishes_stray _ _ _ s.new.owner _ _ _ _ (is_given _ _ _ c.loop.owner s.new.owner s.ensures.others l.2) s.ensures.posts s.ensures.sound came.0 came.1
+    finishes_stray _ _ _ s.new.owner _ _ _ _
+    (is_given _ _ _ c.loop.owner s.new.owner s.ensures.others l.2) s.ensures.posts s.ensures.sound came.0 came.1
 
 pub returns-in-Memory-clause-finishes : goal.returns-in-Memory-clause-finishes
 returns-in-Memory-clause-finishes g c =
     let l = c.loop.invariant in
     let s = c.share_out-heard in
     let came = c.in-Memory.ensures.comes _ _ _ l.5 in
-    finishes_fail _ _ _ s.new.owner _ _ _ _ (is_given _ _ _ c.loop.owner s.new.owner s.ensures.others l.2) s.ensures.posts _ s.ensures.sound came (λ e. cc) (λ e. cc)
+    finishes_fail _ _ _ s.new.owner _ _ _ _
+    (is_given _ _ _ c.loop.owner s.new.owner s.ensures.others l.2) s.ensures.posts _ s.ensures.sound came (λ e. cc)
+    (λ e. cc)
 
 pub returns-in-Quiet-clause-finishes : goal.returns-in-Quiet-clause-finishes
 returns-in-Quiet-clause-finishes g c =
     let l = c.loop.invariant in
     let s = c.share_out-heard in
-    let rest : IsAtRest s.new.owner (map g.M.Mail.received c.loop.receivers.items) (g.L.Ledger.owed c.loop.share) (g.L.Ledger.cleared c.loop.share) s.new.tally = elim c.match-heard.branch [
+    let rest : IsAtRest s.new.owner (map g.M.Mail.received c.loop.receivers.items) (g.L.Ledger.owed c.loop.share)
+    (g.L.Ledger.cleared c.loop.share) s.new.tally = elim c.match-heard.branch [
       | in-Growths w ↦ w.in-Growths.ensures.comes _ _ _ l.5
       | in-Nothing w ↦ w.in-Nothing.ensures.comes _ _ _ l.5
     ] in
     finishes_left _ _ _ s.new.owner _ _ _ _ _ _ _ c.in-Quiet.ensures.left.2 c.in-Quiet.ensures.left.3
-    (finishes_quiet _ _ _ s.new.owner _ _ _ _ (is_given _ _ _ c.loop.owner s.new.owner s.ensures.others l.2) s.ensures.posts s.new.tally rest c.in-Quiet.ensures.quiet.1)
+    (finishes_quiet _ _ _ s.new.owner _ _ _ _
+    (is_given _ _ _ c.loop.owner s.new.owner s.ensures.others l.2) s.ensures.posts s.new.tally rest
+    c.in-Quiet.ensures.quiet.1)
 
 pub returns-in-Stopped-clause-finishes : goal.returns-in-Stopped-clause-finishes
 returns-in-Stopped-clause-finishes g c =
     let l = c.loop.invariant in
     let s = c.share_out-heard in
-    let rest : IsAtRest s.new.owner (map g.M.Mail.received c.loop.receivers.items) (g.L.Ledger.owed c.loop.share) (g.L.Ledger.cleared c.loop.share) s.new.tally = elim c.match-heard.branch [
+    let rest : IsAtRest s.new.owner (map g.M.Mail.received c.loop.receivers.items) (g.L.Ledger.owed c.loop.share)
+    (g.L.Ledger.cleared c.loop.share) s.new.tally = elim c.match-heard.branch [
       | in-Growths w ↦ w.in-Growths.ensures.comes _ _ _ l.5
       | in-Nothing w ↦ w.in-Nothing.ensures.comes _ _ _ l.5
     ] in
-    finishes_fail _ _ _ s.new.owner _ _ _ _ (is_given _ _ _ c.loop.owner s.new.owner s.ensures.others l.2) s.ensures.posts _ s.ensures.sound (taken_all s.new.owner _ _ 0 rest.taking) (λ e. cc) (λ e. cc)
+    finishes_fail _ _ _ s.new.owner _ _ _ _
+    (is_given _ _ _ c.loop.owner s.new.owner s.ensures.others l.2) s.ensures.posts _ s.ensures.sound
+    (taken_all s.new.owner _ _ 0 rest.taking) (λ e. cc) (λ e. cc)
 
 pub returns-in-Stray-clause-pairs : goal.returns-in-Stray-clause-pairs
 returns-in-Stray-clause-pairs g c = stays_on g.M.Mail _ _ _ c.loop.invariant.7 c.share_out-heard.ensures.pairs
@@ -63,7 +81,8 @@ pub rounds-heard-requires-clause-rests : goal.rounds-heard-requires-clause-rests
 rounds-heard-requires-clause-rests g c κs within =
     let l = c.loop.invariant in
     let s = c.share_out-heard in
-    let rest : IsAtRest s.new.owner (map g.M.Mail.received c.loop.receivers.items) (g.L.Ledger.owed c.loop.share) (g.L.Ledger.cleared c.loop.share) s.new.tally = elim c.match-heard.branch [
+    let rest : IsAtRest s.new.owner (map g.M.Mail.received c.loop.receivers.items) (g.L.Ledger.owed c.loop.share)
+    (g.L.Ledger.cleared c.loop.share) s.new.tally = elim c.match-heard.branch [
       | in-Growths w ↦ w.in-Growths.ensures.comes _ _ _ l.5
       | in-Nothing w ↦ w.in-Nothing.ensures.comes _ _ _ l.5
     ] in
@@ -77,7 +96,8 @@ loop-preserved g c =
     let back = c.in-Open.ensures.back in (
       tt,
       tt,
-      is_grown _ _ _ s.new.owner c.rounds-heard.new.owner f.grows (is_given _ _ _ c.loop.owner s.new.owner s.ensures.others l.2),
+      is_grown _ _ _ s.new.owner c.rounds-heard.new.owner f.grows
+          (is_given _ _ _ c.loop.owner s.new.owner s.ensures.others l.2),
       f.sound,
       (f.book.0, f.book.1 ∙ (back.1 ∙ l.4.1), f.book.2 ∙ (back.4 ∙ l.4.2)),
       f.comes,

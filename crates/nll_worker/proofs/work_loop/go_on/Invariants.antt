@@ -11,7 +11,8 @@ invariant-loop g l =
     × IsOwnerOf l.fn.owner.problem l.fn.owner.cut l.me l.owner
     × IsSound l.owner
     × (g.L.Ledger.belongs l.book l.share × (g.L.Ledger.number l.share ≡ l.me) × (g.L.Ledger.called l.share ≡ false))
-    × ComesTo l.owner (map g.M.Mail.received l.receivers.items) (g.L.Ledger.owed l.share) (g.L.Ledger.cleared l.share) l.tally l.heard
+    × ComesTo l.owner (map g.M.Mail.received l.receivers.items) (g.L.Ledger.owed l.share)
+    (g.L.Ledger.cleared l.share) l.tally l.heard
     × HasPosted l.owner (map g.M.Mail.sent l.senders.items)
     × Alike (Stays g.M.Mail) l.fn.senders.items l.senders.items
     × Alike (Keeps g.M.Mail) l.fn.receivers.items l.receivers.items

@@ -18,6 +18,9 @@ returns-clause-ended g c =
     record {
       shuts = shut_on m _ _ _ b.ensures.pairs c.close_all-closed.ensures;
       keeps = b.ensures.keeps;
-      finishes = λ made. subst (λ xs. FinishedAs c.args.problem.now c.args.cut.now c.args.worker.me (log_of xs) (log_of (map m.received b.new.receivers.items)) (g.L.Ledger.left_owed b.result.0) (g.L.Ledger.left_cleared b.result.0) b.result.1 b.result.2.items) (sym lists) (b.ensures.finishes made);
+      finishes =
+          λ made. subst (λ xs. FinishedAs c.args.problem.now c.args.cut.now c.args.worker.me (log_of xs)
+          (log_of (map m.received b.new.receivers.items)) (g.L.Ledger.left_owed b.result.0)
+          (g.L.Ledger.left_cleared b.result.0) b.result.1 b.result.2.items) (sym lists) (b.ensures.finishes made);
       leaves = b.ensures.leaves;
     }

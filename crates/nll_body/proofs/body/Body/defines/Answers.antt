@@ -11,8 +11,10 @@ use Rattle.nll_body.proofs.body.Body.defines.Goals as goal
 
 pub returns : goal.returns
 returns c = λ i at.
-    let low : c.args.point < length (map meant c.self.inside.points.items) = subst (λ (b : BodyText). c.args.point < length b.points) (sym c.self.view_is) c.requires in
+    let low : c.args.point < length (map meant c.self.inside.points.items) =
+    subst (λ (b : BodyText). c.args.point < length b.points) (sym c.self.view_is) c.requires in
     c.defines.ensures
     ∙ (sym (same_defined (λ r. r) tree (statement_of c.index.result.now))
-    ∙ ap defined (stands_alone c.self.inside.points.items c.args.point c.index.result.now i (omega (arith, low, length-map c.self.inside.points.items meant)) c.index.ensures
+    ∙ ap defined (stands_alone c.self.inside.points.items c.args.point c.index.result.now i
+    (omega (arith, low, length-map c.self.inside.points.items meant)) c.index.ensures
     (subst (λ (b : BodyText). StandsAt b c.args.point i) (sym c.self.view_is) at)))

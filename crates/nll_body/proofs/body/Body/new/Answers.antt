@@ -20,7 +20,8 @@ graph_of-told-requires-clause-ends c =
 pub assembled-requires-clause-graph : goal.assembled-requires-clause-graph
 assembled-requires-clause-graph c =
     graph_shown (body_of c.args.parts) c.in-Ok.graph
-    (subst (λ n. HasPoints c.args.parts.starts.items c.args.parts.universals (map meant c.args.parts.points.items) n c.in-Ok.graph) (sym (length-map c.args.parts.points.items meant))
+    (subst (λ n. HasPoints c.args.parts.starts.items c.args.parts.universals
+    (map meant c.args.parts.points.items) n c.in-Ok.graph) (sym (length-map c.args.parts.points.items meant))
     (rw (c.as_slice-starts.ensures.value, c.as_slice.ensures.value) at c.in-Ok.ensures.ok))
 
 pub graph_of-told-requires-clause-room : goal.graph_of-told-requires-clause-room

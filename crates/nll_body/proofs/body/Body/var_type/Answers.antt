@@ -5,8 +5,15 @@ use Rattle.nll_body.proofs.KeptLemmas.{good_type, typed}
 use Rattle.nll_body.proofs.body.Body.var_type.Goals as goal
 
 pub returns-clause-well_formed : goal.returns-clause-well_formed
-returns-clause-well_formed c = good_type c.args.self.now (subst IsSound c.self.view_is c.self.invariant.sound) c.args.variable (tree c.index.result.now)
-    (typed c.self.inside.labels c.self.inside.outlives.items c.self.inside.asserts.items c.self.inside.structs c.self.inside.variables.items c.self.inside.points.items c.self.inside.graph c.args.self.now c.self.view_is c.args.variable c.index.result.now c.requires c.index.ensures)
+returns-clause-well_formed c =
+    good_type c.args.self.now (subst IsSound c.self.view_is c.self.invariant.sound) c.args.variable
+    (tree c.index.result.now)
+    (typed c.self.inside.labels c.self.inside.outlives.items c.self.inside.asserts.items c.self.inside.structs
+    c.self.inside.variables.items c.self.inside.points.items c.self.inside.graph c.args.self.now c.self.view_is
+    c.args.variable c.index.result.now c.requires c.index.ensures)
 
 pub returns-clause-value : goal.returns-clause-value
-returns-clause-value c = typed c.self.inside.labels c.self.inside.outlives.items c.self.inside.asserts.items c.self.inside.structs c.self.inside.variables.items c.self.inside.points.items c.self.inside.graph c.args.self.now c.self.view_is c.args.variable c.index.result.now c.requires c.index.ensures
+returns-clause-value c =
+    typed c.self.inside.labels c.self.inside.outlives.items c.self.inside.asserts.items c.self.inside.structs
+    c.self.inside.variables.items c.self.inside.points.items c.self.inside.graph c.args.self.now c.self.view_is
+    c.args.variable c.index.result.now c.requires c.index.ensures

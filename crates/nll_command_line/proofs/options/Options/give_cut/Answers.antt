@@ -5,8 +5,13 @@ use Rattle.nll_command_line.proofs.options.Options.give_cut.Goals as goal
 
 pub returns-clause-ok : goal.returns-clause-ok
 returns-clause-ok c = λ given says.
-    let empty = none_of c.args.self.now.cut (sym c.is_some.ensures ∙ c.if-is_some.false) in
-    (cut c.args.value.now, refl, refl, tt, more_cut given _ says c.args.value.now (ap (option_map (λ file. file.now)) empty))
+    let empty = none_of c.args.self.now.cut (sym c.is_some.ensures ∙ c.if-is_some.false) in (
+      cut c.args.value.now,
+      refl,
+      refl,
+      tt,
+      more_cut given _ says c.args.value.now (ap (option_map (λ file. file.now)) empty),
+    )
 
 pub returns-then-is_some-clause-err : goal.returns-then-is_some-clause-err
 returns-then-is_some-clause-err c = (

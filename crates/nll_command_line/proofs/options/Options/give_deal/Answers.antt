@@ -16,5 +16,6 @@ returns-clause-ok c = λ given says.
 pub returns-then-is_some-clause-err : goal.returns-then-is_some-clause-err
 returns-then-is_some-clause-err c = (
   refl,
-  λ given says. no_more_deal given _ says c.args.value.now (λ one is. some_of c.args.self.now.deal (sym c.is_some.ensures ∙ c.if-is_some.true)),
+  λ given says. no_more_deal given _ says c.args.value.now
+      (λ one is. some_of c.args.self.now.deal (sym c.is_some.ensures ∙ c.if-is_some.true)),
 )

@@ -9,7 +9,8 @@ returns-in_ok-visit g c =
     let visits = c.in_ok-visit.ensures in
     let set = g.S.ElementSet.flags c.args.self.now.set.now in
     record {
-      adds = adds_weaker _ _ (λ x is. (is, subst (IsIn set) (sym is) (sym c.has.ensures ∙ c.if-has.true))) _ _ visits.adds;
+      adds = adds_weaker _ _ (λ x is. (is, subst (IsIn set) (sym is) (sym c.has.ensures ∙ c.if-has.true))) _ _
+          visits.adds;
       all = λ x h. visits.all x h.0;
     }
 

@@ -7,5 +7,6 @@ invariant-loop-point g l =
     let set = g.S.ElementSet.flags l.self.set.now in
     record {
       adds : Adds (Within set (Contains l.points)) l.fn.search l.search;
-      all : (k : ℕ) → k < l.point-index → IsIn set (slice_index l.points k) → IsIn l.search.reached (slice_index l.points k);
+      all : (k : ℕ) → k < l.point-index → IsIn set (slice_index l.points k)
+          → IsIn l.search.reached (slice_index l.points k);
     }

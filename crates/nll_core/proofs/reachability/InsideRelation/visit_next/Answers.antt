@@ -6,7 +6,9 @@ use Rattle.nll_core.proofs.reachability.InsideRelation.visit_next.Goals as goal
 
 pub returns-then-from-points : goal.returns-then-from-points
 returns-then-from-points g c =
-    past_visits c.args.self.now.graph.now (g.S.ElementSet.flags c.args.self.now.set.now) c.args.from c.points-points.ensures.sound (omega arith) c.args.search.now
+    past_visits c.args.self.now.graph.now
+    (g.S.ElementSet.flags c.args.self.now.set.now) c.args.from c.points-points.ensures.sound
+    (omega arith) c.args.search.now
 
 pub visit_points-requires-clause-points : goal.visit_points-requires-clause-points
 visit_points-requires-clause-points g c = λ k low h.
@@ -18,9 +20,11 @@ visit_points-requires-clause-points g c = λ k low h.
 pub returns-in_ok-visit_range : goal.returns-in_ok-visit_range
 returns-in_ok-visit_range g c =
     rw (← c.from.view_is)
-    (ends_visits c.args.self.now.graph.now _ _ _ c.next_of.ensures.each _ _ c.points-points.ensures.value (omega arith) (c.is_return.ensures.0 c.if-is_return.true) _ _ _ c.in_ok-visit_points.ensures c.in_ok-visit_range.ensures)
+    (ends_visits c.args.self.now.graph.now _ _ _ c.next_of.ensures.each _ _ c.points-points.ensures.value (omega arith)
+    (c.is_return.ensures.0 c.if-is_return.true) _ _ _ c.in_ok-visit_points.ensures c.in_ok-visit_range.ensures)
 
 pub returns-else-is_return : goal.returns-else-is_return
 returns-else-is_return g c =
     rw (← c.from.view_is)
-    (next_visits c.args.self.now.graph.now _ _ _ c.next_of.ensures.each _ _ (λ h. false≢true (sym c.if-is_return.false ∙ c.is_return.ensures.1 h)) c.in_ok-visit_points.ensures)
+    (next_visits c.args.self.now.graph.now _ _ _ c.next_of.ensures.each _ _
+    (λ h. false≢true (sym c.if-is_return.false ∙ c.is_return.ensures.1 h)) c.in_ok-visit_points.ensures)

@@ -8,7 +8,9 @@ use Rattle.nll_core.proofs.returns.Returns.has_one_in.Goals as goal
 pub returns-in-Some : goal.returns-in-Some
 returns-in-Some c =
     let g = c.self.inside.graph.value in
-    let found = found_in g c.in-Some.points c.args.run c.next_in.result (subst (AreReturns g) c.in-Some.is c.self.invariant) c.next_in.ensures.some c.next_in.ensures.none in
+    let found =
+    found_in g c.in-Some.points c.args.run c.next_in.result
+    (subst (AreReturns g) c.in-Some.is c.self.invariant) c.next_in.ensures.some c.next_in.ensures.none in
     subst (λ (g : Graph). (c.is_some.result ≡ true) ↔ ((x : ℕ) × IsWithin c.args.run x × IsReturn g x)) c.self.view_is
     (subst (λ (b : Bool). (b ≡ true) ↔ ((x : ℕ) × IsWithin c.args.run x × IsReturn g x)) (sym c.is_some.ensures) found)
 

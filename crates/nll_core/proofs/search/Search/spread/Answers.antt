@@ -13,7 +13,8 @@ loop-place-smaller g c = omega (arith, c.in_ok-visit_next.ensures.adds.count, c.
 
 pub loop-place-preserved : goal.loop-place-preserved
 loop-place-preserved g c =
-    spreading_more _ _ _ _ _ _ (omega arith) (sym c.at-element.ensures) c.loop-place.invariant c.in_ok-visit_next.ensures
+    spreading_more _ _ _ _ _ _ (omega arith)
+    (sym c.at-element.ensures) c.loop-place.invariant c.in_ok-visit_next.ensures
 
 pub returns : goal.returns
 returns g c = spreading_done _ _ _ _ (omega arith) c.loop-place.invariant

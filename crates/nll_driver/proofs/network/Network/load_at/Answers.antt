@@ -11,13 +11,18 @@ use Rattle.nll_driver.proofs.network.Network.load_at.Goals.{After-index_mut}
 whole : (g : _) → (c : After-index_mut g) → c.self.inside.refused ≡ false
 whole g c = rw (← c.self.view_is) at c.requires.whole
 
-in_step : (g : _) → (c : After-index_mut g) → AreInStep c.self.inside.problem.now c.self.inside.cut.now c.self.inside.owners.items c.self.inside.channels.items
+in_step : (g : _) → (c : After-index_mut g)
+    → AreInStep c.self.inside.problem.now c.self.inside.cut.now c.self.inside.owners.items c.self.inside.channels.items
 in_step g c = c.self.invariant (whole g c)
 
-at : (g : _) → (c : After-index_mut g) → slice_get c.self.inside.owners.items c.args.number ≡ Some c.index_mut.result.now
-at g c = slice_get_read c.self.inside.owners.items c.self.inside.cut.now.owners c.args.number c.index_mut.result.now (sym (in_step g c).are_owners.count) (rw (← c.self.view_is) at c.requires.number) c.index_mut.ensures.value
+at : (g : _) → (c : After-index_mut g)
+    → slice_get c.self.inside.owners.items c.args.number ≡ Some c.index_mut.result.now
+at g c =
+    slice_get_read c.self.inside.owners.items c.self.inside.cut.now.owners c.args.number c.index_mut.result.now
+    (sym (in_step g c).are_owners.count) (rw (← c.self.view_is) at c.requires.number) c.index_mut.ensures.value
 
-owner : (g : _) → (c : After-index_mut g) → IsOwner c.self.inside.problem.now c.self.inside.cut.now c.args.number c.index_mut.result.now
+owner : (g : _) → (c : After-index_mut g)
+    → IsOwner c.self.inside.problem.now c.self.inside.cut.now c.args.number c.index_mut.result.now
 owner g c = (in_step g c).are_owners.each c.args.number c.index_mut.result.now (at g c)
 
 pub load-requires-clause-sound : goal.load-requires-clause-sound
@@ -39,21 +44,27 @@ returns-in_err-did-clause-refuses g c =
       (
         c.args.number,
         refl,
-        λ o here. subst (λ (w : Owner). w.broken ≡ true) (sym (set_there _ c.args.number c.load.new.owner o (slice_get_within _ c.args.number c.index_mut.result.now (at g d)) here)) c.in_err-did.ensures.refused.1,
+        λ o here. subst (λ (w : Owner). w.broken ≡ true)
+            (sym (set_there _ c.args.number c.load.new.owner o
+            (slice_get_within _ c.args.number c.index_mut.result.now (at g d)) here)) c.in_err-did.ensures.refused.1,
       ),
     )
 
 pub invariant_of-self-2 : goal.invariant_of-self-2
 invariant_of-self-2 g c = λ _.
     let d = (goal.at.invariant_of-self-2 g c).After-index_mut in
-    loaded_step _ _ _ _ (in_step g d) c.args.number c.index_mut.result.now c.load.new.owner (at g d) c.load.ensures.sound c.in_ok-did.ensures.others c.load.ensures.begins c.in_ok-did.ensures.done
+    loaded_step _ _ _ _ (in_step g d) c.args.number c.index_mut.result.now c.load.new.owner
+    (at g d) c.load.ensures.sound c.in_ok-did.ensures.others c.load.ensures.begins c.in_ok-did.ensures.done
 
 pub returns-clause-moves : goal.returns-clause-moves
 returns-clause-moves g c =
     let d = (goal.at.returns-clause-moves g c).After-index_mut in
-    rw (← c.self.view_is) (load_moves _ _ _ _ _ (whole g d) c.args.number c.index_mut.result.now c.load.new.owner (at g d) (ap (λ (o : Owner). o.loaded) c.in_ok-did.ensures.others) c.in_ok-did.did c.in_ok-did.ensures.idle c.in_ok-did.ensures.did)
+    rw (← c.self.view_is) (load_moves _ _ _ _ _ (whole g d) c.args.number c.index_mut.result.now c.load.new.owner
+    (at g d) (ap (λ (o : Owner). o.loaded) c.in_ok-did.ensures.others) c.in_ok-did.did c.in_ok-did.ensures.idle
+    c.in_ok-did.ensures.did)
 
 pub returns-clause-loads : goal.returns-clause-loads
 returns-clause-loads g c =
     let d = (goal.at.returns-clause-loads g c).After-index_mut in
-    rw (← c.self.view_is) (load_loads _ _ _ _ _ (whole g d) c.args.number c.index_mut.result.now c.load.new.owner (at g d) (ap (λ (o : Owner). o.loaded) c.in_ok-did.ensures.others))
+    rw (← c.self.view_is) (load_loads _ _ _ _ _ (whole g d) c.args.number c.index_mut.result.now c.load.new.owner
+    (at g d) (ap (λ (o : Owner). o.loaded) c.in_ok-did.ensures.others))

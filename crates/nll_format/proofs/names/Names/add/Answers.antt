@@ -7,13 +7,17 @@ pub invariant_of-self : goal.invariant_of-self
 invariant_of-self c = rw c.in_err-insert.ensures.err c.self.invariant
 
 -- the names after the insert
-after : (c : In_ok-insert) → map (λ name. name.items) c.insert.new.self.keys ≡ map (λ name. name.items) c.self.inside.set.keys ++ c.args.name.now ∷ []
+after : (c : In_ok-insert) → map (λ name. name.items) c.insert.new.self.keys
+    ≡ map (λ name. name.items) c.self.inside.set.keys ++ c.args.name.now ∷ []
 after c =
     ap (map (λ name. name.items)) c.in_ok-insert.ensures.keys
-    ∙ names_inserted (λ name. name.items) c.self.inside.set.keys c.in_ok-name.name c.args.name.now c.in_ok-name.ensures.ok (rw (← c.self.view_is) at c.requires.absent)
+    ∙ names_inserted (λ name. name.items) c.self.inside.set.keys c.in_ok-name.name c.args.name.now
+    c.in_ok-name.ensures.ok (rw (← c.self.view_is) at c.requires.absent)
 
 pub invariant_of-self-2 : goal.invariant_of-self-2
-invariant_of-self-2 c = rw (after (goal.at.invariant_of-self-2 c).In_ok-insert) (texts_push _ c.args.name.now c.self.invariant c.requires.text)
+invariant_of-self-2 c =
+    rw (after (goal.at.invariant_of-self-2 c).In_ok-insert)
+    (texts_push _ c.args.name.now c.self.invariant c.requires.text)
 
 pub returns-clause-ok : goal.returns-clause-ok
 returns-clause-ok c = rw (← c.self.view_is) (after (goal.at.returns-clause-ok c).In_ok-insert)

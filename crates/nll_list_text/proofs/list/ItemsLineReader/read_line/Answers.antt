@@ -26,11 +26,13 @@ returns-in_ok-push-in-Some-clause-taken g c =
 pub returns-in-None-clause-taken : goal.returns-in-None-clause-taken
 returns-in-None-clause-taken g c =
     let listing = g.F.ListFormat.listing c.args.format.now in
-    on_ok_weaker c.pass_over.result (λ h. entries_taken listing _ _ _ (skips (passes (format_of listing) _ _ h) refl)) c.pass_over.ensures.ok
+    on_ok_weaker c.pass_over.result (λ h. entries_taken listing _ _ _ (skips (passes (format_of listing) _ _ h) refl))
+    c.pass_over.ensures.ok
 
 pub returns-in-None-clause-refused : goal.returns-in-None-clause-refused
 returns-in-None-clause-refused g c =
     let listing = g.F.ListFormat.listing c.args.format.now in
     IfErr-weaker c.pass_over.result _ _
-    (λ kind wrong. entries_refused listing _ _ _ (inr (formless (format_of listing) _ _ kind (rw c.in-None.is at c.in_ok-item.ensures) wrong)))
+    (λ kind wrong. entries_refused listing _ _ _
+    (inr (formless (format_of listing) _ _ kind (rw c.in-None.is at c.in_ok-item.ensures) wrong)))
     c.pass_over.ensures.fault

@@ -36,7 +36,8 @@ pub returns-in-Blocks-clause-taken : goal.returns-in-Blocks-clause-taken
 returns-in-Blocks-clause-taken c = rw c.in-Blocks.is c.set_blocks.ensures.taken
 
 pub returns-in-Blocks-clause-refused : goal.returns-in-Blocks-clause-refused
-returns-in-Blocks-clause-refused c = rw c.in-Blocks.is (IfErr-weaker c.set_blocks.result _ _ (λ kind fault. inr fault) c.set_blocks.ensures.refused)
+returns-in-Blocks-clause-refused c =
+    rw c.in-Blocks.is (IfErr-weaker c.set_blocks.result _ _ (λ kind fault. inr fault) c.set_blocks.ensures.refused)
 
 pub returns-in-Block-clause-taken : goal.returns-in-Block-clause-taken
 returns-in-Block-clause-taken c = rw c.in-Block.is c.add_block.ensures.taken
@@ -54,4 +55,5 @@ pub returns-in-End-clause-taken : goal.returns-in-End-clause-taken
 returns-in-End-clause-taken c = rw c.in-End.is c.end.ensures.taken
 
 pub returns-in-End-clause-refused : goal.returns-in-End-clause-refused
-returns-in-End-clause-refused c = rw c.in-End.is (IfErr-weaker c.end.result _ _ (λ kind fault. inr fault) c.end.ensures.refused)
+returns-in-End-clause-refused c =
+    rw c.in-End.is (IfErr-weaker c.end.result _ _ (λ kind fault. inr fault) c.end.ensures.refused)

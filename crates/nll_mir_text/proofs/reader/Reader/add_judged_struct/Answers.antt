@@ -32,12 +32,18 @@ returns-then-redeclares-clause-refused c =
 
 -- what is known of a struct line whose names are known and declare none again
 record IsNew (r : Reader) (own : OwnNames) (text : StructText) (judged : JudgedFields) : Type 0 where
-  known : are_known (field_scope (said_by r) (map parameter_of text.parameters.items)) (parts (written text.fields)) ≡ true
+  known : are_known (field_scope (said_by r) (map parameter_of text.parameters.items)) (parts (written text.fields))
+      ≡ true
   once : redeclares (said_by r) text.name.now (map parameter_of text.parameters.items) ≡ false
-  fits : judged.fits ≡ have_arguments (field_scope (said_by r) (map parameter_of text.parameters.items)) (parts (written text.fields))
-  small : judged.small ≡ are_small (all_meant (field_scope (said_by r) (map parameter_of text.parameters.items)) (parts (written text.fields)))
+  fits : judged.fits ≡ have_arguments (field_scope (said_by r) (map parameter_of text.parameters.items))
+      (parts (written text.fields))
+  small : judged.small ≡ are_small (all_meant (field_scope (said_by r) (map parameter_of text.parameters.items))
+      (parts (written text.fields)))
 
-is_new : (r : Reader) (own : OwnNames) (text : StructText) (judged : JudgedFields) → AreOwn (map parameter_of text.parameters.items) own → AreJudged (own_scope own r.structs) (parts (written text.fields)) judged → redeclares (said_by r) text.name.now (map parameter_of text.parameters.items) ≡ false → IsNew r own text judged
+is_new : (r : Reader) (own : OwnNames) (text : StructText) (judged : JudgedFields)
+    → AreOwn (map parameter_of text.parameters.items) own
+    → AreJudged (own_scope own r.structs) (parts (written text.fields)) judged
+    → redeclares (said_by r) text.name.now (map parameter_of text.parameters.items) ≡ false → IsNew r own text judged
 is_new r own text judged h j once =
     let s = said_by r in
     let ps = map parameter_of text.parameters.items in
@@ -54,14 +60,20 @@ is_new r own text judged h j once =
 pub returns-then-not-judged-clause-refused : goal.returns-then-not-judged-clause-refused
 returns-then-not-judged-clause-refused c =
     let text = c.args.text.now in
-    let n = is_new c.args.self.now c.args.own.now text c.args.judged c.requires.own c.requires.judged (sym (rw c.as_slice.ensures.value at c.redeclares.ensures) ∙ c.if-redeclares.false) in
-    inr (struct_unfit (said_by c.args.self.now) text.name.now (map parameter_of text.parameters.items) text.has_drop (parts (written text.fields)) c.requires.due.order n.known n.once (sym n.fits ∙ not-true _ c.if-not-judged.true))
+    let n = is_new c.args.self.now c.args.own.now text c.args.judged c.requires.own c.requires.judged
+    (sym (rw c.as_slice.ensures.value at c.redeclares.ensures) ∙ c.if-redeclares.false) in
+    inr (struct_unfit (said_by c.args.self.now) text.name.now (map parameter_of text.parameters.items) text.has_drop
+    (parts (written text.fields)) c.requires.due.order n.known n.once
+    (sym n.fits ∙ not-true _ c.if-not-judged.true))
 
 pub returns-then-not-judged-2-clause-refused : goal.returns-then-not-judged-2-clause-refused
 returns-then-not-judged-2-clause-refused c =
     let text = c.args.text.now in
-    let n = is_new c.args.self.now c.args.own.now text c.args.judged c.requires.own c.requires.judged (sym (rw c.as_slice.ensures.value at c.redeclares.ensures) ∙ c.if-redeclares.false) in
-    inr (struct_too_large (said_by c.args.self.now) text.name.now (map parameter_of text.parameters.items) text.has_drop (parts (written text.fields)) c.requires.due.order n.known n.once (sym n.fits ∙ not-false _ c.if-not-judged.false) (sym n.small ∙ not-true _ c.if-not-judged-2.true))
+    let n = is_new c.args.self.now c.args.own.now text c.args.judged c.requires.own c.requires.judged
+    (sym (rw c.as_slice.ensures.value at c.redeclares.ensures) ∙ c.if-redeclares.false) in
+    inr (struct_too_large (said_by c.args.self.now) text.name.now (map parameter_of text.parameters.items) text.has_drop
+    (parts (written text.fields)) c.requires.due.order n.known n.once
+    (sym n.fits ∙ not-false _ c.if-not-judged.false) (sym n.small ∙ not-true _ c.if-not-judged-2.true))
 
 pub declare_struct-requires-clause-due : goal.declare_struct-requires-clause-due
 declare_struct-requires-clause-due c = c.requires.due
@@ -73,9 +85,18 @@ pub declare_struct-requires-clause-fine : goal.declare_struct-requires-clause-fi
 declare_struct-requires-clause-fine c =
     let r = c.args.self.now in
     let text = c.args.text.now in
-    let n = is_new r c.args.own.now text c.args.judged c.requires.own c.requires.judged (sym (rw c.as_slice.ensures.value at c.redeclares.ensures) ∙ c.if-redeclares.false) in
-    no_struct_fault (said_by r) text.name.now (map parameter_of text.parameters.items) text.has_drop (parts (written text.fields)) c.requires.due.order n.known n.once (sym n.fits ∙ not-false _ c.if-not-judged.false) (sym n.small ∙ not-false _ c.if-not-judged-2.false)
-    (omega (arith, c.if-len-ge-MAX_STRUCTS.false, c.len.ensures, c.requires.due.ready.named_structs, length-map r.variables.table.structs kept.declared))
+    let n = is_new r c.args.own.now text c.args.judged c.requires.own c.requires.judged
+    (sym (rw c.as_slice.ensures.value at c.redeclares.ensures) ∙ c.if-redeclares.false) in
+    no_struct_fault (said_by r) text.name.now (map parameter_of text.parameters.items) text.has_drop
+    (parts (written text.fields)) c.requires.due.order n.known n.once
+    (sym n.fits ∙ not-false _ c.if-not-judged.false) (sym n.small ∙ not-false _ c.if-not-judged-2.false)
+    (omega (
+      arith,
+      c.if-len-ge-MAX_STRUCTS.false,
+      c.len.ensures,
+      c.requires.due.ready.named_structs,
+      length-map r.variables.table.structs kept.declared,
+    ))
 
 pub returns-clause-taken : goal.returns-clause-taken
 returns-clause-taken c = c.in_ok-declare_struct.ensures

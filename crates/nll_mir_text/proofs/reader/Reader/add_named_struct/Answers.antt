@@ -21,4 +21,5 @@ returns-in-None-clause-refused c =
     let fields = parts (written text.fields) in
     inr (struct_unknown s text.name.now ps text.has_drop fields c.requires.due.order
     (sym (own_known s ps c.args.own.now c.args.self.now.structs fields c.requires.own refl)
-    ∙ (sym (ap (is_known (own_scope c.args.own.now c.args.self.now.structs)) c.as_type-fields.ensures.tuple) ∙ (rw (c.in-None.is, c.as_type-fields.ensures.value) at c.in_ok-fields.ensures))))
+    ∙ (sym (ap (is_known (own_scope c.args.own.now c.args.self.now.structs)) c.as_type-fields.ensures.tuple)
+    ∙ (rw (c.in-None.is, c.as_type-fields.ensures.value) at c.in_ok-fields.ensures))))

@@ -2,4 +2,5 @@ use Rattle.nll_mir_text.proofs.GrownLemmas.{due_grown}
 use Rattle.nll_mir_text.proofs.reader.Reader.add_resolved_struct.Goals as goal
 
 pub add_judged_struct-requires-clause-due : goal.add_judged_struct-requires-clause-due
-add_judged_struct-requires-clause-due c = due_grown _ _ c.in_ok-judged.ensures.structs c.in_ok-judged.ensures.extends _ c.requires.due
+add_judged_struct-requires-clause-due c =
+    due_grown _ _ c.in_ok-judged.ensures.structs c.in_ok-judged.ensures.extends _ c.requires.due

@@ -23,7 +23,8 @@ admit_judged-requires c =
       no_parameter = r.no_parameter;
       named_structs = r.named_structs ∙ ap length (sym e.structs);
       counted_kinds = r.counted_kinds ∙ ap length (sym e.structs);
-      kinds = subst (λ ds. AreKinds (map (λ ks. ks.items) c.args.self.now.structs.kinds.items) (structs_of ds)) (sym e.structs) r.kinds;
+      kinds = subst (λ ds. AreKinds (map (λ ks. ks.items) c.args.self.now.structs.kinds.items) (structs_of ds))
+          (sym e.structs) r.kinds;
       few_structs = omega (arith, ap length e.structs, r.few_structs);
       few_variables = omega (arith, ap length types, r.few_variables);
       shapes = rw (types, numbers) (shapes_extended _ _ _ _ e.extends r.shapes);
@@ -43,9 +44,11 @@ returns-clause-admitted c =
     let types = ap (λ (v : Variables). v.types.items) e.others in
     let same : said_by new ≡ said_by old = rw (types, e.structs) refl in
     IfOk-weaker c.admit_judged.result _ _ (λ edges told. λ i placed.
-    let j = judged_same old.regions old.structs old.variables c.judge_point.new.variables i _ types e.structs (e.judged old.regions old.structs i placed.of) in
+    let j = judged_same old.regions old.structs old.variables c.judge_point.new.variables i _ types e.structs
+    (e.judged old.regions old.structs i placed.of) in
     subst (λ s. IsAdmitted s i edges new) same
-    (told i (record { order = placed.order; of = placed.of }) (record { known = j.known; fits = j.fits; fits_small = j.fits_small }))) c.admit_judged.ensures.admitted
+    (told i (record { order = placed.order; of = placed.of })
+    (record { known = j.known; fits = j.fits; fits_small = j.fits_small }))) c.admit_judged.ensures.admitted
 
 pub returns-clause-refused : goal.returns-clause-refused
 returns-clause-refused c =
@@ -55,6 +58,8 @@ returns-clause-refused c =
     let types = ap (λ (v : Variables). v.types.items) e.others in
     let same : said_by new ≡ said_by old = rw (types, e.structs) refl in
     IfErr-weaker c.admit_judged.result _ _ (λ kind told. λ i placed.
-    let j = judged_same old.regions old.structs old.variables c.judge_point.new.variables i _ types e.structs (e.judged old.regions old.structs i placed.of) in
+    let j = judged_same old.regions old.structs old.variables c.judge_point.new.variables i _ types e.structs
+    (e.judged old.regions old.structs i placed.of) in
     subst (λ s. IsRefused s (at_point i) kind) same
-    (told i (record { order = placed.order; of = placed.of }) (record { known = j.known; fits = j.fits; fits_small = j.fits_small }))) c.admit_judged.ensures.refused
+    (told i (record { order = placed.order; of = placed.of })
+    (record { known = j.known; fits = j.fits; fits_small = j.fits_small }))) c.admit_judged.ensures.refused

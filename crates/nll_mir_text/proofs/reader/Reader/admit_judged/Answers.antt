@@ -6,46 +6,57 @@ use Rattle.nll_mir_text.proofs.PointLemmas.{undeclared, out_of_range, unfit, too
 use Rattle.nll_mir_text.proofs.reader.Reader.admit_judged.Goals as goal
 
 pub returns-then-not-judged-clause-refused : goal.returns-then-not-judged-clause-refused
-returns-then-not-judged-clause-refused c = λ i placed told. inr (undeclared (said_by c.args.self.now) i placed.order (sym told.known ∙ c.if-not-judged.true))
+returns-then-not-judged-clause-refused c =
+    λ i placed told. inr (undeclared (said_by c.args.self.now) i placed.order (sym told.known ∙ c.if-not-judged.true))
 
 pub returns-then-not-targets_are_blocks-clause-refused : goal.returns-then-not-targets_are_blocks-clause-refused
 returns-then-not-targets_are_blocks-clause-refused c = λ i placed told.
     let s = said_by c.args.self.now in
     let known = sym told.known ∙ c.if-not-judged.false in
-    let blocks = sym (targets_are s i (statement_of c.args.statement.now) placed.of _ c.targets_are_blocks.ensures) ∙ c.if-not-targets_are_blocks.true in
+    let blocks = sym (targets_are s i (statement_of c.args.statement.now) placed.of _ c.targets_are_blocks.ensures)
+    ∙ c.if-not-targets_are_blocks.true in
     inr (out_of_range s i placed.order known blocks)
 
 pub returns-then-not-judged-2-clause-refused : goal.returns-then-not-judged-2-clause-refused
 returns-then-not-judged-2-clause-refused c = λ i placed told.
     let s = said_by c.args.self.now in
     let known = sym told.known ∙ c.if-not-judged.false in
-    let blocks = sym (targets_are s i (statement_of c.args.statement.now) placed.of _ c.targets_are_blocks.ensures) ∙ c.if-not-targets_are_blocks.false in
+    let blocks = sym (targets_are s i (statement_of c.args.statement.now) placed.of _ c.targets_are_blocks.ensures)
+    ∙ c.if-not-targets_are_blocks.false in
     inr (unfit s i placed.order known blocks (sym told.fits ∙ c.if-not-judged-2.true))
 
 pub returns-then-not-judged-3-clause-refused : goal.returns-then-not-judged-3-clause-refused
 returns-then-not-judged-3-clause-refused c = λ i placed told.
     let s = said_by c.args.self.now in
     let known = sym told.known ∙ c.if-not-judged.false in
-    let blocks = sym (targets_are s i (statement_of c.args.statement.now) placed.of _ c.targets_are_blocks.ensures) ∙ c.if-not-targets_are_blocks.false in
-    inr (too_large s i placed.order known blocks (sym told.fits ∙ c.if-not-judged-2.false) (sym (told.fits_small c.if-not-judged-2.false) ∙ c.if-not-judged-3.true))
+    let blocks = sym (targets_are s i (statement_of c.args.statement.now) placed.of _ c.targets_are_blocks.ensures)
+    ∙ c.if-not-targets_are_blocks.false in
+    inr (too_large s i placed.order known blocks (sym told.fits ∙ c.if-not-judged-2.false)
+    (sym (told.fits_small c.if-not-judged-2.false) ∙ c.if-not-judged-3.true))
 
 pub returns-then-len-clause-refused : goal.returns-then-len-clause-refused
 returns-then-len-clause-refused c = λ i placed told.
     let s = said_by c.args.self.now in
     let known = sym told.known ∙ c.if-not-judged.false in
-    let blocks = sym (targets_are s i (statement_of c.args.statement.now) placed.of _ c.targets_are_blocks.ensures) ∙ c.if-not-targets_are_blocks.false in
+    let blocks = sym (targets_are s i (statement_of c.args.statement.now) placed.of _ c.targets_are_blocks.ensures)
+    ∙ c.if-not-targets_are_blocks.false in
     let kept = c.args.self.now.points.statements in
-    inr (too_many_points s i placed.order known blocks (sym told.fits ∙ c.if-not-judged-2.false) (sym (told.fits_small c.if-not-judged-2.false) ∙ c.if-not-judged-3.false)
+    inr (too_many_points s i placed.order known blocks (sym told.fits ∙ c.if-not-judged-2.false)
+    (sym (told.fits_small c.if-not-judged-2.false) ∙ c.if-not-judged-3.false)
     (omega (arith, c.len.ensures, kept.ok.0, length-map kept.items statement_kept, c.if-len.true)))
 
 pub returns-then-edges-gt-MAX_EDGES-clause-refused : goal.returns-then-edges-gt-MAX_EDGES-clause-refused
 returns-then-edges-gt-MAX_EDGES-clause-refused c = λ i placed told.
     let s = said_by c.args.self.now in
     let known = sym told.known ∙ c.if-not-judged.false in
-    let blocks = sym (targets_are s i (statement_of c.args.statement.now) placed.of _ c.targets_are_blocks.ensures) ∙ c.if-not-targets_are_blocks.false in
+    let blocks = sym (targets_are s i (statement_of c.args.statement.now) placed.of _ c.targets_are_blocks.ensures)
+    ∙ c.if-not-targets_are_blocks.false in
     let kept = c.args.self.now.points.statements in
-    let edges = edges_resolved (scope_in c.args.self.now.regions c.args.self.now.structs) i (statement_of c.args.statement.now) placed.of in
-    inr (too_many_edges s i placed.order known blocks (sym told.fits ∙ c.if-not-judged-2.false) (sym (told.fits_small c.if-not-judged-2.false) ∙ c.if-not-judged-3.false)
+    let edges =
+    edges_resolved (scope_in c.args.self.now.regions c.args.self.now.structs) i
+    (statement_of c.args.statement.now) placed.of in
+    inr (too_many_edges s i placed.order known blocks (sym told.fits ∙ c.if-not-judged-2.false)
+    (sym (told.fits_small c.if-not-judged-2.false) ∙ c.if-not-judged-3.false)
     (omega (arith, c.len.ensures, kept.ok.0, length-map kept.items statement_kept, c.if-len.false))
     (omega (arith, c.in_ok-edges.ensures.edges, edges, c.requires.edges, c.if-edges-gt-MAX_EDGES.true)))
 
@@ -53,11 +64,15 @@ pub returns-clause-admitted : goal.returns-clause-admitted
 returns-clause-admitted c = λ i placed told.
     let s = said_by c.args.self.now in
     let known = sym told.known ∙ c.if-not-judged.false in
-    let blocks = sym (targets_are s i (statement_of c.args.statement.now) placed.of _ c.targets_are_blocks.ensures) ∙ c.if-not-targets_are_blocks.false in
+    let blocks = sym (targets_are s i (statement_of c.args.statement.now) placed.of _ c.targets_are_blocks.ensures)
+    ∙ c.if-not-targets_are_blocks.false in
     let kept = c.args.self.now.points.statements in
-    let edges = edges_resolved (scope_in c.args.self.now.regions c.args.self.now.structs) i (statement_of c.args.statement.now) placed.of in
+    let edges =
+    edges_resolved (scope_in c.args.self.now.regions c.args.self.now.structs) i
+    (statement_of c.args.statement.now) placed.of in
     record {
-      fine = no_fault s i placed.order known blocks (sym told.fits ∙ c.if-not-judged-2.false) (sym (told.fits_small c.if-not-judged-2.false) ∙ c.if-not-judged-3.false)
+      fine = no_fault s i placed.order known blocks (sym told.fits ∙ c.if-not-judged-2.false)
+          (sym (told.fits_small c.if-not-judged-2.false) ∙ c.if-not-judged-3.false)
           (omega (arith, c.len.ensures, kept.ok.0, length-map kept.items statement_kept, c.if-len.false))
           (omega (arith, c.in_ok-edges.ensures.edges, edges, c.requires.edges, c.if-edges-gt-MAX_EDGES.false));
       same = refl;

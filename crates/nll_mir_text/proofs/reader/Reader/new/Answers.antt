@@ -27,10 +27,12 @@ returns-clause-ready c =
       no_parameter = c.empty-2.ensures;
       named_structs = rw (c.empty.ensures, c.new-5.ensures.structs) refl;
       counted_kinds = rw (c.new-4.ensures.items, c.new-5.ensures.structs) refl;
-      kinds = rw (c.new-4.ensures.items, c.new-5.ensures.structs) record { regions = λ n l. absurd (omega (arith, l)); types = λ n l. absurd (omega (arith, l)) };
+      kinds = rw (c.new-4.ensures.items, c.new-5.ensures.structs)
+          record { regions = λ n l. absurd (omega (arith, l)); types = λ n l. absurd (omega (arith, l)) };
       few_structs = omega (arith, ap length c.new-5.ensures.structs);
       few_variables = omega (arith, ap length c.new-6.ensures.items);
-      shapes = rw (c.new-7.ensures.items, c.new-6.ensures.items) record { below = λ k h. absurd (omega arith); same = refl };
+      shapes =
+          rw (c.new-7.ensures.items, c.new-6.ensures.items) record { below = λ k h. absurd (omega arith); same = refl };
       few_blocks = omega (arith, p.blocks);
       no_start = λ h. ap length p.starts;
       starts = omega (arith, ap length p.starts);

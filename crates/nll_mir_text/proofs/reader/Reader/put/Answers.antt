@@ -15,14 +15,17 @@ returns c = λ i h meaning.
     let r = h.ready in
     let kept = c.args.self.now.points.statements in
     let e = c.in_ok-add_point.ensures in
-    let stand : map statement_kept c.add_point.new.points.statements.items ≡ map statement_kept kept.items ++ statement_meant s i ∷ [] =
+    let stand : map statement_kept c.add_point.new.points.statements.items
+    ≡ map statement_kept kept.items ++ statement_meant s i ∷ [] =
     ap (map statement_kept) e.statements ∙ (map_push statement_kept kept.items c.in_ok-meant.meant
     ∙ ap (λ (m : Statement ℕ TypeTree). map statement_kept kept.items ++ m ∷ []) meant) in
-    let counted : c.add_point.new.points.edges ≡ edge_count (map statement_kept c.add_point.new.points.statements.items) =
+    let counted : c.add_point.new.points.edges
+    ≡ edge_count (map statement_kept c.add_point.new.points.statements.items) =
     omega (arith, e.edges, r.edges, h.counted, edges_more s (map statement_kept kept.items) i, ap edge_count stand) in
     record {
       fine = h.fine;
-      says = point_said s i _ _ _ _ e.blocks (ap (λ v. v.items) e.starts) stand (e.owes ∙ ap not (ends_same s i c.in_ok-meant.meant meant));
+      says = point_said s i _ _ _ _ e.blocks (ap (λ v. v.items) e.starts) stand
+          (e.owes ∙ ap not (ends_same s i c.in_ok-meant.meant meant));
       ready = record {
         static = r.static;
         universals = r.universals;

@@ -17,11 +17,15 @@ pub collect-requires-clause-whole : goal.collect-requires-clause-whole
 collect-requires-clause-whole c = ap (λ (o : Owner). o.broken) c.loop-to.invariant.owner ∙ c.requires.whole
 
 pub collect-requires-clause-to : goal.collect-requires-clause-to
-collect-requires-clause-to c = omega (arith, c.loop-to-test.true, c.requires.owners, ap (λ (o : Owner). o.cut.owners) c.loop-to.invariant.owner)
+collect-requires-clause-to c =
+    omega (arith, c.loop-to-test.true, c.requires.owners, ap (λ (o : Owner). o.cut.owners) c.loop-to.invariant.owner)
 
 pub loop-to-preserved : goal.loop-to-preserved
-loop-to-preserved c = fills_more _ _ _ c.loop-to.invariant c.index_mut.result.now c.collect.new.self c.collect.new.owner (omega (arith, c.loop-to-test.true, c.requires.lanes, c.loop-to.invariant.lane_count)) c.index_mut.ensures.value
-    c.in_ok-collect.ensures.fresh c.in_ok-collect.ensures.given c.collect.ensures.others c.collect.ensures.other_given c.collect.ensures.sound
+loop-to-preserved c =
+    fills_more _ _ _ c.loop-to.invariant c.index_mut.result.now c.collect.new.self c.collect.new.owner
+    (omega (arith, c.loop-to-test.true, c.requires.lanes, c.loop-to.invariant.lane_count)) c.index_mut.ensures.value
+    c.in_ok-collect.ensures.fresh c.in_ok-collect.ensures.given c.collect.ensures.others c.collect.ensures.other_given
+    c.collect.ensures.sound
 
 pub returns : goal.returns
 returns c =

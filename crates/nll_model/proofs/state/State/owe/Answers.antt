@@ -11,10 +11,13 @@ use Rattle.nll_model.proofs.state.State.owe.Goals as goal
 use Rattle.nll_model.proofs.state.State.owe.Goals.{After-index_mut}
 
 is : (c : After-index_mut) → c.index_mut.result.now ≡ c.requires.possible.0
-is c = seat_is c.args.self.now c.args.i c.requires.possible.0 c.index_mut.result.now c.requires.possible.1 (c.index_mut.ensures.value ∙ ap (λ (w : State). get_or w.seats c.args.i c.index_mut.result.now) c.self.view_is)
+is c = seat_is c.args.self.now c.args.i c.requires.possible.0 c.index_mut.result.now c.requires.possible.1
+    (c.index_mut.ensures.value ∙ ap (λ (w : State). get_or w.seats c.args.i c.index_mut.result.now) c.self.view_is)
 
 small : (c : After-index_mut) → c.args.self.now.balance + fresh_count c.requires.possible.0 ≤ 2251799813685248
-small c = owe_small c.requires.sound.0 c.requires.sound.1 c.args.self.now c.requires.sound.2 c.args.i c.requires.possible.0 c.requires.possible.1 c.requires.possible.2
+small c =
+    owe_small c.requires.sound.0 c.requires.sound.1 c.args.self.now c.requires.sound.2 c.args.i c.requires.possible.0
+    c.requires.possible.1 c.requires.possible.2
 
 pub owe-requires : goal.owe-requires
 owe-requires c =
@@ -36,9 +39,18 @@ returns-clause-does c =
       s,
       c.requires.possible.1,
       c.requires.possible.2,
-      ap (λ (w : State). record { seats = slice_set w.seats c.args.i c.owe.new.self; balance = w.balance + c.in_ok-count.count }) c.self.view_is
-          ∙ (ap (λ (x : Seat). record { seats = slice_set c.args.self.now.seats c.args.i x; balance = c.args.self.now.balance + c.in_ok-count.count }) owed
-          ∙ ap (λ (k : ℕ). record { seats = slice_set c.args.self.now.seats c.args.i (owed_seat s); balance = c.args.self.now.balance + k }) count),
+      ap (λ (w : State). record {
+        seats = slice_set w.seats c.args.i c.owe.new.self;
+        balance = w.balance + c.in_ok-count.count;
+      }) c.self.view_is
+          ∙ (ap (λ (x : Seat). record {
+            seats = slice_set c.args.self.now.seats c.args.i x;
+            balance = c.args.self.now.balance + c.in_ok-count.count;
+          }) owed
+          ∙ ap (λ (k : ℕ). record {
+            seats = slice_set c.args.self.now.seats c.args.i (owed_seat s);
+            balance = c.args.self.now.balance + k;
+          }) count),
     )
 
 pub returns-in_err-count-clause-orderly : goal.returns-in_err-count-clause-orderly
@@ -46,5 +58,12 @@ returns-in_err-count-clause-orderly c =
     let d = (goal.at.returns-in_err-count-clause-orderly c).After-index_mut in
     let old = c.requires.sound.2.seats c.args.i c.requires.possible.0 c.requires.possible.1 in
     let on = stays _ _ (c.owe.ensures.owner ∙ ap (λ (s : Seat). s.owner) (is d)) old.sound in
-    let all : (q : Problem) (e : Cut) → IsOrderly q e c.args.self.now → IsOrderly q e (record { seats = slice_set c.self.inside.seats.items c.args.i c.owe.new.self; balance = c.self.inside.balance }) = λ q e orderly. orderly_after q e c.args.self.now (record { seats = c.self.inside.seats.items; balance = c.self.inside.balance }) c.args.i c.requires.possible.0 c.owe.new.self c.self.inside.balance c.self.view_is c.requires.possible.1 on orderly in
+    let all : (q : Problem) (e : Cut) → IsOrderly q e c.args.self.now
+    → IsOrderly q e (record {
+      seats = slice_set c.self.inside.seats.items c.args.i c.owe.new.self;
+      balance = c.self.inside.balance;
+    }) = λ q e orderly.
+    orderly_after q e c.args.self.now (record
+    { seats = c.self.inside.seats.items; balance = c.self.inside.balance }) c.args.i c.requires.possible.0
+    c.owe.new.self c.self.inside.balance c.self.view_is c.requires.possible.1 on orderly in
     on_err_always _ all

@@ -13,7 +13,9 @@ first c =
     let q = c.args.problem.now in let d = c.args.cut.now in
     let problem = c.regions-regions.ensures.sound in
     let cut : IsCutOf q d = record { cut = c.owners-owners.ensures.sound; regions = c.requires.cut } in
-    let is : IsFirst q d (record { seats = c.in-Ok.seats.items; balance = c.owners-owners.result }) = record { count = c.in-Ok.ensures.count; each = c.in-Ok.ensures.first; balance = c.owners-owners.ensures.value } in
+    let is : IsFirst q d (record { seats = c.in-Ok.seats.items; balance = c.owners-owners.result }) =
+    record { count = c.in-Ok.ensures.count; each = c.in-Ok.ensures.first; balance = c.owners-owners.ensures.value }
+    in
     subst (IsLawful q d) (sym c.new.ensures) (lawful q d _ (first_sound_state q d _ problem cut is) problem cut)
 
 pub invariant_of-result : goal.invariant_of-result

@@ -9,8 +9,13 @@ told : (c : After-as_slice) → TellTheSame c.args.growths.now c.as_slice.result
 told c = rw c.as_slice.ensures c.in_ok-gather.ensures
 
 pub follow_runs-requires-clause-held : goal.follow_runs-requires-clause-held
-follow_runs-requires-clause-held c = runs_held c.args.knowledge.now c.args.growths.now c.as_slice.result.now (told (goal.at.follow_runs-requires-clause-held c).After-as_slice) c.requires.regions c.requires.has
+follow_runs-requires-clause-held c =
+    runs_held c.args.knowledge.now c.args.growths.now c.as_slice.result.now
+    (told (goal.at.follow_runs-requires-clause-held c).After-as_slice) c.requires.regions c.requires.has
 
 pub follow_runs-requires-clause-following : goal.follow_runs-requires-clause-following
-follow_runs-requires-clause-following c = following_runs c.args.growths.now c.as_slice.result.now c.args.knowledge.now (following_of (map (λ row. row.items) c.self.inside.rows.items) c.self.inside.place)
-    (told (goal.at.follow_runs-requires-clause-following c).After-as_slice) (rw (← c.self.view_is) at c.requires.following)
+follow_runs-requires-clause-following c =
+    following_runs c.args.growths.now c.as_slice.result.now c.args.knowledge.now
+    (following_of (map (λ row. row.items) c.self.inside.rows.items) c.self.inside.place)
+    (told (goal.at.follow_runs-requires-clause-following c).After-as_slice)
+    (rw (← c.self.view_is) at c.requires.following)

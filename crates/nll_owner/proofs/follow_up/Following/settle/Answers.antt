@@ -8,21 +8,39 @@ use Rattle.nll_owner.proofs.follow_up.Following.settle.Goals as goal
 use Rattle.nll_owner.proofs.follow_up.Following.settle.Goals.{After-as_slice}
 
 pub loop-self-init : goal.loop-self-init
-loop-self-init c = record { grows = grows_none _ c.requires.sound; following = rw (← c.self.view_is) at c.requires.following }
+loop-self-init c =
+    record { grows = grows_none _ c.requires.sound; following = rw (← c.self.view_is) at c.requires.following }
 
-told : (c : After-as_slice) → TellTheSame (drop c.loop-self.self-inside.place c.loop-self.knowledge.log) c.as_slice.result.now
-told c = rw c.as_slice.ensures (rw (take_rest c.entries-in-loop-self.result.now c.loop-self.self-inside.place, c.entries-in-loop-self.ensures.log) at c.in_ok-gather.ensures)
+told : (c : After-as_slice) → TellTheSame
+    (drop c.loop-self.self-inside.place c.loop-self.knowledge.log) c.as_slice.result.now
+told c =
+    rw c.as_slice.ensures (rw (
+      take_rest c.entries-in-loop-self.result.now c.loop-self.self-inside.place,
+      c.entries-in-loop-self.ensures.log,
+    ) at c.in_ok-gather.ensures)
 
 pub follow_runs-requires-clause-held : goal.follow_runs-requires-clause-held
-follow_runs-requires-clause-held c = log_runs_held c.loop-self.knowledge c.loop-self.invariant.grows.sound c.loop-self.self-inside.place c.as_slice.result.now (told (goal.at.follow_runs-requires-clause-held c).After-as_slice)
+follow_runs-requires-clause-held c =
+    log_runs_held c.loop-self.knowledge c.loop-self.invariant.grows.sound c.loop-self.self-inside.place
+    c.as_slice.result.now (told (goal.at.follow_runs-requires-clause-held c).After-as_slice)
 
 pub follow_runs-requires-clause-following : goal.follow_runs-requires-clause-following
-follow_runs-requires-clause-following c = rw c.entries-end.ensures.log (following_log c.loop-self.knowledge (following_of (map (λ row. row.items) c.loop-self.self-inside.rows.items) c.loop-self.self-inside.place) c.as_slice.result.now
+follow_runs-requires-clause-following c =
+    rw c.entries-end.ensures.log (following_log c.loop-self.knowledge
+    (following_of (map (λ row. row.items) c.loop-self.self-inside.rows.items) c.loop-self.self-inside.place)
+    c.as_slice.result.now
     (told (goal.at.follow_runs-requires-clause-following c).After-as_slice) c.loop-self.invariant.following)
 
 pub returns-clause-followed : goal.returns-clause-followed
-returns-clause-followed c = (c.loop-self.invariant.following, omega (arith, c.loop-self.invariant.following.within, c.loop-self-test.false, ap length c.entries.ensures.log))
+returns-clause-followed c = (
+  c.loop-self.invariant.following,
+  omega
+      (arith, c.loop-self.invariant.following.within, c.loop-self-test.false, ap length c.entries.ensures.log),
+)
 
 pub returns-clause-closed : goal.returns-clause-closed
-returns-clause-closed c = followed_closed c.loop-self.knowledge (following_of (map (λ row. row.items) c.loop-self.self-inside.rows.items) c.loop-self.self-inside.place) c.loop-self.invariant.grows.sound c.loop-self.invariant.following
+returns-clause-closed c =
+    followed_closed c.loop-self.knowledge
+    (following_of (map (λ row. row.items) c.loop-self.self-inside.rows.items) c.loop-self.self-inside.place)
+    c.loop-self.invariant.grows.sound c.loop-self.invariant.following
     (omega (arith, c.loop-self.invariant.following.within, c.loop-self-test.false, ap length c.entries.ensures.log))

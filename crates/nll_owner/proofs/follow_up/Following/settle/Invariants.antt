@@ -7,7 +7,8 @@ use Rattle.nll_owner.proofs.follow_up.Following.settle.Given as goal
 abbrev pub invariant-loop-self : goal.invariant-loop-self
 invariant-loop-self l = record {
   grows : Grows l.fn.knowledge l.knowledge;
-  following : IsFollowing Nothing l.knowledge (following_of (map (λ row. row.items) l.self-inside.rows.items) l.self-inside.place);
+  following : IsFollowing Nothing l.knowledge
+      (following_of (map (λ row. row.items) l.self-inside.rows.items) l.self-inside.place);
 }
 
 abbrev pub decreases-loop-self : goal.decreases-loop-self

@@ -4,28 +4,41 @@ use Rattle.nll_owner.proofs.OwnerLemmas.{run_kept, run_grows, run_has, clock_low
 use Rattle.nll_owner.proofs.knowledge.Knowledge.grow_gap.Goals as goal
 use Rattle.nll_owner.proofs.knowledge.Knowledge.grow_gap.Goals.{After-push_growths}
 
-log_is : (c : After-push_growths) → c.push_growths.new.log.items ≡ c.self.inside.log.items ++ growths c.args.region c.args.gap.first c.self.inside.clock (c.args.gap.last - c.args.gap.first + 1)
-log_is c = c.push_growths.ensures ∙ ap (λ xs. xs ++ growths c.args.region c.args.gap.first c.self.inside.clock (c.args.gap.last - c.args.gap.first + 1)) c.reserve.ensures.items
+log_is : (c : After-push_growths) → c.push_growths.new.log.items
+    ≡ c.self.inside.log.items ++ growths c.args.region c.args.gap.first c.self.inside.clock
+    (c.args.gap.last - c.args.gap.first + 1)
+log_is c =
+    c.push_growths.ensures ∙ ap (λ xs. xs ++ growths c.args.region c.args.gap.first c.self.inside.clock
+    (c.args.gap.last - c.args.gap.first + 1)) c.reserve.ensures.items
 
 pub invariant_of-self-2 : goal.invariant_of-self-2
 invariant_of-self-2 c =
     let d = (goal.at.invariant_of-self-2 c).After-push_growths in
     rw (log_is d)
-    (run_kept _ _ _ c.insert_run.new.self c.self.invariant c.args.region c.args.slot (rw (← c.self.view_is) at c.requires.slot) c.args.gap (rw (← c.self.view_is) at c.requires.own) c.requires.proper (rw (← c.self.view_is) at c.requires.elements) (rw (← c.self.view_is) at c.requires.called) (rw (← c.self.view_is) at c.requires.lacks)
+    (run_kept _ _ _ c.insert_run.new.self c.self.invariant c.args.region c.args.slot
+    (rw (← c.self.view_is) at c.requires.slot) c.args.gap
+    (rw (← c.self.view_is) at c.requires.own) c.requires.proper (rw (← c.self.view_is) at c.requires.elements)
+    (rw (← c.self.view_is) at c.requires.called) (rw (← c.self.view_is) at c.requires.lacks)
     c.in_ok-insert_run.ensures.gains c.in_ok-insert_run.ensures.covers c.in_ok-insert_run.ensures.fewer)
 
 pub returns-clause-grows : goal.returns-clause-grows
 returns-clause-grows c =
     let d = (goal.at.returns-clause-grows c).After-push_growths in
     rw (← c.self.view_is, log_is d)
-    (run_grows _ _ _ c.insert_run.new.self c.self.invariant c.args.region c.args.slot (rw (← c.self.view_is) at c.requires.slot) c.args.gap (rw (← c.self.view_is) at c.requires.own) c.requires.proper (rw (← c.self.view_is) at c.requires.elements) (rw (← c.self.view_is) at c.requires.called) (rw (← c.self.view_is) at c.requires.lacks)
+    (run_grows _ _ _ c.insert_run.new.self c.self.invariant c.args.region c.args.slot
+    (rw (← c.self.view_is) at c.requires.slot) c.args.gap
+    (rw (← c.self.view_is) at c.requires.own) c.requires.proper (rw (← c.self.view_is) at c.requires.elements)
+    (rw (← c.self.view_is) at c.requires.called) (rw (← c.self.view_is) at c.requires.lacks)
     c.in_ok-insert_run.ensures.gains c.in_ok-insert_run.ensures.covers c.in_ok-insert_run.ensures.fewer)
 
 pub returns-clause-covers : goal.returns-clause-covers
 returns-clause-covers c =
     let d = (goal.at.returns-clause-covers c).After-push_growths in
     rw (log_is d)
-    (run_has _ _ _ c.insert_run.new.self c.self.invariant c.args.region c.args.slot (rw (← c.self.view_is) at c.requires.slot) c.args.gap (rw (← c.self.view_is) at c.requires.own) c.requires.proper (rw (← c.self.view_is) at c.requires.elements) (rw (← c.self.view_is) at c.requires.called) (rw (← c.self.view_is) at c.requires.lacks)
+    (run_has _ _ _ c.insert_run.new.self c.self.invariant c.args.region c.args.slot
+    (rw (← c.self.view_is) at c.requires.slot) c.args.gap
+    (rw (← c.self.view_is) at c.requires.own) c.requires.proper (rw (← c.self.view_is) at c.requires.elements)
+    (rw (← c.self.view_is) at c.requires.called) (rw (← c.self.view_is) at c.requires.lacks)
     c.in_ok-insert_run.ensures.gains c.in_ok-insert_run.ensures.covers c.in_ok-insert_run.ensures.fewer)
 
 pub overflow_add-count : goal.overflow_add-count
@@ -35,7 +48,13 @@ overflow_add-count c =
     omega (arith, elements, graph.point_limit, graph.universal_limit)
 
 pub push_growths-requires-clause-ranks : goal.push_growths-requires-clause-ranks
-push_growths-requires-clause-ranks c = (let low = clock_low _ c.self.invariant.sound in let elements = rw (← c.self.view_is) at c.requires.elements in let graph = c.self.invariant.sound.problem.graph in omega (arith, low, elements, graph.point_limit, graph.universal_limit))
+push_growths-requires-clause-ranks c =
+    (let low = clock_low _ c.self.invariant.sound in let elements = rw (← c.self.view_is) at c.requires.elements in
+    let graph = c.self.invariant.sound.problem.graph in
+    omega (arith, low, elements, graph.point_limit, graph.universal_limit))
 
 pub overflow_add-self : goal.overflow_add-self
-overflow_add-self c = (let low = clock_low _ c.self.invariant.sound in let elements = rw (← c.self.view_is) at c.requires.elements in let graph = c.self.invariant.sound.problem.graph in omega (arith, low, elements, graph.point_limit, graph.universal_limit))
+overflow_add-self c =
+    (let low = clock_low _ c.self.invariant.sound in let elements = rw (← c.self.view_is) at c.requires.elements in
+    let graph = c.self.invariant.sound.problem.graph in
+    omega (arith, low, elements, graph.point_limit, graph.universal_limit))

@@ -20,17 +20,25 @@ pub returns-clause-grows : goal.returns-clause-grows
 returns-clause-grows c = c.loop-run.invariant.grows
 
 pub grow_run-requires-clause-elements : goal.grow_run-requires-clause-elements
-grow_run-requires-clause-elements c = λ x own. element_still _ _ c.loop-run.invariant.grows x (c.requires.elements x (c.loop-run.run-index, c.loop-run-test.true, own.0, own.1))
+grow_run-requires-clause-elements c =
+    λ x own. element_still _ _ c.loop-run.invariant.grows x
+    (c.requires.elements x (c.loop-run.run-index, c.loop-run-test.true, own.0, own.1))
 
 pub grow_run-requires-clause-called : goal.grow_run-requires-clause-called
-grow_run-requires-clause-called c = λ x own. called_grows _ _ c.loop-run.invariant.grows _ _ (c.requires.called x (c.loop-run.run-index, c.loop-run-test.true, own.0, own.1))
+grow_run-requires-clause-called c =
+    λ x own. called_grows _ _ c.loop-run.invariant.grows _ _
+    (c.requires.called x (c.loop-run.run-index, c.loop-run-test.true, own.0, own.1))
 
 pub loop-run-preserved : goal.loop-run-preserved
 loop-run-preserved c = record {
   grows = grows_append _ _ _ c.loop-run.invariant.grows c.grow_run.ensures.grows;
   covers = λ k x lt low high. ⊎_elim
-      (λ here. c.in_ok-grow_run.ensures.covers x (omega (arith, low, ap (first_of c.args.found.now) here), omega (arith, high, ap (last_of c.args.found.now) here)))
-      (λ other. has_grows _ _ c.grow_run.ensures.grows _ _ (c.loop-run.invariant.covers k x (omega (arith, lt, other)) low high))
+      (λ here. c.in_ok-grow_run.ensures.covers x (
+        omega (arith, low, ap (first_of c.args.found.now) here),
+        omega (arith, high, ap (last_of c.args.found.now) here),
+      ))
+      (λ other. has_grows _ _ c.grow_run.ensures.grows _ _
+      (c.loop-run.invariant.covers k x (omega (arith, lt, other)) low high))
       (cases_eq k c.loop-run.run-index);
 }
 

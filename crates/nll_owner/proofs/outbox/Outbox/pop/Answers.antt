@@ -15,9 +15,11 @@ invariant_of-self c =
     let left = within (goal.at.invariant_of-self c).After-index in
     elim c.if-first-end.branch [
       | then-first-end w ↦ subst (λ (i : Inside). IsQueue i.ranges.items i.at (i.len - 1)) (sym w.self-inside-is)
-          (queue_shorter q.ranges.items q.at q.len c.self.invariant c.index.result.now left (sym c.index.ensures) w.if-first-end.true)
+          (queue_shorter q.ranges.items q.at q.len c.self.invariant c.index.result.now left
+          (sym c.index.ensures) w.if-first-end.true)
       | else-first-end w ↦ subst (λ (i : Inside). IsQueue i.ranges.items i.at (i.len - 1)) (sym w.self-inside-is)
-          (queue_next q.ranges.items q.at q.len c.self.invariant c.index.result.now left (sym c.index.ensures) w.if-first-end.false)
+          (queue_next q.ranges.items q.at q.len c.self.invariant c.index.result.now left
+          (sym c.index.ensures) w.if-first-end.false)
     ]
 
 pub returns : goal.returns
@@ -26,7 +28,9 @@ returns c =
     let left = within (goal.at.returns c).After-index in
     elim c.if-first-end.branch [
       | then-first-end w ↦ ap (λ (i : Inside). queued i.ranges.items i.at) w.self-inside-is
-          ∙ (queued_shorter q.ranges.items q.at q.len c.self.invariant c.index.result.now left (sym c.index.ensures) w.if-first-end.true ∙ ap (drop 1) c.self.view_is)
+          ∙ (queued_shorter q.ranges.items q.at q.len c.self.invariant c.index.result.now left
+          (sym c.index.ensures) w.if-first-end.true ∙ ap (drop 1) c.self.view_is)
       | else-first-end w ↦ ap (λ (i : Inside). queued i.ranges.items i.at) w.self-inside-is
-          ∙ (queued_next q.ranges.items q.at q.len c.self.invariant c.index.result.now left (sym c.index.ensures) w.if-first-end.false ∙ ap (drop 1) c.self.view_is)
+          ∙ (queued_next q.ranges.items q.at q.len c.self.invariant c.index.result.now left
+          (sym c.index.ensures) w.if-first-end.false ∙ ap (drop 1) c.self.view_is)
     ]

@@ -10,7 +10,9 @@ invariant-loop-reader l = record {
   end : l.places.end ≡ l.end;
   place : l.self-inside.place ≡ l.end;
   count : length l.self-inside.queues.items ≡ length l.fn.self.queues;
-  got : GotPlaces (λ j. is_read l.readers j l.region) (range_with_len l.fn.self.place (l.end - l.fn.self.place)) l.from l.fn.self (outboxes_of l.self-inside.queues.items l.self-inside.place);
+  got : GotPlaces (λ j. is_read l.readers j l.region)
+      (range_with_len l.fn.self.place (l.end - l.fn.self.place)) l.from l.fn.self
+      (outboxes_of l.self-inside.queues.items l.self-inside.place);
 }
 
 abbrev pub decreases-loop-reader : goal.decreases-loop-reader

@@ -8,16 +8,26 @@ use Rattle.nll_owner.proofs.owner.Owner.next_for.Goals as goal
 use Rattle.nll_owner.proofs.owner.Owner.next_for.Goals.{After-entries}
 
 all_queued : (c : After-entries) → AreAllQueued c.self.inside.knowledge c.self.inside.outboxes
-all_queued c = (c.self.invariant.2 (sym (ap (λ (o : Inside). o.knowledge.broken) c.self-inside.view_is) ∙ c.if-self.false)).1
+all_queued c =
+    (c.self.invariant.2 (sym (ap (λ (o : Inside). o.knowledge.broken) c.self-inside.view_is) ∙ c.if-self.false)).1
 
 first : (c : After-entries) → slice_get (queue_of c.self.inside.outboxes c.args.to) 0 ≡ Some c.in_ok-place.place
-first c = sym (c.first.ensures ∙ ap (λ (o : Inside). slice_get (queue_of o.outboxes c.args.to) 0) c.self-inside.view_is) ∙ c.in_ok-place.was
+first c = sym (c.first.ensures ∙ ap (λ (o : Inside). slice_get (queue_of o.outboxes c.args.to) 0) c.self-inside.view_is)
+    ∙ c.in_ok-place.was
 
 within : (c : After-entries) → c.in_ok-place.place < length c.entries.result.now
-within c = omega (arith, place_within c.self.inside.knowledge c.self.inside.outboxes (all_queued c) c.args.to c.in_ok-place.place (first c), ap length c.entries.ensures.log, ap (λ (o : Inside). length o.knowledge.log) c.self-inside.view_is)
+within c =
+    omega (
+      arith,
+      place_within c.self.inside.knowledge c.self.inside.outboxes
+          (all_queued c) c.args.to c.in_ok-place.place (first c),
+      ap length c.entries.ensures.log,
+      ap (λ (o : Inside). length o.knowledge.log) c.self-inside.view_is,
+    )
 
 pub offset_bounds-entries-place : goal.offset_bounds-entries-place
-offset_bounds-entries-place c = omega (arith, within (goal.at.offset_bounds-entries-place c).After-entries, c.entries.ensures.short)
+offset_bounds-entries-place c =
+    omega (arith, within (goal.at.offset_bounds-entries-place c).After-entries, c.entries.ensures.short)
 
 pub bounds-entries-place : goal.bounds-entries-place
 bounds-entries-place c = within (goal.at.bounds-entries-place c).After-entries

@@ -10,15 +10,21 @@ loop-growth-init c k g low is = absurd (omega (arith, low))
 pub loop-growth-preserved : goal.loop-growth-preserved
 loop-growth-preserved c k g low is = ⊎_elim
     (λ here.
-    let same : g ≡ c.growth-item.result = sym is ∙ (ap (λ i. get_or c.args.growths.now i g) here ∙ (get_or_default c.args.growths.now c.loop-growth.growth-index g c.growth-item.result c.loop-growth-test.true ∙ sym c.growth-item.is)) in
-    subst (Passes c.args.self.now.problem c.args.self.now.cut c.args.self.now.me c.args.from) (sym same) (c.passes.ensures.0 c.if-not-passes.false))
+    let same : g ≡ c.growth-item.result = sym is
+    ∙ (ap (λ i. get_or c.args.growths.now i g) here
+    ∙ (get_or_default c.args.growths.now c.loop-growth.growth-index g c.growth-item.result c.loop-growth-test.true
+    ∙ sym c.growth-item.is)) in
+    subst (Passes c.args.self.now.problem c.args.self.now.cut c.args.self.now.me c.args.from) (sym same)
+    (c.passes.ensures.0 c.if-not-passes.false))
     (λ other. c.loop-growth.invariant k g (omega (arith, low, other)) is)
     (cases_eq k c.loop-growth.growth-index)
 
 pub returns-then-not-passes : goal.returns-then-not-passes
 returns-then-not-passes c = (
   λ h. absurd (false≢true h),
-  λ all. absurd (false≢true (sym c.if-not-passes.true ∙ c.passes.ensures.1 (all c.growth-item.result (c.loop-growth.growth-index, c.loop-growth-test.true, sym c.growth-item.is)))),
+  λ all. absurd (false≢true (sym c.if-not-passes.true
+      ∙ c.passes.ensures.1 (all c.growth-item.result
+      (c.loop-growth.growth-index, c.loop-growth-test.true, sym c.growth-item.is)))),
 )
 
 pub returns : goal.returns

@@ -9,7 +9,8 @@ use Rattle.nll_problem.proofs.constraint_index.ConstraintIndex.of.Goals.{After-s
 ascend : (c : After-sort) → AllPairs IsReadEarlier c.sort.new.constraints.items
 ascend c =
     let copied = c.in_ok-constraints.ensures.items ∙ c.constraints.ensures.value in
-    constraints_ascend _ _ c.sort.ensures.permutation (subst IsOnce (sym copied) c.constraints.ensures.sound.constraints_once) c.sort.ensures.sorted
+    constraints_ascend _ _ c.sort.ensures.permutation
+    (subst IsOnce (sym copied) c.constraints.ensures.sound.constraints_once) c.sort.ensures.sorted
 
 same : (c : After-sort) → SameSet c.sort.new.constraints.items c.args.problem.now.constraints
 same c =
@@ -24,7 +25,13 @@ starts_of-requires-clause-ascending c =
 pub starts_of-requires-clause-few : goal.starts_of-requires-clause-few
 starts_of-requires-clause-few c =
     let copied = c.in_ok-constraints.ensures.items ∙ c.constraints.ensures.value in
-    omega (arith, ap length c.as_slice.ensures.value, length_permutation _ _ c.sort.ensures.permutation, ap length copied, c.constraints.ensures.sound.constraint_limit)
+    omega (
+      arith,
+      ap length c.as_slice.ensures.value,
+      length_permutation _ _ c.sort.ensures.permutation,
+      ap length copied,
+      c.constraints.ensures.sound.constraint_limit,
+    )
 
 pub invariant_of-result : goal.invariant_of-result
 invariant_of-result c =
@@ -32,8 +39,14 @@ invariant_of-result c =
     let starts = c.in_ok-starts.ensures in (
       ascend d,
       record {
-        all = λ x h. omega (arith, (c.regions.ensures.sound.constraint_regions x ((same d x).0 h)).1, starts.len, c.regions.ensures.value);
-        each = λ sub h. subst (λ xs. IsStart xs sub (get_or c.in_ok-starts.starts.items sub 0)) c.as_slice.ensures.value (starts.each sub (omega (arith, h, starts.len)));
+        all = λ x h. omega (
+          arith,
+          (c.regions.ensures.sound.constraint_regions x ((same d x).0 h)).1,
+          starts.len,
+          c.regions.ensures.value,
+        );
+        each = λ sub h. subst (λ xs. IsStart xs sub (get_or c.in_ok-starts.starts.items sub 0)) c.as_slice.ensures.value
+            (starts.each sub (omega (arith, h, starts.len)));
       },
     )
 

@@ -17,19 +17,23 @@ returns-in-Memory-clause-cut g c =
 
 pub returns-in-CannotWrite-clause-all : goal.returns-in-CannotWrite-clause-all
 returns-in-CannotWrite-clause-all g c =
-    put_as c.put_pieces-in-CannotWrite.result _ _ _ _ (ap refusal_line c.in-CannotWrite.is) c.put_pieces-in-CannotWrite.ensures.all
+    put_as c.put_pieces-in-CannotWrite.result _ _ _ _
+    (ap refusal_line c.in-CannotWrite.is) c.put_pieces-in-CannotWrite.ensures.all
 
 pub returns-in-CannotWrite-clause-cut : goal.returns-in-CannotWrite-clause-cut
 returns-in-CannotWrite-clause-cut g c =
-    cut_as c.put_pieces-in-CannotWrite.result _ _ _ _ _ (ap refusal_line c.in-CannotWrite.is) c.put_pieces-in-CannotWrite.ensures.cut
+    cut_as c.put_pieces-in-CannotWrite.result _ _ _ _ _
+    (ap refusal_line c.in-CannotWrite.is) c.put_pieces-in-CannotWrite.ensures.cut
 
 pub returns-in-CutLength-clause-all : goal.returns-in-CutLength-clause-all
 returns-in-CutLength-clause-all g c =
-    put_as c.put_pieces-in-CutLength.result _ _ _ _ (ap refusal_line c.in-CutLength.is) c.put_pieces-in-CutLength.ensures.all
+    put_as c.put_pieces-in-CutLength.result _ _ _ _
+    (ap refusal_line c.in-CutLength.is) c.put_pieces-in-CutLength.ensures.all
 
 pub returns-in-CutLength-clause-cut : goal.returns-in-CutLength-clause-cut
 returns-in-CutLength-clause-cut g c =
-    cut_as c.put_pieces-in-CutLength.result _ _ _ _ _ (ap refusal_line c.in-CutLength.is) c.put_pieces-in-CutLength.ensures.cut
+    cut_as c.put_pieces-in-CutLength.result _ _ _ _ _
+    (ap refusal_line c.in-CutLength.is) c.put_pieces-in-CutLength.ensures.cut
 
 pub returns-in-Thread-clause-all : goal.returns-in-Thread-clause-all
 returns-in-Thread-clause-all g c =

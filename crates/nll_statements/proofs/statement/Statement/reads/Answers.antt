@@ -12,7 +12,9 @@ returns-in-Call g c =
     let inside = c.deref-in-Call.ensures in
     let arguments : c.as_slice-in-Call.result.now ≡ c.in-Call.call.value.arguments.items = cc in
     rw c.in-Call.is (on_ok_weaker c.push_arguments.result (λ told. told
-    ∙ ap (λ ops. c.args.used.now.items ++ map (λ p. p.variable) (flat_map place_in ops)) (ap (map (λ a. operand_of a.0)) arguments ∙ operands_same c.in-Call.call.value.arguments.items)) c.push_arguments.ensures)
+    ∙ ap (λ ops. c.args.used.now.items ++ map (λ p. p.variable) (flat_map place_in ops))
+    (ap (map (λ a. operand_of a.0)) arguments ∙ operands_same c.in-Call.call.value.arguments.items))
+    c.push_arguments.ensures)
 
 pub returns-in-Return : goal.returns-in-Return
 returns-in-Return g c = rw c.in-Return.is (search rules)

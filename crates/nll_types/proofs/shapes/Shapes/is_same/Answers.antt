@@ -5,7 +5,8 @@ use Rattle.nll_types.specs.declared.node.Node.{Node}
 use Rattle.nll_types.specs.Table.{shape_in, HasOneNumber}
 use Rattle.nll_types.proofs.shapes.Shapes.is_same.Goals as goal
 
-same : (ns : List Node) → HasOneNumber ns → (a b : ℕ) → a < length ns → b < length ns → IsTrue (a == b) ↔ (shape_in ns a ≡ shape_in ns b)
+same : (ns : List Node) → HasOneNumber ns → (a b : ℕ) → a < length ns → b < length ns
+    → IsTrue (a == b) ↔ (shape_in ns a ≡ shape_in ns b)
 same ns one a b p q = (λ h. ap (shape_in ns) (eqb-true a b h), λ h. eq-eqb a b (one a b p q h))
 
 pub returns : goal.returns

@@ -14,6 +14,10 @@ returns-then-number-len c =
     let fields = c.index.result.now.declaration.fields in
     let within : c.args.number < length entries = omega arith in
     let item = slice_get_read entries _ c.args.number c.index.result.now refl within c.index.ensures in
-    let there = slice_get-map (λ entry. entry.declaration) entries c.args.number ∙ ap (option_map (λ entry. entry.declaration)) item in
-    let is = get_mapped declared (map (λ entry. entry.declaration) entries) c.args.number c.index.result.now.declaration no_struct there in
-    rw (← c.self.view_is) (c.len-then-number-len.ensures ∙ fields.ok.0 ∙ sym (count_trees fields.items) ∙ sym (ap (λ (z : Struct). type_count z.fields) is))
+    let there = slice_get-map (λ entry. entry.declaration) entries c.args.number
+    ∙ ap (option_map (λ entry. entry.declaration)) item in
+    let is =
+    get_mapped declared (map (λ entry. entry.declaration) entries) c.args.number c.index.result.now.declaration
+    no_struct there in
+    rw (← c.self.view_is) (c.len-then-number-len.ensures ∙ fields.ok.0 ∙ sym (count_trees fields.items)
+    ∙ sym (ap (λ (z : Struct). type_count z.fields) is))

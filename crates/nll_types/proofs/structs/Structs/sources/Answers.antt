@@ -10,6 +10,8 @@ returns-then-number-len c =
     let entries = c.self.inside.entries.items in
     let within : c.args.number < length entries = omega arith in
     let item = slice_get_read entries _ c.args.number c.index.result.now refl within c.index.ensures in
-    let n : c.args.number < length (map (λ entry. entry.declaration) entries) = omega (arith, length-map entries (λ entry. entry.declaration)) in
+    let n : c.args.number < length (map (λ entry. entry.declaration) entries) =
+    omega (arith, length-map entries (λ entry. entry.declaration)) in
     let k = c.self.invariant.known c.args.number n in
-    rw (← c.self.view_is) (subst (AreSourcesOf _ c.args.number) (get_mapped (λ entry. entry.sources.keys) entries c.args.number c.index.result.now [] item) k)
+    rw (← c.self.view_is) (subst (AreSourcesOf _ c.args.number)
+    (get_mapped (λ entry. entry.sources.keys) entries c.args.number c.index.result.now [] item) k)

@@ -10,4 +10,5 @@ returns-in-Tuple c =
     let parts = c.in-Tuple.parts in
     let at' = rw c.shapes.ensures at c.node.ensures.at in
     λ t e.
-    ap Some (c.len.ensures ∙ parts.ok.0) ∙ count_tuple (structs_of c.args.self.now.structs) known parts t (e ∙ at' ∙ ap (shape_over known) c.in-Tuple.is)
+    ap Some (c.len.ensures ∙ parts.ok.0)
+    ∙ count_tuple (structs_of c.args.self.now.structs) known parts t (e ∙ at' ∙ ap (shape_over known) c.in-Tuple.is)

@@ -8,19 +8,22 @@ pub returns-in-None-clause-at : goal.returns-in-None-clause-at
 returns-in-None-clause-at c = λ t e.
     let on = c.loop-projection.invariant in
     let ends = rw (c.in-None.is, on.0) at c.in_ok-next.ensures.at in
-    way_ends _ _ _ c.args.projections.now c.loop-projection.projection-index c.args.from c.loop-projection.number _ c.loop-projection.small t
+    way_ends _ _ _ c.args.projections.now c.loop-projection.projection-index c.args.from c.loop-projection.number _
+    c.loop-projection.small t
     c.loop-projection-test.true on.1 ends e
 
 pub returns-clause-at : goal.returns-clause-at
 returns-clause-at c = λ t e.
     let past : length c.args.projections.now ≤ c.loop-projection.projection-index = omega arith in
-    way_at _ _ _ c.args.projections.now c.loop-projection.projection-index c.args.from c.loop-projection.number c.loop-projection.small t past c.loop-projection.invariant.1 e
+    way_at _ _ _ c.args.projections.now c.loop-projection.projection-index c.args.from c.loop-projection.number
+    c.loop-projection.small t past c.loop-projection.invariant.1 e
 
 pub returns-clause-small : goal.returns-clause-small
 returns-clause-small c = λ t e.
     let past : length c.args.projections.now ≤ c.loop-projection.projection-index = omega arith in
     let told = rw c.shapes-2.ensures at c.is_small-here-2.ensures in
-    rw told (way_small _ _ _ c.args.projections.now c.loop-projection.projection-index c.args.from c.loop-projection.number c.loop-projection.small t past c.loop-projection.invariant.1 e)
+    rw told (way_small _ _ _ c.args.projections.now c.loop-projection.projection-index c.args.from
+    c.loop-projection.number c.loop-projection.small t past c.loop-projection.invariant.1 e)
 
 pub returns-in_err-next-clause-within : goal.returns-in_err-next-clause-within
 returns-in_err-next-clause-within c = failed c.from_residual.result _ _ c.from_residual.ensures.1
@@ -69,7 +72,8 @@ loop-projection-preserved c =
     let within = rw c.in-Some.is at c.in_ok-next.ensures.within in (
       c.behind.ensures.structs ∙ on.0,
       rw here
-          (way_on _ _ _ _ c.args.projections.now c.loop-projection.projection-index c.args.from c.loop-projection.number c.in-Some.next _ c.loop-projection.small
+          (way_on _ _ _ _ c.args.projections.now c.loop-projection.projection-index c.args.from c.loop-projection.number
+          c.in-Some.next _ c.loop-projection.small
           c.loop-projection-test.true on.1 c.behind.ensures.extends within next),
     )
 

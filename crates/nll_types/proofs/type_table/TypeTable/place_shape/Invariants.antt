@@ -5,4 +5,5 @@ use Rattle.nll_types.proofs.type_table.TypeTable.place_shape.Given as goal
 
 abbrev pub invariant-loop-projection : goal.invariant-loop-projection
 invariant-loop-projection l = (l.self.structs ≡ l.fn.self.structs)
-    × IsOnWay (structs_of l.fn.self.structs) l.fn.self.shapes l.self.shapes l.projections l.projection-index l.from l.number l.small
+    × IsOnWay (structs_of l.fn.self.structs) l.fn.self.shapes l.self.shapes l.projections l.projection-index l.from
+    l.number l.small

@@ -7,7 +7,8 @@ abbrev pub invariant-loop-sender : goal.invariant-loop-sender
 invariant-loop-sender g l =
     let m = g.M.Mail in
     (vec_len l.closed + deque_len l.senders ≤ vec_capacity l.closed)
-    × ((more : List _) → Alike (Shuts m) l.senders.items more → Alike (Shuts m) l.initial.senders.items (l.closed.items ++ more))
+    × ((more : List _) → Alike (Shuts m) l.senders.items more
+    → Alike (Shuts m) l.initial.senders.items (l.closed.items ++ more))
 
 abbrev pub decreases-loop-sender : goal.decreases-loop-sender
 decreases-loop-sender g l = deque_len l.senders
