@@ -1,5 +1,5 @@
 use Rattle.std.proofs.Common.{ap, refl, inl, inr, ⊎_elim}
-use Rattle.std.proofs.lemmas.Result.{err_from_is_err_and, on_ok_weaker, IfErr-weaker}
+use Rattle.std.proofs.lemmas.Result.{on_ok_weaker, IfErr-weaker}
 use Rattle.nll_text.specs.Tokens.{views}
 use Rattle.nll_format.specs.Text.{skipped, of_form, not_utf8, no_form, at_form}
 use Rattle.nll_format.specs.Reading.{skips, reads}
