@@ -159,13 +159,14 @@ once_behind xs x absent once =
     all_pairs_push (λ y z. y ≢ z) xs x once (λ k d h is. absent (k, h, get_or_default xs k x d h ∙ is))
 
 -- Lists of which one, p's, gets q.
-module _ (lists : List (List ℕ)) (p q : ℕ) (within : p < length lists) where
+module _ {X : Type 0} (lists : List (List X)) (p : ℕ) (q : X) (within : p < length lists) where
   pub row_same : row_at (with_item lists p q) p ≡ row_at lists p ++ q ∷ []
   row_same = get_or-set_same lists p (row_at lists p ++ q ∷ []) [] within
 
   pub row_other : (a : ℕ) → a ≢ p → row_at (with_item lists p q) a ≡ row_at lists a
   row_other a other = get_or-set_other lists p a (row_at lists p ++ q ∷ []) [] other
 
+module _ (lists : List (List ℕ)) (p q : ℕ) (within : p < length lists) where
   -- they have what they had, and q in p's
   pub grown_has : (a b : ℕ) → Contains (row_at (with_item lists p q) a) b
       ↔ (Contains (row_at lists a) b ⊎ ((p ≡ a) × (q ≡ b)))
@@ -175,17 +176,17 @@ module _ (lists : List (List ℕ)) (p q : ℕ) (within : p < length lists) where
         (λ old. inl (subst (λ c. Contains (row_at lists c) b) (sym same) old))
         (λ is. inr (sym same, is))
         (Contains-push_cases (row_at lists p) q b
-        (subst (λ xs. Contains xs b) (ap (row_at (with_item lists p q)) same ∙ row_same) h)))
-        (λ other. inl (subst (λ xs. Contains xs b) (row_other a other) h))
+        (subst (λ xs. Contains xs b) (ap (row_at (with_item lists p q)) same ∙ row_same lists p q within) h)))
+        (λ other. inl (subst (λ xs. Contains xs b) (row_other lists p q within a other) h))
         (cases_eq a p),
     ⊎_elim
         (λ old. ⊎_elim
-        (λ same. subst (λ xs. Contains xs b) (sym (ap (row_at (with_item lists p q)) same ∙ row_same))
+        (λ same. subst (λ xs. Contains xs b) (sym (ap (row_at (with_item lists p q)) same ∙ row_same lists p q within))
         (Contains-append_left (row_at lists p) (q ∷ []) b (subst (λ c. Contains (row_at lists c) b) same old)))
-        (λ other. subst (λ xs. Contains xs b) (sym (row_other a other)) old)
+        (λ other. subst (λ xs. Contains xs b) (sym (row_other lists p q within a other)) old)
         (cases_eq a p))
         (λ is. subst (λ c. Contains (row_at (with_item lists p q) c) b) is.0
-        (subst (λ xs. Contains xs b) (sym row_same)
+        (subst (λ xs. Contains xs b) (sym (row_same lists p q within))
         (subst (Contains (row_at lists p ++ q ∷ [])) is.1 (Contains-push (row_at lists p) q)))),
   )
 
@@ -194,9 +195,9 @@ module _ (lists : List (List ℕ)) (p q : ℕ) (within : p < length lists) where
     lists_grown points l = record {
       listed = length-set lists p (row_at lists p ++ q ∷ []) ∙ l.listed;
       once = λ a. ⊎_elim
-          (λ same. subst (λ xs. AllPairs (λ r s. r ≢ s) xs) (sym (ap (row_at (with_item lists p q)) same ∙ row_same))
+          (λ same. subst (λ xs. AllPairs (λ r s. r ≢ s) xs) (sym (ap (row_at (with_item lists p q)) same ∙ row_same lists p q within))
           (once_behind (row_at lists p) q absent (l.once p)))
-          (λ other. subst (λ xs. AllPairs (λ r s. r ≢ s) xs) (sym (row_other a other)) (l.once a))
+          (λ other. subst (λ xs. AllPairs (λ r s. r ≢ s) xs) (sym (row_other lists p q within a other)) (l.once a))
           (cases_eq a p);
     }
 
@@ -298,7 +299,7 @@ edges_none : (k n : ℕ) → edges_from k (replicate n []) ≡ []
 edges_none k zero = refl
 edges_none k (suc n) = edges_none (k + 1) n
 
-pub row_none : (n p : ℕ) → row_at (replicate n []) p ≡ []
+pub row_none : {X : Type 0} (n p : ℕ) → row_at {X = X} (replicate n []) p ≡ []
 row_none n p = ⊎_elim
     (λ within. get_or-replicate n p [] [] within)
     (λ past. get_or_past (replicate n []) p [] (subst (λ k. k ≤ p) (sym (length-replicate n [])) past))

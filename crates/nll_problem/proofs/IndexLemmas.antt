@@ -5,14 +5,14 @@ use Rattle.std.specs.Ordering.{MatchOrdering, ordering_reverse, ordering_then}
 use Rattle.std.specs.List.Sorted.{IsNonDecreasingBy, IsPartitionPoint, IsPermutation}
 use Rattle.std.specs.Cmp.{IsTotalOrder, then_total, on_total, nat_cmp_total, ranks}
 use Rattle.std.proofs.lemmas.Bool.{cases_lt}
-use Rattle.std.proofs.lemmas.List.Sorted.{Contains-permutation, IsPermutation-sym, IsNonDecreasingBy-take, IsNonDecreasingBy-drop}
+use Rattle.std.proofs.lemmas.List.Sorted.{IsNonDecreasingBy-take, IsNonDecreasingBy-drop}
 use Rattle.std.specs.Bool.{Decides}
 use Rattle.std.proofs.lemmas.Map.Keys.{IsDistinct-IsPermutation}
 use Rattle.std.proofs.lemmas.Map.Made.{AllPairs-from_IsDistinct, IsDistinct-from_AllPairs}
 use Rattle.nll_problem.specs.At.{at_cmp, at_rank}
 use Rattle.nll_problem.specs.Building.{same_constraint}
 use Rattle.nll_problem.proofs.FactLemmas.{constraint_is, constraint_same, exact_equivalence}
-use Rattle.nll_problem.specs.Problem.{IsOnce, SameSet}
+use Rattle.nll_problem.specs.Problem.{IsOnce}
 use Rattle.nll_problem.specs.ConstraintIndex.{AreStarts, IsLower, IsReadEarlier, IsStart, constraint_cmp}
 use Rattle.nll_problem.specs.declared.at.At.{At}
 use Rattle.nll_problem.specs.declared.at.At.TheVariants.{All, Point}
@@ -99,11 +99,6 @@ pub constraints_ascend : (xs ys : List Constraint) → IsPermutation xs ys → I
 constraints_ascend xs ys moved once sorted =
     sorted_once_ascends constraint_cmp IsReadEarlier constraint_ranks constraint_total ys sorted
     (once_moved xs ys moved once)
-
--- the same constraints in another order
-pub constraints_same : (xs ys : List Constraint) → IsPermutation xs ys → SameSet ys xs
-constraints_same xs ys moved c =
-    (Contains-permutation ys xs c (IsPermutation-sym xs ys moved), Contains-permutation xs ys c moved)
 
 -- ---- the part of one key
 

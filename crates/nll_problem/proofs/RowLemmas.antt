@@ -8,7 +8,7 @@ use Rattle.nll_problem.specs.Rows.{IsFlat, row_of, rows_of, row_at, item_count, 
 
 -- ---- flat rows
 
-module _ (starts items : List ℕ) where
+module _ {X : Type 0} (starts : List ℕ) (items : List X) where
   pub rows_length : length (rows_of starts items) ≡ length starts - 1
   rows_length = length-map-range_with_len (row_of starts items) 0 (length starts - 1)
 
@@ -52,13 +52,13 @@ module _ (starts items : List ℕ) where
 -- ---- counts
 
 -- more items behind those of a row
-pub counted_added : (rows : List (List ℕ)) (i : ℕ) (list : List ℕ) → i < length rows
+pub counted_added : {X : Type 0} (rows : List (List X)) (i : ℕ) (list : List X) → i < length rows
     → item_count (set rows i (row_at rows i ++ list)) ≡ item_count rows + length list
 counted_added rows i list h =
     omega (arith, sum_by-set length rows i (row_at rows i ++ list) [] h, length-append (row_at rows i) list)
 
 -- one more item
-pub counted_more : (rows : List (List ℕ)) (i x : ℕ) → i < length rows
+pub counted_more : {X : Type 0} (rows : List (List X)) (i : ℕ) (x : X) → i < length rows
     → item_count (with_item rows i x) ≡ item_count rows + 1
 counted_more rows i x h = counted_added rows i (x ∷ []) h
 
