@@ -45,8 +45,8 @@ deal-requires-clause-room c = ap length c.in_ok-constraints.ensures.items
 
 pub deal-requires-clause-named : goal.deal-requires-clause-named
 deal-requires-clause-named c =
-    let d = (goal.at.deal-requires-clause-named c).In_ok-starts in
-    λ x h. omega (arith, named d.After-regions x h, size d)
+    let d = goal.at.deal-requires-clause-named c in
+    λ x h. omega (arith, named d.After-regions x h, size d.In_ok-starts)
 
 pub deal-requires-clause-few : goal.deal-requires-clause-few
 deal-requires-clause-few c = few (goal.at.deal-requires-clause-few c).After-regions
@@ -54,10 +54,11 @@ deal-requires-clause-few c = few (goal.at.deal-requires-clause-few c).After-regi
 pub sort_rows-requires : goal.sort_rows-requires
 sort_rows-requires c = rw c.as_slice.ensures.value c.deal.ensures.flat
 
-rows : (c : After-sort_rows) → rows_of c.deal.new.starts.items c.deal.new.dealt.items
+rows : (c : After-sort_rows) → length c.in_ok-starts.starts.items ≡ c.regions.result + 1
+    → rows_of c.deal.new.starts.items c.deal.new.dealt.items
     ≡ rows_reading c.args.problem.now.constraints c.regions.result
-rows c =
-    let back : length c.in_ok-starts.starts.items - 1 ≡ c.regions.result = omega (arith, size c.In_ok-starts) in
+rows c starts =
+    let back : length c.in_ok-starts.starts.items - 1 ≡ c.regions.result = omega (arith, starts) in
     c.deal.ensures.rows
     ∙ (ap (rows_reading c.constraints-listed.result.now) back
     ∙ ap (λ xs. rows_reading xs c.regions.result) c.constraints-listed.ensures.value)
@@ -71,23 +72,24 @@ all_named : (c : After-sort_rows) → (x : Constraint) → Contains c.args.probl
 all_named c x h =
     omega (arith, (c.constraints-listed.ensures.sound.constraint_regions x h).1, c.regions.ensures.value)
 
-all_starts : (c : After-sort_rows) → length c.deal.new.starts.items ≡ c.regions.result + 1
-all_starts c = c.deal.ensures.len ∙ size c.In_ok-starts
-
 pub invariant_of-result : goal.invariant_of-result
 invariant_of-result c =
-    let d = (goal.at.invariant_of-result c).After-sort_rows in (
+    let all = goal.at.invariant_of-result c in
+    let d = all.After-sort_rows in
+    let starts = size all.In_ok-starts in (
       index_ascends c.args.problem.now.constraints c.deal.new.dealt.items c.sort_rows.new.constraints.items
-          c.deal.new.starts.items c.regions.result c.deal.ensures.flat (all_starts d) (rows d) (sorted d) (all_named d)
+          c.deal.new.starts.items c.regions.result c.deal.ensures.flat (c.deal.ensures.len ∙ starts) (rows d starts) (sorted d) (all_named d)
           c.constraints-listed.ensures.sound.constraints_once,
       index_starts c.args.problem.now.constraints c.deal.new.dealt.items c.sort_rows.new.constraints.items
-          c.deal.new.starts.items c.regions.result c.deal.ensures.flat (all_starts d) (rows d) (sorted d) (all_named d)
+          c.deal.new.starts.items c.regions.result c.deal.ensures.flat (c.deal.ensures.len ∙ starts) (rows d starts) (sorted d) (all_named d)
           c.constraints-listed.ensures.sound.constraints_once,
     )
 
 pub returns : goal.returns
 returns c =
-    let d = (goal.at.returns c).After-sort_rows in
+    let all = goal.at.returns c in
+    let d = all.After-sort_rows in
+    let starts = size all.In_ok-starts in
     index_same c.args.problem.now.constraints c.deal.new.dealt.items c.sort_rows.new.constraints.items
-    c.deal.new.starts.items c.regions.result c.deal.ensures.flat (all_starts d) (rows d) (sorted d) (all_named d)
+    c.deal.new.starts.items c.regions.result c.deal.ensures.flat (c.deal.ensures.len ∙ starts) (rows d starts) (sorted d) (all_named d)
     c.constraints-listed.ensures.sound.constraints_once
