@@ -315,7 +315,7 @@ graph_none points universals next is =
 pub lists_none : (points : ℕ) → AreLists points (replicate points [])
 lists_none points = record {
   listed = length-replicate points [];
-  once = λ p i j d i<j j<n. absurd (omega (arith, ap length (row_none points p)));
+  once = λ p i j d i<j j<n. absurd (omega (arith, ap length (row_none {X = ℕ} points p)));
 }
 
 -- lists without points turn into such lists

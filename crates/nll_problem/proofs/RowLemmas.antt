@@ -63,9 +63,9 @@ pub counted_more : {X : Type 0} (rows : List (List X)) (i : ℕ) (x : X) → i <
 counted_more rows i x h = counted_added rows i (x ∷ []) h
 
 -- no items
-pub counted_none : (n : ℕ) → item_count (replicate n []) ≡ 0
+pub counted_none : {X : Type 0} (n : ℕ) → item_count {X = X} (replicate n []) ≡ 0
 counted_none zero = refl
-counted_none (suc n) = omega (arith, sum_by-cons (length {A = ℕ}) [] (replicate n []), counted_none n)
+counted_none {X} (suc n) = omega (arith, sum_by-cons (length {A = X}) [] (replicate n []), counted_none {X = X} n)
 
 -- a row that gets a list gets its items one by one
 pub added_more : (rows : List (List ℕ)) (i : ℕ) (list : List ℕ) (k : ℕ) → i < length rows → k < length list
