@@ -52,7 +52,7 @@ pub deal-requires-clause-few : goal.deal-requires-clause-few
 deal-requires-clause-few c = few (goal.at.deal-requires-clause-few c).After-regions
 
 pub sort_rows-requires : goal.sort_rows-requires
-sort_rows-requires c = rw c.as_slice.ensures.value c.deal.ensures.flat
+sort_rows-requires c = record { flat = rw c.as_slice.ensures.value c.deal.ensures.flat; }
 
 rows : (c : After-sort_rows) → length c.in_ok-starts.starts.items ≡ c.regions.result + 1
     → rows_of c.deal.new.starts.items c.deal.new.dealt.items
