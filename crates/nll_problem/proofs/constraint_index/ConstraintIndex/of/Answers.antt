@@ -52,7 +52,7 @@ pub deal-requires-clause-few : goal.deal-requires-clause-few
 deal-requires-clause-few c = few (goal.at.deal-requires-clause-few c).After-regions
 
 pub sort_rows-requires : goal.sort_rows-requires
-sort_rows-requires c = record { flat = rw c.as_slice.ensures.value c.deal.ensures.flat; }
+sort_rows-requires c = record { flat = rw c.as_slice.ensures.value c.deal.ensures.flat }
 
 rows : (c : After-sort_rows) → length c.in_ok-starts.starts.items ≡ c.regions.result + 1
     → rows_of c.deal.new.starts.items c.deal.new.dealt.items
@@ -78,11 +78,11 @@ invariant_of-result c =
     let d = all.After-sort_rows in
     let starts = size all.In_ok-starts in (
       index_ascends c.args.problem.now.constraints c.deal.new.dealt.items c.sort_rows.new.constraints.items
-          c.deal.new.starts.items c.regions.result c.deal.ensures.flat (c.deal.ensures.len ∙ starts) (rows d starts) (sorted d) (all_named d)
-          c.constraints-listed.ensures.sound.constraints_once,
+          c.deal.new.starts.items c.regions.result c.deal.ensures.flat (c.deal.ensures.len ∙ starts) (rows d starts) (sorted d)
+          (all_named d) c.constraints-listed.ensures.sound.constraints_once,
       index_starts c.args.problem.now.constraints c.deal.new.dealt.items c.sort_rows.new.constraints.items
-          c.deal.new.starts.items c.regions.result c.deal.ensures.flat (c.deal.ensures.len ∙ starts) (rows d starts) (sorted d) (all_named d)
-          c.constraints-listed.ensures.sound.constraints_once,
+          c.deal.new.starts.items c.regions.result c.deal.ensures.flat (c.deal.ensures.len ∙ starts) (rows d starts) (sorted d)
+          (all_named d) c.constraints-listed.ensures.sound.constraints_once,
     )
 
 pub returns : goal.returns
@@ -91,5 +91,5 @@ returns c =
     let d = all.After-sort_rows in
     let starts = size all.In_ok-starts in
     index_same c.args.problem.now.constraints c.deal.new.dealt.items c.sort_rows.new.constraints.items
-    c.deal.new.starts.items c.regions.result c.deal.ensures.flat (c.deal.ensures.len ∙ starts) (rows d starts) (sorted d) (all_named d)
-    c.constraints-listed.ensures.sound.constraints_once
+    c.deal.new.starts.items c.regions.result c.deal.ensures.flat (c.deal.ensures.len ∙ starts) (rows d starts) (sorted d)
+    (all_named d) c.constraints-listed.ensures.sound.constraints_once
