@@ -78,11 +78,11 @@ invariant_of-result c =
     let d = all.After-sort_rows in
     let starts = size all.In_ok-starts in (
       index_ascends c.args.problem.now.constraints c.deal.new.dealt.items c.sort_rows.new.constraints.items
-          c.deal.new.starts.items c.regions.result c.deal.ensures.flat (c.deal.ensures.len ∙ starts) (rows d starts) (sorted d)
-          (all_named d) c.constraints-listed.ensures.sound.constraints_once,
+          c.deal.new.starts.items c.regions.result c.deal.ensures.flat (c.deal.ensures.len ∙ starts) (rows d starts)
+          (sorted d) (all_named d) c.constraints-listed.ensures.sound.constraints_once,
       index_starts c.args.problem.now.constraints c.deal.new.dealt.items c.sort_rows.new.constraints.items
-          c.deal.new.starts.items c.regions.result c.deal.ensures.flat (c.deal.ensures.len ∙ starts) (rows d starts) (sorted d)
-          (all_named d) c.constraints-listed.ensures.sound.constraints_once,
+          c.deal.new.starts.items c.regions.result c.deal.ensures.flat (c.deal.ensures.len ∙ starts) (rows d starts)
+          (sorted d) (all_named d) c.constraints-listed.ensures.sound.constraints_once,
     )
 
 pub returns : goal.returns
@@ -91,5 +91,5 @@ returns c =
     let d = all.After-sort_rows in
     let starts = size all.In_ok-starts in
     index_same c.args.problem.now.constraints c.deal.new.dealt.items c.sort_rows.new.constraints.items
-    c.deal.new.starts.items c.regions.result c.deal.ensures.flat (c.deal.ensures.len ∙ starts) (rows d starts) (sorted d)
-    (all_named d) c.constraints-listed.ensures.sound.constraints_once
+    c.deal.new.starts.items c.regions.result c.deal.ensures.flat (c.deal.ensures.len ∙ starts) (rows d starts)
+    (sorted d) (all_named d) c.constraints-listed.ensures.sound.constraints_once
