@@ -1,7 +1,6 @@
 //! Why a run is refused.
 
-use nll_sets::Memory;
-use std::alloc::{AllocError, AllocFailed};
+use nll_sets::OutOfMemory;
 use thiserror::Error;
 
 /// Why a run is refused. Where there are several reasons, a start that failed is told.
@@ -15,35 +14,13 @@ pub enum RunError {
     Memory,
 }
 
-impl From<AllocError> for RunError {
+impl<E: OutOfMemory> From<E> for RunError {
     ghost use Rattle.std.specs.Prelude.{◌≡◌};
     ghost use Rattle.nll_run.specs.declared.error.RunError.TheVariants.{Memory as memory};
 
     ghost from_gives = { λ _ error. error ≡ memory };
 
-    fn from(_: AllocError) -> RunError {
-        RunError::Memory
-    }
-}
-
-impl From<Memory> for RunError {
-    ghost use Rattle.std.specs.Prelude.{◌≡◌};
-    ghost use Rattle.nll_run.specs.declared.error.RunError.TheVariants.{Memory as memory};
-
-    ghost from_gives = { λ _ error. error ≡ memory };
-
-    fn from(_: Memory) -> RunError {
-        RunError::Memory
-    }
-}
-
-impl<T: Drop> From<AllocFailed<T>> for RunError {
-    ghost use Rattle.std.specs.Prelude.{◌≡◌};
-    ghost use Rattle.nll_run.specs.declared.error.RunError.TheVariants.{Memory as memory};
-
-    ghost from_gives = { λ _ error. error ≡ memory };
-
-    fn from(_: AllocFailed<T>) -> RunError {
+    fn from(_: E) -> RunError {
         RunError::Memory
     }
 }
