@@ -220,7 +220,7 @@ ascend_first count x = ⊎_elim
     (λ high. here (get_or_past (replicate count []) x [] (omega (arith, high, length-replicate {A = List ℕ} count []))))
     (cases_lt x count)
   where
-    here : row_at (replicate count []) x ≡ []
+    here : row_at {X = ℕ} (replicate count []) x ≡ []
         → AllPairs ◌<◌ (row_at (replicate count []) x) × ((p : ℕ) → IsListed (replicate count []) x p → p < 0)
     here none = (
       subst (AllPairs ◌<◌) (sym none) none_ascends,

@@ -40,8 +40,8 @@ impl Tables {
     /// - `Memory`.
     ///
     /// # Cost
-    /// A pass over the points, the regions and the constraints, and a sort of the constraints where
-    /// the problem lists them in another order (not proved).
+    /// Passes over the points, the regions and the constraints, and a sort of the constraints that
+    /// read the same region (not proved).
     pub fn of(alloc: Global, problem: &Problem, cut: &Cut) -> Result<Tables, Memory>
         requires { length cut.now.list ≡ problem.now.regions }
         ensures { IfOk result (AreTables problem.now cut.now) }
