@@ -12,5 +12,6 @@ pub mod OrderLemmas
 pub mod ListingLemmas
 pub mod StartLemmas
 pub mod PlaceLemmas
+mod RefusalLemmas
 pub mod ReturnLemmas
 pub mod FrontierLemmas
