@@ -12,6 +12,5 @@ pub mod OrderLemmas
 pub mod ListingLemmas
 pub mod StartLemmas
 pub mod PlaceLemmas
-mod RefusalLemmas
 pub mod ReturnLemmas
 pub mod FrontierLemmas

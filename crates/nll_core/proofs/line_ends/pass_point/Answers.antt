@@ -1,5 +1,5 @@
+use Rattle.std.proofs.lemmas.Result.{IfOk-from_err}
 use Rattle.nll_core.proofs.LineLemmas.{ends_on}
-use Rattle.nll_core.proofs.RefusalLemmas.{on_ok_refused}
 use Rattle.nll_core.proofs.line_ends.pass_point.Goals as goal
 
 pub returns-else-not-goes_on : goal.returns-else-not-goes_on
@@ -8,4 +8,4 @@ returns-else-not-goes_on c =
     (c.requires.line.0 c.if-not-goes_on.false) c.requires.before
 
 pub returns-in_err-resize : goal.returns-in_err-resize
-returns-in_err-resize c = on_ok_refused c.from_residual.result _ c.from_residual.ensures.0
+returns-in_err-resize c = IfOk-from_err c.from_residual.result _ c.from_residual.ensures.0

@@ -1,5 +1,5 @@
 use Rattle.std.proofs.Common.{◌<◌, length, refl, arith}
-use Rattle.nll_core.proofs.RefusalLemmas.{on_ok_refused}
+use Rattle.std.proofs.lemmas.Result.{IfOk-from_err}
 use Rattle.nll_core.proofs.SearchLemmas.{flag_within}
 use Rattle.nll_core.proofs.WalkingLemmas.{filling_none, filling_more, filling_end}
 use Rattle.nll_core.proofs.ListingLemmas.{lists_none, lists_gaps, lists_append}
@@ -68,9 +68,9 @@ returns-clause-lists c = c.loop-run.invariant.1
 pub returns-in_err-gaps : goal.returns-in_err-gaps
 returns-in_err-gaps c =
     let back = c.from_residual in
-    record { fills = on_ok_refused back.result _ back.ensures.0; lists = on_ok_refused back.result _ back.ensures.0 }
+    record { fills = IfOk-from_err back.result _ back.ensures.0; lists = IfOk-from_err back.result _ back.ensures.0 }
 
 pub returns-in_err-insert_run : goal.returns-in_err-insert_run
 returns-in_err-insert_run c =
     let back = c.from_residual-in_err-insert_run in
-    record { fills = on_ok_refused back.result _ back.ensures.0; lists = on_ok_refused back.result _ back.ensures.0 }
+    record { fills = IfOk-from_err back.result _ back.ensures.0; lists = IfOk-from_err back.result _ back.ensures.0 }
