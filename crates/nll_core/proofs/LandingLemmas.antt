@@ -1,7 +1,8 @@
 -- The jumps of a graph, gathered point by point.
-use Rattle.std.proofs.Common.{◌≡◌, ◌⊎◌, ◌↔◌, ℕ, ◌+◌, ◌<◌, ◌≤◌, ◌-◌, List, [], ◌∷◌, ◌++◌, AllPairs, Contains, length, length-take, length-drop, get_or, get_or-take, get_or-drop, drop, slice_range, sym, ap, ◌∙◌, subst, inl, inr, ⊎_elim, arith, zero, suc}
+use Rattle.std.proofs.Common.{◌≡◌, ◌⊎◌, ◌↔◌, ℕ, ◌+◌, ◌<◌, ◌≤◌, ◌-◌, List, [], ◌∷◌, ◌++◌, AllPairs, Contains, length, length-take, length-drop, get_or, get_or-take, get_or-drop, slice_index, drop, slice_range, sym, ap, ◌∙◌, subst, inl, inr, ⊎_elim, arith, zero, suc}
 use Rattle.std.proofs.lemmas.Bool.{cases_eq, cases_lt}
-use Rattle.std.proofs.lemmas.List.{get_or_default}
+use Rattle.std.proofs.Math.Seq.{get_or-append_seam}
+use Rattle.std.proofs.lemmas.List.{get_or_append_left, get_or_default}
 use Rattle.std.proofs.lemmas.List.Elements.{Contains-append_left, Contains-append_right, Contains-append_cases}
 use Rattle.nll_problem.specs.Graph.{Graph, IsSound}
 use Rattle.nll_problem.proofs.IndexLemmas.{keys_rise}
@@ -167,6 +168,52 @@ module _ (list : List Landing) (a b from to : ℕ) (proper : a ≤ b) (start : I
           )
 
 -- ---- where those at a number start
+
+-- nothing is below 0
+pub nothing_below : {P : Type 0} (k : ℕ) → k < 0 → P
+nothing_below k less = absurd (omega (arith, less))
+
+pub below_higher : (a b : ℕ) → a < b → a < b + 1
+below_higher a b less = omega (arith, less)
+
+pub next_within : (a b : ℕ) → a < b → a + 1 ≤ b
+next_within a b less = omega (arith, less)
+
+-- a landing more leads below the number
+pub below_next : (list : List Landing) (number place : ℕ) (e : Landing)
+    → ((k : ℕ) (d : Landing) → k < place → (get_or list k d).to < number)
+    → place < length list → (get_or list place e).to < number
+    → (k : ℕ) (d : Landing) → k < place + 1 → (get_or list k d).to < number
+below_next list number place e below within low k d less = ⊎_elim
+    (λ same. subst (λ (n : ℕ). (get_or list n d).to < number) (sym same)
+    (subst (λ (l : Landing). l.to < number) (get_or_default list place e d within) low))
+    (λ other. below k d (omega (arith, less, other)))
+    (cases_eq k place)
+
+-- where all landings lead below a number, those at it start behind them
+pub start_behind : (list : List Landing) (number place : ℕ)
+    → ((k : ℕ) (d : Landing) → k < place → (get_or list k d).to < number)
+    → place ≤ length list → length list ≤ place → IsLandingStart list number place
+start_behind list number place below within end = record {
+  bound = within;
+  below = below;
+  others = λ k d low inside. absurd (omega (arith, low, inside, end));
+}
+
+-- one number more
+pub starts_more : (list : List Landing) (starts : List ℕ) (number place : ℕ) → length starts ≡ number
+    → ((t : ℕ) → t < number → IsLandingStart list t (slice_index starts t)) → IsLandingStart list number place
+    → (t : ℕ) → t < number + 1 → IsLandingStart list t (slice_index (starts ++ place ∷ []) t)
+starts_more list starts number place sized each here t less = ⊎_elim
+    (λ same. let at : length starts ≡ t = sized ∙ sym same in
+    let is : get_or (starts ++ place ∷ []) t 0 ≡ place =
+    subst (λ (n : ℕ). get_or (starts ++ place ∷ []) n 0 ≡ place) at (get_or-append_seam starts place [] 0) in
+    subst (λ (n : ℕ). IsLandingStart list n (get_or (starts ++ place ∷ []) t 0)) (sym same)
+    (subst (λ (n : ℕ). IsLandingStart list number n) (sym is) here))
+    (λ other. let low : t < number = omega (arith, less, other) in
+    subst (λ (n : ℕ). IsLandingStart list t n)
+    (sym (get_or_append_left starts (place ∷ []) 0 t (omega (arith, low, sized)))) (each t low))
+    (cases_eq t number)
 
 -- where the landing at a place doesn't lead below a number, none behind it does
 pub start_here : (list : List Landing) (number place : ℕ) (e : Landing) → AllPairs (λ (l m : Landing). l.to ≤ m.to) list

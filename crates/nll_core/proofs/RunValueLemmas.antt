@@ -57,6 +57,50 @@ fewer_filled values region old row run (Ok changed) within proper is f = λ lack
     )
 fewer_filled values region old row run (Err e) within proper is f = f
 
+-- the region gains the numbers of the run, and nothing else
+gains_row : (values : List (List Bool)) (region : ℕ) (old row : List Bool) (run : Run) → region < length values
+    → old ≡ get_or values region [] → Fills old row run
+    → Gains (λ r e. (r ≡ region) × IsWithin run e) values (set values region row)
+gains_row values region old row run within is f =
+    let now : List (List Bool) = set values region row in
+    let here : set_of now region ≡ row = get_or-set_same values region row [] within in
+    let there : (r : ℕ) → r ≢ region → set_of now r ≡ set_of values r =
+    λ r other. get_or-set_other values region r row [] other in
+    record {
+      width = length-set values region row;
+      widths = λ r. ⊎_elim
+          (λ same. subst (λ x. length (set_of now x) ≡ length (set_of values x)) (sym same)
+          (ap length here ∙ f.width ∙ ap length is))
+          (λ other. ap length (there r other))
+          (cases_eq r region);
+      kept = λ r e h. ⊎_elim
+          (λ same. subst (λ x. IsHeld now x e) (sym same) (ap (λ x. flag x e) here
+          ∙ f.kept e (ap (λ x. flag x e) is ∙ subst (λ x. IsHeld values x e) same h)))
+          (λ other. ap (λ x. flag x e) (there r other) ∙ h)
+          (cases_eq r region);
+      cause = λ r e h. ⊎_elim
+          (λ same. ⊎_elim
+          (λ o. inl (subst (λ x. IsHeld values x e) (sym same) (sym (ap (λ x. flag x e) is) ∙ o)))
+          (λ w. inr (same, w))
+          (f.cause e (sym (ap (λ x. flag x e) here) ∙ subst (λ x. IsHeld now x e) same h)))
+          (λ other. inl (sym (ap (λ x. flag x e) (there r other)) ∙ h))
+          (cases_eq r region);
+    }
+
+pub gains_filled : (values : List (List Bool)) (region : ℕ) (old row : List Bool) (run : Run) {E : Type 0}
+    (r : Result Bool E) → region < length values → old ≡ get_or values region [] → OnOk r (Fills old row run)
+    → OnOk r (Gains (λ r e. (r ≡ region) × IsWithin run e) values (set values region row))
+gains_filled values region old row run (Ok changed) within is f = gains_row values region old row run within is f
+gains_filled values region old row run (Err e) within is f = f
+
+-- and holds them
+pub covers_filled : (values : List (List Bool)) (region : ℕ) (old row : List Bool) (run : Run) {E : Type 0}
+    (r : Result Bool E) → region < length values → OnOk r (Fills old row run)
+    → OnOk r ((e : ℕ) → IsWithin run e → IsHeld (set values region row) region e)
+covers_filled values region old row run (Ok changed) within f =
+    λ e w. ap (λ x. flag x e) (get_or-set_same values region row [] within) ∙ f.filled e w.0 w.1
+covers_filled values region old row run (Err e) within f = f
+
 -- ---- a region that held nothing gets the value of another one
 
 module _ (values : List (List Bool)) (sub sup : ℕ) (within : sup < length values)

@@ -1,4 +1,5 @@
 use Rattle.std.proofs.Common.{◌<◌, length, refl, arith}
+use Rattle.std.proofs.lemmas.Result.{IfOk-from_err}
 use Rattle.nll_core.proofs.SearchLemmas.{flag_within}
 use Rattle.nll_core.proofs.WalkingLemmas.{filling_none, filling_more, filling_end}
 use Rattle.nll_core.proofs.ListingLemmas.{lists_none, lists_gaps, lists_append}
@@ -48,3 +49,28 @@ pub returns-clause-fills : goal.returns-clause-fills
 returns-clause-fills c =
     filling_end c.args.sub.now c.args.from c.args.reached.now c.loop-run.reached c.loop-run.next c.loop-run.invariant.0
     c.in_default.ensures.none
+
+pub gaps-requires-clause-proper : goal.gaps-requires-clause-proper
+gaps-requires-clause-proper c =
+    omega (arith, c.max.ensures, c.in-Some.ensures.some.proper, c.in-Some.ensures.some.reach)
+
+pub insert_run-requires-clause-proper : goal.insert_run-requires-clause-proper
+insert_run-requires-clause-proper c =
+    omega (arith, c.max.ensures, c.in-Some.ensures.some.proper, c.in-Some.ensures.some.reach)
+
+pub loop-run-smaller : goal.loop-run-smaller
+loop-run-smaller c =
+    omega (arith, within (goal.at.loop-run-smaller c).In-Some, c.in-Some.ensures.some.reach)
+
+pub returns-clause-lists : goal.returns-clause-lists
+returns-clause-lists c = c.loop-run.invariant.1
+
+pub returns-in_err-gaps : goal.returns-in_err-gaps
+returns-in_err-gaps c =
+    let back = c.from_residual in
+    record { fills = IfOk-from_err back.result _ back.ensures.0; lists = IfOk-from_err back.result _ back.ensures.0 }
+
+pub returns-in_err-insert_run : goal.returns-in_err-insert_run
+returns-in_err-insert_run c =
+    let back = c.from_residual-in_err-insert_run in
+    record { fills = IfOk-from_err back.result _ back.ensures.0; lists = IfOk-from_err back.result _ back.ensures.0 }

@@ -1,8 +1,9 @@
 use Rattle.std.proofs.Common.{◌≡◌, ap}
+use Rattle.std.proofs.lemmas.Result.{IfOk-from_err}
 use Rattle.nll_owner.specs.Following.{link_shape}
 use Rattle.nll_owner.specs.declared.link.Link.{Link}
 use Rattle.nll_owner.proofs.OwnerLemmas.{grows_none}
-use Rattle.nll_owner.proofs.FollowingLemmas.{found_below, found_called, advanced_on, sound_inside, starts_are_among}
+use Rattle.nll_owner.proofs.FollowingLemmas.{found_below, found_called, advanced_on, own_region, sound_inside, starts_are_among}
 use Rattle.nll_owner.proofs.link.hand_run.Goals as goal
 use Rattle.nll_owner.proofs.link.hand_run.Goals.{In_ok-go_on}
 
@@ -70,3 +71,32 @@ returns-clause-grows c = c.grow_runs.ensures.grows
 
 pub returns-clause-same : goal.returns-clause-same
 returns-clause-same c = ap (λ starts. (c.args.link.now.sup, starts)) c.go_on.ensures.starts
+
+pub go_on-requires-clause-fits : goal.go_on-requires-clause-fits
+go_on-requires-clause-fits c whole = rw c.requires.steps c.requires.followed.fits
+
+pub grow_runs-requires-clause-sound : goal.grow_runs-requires-clause-sound
+grow_runs-requires-clause-sound c = c.requires.sound
+
+pub grow_runs-requires-clause-own : goal.grow_runs-requires-clause-own
+grow_runs-requires-clause-own c = c.requires.link.own
+
+pub grow_runs-requires-clause-region : goal.grow_runs-requires-clause-region
+grow_runs-requires-clause-region c =
+    own_region c.args.knowledge.now c.requires.sound c.args.link.now.sup c.requires.link.own
+
+pub returns-clause-awake : goal.returns-clause-awake
+returns-clause-awake c = c.requires.awake
+
+pub returns-in_err-go_on-clause-followed : goal.returns-in_err-go_on-clause-followed
+returns-in_err-go_on-clause-followed c = IfOk-from_err c.from_residual.result _ c.from_residual.ensures.0
+
+pub returns-in_err-go_on-clause-awake : goal.returns-in_err-go_on-clause-awake
+returns-in_err-go_on-clause-awake c = c.requires.awake
+
+pub returns-in_err-grow_runs-clause-followed : goal.returns-in_err-grow_runs-clause-followed
+returns-in_err-grow_runs-clause-followed c =
+    IfOk-from_err c.from_residual-in_err-grow_runs.result _ c.from_residual-in_err-grow_runs.ensures.0
+
+pub returns-in_err-grow_runs-clause-awake : goal.returns-in_err-grow_runs-clause-awake
+returns-in_err-grow_runs-clause-awake c = c.requires.awake

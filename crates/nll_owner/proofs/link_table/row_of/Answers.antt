@@ -1,5 +1,6 @@
 use Rattle.std.proofs.Common.{Contains, take, sym}
 use Rattle.std.proofs.lemmas.List.{take_more}
+use Rattle.std.proofs.lemmas.Result.{IfOk-from_err}
 use Rattle.nll_owner.proofs.LinkingLemmas.{place_below}
 use Rattle.nll_owner.proofs.link_table.row_of.Goals as goal
 use Rattle.nll_owner.proofs.link_table.row_of.Goals.{After-k-item}
@@ -25,3 +26,25 @@ loop-k-preserved c = record {
       (c.in_ok-enter.ensures.links (take c.loop-k.k-index c.args.constraints.now) c.loop-k.invariant.links);
   fresh = c.in_ok-enter.ensures.fresh c.loop-k.invariant.fresh;
 }
+
+pub returns-in_err-row : goal.returns-in_err-row
+returns-in_err-row c =
+    let back = c.from_residual in
+    record {
+      links = IfOk-from_err back.result _ back.ensures.0;
+      fresh = IfOk-from_err back.result _ back.ensures.0;
+    }
+
+pub returns-in_err-enter : goal.returns-in_err-enter
+returns-in_err-enter c =
+    let back = c.from_residual-in_err-enter in
+    record {
+      links = IfOk-from_err back.result _ back.ensures.0;
+      fresh = IfOk-from_err back.result _ back.ensures.0;
+    }
+
+pub count_links-requires : goal.count_links-requires
+count_links-requires c = c.requires.sups
+
+pub returns-clause-fresh : goal.returns-clause-fresh
+returns-clause-fresh c = c.loop-k.invariant.fresh

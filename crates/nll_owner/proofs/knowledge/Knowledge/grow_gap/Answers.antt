@@ -1,6 +1,7 @@
 use Rattle.std.proofs.Common.{◌≡◌, ◌+◌, ◌-◌, ◌++◌, ap, ◌∙◌, arith}
+use Rattle.std.proofs.lemmas.Result.{IfOk-from_err}
 use Rattle.nll_owner.specs.Keeping.{growths}
-use Rattle.nll_owner.proofs.OwnerLemmas.{run_kept, run_grows, run_has, clock_low}
+use Rattle.nll_owner.proofs.OwnerLemmas.{grows_none, run_kept, run_grows, run_has, clock_low}
 use Rattle.nll_owner.proofs.knowledge.Knowledge.grow_gap.Goals as goal
 use Rattle.nll_owner.proofs.knowledge.Knowledge.grow_gap.Goals.{After-push_growths}
 
@@ -58,3 +59,24 @@ overflow_add-self c =
     (let low = clock_low _ c.self.invariant.sound in let elements = rw (← c.self.view_is) at c.requires.elements in
     let graph = c.self.invariant.sound.problem.graph in
     omega (arith, low, elements, graph.point_limit, graph.universal_limit))
+
+pub invariant_of-self-in_err-insert_run : goal.invariant_of-self-in_err-insert_run
+invariant_of-self-in_err-insert_run c =
+    rw (c.reserve.ensures.items, c.in_err-insert_run.ensures.err) c.self.invariant
+
+pub returns-in_err-insert_run-clause-grows : goal.returns-in_err-insert_run-clause-grows
+returns-in_err-insert_run-clause-grows c =
+    rw (← c.self.view_is, c.reserve.ensures.items) (grows_none _ c.self.invariant.sound)
+
+pub returns-in_err-insert_run-clause-covers : goal.returns-in_err-insert_run-clause-covers
+returns-in_err-insert_run-clause-covers c =
+    IfOk-from_err c.from_residual-in_err-insert_run.result _ c.from_residual-in_err-insert_run.ensures.0
+
+pub returns-in_err-reserve-clause-covers : goal.returns-in_err-reserve-clause-covers
+returns-in_err-reserve-clause-covers c = IfOk-from_err c.from_residual.result _ c.from_residual.ensures.0
+
+pub overflow_cast-count : goal.overflow_cast-count
+overflow_cast-count c =
+    let elements = rw (← c.self.view_is) at c.requires.elements in
+    let graph = c.self.invariant.sound.problem.graph in
+    omega (arith, elements, graph.point_limit, graph.universal_limit)

@@ -40,3 +40,6 @@ pub returns-clause-done : goal.returns-clause-done
 returns-clause-done c =
     on_ok_weaker c.receive_and_queue-result.result
     (λ done. subst IsDone (sym c.mark.ensures.marks) done) c.receive_and_queue-result.ensures.done
+
+pub returns-clause-sound : goal.returns-clause-sound
+returns-clause-sound c = c.mark.ensures.sound
