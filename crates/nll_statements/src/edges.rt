@@ -1,6 +1,6 @@
 //! How many edges leave a point.
 
-ghost use Rattle.std.specs.Prelude.{◌≡◌, ◌<◌, ◌≤◌, ◌^◌, ◌==◌, ◌∷◌, [], length, IfOk};
+ghost use Rattle.std.specs.Prelude.{◌≡◌, ◌<◌, ◌≤◌, ◌^◌, ◌==◌, ◌∷◌, [], length, true, IfOk};
 ghost use Rattle.indexmap.specs.IndexSet.{insert_all};
 ghost use Rattle.nll_statements.specs.Edges.{edges_from};
 ghost use Rattle.nll_statements.specs.Effects.{other_block};
@@ -32,16 +32,26 @@ impl<R, T> Statement<R, T> {
         ensures edges { IfOk result (λ e. e.edges ≡ edges_from (statement_of self.now)) }
         ensures few { IfOk result (λ e. e.edges < 2 ^ 63) }
     {
-        let edges = match self {
-            Statement::Goto(_) => 1,
-            Statement::Switch(_, blocks) => distinct(alloc, blocks.as_slice())?,
-            Statement::Drop(_, block, unwind) => exit_count(*block, *unwind),
-            Statement::Call(call) => exit_count(call.target, call.unwind),
-            Statement::Return | Statement::Stop => 0,
-            _ => return Ok(Exits { ends: false, edges: 1 }),
-        };
-        Ok(Exits { ends: true, edges })
+        match self {
+            Statement::Goto(_) => Ok(ending(1)),
+            Statement::Switch(_, blocks) => Ok(ending(distinct(alloc, blocks.as_slice())?)),
+            Statement::Drop(_, block, unwind) => Ok(ending(exit_count(*block, *unwind))),
+            Statement::Call(call) => Ok(ending(exit_count(call.target, call.unwind))),
+            Statement::Return | Statement::Stop => Ok(ending(0)),
+            _ => Ok(Exits {
+                ends: false,
+                edges: 1,
+            }),
+        }
     }
+}
+
+// A terminator that so many edges leave.
+fn ending(edges: usize) -> Exits
+    ensures ends { result.ends ≡ true }
+    ensures edges { result.edges ≡ edges }
+{
+    Exits { ends: true, edges }
 }
 
 // How many numbers these two are.

@@ -84,11 +84,16 @@ impl TypeTable {
             });
         }
         let from = variables[variable];
-        let typed = match self.place_shape(alloc, from, place.projections())? {
-            Some((shape, small)) => Some(TypedShape { shape, small }),
-            None => None,
-        };
-        Ok(Found { declared, typed })
+        match self.place_shape(alloc, from, place.projections())? {
+            Some((shape, small)) => Ok(Found {
+                declared,
+                typed: Some(TypedShape { shape, small }),
+            }),
+            None => Ok(Found {
+                declared,
+                typed: None,
+            }),
+        }
     }
 
     // The shape of an operand, where it has a type, and whether the types of its place are small.

@@ -1,6 +1,6 @@
 use Rattle.nll_types.specs.Table.{shape_in}
-use Rattle.nll_type_check.proofs.JudgedLemmas.{same_reference}
-use Rattle.nll_type_check.proofs.judged.is_reference.Goals as goal
+use Rattle.nll_types.proofs.MeetingLemmas.{same_reference}
+use Rattle.nll_types.proofs.found.is_reference.Goals as goal
 
 pub returns-in-Reference : goal.returns-in-Reference
 returns-in-Reference c =
