@@ -10,7 +10,7 @@ returns-clause-judged c = λ types h.
     let second =
     (rw c.find_operand.ensures.structs at c.in_ok-target.ensures.found) types
     (shapes_later _ _ _ types c.find_operand.ensures.extends c.requires h) in
-    (rw c.shapes.ensures at c.agree.ensures) _ _ _ _
+    (rw c.shapes.ensures at c.agree.ensures.judged) _ _ _ _
     (found_later _ _ _ _ _ c.find_place.ensures.extends c.in_ok-source.ensures.within first) second
 
 pub returns-clause-structs : goal.returns-clause-structs

@@ -6,4 +6,4 @@ returns-clause-judged c = λ types t h e.
     let value =
     (rw c.shapes.ensures at c.shape_found-wanted.ensures.found) t
     (shape_later _ _ _ t c.find_operand.ensures.extends c.requires.shape e) in
-    (rw c.shapes-2.ensures at c.agree.ensures) _ _ _ _ (c.in_ok-found.ensures.found types h) value
+    (rw c.shapes-2.ensures at c.agree.ensures.judged) _ _ _ _ (c.in_ok-found.ensures.found types h) value
