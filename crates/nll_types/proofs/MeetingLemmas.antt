@@ -19,13 +19,13 @@ use Rattle.nll_types.proofs.SameShapeLemmas.{same_shape_decides}
 
 -- ---- what is found
 
-pub found_later : (old new : List Node) (o : Option TypedShape) (t : Option TypeTree) (small : Bool) → Extends old new
-    → IfSome o (λ f. f.shape < length old) → IsFound old o t small → IsFound new o t small
+pub found_later : (old new : List Node) (o : Option TypedShape) (t : Option TypeTree) (small : Bool)
+    → Extends old new → IfSome o (λ f. f.shape < length old) → IsFound old o t small → IsFound new o t small
 found_later old new None t small e b h = record { shape = h.shape; small = h.small }
 found_later old new (Some f) t small e b h = record { shape = ap Some (e.kept f.shape b) ∙ h.shape; small = h.small }
 
-pub within_later : (old new : List Node) (o : Option TypedShape) → Extends old new → IfSome o (λ f. f.shape < length old)
-    → IfSome o (λ f. f.shape < length new)
+pub within_later : (old new : List Node) (o : Option TypedShape) → Extends old new
+    → IfSome o (λ f. f.shape < length old) → IfSome o (λ f. f.shape < length new)
 within_later old new None e b = tt
 within_later old new (Some f) e b = let m = e.longer in omega arith
 
@@ -88,8 +88,8 @@ shapes_agree t u s r same a b w =
     same_bool same (same_shape t u) (λ h. (same_shape_decides t u).1 (sym a ∙ w.0 h ∙ b))
     (λ h. w.1 (a ∙ (same_shape_decides t u).0 h ∙ sym b))
 
-pub agree_found : (ns : List Node) (a b : TypedShape) (t u : Option TypeTree) (p q same : Bool) → IsFound ns (Some a) t p
-    → IsFound ns (Some b) u q
+pub agree_found : (ns : List Node) (a b : TypedShape) (t u : Option TypeTree) (p q same : Bool)
+    → IsFound ns (Some a) t p → IsFound ns (Some b) u q
     → IsTrue same ↔ (shape_in ns a.shape ≡ shape_in ns b.shape) → (j : Judgement) → j.fits ≡ same
     → j.small ≡ (same && (a.small && b.small)) → IsJudged (agree t u) (p && q) j
 agree_found ns a b None u p q same x y w j e d = absurd (let z = x.shape in cc)

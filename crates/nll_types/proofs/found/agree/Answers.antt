@@ -10,8 +10,10 @@ returns-in-Some-typed-clause-judged c = λ t u p q x y.
 
 pub returns-in-None-typed-clause-judged : goal.returns-in-None-typed-clause-judged
 returns-in-None-typed-clause-judged c =
-    λ t u p q x y. judged_as (sym (unfit_right _ t u q (rw c.in-None-typed.is at y))) refl (c.unfit.ensures.judged (p && q))
+    λ t u p q x y. judged_as (sym (unfit_right _ t u q (rw c.in-None-typed.is at y))) refl
+    (c.unfit.ensures.judged (p && q))
 
 pub returns-in-None-clause-judged : goal.returns-in-None-clause-judged
 returns-in-None-clause-judged c =
-    λ t u p q x y. judged_as (sym (unfit_left _ t u p (rw c.in-None.is at x))) refl (c.unfit-in-None.ensures.judged (p && q))
+    λ t u p q x y. judged_as (sym (unfit_left _ t u p (rw c.in-None.is at x))) refl
+    (c.unfit-in-None.ensures.judged (p && q))

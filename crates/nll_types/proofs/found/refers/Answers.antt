@@ -11,7 +11,8 @@ returns-in-Some-typed-clause-judged c = λ t u r p q x y.
 
 pub returns-in-None-typed-clause-judged : goal.returns-in-None-typed-clause-judged
 returns-in-None-typed-clause-judged c =
-    λ t u r p q x y. judged_as (sym (unfit_right _ _ u q (rw c.in-None-typed.is at y))) refl (c.unfit.ensures.judged (p && q))
+    λ t u r p q x y. judged_as (sym (unfit_right _ _ u q (rw c.in-None-typed.is at y))) refl
+    (c.unfit.ensures.judged (p && q))
 
 pub returns-in-None-clause-judged : goal.returns-in-None-clause-judged
 returns-in-None-clause-judged c =
