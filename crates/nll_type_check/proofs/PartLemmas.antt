@@ -194,7 +194,8 @@ module _ {X : Type 0} (op : X → Operand) (count : ℕ) (xs : List X) where
       → judged ≡ whole
   declared_all k judged whole l far =
       sym (and_right_true judged)
-      ∙ (ap (λ (z : List X). judged && have_variables count (flat_map place_in (map op z))) (sym (drop_all k xs l)) ∙ far)
+      ∙ (ap (λ (z : List X). judged && have_variables count (flat_map place_in (map op z))) (sym (drop_all k xs l))
+      ∙ far)
 
 -- ---- operands and parts, one after another
 

@@ -1,7 +1,6 @@
-use Rattle.std.proofs.Common.{true, sym, ap, ◌∙◌}
-use Rattle.std.specs.Prelude.{◌&&◌}
+use Rattle.std.proofs.Common.{true, sym}
 use Rattle.nll_types.specs.Operands.{operand_of}
-use Rattle.nll_type_check.proofs.PartLemmas.{declared_all, declared_more, left_declared}
+use Rattle.nll_type_check.proofs.PartLemmas.{declared_all, declared_more}
 use Rattle.nll_type_check.proofs.declared.are_operands_declared.Goals as goal
 
 pub loop-operand-preserved : goal.loop-operand-preserved
