@@ -133,8 +133,8 @@ fn write_size(rt: &impl Abort, alloc: Global, out: &mut String, body: &Body) {
 
 // Writes how many edges leave the point of a statement, and the variables that are written in it.
 fn write_statement(rt: &impl Abort, alloc: Global, out: &mut String, statement: &Stmt) {
-    let edges = statement.edges(alloc).expect(rt, "memory");
-    write_number(rt, out, "", edges as u64, "");
+    let exits = statement.exits(alloc).expect(rt, "memory");
+    write_number(rt, out, "", exits.edges as u64, "");
     let mut written = Vec::new(alloc);
     statement.variables(&mut written).expect(rt, "memory");
     write_numbers(rt, out, " written", written.as_slice());

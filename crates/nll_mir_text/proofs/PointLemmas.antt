@@ -12,31 +12,29 @@ use Rattle.nll_format.specs.declared.error.TextKind.{TextKind}
 use Rattle.nll_format.specs.declared.error.TextKind.TheVariants.{Syntax, Unknown, Range, Shape, TypeSize, Limit}
 use Rattle.nll_types.specs.Types.{TypeTree}
 use Rattle.nll_types.specs.Declarations.{structs_of}
+use Rattle.nll_types.specs.Judging.{IsJudged}
+use Rattle.nll_types.specs.Shapes.{shape_of}
+use Rattle.nll_types.specs.Table.{shape_in}
 use Rattle.nll_types.specs.Views.{tree}
-use Rattle.nll_types.specs.declared.ty.Ty.{Ty}
+use Rattle.nll_types.specs.declared.judgement.Judgement.{Judgement}
 use Rattle.nll_type_grammar.specs.WrittenTypes.{Name, WrittenType}
 use Rattle.nll_statements.specs.Statements.{Statement, types_written, is_terminator}
 use Rattle.nll_statements.specs.Effects.{targets}
 use Rattle.nll_statements.specs.Written.{regions_written, variables_written}
 use Rattle.nll_statements.specs.Edges.{edges_from, edge_count}
-use Rattle.nll_statements.specs.Kept.{statement_of}
-use Rattle.nll_statements.specs.declared.statement.Statement.{Statement as Kept}
 use Rattle.nll_statements.proofs.MapLemmas.{same_terminator, same_targets, same_edges, same_variables}
 use Rattle.nll_resolve.specs.Naming.{Scope, is_among, is_known, has_arguments, meant}
 use Rattle.nll_resolve.specs.Resolution.{Resolved, tree_of}
 use Rattle.nll_type_check.specs.Typing.{types_agree, types_are_small}
-use Rattle.nll_type_check.specs.Judging.{IsJudged}
-use Rattle.nll_type_check.specs.declared.judged.JudgedStatement.{JudgedStatement}
 use Rattle.nll_mir_grammar.specs.MirForms.{at_point}
 use Rattle.nll_mir_text.specs.declared.tables.Regions.{Regions}
 use Rattle.nll_mir_text.specs.declared.tables.StructNames.{StructNames}
 use Rattle.nll_mir_text.specs.declared.tables.Variables.{Variables}
-use Rattle.nll_mir_text.specs.declared.next_point.JudgedPoint.{JudgedPoint}
 use Rattle.nll_mir_text.specs.declared.groups.Group.TheVariants.{Blocks}
 use Rattle.nll_mir_text.specs.MirSaid.{Said, statement_meant, body_scope}
 use Rattle.nll_mir_text.specs.MirSteps.{says}
 use Rattle.nll_mir_text.specs.MirFaults.{are_declared, is_in_order, knows, has_targets, shapes_fit, first_fault}
-use Rattle.nll_mir_text.specs.MirReading.{scope_in, statement_kept}
+use Rattle.nll_mir_text.specs.MirReading.{AreShapes, scope_in}
 use Rattle.nll_mir_text.specs.Stating.{as_resolved, declared_by, has_names, IsOfPoint, IsOfStatement}
 
 second : (a b : Bool) → (a && b) ≡ true → b ≡ true
@@ -44,6 +42,12 @@ second true b h = h
 second false b h = absurd cc
 
 -- ---- what is judged
+
+-- as many shapes as types are kept of variables
+pub as_many : (v : Variables) → AreShapes v.table.shapes v.shapes.items v.types.items
+    → length v.shapes.items ≡ length v.types.items
+as_many v are = sym (length-map v.shapes.items (shape_in v.table.shapes))
+    ∙ (ap length are.same ∙ length-map v.types.items (λ t. shape_of (tree t)))
 
 first : (a b : Bool) → (a && b) ≡ true → a ≡ true
 first true b h = refl
@@ -68,6 +72,11 @@ module _ (s : Scope) (i : Statement Name WrittenType) (r : Statement ℕ Resolve
   pub edges_resolved : edges_from r ≡ edges_from i
   edges_resolved = sym (same_edges (λ r. r) tree_of r)
       ∙ (ap (λ (m : Statement ℕ TypeTree). edges_from m) of.meant ∙ same_edges (number_of s.regions) (meant s) i)
+
+  pub ends_resolved : is_terminator r ≡ is_terminator i
+  ends_resolved = sym (same_terminator (λ r. r) tree_of r)
+      ∙ (ap (λ (m : Statement ℕ TypeTree). is_terminator m) of.meant
+      ∙ same_terminator (number_of s.regions) (meant s) i)
 
 module _ (regions : Regions) (structs : StructNames) (variables : Variables) (i : Statement Name WrittenType)
     (r : Statement ℕ Resolved) (of : IsOfStatement (scope_in regions structs) i r) where
@@ -98,17 +107,17 @@ module _ (regions : Regions) (structs : StructNames) (variables : Variables) (i 
       rw (types_are, agree_is) refl
 
   -- what is judged of the statement
-  pub point_judged : (declared types_fit : Bool) (judged : JudgedStatement) (j : JudgedPoint)
-      → j.known ≡ declared
+  pub point_judged : (types_fit : Bool) (judged j : Judgement)
+      → j.declared ≡ judged.declared
       → j.fits ≡ (types_fit && judged.fits)
       → j.small ≡ judged.small
-      → declared ≡ list_all (λ x. nat_lt x (length variables.types.items)) (variables_written r)
+      → judged.declared ≡ list_all (λ x. nat_lt x (length variables.types.items)) (variables_written r)
       → types_fit ≡ list_all (λ t. t.fits) (types_written r)
       → IsJudged (types_agree (structs_of variables.table.structs) (map tree variables.types.items) (as_resolved r))
       (types_are_small (structs_of variables.table.structs) (map tree variables.types.items) (as_resolved r)) judged
       → IsOfPoint declared_in i j
-  point_judged declared types_fit judged j known fits small d t e = record {
-    known = known ∙ knows_is declared d;
+  point_judged types_fit judged j declared fits small d t e = record {
+    known = declared ∙ knows_is judged.declared d;
     fits = fits ∙ fits_is types_fit judged.fits t e.fits;
     fits_small = λ fit.
         let agreed : types_agree (structs_of variables.table.structs) (map tree variables.types.items) (as_resolved r)
@@ -132,7 +141,7 @@ names_unknown s i none =
 
 -- what is judged of the statement stands, where the types and the structs are the same
 pub judged_same : (regions : Regions) (structs : StructNames) (old new : Variables) (i : Statement Name WrittenType)
-    (j : JudgedPoint)
+    (j : Judgement)
     → new.types.items ≡ old.types.items → new.table.structs ≡ old.table.structs
     → IsOfPoint (declared_by regions structs old) i j → IsOfPoint (declared_by regions structs new) i j
 judged_same regions structs old new i j types declared told = record {
@@ -236,14 +245,6 @@ pub point_said : (s : Said) (i : Statement Name WrittenType) (points : List (Sta
     → record s { reached = Blocks; points = points; owes = owes; blocks = blocks; starts = starts }
     ≡ says s (at_point i)
 point_said s i points owes blocks starts b c h k = rw (b, c, h, k) refl
-
--- what the code keeps ends the block as its line does
-pub ends_same : (s : Said) (i : Statement Name WrittenType) (k : Kept ℕ Ty) → statement_kept k ≡ statement_meant s i
-    → is_terminator (statement_of k) ≡ is_terminator i
-ends_same s i k h =
-    sym (same_terminator (λ r. r) tree (statement_of k))
-    ∙ (ap (λ (m : Statement ℕ TypeTree). is_terminator m) h
-    ∙ same_terminator (number_of s.names) (meant (body_scope s)) i)
 
 -- its edges are counted too
 pub edges_more : (s : Said) (points : List (Statement ℕ TypeTree)) (i : Statement Name WrittenType)

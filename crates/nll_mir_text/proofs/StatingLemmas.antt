@@ -1,30 +1,24 @@
 -- What is judged of types and of statements.
 use Rattle.std.proofs.Common.{◌≡◌, ℕ, zero, suc, ◌<◌, get_or, Bool, true, false, List, [], ◌∷◌, ◌++◌, length, map, refl, sym, ap, ◌∙◌, subst, arith}
-use Rattle.std.specs.Prelude.{◌&&◌, nat_lt}
+use Rattle.std.specs.Prelude.{◌&&◌}
 use Rattle.std.specs.List.{list_all, flat_map}
 use Rattle.std.specs.Borrow.{Bor}
 use Rattle.std.proofs.lemmas.List.{append-nil, append_assoc, map_push}
 use Rattle.std.proofs.lemmas.List.Folds.{list_all-append}
-use Rattle.nll_types.specs.Places.{path_of}
 use Rattle.nll_types.specs.Shapes.{shape_of}
 use Rattle.nll_types.specs.Table.{Extends, AreBelow, shape_in}
 use Rattle.nll_types.specs.Views.{tree}
 use Rattle.nll_types.specs.declared.node.Node.{Node}
 use Rattle.nll_types.specs.declared.ty.Ty.{Ty}
-use Rattle.nll_types.specs.Operands.{operand_of}
-use Rattle.nll_types.specs.declared.operand.Operand.{Operand as KeptOperand}
-use Rattle.nll_types.specs.declared.operand.Operand.TheVariants.{Const, Copy, Move}
-use Rattle.nll_statements.specs.Effects.{place_in, operands_of}
-use Rattle.nll_statements.specs.Kept.{arguments_of}
 use Rattle.nll_types.proofs.ShapingLemmas.{below_push}
 use Rattle.nll_type_grammar.specs.WrittenTypes.{Name}
 use Rattle.nll_resolve.specs.Naming.{is_among}
 use Rattle.nll_resolve.specs.Resolution.{Resolved, tree_of}
-use Rattle.nll_type_check.specs.Judging.{HaveShapes}
-use Rattle.nll_type_check.proofs.FoundLemmas.{below_later, shapes_later}
+use Rattle.nll_types.specs.Judging.{HaveShapes}
+use Rattle.nll_types.proofs.NumberLemmas.{below_later, shapes_later}
 use Rattle.nll_mir_text.specs.declared.shapes.ShapedTypes.{ShapedTypes}
 use Rattle.nll_mir_text.specs.MirReading.{AreShapes}
-use Rattle.nll_mir_text.specs.Stating.{is_bound, operand_within, argument_within, AreOfTypes, AddsTypes}
+use Rattle.nll_mir_text.specs.Stating.{is_bound, AreOfTypes, AddsTypes}
 
 and_true : (b : Bool) → (b && true) ≡ b
 and_true true = refl
@@ -58,34 +52,6 @@ names_of_bounds names [] = refl
 names_of_bounds names (w ∷ ws) =
     ap (λ b. is_bound names w && b) (names_of_bounds names ws)
     ∙ and_assoc (is_among names w.0.now) (is_among names w.1.now) _
-
--- ---- variables of operands
-
--- the variables of operands' places, one after another
-pub operands_are_within : (count : ℕ) (ops : List KeptOperand)
-    → list_all (operand_within count) ops
-    ≡ list_all (λ x. nat_lt x count) (map (λ p. p.variable) (flat_map place_in (map operand_of ops)))
-operands_are_within count [] = refl
-operands_are_within count (Const ∷ ops) = operands_are_within count ops
-operands_are_within count (Copy p ∷ ops) =
-    ap (λ b. operand_within count (Copy p) && b) (operands_are_within count ops)
-    ∙ and_assoc (nat_lt (path_of p).variable count) true _
-operands_are_within count (Move p ∷ ops) =
-    ap (λ b. operand_within count (Move p) && b) (operands_are_within count ops)
-    ∙ and_assoc (nat_lt (path_of p).variable count) true _
-
--- and of arguments of a call
-pub arguments_are_within : (count : ℕ) (args : List (KeptOperand × Resolved))
-    → list_all (argument_within count) args
-    ≡ list_all (λ x. nat_lt x count) (map (λ p. p.variable) (flat_map place_in (operands_of (arguments_of args))))
-arguments_are_within count [] = refl
-arguments_are_within count ((Const, t) ∷ args) = arguments_are_within count args
-arguments_are_within count ((Copy p, t) ∷ args) =
-    ap (λ b. operand_within count (Copy p) && b) (arguments_are_within count args)
-    ∙ and_assoc (nat_lt (path_of p).variable count) true _
-arguments_are_within count ((Move p, t) ∷ args) =
-    ap (λ b. operand_within count (Move p) && b) (arguments_are_within count args)
-    ∙ and_assoc (nat_lt (path_of p).variable count) true _
 
 -- ---- types
 

@@ -14,7 +14,7 @@ use Rattle.nll_types.specs.Structs.{Struct, struct_at}
 use Rattle.nll_types.specs.Views.{tree}
 use Rattle.nll_types.specs.declared.node.Node.{Node}
 use Rattle.nll_types.specs.declared.ty.Ty.{Ty}
-use Rattle.nll_statements.specs.Statements.{Statement, map_statement}
+use Rattle.nll_statements.specs.Statements.{Statement, is_terminator, map_statement}
 use Rattle.nll_statements.specs.Edges.{edges_from, edge_count}
 use Rattle.nll_statements.specs.Kept.{statement_of}
 use Rattle.nll_statements.specs.declared.statement.Statement.{Statement as Kept}
@@ -36,6 +36,7 @@ use Rattle.nll_mir_text.specs.MirSaid.{Said, said, group}
 use Rattle.nll_mir_text.specs.MirSteps.{says, rank}
 use Rattle.nll_mir_text.specs.MirFaults.{is_in_order, first_fault}
 use Rattle.nll_mir_text.specs.MirText.{mir}
+use Rattle.nll_mir_text.specs.declared.next_point.Admitted.{Admitted}
 use Rattle.nll_mir_text.specs.declared.reader.Reader.{Reader}
 
 -- ---- what a reader holds
@@ -152,15 +153,17 @@ pub record IsTaken (s : Said) (f : Form) (r : Reader) : Type 0 where
   pub ready : IsReady r
 
 -- A statement is admitted after lines that say s, and with it there are so many edges: its line has
--- no fault, the reader holds what they say, and there is room for a point.
-pub record IsAdmitted (s : Said) (i : Statement Name WrittenType) (edges : ℕ) (r : Reader)
+-- no fault, the reader holds what they say, and there is room for a point. It is told whether the
+-- block ends with it.
+pub record IsAdmitted (s : Said) (i : Statement Name WrittenType) (a : Admitted) (r : Reader)
     : Type 0 where
   pub fine : first_fault s (at_point i) ≡ None
   pub same : said_by r ≡ s
   pub ready : IsReady r
   pub few : length r.points.statements.items < most_points
-  pub counted : edges ≡ r.points.edges + edges_from i
-  pub few_edges : edges ≤ most_edges
+  pub counted : a.edges ≡ r.points.edges + edges_from i
+  pub few_edges : a.edges ≤ most_edges
+  pub ends : a.ends ≡ is_terminator i
 
 -- a line of the form is refused after lines that say s: for want of memory, or with its first kind
 -- of fault

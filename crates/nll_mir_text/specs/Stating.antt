@@ -1,16 +1,17 @@
 -- What is judged of the statements of a body.
 -- Source: project's choice. Only private contracts cite this file.
 use Rattle.std.specs.Prelude.{◌≡◌, ℕ, ◌<◌, Bool, true, false, ◌&&◌, List, [], ◌++◌, map, length}
-use Rattle.std.specs.Prelude.{nat_lt}
 use Rattle.std.specs.List.{list_all}
 use Rattle.std.specs.Borrow.{Bor}
 use Rattle.nll_format.specs.Names.{number_of}
 use Rattle.nll_types.specs.Types.{TypeTree}
+use Rattle.nll_types.specs.Judging.{HaveShapes}
 use Rattle.nll_types.specs.Operands.{Operand, operand_of}
 use Rattle.nll_types.specs.Shapes.{is_small, shape_of}
 use Rattle.nll_types.specs.Table.{AreBelow, shape_in}
 use Rattle.nll_types.specs.Declarations.{structs_of}
 use Rattle.nll_types.specs.Views.{tree}
+use Rattle.nll_types.specs.declared.judgement.Judgement.{Judgement}
 use Rattle.nll_types.specs.declared.node.Node.{Node}
 use Rattle.nll_types.specs.declared.operand.Operand.{Operand as KeptOperand}
 use Rattle.nll_types.specs.declared.ty.Ty.{Ty}
@@ -18,20 +19,17 @@ use Rattle.nll_type_grammar.specs.WrittenTypes.{Name, WrittenType}
 use Rattle.nll_type_grammar.specs.TypeTexts.{written}
 use Rattle.nll_type_grammar.specs.declared.type_text.TypeNode.{TypeNode}
 use Rattle.nll_statements.specs.Statements.{Statement, map_statement, types_written}
-use Rattle.nll_statements.specs.Effects.{place_in}
 use Rattle.nll_statements.specs.Written.{regions_written}
 use Rattle.nll_statements.specs.Kept.{statement_of}
 use Rattle.nll_statements.specs.declared.statement.Statement.{Statement as Kept}
 use Rattle.nll_resolve.specs.Naming.{Scope, is_among, is_known, has_arguments, meant}
 use Rattle.nll_resolve.specs.Resolution.{Resolved, tree_of}
 use Rattle.nll_type_check.specs.Typing.{types_are_small}
-use Rattle.nll_type_check.specs.Judging.{HaveShapes}
 use Rattle.nll_mir_text.specs.declared.tables.Regions.{Regions}
 use Rattle.nll_mir_text.specs.declared.tables.StructNames.{StructNames}
 use Rattle.nll_mir_text.specs.declared.tables.Variables.{Variables}
 use Rattle.nll_mir_text.specs.declared.judged_type.JudgedType.{JudgedType}
 use Rattle.nll_mir_text.specs.declared.shapes.ShapedTypes.{ShapedTypes}
-use Rattle.nll_mir_text.specs.declared.next_point.JudgedPoint.{JudgedPoint}
 use Rattle.nll_mir_text.specs.declared.groups.Group.TheVariants.{Header}
 pub use Rattle.nll_mir_text.specs.MirSaid.{meant_in}
 use Rattle.nll_mir_text.specs.MirSaid.{Said, statement_meant}
@@ -96,15 +94,6 @@ argument_kept a = (operand_of a.0, tree a.1)
 abbrev pub is_bound : List Name → Bor (List ℕ) × Bor (List ℕ) → Bool
 is_bound names w = is_among names w.0.now && is_among names w.1.now
 
--- the variable of the operand's place is among the first so many
-abbrev pub operand_within : ℕ → KeptOperand → Bool
-operand_within count op =
-    list_all (λ x. nat_lt x count) (map (λ p. p.variable) (place_in (operand_of op)))
-
--- and that of an argument's operand
-abbrev pub argument_within : ℕ → KeptOperand × Resolved → Bool
-argument_within count a = operand_within count a.0
-
 -- what lines say of names, structs and variables, as these tables have it
 abbrev pub declared_by : Regions → StructNames → Variables → Said
 declared_by regions structs variables = record {
@@ -145,8 +134,8 @@ pub record AddsTypes (ts : List Resolved) (before : List Node) (old : ShapedType
 
 -- It tells whether each name and variable in the statement is declared, whether its types fit, and,
 -- where they do, whether none is too large.
-pub record IsOfPoint (s : Said) (i : Statement Name WrittenType) (j : JudgedPoint) : Type 0 where
-  pub known : j.known ≡ knows s i
+pub record IsOfPoint (s : Said) (i : Statement Name WrittenType) (j : Judgement) : Type 0 where
+  pub known : j.declared ≡ knows s i
   pub fits : j.fits ≡ shapes_fit s i
   pub fits_small : j.fits ≡ true
       → j.small ≡ types_are_small s.structs s.variables (statement_meant s i)

@@ -16,7 +16,7 @@ ghost use Rattle.nll_mir_grammar.specs.declared.line.Line.TheVariants as lines;
 
 use crate::groups::Group;
 use crate::meant_statement::statement_meant;
-use crate::next_point::{JudgedPoint, add_point, judge_point};
+use crate::next_point::{Admitted, add_point, judge_point};
 use crate::ranges::targets_are_blocks;
 use crate::reader::Reader;
 use crate::resolution::resolve_statement;
@@ -26,6 +26,7 @@ use nll_resolve::ResolvedType;
 use nll_sets::Memory;
 use nll_statements::Statement;
 use nll_type_grammar::TypeText;
+use nll_types::Judgement;
 
 impl Reader {
     /// Begins a block.
@@ -58,22 +59,21 @@ impl Reader {
         Ok(())
     }
 
-    // How many edges there are with those of a statement, unless it has a fault by what was judged
-    // of it.
+    // What there is with a statement, unless it has a fault by what was judged of it.
     fn admit_judged(
         &self,
-        judged: JudgedPoint,
+        judged: Judgement,
         statement: &Statement<RegionId, ResolvedType>,
-    ) -> Result<usize, TextKind>
+    ) -> Result<Admitted, TextKind>
         requires { IsReady self.now }
-        ensures admitted { IfOk result (λ edges. (i : written_statement Name WrittenType)
+        ensures admitted { IfOk result (λ a. (i : written_statement Name WrittenType)
             → IsPlaced self.now i statement.now → IsOfPoint (said_by self.now) i judged
-            → IsAdmitted (said_by self.now) i edges self.now) }
+            → IsAdmitted (said_by self.now) i a self.now) }
         ensures refused { IfErr result (λ kind. (i : written_statement Name WrittenType)
             → IsPlaced self.now i statement.now → IsOfPoint (said_by self.now) i judged
             → IsRefused (said_by self.now) (forms.at_point i) kind) }
     {
-        if !judged.known {
+        if !judged.declared {
             return Err(TextKind::Unknown);
         }
         if !targets_are_blocks(self.points.blocks, statement) {
@@ -88,19 +88,23 @@ impl Reader {
         if self.points.statements.len() >= MAX_POINTS as usize {
             return Err(TextKind::Limit(Kind::Points));
         }
-        let edges = self.points.edges + statement.edges(self.alloc)?;
+        let exits = statement.exits(self.alloc)?;
+        let edges = self.points.edges + exits.edges;
         if edges > MAX_EDGES {
             return Err(TextKind::Limit(Kind::Edges));
         }
-        Ok(edges)
+        Ok(Admitted {
+            edges,
+            ends: exits.ends,
+        })
     }
 
-    // Judges what is to stand at the next point: how many edges there are with those of it.
-    fn admit(&mut self, statement: &Statement<RegionId, ResolvedType>) -> Result<usize, TextKind>
+    // Judges what is to stand at the next point: what there is with it.
+    fn admit(&mut self, statement: &Statement<RegionId, ResolvedType>) -> Result<Admitted, TextKind>
         requires { IsReady self.old }
-        ensures admitted { IfOk result (λ edges. (i : written_statement Name WrittenType)
+        ensures admitted { IfOk result (λ a. (i : written_statement Name WrittenType)
             → IsPlaced self.old i statement.now
-            → IsAdmitted (said_by self.old) i edges self.new) }
+            → IsAdmitted (said_by self.old) i a self.new) }
         ensures refused { IfErr result (λ kind. (i : written_statement Name WrittenType)
             → IsPlaced self.old i statement.now
             → IsRefused (said_by self.old) (forms.at_point i) kind) }
@@ -113,15 +117,15 @@ impl Reader {
     fn put(
         &mut self,
         statement: Statement<RegionId, ResolvedType>,
-        edges: usize,
+        admitted: Admitted,
     ) -> Result<(), Memory>
         ensures { OnOk result ((i : written_statement Name WrittenType)
-            → IsAdmitted (said_by self.old) i edges self.old
+            → IsAdmitted (said_by self.old) i a self.old
             → as_resolved (statement_of statement) ≡ statement_meant (said_by self.old) i
             → IsTaken (said_by self.old) (forms.at_point i) self.new) }
     {
         let meant = statement_meant(self.alloc, statement)?;
-        add_point(&mut self.points, meant, edges)?;
+        add_point(&mut self.points, meant, admitted)?;
         self.reached = Group::Blocks;
         Ok(())
     }
@@ -137,8 +141,8 @@ impl Reader {
             → IsRefused (said_by self.old) (forms.at_point i) kind) }
     {
         match self.admit(&statement) {
-            Ok(edges) => {
-                self.put(statement, edges)?;
+            Ok(admitted) => {
+                self.put(statement, admitted)?;
                 Ok(())
             }
             Err(kind) => {

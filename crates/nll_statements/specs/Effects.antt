@@ -5,17 +5,12 @@ use Rattle.std.specs.Prelude.{◌≡◌, ℕ, Bool, not, ◌==◌, List, [], ◌
 use Rattle.std.specs.Prelude.{if◌then◌else◌, filter, Option, Some, None, Contains}
 use Rattle.std.specs.List.{flat_map}
 use Rattle.nll_types.specs.Places.{PlacePath}
-use Rattle.nll_types.specs.Operands.{Operand, constant, copied, moved}
+pub use Rattle.nll_types.specs.Operands.{place_in}
+use Rattle.nll_types.specs.Operands.{Operand}
 use Rattle.nll_statements.specs.Statements.{Statement, assign, borrow, make, read, live, dead}
 use Rattle.nll_statements.specs.Statements.{goto, switch, drop, call, return}
 
 -- ---- what it uses, defines and drops
-
--- the place of an operand
-abbrev pub place_in : Operand → List PlacePath
-place_in constant = []
-place_in (copied p) = p ∷ []
-place_in (moved p) = p ∷ []
 
 -- the operands of a call
 abbrev pub operands_of : {T : Type 0} → List (Operand × T) → List Operand

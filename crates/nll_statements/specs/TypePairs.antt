@@ -1,17 +1,13 @@
 -- The types that meet in a statement or terminator: of what goes somewhere, and of where it goes.
 -- Source: RFC 2094, "Subtyping" and "Reborrow constraints" (the types that are related); the table
 -- is project's choice, and docs/FORMATS.md says the same in words.
-use Rattle.std.specs.Prelude.{ℕ, Bool, List, [], ◌∷◌, ◌++◌, Option, Some, None, map}
-use Rattle.nll_types.specs.Types.{TypeTree, TypeTrees, int, reference, tuple, named, none, more}
+use Rattle.std.specs.Prelude.{ℕ, List, [], ◌∷◌, ◌++◌, Option, Some, None, map}
+use Rattle.nll_types.specs.Types.{TypeTree, TypeTrees, int, tuple, named, none, more}
 use Rattle.nll_types.specs.Structs.{Struct, struct_at, put_in_all}
 use Rattle.nll_types.specs.Places.{type_of}
+pub use Rattle.nll_types.specs.Operands.{reference_to}
 use Rattle.nll_types.specs.Operands.{Operand, operand_type}
 use Rattle.nll_statements.specs.Statements.{Statement, assign, borrow, make, switch, call}
-
--- the type of a reference to a place of this type, where it has one
-abbrev pub reference_to : ℕ → Bool → Option TypeTree → Option TypeTree
-reference_to r m None = None
-reference_to r m (Some t) = Some (reference r m t)
 
 -- the types of operands over variables of these types
 abbrev pub operand_types : List Struct → List TypeTree → List Operand → List (Option TypeTree)

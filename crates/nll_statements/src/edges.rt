@@ -1,34 +1,57 @@
 //! How many edges leave a point.
 
-ghost use Rattle.std.specs.Prelude.{◌≡◌, ◌<◌, ◌≤◌, ◌^◌, ◌==◌, ◌∷◌, [], length, IfOk};
+ghost use Rattle.std.specs.Prelude.{◌≡◌, ◌<◌, ◌≤◌, ◌^◌, ◌==◌, ◌∷◌, [], length, true, IfOk};
 ghost use Rattle.indexmap.specs.IndexSet.{insert_all};
 ghost use Rattle.nll_statements.specs.Edges.{edges_from};
 ghost use Rattle.nll_statements.specs.Effects.{other_block};
 ghost use Rattle.nll_statements.specs.Kept.{statement_of};
+ghost use Rattle.nll_statements.specs.Statements.{is_terminator};
 
 use crate::statement::Statement;
 use indexmap::IndexSet;
 use nll_sets::Memory;
 use std::alloc::Global;
 
-impl<R, T> Statement<R, T> {
+/// How a statement or terminator goes on.
+#[derive(Clone, Copy)]
+pub struct Exits {
+    /// Whether the block ends with it.
+    pub ends: bool,
     /// How many edges leave the point where it stands: one, or one for each block to which a
-    /// terminator goes on. Memory is asked for only where a `switch` has more than two blocks.
+    /// terminator goes on.
+    pub edges: usize,
+}
+
+impl<R, T> Statement<R, T> {
+    /// How it goes on. Memory is asked for only where a `switch` has more than two blocks.
     ///
     /// # Cost
     /// Linear in the targets (not proved).
-    pub fn edges(&self, alloc: Global) -> Result<usize, Memory>
-        ensures edges { IfOk result (λ n. n ≡ edges_from (statement_of self.now)) }
-        ensures few { IfOk result (λ n. n < 2 ^ 63) }
+    pub fn exits(&self, alloc: Global) -> Result<Exits, Memory>
+        ensures ends { IfOk result (λ e. e.ends ≡ is_terminator (statement_of self.now)) }
+        ensures edges { IfOk result (λ e. e.edges ≡ edges_from (statement_of self.now)) }
+        ensures few { IfOk result (λ e. e.edges < 2 ^ 63) }
     {
         match self {
-            Statement::Switch(_, blocks) => distinct(alloc, blocks.as_slice()),
-            Statement::Drop(_, block, unwind) => Ok(exits(*block, *unwind)),
-            Statement::Call(call) => Ok(exits(call.target, call.unwind)),
-            Statement::Return | Statement::Stop => Ok(0),
-            _ => Ok(1),
+            Statement::Goto(_) => Ok(ending(1)),
+            Statement::Switch(_, blocks) => Ok(ending(distinct(alloc, blocks.as_slice())?)),
+            Statement::Drop(_, block, unwind) => Ok(ending(exit_count(*block, *unwind))),
+            Statement::Call(call) => Ok(ending(exit_count(call.target, call.unwind))),
+            Statement::Return | Statement::Stop => Ok(ending(0)),
+            _ => Ok(Exits {
+                ends: false,
+                edges: 1,
+            }),
         }
     }
+}
+
+// A terminator that so many edges leave.
+fn ending(edges: usize) -> Exits
+    ensures ends { result.ends ≡ true }
+    ensures edges { result.edges ≡ edges }
+{
+    Exits { ends: true, edges }
 }
 
 // How many numbers these two are.
@@ -41,7 +64,7 @@ fn of_two(number: u32, other: u32) -> usize
 }
 
 // How many blocks a block and the other one are, where there is one.
-fn exits(block: u32, unwind: Option<u32>) -> usize
+fn exit_count(block: u32, unwind: Option<u32>) -> usize
     ensures distinct { result
         ≡ length (insert_all (λ b c. b == c) [] (block ∷ other_block unwind)) }
     ensures few { result ≤ 2 }

@@ -7,4 +7,5 @@ mod effects;
 mod statement;
 mod written;
 
+pub use edges::Exits;
 pub use statement::{Call, Make, Statement};

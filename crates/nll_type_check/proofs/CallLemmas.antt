@@ -6,10 +6,9 @@ use Rattle.std.proofs.lemmas.List.Folds.{list_all-append, list_all-map}
 use Rattle.nll_types.specs.Types.{TypeTree}
 use Rattle.nll_types.specs.Structs.{Struct}
 use Rattle.nll_types.specs.Places.{PlacePath, type_of, small_prefixes}
-use Rattle.nll_types.specs.Operands.{Operand, operand_type}
+use Rattle.nll_types.specs.Operands.{Operand, operand_type, place_in}
 use Rattle.nll_types.specs.Shapes.{is_small}
 use Rattle.nll_statements.specs.Statements.{call}
-use Rattle.nll_statements.specs.Effects.{place_in}
 use Rattle.nll_type_check.specs.Typing.{agree, types_agree, types_are_small}
 use Rattle.nll_type_check.proofs.JudgedLemmas.{call_order, last_agrees}
 
@@ -71,3 +70,8 @@ pub written_mapped : {W T : Type 0} (op : W → Operand) (h : T → TypeTree) (x
     ≡ map (λ x. h x.1) xs ++ h t ∷ []
 written_mapped op h [] t = refl
 written_mapped op h (x ∷ xs) t = ap (λ z. h x.1 ∷ z) (written_mapped op h xs t)
+
+-- the operands of the code's call
+pub operands_mapped : {W T : Type 0} (op : W → Operand) (xs : List (W × T))
+    → map (λ x. op x.0) xs ≡ map (λ a. a.0) (map {B = Operand × T} (λ x. (op x.0, x.1)) xs)
+operands_mapped {W} {T} op xs = sym (map_twice {Y = Operand × T} (λ x. (op x.0, x.1)) (λ a. a.0) xs)

@@ -1,4 +1,3 @@
 pub mod JudgedLemmas
-pub mod FoundLemmas
 pub mod PartLemmas
 pub mod CallLemmas

@@ -1,6 +1,6 @@
 -- The parts of types, one after another.
 use Rattle.std.proofs.Common.{◌≡◌, ℕ, zero, suc, ◌+◌, ◌<◌, ◌≤◌, ◌↔◌, Bool, true, false, List, [], ◌∷◌, ◌++◌, length, map, drop, get_or, refl, sym, ap, ◌∙◌, arith, Option, Some, None}
-use Rattle.std.specs.Prelude.{option_map, ◌&&◌, slice_get, IsTrue}
+use Rattle.std.specs.Prelude.{option_map, ◌&&◌, nat_lt, slice_get, IsTrue}
 use Rattle.std.proofs.lemmas.List.{length-map, drop_all}
 use Rattle.std.specs.List.{list_all, flat_map}
 use Rattle.std.proofs.Math.Seq.{drop-cons}
@@ -8,20 +8,19 @@ use Rattle.std.proofs.lemmas.Bool.{false_from_ne_true, and_parts}
 use Rattle.std.proofs.lemmas.List.Folds.{list_all-append}
 use Rattle.nll_types.specs.Types.{TypeTree, TypeTrees, int, parameter, reference, tuple, named, function, none, more, type_at, type_count}
 use Rattle.nll_types.specs.Structs.{Struct, struct_at, put_in, put_in_all}
-use Rattle.nll_types.specs.Places.{behind, part_count, small_prefixes}
-use Rattle.nll_types.specs.Operands.{Operand, operand_of, operand_type}
+use Rattle.nll_types.specs.Places.{PlacePath, behind, part_count, small_prefixes}
+use Rattle.nll_types.specs.Judging.{IsJudged, have_variables}
+use Rattle.nll_types.specs.Operands.{Operand, operand_of, operand_type, place_in}
 use Rattle.nll_types.specs.Shapes.{is_small, shape_of, behind_shape}
 use Rattle.nll_types.specs.Table.{shape_in}
+use Rattle.nll_types.specs.declared.judgement.Judgement.{Judgement}
 use Rattle.nll_types.specs.declared.node.Node.{Node}
 use Rattle.nll_types.specs.declared.operand.Operand.{Operand as Written}
 use Rattle.nll_types.specs.declared.place.Projection.TheVariants.{Field}
 use Rattle.nll_types.proofs.ShapeLemmas.{behind_agrees}
-use Rattle.nll_statements.specs.Effects.{place_in}
 use Rattle.nll_statements.specs.TypePairs.{beside, beside_parts, operand_types, parts_of_type}
 use Rattle.nll_type_check.specs.Typing.{agree, pairs_agree, are_small}
-use Rattle.nll_type_check.specs.Judging.{IsJudged}
-use Rattle.nll_type_check.specs.declared.judged.JudgedStatement.{JudgedStatement}
-use Rattle.nll_type_check.proofs.JudgedLemmas.{and_swap, IsSoFar, so_far_more, so_far_all, so_far_as}
+use Rattle.nll_type_check.proofs.JudgedLemmas.{and_assoc, and_right_true, and_swap, IsSoFar, so_far_more, so_far_all, so_far_as}
 
 -- operands agree with the parts that stand beside them
 abbrev pub all_agree : List (Option TypeTree) → TypeTrees → Bool
@@ -162,6 +161,44 @@ rest_next {X} xs k x l is =
     let e : k + 1 ≡ suc k = omega arith in
     drop-cons xs k x l ∙ ap (λ (z : X). z ∷ drop (suc k) xs) (sym is) ∙ ap (λ (z : ℕ). x ∷ drop z xs) (sym e)
 
+-- ---- variables of operands
+
+variables_of_both : (count : ℕ) (ps qs : List PlacePath)
+    → have_variables count (ps ++ qs) ≡ (have_variables count ps && have_variables count qs)
+variables_of_both count [] qs = refl
+variables_of_both count (p ∷ ps) qs =
+    ap (λ (z : Bool). nat_lt p.variable count && z) (variables_of_both count ps qs)
+    ∙ and_assoc (nat_lt p.variable count) (have_variables count ps) (have_variables count qs)
+
+module _ {X : Type 0} (op : X → Operand) (count : ℕ) (xs : List X) where
+  -- the variables of the operands behind the first k are declared
+  abbrev pub left_declared : ℕ → Bool
+  left_declared k = have_variables count (flat_map place_in (map op (drop k xs)))
+
+  -- one more operand's variable is looked at
+  pub declared_more : (k : ℕ) (x : X) (before one after whole : Bool) → k < length xs → x ≡ get_or xs k x
+      → (before && left_declared k) ≡ whole → one ≡ have_variables count (place_in (op x)) → after ≡ (before && one)
+      → (after && left_declared (k + 1)) ≡ whole
+  declared_more k x before one after whole l is far told a =
+      let rest = flat_map place_in (map op (drop (k + 1) xs)) in
+      ap (λ (z : Bool). z && left_declared (k + 1)) a
+      ∙ sym (and_assoc before one (left_declared (k + 1)))
+      ∙ ap (λ (z : Bool). before && (z && left_declared (k + 1))) told
+      ∙ ap (λ (z : Bool). before && z) (sym (variables_of_both count (place_in (op x)) rest))
+      ∙ ap (λ (z : List X). before && have_variables count (flat_map place_in (map op z)))
+      (sym (rest_next xs k x l is))
+      ∙ far
+
+  -- all are
+  pub declared_all : (k : ℕ) (judged whole : Bool) → length xs ≤ k → (judged && left_declared k) ≡ whole
+      → judged ≡ whole
+  declared_all k judged whole l far =
+      sym (and_right_true judged)
+      ∙ (ap (λ (z : List X). judged && have_variables count (flat_map place_in (map op z))) (sym (drop_all k xs l))
+      ∙ far)
+
+-- ---- operands and parts, one after another
+
 module _ (structs : List Struct) (types : List TypeTree) where
   -- what is left of operands and parts behind the first k
   abbrev pub left_fits : List Written → TypeTrees → ℕ → Bool
@@ -203,7 +240,7 @@ module _ (structs : List Struct) (types : List TypeTree) where
 
   -- one more operand is judged against its part
   pub parts_more : (ops : List Written) (ts : TypeTrees) (k : ℕ) (op : Written) (u : TypeTree)
-      (j part next : JudgedStatement) (f s : Bool)
+      (j part next : Judgement) (f s : Bool)
       → k < length ops → op ≡ get_or ops k op → row_after k ts ≡ more u (row_after (suc k) ts)
       → IsSoFar j (left_fits ops ts k) (left_small ops ts k) f s
       → IsJudged (agree (operand_type structs types (operand_of op)) (Some u))
@@ -216,7 +253,7 @@ module _ (structs : List Struct) (types : List TypeTree) where
       (small_next ops ts k op u d row) a b
 
   -- all operands are judged
-  pub parts_all : (ops : List Written) (ts : TypeTrees) (k : ℕ) (j : JudgedStatement) (f s : Bool) → length ops ≤ k
+  pub parts_all : (ops : List Written) (ts : TypeTrees) (k : ℕ) (j : Judgement) (f s : Bool) → length ops ≤ k
       → type_count ts ≡ length ops
       → IsSoFar j (left_fits ops ts k) (left_small ops ts k) f s → IsJudged f s j
   parts_all ops ts k j f s l count far =
@@ -248,7 +285,7 @@ module _ {X : Type 0} (structs : List Struct) (types : List TypeTree) (op : X �
       list_all (small_prefixes structs types) (flat_map place_in (map op xs)) && list_all is_small (map h xs)
 
   -- one more operand is judged against its type
-  pub arguments_more : (xs : List X) (k : ℕ) (x : X) (j one next : JudgedStatement) (f s : Bool) → k < length xs
+  pub arguments_more : (xs : List X) (k : ℕ) (x : X) (j one next : Judgement) (f s : Bool) → k < length xs
       → x ≡ get_or xs k x
       → IsSoFar j (rest_fits (drop k xs)) (rest_small (drop k xs)) f s
       → IsJudged (agree (operand_type structs types (op x)) (Some (h x)))
@@ -267,7 +304,7 @@ module _ {X : Type 0} (structs : List Struct) (types : List TypeTree) (op : X �
       a b
 
   -- all operands are judged
-  pub arguments_all : (xs : List X) (k : ℕ) (j : JudgedStatement) (f s : Bool) → length xs ≤ k
+  pub arguments_all : (xs : List X) (k : ℕ) (j : Judgement) (f s : Bool) → length xs ≤ k
       → IsSoFar j (rest_fits (drop k xs)) (rest_small (drop k xs)) f s → IsJudged f s j
   arguments_all xs k j f s l far =
       let a = drop_all k xs l in

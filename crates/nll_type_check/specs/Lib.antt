@@ -1,3 +1,1 @@
 pub mod Typing
-pub mod Judging
-pub mod Found

@@ -2,22 +2,18 @@
 -- its types may be.
 -- Source: RFC 2094, "Subtyping" and "Reborrow constraints" (the types that are related); the rest
 -- is project's choice, and docs/FORMATS.md says the same in words.
-use Rattle.std.specs.Prelude.{ℕ, Bool, true, false, ◌&&◌, List, ◌++◌, Option, Some, None, is_some}
+use Rattle.std.specs.Prelude.{ℕ, Bool, true, ◌&&◌, List, ◌++◌, Option, Some, None, is_some}
 use Rattle.std.specs.List.{list_all}
 use Rattle.nll_types.specs.Types.{TypeTree, TypeTrees, none, more}
 use Rattle.nll_types.specs.Structs.{Struct}
 use Rattle.nll_types.specs.Places.{type_of, small_prefixes}
-use Rattle.nll_types.specs.Shapes.{same_shape, is_small}
+use Rattle.nll_types.specs.Shapes.{is_small}
+pub use Rattle.nll_types.specs.Judging.{agree}
 use Rattle.nll_statements.specs.Statements.{Statement, make, read, types_written}
 use Rattle.nll_statements.specs.Effects.{target_of, sources_of}
 use Rattle.nll_statements.specs.TypePairs.{parts_of_type, type_pairs}
 
 -- ---- types that agree
-
--- both are there, and they are equal when regions are forgotten
-abbrev pub agree : Option TypeTree → Option TypeTree → Bool
-agree (Some t) (Some u) = same_shape t u
-agree _ _ = false
 
 -- each pair agrees
 abbrev pub pairs_agree : List (Option TypeTree × Option TypeTree) → Bool

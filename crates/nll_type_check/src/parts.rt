@@ -4,49 +4,21 @@ ghost use Rattle.std.specs.Prelude.{◌≡◌, ◌↔◌, ◌&&◌, ◌++◌, �
 ghost use Rattle.std.specs.Prelude.{IfOk, IsTrue};
 ghost use Rattle.std.specs.List.{flat_map, list_all};
 ghost use Rattle.nll_types.specs.Declarations.{structs_of};
-ghost use Rattle.nll_types.specs.Operands.{operand_of, operand_type};
+ghost use Rattle.nll_types.specs.Judging.{HaveShapes, IsJudged, have_variables};
+ghost use Rattle.nll_types.specs.Operands.{operand_of, operand_type, place_in};
 ghost use Rattle.nll_types.specs.Places.{behind, part_count, small_prefixes};
 ghost use Rattle.nll_types.specs.Shapes.{shape_of, is_small};
 ghost use Rattle.nll_types.specs.Table.{Extends, AreBelow, shape_in};
 ghost use Rattle.nll_types.specs.Types.{TypeTree};
 ghost use Rattle.nll_types.specs.declared.place.Projection.TheVariants.{Field as field};
-ghost use Rattle.nll_statements.specs.Effects.{place_in};
 ghost use Rattle.nll_statements.specs.TypePairs.{beside_parts, operand_types, parts_of_type};
-ghost use Rattle.nll_type_check.specs.Judging.{HaveShapes, IsJudged};
 ghost use Rattle.nll_type_check.specs.Typing as spec;
 ghost use Rattle.nll_type_check.specs.Typing.{pairs_agree, parts_are_small};
 
-use crate::judged::{JudgedStatement, agree, both, fitting, unfit};
-use crate::place_shapes::{operand_found, shape_found};
+use crate::declared::{are_operands_declared, is_operand_declared};
 use nll_sets::Memory;
-use nll_types::{Operand, TypeTable};
+use nll_types::{Judgement, Operand, TypeTable};
 use std::alloc::Global;
-
-/// Judges an operand against a type of this shape.
-pub(crate) fn judge_operand(
-    alloc: Global,
-    table: &mut TypeTable,
-    variables: &[usize],
-    operand: &Operand,
-    shape: usize,
-) -> Result<JudgedStatement, Memory>
-    requires variables { AreBelow (length table.old.shapes) variables.now }
-    requires shape { shape < length table.old.shapes }
-    ensures structs { table.new.structs ≡ table.old.structs }
-    ensures extends { Extends table.old.shapes table.new.shapes }
-    ensures judged { IfOk result (λ j. (types : List TypeTree) (t : TypeTree)
-        → HaveShapes table.old.shapes variables.now types
-        → shape_in table.old.shapes shape ≡ shape_of t
-        → IsJudged
-        (spec.agree (operand_type (structs_of table.old.structs) types (operand_of operand.now))
-        (Some t))
-        (list_all (small_prefixes (structs_of table.old.structs) types)
-        (place_in (operand_of operand.now)) && is_small t) j) }
-{
-    let found = operand_found(alloc, table, variables, operand)?;
-    let wanted = shape_found(table.shapes(), shape);
-    Ok(agree(table.shapes(), found, Some(wanted)))
-}
 
 // Whether types of this shape have so many parts.
 fn has_parts(table: &TypeTable, shape: usize, count: usize) -> bool
@@ -68,11 +40,13 @@ fn judge_part(
     operand: &Operand,
     shape: usize,
     place: usize,
-) -> Result<JudgedStatement, Memory>
+) -> Result<Judgement, Memory>
     requires variables { AreBelow (length table.old.shapes) variables.now }
     requires shape { shape < length table.old.shapes }
     ensures structs { table.new.structs ≡ table.old.structs }
     ensures extends { Extends table.old.shapes table.new.shapes }
+    ensures declared { IfOk result (λ j. j.declared
+        ≡ have_variables (length variables.now) (place_in (operand_of operand.now))) }
     ensures judged { IfOk result (λ j. (types : List TypeTree) (t u : TypeTree)
         → HaveShapes table.old.shapes variables.now types
         → shape_in table.old.shapes shape ≡ shape_of t
@@ -84,8 +58,8 @@ fn judge_part(
         (place_in (operand_of operand.now)) && is_small u) j) }
 {
     match table.part(alloc, shape, place)? {
-        Some(part) => judge_operand(alloc, table, variables, operand, part),
-        None => Ok(unfit()),
+        Some(part) => table.judge_operand(alloc, variables, operand, part),
+        None => Ok(Judgement::unfit(is_operand_declared(variables.len(), operand))),
     }
 }
 
@@ -96,11 +70,13 @@ pub(crate) fn judge_parts(
     variables: &[usize],
     operands: &[Operand],
     shape: usize,
-) -> Result<JudgedStatement, Memory>
+) -> Result<Judgement, Memory>
     requires variables { AreBelow (length table.old.shapes) variables.now }
     requires shape { shape < length table.old.shapes }
     ensures structs { table.new.structs ≡ table.old.structs }
     ensures extends { Extends table.old.shapes table.new.shapes }
+    ensures declared { IfOk result (λ j. j.declared ≡ have_variables (length variables.now)
+        (flat_map place_in (map operand_of operands.now))) }
     ensures judged { IfOk result (λ j. (types : List TypeTree) (t : TypeTree)
         → HaveShapes table.old.shapes variables.now types
         → shape_in table.old.shapes shape ≡ shape_of t
@@ -113,12 +89,13 @@ pub(crate) fn judge_parts(
         && parts_are_small (parts_of_type (structs_of table.old.structs) t)) j) }
 {
     if !has_parts(table, shape, operands.len()) {
-        return Ok(unfit());
+        let declared = are_operands_declared(variables.len(), operands);
+        return Ok(Judgement::unfit(declared));
     }
-    let mut judged = fitting(true);
+    let mut judged = Judgement::fitting(true, true);
     for place in 0..operands.len() {
         let part = judge_part(alloc, table, variables, &operands[place], shape, place)?;
-        judged = both(judged, part);
+        judged = judged.and(part);
     }
     Ok(judged)
 }
@@ -130,12 +107,14 @@ pub(crate) fn judge_arguments<T>(
     variables: &[usize],
     arguments: &[(Operand, T)],
     written: &[usize],
-) -> Result<JudgedStatement, Memory>
+) -> Result<Judgement, Memory>
     requires variables { AreBelow (length table.old.shapes) variables.now }
     requires written { AreBelow (length table.old.shapes) written.now }
     requires each { length arguments.now ≤ length written.now }
     ensures structs { table.new.structs ≡ table.old.structs }
     ensures extends { Extends table.old.shapes table.new.shapes }
+    ensures declared { IfOk result (λ j. j.declared ≡ have_variables (length variables.now)
+        (flat_map place_in (map (λ a. operand_of a.0) arguments.now))) }
     ensures judged { IfOk result (λ j. (types others : List TypeTree) (g : T → TypeTree)
         → HaveShapes table.old.shapes variables.now types
         → HaveShapes table.old.shapes written.now
@@ -148,11 +127,11 @@ pub(crate) fn judge_arguments<T>(
         (flat_map place_in (map (λ a. operand_of a.0) arguments.now))
         && list_all is_small (map (λ a. g a.1) arguments.now)) j) }
 {
-    let mut judged = fitting(true);
+    let mut judged = Judgement::fitting(true, true);
     for place in 0..arguments.len() {
         let (argument, shape) = (&arguments[place], written[place]);
-        let one = judge_operand(alloc, table, variables, &argument.0, shape)?;
-        judged = both(judged, one);
+        let one = table.judge_operand(alloc, variables, &argument.0, shape)?;
+        judged = judged.and(one);
     }
     Ok(judged)
 }

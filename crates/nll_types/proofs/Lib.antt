@@ -17,3 +17,5 @@ pub mod MemoLemmas
 pub mod SameShapeLemmas
 pub mod WayLemmas
 pub mod KeepingLemmas
+pub mod NumberLemmas
+pub mod MeetingLemmas

@@ -11,3 +11,5 @@ pub mod Tables
 pub mod Sources
 pub mod Declarations
 pub mod Collecting
+pub mod Judging
+pub mod Found

@@ -1,18 +1,18 @@
-use Rattle.std.proofs.Common.{◌≡◌, ℕ, length, map, refl, sym, ◌∙◌, arith}
+use Rattle.std.proofs.Common.{◌≡◌, ℕ, length, map, refl, sym, ap, ◌∙◌}
 use Rattle.nll_types.specs.Views.{tree}
 use Rattle.nll_types.proofs.ShapingLemmas.{extends_then}
 use Rattle.nll_statements.specs.Kept.{statement_of}
 use Rattle.nll_resolve.specs.Resolution.{tree_of}
 use Rattle.nll_mir_text.proofs.StatingLemmas.{have_shapes}
-use Rattle.nll_mir_text.proofs.PointLemmas.{point_judged}
+use Rattle.nll_mir_text.proofs.PointLemmas.{as_many, point_judged}
 use Rattle.nll_mir_text.proofs.next_point.judge_point.Goals as goal
 
 pub returns-clause-judged : goal.returns-clause-judged
 returns-clause-judged c = λ regions structs i of.
     let t = c.in_ok-types.ensures.shaped in
-    let count : c.len.result ≡ length c.args.variables.now.types.items =
-    omega (arith, c.len.ensures, c.args.variables.now.types.ok.0) in
     let numbers = c.as_slice-shapes.ensures.value in
+    let count : length c.as_slice-shapes.result.now ≡ length c.args.variables.now.types.items =
+    ap length numbers ∙ as_many c.args.variables.now c.requires in
     let shapes = c.as_slice.ensures in
     let variables = rw (sym numbers) at (have_shapes _ _ _ _ c.in_ok-types.ensures.extends c.requires) in
     let types = rw (sym shapes) at t.same in
@@ -20,8 +20,7 @@ returns-clause-judged c = λ regions structs i of.
     c.in_ok-judged.ensures.judged (map tree c.args.variables.now.types.items)
     (λ (r : ℕ). r) tree_of variables types in
     point_judged regions structs c.args.variables.now i (statement_of c.args.statement.now) of
-    c.variables_declared-known.result c.in_ok-types.types.fit c.in_ok-judged.judged _ refl refl refl
-    (rw count at c.variables_declared-known.ensures)
+    c.in_ok-types.types.fit c.in_ok-judged.judged _ refl refl refl (rw count at c.in_ok-judged.ensures.declared)
     t.fit
     (rw c.in_ok-types.ensures.structs at judged)
 

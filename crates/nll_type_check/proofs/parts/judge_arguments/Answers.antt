@@ -2,8 +2,8 @@ use Rattle.std.proofs.Common.{◌<◌, ◌≤◌, ◌∙◌, length, arith}
 use Rattle.nll_types.specs.Declarations.{structs_of}
 use Rattle.nll_types.specs.Operands.{operand_of}
 use Rattle.nll_types.proofs.ShapingLemmas.{extends_then}
-use Rattle.nll_type_check.proofs.FoundLemmas.{below_later, shapes_later, shape_at, shape_later}
-use Rattle.nll_type_check.proofs.PartLemmas.{type_of_argument, arguments_more, arguments_all}
+use Rattle.nll_types.proofs.NumberLemmas.{below_later, shapes_later, shape_at, shape_later}
+use Rattle.nll_type_check.proofs.PartLemmas.{type_of_argument, arguments_more, arguments_all, declared_more, declared_all}
 use Rattle.nll_type_check.proofs.parts.judge_arguments.Goals as goal
 
 pub loop-place-preserved : goal.loop-place-preserved
@@ -14,6 +14,8 @@ loop-place-preserved g c =
     let k = c.loop-place.place in (
       c.judge_operand.ensures.structs ∙ on.0,
       extends_then _ _ _ on.1 c.judge_operand.ensures.extends,
+      declared_more (λ a. operand_of a.0) (length c.args.variables.now) xs k c.index-arguments-place.result _ _ _ _
+          (omega arith) c.index-arguments-place.is on.2 c.in_ok-one.ensures.declared c.and-judged.ensures.declared,
       λ types others f h e.
           let within : k < length xs = omega arith in
           let x = c.index-arguments-place.result in
@@ -26,7 +28,7 @@ loop-place-preserved g c =
           (shape_later _ _ _ (f x.1) on.1 (c.requires.written k (omega arith)) shape) in
           arguments_more structs types (λ a. operand_of a.0)
           (λ a. f a.1) xs k x c.loop-place.judged c.in_ok-one.one _ _ _ within c.index-arguments-place.is
-          (on.2 types others f h e) judged c.both-judged.ensures.fits c.both-judged.ensures.small,
+          (on.3 types others f h e) judged c.and-judged.ensures.fits c.and-judged.ensures.small,
     )
 
 pub returns-clause-judged : goal.returns-clause-judged
@@ -34,7 +36,7 @@ returns-clause-judged g c = λ types others f h e.
     let past : length c.args.arguments.now ≤ c.loop-place.place = omega arith in
     arguments_all (structs_of c.args.table.now.structs) types (λ a. operand_of a.0)
     (λ a. f a.1) c.args.arguments.now c.loop-place.place c.loop-place.judged _ _ past
-    (c.loop-place.invariant.2 types others f h e)
+    (c.loop-place.invariant.3 types others f h e)
 
 pub returns-clause-structs : goal.returns-clause-structs
 returns-clause-structs g c = c.loop-place.invariant.0
@@ -50,3 +52,9 @@ returns-in_err-one-clause-structs g c = c.judge_operand.ensures.structs ∙ c.lo
 
 pub returns-in_err-one-clause-extends : goal.returns-in_err-one-clause-extends
 returns-in_err-one-clause-extends g c = extends_then _ _ _ c.loop-place.invariant.1 c.judge_operand.ensures.extends
+
+pub returns-clause-declared : goal.returns-clause-declared
+returns-clause-declared g c =
+    let past : length c.args.arguments.now ≤ c.loop-place.place = omega arith in
+    declared_all (λ a. operand_of a.0) (length c.args.variables.now) c.args.arguments.now c.loop-place.place _ _ past
+    c.loop-place.invariant.2

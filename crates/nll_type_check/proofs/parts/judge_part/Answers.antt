@@ -2,7 +2,7 @@ use Rattle.std.proofs.Common.{◌∙◌}
 use Rattle.std.proofs.lemmas.Result.{IfOk-weaker}
 use Rattle.nll_types.proofs.ShapingLemmas.{extends_then}
 use Rattle.nll_types.specs.Declarations.{structs_of}
-use Rattle.nll_type_check.proofs.FoundLemmas.{below_later, shapes_later}
+use Rattle.nll_types.proofs.NumberLemmas.{below_later, shapes_later}
 use Rattle.nll_type_check.proofs.PartLemmas.{part_shape, no_part}
 use Rattle.nll_type_check.proofs.parts.judge_part.Goals as goal
 

@@ -2,22 +2,21 @@ use Rattle.std.proofs.Common.{◌<◌, ◌≤◌, ◌∙◌, length, sym, refl, 
 use Rattle.std.specs.Prelude.{◌&&◌, Option, map}
 use Rattle.std.specs.List.{list_all, flat_map}
 use Rattle.nll_types.specs.Declarations.{structs_of}
-use Rattle.nll_types.specs.Operands.{operand_of}
+use Rattle.nll_types.specs.Operands.{operand_of, place_in}
 use Rattle.nll_types.specs.Places.{small_prefixes}
 use Rattle.nll_types.specs.Types.{TypeTrees}
-use Rattle.nll_statements.specs.Effects.{place_in}
 use Rattle.nll_types.proofs.ShapingLemmas.{extends_then}
 use Rattle.nll_statements.specs.TypePairs.{operand_types}
 use Rattle.nll_type_check.specs.Typing.{parts_are_small}
-use Rattle.nll_type_check.proofs.FoundLemmas.{below_later, shapes_later, shape_later}
-use Rattle.nll_type_check.proofs.JudgedLemmas.{judged_as}
-use Rattle.nll_type_check.proofs.PartLemmas.{makes, makes_none, parts_there, parts_counted, part_behind, parts_more, parts_all, row_next}
+use Rattle.nll_types.proofs.NumberLemmas.{below_later, shapes_later, shape_later}
+use Rattle.nll_types.proofs.MeetingLemmas.{judged_as}
+use Rattle.nll_type_check.proofs.PartLemmas.{declared_all, declared_more, makes, makes_none, parts_there, parts_counted, part_behind, parts_more, parts_all, row_next}
 use Rattle.nll_type_check.proofs.parts.judge_parts.Goals as goal
 
 pub returns-then-not-has_parts-clause-judged : goal.returns-then-not-has_parts-clause-judged
 returns-then-not-has_parts-clause-judged c = λ types t h e.
     judged_as (sym (makes_none (structs_of c.args.table.now.structs) types t c.args.operands.now c.has_parts.result
-    (c.has_parts.ensures t e) c.if-not-has_parts.true)) refl (c.unfit.ensures _)
+    (c.has_parts.ensures t e) c.if-not-has_parts.true)) refl (c.unfit.ensures.judged _)
 
 pub loop-place-preserved : goal.loop-place-preserved
 loop-place-preserved c =
@@ -27,6 +26,8 @@ loop-place-preserved c =
     let k = c.loop-place.place in (
       c.judge_part.ensures.structs ∙ on.0,
       extends_then _ _ _ on.1 c.judge_part.ensures.extends,
+      declared_more operand_of (length c.args.variables.now) ops k c.index-operands-place.result _ _ _ _
+          (omega arith) c.index-operands-place.is on.2 c.in_ok-part.ensures.declared c.and-judged.ensures.declared,
       λ types t ts h e is.
           let has = (c.has_parts.ensures t e).0 c.if-not-has_parts.false in
           let count = parts_counted structs t (length ops) ts has is in
@@ -38,7 +39,7 @@ loop-place-preserved c =
           (part_behind structs t ts k row.0 is row.1) in
           parts_more structs types ops ts k c.index-operands-place.result row.0 c.loop-place.judged c.in_ok-part.part _
           _ _ within c.index-operands-place.is row.2
-          (on.2 types t ts h e is) judged c.both-judged.ensures.fits c.both-judged.ensures.small,
+          (on.3 types t ts h e is) judged c.and-judged.ensures.fits c.and-judged.ensures.small,
     )
 
 pub returns-clause-judged : goal.returns-clause-judged
@@ -51,7 +52,7 @@ returns-clause-judged c = λ types t h e.
     let past : length ops ≤ c.loop-place.place = omega arith in
     let judged =
     parts_all structs types ops parts.0 c.loop-place.place c.loop-place.judged _ _ past parts.2
-    (on.2 types t parts.0 h e parts.1) in
+    (on.3 types t parts.0 h e parts.1) in
     judged_as (ap (makes (operand_types structs types (map operand_of ops))) (sym parts.1))
     (ap (λ (z : Option TypeTrees). list_all (small_prefixes structs types) (flat_map place_in (map operand_of ops))
     && parts_are_small z) (sym parts.1)) judged
@@ -70,3 +71,9 @@ returns-in_err-part-clause-structs c = c.judge_part.ensures.structs ∙ c.loop-p
 
 pub returns-in_err-part-clause-extends : goal.returns-in_err-part-clause-extends
 returns-in_err-part-clause-extends c = extends_then _ _ _ c.loop-place.invariant.1 c.judge_part.ensures.extends
+
+pub returns-clause-declared : goal.returns-clause-declared
+returns-clause-declared c =
+    let past : length c.args.operands.now ≤ c.loop-place.place = omega arith in
+    declared_all operand_of (length c.args.variables.now) c.args.operands.now c.loop-place.place _ _ past
+    c.loop-place.invariant.2

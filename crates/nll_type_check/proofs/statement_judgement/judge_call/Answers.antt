@@ -1,10 +1,11 @@
-use Rattle.std.proofs.Common.{length, ◌∙◌, arith}
+use Rattle.std.proofs.Common.{◌&&◌, length, ap, ◌∙◌, arith}
 use Rattle.nll_types.specs.Declarations.{structs_of}
 use Rattle.nll_types.specs.Operands.{operand_of}
 use Rattle.nll_types.specs.Places.{path_of}
 use Rattle.nll_types.proofs.ShapingLemmas.{extends_then}
-use Rattle.nll_type_check.proofs.FoundLemmas.{below_later, shapes_later, shape_later, shape_at}
-use Rattle.nll_type_check.proofs.JudgedLemmas.{both_judged, judged_as}
+use Rattle.nll_types.proofs.NumberLemmas.{below_later, shapes_later, shape_later, shape_at}
+use Rattle.nll_types.proofs.MeetingLemmas.{judged_as}
+use Rattle.nll_type_check.proofs.JudgedLemmas.{both_judged, target_first}
 use Rattle.nll_type_check.proofs.CallLemmas.{call_fits, call_small, last_type}
 use Rattle.nll_type_check.proofs.statement_judgement.judge_call.Goals as goal
 
@@ -22,26 +23,31 @@ returns-clause-judged g c = λ types f t wheres b unwind h e.
     let p = path_of c.args.place.now in
     judged_as (call_fits structs types (λ a. operand_of a.0) (λ a. f a.1) xs t p wheres b unwind)
     (call_small structs types (λ a. operand_of a.0) (λ a. f a.1) xs t p wheres b unwind)
-    (both_judged _ _ _ _ _ _ _ inputs result c.both.ensures.fits c.both.ensures.small)
+    (both_judged _ _ _ _ _ _ _ inputs result c.and.ensures.fits c.and.ensures.small)
 
 pub returns-clause-structs : goal.returns-clause-structs
-returns-clause-structs g c = c.judge_result.ensures.structs ∙ c.judge_arguments.ensures.structs
+returns-clause-structs g c = c.judge_given.ensures.structs ∙ c.judge_arguments.ensures.structs
 
 pub returns-clause-extends : goal.returns-clause-extends
-returns-clause-extends g c = extends_then _ _ _ c.judge_arguments.ensures.extends c.judge_result.ensures.extends
+returns-clause-extends g c = extends_then _ _ _ c.judge_arguments.ensures.extends c.judge_given.ensures.extends
 
 pub returns-in_err-result-clause-structs : goal.returns-in_err-result-clause-structs
-returns-in_err-result-clause-structs g c = c.judge_result.ensures.structs ∙ c.judge_arguments.ensures.structs
+returns-in_err-result-clause-structs g c = c.judge_given.ensures.structs ∙ c.judge_arguments.ensures.structs
 
 pub returns-in_err-result-clause-extends : goal.returns-in_err-result-clause-extends
 returns-in_err-result-clause-extends g c =
-    extends_then _ _ _ c.judge_arguments.ensures.extends c.judge_result.ensures.extends
+    extends_then _ _ _ c.judge_arguments.ensures.extends c.judge_given.ensures.extends
 
-pub judge_result-requires-clause-variables : goal.judge_result-requires-clause-variables
-judge_result-requires-clause-variables g c = below_later _ _ _ c.judge_arguments.ensures.extends c.requires.variables
+pub judge_given-requires-clause-variables : goal.judge_given-requires-clause-variables
+judge_given-requires-clause-variables g c = below_later _ _ _ c.judge_arguments.ensures.extends c.requires.variables
 
 pub judge_arguments-requires-clause-variables : goal.judge_arguments-requires-clause-variables
 judge_arguments-requires-clause-variables g c = c.requires.variables
 
 pub judge_arguments-requires-clause-written : goal.judge_arguments-requires-clause-written
 judge_arguments-requires-clause-written g c = c.requires.written
+
+pub returns-clause-declared : goal.returns-clause-declared
+returns-clause-declared g c =
+    target_first _ _ _ _ c.in_ok-result.ensures.declared
+    (c.and.ensures.declared ∙ ap (λ z. z && c.in_ok-result.result.declared) c.in_ok-inputs.ensures.declared)

@@ -1,15 +1,15 @@
-use Rattle.std.proofs.Common.{map, Some, ◌∙◌}
+use Rattle.std.proofs.Common.{◌&&◌, map, Some, ap, ◌∙◌}
 use Rattle.std.specs.List.{list_all, flat_map}
 use Rattle.nll_types.specs.Declarations.{structs_of}
-use Rattle.nll_types.specs.Operands.{operand_of}
+use Rattle.nll_types.specs.Operands.{operand_of, place_in}
 use Rattle.nll_types.specs.Places.{path_of, type_of, small_prefixes}
 use Rattle.nll_types.specs.Shapes.{is_small}
-use Rattle.nll_statements.specs.Effects.{place_in}
 use Rattle.nll_types.proofs.ShapingLemmas.{extends_then}
 use Rattle.nll_statements.specs.TypePairs.{beside_parts, operand_types, parts_of_type}
 use Rattle.nll_type_check.specs.Typing.{parts_are_small}
-use Rattle.nll_type_check.proofs.FoundLemmas.{below_later, shapes_later, shape_later}
-use Rattle.nll_type_check.proofs.JudgedLemmas.{both_judged, judged_as, make_order, last_agrees}
+use Rattle.nll_types.proofs.NumberLemmas.{below_later, shapes_later, shape_later}
+use Rattle.nll_types.proofs.MeetingLemmas.{judged_as}
+use Rattle.nll_type_check.proofs.JudgedLemmas.{both_judged, make_order, last_agrees, target_first}
 use Rattle.nll_type_check.proofs.statement_judgement.judge_make.Goals as goal
 
 pub returns-clause-judged : goal.returns-clause-judged
@@ -26,22 +26,27 @@ returns-clause-judged c = λ types t h e.
     judged_as (last_agrees pairs (Some t) (type_of structs types (path_of c.args.place.now)))
     (make_order places (parts_are_small (parts_of_type structs t)) (is_small t)
     (small_prefixes structs types (path_of c.args.place.now)))
-    (both_judged _ _ _ _ _ _ _ parts result c.both.ensures.fits c.both.ensures.small)
+    (both_judged _ _ _ _ _ _ _ parts result c.and.ensures.fits c.and.ensures.small)
 
 pub returns-clause-structs : goal.returns-clause-structs
-returns-clause-structs c = c.judge_result.ensures.structs ∙ c.judge_parts.ensures.structs
+returns-clause-structs c = c.judge_given.ensures.structs ∙ c.judge_parts.ensures.structs
 
 pub returns-clause-extends : goal.returns-clause-extends
-returns-clause-extends c = extends_then _ _ _ c.judge_parts.ensures.extends c.judge_result.ensures.extends
+returns-clause-extends c = extends_then _ _ _ c.judge_parts.ensures.extends c.judge_given.ensures.extends
 
 pub returns-in_err-result-clause-structs : goal.returns-in_err-result-clause-structs
-returns-in_err-result-clause-structs c = c.judge_result.ensures.structs ∙ c.judge_parts.ensures.structs
+returns-in_err-result-clause-structs c = c.judge_given.ensures.structs ∙ c.judge_parts.ensures.structs
 
 pub returns-in_err-result-clause-extends : goal.returns-in_err-result-clause-extends
-returns-in_err-result-clause-extends c = extends_then _ _ _ c.judge_parts.ensures.extends c.judge_result.ensures.extends
+returns-in_err-result-clause-extends c = extends_then _ _ _ c.judge_parts.ensures.extends c.judge_given.ensures.extends
 
-pub judge_result-requires-clause-variables : goal.judge_result-requires-clause-variables
-judge_result-requires-clause-variables c = below_later _ _ _ c.judge_parts.ensures.extends c.requires.variables
+pub judge_given-requires-clause-variables : goal.judge_given-requires-clause-variables
+judge_given-requires-clause-variables c = below_later _ _ _ c.judge_parts.ensures.extends c.requires.variables
 
 pub judge_parts-requires-clause-variables : goal.judge_parts-requires-clause-variables
 judge_parts-requires-clause-variables c = c.requires.variables
+
+pub returns-clause-declared : goal.returns-clause-declared
+returns-clause-declared c =
+    target_first _ _ _ _ c.in_ok-result.ensures.declared
+    (c.and.ensures.declared ∙ ap (λ z. z && c.in_ok-result.result.declared) c.in_ok-parts.ensures.declared)

@@ -1,10 +1,10 @@
 use Rattle.std.proofs.Common.{◌<◌, ◌∙◌, length, refl, arith}
-use Rattle.nll_type_check.proofs.FoundLemmas.{return_small}
-use Rattle.nll_type_check.proofs.JudgedLemmas.{judged_as}
+use Rattle.nll_type_check.proofs.JudgedLemmas.{return_small}
+use Rattle.nll_types.proofs.MeetingLemmas.{judged_as}
 use Rattle.nll_type_check.proofs.statement_judgement.judge_return.Goals as goal
 
-pub returns : goal.returns
-returns c = λ structs types h.
+pub returns-clause-judged : goal.returns-clause-judged
+returns-clause-judged c = λ structs types h.
     let some : 0 < length c.args.variables.now = grind arith in
     judged_as refl (c.is_small.ensures ∙ return_small structs c.args.shapes.now c.args.variables.now types h some)
-    c.fitting-2.ensures
+    c.fitting-2.ensures.judged

@@ -1,30 +1,30 @@
-use Rattle.std.proofs.Common.{◌≡◌, ℕ, List, [], ◌∷◌, map, refl, subst, Some}
-use Rattle.std.specs.List.{list_all}
+use Rattle.std.proofs.Common.{◌≡◌, ℕ, List, [], ◌∷◌, length, map, refl, sym, ap, ◌∙◌, subst, Some}
+use Rattle.std.specs.List.{flat_map, list_all}
 use Rattle.nll_types.specs.Declarations.{structs_of}
-use Rattle.nll_types.specs.Operands.{Operand, operand_of, operand_type}
+use Rattle.nll_types.specs.Operands.{Operand, operand_of, operand_type, place_in}
 use Rattle.nll_types.specs.Places.{path_of, type_of, small_prefixes}
 use Rattle.nll_types.specs.Types.{TypeTree, int}
-use Rattle.nll_statements.specs.Effects.{place_in}
 use Rattle.nll_statements.specs.Statements.{call}
 use Rattle.nll_statements.specs.TypePairs.{reference_to}
-use Rattle.nll_type_check.specs.Judging.{IsJudged}
+use Rattle.nll_types.specs.Judging.{IsJudged, have_variables}
 use Rattle.nll_type_check.specs.Typing.{types_agree, types_are_small}
-use Rattle.nll_type_check.proofs.CallLemmas.{arguments_mapped, written_mapped}
-use Rattle.nll_type_check.proofs.JudgedLemmas.{assign_order, borrow_order, return_order, switch_order, judged_as, one_agrees}
-use Rattle.nll_type_check.proofs.FoundLemmas.{shape_at}
+use Rattle.nll_type_check.proofs.CallLemmas.{arguments_mapped, operands_mapped, written_mapped}
+use Rattle.nll_types.proofs.MeetingLemmas.{judged_as}
+use Rattle.nll_type_check.proofs.JudgedLemmas.{and_right_true, assign_order, borrow_order, return_order, switch_order, one_agrees}
+use Rattle.nll_types.proofs.NumberLemmas.{shape_at}
 use Rattle.std.proofs.lemmas.Result.{IfOk-weaker}
 use Rattle.nll_type_check.proofs.statement_judgement.judge_statement.Goals as goal
 
 pub returns-in-Borrow-clause-judged : goal.returns-in-Borrow-clause-judged
 returns-in-Borrow-clause-judged g c =
     let structs = structs_of c.args.table.now.structs in
-    rw c.in-Borrow.is (IfOk-weaker c.judge_borrow.result _ _ (λ j told. λ types f h e w.
+    rw c.in-Borrow.is (IfOk-weaker c.judge_borrowed.result _ _ (λ j told. λ types f h e w.
     let agrees =
     one_agrees (reference_to (f c.in-Borrow.field-1) c.in-Borrow.mutable
     (type_of structs types (path_of c.in-Borrow.borrowed))) (type_of structs types (path_of c.in-Borrow.place)) in
     judged_as agrees (borrow_order (small_prefixes structs types (path_of c.in-Borrow.borrowed))
     (small_prefixes structs types (path_of c.in-Borrow.place)))
-    (told types (f c.in-Borrow.field-1) e)) c.judge_borrow.ensures.judged)
+    (told types (f c.in-Borrow.field-1) e)) c.judge_borrowed.ensures.judged)
 
 pub returns-in-Call-clause-judged : goal.returns-in-Call-clause-judged
 returns-in-Call-clause-judged g c =
@@ -50,30 +50,30 @@ pub returns-in-Return-clause-judged : goal.returns-in-Return-clause-judged
 returns-in-Return-clause-judged g c =
     let structs = structs_of c.args.table.now.structs in
     rw c.in-Return.is (λ types f h e w. judged_as refl (return_order _)
-    ((rw c.shapes.ensures at c.judge_return.ensures) structs types e))
+    ((rw c.shapes.ensures at c.judge_return.ensures.judged) structs types e))
 
 pub returns-in-Assign-clause-judged : goal.returns-in-Assign-clause-judged
 returns-in-Assign-clause-judged g c =
     let structs = structs_of c.args.table.now.structs in
-    rw c.in-Assign.is (IfOk-weaker c.judge_assign.result _ _ (λ j told. λ types f h e w.
+    rw c.in-Assign.is (IfOk-weaker c.judge_assigned.result _ _ (λ j told. λ types f h e w.
     let agrees =
     one_agrees (operand_type structs types (operand_of c.in-Assign.operand))
     (type_of structs types (path_of c.in-Assign.place)) in
     judged_as agrees (assign_order (list_all (small_prefixes structs types) (place_in (operand_of c.in-Assign.operand)))
     (small_prefixes structs types (path_of c.in-Assign.place)))
-    (told types e)) c.judge_assign.ensures.judged)
+    (told types e)) c.judge_assigned.ensures.judged)
 
 pub returns-in-Assign-clause-structs : goal.returns-in-Assign-clause-structs
-returns-in-Assign-clause-structs g c = c.judge_assign.ensures.structs
+returns-in-Assign-clause-structs g c = c.judge_assigned.ensures.structs
 
 pub returns-in-Assign-clause-extends : goal.returns-in-Assign-clause-extends
-returns-in-Assign-clause-extends g c = c.judge_assign.ensures.extends
+returns-in-Assign-clause-extends g c = c.judge_assigned.ensures.extends
 
 pub returns-in-Borrow-clause-structs : goal.returns-in-Borrow-clause-structs
-returns-in-Borrow-clause-structs g c = c.judge_borrow.ensures.structs
+returns-in-Borrow-clause-structs g c = c.judge_borrowed.ensures.structs
 
 pub returns-in-Borrow-clause-extends : goal.returns-in-Borrow-clause-extends
-returns-in-Borrow-clause-extends g c = c.judge_borrow.ensures.extends
+returns-in-Borrow-clause-extends g c = c.judge_borrowed.ensures.extends
 
 pub returns-in-Make-clause-structs : goal.returns-in-Make-clause-structs
 returns-in-Make-clause-structs g c = c.judge_make.ensures.structs
@@ -99,11 +99,11 @@ returns-in-Call-clause-structs g c = c.judge_call.ensures.structs
 pub returns-in-Call-clause-extends : goal.returns-in-Call-clause-extends
 returns-in-Call-clause-extends g c = c.judge_call.ensures.extends
 
-pub judge_assign-requires : goal.judge_assign-requires
-judge_assign-requires g c = c.requires.variables
+pub judge_assigned-requires : goal.judge_assigned-requires
+judge_assigned-requires g c = c.requires.variables
 
-pub judge_borrow-requires : goal.judge_borrow-requires
-judge_borrow-requires g c = c.requires.variables
+pub judge_borrowed-requires : goal.judge_borrowed-requires
+judge_borrowed-requires g c = c.requires.variables
 
 pub judge_read-requires : goal.judge_read-requires
 judge_read-requires g c = c.requires.variables
@@ -144,3 +144,39 @@ returns-in-Make-clause-judged g c =
     rw c.in-Make.is (IfOk-weaker c.judge_make.result _ _ (λ j told. λ types f h e w.
     told types (h made.ty) e (shape_at c.args.table.now.shapes c.args.written.now (h made.ty ∷ []) 0
     (h made.ty) w refl)) (rw (operands, first) at c.judge_make.ensures.judged))
+
+pub returns-in-Assign-clause-declared : goal.returns-in-Assign-clause-declared
+returns-in-Assign-clause-declared g c = rw c.in-Assign.is c.judge_assigned.ensures.declared
+
+pub returns-in-Borrow-clause-declared : goal.returns-in-Borrow-clause-declared
+returns-in-Borrow-clause-declared g c = rw c.in-Borrow.is c.judge_borrowed.ensures.declared
+
+pub returns-in-Read-clause-declared : goal.returns-in-Read-clause-declared
+returns-in-Read-clause-declared g c = rw c.in-Read.is c.judge_read.ensures.declared
+
+pub returns-in-Switch-clause-declared : goal.returns-in-Switch-clause-declared
+returns-in-Switch-clause-declared g c = rw c.in-Switch.is c.judge_switch.ensures.declared
+
+pub returns-in-Make-clause-declared : goal.returns-in-Make-clause-declared
+returns-in-Make-clause-declared g c =
+    let made = c.in-Make.made.value in
+    let slice = c.as_slice-operands.ensures.value in
+    let first = c.deref.ensures in
+    let second = c.deref-in-Make.ensures in
+    let operands : c.as_slice-operands.result.now ≡ made.operands.items = cc in
+    rw c.in-Make.is (rw (operands, first) at c.judge_make.ensures.declared)
+
+pub returns-in-Call-clause-declared : goal.returns-in-Call-clause-declared
+returns-in-Call-clause-declared g c =
+    let called = c.in-Call.call.value in
+    let first = c.deref-in-Call.ensures in
+    let second = c.deref-in-Call-2.ensures in
+    let slice = c.as_slice-arguments.ensures.value in
+    let arguments : c.as_slice-arguments.result.now ≡ called.arguments.items = cc in
+    let declared = rw (arguments, first) at c.judge_call.ensures.declared in
+    rw c.in-Call.is (IfOk-weaker c.judge_call.result _ _ (λ j told. told
+    ∙ ap (λ ops. have_variables (length c.args.variables.now) (path_of called.place ∷ flat_map place_in ops))
+    (operands_mapped operand_of called.arguments.items)) declared)
+
+pub returns-in-Return-clause-declared : goal.returns-in-Return-clause-declared
+returns-in-Return-clause-declared g c = rw c.in-Return.is (c.judge_return.ensures.declared ∙ sym (and_right_true _))

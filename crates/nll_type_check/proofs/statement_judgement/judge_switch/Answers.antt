@@ -1,7 +1,7 @@
 use Rattle.std.proofs.Common.{◌∙◌}
 use Rattle.nll_types.proofs.ShapingLemmas.{extends_then}
 use Rattle.nll_types.specs.Types.{int}
-use Rattle.nll_type_check.proofs.FoundLemmas.{below_later, shapes_later}
+use Rattle.nll_types.proofs.NumberLemmas.{below_later, shapes_later}
 use Rattle.std.proofs.lemmas.Result.{IfOk-weaker}
 use Rattle.nll_type_check.proofs.statement_judgement.judge_switch.Goals as goal
 

@@ -43,10 +43,10 @@ returns-clause-admitted c =
     let e = c.in_ok-judged.ensures in
     let types = ap (λ (v : Variables). v.types.items) e.others in
     let same : said_by new ≡ said_by old = rw (types, e.structs) refl in
-    IfOk-weaker c.admit_judged.result _ _ (λ edges told. λ i placed.
+    IfOk-weaker c.admit_judged.result _ _ (λ a told. λ i placed.
     let j = judged_same old.regions old.structs old.variables c.judge_point.new.variables i _ types e.structs
     (e.judged old.regions old.structs i placed.of) in
-    subst (λ s. IsAdmitted s i edges new) same
+    subst (λ s. IsAdmitted s i a new) same
     (told i (record { order = placed.order; of = placed.of })
     (record { known = j.known; fits = j.fits; fits_small = j.fits_small }))) c.admit_judged.ensures.admitted
 

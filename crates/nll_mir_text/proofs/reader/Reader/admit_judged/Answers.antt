@@ -2,7 +2,7 @@ use Rattle.std.proofs.Common.{refl, sym, ◌∙◌, inr, arith}
 use Rattle.std.proofs.lemmas.List.{length-map}
 use Rattle.nll_statements.specs.Kept.{statement_of}
 use Rattle.nll_mir_text.specs.MirReading.{said_by, scope_in, statement_kept}
-use Rattle.nll_mir_text.proofs.PointLemmas.{undeclared, out_of_range, unfit, too_large, too_many_points, too_many_edges, no_fault, targets_are, edges_resolved}
+use Rattle.nll_mir_text.proofs.PointLemmas.{undeclared, out_of_range, unfit, too_large, too_many_points, too_many_edges, no_fault, targets_are, edges_resolved, ends_resolved}
 use Rattle.nll_mir_text.proofs.reader.Reader.admit_judged.Goals as goal
 
 pub returns-then-not-judged-clause-refused : goal.returns-then-not-judged-clause-refused
@@ -58,7 +58,7 @@ returns-then-edges-gt-MAX_EDGES-clause-refused c = λ i placed told.
     inr (too_many_edges s i placed.order known blocks (sym told.fits ∙ c.if-not-judged-2.false)
     (sym (told.fits_small c.if-not-judged-2.false) ∙ c.if-not-judged-3.false)
     (omega (arith, c.len.ensures, kept.ok.0, length-map kept.items statement_kept, c.if-len.false))
-    (omega (arith, c.in_ok-edges.ensures.edges, edges, c.requires.edges, c.if-edges-gt-MAX_EDGES.true)))
+    (omega (arith, c.in_ok-exits.ensures.edges, edges, c.requires.edges, c.if-edges-gt-MAX_EDGES.true)))
 
 pub returns-clause-admitted : goal.returns-clause-admitted
 returns-clause-admitted c = λ i placed told.
@@ -74,10 +74,13 @@ returns-clause-admitted c = λ i placed told.
       fine = no_fault s i placed.order known blocks (sym told.fits ∙ c.if-not-judged-2.false)
           (sym (told.fits_small c.if-not-judged-2.false) ∙ c.if-not-judged-3.false)
           (omega (arith, c.len.ensures, kept.ok.0, length-map kept.items statement_kept, c.if-len.false))
-          (omega (arith, c.in_ok-edges.ensures.edges, edges, c.requires.edges, c.if-edges-gt-MAX_EDGES.false));
+          (omega (arith, c.in_ok-exits.ensures.edges, edges, c.requires.edges, c.if-edges-gt-MAX_EDGES.false));
       same = refl;
       ready = c.requires;
       few = omega (arith, c.len.ensures, kept.ok.0, c.if-len.false);
-      counted = omega (arith, c.in_ok-edges.ensures.edges, edges);
+      counted = omega (arith, c.in_ok-exits.ensures.edges, edges);
       few_edges = omega (arith, c.if-edges-gt-MAX_EDGES.false);
+      ends = c.in_ok-exits.ensures.ends
+          ∙ ends_resolved (scope_in c.args.self.now.regions c.args.self.now.structs) i
+          (statement_of c.args.statement.now) placed.of;
     }

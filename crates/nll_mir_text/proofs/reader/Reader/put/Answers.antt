@@ -5,7 +5,7 @@ use Rattle.nll_statements.specs.Statements.{Statement}
 use Rattle.nll_statements.specs.Edges.{edge_count}
 use Rattle.nll_mir_text.specs.MirSaid.{statement_meant}
 use Rattle.nll_mir_text.specs.MirReading.{said_by, statement_kept}
-use Rattle.nll_mir_text.proofs.PointLemmas.{point_said, ends_same, edges_more}
+use Rattle.nll_mir_text.proofs.PointLemmas.{point_said, edges_more}
 use Rattle.nll_mir_text.proofs.reader.Reader.put.Goals as goal
 
 pub returns : goal.returns
@@ -25,7 +25,7 @@ returns c = λ i h meaning.
     record {
       fine = h.fine;
       says = point_said s i _ _ _ _ e.blocks (ap (λ v. v.items) e.starts) stand
-          (e.owes ∙ ap not (ends_same s i c.in_ok-meant.meant meant));
+          (e.owes ∙ ap not h.ends);
       ready = record {
         static = r.static;
         universals = r.universals;

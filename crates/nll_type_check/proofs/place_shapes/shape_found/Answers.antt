@@ -1,6 +1,0 @@
-use Rattle.std.proofs.Common.{◌∙◌, ap, Some}
-use Rattle.nll_type_check.proofs.FoundLemmas.{small_agrees}
-use Rattle.nll_type_check.proofs.place_shapes.shape_found.Goals as goal
-
-pub returns-clause-found : goal.returns-clause-found
-returns-clause-found c = λ t e. record { shape = ap Some e; small = c.is_small.ensures ∙ small_agrees t _ e }

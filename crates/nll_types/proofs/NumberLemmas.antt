@@ -1,0 +1,66 @@
+-- The shapes of types by numbers, while the table grows.
+use Rattle.std.proofs.Common.{◌≡◌, ℕ, zero, suc, ◌<◌, ◌≤◌, List, [], ◌∷◌, length, map, refl, ap, ◌∙◌, arith, Some, None}
+use Rattle.std.specs.Prelude.{slice_get, slice_index}
+use Rattle.nll_types.specs.Types.{TypeTree}
+use Rattle.nll_types.specs.Shapes.{shape_of}
+use Rattle.nll_types.specs.Table.{Extends, AreBelow, shape_in}
+use Rattle.nll_types.specs.Judging.{HaveShapes}
+use Rattle.nll_types.specs.declared.node.Node.{Node}
+
+-- ---- numbers of shapes, while the table grows
+
+pub below_later : (old new : List Node) (is : List ℕ) → Extends old new → AreBelow (length old) is
+    → AreBelow (length new) is
+below_later old new is e b = λ k h. (let l = b k h in let m = e.longer in omega arith)
+
+same_later : (old new : List Node) (is : List ℕ) → Extends old new → AreBelow (length old) is
+    → map (shape_in new) is ≡ map (shape_in old) is
+same_later old new [] e b = refl
+same_later old new (i ∷ is) e b =
+    let here = e.kept i (b 0 (omega arith)) in
+    let rest = same_later old new is e (λ k h. b (suc k) (omega arith)) in
+    cc
+
+pub shapes_later : (old new : List Node) (is : List ℕ) (ts : List TypeTree) → Extends old new → AreBelow (length old) is
+    → HaveShapes old is ts → HaveShapes new is ts
+shapes_later old new is ts e b h = same_later old new is e b ∙ h
+
+pub shape_later : (old new : List Node) (i : ℕ) (t : TypeTree) → Extends old new → i < length old
+    → shape_in old i ≡ shape_of t → shape_in new i ≡ shape_of t
+shape_later old new i t e b h = e.kept i b ∙ h
+
+-- ---- one of the numbers
+
+pub shape_at : (ns : List Node) (is : List ℕ) (ts : List TypeTree) (k : ℕ) (t : TypeTree) → HaveShapes ns is ts
+    → slice_get ts k ≡ Some t → shape_in ns (slice_index is k) ≡ shape_of t
+shape_at ns is [] k t h e = absurd cc
+shape_at ns [] (u ∷ ts) k t h e = absurd (let z : [] ≡ shape_of u ∷ map shape_of ts = h in cc)
+shape_at ns (i ∷ is) (u ∷ ts) zero t h e =
+    let z : shape_in ns i ∷ map (shape_in ns) is ≡ shape_of u ∷ map shape_of ts = h in
+    let a : shape_in ns i ≡ shape_of u = cc in
+    let b : u ≡ t = cc in
+    a ∙ ap shape_of b
+shape_at ns (i ∷ is) (u ∷ ts) (suc k) t h e =
+    let z : shape_in ns i ∷ map (shape_in ns) is ≡ shape_of u ∷ map shape_of ts = h in
+    let rest : map (shape_in ns) is ≡ map shape_of ts = cc in
+    shape_at ns is ts k t rest e
+
+pub type_there : (ns : List Node) (is : List ℕ) (ts : List TypeTree) (k : ℕ) → HaveShapes ns is ts → k < length is
+    → (t : TypeTree) × (slice_get ts k ≡ Some t)
+type_there ns [] ts k h l = absurd (omega arith)
+type_there ns (i ∷ is) [] k h l = absurd (let z : shape_in ns i ∷ map (shape_in ns) is ≡ [] = h in cc)
+type_there ns (i ∷ is) (u ∷ ts) zero h l = (u, refl)
+type_there ns (i ∷ is) (u ∷ ts) (suc k) h l =
+    let z : shape_in ns i ∷ map (shape_in ns) is ≡ shape_of u ∷ map shape_of ts = h in
+    let rest : map (shape_in ns) is ≡ map shape_of ts = cc in
+    type_there ns is ts k rest (omega arith)
+
+pub no_type_there : (ns : List Node) (is : List ℕ) (ts : List TypeTree) (k : ℕ) → HaveShapes ns is ts → length is ≤ k
+    → slice_get ts k ≡ None
+no_type_there ns is [] k h l = refl
+no_type_there ns [] (u ∷ ts) k h l = absurd (let z : [] ≡ shape_of u ∷ map shape_of ts = h in cc)
+no_type_there ns (i ∷ is) (u ∷ ts) zero h l = absurd (omega arith)
+no_type_there ns (i ∷ is) (u ∷ ts) (suc k) h l =
+    let z : shape_in ns i ∷ map (shape_in ns) is ≡ shape_of u ∷ map shape_of ts = h in
+    let rest : map (shape_in ns) is ≡ map shape_of ts = cc in
+    no_type_there ns is ts k rest (omega arith)

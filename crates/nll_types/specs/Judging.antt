@@ -1,0 +1,28 @@
+-- What is judged of types that meet: of places, of operands, and of types by their shapes.
+-- Source: project's choice.
+use Rattle.std.specs.Prelude.{◌≡◌, ℕ, Bool, false, ◌&&◌, nat_lt, List, map, Option, Some}
+use Rattle.std.specs.List.{list_all}
+use Rattle.nll_types.specs.Types.{TypeTree}
+use Rattle.nll_types.specs.Places.{PlacePath}
+use Rattle.nll_types.specs.Shapes.{shape_of, same_shape}
+use Rattle.nll_types.specs.Table.{shape_in}
+use Rattle.nll_types.specs.declared.node.Node.{Node}
+use Rattle.nll_types.specs.declared.judgement.Judgement.{Judgement}
+
+-- the numbers are those of the shapes of these types
+abbrev pub HaveShapes : List Node → List ℕ → List TypeTree → Type 0
+HaveShapes ns numbers types = map (shape_in ns) numbers ≡ map shape_of types
+
+-- the variables of the places are among the first so many
+abbrev pub have_variables : ℕ → List PlacePath → Bool
+have_variables count places = list_all (λ x. nat_lt x count) (map (λ p. p.variable) places)
+
+-- both are there, and they are equal when regions are forgotten
+abbrev pub agree : Option TypeTree → Option TypeTree → Bool
+agree (Some t) (Some u) = same_shape t u
+agree _ _ = false
+
+-- It tells whether the types fit, and whether they fit and are small.
+pub record IsJudged (agree small : Bool) (judged : Judgement) : Type 0 where
+  pub fits : judged.fits ≡ agree
+  pub fits_small : judged.small ≡ (agree && small)

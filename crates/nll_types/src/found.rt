@@ -1,0 +1,202 @@
+//! What is found of places and operands over variables with types of known shapes.
+
+ghost use Rattle.std.specs.Prelude.{◌≡◌, ◌↔◌, ◌&&◌, ◌<◌, ℕ, Bool, List, Option, Some, true, length};
+ghost use Rattle.std.specs.Prelude.{IfOk, IfSome, IsTrue, nat_lt};
+ghost use Rattle.std.specs.List.{list_all};
+ghost use Rattle.nll_types.specs.Declarations.{structs_of};
+ghost use Rattle.nll_types.specs.Found.{IsFound};
+ghost use Rattle.nll_types.specs.Judging as spec;
+ghost use Rattle.nll_types.specs.Judging.{HaveShapes, IsJudged, have_variables};
+ghost use Rattle.nll_types.specs.Operands.{operand_of, operand_type, place_in, reference_to};
+ghost use Rattle.nll_types.specs.Places.{path_of, type_of, small_prefixes};
+ghost use Rattle.nll_types.specs.Shapes.{shape_of, is_small, reference_shape};
+ghost use Rattle.nll_types.specs.Table.{Extends, AreBelow, shape_in};
+ghost use Rattle.nll_types.specs.Types.{TypeTree};
+
+use crate::judgement::Judgement;
+use crate::node::Node;
+use crate::operand::Operand;
+use crate::place::Place;
+use crate::shapes::Shapes;
+use crate::type_table::TypeTable;
+use nll_sets::Memory;
+use std::alloc::Global;
+
+/// The number of a shape, and whether the types that led to it are small.
+#[derive(Clone, Copy)]
+pub(crate) struct TypedShape {
+    pub(crate) shape: usize,
+    pub(crate) small: bool,
+}
+
+/// What is found of a place or operand, or of a type that is written.
+#[derive(Clone, Copy)]
+pub(crate) struct Found {
+    /// Its variable is declared, where it has one.
+    pub(crate) declared: bool,
+    /// The shape of its type, where it has a type.
+    pub(crate) typed: Option<TypedShape>,
+}
+
+/// A type of this shape.
+pub(crate) fn shape_found(shapes: &Shapes, shape: usize) -> Found
+    requires { shape < length shapes.now }
+    ensures declared { result.declared ≡ true }
+    ensures within { IfSome result.typed (λ f. f.shape < length shapes.now) }
+    ensures found { (t : TypeTree) → shape_in shapes.now shape ≡ shape_of t
+        → IsFound shapes.now result.typed (Some t) (is_small t) }
+{
+    let small = shapes.is_small(shape);
+    Found {
+        declared: true,
+        typed: Some(TypedShape { shape, small }),
+    }
+}
+
+impl TypeTable {
+    // The shape of a place, where the place has a type, and whether the types of its prefixes are
+    // small.
+    pub(crate) fn find_place(
+        &mut self,
+        alloc: Global,
+        variables: &[usize],
+        place: &Place,
+    ) -> Result<Found, Memory>
+        requires { AreBelow (length self.old.shapes) variables.now }
+        ensures structs { self.new.structs ≡ self.old.structs }
+        ensures extends { Extends self.old.shapes self.new.shapes }
+        ensures declared { IfOk result
+            (λ f. f.declared ≡ nat_lt (path_of place.now).variable (length variables.now)) }
+        ensures within { IfOk result
+            (λ f. IfSome f.typed (λ t. t.shape < length self.new.shapes)) }
+        ensures found { IfOk result (λ f. (types : List TypeTree)
+            → HaveShapes self.old.shapes variables.now types
+            → IsFound self.new.shapes f.typed
+            (type_of (structs_of self.old.structs) types (path_of place.now))
+            (small_prefixes (structs_of self.old.structs) types (path_of place.now))) }
+    {
+        let variable = place.variable() as usize;
+        let declared = variable < variables.len();
+        if !declared {
+            return Ok(Found {
+                declared,
+                typed: None,
+            });
+        }
+        let from = variables[variable];
+        match self.place_shape(alloc, from, place.projections())? {
+            Some((shape, small)) => Ok(Found {
+                declared,
+                typed: Some(TypedShape { shape, small }),
+            }),
+            None => Ok(Found {
+                declared,
+                typed: None,
+            }),
+        }
+    }
+
+    // The shape of an operand, where it has a type, and whether the types of its place are small.
+    pub(crate) fn find_operand(
+        &mut self,
+        alloc: Global,
+        variables: &[usize],
+        operand: &Operand,
+    ) -> Result<Found, Memory>
+        requires { AreBelow (length self.old.shapes) variables.now }
+        ensures structs { self.new.structs ≡ self.old.structs }
+        ensures extends { Extends self.old.shapes self.new.shapes }
+        ensures declared { IfOk result (λ f. f.declared
+            ≡ have_variables (length variables.now) (place_in (operand_of operand.now))) }
+        ensures within { IfOk result
+            (λ f. IfSome f.typed (λ t. t.shape < length self.new.shapes)) }
+        ensures found { IfOk result (λ f. (types : List TypeTree)
+            → HaveShapes self.old.shapes variables.now types
+            → IsFound self.new.shapes f.typed
+            (operand_type (structs_of self.old.structs) types (operand_of operand.now))
+            (list_all (small_prefixes (structs_of self.old.structs) types)
+            (place_in (operand_of operand.now)))) }
+    {
+        match operand {
+            Operand::Const => {
+                let shape = self.add(Node::Int)?;
+                Ok(Found {
+                    declared: true,
+                    typed: Some(TypedShape { shape, small: true }),
+                })
+            }
+            Operand::Copy(place) | Operand::Move(place) => self.find_place(alloc, variables, place),
+        }
+    }
+}
+
+/// Whether both have a type, and one shape.
+pub(crate) fn agree(shapes: &Shapes, one: Found, other: Found) -> Judgement
+    requires one { IfSome one.typed (λ f. f.shape < length shapes.now) }
+    requires other { IfSome other.typed (λ f. f.shape < length shapes.now) }
+    ensures declared { result.declared ≡ (one.declared && other.declared) }
+    ensures judged { (t u : Option TypeTree) (p q : Bool) → IsFound shapes.now one.typed t p
+        → IsFound shapes.now other.typed u q → IsJudged (spec.agree t u) (p && q) result }
+{
+    let declared = one.declared & other.declared;
+    match one.typed {
+        Some(one) => match other.typed {
+            Some(other) => {
+                let fits = shapes.is_same(one.shape, other.shape);
+                Judgement {
+                    declared,
+                    fits,
+                    small: fits & (one.small & other.small),
+                }
+            }
+            None => Judgement::unfit(declared),
+        },
+        None => Judgement::unfit(declared),
+    }
+}
+
+// Whether a shape is that of a reference to one of the target's shape.
+fn is_reference(shapes: &Shapes, shape: usize, mutable: bool, target: usize) -> bool
+    requires shape { shape < length shapes.now }
+    requires target { target < length shapes.now }
+    ensures { IsTrue result ↔ (reference_shape mutable (shape_in shapes.now target)
+        ≡ shape_in shapes.now shape) }
+{
+    match shapes.node(shape) {
+        Node::Reference(marked, behind) => {
+            let same = shapes.is_same(*behind, target);
+            (*marked == mutable) & same
+        }
+        Node::Int
+        | Node::Parameter(_)
+        | Node::Tuple(_)
+        | Node::Named(_, _, _)
+        | Node::Function(_, _) => false,
+    }
+}
+
+/// Whether both have a type, and the second the shape of a reference to the first.
+pub(crate) fn refers(shapes: &Shapes, mutable: bool, borrowed: Found, place: Found) -> Judgement
+    requires borrowed { IfSome borrowed.typed (λ f. f.shape < length shapes.now) }
+    requires place { IfSome place.typed (λ f. f.shape < length shapes.now) }
+    ensures declared { result.declared ≡ (borrowed.declared && place.declared) }
+    ensures judged { (t u : Option TypeTree) (r : ℕ) (p q : Bool)
+        → IsFound shapes.now borrowed.typed t p → IsFound shapes.now place.typed u q
+        → IsJudged (spec.agree (reference_to r mutable t) u) (p && q) result }
+{
+    let declared = borrowed.declared & place.declared;
+    match borrowed.typed {
+        Some(borrowed) => match place.typed {
+            Some(place) => {
+                let fits = is_reference(shapes, place.shape, mutable, borrowed.shape);
+                Judgement {
+                    declared,
+                    fits,
+                    small: fits & (borrowed.small & place.small),
+                }
+            }
+            None => Judgement::unfit(declared),
+        },
+        None => Judgement::unfit(declared),
+    }
+}
