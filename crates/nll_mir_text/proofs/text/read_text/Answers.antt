@@ -1,12 +1,10 @@
-use Rattle.std.proofs.Common.{length, ap, subst, inr, arith}
+use Rattle.std.proofs.Common.{length, ap, inr, arith}
 use Rattle.std.proofs.lemmas.Result.{err_from_is_err_and, IfOk-weaker, IfErr-weaker}
 use Rattle.nll_text.specs.Lines.{lines_left}
 use Rattle.nll_text.proofs.LineLemmas.{length-lines_of-le}
 use Rattle.nll_format.specs.Text.{IsCut, IsHeaded}
-use Rattle.nll_problem.specs.Limits.{most_bytes}
+use Rattle.nll_format.proofs.LinesLemmas.{body_short}
 use Rattle.nll_mir_text.specs.MirText.{mir}
-use Rattle.nll_mir_text.specs.MirReading.{AreShort}
-use Rattle.nll_mir_text.proofs.TextLemmas.{lines_short}
 use Rattle.nll_mir_text.proofs.VersionLemmas.{too_long_for_mir, refused_in, refused_at_header}
 use Rattle.nll_mir_text.proofs.text.read_text.Goals as goal
 use Rattle.nll_mir_text.proofs.text.read_text.Goals.{After-next_line, After-read_body}
@@ -26,7 +24,7 @@ returns-in_err-version-clause-fault c =
 
 pub read_body-requires-clause-short : goal.read_body-requires-clause-short
 read_body-requires-clause-short c =
-    (subst AreShort c.next_line.ensures (lines_short c.args.text.now most_bytes (omega arith))).1
+    body_short c.args.text.now _ _ (record { short = omega arith; cut = c.next_line.ensures })
 
 pub read_body-requires-clause-long : goal.read_body-requires-clause-long
 read_body-requires-clause-long c = omega (arith, ap length c.next_line.ensures, length-lines_of-le c.args.text.now)
