@@ -5,13 +5,13 @@ use Rattle.std.specs.Str.{IsUtf8}
 use Rattle.std.proofs.lemmas.Bool.{false≢true}
 use Rattle.nll_problem.specs.Limits.{most_bytes}
 use Rattle.nll_problem.specs.declared.error.Kind.TheVariants.{Text}
-use Rattle.nll_format.specs.Text.{IsHeaded, IsHeader, IsHeaderFault, IsCut, IsFault, IsFaulty, IsRefusal, no_form}
+use Rattle.nll_format.specs.Text.{IsHeaded, IsHeader, IsHeaderFault, IsCut, IsFault, IsFaulty, IsRefusal, IsUnopened, no_form}
 use Rattle.nll_format.specs.Text as texts
 use Rattle.nll_text.specs.Lines.{is_skipped}
 use Rattle.nll_format.specs.declared.error.TextError.{TextError}
 use Rattle.nll_format.specs.declared.error.TextKind.{TextKind}
 use Rattle.nll_format.specs.declared.error.TextKind.TheVariants.{Limit, Syntax}
-use Rattle.nll_format.proofs.ReadingLemmas.{header_refused}
+use Rattle.nll_format.proofs.ReadingLemmas.{header_refused, unopened_header}
 use Rattle.nll_facts.specs.FactsForms.{Form, HasForm}
 use Rattle.nll_facts.specs.FactsVersions.{HasFormIn, is_of_version}
 use Rattle.nll_facts.specs.declared.version.Version.{Version}
@@ -94,3 +94,12 @@ refused_at_header text header body error cut wrong =
         (λ w. w.1 (subst (λ l. IsUtf8 l) e k.utf8))
         (λ w. w.2 (subst (λ l. IsHeader (facts Second) l) e k.is_header))
         (wrong Second)
+
+-- the text isn't opened, whatever its header is to be
+pub refused_unopened : (text : List ℕ) (error : TextError)
+    → ((kind version : List ℕ) → IsUnopened kind version text error) → IsRefusal (IsFactsFault text) error
+refused_unopened text error wrong = ⊎_elim
+    (λ h. rw h.0 (inr (too_long text h.1)))
+    (λ h. refused_at_header text h.0 h.1 error h.2
+    (λ v. unopened_header (facts v).kind (facts v).version text h.0 h.1 error h.2 (wrong (facts v).kind (facts v).version)))
+    (wrong (facts First).kind (facts First).version)

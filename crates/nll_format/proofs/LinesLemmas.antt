@@ -111,13 +111,12 @@ module _ (format : Format) where
 
   -- the text stops too early
   pub amid_end : (Held : List format.Form → Type 0) (number : ℕ)
-      → ((lines : List (List ℕ)) (forms : List format.Form) → Says format [] lines forms → Held forms
-      → format.HasEnded forms → ⊥) → RefusesLeft format Held [] number (record { line = number; kind = End })
+      → ((forms : List format.Form) → Held forms → format.HasEnded forms → ⊥) → RefusesLeft format Held [] number (record { line = number; kind = End })
   amid_end Held number none all amid text headed =
       let done = amid_all Held all number amid in
       let last : length (lines_of text) ≡ number = omega (arith, ap length headed.cut.cut, done.3) in
       inr (subst (λ n. IsFault format text n End) last
-      (no_end all done.0 headed done.1 (none all done.0 done.1 done.2)))
+      (no_end all done.0 headed done.1 (none done.0 done.2)))
 
   -- more lines are read behind those that were
   pub advances_then : (Old Mid New : List format.Form → Type 0) (these those left : List (List ℕ)) (i j k : ℕ)

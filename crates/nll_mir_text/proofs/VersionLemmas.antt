@@ -6,10 +6,10 @@ use Rattle.nll_text.specs.Tokens.{Token}
 use Rattle.nll_text.proofs.TokenLemmas.{one_token_list_lem}
 use Rattle.nll_problem.specs.Limits.{most_bytes}
 use Rattle.nll_problem.specs.declared.error.Kind.TheVariants.{Text}
-use Rattle.nll_format.specs.Text.{IsHeaded, IsHeader, IsHeaderFault, IsCut, IsFault, IsRefusal, too_long}
+use Rattle.nll_format.specs.Text.{IsHeaded, IsHeader, IsHeaderFault, IsCut, IsFault, IsRefusal, IsUnopened, too_long}
 use Rattle.nll_format.specs.declared.error.TextError.{TextError}
 use Rattle.nll_format.specs.declared.error.TextKind.TheVariants.{Limit}
-use Rattle.nll_format.proofs.ReadingLemmas.{header_refused}
+use Rattle.nll_format.proofs.ReadingLemmas.{header_refused, unopened_header}
 use Rattle.nll_mir_grammar.specs.MirForms.{Form, IsSpelled, HasForm}
 use Rattle.nll_mir_grammar.specs.Versions.{HasFormIn}
 use Rattle.nll_mir_grammar.specs.declared.version.Version.{Version}
@@ -85,3 +85,12 @@ refused_at_header text header body error cut wrong =
         (λ w. w.1 (subst (λ l. IsUtf8 l) e k.utf8))
         (λ w. w.2 (subst (λ l. IsHeader (mir Second) l) e k.is_header))
         (wrong Second)
+
+-- the text isn't opened, whatever its header is to be
+pub refused_unopened : (text : List ℕ) (error : TextError)
+    → ((kind version : List ℕ) → IsUnopened kind version text error) → IsRefusal (IsMirFault text) error
+refused_unopened text error wrong = ⊎_elim
+    (λ h. rw h.0 (inr (too_long_for_mir text h.1)))
+    (λ h. refused_at_header text h.0 h.1 error h.2
+    (λ v. unopened_header (mir v).kind (mir v).version text h.0 h.1 error h.2 (wrong (mir v).kind (mir v).version)))
+    (wrong (mir First).kind (mir First).version)

@@ -2,7 +2,6 @@
 
 ghost use Rattle.std.specs.Prelude.{◌≡◌, ◌+◌, ◌<◌, ◌≤◌, ◌^◌, [], List, ℕ, length, option_map};
 ghost use Rattle.std.specs.Prelude.{OnOk, IfOk, IfErr};
-ghost use Rattle.nll_problem.specs.Limits.{most_bytes};
 ghost use Rattle.nll_text.specs.Lines.{lines_left, lines_of};
 ghost use Rattle.nll_format.specs.Lines.{Advances, AreShort, IsAmidWith, RefusesLeft};
 ghost use Rattle.nll_format.specs.Text.{IsRefusal, Says};
@@ -10,13 +9,11 @@ ghost use Rattle.nll_mir_grammar.specs.MirForms.{Form};
 ghost use Rattle.nll_mir_text.specs.MirText.{mir, IsMirFault};
 ghost use Rattle.nll_mir_text.specs.MirReading.{lines_in, Holds, HoldsForms, IsReady, IsUnderWay};
 
-use crate::header::check_header;
+use crate::header::open_header;
 use crate::reader::Reader;
-use nll_format::{MAX_TEXT, TextError, TextKind, check_end, read_until};
+use nll_format::{TextError, TextKind, check_end, read_until};
 use nll_mir_grammar::Version;
-use nll_problem::Kind;
 use nll_sets::Memory;
-use nll_text::next_line;
 use std::alloc::Global;
 
 // A text that is smaller is read as one part.
@@ -117,7 +114,6 @@ fn read_first(
 ) -> Result<(Version, Option<Vec<u8>>), TextError>
     requires start { HoldsForms reader.old [] }
     requires ready { IsReady reader.old }
-    requires long { length text.now ≤ most_bytes }
     ensures ready { OnOk result (IsReady reader.new) }
     ensures short { IfOk result (λ r. AreShort (lines_in (option_map (λ v. v.items) r.1))) }
     ensures few { IfOk result
@@ -126,8 +122,7 @@ fn read_first(
         (lines_in (option_map (λ v. v.items) r.1)) reader.new number.new) }
     ensures fault { IfErr result (IsRefusal (IsMirFault text.now)) }
 {
-    let (header, body) = next_line(text);
-    let version = check_header(header)?;
+    let (version, body) = open_header(text)?;
     *number = 1;
     match body {
         Some(body) => {
@@ -142,7 +137,6 @@ fn read_first(
 fn read_freeing(alloc: Global, reader: &mut Reader, text: Vec<u8>) -> Result<(), TextError>
     requires start { HoldsForms reader.old [] }
     requires ready { IsReady reader.old }
-    requires long { length text.items ≤ most_bytes }
     ensures ok { OnOk result (Holds text.items reader.new) }
     ensures ready { OnOk result (IsReady reader.new) }
     ensures fault { IfErr result (IsRefusal (IsMirFault text.items)) }
@@ -164,12 +158,6 @@ pub(crate) fn read_text_parts(alloc: Global, text: Vec<u8>) -> Result<Reader, Te
     ensures ready { IfOk result IsReady }
     ensures fault { IfErr result (IsRefusal (IsMirFault text.items)) }
 {
-    if text.len() > MAX_TEXT {
-        return Err(TextError {
-            line: 1,
-            kind: TextKind::Limit(Kind::Text),
-        });
-    }
     let mut reader = match Reader::new(alloc) {
         Ok(reader) => reader,
         Err(kind) => return Err(TextError { line: 0, kind }),

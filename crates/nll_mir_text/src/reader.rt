@@ -1,7 +1,6 @@
 //! The reader of the lines of a MIR text: what they say so far, and which line takes what.
 
-ghost use Rattle.std.specs.Prelude.{◌≡◌, ◌↔◌, ℕ, List, [], false, IsTrue, IfOk, IfErr, OnOk};
-ghost use Rattle.nll_format.specs.Text.{Says};
+ghost use Rattle.std.specs.Prelude.{◌≡◌, ◌↔◌, List, [], false, IsTrue, IfOk, IfErr, OnOk};
 ghost use Rattle.nll_mir_grammar.specs.MirForms.{Form};
 ghost use Rattle.nll_types.specs.Declarations.{structs_of};
 ghost use Rattle.nll_mir_grammar.specs.Lines.{form_of};
@@ -246,8 +245,7 @@ impl<'a> LineReader<'a, Version> for Reader {
     }
 
     fn has_ended(&self, version: &Version) -> bool
-        ensures { (lines : List (List ℕ)) (forms : List Form)
-            → Says (mir version.now) [] lines forms → HoldsForms self.now forms
+        ensures { (forms : List Form) → HoldsForms self.now forms
             → IsTrue result ↔ (mir version.now).HasEnded forms }
     {
         self.has_reached(Group::End)

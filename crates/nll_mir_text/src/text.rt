@@ -7,12 +7,10 @@ ghost use Rattle.nll_format.specs.Text.{IsHeaded, IsRefusal};
 ghost use Rattle.nll_mir_text.specs.MirText.{mir, IsMirFault};
 ghost use Rattle.nll_mir_text.specs.MirReading.{IsReady, Holds};
 
-use crate::header::check_header;
+use crate::header::open_header;
 use crate::reader::Reader;
-use nll_format::{MAX_TEXT, TextError, TextKind, read_lines};
+use nll_format::{TextError, read_lines};
 use nll_mir_grammar::Version;
-use nll_problem::Kind;
-use nll_text::next_line;
 use std::alloc::Global;
 
 // Reads the lines behind the header.
@@ -48,13 +46,6 @@ pub(crate) fn read_text(alloc: Global, text: &[u8]) -> Result<Reader, TextError>
     ensures ready { IfOk result IsReady }
     ensures fault { IfErr result (IsRefusal (IsMirFault text.now)) }
 {
-    if text.len() > MAX_TEXT {
-        return Err(TextError {
-            line: 1,
-            kind: TextKind::Limit(Kind::Text),
-        });
-    }
-    let (header, body) = next_line(text);
-    let version = check_header(header)?;
+    let (version, body) = open_header(text)?;
     read_body(alloc, version, body)
 }

@@ -46,7 +46,7 @@ returns-in_err-left-clause-fault c =
 pub returns-clause-read : goal.returns-clause-read
 returns-clause-read c = on_ok_weaker c.check_end.result (λ ends. λ all amid.
     let done = amid_all (mir c.args.version) _ all _ (rw c.in_default.is at (c.loop-left.invariant.read all amid)) in
-    (done.0, done.1, ends all done.0 done.1 done.2, done.2)) c.check_end.ensures.ok
+    (done.0, done.1, ends done.0 done.2, done.2)) c.check_end.ensures.ok
 
 pub returns-clause-fault : goal.returns-clause-fault
 returns-clause-fault c = IfErr-weaker c.check_end.result _ _
