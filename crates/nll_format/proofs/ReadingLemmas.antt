@@ -1,6 +1,6 @@
 -- The lines of a text of a format, read one after another, and how a text is refused.
 use Rattle.std.proofs.Common.{◌≡◌, ℕ, ◌+◌, ◌-◌, ◌<◌, ◌≤◌, ⊎_elim, List, [], ◌∷◌, ◌++◌, inl, inr, sym, ap, ◌∙◌, subst, append_assoc, arith, None}
-use Rattle.nll_format.specs.Text.{Format, Fits, skipped, of_form, IsFaulty, not_utf8, no_form, at_form, Says, HasFault, IsCut, IsHeaded, IsFault, too_long, header_not_utf8, no_header, at_line, IsRefusal, IsNoHeader, IsHeaderFault, IsUnopened}
+use Rattle.nll_format.specs.Text.{Format, Fits, skipped, of_form, IsFaulty, not_utf8, no_form, at_form, Says, HasFault, IsCut, IsHeaded, IsFault, too_long, header_not_utf8, no_header, at_line, IsRefusal, IsUncut, IsUnopened}
 use Rattle.nll_format.specs.declared.error.TextError.{TextError}
 use Rattle.nll_format.specs.declared.error.TextKind.{TextKind}
 
@@ -49,14 +49,6 @@ module _ (format : Format) (Same : format.Said → format.Said → Type 0) (same
 
 -- ---- the whole text
 
--- what is wrong with the first line is wrong with the text
-pub header_refused : (format : Format) (text header : List ℕ) (body : List (List ℕ)) (e : TextError)
-    → IsCut text header body → IsHeaderFault format header e → IsRefusal (IsFault format text) e
-header_refused format text header body e cut wrong = ⊎_elim
-    (λ h. rw h.0 (inr (header_not_utf8 header body cut h.1)))
-    (λ h. rw h.0 (inr (no_header header body cut h.1 h.2)))
-    wrong
-
 -- what is wrong with a later line is wrong with the text
 pub body_refused : (format : Format) (text : List ℕ) (body : List (List ℕ)) (e : TextError) → IsHeaded format text body
     → IsRefusal (λ line kind. (2 ≤ line) × HasFault format body (line - 2) kind) e → IsRefusal (IsFault format text) e
@@ -65,18 +57,18 @@ body_refused format text body e headed wrong = ⊎_elim inl
     inr (subst (λ n. IsFault format text n e.kind) place (at_line body (e.line - 2) e.kind headed h.1)))
     wrong
 
+-- a text whose first line isn't cut off is refused
+pub uncut_refused : (format : Format) (text : List ℕ) (e : TextError) → IsUncut text e
+    → IsRefusal (IsFault format text) e
+uncut_refused format text e wrong = ⊎_elim
+    (λ h. rw h.0 (inr (too_long h.1)))
+    (λ h. rw h.0 (inr (header_not_utf8 h.1 h.2 h.3 h.4)))
+    wrong
+
 -- a text that isn't opened is refused
 pub unopened_refused : (format : Format) (text : List ℕ) (e : TextError) → IsUnopened format.kind format.version text e
     → IsRefusal (IsFault format text) e
 unopened_refused format text e wrong = ⊎_elim
-    (λ h. rw h.0 (inr (too_long h.1)))
-    (λ h. header_refused format text h.0 h.1 e h.2 h.3)
-    wrong
-
--- a text that isn't opened, but whose first line is this, has something wrong with this line
-pub unopened_header : (kind version text header : List ℕ) (body : List (List ℕ)) (e : TextError)
-    → IsCut text header body → IsUnopened kind version text e → IsNoHeader kind version header e
-unopened_header kind version text header body e cut wrong = ⊎_elim
-    (λ h. absurd (omega (arith, cut.short, h.1)))
-    (λ h. subst (λ line. IsNoHeader kind version line e) (let same = sym h.2.cut ∙ cut.cut in cc) h.3)
+    (uncut_refused format text e)
+    (λ h. rw h.0 (inr (no_header h.1 h.2 h.3 h.4 h.5)))
     wrong

@@ -1,9 +1,9 @@
 //! Opening a text: its first line is cut off, and is to be the header.
 
-ghost use Rattle.std.specs.Prelude.{◌<◌, ◌^◌, ℕ, List, IfOk, IfErr, length};
+ghost use Rattle.std.specs.Prelude.{◌<◌, ◌^◌, IfOk, IfErr, length};
 ghost use Rattle.std.specs.Str.{IsUtf8};
 ghost use Rattle.nll_text.specs.Lines.{lines_left};
-ghost use Rattle.nll_format.specs.Text.{HasHeader, IsCut, IsUnopened};
+ghost use Rattle.nll_format.specs.Text.{HasHeader, IsCut, IsUncut, IsUnopened};
 
 use crate::error::{TextError, TextKind};
 use crate::limits::MAX_TEXT;
@@ -23,8 +23,7 @@ pub fn first_line<'a>(text: &'a [u8]) -> Result<(&'a [u8], Option<&'a [u8]>), Te
     ensures cut { IfOk result (λ r. IsCut text.now r.0.now (lines_left r.1)) }
     ensures utf8 { IfOk result (λ r. IsUtf8 r.0.now) }
     ensures few { IfOk result (λ r. length (lines_left r.1) < 2 ^ 32) }
-    ensures fault { IfErr result
-        (λ error. (kind version : List ℕ) → IsUnopened kind version text.now error) }
+    ensures fault { IfErr result (IsUncut text.now) }
 {
     if text.len() > MAX_TEXT {
         return Err(TextError {

@@ -9,11 +9,11 @@ use Rattle.nll_mir_text.proofs.parts.read_first.Goals as goal
 
 pub read_part-requires-clause-long : goal.read_part-requires-clause-long
 read_part-requires-clause-long c =
-    omega (arith, ap length (ap lines_left c.in-Some.is), c.in_ok-open_header.ensures.few)
+    omega (arith, ap length (ap lines_left c.in-Some.is), c.in_ok-version.ensures.few)
 
 pub read_part-requires-clause-short : goal.read_part-requires-clause-short
 read_part-requires-clause-short c =
-    let headed = c.in_ok-open_header.ensures.ok in
+    let headed = c.in_ok-version.ensures.ok in
     subst AreShort (ap lines_left c.in-Some.is) (body_short c.args.text.now headed.header _ headed.cut)
 
 pub returns-in_ok-left-in-Some-clause-few : goal.returns-in_ok-left-in-Some-clause-few
@@ -22,15 +22,15 @@ returns-in_ok-left-in-Some-clause-few c =
       arith,
       c.in_ok-left-in-Some.ensures.counted,
       ap length (ap lines_left c.in-Some.is),
-      c.in_ok-open_header.ensures.few,
+      c.in_ok-version.ensures.few,
     )
 
 pub returns-in_ok-left-in-Some-clause-under_way : goal.returns-in_ok-left-in-Some-clause-under_way
 returns-in_ok-left-in-Some-clause-under_way c =
     let body = lines_of c.in-Some.body.now in (
       body,
-      rw c.in-Some.is at c.in_ok-open_header.ensures.ok,
-      c.in_ok-left-in-Some.ensures.read body (amid_none (mir c.in_ok-open_header.version) _ body c.requires.start),
+      rw c.in-Some.is at c.in_ok-version.ensures.ok,
+      c.in_ok-left-in-Some.ensures.read body (amid_none (mir c.in_ok-version.version) _ body c.requires.start),
     )
 
 pub returns-in_err-left-in-Some-clause-fault : goal.returns-in_err-left-in-Some-clause-fault
@@ -38,14 +38,14 @@ returns-in_err-left-in-Some-clause-fault c =
     let body = lines_of c.in-Some.body.now in
     let p = err_from_is_err_and c.from_residual-in_err-left-in-Some.result c.from_residual-in_err-left-in-Some.ensures.1
     in
-    let here = rw c.in-Some.is at c.in_ok-open_header.ensures.ok in
+    let here = rw c.in-Some.is at c.in_ok-version.ensures.ok in
     rw (p.1, p.2) (refused_in _ _ _ _ here
     (c.in_err-left-in-Some.ensures.fault body
-    (amid_none (mir c.in_ok-open_header.version) _ body c.requires.start) c.args.text.now here))
+    (amid_none (mir c.in_ok-version.version) _ body c.requires.start) c.args.text.now here))
 
 pub returns-in-None-clause-under_way : goal.returns-in-None-clause-under_way
 returns-in-None-clause-under_way c = (
   [],
-  rw c.in-None.is at c.in_ok-open_header.ensures.ok,
-  amid_none (mir c.in_ok-open_header.version) _ [] c.requires.start,
+  rw c.in-None.is at c.in_ok-version.ensures.ok,
+  amid_none (mir c.in_ok-version.version) _ [] c.requires.start,
 )
