@@ -7,8 +7,9 @@ ghost use Rattle.nll_tests.specs.EndTexts.{end_texts, end_word, Tells};
 use super::rows::Asked::Loop;
 use super::rows::{Row, compare_rows};
 use super::transcript::Transcript;
-use nll_format::{LineReader, TextError, TextKind, check_end, open_text, pass_over};
-use nll_format::{read_lines, read_until};
+use nll_format::{
+    LineReader, TextError, TextKind, check_end, open_text, pass_over, read_lines, read_until,
+};
 
 /// What is asked of the loop.
 #[derive(Clone, Copy)]
@@ -109,10 +110,26 @@ pub fn write_loop(out: &mut Transcript, of_loop: OfLoop) {
 
 // All lines behind a header.
 const LINES: &[Row] = &[
-    ("a header alone", Loop(OfLoop::Lines(b"ends 1")), "line 1: End"),
-    ("a header and a line feed", Loop(OfLoop::Lines(b"ends 1\n")), "line 1: End"),
-    ("an empty line", Loop(OfLoop::Lines(b"ends 1\n\n")), "|line 2: End"),
-    ("the line that is needed", Loop(OfLoop::Lines(b"ends 1\nend")), "end|fine"),
+    (
+        "a header alone",
+        Loop(OfLoop::Lines(b"ends 1")),
+        "line 1: End",
+    ),
+    (
+        "a header and a line feed",
+        Loop(OfLoop::Lines(b"ends 1\n")),
+        "line 1: End",
+    ),
+    (
+        "an empty line",
+        Loop(OfLoop::Lines(b"ends 1\n\n")),
+        "|line 2: End",
+    ),
+    (
+        "the line that is needed",
+        Loop(OfLoop::Lines(b"ends 1\nend")),
+        "end|fine",
+    ),
     (
         "skipped lines around it",
         Loop(OfLoop::Lines(b"ends 1\n# a\n\nend\n#b\n")),
