@@ -1,11 +1,11 @@
 -- Lines of a text, read one after another by a reader that holds what they say.
-use Rattle.std.proofs.Common.{◌≡◌, ◌≢◌, ⊎_elim, ℕ, ◌+◌, ◌-◌, ◌<◌, ◌≤◌, ◌==◌, Bool, true, false, cond, List, [], ◌∷◌, ◌++◌, ◌⊎◌, inl, inr, length, refl, sym, ap, ◌∙◌, subst, arith, length-append}
+use Rattle.std.proofs.Common.{◌≡◌, ◌≢◌, ⊎_elim, ℕ, ◌+◌, ◌-◌, ◌≤◌, ◌==◌, Bool, true, false, cond, List, [], ◌∷◌, ◌++◌, ◌⊎◌, inl, inr, length, refl, sym, ap, ◌∙◌, subst, arith, length-append}
 use Rattle.std.specs.List.{AllByRecursion, slice_split, onto_first}
 use Rattle.std.proofs.lemmas.List.{append-nil}
 use Rattle.nll_problem.specs.Limits.{most_bytes}
 use Rattle.nll_text.specs.Lines.{lines_of}
-use Rattle.nll_format.specs.Text.{Format, Fits, skipped, of_form, IsFaulty, Says, HasFault, IsCut, IsHeaded, IsFault, at_line, no_end}
-use Rattle.nll_format.specs.Lines.{AreShort, TakesIn, TurnsDown, IsAmid, IsAmidWith, Advances, RefusesBody, RefusesLeft}
+use Rattle.nll_format.specs.Text.{Format, IsFaulty, Says, HasFault, IsCut, IsFault, no_end}
+use Rattle.nll_format.specs.Lines.{AreShort, TakesIn, TurnsDown, IsAmidWith, Advances, RefusesLeft}
 use Rattle.nll_format.specs.Reading.{ReadsLine, skips, reads}
 use Rattle.nll_format.specs.declared.error.TextError.{TextError}
 use Rattle.nll_format.specs.declared.error.TextKind.{TextKind}

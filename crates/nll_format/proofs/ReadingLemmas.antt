@@ -1,6 +1,6 @@
 -- The lines of a text of a format, read one after another, and how a text is refused.
-use Rattle.std.proofs.Common.{◌≡◌, ℕ, ◌+◌, ◌-◌, ◌<◌, ◌≤◌, ⊎_elim, List, [], ◌∷◌, ◌++◌, inl, inr, sym, ap, ◌∙◌, subst, append_assoc, arith, None}
-use Rattle.nll_format.specs.Text.{Format, Fits, skipped, of_form, IsFaulty, not_utf8, no_form, at_form, Says, HasFault, IsCut, IsHeaded, IsFault, too_long, header_not_utf8, no_header, at_line, IsRefusal, IsUncut, IsUnopened}
+use Rattle.std.proofs.Common.{◌≡◌, ℕ, ◌+◌, ◌-◌, ◌≤◌, ⊎_elim, List, [], ◌∷◌, ◌++◌, inl, inr, sym, ap, ◌∙◌, subst, append_assoc, arith, None}
+use Rattle.nll_format.specs.Text.{Format, Fits, skipped, of_form, IsFaulty, not_utf8, no_form, at_form, Says, HasFault, IsHeaded, IsFault, too_long, header_not_utf8, no_header, at_line, IsRefusal, IsUncut, IsUnopened}
 use Rattle.nll_format.specs.declared.error.TextError.{TextError}
 use Rattle.nll_format.specs.declared.error.TextKind.{TextKind}
 
