@@ -22,7 +22,7 @@ import gdb, os, re, subprocess
 
 PROGRAM, TEXT, OUT = (os.environ["CALLS_" + name] for name in ("PROGRAM", "TEXT", "OUT"))
 WANTED = int(os.environ["CALLS_LINE"]) - 1      # the header isn't read by read_line
-START = re.compile(r"nll_mir_text::\w+::Reader::read_line(::<.*)?$")
+START = re.compile(r"nll_mir_text::\w+::ReaderLineReaderVersion::read_line(::<.*)?$")
 lines_begun, calls, inside = 0, [], False
 
 

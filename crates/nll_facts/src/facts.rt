@@ -6,12 +6,11 @@ ghost use Rattle.nll_format.specs.Lines.{AreShort, RefusesBody};
 ghost use Rattle.nll_format.specs.Text.{IsHeaded, IsRefusal};
 ghost use Rattle.nll_facts.specs.FactsText.{facts, IsFactsFault, Means};
 
-use crate::header::check_header;
+use crate::header::open_header;
 use crate::reader::Reader;
 use crate::version::Version;
-use nll_format::{Labels, MAX_TEXT, TextError, TextKind, read_lines};
-use nll_problem::{Kind, Problem};
-use nll_text::next_line;
+use nll_format::{Labels, TextError, read_lines};
+use nll_problem::Problem;
 use std::alloc::Global;
 
 /// A problem and the names that its text gives to regions and points.
@@ -57,13 +56,6 @@ pub fn read_facts(alloc: Global, text: &[u8]) -> Result<Facts, TextError>
     ensures ok { IfOk result (λ q. Means text.now q.problem q.labels) }
     ensures fault { IfErr result (IsRefusal (IsFactsFault text.now)) }
 {
-    if text.len() > MAX_TEXT {
-        return Err(TextError {
-            line: 1,
-            kind: TextKind::Limit(Kind::Text),
-        });
-    }
-    let (header, body) = next_line(text);
-    let version = check_header(header)?;
+    let (version, body) = open_header(text)?;
     read_body(alloc, version, body)
 }

@@ -1,11 +1,11 @@
 -- Lines of a text, read one after another by a reader that holds what they say.
-use Rattle.std.proofs.Common.{◌≡◌, ◌≢◌, ⊎_elim, ℕ, ◌+◌, ◌-◌, ◌<◌, ◌≤◌, ◌==◌, Bool, true, false, cond, List, [], ◌∷◌, ◌++◌, ◌⊎◌, inl, inr, length, refl, sym, ap, ◌∙◌, subst, arith, length-append}
+use Rattle.std.proofs.Common.{◌≡◌, ◌≢◌, ⊎_elim, ℕ, ◌+◌, ◌-◌, ◌≤◌, ◌==◌, Bool, true, false, cond, List, [], ◌∷◌, ◌++◌, ◌⊎◌, inl, inr, length, refl, sym, ap, ◌∙◌, subst, arith, length-append}
 use Rattle.std.specs.List.{AllByRecursion, slice_split, onto_first}
 use Rattle.std.proofs.lemmas.List.{append-nil}
 use Rattle.nll_problem.specs.Limits.{most_bytes}
 use Rattle.nll_text.specs.Lines.{lines_of}
-use Rattle.nll_format.specs.Text.{Format, Fits, skipped, of_form, IsFaulty, Says, HasFault, IsCut, IsHeaded, IsFault, at_line, no_end}
-use Rattle.nll_format.specs.Lines.{AreShort, TakesIn, TurnsDown, IsAmid, IsAmidWith, Advances, RefusesBody, RefusesLeft}
+use Rattle.nll_format.specs.Text.{Format, IsFaulty, Says, HasFault, IsCut, IsFault, no_end}
+use Rattle.nll_format.specs.Lines.{AreShort, TakesIn, TurnsDown, IsAmidWith, Advances, RefusesLeft}
 use Rattle.nll_format.specs.Reading.{ReadsLine, skips, reads}
 use Rattle.nll_format.specs.declared.error.TextError.{TextError}
 use Rattle.nll_format.specs.declared.error.TextKind.{TextKind}
@@ -111,13 +111,12 @@ module _ (format : Format) where
 
   -- the text stops too early
   pub amid_end : (Held : List format.Form → Type 0) (number : ℕ)
-      → ((lines : List (List ℕ)) (forms : List format.Form) → Says format [] lines forms → Held forms
-      → format.HasEnded forms → ⊥) → RefusesLeft format Held [] number (record { line = number; kind = End })
+      → ((forms : List format.Form) → Held forms → format.HasEnded forms → ⊥) → RefusesLeft format Held [] number (record { line = number; kind = End })
   amid_end Held number none all amid text headed =
       let done = amid_all Held all number amid in
       let last : length (lines_of text) ≡ number = omega (arith, ap length headed.cut.cut, done.3) in
       inr (subst (λ n. IsFault format text n End) last
-      (no_end all done.0 headed done.1 (none all done.0 done.1 done.2)))
+      (no_end all done.0 headed done.1 (none done.0 done.2)))
 
   -- more lines are read behind those that were
   pub advances_then : (Old Mid New : List format.Form → Type 0) (these those left : List (List ℕ)) (i j k : ℕ)

@@ -1,7 +1,7 @@
 -- A line of a listing, taken in behind others, and what holds of its texts.
-use Rattle.std.proofs.Common.{◌≡◌, ⊎_elim, ◌⊎◌, ℕ, ◌+◌, ◌-◌, ◌≤◌, List, [], ◌∷◌, ◌++◌, None, Some, length, refl, sym, ap, ◌∙◌, subst}
+use Rattle.std.proofs.Common.{◌≡◌, ⊎_elim, ◌⊎◌, ℕ, List, [], ◌∷◌, ◌++◌, None, Some, refl, sym, ap, ◌∙◌}
 use Rattle.nll_format.specs.Parts.{Part, Spells}
-use Rattle.nll_format.specs.Text.{Format, Fits, skipped, of_form, IsFaulty, not_utf8, no_form, at_form, Says, HasFault, IsPassedOver, IsFormless, IsFault, too_long, header_not_utf8, no_header, at_line, no_end}
+use Rattle.nll_format.specs.Text.{Format, Fits, skipped, of_form, IsFaulty, not_utf8, no_form, at_form, IsPassedOver, IsFormless, IsFault, too_long, header_not_utf8, no_header, at_line, no_end}
 use Rattle.nll_format.specs.Reading.{ReadsLine, reads}
 use Rattle.nll_format.specs.Listing.{Listing, format_of, AddsEntry}
 use Rattle.nll_format.specs.declared.error.TextKind.{TextKind}

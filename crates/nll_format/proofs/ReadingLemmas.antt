@@ -1,24 +1,8 @@
--- The lines of a text of a format, read one after another.
-use Rattle.std.proofs.Common.{◌≡◌, ℕ, ◌+◌, ◌-◌, ◌≤◌, ⊎_elim, List, [], ◌∷◌, ◌++◌, inl, inr, length, refl, sym, ap, ◌∙◌, subst, append_assoc, arith, length-append, None}
-use Rattle.std.proofs.lemmas.List.{append-nil}
-use Rattle.nll_text.specs.Tokens.{IsNotMadeWithin}
-use Rattle.nll_format.specs.Text.{Format, HasAtMost, Fits, skipped, of_form, IsFaulty, not_utf8, no_form, at_form, Says, HasFault, IsCut, IsHeaded, IsFault, too_long, header_not_utf8, no_header, at_line, IsRefusal, IsHeaderFault, IsUnopened}
-use Rattle.nll_format.specs.Reading.{ReadsLine, skips, reads}
+-- The lines of a text of a format, read one after another, and how a text is refused.
+use Rattle.std.proofs.Common.{◌≡◌, ℕ, ◌+◌, ◌-◌, ◌≤◌, ⊎_elim, List, [], ◌∷◌, ◌++◌, inl, inr, sym, ap, ◌∙◌, subst, append_assoc, arith, None}
+use Rattle.nll_format.specs.Text.{Format, Fits, skipped, of_form, IsFaulty, not_utf8, no_form, at_form, Says, HasFault, IsHeaded, IsFault, too_long, header_not_utf8, no_header, at_line, IsRefusal, IsUncut, IsUnopened}
 use Rattle.nll_format.specs.declared.error.TextError.{TextError}
 use Rattle.nll_format.specs.declared.error.TextKind.{TextKind}
-
--- Of all lines those in front are read, they are of the forms, and s is held for what they say.
-pub record IsRead (format : Format) (Same : format.Said → format.Said → Type 0) (all front rest : List (List ℕ))
-    (forms : List format.Form) (s : format.Said) (number : ℕ) : Type 0 where
-  pub cut : all ≡ front ++ rest
-  pub place : number ≡ 1 + length front
-  pub fine : Says format [] front forms
-  pub holds : Same (format.said forms) s
-
--- a line has no form that no list of so few tokens makes
-pub no_form_within : (format : Format) (most : ℕ) (line : List ℕ) → HasAtMost format most → IsNotMadeWithin most line
-    → (f : format.Form) → format.HasForm line f → ⊥
-no_form_within format most line few none f form = let made = few line f form in none made.0 made.1 made.2
 
 -- one more line
 pub says_push : (format : Format) (before : List format.Form) (front : List (List ℕ)) (forms : List format.Form)
@@ -37,25 +21,6 @@ cut_more all front rest line after cut step = cut
 pub fine_of : (format : Format) (s : format.Said) (line : List ℕ) (f : format.Form) → Fits format s line (f ∷ [])
     → format.first_fault s f ≡ None
 fine_of format s line f (of_form _ u k form fine) = fine
-
-module _ (format : Format) (Same : format.Said → format.Said → Type 0) where
-  -- nothing is read yet
-  pub read_none : (all : List (List ℕ)) (s : format.Said) → Same (format.said []) s
-      → IsRead format Same all [] all [] s 1
-  read_none all s same = record { cut = refl; place = refl; fine = refl; holds = same }
-
-  -- not more lines are read than there are
-  pub read_bound : (all front rest : List (List ℕ)) (forms : List format.Form) (s : format.Said) (number : ℕ)
-      → IsRead format Same all front rest forms s number → number ≤ 1 + length all
-  read_bound all front rest forms s number r = omega (arith, r.place, ap length r.cut, length-append front rest)
-
-  -- all lines are read
-  pub read_all : (all front : List (List ℕ)) (forms : List format.Form) (s : format.Said) (number : ℕ)
-      → IsRead format Same all front [] forms s number
-      → Says format [] all forms × Same (format.said forms) s × (number ≡ 1 + length all)
-  read_all all front forms s number r =
-      let e : all ≡ front = r.cut ∙ append-nil front in
-      (rw e r.fine, r.holds, rw e r.place)
 
 -- where the same is said, a line has the same first fault
 abbrev pub SameFault : (format : Format) → (format.Said → format.Said → Type 0) → Type 0
@@ -82,58 +47,7 @@ module _ (format : Format) (Same : format.Said → format.Said → Type 0) (same
   faulty_same s t h line kind (no_form u k none) = no_form u k none
   faulty_same s t h line kind (at_form f _ u k form fault) = at_form f kind u k form (same_fault s t h f ∙ fault)
 
-  -- one more line is read
-  pub read_more : (Adds : format.Said → format.Form → format.Said → Type 0) → AddsSaid format Same Adds
-      → (all front rest : List (List ℕ)) (line : List ℕ) (after : List (List ℕ)) (forms : List format.Form)
-      (s t : format.Said) (number : ℕ) → rest ≡ line ∷ after → IsRead format Same all front rest forms s number
-      → ReadsLine format Adds s line t → (more : List format.Form)
-      × IsRead format Same all (front ++ line ∷ []) after more t (number + 1)
-  read_more Adds adds_said all front rest line after forms s t number step r (skips fit e) = (
-    forms,
-    record {
-      cut = cut_more all front rest line after r.cut step;
-      place = omega (arith, r.place, length-append front (line ∷ []));
-      fine = subst (Says format [] (front ++ line ∷ [])) (append-nil forms)
-          (says_push format [] front forms line [] r.fine (fits_same (format.said forms) s r.holds line [] fit));
-      holds = subst (Same (format.said forms)) (sym e) r.holds;
-    },
-  )
-  read_more Adds adds_said all front rest line after forms s t number step r (reads f fit adds) =
-      let here : Fits format (format.said forms) line (f ∷ []) =
-      fits_same (format.said forms) s r.holds line (f ∷ []) fit in (
-        forms ++ f ∷ [],
-        record {
-          cut = cut_more all front rest line after r.cut step;
-          place = omega (arith, r.place, length-append front (line ∷ []));
-          fine = says_push format [] front forms line (f ∷ []) r.fine here;
-          holds = adds_said forms s t f r.holds (fine_of format s line f fit) adds;
-        },
-      )
-
-  -- the next line is faulty
-  pub read_fault : (all front rest : List (List ℕ)) (line : List ℕ) (after : List (List ℕ)) (forms : List format.Form)
-      (s : format.Said) (number : ℕ) → rest ≡ line ∷ after → IsRead format Same all front rest forms s number
-      → (kind : TextKind) → IsFaulty format s line kind → HasFault format all (number + 1 - 2) kind
-  read_fault all front rest line after forms s number step r kind wrong = record {
-    front = front;
-    line = line;
-    back = after;
-    cut = r.cut ∙ ap (λ (xs : List (List ℕ)). front ++ xs) step;
-    place = omega (arith, r.place);
-    forms = forms;
-    fine = r.fine;
-    wrong = faulty_same (format.said forms) s r.holds line kind wrong;
-  }
-
 -- ---- the whole text
-
--- what is wrong with the first line is wrong with the text
-pub header_refused : (format : Format) (text header : List ℕ) (body : List (List ℕ)) (e : TextError)
-    → IsCut text header body → IsHeaderFault format header e → IsRefusal (IsFault format text) e
-header_refused format text header body e cut wrong = ⊎_elim
-    (λ h. rw h.0 (inr (header_not_utf8 header body cut h.1)))
-    (λ h. rw h.0 (inr (no_header header body cut h.1 h.2)))
-    wrong
 
 -- what is wrong with a later line is wrong with the text
 pub body_refused : (format : Format) (text : List ℕ) (body : List (List ℕ)) (e : TextError) → IsHeaded format text body
@@ -143,10 +57,18 @@ body_refused format text body e headed wrong = ⊎_elim inl
     inr (subst (λ n. IsFault format text n e.kind) place (at_line body (e.line - 2) e.kind headed h.1)))
     wrong
 
+-- a text whose first line isn't cut off is refused
+pub uncut_refused : (format : Format) (text : List ℕ) (e : TextError) → IsUncut text e
+    → IsRefusal (IsFault format text) e
+uncut_refused format text e wrong = ⊎_elim
+    (λ h. rw h.0 (inr (too_long h.1)))
+    (λ h. rw h.0 (inr (header_not_utf8 h.1 h.2 h.3 h.4)))
+    wrong
+
 -- a text that isn't opened is refused
 pub unopened_refused : (format : Format) (text : List ℕ) (e : TextError) → IsUnopened format.kind format.version text e
     → IsRefusal (IsFault format text) e
 unopened_refused format text e wrong = ⊎_elim
-    (λ h. rw h.0 (inr (too_long h.1)))
-    (λ h. header_refused format text h.0 h.1 e h.2 h.3)
+    (uncut_refused format text e)
+    (λ h. rw h.0 (inr (no_header h.1 h.2 h.3 h.4 h.5)))
     wrong

@@ -123,23 +123,19 @@ abbrev pub IsRefusal : (ℕ → TextKind → Type 0) → TextError → Type 0
 IsRefusal fault error =
     (error ≡ record { line = 0; kind = Memory }) ⊎ fault error.line error.kind
 
--- The error tells what is wrong with a first line that is to be a header of these two runs.
-abbrev pub IsNoHeader : List ℕ → List ℕ → List ℕ → TextError → Type 0
-IsNoHeader kind version line error =
-    ((error ≡ record { line = 1; kind = NotUtf8 }) × (IsUtf8 line → ⊥))
-    ⊎ ((error ≡ record { line = 1; kind = Header }) × IsUtf8 line
-    × (headers.IsHeader kind version line → ⊥))
+-- The error tells that the text is too long, or else that its first line isn't UTF-8.
+abbrev pub IsUncut : List ℕ → TextError → Type 0
+IsUncut text error =
+    ((error ≡ record { line = 1; kind = Limit Text }) × (most_bytes < length text))
+    ⊎ ((error ≡ record { line = 1; kind = NotUtf8 }) × (line : List ℕ) × (body : List (List ℕ))
+    × IsCut text line body × (IsUtf8 line → ⊥))
 
--- the error tells what is wrong with the first line of a text of the format
-abbrev pub IsHeaderFault : Format → List ℕ → TextError → Type 0
-IsHeaderFault format = IsNoHeader format.kind format.version
-
--- The error tells that the text is too long, or what is wrong with its first line.
+-- The error tells the same, or else that the first line isn't a header of these two runs.
 abbrev pub IsUnopened : List ℕ → List ℕ → List ℕ → TextError → Type 0
 IsUnopened kind version text error =
-    ((error ≡ record { line = 1; kind = Limit Text }) × (most_bytes < length text))
-    ⊎ ((line : List ℕ) × (body : List (List ℕ)) × IsCut text line body
-    × IsNoHeader kind version line error)
+    IsUncut text error
+    ⊎ ((error ≡ record { line = 1; kind = Header }) × (line : List ℕ) × (body : List (List ℕ))
+    × IsCut text line body × IsUtf8 line × (headers.IsHeader kind version line → ⊥))
 
 -- ---- a line of none of the forms
 

@@ -1,8 +1,8 @@
 //! What takes in the lines of a text behind its header, one after another.
 
-ghost use Rattle.std.specs.Prelude.{◌≤◌, ◌↔◌, ℕ, List, [], length, IsTrue, OnOk, IfErr};
+ghost use Rattle.std.specs.Prelude.{◌≤◌, ◌↔◌, List, length, IsTrue, OnOk, IfErr};
 ghost use Rattle.nll_problem.specs.Limits.{most_bytes};
-ghost use Rattle.nll_format.specs.Text.{Format, Says};
+ghost use Rattle.nll_format.specs.Text.{Format};
 ghost use Rattle.nll_format.specs.Lines.{TakesIn, TurnsDown};
 
 use crate::error::TextKind;
@@ -43,7 +43,6 @@ pub trait LineReader<'a, F> {
 
     /// Whether a text may stop behind the lines that were taken in.
     fn has_ended(&self, format: &F) -> bool
-        ensures { (lines : List (List ℕ)) (forms : List (format_of format.now).Form)
-            → Says (format_of format.now) [] lines forms → holds format.now forms self.now
+        ensures { (forms : List (format_of format.now).Form) → holds format.now forms self.now
             → IsTrue result ↔ (format_of format.now).HasEnded forms };
 }

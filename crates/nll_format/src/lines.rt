@@ -119,9 +119,8 @@ pub fn check_end<'a, F, R: LineReader<'a, F>>(
     format: &F,
     number: u64,
 ) -> Result<(), TextError>
-    ensures ok { OnOk result ((lines : List (List ℕ)) (forms : List (R.format_of format.now).Form)
-        → Says (R.format_of format.now) [] lines forms → R.holds format.now forms reader.now
-        → (R.format_of format.now).HasEnded forms) }
+    ensures ok { OnOk result ((forms : List (R.format_of format.now).Form)
+        → R.holds format.now forms reader.now → (R.format_of format.now).HasEnded forms) }
     ensures fault { IfErr result (RefusesLeft (R.format_of format.now)
         (λ forms. R.holds format.now forms reader.now) [] number) }
 {

@@ -438,9 +438,9 @@ contains_rank (g ∷ forms) f zero h e =
 contains_rank (g ∷ forms) f (suc k) h e =
     omega (arith, contains_rank forms f k (omega (arith, h)) e, reached_more g forms)
 
--- and have none where it isn't
-pub not_ended : (forms : List Form) → (has_reached (said forms) End ≡ true → ⊥) → Contains forms end → ⊥
-not_ended forms none c = none (is_reached (said forms) End (contains_rank forms end c.0 c.1 c.2))
+-- the last group is reached where the lines have one
+pub end_reached : (forms : List Form) → Contains forms end → has_reached (said forms) End ≡ true
+end_reached forms c = is_reached (said forms) End (contains_rank forms end c.0 c.1 c.2)
 
 -- the last group is reached where there is an `end` line
 pub reached_at_end : (forms : List Form) → Contains forms end → rank (said forms).reached ≡ 9

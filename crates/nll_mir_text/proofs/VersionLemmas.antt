@@ -6,10 +6,9 @@ use Rattle.nll_text.specs.Tokens.{Token}
 use Rattle.nll_text.proofs.TokenLemmas.{one_token_list_lem}
 use Rattle.nll_problem.specs.Limits.{most_bytes}
 use Rattle.nll_problem.specs.declared.error.Kind.TheVariants.{Text}
-use Rattle.nll_format.specs.Text.{IsHeaded, IsHeader, IsHeaderFault, IsCut, IsFault, IsRefusal, too_long}
+use Rattle.nll_format.specs.Text.{IsHeaded, IsHeader, IsCut, IsFault, IsRefusal, IsUncut, too_long, header_not_utf8, no_header}
 use Rattle.nll_format.specs.declared.error.TextError.{TextError}
-use Rattle.nll_format.specs.declared.error.TextKind.TheVariants.{Limit}
-use Rattle.nll_format.proofs.ReadingLemmas.{header_refused}
+use Rattle.nll_format.specs.declared.error.TextKind.TheVariants.{NotUtf8, Header, Limit}
 use Rattle.nll_mir_grammar.specs.MirForms.{Form, IsSpelled, HasForm}
 use Rattle.nll_mir_grammar.specs.Versions.{HasFormIn}
 use Rattle.nll_mir_grammar.specs.declared.version.Version.{Version}
@@ -72,16 +71,26 @@ pub refused_in : (version : Version) (text : List ℕ) (body : List (List ℕ)) 
 refused_in version text body error headed refused =
     ⊎_elim inl (λ f. inr (version, of_headed version text body headed, f)) refused
 
--- the first line is the header of no version
-pub refused_at_header : (text header : List ℕ) (body : List (List ℕ)) (error : TextError) → IsCut text header body
-    → ((v : Version) → IsHeaderFault (mir v) header error) → IsRefusal (IsMirFault text) error
-refused_at_header text header body error cut wrong =
-    ⊎_elim inl (λ f. inr (First, other, f)) (header_refused (mir First) _ _ _ _ cut (wrong First))
+-- the first line isn't cut off
+pub refused_uncut : (text : List ℕ) (error : TextError) → IsUncut text error → IsRefusal (IsMirFault text) error
+refused_uncut text error wrong = ⊎_elim
+    (λ h. rw h.0 (inr (too_long_for_mir text h.1)))
+    (λ h. rw h.0 (inr (at_line h.1 h.2 h.3 h.4)))
+    wrong
   where
-    other : (b : List (List ℕ)) → IsHeaded (mir Second) text b → ⊥
-    other b k =
-        let e = first_line text k.header header b body k.cut cut in
-        ⊎_elim
-        (λ w. w.1 (subst (λ l. IsUtf8 l) e k.utf8))
-        (λ w. w.2 (subst (λ l. IsHeader (mir Second) l) e k.is_header))
-        (wrong Second)
+    at_line : (line : List ℕ) (body : List (List ℕ)) → IsCut text line body → (IsUtf8 line → ⊥)
+        → IsMirFault text 1 NotUtf8
+    at_line line body cut bad = (
+      First,
+      (λ b k. bad (subst IsUtf8 (first_line text k.header line b body k.cut cut) k.utf8)),
+      header_not_utf8 line body cut bad,
+    )
+
+-- the first line is the header of no version
+pub refused_at_header : (text header : List ℕ) (body : List (List ℕ)) → IsCut text header body → IsUtf8 header
+    → ((v : Version) → IsHeader (mir v) header → ⊥) → IsMirFault text 1 Header
+refused_at_header text header body cut utf8 none = (
+  First,
+  (λ b k. none Second (subst (IsHeader (mir Second)) (first_line text k.header header b body k.cut cut) k.is_header)),
+  no_header header body cut utf8 (none First),
+)

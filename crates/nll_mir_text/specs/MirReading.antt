@@ -1,7 +1,7 @@
 -- What a reader of MIR texts holds, and how a line changes it.
 -- Source: project's choice. Only private contracts cite this file.
 use Rattle.std.specs.Prelude.{◌≡◌, ◌⊎◌, ℕ, ◌+◌, ◌<◌, ◌≤◌, Bool, true, false, List, [], ◌∷◌, map}
-use Rattle.std.specs.Prelude.{◌^◌, ◌++◌, length, slice_index_or, Option, Some, None}
+use Rattle.std.specs.Prelude.{length, slice_index_or, Option, Some, None}
 use Rattle.std.specs.List.{AllByRecursion}
 use Rattle.std.specs.Str.{IsUtf8}
 use Rattle.nll_problem.specs.Limits.{most_points, most_edges, most_universals, most_regions}
@@ -19,9 +19,8 @@ use Rattle.nll_statements.specs.Edges.{edges_from, edge_count}
 use Rattle.nll_statements.specs.Kept.{statement_of}
 use Rattle.nll_statements.specs.declared.statement.Statement.{Statement as Kept}
 use Rattle.nll_text.specs.Lines.{lines_of}
-use Rattle.nll_format.specs.Reading as reading
-use Rattle.nll_format.specs.Text.{Says, IsText, IsFault, IsHeaded, IsRefusal}
-use Rattle.nll_format.specs.declared.error.TextError.{TextError}
+use Rattle.nll_format.specs.Text.{IsText, IsHeaded}
+use Rattle.nll_format.specs.Lines.{IsAmidWith}
 use Rattle.nll_format.specs.declared.error.TextKind.{TextKind}
 use Rattle.nll_format.specs.declared.error.TextKind.TheVariants.{Memory}
 use Rattle.nll_mir_grammar.specs.MirForms.{Form, universal, further, struct_line, at_point}
@@ -62,6 +61,10 @@ said_by r = record {
   points = map statement_kept r.points.statements.items;
   owes = r.points.owes;
 }
+
+-- the reader holds what lines of these forms say
+abbrev pub HoldsForms : Reader → List Form → Type 0
+HoldsForms r forms = said forms ≡ said_by r
 
 -- The numbers of shapes are those of these types.
 pub record AreShapes (shapes : List Node) (numbers : List ℕ) (types : List Ty) : Type 0 where
@@ -174,65 +177,21 @@ IsRefused s f kind = (kind ≡ Memory) ⊎ (first_fault s f ≡ Some kind)
 abbrev pub Adds : Said → Form → Said → Type 0
 Adds s f t = t ≡ says s f
 
--- t is what is said after a line that has no fault in a text of the version
-abbrev pub ReadsLine : Version → Said → List ℕ → Said → Type 0
-ReadsLine version = reading.ReadsLine (mir version) Adds
-
 -- ---- all lines
 
--- no line is longer than a text may be
-abbrev pub AreShort : List (List ℕ) → Type 0
-AreShort body = AllByRecursion (λ line. length line ≤ most_bytes) body
-
--- the lines have no fault in a text of the version, and the reader holds what they say
-abbrev pub HasRead : Version → List (List ℕ) → Reader → Type 0
-HasRead version body r =
-    (forms : List Form) × Says (mir version) [] body forms × (said forms ≡ said_by r)
-
--- Of all lines those that are left are not read yet; the others have no fault in a text of the
--- version, s is what they say, and with the header they are so many.
-pub record IsAmid (version : Version) (all left : List (List ℕ)) (s : Said) (number : ℕ)
-    : Type 0 where
-  pub front : List (List ℕ)
-  pub forms : List Form
-  pub cut : all ≡ front ++ left
-  pub place : number ≡ 1 + length front
-  pub fine : Says (mir version) [] front forms
-  pub holds : said forms ≡ s
-
--- Of these lines some are taken in, and the others are left: the reader's tables agree, the lines
--- that are left are short, and the number rises by one with each line that is taken in.
-pub record Advances (version : Version) (lines left : List (List ℕ)) (old : Reader) (before : ℕ)
-    (new : Reader) (number : ℕ) : Type 0 where
-  pub ready : IsReady new
-  pub short : AreShort left
-  pub counted : number + length left ≡ before + length lines
-  pub read : (all : List (List ℕ)) → IsAmid version all lines (said_by old) before
-      → IsAmid version all left (said_by new) number
-
 -- The text has the header of the version, and of the lines behind it those that are left are not
--- taken in yet.
-pub record IsUnderWay (version : Version) (text : List ℕ) (left : List (List ℕ)) (r : Reader)
-    (number : ℕ) : Type 0 where
-  pub body : List (List ℕ)
-  pub headed : IsHeaded (mir version) text body
-  pub ready : IsReady r
-  pub short : AreShort left
-  pub few : number + length left ≤ 2 ^ 32
-  pub amid : IsAmid version body left (said_by r) number
+-- taken in yet; the reader holds what the others say, and with the header they are so many.
+abbrev pub IsUnderWay : Version → List ℕ → List (List ℕ) → Reader → ℕ → Type 0
+IsUnderWay version text left r number =
+    (body : List (List ℕ)) × IsHeaded (mir version) text body
+    × IsAmidWith (mir version) (HoldsForms r) body left number
 
 -- the lines of the text that is left, and none where no text is left
 abbrev pub lines_in : Option (List ℕ) → List (List ℕ)
 lines_in None = []
 lines_in (Some text) = lines_of text
 
--- the error refuses each text that has the header of the version and these lines behind it
-abbrev pub RefusesBody : Version → List (List ℕ) → TextError → Type 0
-RefusesBody version body error =
-    (text : List ℕ) → IsHeaded (mir version) text body
-    → IsRefusal (IsFault (mir version) text) error
-
 -- the text fits in a version, and the reader holds what its lines say
 abbrev pub Holds : List ℕ → Reader → Type 0
-Holds text r = (version : Version) × (forms : List Form) × IsText (mir version) text forms
-    × (said forms ≡ said_by r)
+Holds text r =
+    (version : Version) × (forms : List Form) × IsText (mir version) text forms × HoldsForms r forms

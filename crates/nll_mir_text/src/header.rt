@@ -1,15 +1,14 @@
 //! The header of a MIR text.
 
-ghost use Rattle.std.specs.Prelude.{◌↔◌, IfOk, IfErr, IsTrue, MatchOption};
-ghost use Rattle.std.specs.Str.{IsUtf8};
-ghost use Rattle.nll_format.specs.Text.{IsHeader, IsHeaderFault};
+ghost use Rattle.std.specs.Prelude.{◌↔◌, ◌<◌, ◌^◌, length, IfOk, IfErr, IsTrue, MatchOption};
+ghost use Rattle.nll_text.specs.Lines.{lines_left};
+ghost use Rattle.nll_format.specs.Text.{IsHeaded, IsHeader, IsRefusal};
 ghost use Rattle.nll_mir_grammar.specs.declared.version.Version.{Version as versions};
-ghost use Rattle.nll_mir_text.specs.MirText.{mir, IsMirHeader};
+ghost use Rattle.nll_mir_text.specs.MirText.{mir, IsMirFault, IsMirHeader};
 
-use nll_format::{TextError, TextKind};
+use nll_format::{TextError, TextKind, first_line};
 use nll_mir_grammar::Version;
 use nll_text::is_header;
-use std::str;
 
 // The version of MIR texts of which a line is the header.
 fn header_version(line: &[u8]) -> Option<Version>
@@ -35,21 +34,15 @@ pub fn is_mir_header(line: &[u8]) -> bool
     }
 }
 
-// The version of which the first line of a text is the header.
-pub(crate) fn check_header(header: &[u8]) -> Result<Version, TextError>
-    ensures ok { IfOk result
-        (λ version. IsUtf8 header.now × IsHeader (mir version) header.now) }
-    ensures fault { IfErr result
-        (λ error. (version : versions) → IsHeaderFault (mir version) header.now error) }
+// Cuts the header off a text: its version, and the text of the lines behind it, if any.
+pub(crate) fn open_header<'a>(text: &'a [u8]) -> Result<(Version, Option<&'a [u8]>), TextError>
+    ensures ok { IfOk result (λ r. IsHeaded (mir r.0) text.now (lines_left r.1)) }
+    ensures few { IfOk result (λ r. length (lines_left r.1) < 2 ^ 32) }
+    ensures fault { IfErr result (IsRefusal (IsMirFault text.now)) }
 {
-    let Ok(_) = str::from_utf8(header) else {
-        return Err(TextError {
-            line: 1,
-            kind: TextKind::NotUtf8,
-        });
-    };
+    let (header, body) = first_line(text)?;
     match header_version(header) {
-        Some(version) => Ok(version),
+        Some(version) => Ok((version, body)),
         None => Err(TextError {
             line: 1,
             kind: TextKind::Header,

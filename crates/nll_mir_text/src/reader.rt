@@ -1,25 +1,21 @@
 //! The reader of the lines of a MIR text: what they say so far, and which line takes what.
 
-ghost use Rattle.std.specs.Prelude.{◌≡◌, ◌⊎◌, ◌≤◌, [], length, false};
-ghost use Rattle.std.specs.Prelude.{IfOk, IfErr, OnOk};
-ghost use Rattle.nll_problem.specs.Limits.{most_bytes};
+ghost use Rattle.std.specs.Prelude.{◌≡◌, ◌↔◌, List, [], false, IsTrue, IfOk, IfErr, OnOk};
+ghost use Rattle.nll_mir_grammar.specs.MirForms.{Form};
 ghost use Rattle.nll_types.specs.Declarations.{structs_of};
 ghost use Rattle.nll_mir_grammar.specs.Lines.{form_of};
-ghost use Rattle.nll_mir_text.specs.MirSaid.{said};
 ghost use Rattle.nll_mir_text.specs.MirFaults as faults;
 ghost use Rattle.nll_mir_text.specs.MirFaults.{is_in_order};
-ghost use Rattle.nll_mir_text.specs.MirReading.{said_by, IsReady, HasTexts, HasFewParameters};
-ghost use Rattle.nll_mir_text.specs.MirReading.{IsDue, IsTaken, IsRefused, ReadsLine};
+ghost use Rattle.nll_mir_text.specs.MirReading.{said_by, HoldsForms, IsReady, HasTexts};
+ghost use Rattle.nll_mir_text.specs.MirReading.{HasFewParameters, IsDue, IsTaken, IsRefused};
 ghost use Rattle.nll_body.specs.Parts.{body_of};
 ghost use Rattle.nll_mir_text.specs.MirText.{body_said, mir};
-ghost use Rattle.nll_format.specs.Text.{IsFaulty};
-ghost use Rattle.nll_mir_text.specs.declared.groups.Group.TheVariants.{End};
 
 use crate::groups::{Group, group_of};
 use crate::tables::{Points, Regions, StructNames, Variables};
 use indexmap::IndexSet;
 use nll_body::BodyParts;
-use nll_format::{Names, TextKind};
+use nll_format::{LineReader, Names, TextKind};
 use nll_mir_grammar::{Line, Version, line_of};
 use nll_sets::Memory;
 use nll_text::{ScanError, Scanned, Token, scan_line};
@@ -72,7 +68,7 @@ fn declarations(variables: Variables) -> (Structs, Vec<Ty>)
 impl Reader {
     /// No line is read yet, and `'static` is declared.
     pub fn new(alloc: Global) -> Result<Reader, TextKind>
-        ensures said { IfOk result (λ r. said_by r ≡ said []) }
+        ensures said { IfOk result (λ r. HoldsForms r []) }
         ensures ready { IfOk result IsReady }
         ensures err { IfErr result (λ kind. kind ≡ TextKind.Memory) }
     {
@@ -171,44 +167,6 @@ impl Reader {
         self.accept(line)
     }
 
-    /// Takes in a line behind the header of a text of the version. The list serves for its tokens.
-    pub fn read_line<'a>(
-        &mut self,
-        version: Version,
-        line: &'a [u8],
-        tokens: &mut Vec<Token<'a>>,
-    ) -> Result<(), TextKind>
-        requires ready { IsReady self.old }
-        requires short { length line.now ≤ most_bytes }
-        ensures ok { OnOk result
-            (ReadsLine version (said_by self.old) line.now (said_by self.new)) }
-        ensures ready { OnOk result (IsReady self.new) }
-        ensures fault { IfErr result
-            (λ kind. (kind ≡ TextKind.Memory)
-            ⊎ IsFaulty (mir version) (said_by self.old) line.now kind) }
-    {
-        let most = line.len();
-        match scan_line(line, most, tokens) {
-            Ok(Scanned::Skipped) => return Ok(()),
-            Ok(Scanned::Tokens) => {}
-            Err(ScanError::NotUtf8) => return Err(TextKind::NotUtf8),
-            Err(ScanError::NoTokens) => return Err(TextKind::Syntax),
-            Err(ScanError::Memory) => return Err(TextKind::Memory),
-        }
-        let found = line_of(self.alloc, version, tokens.as_slice())?;
-        let Some(form) = found else {
-            return Err(TextKind::Syntax);
-        };
-        self.take(form)
-    }
-
-    /// Whether the last line that a text needs was read.
-    pub fn has_ended(&self) -> bool
-        ensures { result ≡ faults.has_reached (said_by self.now) End }
-    {
-        self.has_reached(Group::End)
-    }
-
     /// The pairs of regions of which the first is known to outlive the second.
     pub fn outlives(&self, alloc: Global) -> Result<Vec<(u32, u32)>, Memory>
         ensures { IfOk result (λ v. v.items ≡ (said_by self.now).outlives) }
@@ -253,5 +211,43 @@ impl Reader {
             starts: points.starts,
             points: points.statements,
         }
+    }
+}
+
+impl<'a> LineReader<'a, Version> for Reader {
+    type Room = Vec<Token<'a>>;
+
+    ghost format_of = { mir };
+
+    ghost holds = { λ _ forms reader. HoldsForms reader forms };
+
+    ghost ready = { IsReady };
+
+    fn read_line(
+        &mut self,
+        version: &Version,
+        line: &'a [u8],
+        tokens: &mut Vec<Token<'a>>,
+    ) -> Result<(), TextKind> {
+        let most = line.len();
+        match scan_line(line, most, tokens) {
+            Ok(Scanned::Skipped) => return Ok(()),
+            Ok(Scanned::Tokens) => {}
+            Err(ScanError::NotUtf8) => return Err(TextKind::NotUtf8),
+            Err(ScanError::NoTokens) => return Err(TextKind::Syntax),
+            Err(ScanError::Memory) => return Err(TextKind::Memory),
+        }
+        let found = line_of(self.alloc, *version, tokens.as_slice())?;
+        let Some(form) = found else {
+            return Err(TextKind::Syntax);
+        };
+        self.take(form)
+    }
+
+    fn has_ended(&self, version: &Version) -> bool
+        ensures { (forms : List Form) → HoldsForms self.now forms
+            → IsTrue result ↔ (mir version.now).HasEnded forms }
+    {
+        self.has_reached(Group::End)
     }
 }

@@ -17,6 +17,8 @@ mod calls;
 #[cfg(test)]
 mod cuts;
 #[cfg(test)]
+mod end_texts;
+#[cfg(test)]
 mod frontiers;
 #[cfg(test)]
 mod graphs;

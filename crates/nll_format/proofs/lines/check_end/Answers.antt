@@ -7,5 +7,4 @@ pub returns-then-not-has_ended-clause-fault : goal.returns-then-not-has_ended-cl
 returns-then-not-has_ended-clause-fault g c =
     amid_end (g.R.LineReader.format_of c.args.format.now)
     (λ forms. g.R.LineReader.holds c.args.format.now forms c.args.reader.now) c.args.number
-    (λ lines forms fine held has. false≢true
-    (sym c.if-not-has_ended.true ∙ (c.has_ended.ensures lines forms fine held).1 has))
+    (λ forms held has. false≢true (sym c.if-not-has_ended.true ∙ (c.has_ended.ensures forms held).1 has))

@@ -10,7 +10,7 @@ use Rattle.nll_format.proofs.lines.read_lines.Given.{Over}
 pub returns-in_default-clause-read : goal.returns-in_default-clause-read
 returns-in_default-clause-read g c =
     on_ok_weaker c.check_end.result (λ ends.
-    rw c.in_default.is ([], refl, ends [] [] refl c.requires.nothing, c.requires.nothing)) c.check_end.ensures.ok
+    rw c.in_default.is ([], refl, ends [] c.requires.nothing, c.requires.nothing)) c.check_end.ensures.ok
 
 pub returns-in_default-clause-fault : goal.returns-in_default-clause-fault
 returns-in_default-clause-fault g c = IfErr-weaker c.check_end.result _ _
@@ -41,7 +41,7 @@ amid g c =
 pub returns-clause-read : goal.returns-clause-read
 returns-clause-read g c = on_ok_weaker c.check_end-2.result
     (λ ends. let done = amid_all (g.R.LineReader.format_of c.args.format.now) _ _ _ (amid g c) in
-    (done.0, done.1, ends _ done.0 done.1 done.2, done.2))
+    (done.0, done.1, ends done.0 done.2, done.2))
     c.check_end-2.ensures.ok
 
 pub returns-clause-fault : goal.returns-clause-fault
