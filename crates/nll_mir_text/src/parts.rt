@@ -6,7 +6,7 @@ ghost use Rattle.nll_problem.specs.Limits.{most_bytes};
 ghost use Rattle.nll_text.specs.Lines.{lines_left, lines_of};
 ghost use Rattle.nll_format.specs.Text.{IsRefusal};
 ghost use Rattle.nll_mir_text.specs.MirSaid.{said};
-ghost use Rattle.nll_mir_text.specs.MirFaults.{has_reached};
+ghost use Rattle.nll_mir_text.specs.MirSteps.{has_reached};
 ghost use Rattle.nll_mir_text.specs.declared.groups.Group.TheVariants.{End};
 ghost use Rattle.nll_mir_text.specs.MirText.{IsMirFault};
 ghost use Rattle.nll_mir_text.specs.MirReading.{said_by, lines_in, Advances, AreShort, IsAmid};

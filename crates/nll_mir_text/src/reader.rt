@@ -8,6 +8,7 @@ ghost use Rattle.nll_mir_grammar.specs.Lines.{form_of};
 ghost use Rattle.nll_mir_text.specs.MirSaid.{said};
 ghost use Rattle.nll_mir_text.specs.MirFaults as faults;
 ghost use Rattle.nll_mir_text.specs.MirFaults.{is_in_order};
+ghost use Rattle.nll_mir_text.specs.MirSteps as steps;
 ghost use Rattle.nll_mir_text.specs.MirReading.{said_by, IsReady, HasTexts, HasFewParameters};
 ghost use Rattle.nll_mir_text.specs.MirReading.{IsDue, IsTaken, IsRefused, ReadsLine};
 ghost use Rattle.nll_body.specs.Parts.{body_of};
@@ -102,7 +103,7 @@ impl Reader {
 
     // Whether a line of a group or of a later one is there.
     fn has_reached(&self, group: Group) -> bool
-        ensures { result ≡ faults.has_reached (said_by self.now) group }
+        ensures { result ≡ steps.has_reached (said_by self.now) group }
     {
         !self.reached.is_before(group)
     }
@@ -119,9 +120,7 @@ impl Reader {
         ensures { result ≡ is_in_order (said_by self.now) (form_of line.now) }
     {
         match line {
-            Line::Blocks(_) => {
-                self.has_reached(Group::Variables) & !self.has_reached(Group::BlockCount)
-            }
+            Line::Blocks(_) => self.reached.precedes(Group::BlockCount),
             Line::Block(_) | Line::End => self.is_in_body() & !self.points.owes,
             Line::At(_) => self.is_in_body() & self.points.owes,
             _ => !group_of(line).is_before(self.reached),
@@ -204,7 +203,7 @@ impl Reader {
 
     /// Whether the last line that a text needs was read.
     pub fn has_ended(&self) -> bool
-        ensures { result ≡ faults.has_reached (said_by self.now) End }
+        ensures { result ≡ steps.has_reached (said_by self.now) End }
     {
         self.has_reached(Group::End)
     }

@@ -5,7 +5,7 @@ ghost use Rattle.std.specs.Prelude.{OnOk, IfOk, IfErr};
 ghost use Rattle.nll_text.specs.Lines.{lines_left};
 ghost use Rattle.nll_format.specs.Text.{IsHeaded, IsRefusal};
 ghost use Rattle.nll_mir_text.specs.MirSaid.{said};
-ghost use Rattle.nll_mir_text.specs.MirFaults.{has_reached};
+ghost use Rattle.nll_mir_text.specs.MirSteps.{has_reached};
 ghost use Rattle.nll_mir_text.specs.declared.groups.Group.TheVariants.{End};
 ghost use Rattle.nll_mir_text.specs.MirText.{mir, IsMirFault};
 ghost use Rattle.nll_mir_text.specs.MirReading.{said_by, IsReady, HasRead, RefusesBody, Holds};

@@ -2,7 +2,7 @@ use Rattle.std.proofs.Common.{ap, ◌∙◌}
 use Rattle.std.proofs.lemmas.Result.{err_from_is_err_and}
 use Rattle.nll_mir_text.specs.MirSaid.{Said}
 use Rattle.nll_mir_text.specs.declared.groups.Group.TheVariants as groups
-use Rattle.nll_mir_text.specs.MirFaults.{has_reached}
+use Rattle.nll_mir_text.specs.MirSteps.{has_reached}
 use Rattle.nll_mir_text.proofs.SaidLemmas.{ended}
 use Rattle.nll_mir_text.proofs.VersionLemmas.{refused_in}
 use Rattle.nll_mir_text.proofs.parts.read_freeing.Goals as goal

@@ -7,7 +7,7 @@ use Rattle.nll_format.specs.declared.error.TextKind.TheVariants.{End}
 use Rattle.nll_mir_text.specs.MirSaid.{Said}
 use Rattle.nll_mir_text.specs.MirText.{mir}
 use Rattle.nll_mir_text.specs.declared.groups.Group.TheVariants as groups
-use Rattle.nll_mir_text.specs.MirFaults.{has_reached}
+use Rattle.nll_mir_text.specs.MirSteps.{has_reached}
 use Rattle.nll_mir_text.proofs.SaidLemmas.{not_ended}
 use Rattle.nll_mir_text.proofs.TextLemmas.{amid_all, advances_none, advances_then}
 use Rattle.nll_mir_text.proofs.parts.read_parts.Goals as goal

@@ -2,7 +2,7 @@ use Rattle.std.proofs.Common.{ap, ◌∙◌}
 use Rattle.nll_text.specs.Lines.{lines_left}
 use Rattle.nll_mir_text.specs.MirSaid.{Said}
 use Rattle.nll_mir_text.specs.declared.groups.Group.TheVariants as groups
-use Rattle.nll_mir_text.specs.MirFaults.{has_reached}
+use Rattle.nll_mir_text.specs.MirSteps.{has_reached}
 use Rattle.nll_mir_text.proofs.SaidLemmas.{ended}
 use Rattle.nll_mir_text.proofs.text.read_body.Goals as goal
 

@@ -8,7 +8,7 @@ use Rattle.nll_format.specs.Text.{IsFault, no_end}
 use Rattle.nll_format.specs.declared.error.TextKind.TheVariants.{End}
 use Rattle.nll_format.proofs.ReadingLemmas.{body_refused}
 use Rattle.nll_mir_text.specs.declared.groups.Group.TheVariants as groups
-use Rattle.nll_mir_text.specs.MirFaults.{has_reached}
+use Rattle.nll_mir_text.specs.MirSteps.{has_reached}
 use Rattle.nll_mir_text.specs.MirText.{mir}
 use Rattle.nll_mir_text.specs.MirReading.{AreShort}
 use Rattle.nll_mir_text.proofs.text.read_lines.Goals as goal
