@@ -18,7 +18,8 @@ use Rattle.nll_mir_grammar.specs.Tuples.{IsTuple, parts}
 use Rattle.nll_mir_grammar.specs.declared.line.StructText.{StructText}
 use Rattle.nll_resolve.specs.Naming.{Scope, all_meant, meant}
 use Rattle.nll_mir_text.specs.declared.groups.Group.TheVariants.{Structs}
-use Rattle.nll_mir_text.specs.MirSaid.{Said, field_scope, is_region, regions_in, types_in}
+use Rattle.nll_mir_text.specs.MirSaid.{Said, scope_inside}
+use Rattle.nll_mir_text.specs.Declaring.{is_region, regions_in, types_in}
 use Rattle.nll_mir_text.specs.MirSteps.{says, declared}
 use Rattle.nll_mir_text.specs.MirFaults.{first_fault}
 use Rattle.nll_mir_text.specs.MirReading.{said_by, AreKinds, AreShapes, IsDue, IsTaken, struct_form}
@@ -31,7 +32,11 @@ use Rattle.nll_mir_text.proofs.StructLemmas.{IsFine, struct_fine, kinds_pushed, 
 
 -- what is said with other structs
 abbrev said_with : Said → List Name → List (List Bool) → List Struct → Said
-said_with s names kinds structs = record s { reached = Structs; struct_names = names; kinds = kinds; structs = structs }
+said_with s names kinds structs = record s {
+  reached = 5;
+  scope = record s.scope { structs = names; kinds = kinds };
+  structs = structs;
+}
 
 -- the tree of resolved fields is a tuple of what they mean
 pub fields_are : (s : Scope) (t : WrittenType) (tree : TypeTree) → IsTuple t → tree ≡ meant s t
@@ -64,7 +69,7 @@ module _ (r : Reader) (own : OwnNames) (text : StructText) (due : IsDue r (struc
     abbrev more : Struct
     more = declared (said_by r) parameters text.has_drop fields
 
-    fields_meant : trees d.fields.items ≡ all_meant (field_scope (said_by r) parameters) fields
+    fields_meant : trees d.fields.items ≡ all_meant (scope_inside (said_by r).scope parameters) fields
     fields_meant =
         meant ∙ ap (λ s. all_meant s fields)
         (own_scope_is (said_by r) parameters own r.structs h is_fine.regions is_fine.types refl refl)

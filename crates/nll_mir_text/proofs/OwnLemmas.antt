@@ -16,8 +16,10 @@ use Rattle.nll_mir_grammar.specs.MirForms.{WrittenParameter, region_parameter, t
 use Rattle.nll_mir_grammar.specs.Lines.{parameter_of}
 use Rattle.nll_mir_grammar.specs.declared.line.ParameterText.{ParameterText}
 use Rattle.nll_mir_grammar.specs.declared.line.ParameterText.TheVariants as parameters
-use Rattle.nll_resolve.specs.Naming.{Scope, is_among, is_known, are_known, arguments_are_known}
-use Rattle.nll_mir_text.specs.MirSaid.{Said, field_scope, region_in, type_in, regions_in, types_in}
+use Rattle.nll_resolve.specs.Naming.{Scope, is_among, is_known}
+use Rattle.nll_resolve.specs.Telling.{are_known, arguments_are_known}
+use Rattle.nll_mir_text.specs.MirSaid.{Said, scope_inside, region_in, type_in}
+use Rattle.nll_mir_text.specs.Declaring.{regions_in, types_in}
 use Rattle.nll_mir_text.specs.MirFaults.{has_repeats}
 use Rattle.nll_mir_text.specs.MirReading.{IsNamed}
 use Rattle.nll_mir_text.specs.Declaring.{AreNamesOf, AreOwn, region_names, type_names, takes_name, own_scope}
@@ -292,15 +294,15 @@ none_redeclared a b c d r ea eb ec e = rw (ea, eb, ec) e
 
 -- the fields of a struct in which no name stands twice mean what they mean by its parameters
 pub own_scope_is : (s : Said) (ps : List WrittenParameter) (own : OwnNames) (structs : StructNames) → AreOwn ps own
-    → has_repeats (region_names ps) ≡ false → has_repeats (type_names ps) ≡ false → s.struct_names ≡ structs.names
-    → s.kinds ≡ map (λ ks. ks.items) structs.kinds.items → own_scope own structs ≡ field_scope s ps
+    → has_repeats (region_names ps) ≡ false → has_repeats (type_names ps) ≡ false → s.scope.structs ≡ structs.names
+    → s.scope.kinds ≡ map (λ ks. ks.items) structs.kinds.items → own_scope own structs ≡ scope_inside s.scope ps
 own_scope_is s ps own structs h regions types names kinds =
     rw (h.regions.same regions, h.types.same types, names, kinds) refl
 
 -- whether names are known by them is whether they are by its parameters
 pub own_known : (s : Said) (ps : List WrittenParameter) (own : OwnNames) (structs : StructNames) (fields : WrittenTypes)
-    → AreOwn ps own → s.struct_names ≡ structs.names
-    → are_known (own_scope own structs) fields ≡ are_known (field_scope s ps) fields
+    → AreOwn ps own → s.scope.structs ≡ structs.names
+    → are_known (own_scope own structs) fields ≡ are_known (scope_inside s.scope ps) fields
 own_known s ps own structs fields h names =
-    all_known_same (own_scope own structs) (field_scope s ps) h.regions.members h.types.members
+    all_known_same (own_scope own structs) (scope_inside s.scope ps) h.regions.members h.types.members
     (λ x. ap (λ (xs : List Name). is_among xs x) (sym names)) fields

@@ -30,9 +30,8 @@ use Rattle.nll_mir_grammar.specs.MirForms.{at_point}
 use Rattle.nll_mir_text.specs.declared.tables.Regions.{Regions}
 use Rattle.nll_mir_text.specs.declared.tables.StructNames.{StructNames}
 use Rattle.nll_mir_text.specs.declared.tables.Variables.{Variables}
-use Rattle.nll_mir_text.specs.declared.groups.Group.TheVariants.{Blocks}
-use Rattle.nll_mir_text.specs.MirSaid.{Said, statement_meant, body_scope}
-use Rattle.nll_mir_text.specs.MirSteps.{says}
+use Rattle.nll_mir_text.specs.MirSaid.{Said}
+use Rattle.nll_mir_text.specs.MirSteps.{says, statement_meant}
 use Rattle.nll_mir_text.specs.MirFaults.{are_declared, is_in_order, knows, has_targets, shapes_fit, first_fault}
 use Rattle.nll_mir_text.specs.MirReading.{AreShapes, scope_in}
 use Rattle.nll_mir_text.specs.Stating.{as_resolved, declared_by, has_names, IsOfPoint, IsOfStatement}
@@ -134,10 +133,10 @@ unknown_last true b c h = h
 unknown_last false b c h = refl
 
 -- a name in the statement isn't declared
-pub names_unknown : (s : Said) (i : Statement Name WrittenType) → has_names (body_scope s) i ≡ false → knows s i ≡ false
+pub names_unknown : (s : Said) (i : Statement Name WrittenType) → has_names s.scope i ≡ false → knows s i ≡ false
 names_unknown s i none =
-    unknown_last (are_declared s (variables_written i)) (list_all (is_among (body_scope s).regions) (regions_written i))
-    (list_all (is_known (body_scope s)) (types_written i)) none
+    unknown_last (are_declared s (variables_written i)) (list_all (is_among s.scope.regions) (regions_written i))
+    (list_all (is_known s.scope) (types_written i)) none
 
 -- what is judged of the statement stands, where the types and the structs are the same
 pub judged_same : (regions : Regions) (structs : StructNames) (old new : Variables) (i : Statement Name WrittenType)
@@ -231,9 +230,9 @@ module _ (s : Said) (i : Statement Name WrittenType) (order : is_in_order s (at_
 
 -- the targets of a statement over numbers are blocks
 pub targets_are : (s : Said) (i : Statement Name WrittenType) (r : Statement ℕ Resolved)
-    → IsOfStatement (body_scope s) i r → (b : Bool) → b ≡ list_all (λ x. nat_lt x s.blocks) (targets r)
+    → IsOfStatement s.scope i r → (b : Bool) → b ≡ list_all (λ x. nat_lt x s.blocks) (targets r)
     → b ≡ has_targets s i
-targets_are s i r of b h = h ∙ ap (list_all (λ x. nat_lt x s.blocks)) (targets_resolved (body_scope s) i r of)
+targets_are s i r of b h = h ∙ ap (list_all (λ x. nat_lt x s.blocks)) (targets_resolved s.scope i r of)
 
 -- ---- what is said
 
@@ -242,7 +241,7 @@ pub point_said : (s : Said) (i : Statement Name WrittenType) (points : List (Sta
     (blocks : ℕ) (starts : List ℕ)
     → blocks ≡ s.blocks → starts ≡ s.starts → points ≡ s.points ++ statement_meant s i ∷ []
     → owes ≡ not (is_terminator i)
-    → record s { reached = Blocks; points = points; owes = owes; blocks = blocks; starts = starts }
+    → record s { reached = 8; points = points; owes = owes; blocks = blocks; starts = starts }
     ≡ says s (at_point i)
 point_said s i points owes blocks starts b c h k = rw (b, c, h, k) refl
 
@@ -251,4 +250,4 @@ pub edges_more : (s : Said) (points : List (Statement ℕ TypeTree)) (i : Statem
     → edge_count (points ++ statement_meant s i ∷ []) ≡ edge_count points + edges_from i
 edges_more s points i =
     fold_push (λ n (j : Statement ℕ TypeTree). n + edges_from j) 0 points (statement_meant s i)
-    ∙ ap (λ n. edge_count points + n) (same_edges (number_of s.names) (meant (body_scope s)) i)
+    ∙ ap (λ n. edge_count points + n) (same_edges (number_of s.scope.regions) (meant s.scope) i)

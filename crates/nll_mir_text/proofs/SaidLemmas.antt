@@ -18,15 +18,15 @@ use Rattle.nll_statements.specs.Statements.{Statement, is_terminator}
 use Rattle.nll_resolve.specs.Naming.{Scope, meant}
 use Rattle.nll_mir_grammar.specs.MirForms.{Form, WrittenParameter, universal, outlives, further, assert_line, struct_line, variable, blocks, block, at_point, end}
 use Rattle.nll_mir_grammar.specs.declared.version.Version.{Version}
-use Rattle.nll_mir_text.specs.declared.groups.Group.{Group}
-use Rattle.nll_mir_text.specs.declared.groups.Group.TheVariants.{Universals, Outlives, Regions, Asserts, Structs, Variables, BlockCount, Blocks, End}
-use Rattle.nll_mir_text.specs.MirSaid.{Said, said, group, last_group, is_region, universal_in, further_in, outlives_in, assert_in, struct_in, variable_in, blocks_in, statement_in, owes_in, numbers_of, universals_said, names_said, meant_in, with_fronts, declared_in, start_in}
-use Rattle.nll_mir_text.specs.MirSteps.{rank, says, declared, nothing_said}
-use Rattle.nll_mir_text.specs.MirFaults.{first_fault, is_in_order, is_universal, has_reached}
+use Rattle.nll_mir_text.specs.declared.groups.Group.TheVariants.{End}
+use Rattle.nll_mir_text.specs.MirSaid.{Said, said, group, reached, universal_in, further_in, outlives_in, assert_in, struct_in, variable_in, blocks_in, statement_in, owes_in, numbers_of, universals_said, names_said, meant_in, with_fronts, declared_in, start_in}
+use Rattle.nll_mir_text.specs.Declaring.{is_region}
+use Rattle.nll_mir_text.specs.MirSteps.{says, declared, nothing_said, has_reached}
+use Rattle.nll_mir_text.specs.MirFaults.{first_fault, is_in_order, is_universal}
 use Rattle.nll_mir_text.specs.MirReading.{Adds}
 use Rattle.nll_mir_text.specs.MirText.{mir}
 use Rattle.nll_mir_text.proofs.FaultLemmas.{faultless}
-use Rattle.nll_mir_text.proofs.GroupLemmas.{follows, before_blocks, last_push, none_before, group_reached, reached_more, reached_at, is_reached, of_first_or_later, rank_most}
+use Rattle.nll_mir_text.proofs.GroupLemmas.{follows, before_blocks, last_push, none_before, group_reached, reached_more, reached_at, is_reached, of_first_or_later, reached_most}
 
 -- ---- the order of lines
 
@@ -52,7 +52,7 @@ pub in_order : (s : Said) (f : Form) → first_fault s f ≡ None → is_in_orde
 in_order s f fine = not-false _ (faultless s f fine).syntax'
 
 -- it is of no group before the last one that has a line
-in_place : (forms : List Form) (f : Form) → first_fault (said forms) f ≡ None → rank (last_group forms) ≤ rank (group f)
+in_place : (forms : List Form) (f : Form) → first_fault (said forms) f ≡ None → reached forms ≤ group f
 in_place forms f fine = (follows (said forms) f (in_order (said forms) f fine)).0
 
 -- ---- what lines say, from what each says
@@ -65,17 +65,15 @@ scope_from us fs ds = record {
   kinds = map (λ d. map is_region d.1) ds;
 }
 
-abbrev said_from : Group → List Name → List Name → List (Name × Name) → List (Name × Name)
+abbrev said_from : ℕ → List Name → List Name → List (Name × Name) → List (Name × Name)
     → List (Name × List WrittenParameter) → List Struct → List WrittenType → List ℕ → List ℕ
     → List (Statement Name WrittenType) → List Bool → Said
 said_from r us fs os cs ds structs vs bs starts is ows = record {
   reached = r;
-  names = (codes "static" ∷ us) ++ fs;
+  scope = scope_from us fs ds;
   universals = length (codes "static" ∷ us);
   outlives = insert_all same_pair [] (map (numbers_of (codes "static" ∷ us)) os);
   asserts = insert_all same_pair [] (map (numbers_of ((codes "static" ∷ us) ++ fs)) cs);
-  struct_names = map (λ d. d.0) ds;
-  kinds = map (λ d. map is_region d.1) ds;
   structs = structs;
   variables = map (meant (scope_from us fs ds)) vs;
   blocks = get_or bs 0 0;
@@ -111,7 +109,7 @@ fronts_push (x ∷ forms) f =
     ∙ ap (λ (ps : List (List Form × Form)). ([], x) ∷ ps)
     (map_push (λ (p : List Form × Form). (x ∷ p.0, p.1)) (with_fronts forms) (forms, f))
 
-same_from : (r : Group) (us us' fs fs' : List Name) (os os' cs cs' : List (Name × Name))
+same_from : (r : ℕ) (us us' fs fs' : List Name) (os os' cs cs' : List (Name × Name))
     (ds ds' : List (Name × List WrittenParameter)) (structs structs' : List Struct) (vs vs' : List WrittenType)
     (bs bs' starts starts' : List ℕ) (is is' : List (Statement Name WrittenType)) (ows ows' : List Bool)
     → us ≡ us' → fs ≡ fs' → os ≡ os' → cs ≡ cs' → ds ≡ ds' → structs ≡ structs' → vs ≡ vs' → bs ≡ bs' → starts ≡ starts'
@@ -122,7 +120,7 @@ same_from r us us' fs fs' os os' cs cs' ds ds' structs structs' vs vs' bs bs' st
     g h i j k = rw (a, b, c, d, e, f, g, h, i, j, k) refl
 
 -- what the lines and one more say, where r is the last group
-abbrev more : List Form → Form → Group → Said
+abbrev more : List Form → Form → ℕ → Said
 more forms f r =
     said_from r
     (grown (filter_map universal_in forms) (universal_in f))
@@ -137,8 +135,8 @@ more forms f r =
     (grown (filter_map statement_in forms) (statement_in f))
     (grown (filter_map owes_in forms) (owes_in f))
 
-all_pushed : (forms : List Form) (f : Form) → said (forms ++ f ∷ []) ≡ more forms f (last_group (forms ++ f ∷ []))
-all_pushed forms f = same_from (last_group (forms ++ f ∷ [])) _ _ _ _ _ _ _ _ _ _ _ _ _ _ _ _ _ _ _ _ _ _
+all_pushed : (forms : List Form) (f : Form) → said (forms ++ f ∷ []) ≡ more forms f (reached (forms ++ f ∷ []))
+all_pushed forms f = same_from (reached (forms ++ f ∷ [])) _ _ _ _ _ _ _ _ _ _ _ _ _ _ _ _ _ _ _ _ _ _
     (pushed universal_in forms f)
     (pushed further_in forms f)
     (pushed outlives_in forms f)
@@ -153,31 +151,31 @@ all_pushed forms f = same_from (last_group (forms ++ f ∷ [])) _ _ _ _ _ _ _ _ 
 
 -- ---- lines of later groups
 
-outlives_early : (f : Form) → rank (group f) ≤ 1 → outlives_in f ≡ None
+outlives_early : (f : Form) → group f ≤ 1 → outlives_in f ≡ None
 outlives_early (outlives a b) h = absurd (omega (arith, h))
 outlives_early _ h = refl
 
-further_early : (f : Form) → rank (group f) ≤ 2 → further_in f ≡ None
+further_early : (f : Form) → group f ≤ 2 → further_in f ≡ None
 further_early (further x) h = absurd (omega (arith, h))
 further_early _ h = refl
 
-assert_early : (f : Form) → rank (group f) ≤ 3 → assert_in f ≡ None
+assert_early : (f : Form) → group f ≤ 3 → assert_in f ≡ None
 assert_early (assert_line a b) h = absurd (omega (arith, h))
 assert_early _ h = refl
 
-variable_early : (f : Form) → rank (group f) ≤ 5 → variable_in f ≡ None
+variable_early : (f : Form) → group f ≤ 5 → variable_in f ≡ None
 variable_early (variable x t) h = absurd (omega (arith, h))
 variable_early _ h = refl
 
-blocks_early : (f : Form) → rank (group f) ≤ 6 → blocks_in f ≡ None
+blocks_early : (f : Form) → group f ≤ 6 → blocks_in f ≡ None
 blocks_early (blocks n) h = absurd (omega (arith, h))
 blocks_early _ h = refl
 
-statement_early : (f : Form) → rank (group f) ≤ 7 → statement_in f ≡ None
+statement_early : (f : Form) → group f ≤ 7 → statement_in f ≡ None
 statement_early (at_point i) h = absurd (omega (arith, h))
 statement_early _ h = refl
 
-module _ (forms : List Form) (n : ℕ) (h : rank (last_group forms) ≤ n) where
+module _ (forms : List Form) (n : ℕ) (h : reached forms ≤ n) where
   no_outlives : n ≤ 1 → filter_map outlives_in forms ≡ []
   no_outlives e = none_before outlives_in 1 outlives_early forms (omega (arith, h, e))
 
@@ -198,42 +196,43 @@ module _ (forms : List Form) (n : ℕ) (h : rank (last_group forms) ≤ n) where
 
 -- ---- one more line, by its form
 
-named_more : (s : Said) (r : Group) (xs ys : List Name) (m n : ℕ) → xs ≡ ys → m ≡ n
-    → record s { reached = r; names = xs; universals = m } ≡ record s { reached = r; names = ys; universals = n }
+named_more : (s : Said) (r : ℕ) (xs ys : List Name) (m n : ℕ) → xs ≡ ys → m ≡ n
+    → record s { reached = r; scope = record s.scope { regions = xs }; universals = m }
+    ≡ record s { reached = r; scope = record s.scope { regions = ys }; universals = n }
 named_more s r xs ys m n e k = rw (e, k) refl
 
-universal_more : (r : Group) (us fs : List Name) (os cs : List (Name × Name)) (ds : List (Name × List WrittenParameter))
+universal_more : (r : ℕ) (us fs : List Name) (os cs : List (Name × Name)) (ds : List (Name × List WrittenParameter))
     (structs : List Struct) (vs : List WrittenType) (bs starts : List ℕ) (is : List (Statement Name WrittenType))
     (ows : List Bool) (a : Name)
     → fs ≡ [] → os ≡ [] → cs ≡ [] → vs ≡ [] → is ≡ []
-    → said_from Universals (us ++ a ∷ []) fs os cs ds structs vs bs starts is ows
+    → said_from 1 (us ++ a ∷ []) fs os cs ds structs vs bs starts is ows
     ≡ says (said_from r us fs os cs ds structs vs bs starts is ows) (universal a)
 universal_more r us fs os cs ds structs vs bs starts is ows a f o c v i = rw (f, o, c, v, i)
-    (named_more (said_from r us [] [] [] ds structs [] bs starts [] ows) Universals _ _ _ _
+    (named_more (said_from r us [] [] [] ds structs [] bs starts [] ows) 1 _ _ _ _
     (append-nil (codes "static" ∷ (us ++ a ∷ []))
     ∙ ap (λ (xs : List Name). xs ++ a ∷ []) (sym (append-nil (codes "static" ∷ us))))
     (length-append (codes "static" ∷ us) (a ∷ [])))
 
-further_more : (r : Group) (us fs : List Name) (os cs : List (Name × Name)) (ds : List (Name × List WrittenParameter))
+further_more : (r : ℕ) (us fs : List Name) (os cs : List (Name × Name)) (ds : List (Name × List WrittenParameter))
     (structs : List Struct) (vs : List WrittenType) (bs starts : List ℕ) (is : List (Statement Name WrittenType))
     (ows : List Bool) (x : Name)
     → cs ≡ [] → vs ≡ [] → is ≡ []
-    → said_from Regions us (fs ++ x ∷ []) os cs ds structs vs bs starts is ows
+    → said_from 3 us (fs ++ x ∷ []) os cs ds structs vs bs starts is ows
     ≡ says (said_from r us fs os cs ds structs vs bs starts is ows) (further x)
 further_more r us fs os cs ds structs vs bs starts is ows x c v i = rw (c, v, i)
-    (named_more (said_from r us fs os [] ds structs [] bs starts [] ows) Regions _ _ _ _
+    (named_more (said_from r us fs os [] ds structs [] bs starts [] ows) 3 _ _ _ _
     (sym (append_assoc (codes "static" ∷ us) fs (x ∷ []))) refl)
 
 declared_more : (s : Said) (ns ms : List Name) (ks ls : List (List Bool)) (structs : List Struct) → ns ≡ ms → ks ≡ ls
-    → record s { reached = Structs; struct_names = ns; kinds = ks; structs = structs }
-    ≡ record s { reached = Structs; struct_names = ms; kinds = ls; structs = structs }
+    → record s { reached = 5; scope = record s.scope { structs = ns; kinds = ks }; structs = structs }
+    ≡ record s { reached = 5; scope = record s.scope { structs = ms; kinds = ls }; structs = structs }
 declared_more s ns ms ks ls structs e k = rw (e, k) refl
 
-struct_more : (r : Group) (us fs : List Name) (os cs : List (Name × Name)) (ds : List (Name × List WrittenParameter))
+struct_more : (r : ℕ) (us fs : List Name) (os cs : List (Name × Name)) (ds : List (Name × List WrittenParameter))
     (structs : List Struct) (vs : List WrittenType) (bs starts : List ℕ) (is : List (Statement Name WrittenType))
     (ows : List Bool) (n : Name) (ps : List WrittenParameter) (has_drop : Bool) (fields : WrittenTypes)
     → vs ≡ [] → is ≡ []
-    → said_from Structs us fs os cs (ds ++ (n, ps) ∷ [])
+    → said_from 5 us fs os cs (ds ++ (n, ps) ∷ [])
     (structs ++ declared (said_from r us fs os cs ds structs vs bs starts is ows) ps has_drop fields ∷ []) vs bs
     starts is ows
     ≡ says (said_from r us fs os cs ds structs vs bs starts is ows) (struct_line n ps has_drop fields)
@@ -242,29 +241,29 @@ struct_more r us fs os cs ds structs vs bs starts is ows n ps has_drop fields v 
     (map_push (λ (d : Name × List WrittenParameter). d.0) ds (n, ps))
     (map_push (λ (d : Name × List WrittenParameter). map is_region d.1) ds (n, ps)))
 
-paired : (s : Said) (r : Group) (ps qs : List (ℕ × ℕ)) → ps ≡ qs
+paired : (s : Said) (r : ℕ) (ps qs : List (ℕ × ℕ)) → ps ≡ qs
     → record s { reached = r; outlives = ps } ≡ record s { reached = r; outlives = qs }
 paired s r ps qs e = rw e refl
 
-asserted : (s : Said) (r : Group) (ps qs : List (ℕ × ℕ)) → ps ≡ qs
+asserted : (s : Said) (r : ℕ) (ps qs : List (ℕ × ℕ)) → ps ≡ qs
     → record s { reached = r; asserts = ps } ≡ record s { reached = r; asserts = qs }
 asserted s r ps qs e = rw e refl
 
-typed : (s : Said) (r : Group) (ts us : List TypeTree) → ts ≡ us
+typed : (s : Said) (r : ℕ) (ts us : List TypeTree) → ts ≡ us
     → record s { reached = r; variables = ts } ≡ record s { reached = r; variables = us }
 typed s r ts us e = rw e refl
 
-counted : (s : Said) (r : Group) (m n : ℕ) → m ≡ n
+counted : (s : Said) (r : ℕ) (m n : ℕ) → m ≡ n
     → record s { reached = r; blocks = m } ≡ record s { reached = r; blocks = n }
 counted s r m n e = rw e refl
 
 begun : (s : Said) (m n : ℕ) (b c : Bool) → m ≡ n → b ≡ c
-    → record s { reached = Blocks; starts = s.starts ++ m ∷ []; owes = b }
-    ≡ record s { reached = Blocks; starts = s.starts ++ n ∷ []; owes = c }
+    → record s { reached = 8; starts = s.starts ++ m ∷ []; owes = b }
+    ≡ record s { reached = 8; starts = s.starts ++ n ∷ []; owes = c }
 begun s m n b c e k = rw (e, k) refl
 
 stood : (s : Said) (is js : List (Statement ℕ TypeTree)) (b c : Bool) → is ≡ js → b ≡ c
-    → record s { reached = Blocks; points = is; owes = b } ≡ record s { reached = Blocks; points = js; owes = c }
+    → record s { reached = 8; points = is; owes = b } ≡ record s { reached = 8; points = js; owes = c }
 stood s is js b c e k = rw (e, k) refl
 
 -- one more pair is inserted last
@@ -314,39 +313,39 @@ universal_numbers forms a b fine =
 
 step : (forms : List Form) (f : Form) → first_fault (said forms) f ≡ None → more forms f (group f) ≡ says (said forms) f
 step forms (universal a) fine =
-    let h : rank (last_group forms) ≤ 1 = in_place forms (universal a) fine in
-    universal_more (last_group forms) (filter_map universal_in forms) (filter_map further_in forms)
+    let h : reached forms ≤ 1 = in_place forms (universal a) fine in
+    universal_more (reached forms) (filter_map universal_in forms) (filter_map further_in forms)
     (filter_map outlives_in forms) (filter_map assert_in forms) (filter_map struct_in forms)
     (filter_map declared_in (with_fronts forms)) (filter_map variable_in forms) (filter_map blocks_in forms)
     (filter_map start_in (with_fronts forms)) (filter_map statement_in forms) (filter_map owes_in forms) a
     (no_further forms 1 h (omega arith)) (no_outlives forms 1 h (omega arith)) (no_asserts forms 1 h (omega arith))
     (no_variables forms 1 h (omega arith)) (no_statements forms 1 h (omega arith))
 step forms (outlives a b) fine =
-    paired (said forms) Outlives _ _
+    paired (said forms) 2 _ _
     (pair_more (universals_said forms) (filter_map outlives_in forms) (a, b)
     ∙ ap (λ (p : ℕ × ℕ). insert_all same_pair (said forms).outlives (p ∷ [])) (universal_numbers forms a b fine))
 step forms (further x) fine =
-    let h : rank (last_group forms) ≤ 3 = in_place forms (further x) fine in
-    further_more (last_group forms) (filter_map universal_in forms) (filter_map further_in forms)
+    let h : reached forms ≤ 3 = in_place forms (further x) fine in
+    further_more (reached forms) (filter_map universal_in forms) (filter_map further_in forms)
     (filter_map outlives_in forms) (filter_map assert_in forms) (filter_map struct_in forms)
     (filter_map declared_in (with_fronts forms)) (filter_map variable_in forms) (filter_map blocks_in forms)
     (filter_map start_in (with_fronts forms)) (filter_map statement_in forms) (filter_map owes_in forms) x
     (no_asserts forms 3 h (omega arith)) (no_variables forms 3 h (omega arith))
     (no_statements forms 3 h (omega arith))
 step forms (assert_line a b) fine =
-    asserted (said forms) Asserts _ _ (pair_more (names_said forms) (filter_map assert_in forms) (a, b))
+    asserted (said forms) 4 _ _ (pair_more (names_said forms) (filter_map assert_in forms) (a, b))
 step forms (struct_line n ps has_drop fields) fine =
-    let h : rank (last_group forms) ≤ 5 = in_place forms (struct_line n ps has_drop fields) fine in
-    struct_more (last_group forms) (filter_map universal_in forms) (filter_map further_in forms)
+    let h : reached forms ≤ 5 = in_place forms (struct_line n ps has_drop fields) fine in
+    struct_more (reached forms) (filter_map universal_in forms) (filter_map further_in forms)
     (filter_map outlives_in forms) (filter_map assert_in forms) (filter_map struct_in forms)
     (filter_map declared_in (with_fronts forms)) (filter_map variable_in forms) (filter_map blocks_in forms)
     (filter_map start_in (with_fronts forms)) (filter_map statement_in forms)
     (filter_map owes_in forms) n ps has_drop fields (no_variables forms 5 h (omega arith))
     (no_statements forms 5 h (omega arith))
-step forms (variable x t) fine = typed (said forms) Variables _ _ (map_push _ (filter_map variable_in forms) t)
+step forms (variable x t) fine = typed (said forms) 6 _ _ (map_push _ (filter_map variable_in forms) t)
 step forms (blocks n) fine =
-    let h : rank (last_group forms) < 7 = before_blocks (said forms) n (in_order (said forms) (blocks n) fine) in
-    counted (said forms) BlockCount _ _
+    let h : reached forms < 7 = before_blocks (said forms) n (in_order (said forms) (blocks n) fine) in
+    counted (said forms) 7 _ _
     (ap (λ (bs : List ℕ). get_or (bs ++ n ∷ []) 0 0) (no_blocks forms 6 (omega (arith, h)) (omega arith)))
 step forms (block n) fine =
     begun (said forms) _ _ _ _ (sym (length-map (filter_map statement_in forms) _))
@@ -407,7 +406,7 @@ said_line_by_line v lines forms h = behind_all (λ fs. said_after nothing_said f
 
 -- ---- the last line
 
-group_end : (f : Form) → 9 ≤ rank (group f) → f ≡ end
+group_end : (f : Form) → 9 ≤ group f → f ≡ end
 group_end (universal a) h = absurd (omega (arith, h))
 group_end (outlives a b) h = absurd (omega (arith, h))
 group_end (further x) h = absurd (omega (arith, h))
@@ -419,11 +418,11 @@ group_end (block n) h = absurd (omega (arith, h))
 group_end (at_point i) h = absurd (omega (arith, h))
 group_end end h = refl
 
-ended_rank : (forms : List Form) → 9 ≤ rank (last_group forms) → Contains forms end
+ended_rank : (forms : List Form) → 9 ≤ reached forms → Contains forms end
 ended_rank [] h = absurd (omega (arith, h))
 ended_rank (f ∷ forms) h = ⊎_elim
-    (λ here. (0, omega arith, group_end f (subst (λ g. 9 ≤ rank g) here h)))
-    (λ later. let c = ended_rank forms (subst (λ g. 9 ≤ rank g) later h) in (suc c.0, omega (arith, c.1), c.2))
+    (λ here. (0, omega arith, group_end f (subst (λ (n : ℕ). 9 ≤ n) here h)))
+    (λ later. let c = ended_rank forms (subst (λ (n : ℕ). 9 ≤ n) later h) in (suc c.0, omega (arith, c.1), c.2))
     (of_first_or_later f forms)
 
 -- the lines have an `end` line where the last group is reached
@@ -431,10 +430,10 @@ pub ended : (forms : List Form) → has_reached (said forms) End ≡ true → Co
 ended forms h = ended_rank forms (reached_at (said forms) End h)
 
 contains_rank : (forms : List Form) (f : Form) (k : ℕ) → k < length forms → get_or forms k f ≡ f
-    → rank (group f) ≤ rank (last_group forms)
+    → group f ≤ reached forms
 contains_rank [] f k h e = absurd (omega (arith, h))
 contains_rank (g ∷ forms) f zero h e =
-    subst (λ x. rank (group x) ≤ rank (last_group (g ∷ forms))) e (group_reached g forms)
+    subst (λ x. group x ≤ reached (g ∷ forms)) e (group_reached g forms)
 contains_rank (g ∷ forms) f (suc k) h e =
     omega (arith, contains_rank forms f k (omega (arith, h)) e, reached_more g forms)
 
@@ -443,5 +442,5 @@ pub end_reached : (forms : List Form) → Contains forms end → has_reached (sa
 end_reached forms c = is_reached (said forms) End (contains_rank forms end c.0 c.1 c.2)
 
 -- the last group is reached where there is an `end` line
-pub reached_at_end : (forms : List Form) → Contains forms end → rank (said forms).reached ≡ 9
-reached_at_end forms c = omega (arith, contains_rank forms end c.0 c.1 c.2, rank_most (last_group forms))
+pub reached_at_end : (forms : List Form) → Contains forms end → (said forms).reached ≡ 9
+reached_at_end forms c = omega (arith, contains_rank forms end c.0 c.1 c.2, reached_most forms)

@@ -17,13 +17,15 @@ use Rattle.nll_statements.specs.Effects.{targets}
 use Rattle.nll_statements.specs.Written.{regions_written, variables_written}
 use Rattle.nll_statements.proofs.MapLemmas.{regions_mapped, types_mapped}
 use Rattle.nll_mir_grammar.specs.MirForms.{Form, WrittenParameter, universal, outlives, further, assert_line, struct_line, variable, blocks, block, at_point, end}
-use Rattle.nll_resolve.specs.Naming.{meant, is_among, has_arguments, have_arguments, is_known, are_known}
+use Rattle.nll_resolve.specs.Naming.{meant, is_among, has_arguments, is_known}
+use Rattle.nll_resolve.specs.Telling.{have_arguments, are_known}
 use Rattle.nll_format.specs.Text.{Says, IsText}
 use Rattle.nll_body.specs.Edges.{edges_from, edge_count}
 use Rattle.nll_body.specs.Sound.{IsSound}
 use Rattle.nll_body.proofs.PointLemmas.{same_targets, same_end}
-use Rattle.nll_mir_text.specs.MirSaid.{Said, said, statement_meant, body_scope, field_scope, is_region}
-use Rattle.nll_mir_text.specs.MirSteps.{says, nothing_said, declared, rank}
+use Rattle.nll_mir_text.specs.MirSaid.{Said, said, scope_inside}
+use Rattle.nll_mir_text.specs.Declaring.{is_region}
+use Rattle.nll_mir_text.specs.MirSteps.{says, nothing_said, declared, statement_meant}
 use Rattle.nll_mir_text.specs.MirFaults.{is_universal, first_fault, has_targets, shapes_fit, knows, are_declared, is_in_body}
 use Rattle.nll_type_check.specs.Typing.{types_agree}
 use Rattle.nll_mir_text.specs.MirReading.{AreKinds}
@@ -106,10 +108,12 @@ asserted_more : (old new : List Name) (pairs : List (ℕ × ℕ)) → length old
 asserted_more old new pairs more all a b c = let k = all a b c in (omega (arith, k.0, more), omega (arith, k.1, more))
 
 record IsWell (s : Said) : Type 0 where
-  asserted : AreAsserted s.names s.asserts
-  declares : IsDeclared (rank s.reached) s.universals s.names s.outlives s.struct_names s.kinds s.structs s.variables
-  places : ArePlaced (rank s.reached) s.blocks s.starts s.points s.owes
-  written : AreWritten s.names s.structs s.points
+  plain : s.scope.parameters ≡ []
+  asserted : AreAsserted s.scope.regions s.asserts
+  declares : IsDeclared s.reached s.universals s.scope.regions s.outlives s.scope.structs s.scope.kinds s.structs
+      s.variables
+  places : ArePlaced s.reached s.blocks s.starts s.points s.owes
+  written : AreWritten s.scope.regions s.structs s.points
 
 -- nothing is written where there are no points
 written_nowhere : (names : List Name) (structs : List Struct) (points : List (Statement ℕ TypeTree)) → length points ≡ 0
@@ -130,6 +134,7 @@ written_early reached count starts points owes h early names structs =
 
 well_nothing : IsWell nothing_said
 well_nothing = record {
+  plain = refl;
   asserted = λ a b c. absurd (omega (arith, c.1));
   declares = record {
     some = omega arith;
@@ -207,22 +212,31 @@ module _ (reached universals : ℕ) (names : List Name) (longer : List (ℕ × �
   keeps_none early h P = subst (All P) (sym (h.none_yet early)) (All-nil P)
 
 module _ (s : Said) (w : IsWell s) where
+  -- no type parameter may be named outside structs
+  unnamed : (t : WrittenType)
+      → IsWellFormed s.structs (length s.scope.regions) (length s.scope.parameters) (meant s.scope t)
+      → IsWellFormed s.structs (length s.scope.regions) 0 (meant s.scope t)
+  unnamed t = subst (λ (ps : List Name). IsWellFormed s.structs (length s.scope.regions) (length ps) (meant s.scope t))
+      w.plain
+
   well_universal : (a : Name) → first_fault s (universal a) ≡ None → IsWell (says s (universal a))
   well_universal a e =
       let no = faultless s (universal a) e in
-      let le : rank s.reached ≤ 1 = (follows s (universal a) (in_order s (universal a) e)).0 in
+      let le : s.reached ≤ 1 = (follows s (universal a) (in_order s (universal a) e)).0 in
       let few : s.universals < most_universals = leb-false most_universals s.universals no.universals in
-      let regions : length s.names < most_regions = leb-false most_regions (length s.names) no.regions in
+      let regions : length s.scope.regions < most_regions =
+      leb-false most_regions (length s.scope.regions) no.regions in
       let d = w.declares in
       record {
+        plain = w.plain;
         asserted =
-            asserted_more s.names (s.names ++ a ∷ []) s.asserts
-            (omega (arith, length-append s.names (a ∷ []))) w.asserted;
+            asserted_more s.scope.regions (s.scope.regions ++ a ∷ []) s.asserts
+            (omega (arith, length-append s.scope.regions (a ∷ []))) w.asserted;
         declares = record {
           some = omega arith;
           few = omega (arith, few);
-          all = omega (arith, d.all, length-append s.names (a ∷ []));
-          few_names = omega (arith, regions, length-append s.names (a ∷ []));
+          all = omega (arith, d.all, length-append s.scope.regions (a ∷ []));
+          few_names = omega (arith, regions, length-append s.scope.regions (a ∷ []));
           few_variables = d.few_variables;
           known = λ x y c. (let k = d.known x y c in (omega (arith, k.0), omega (arith, k.1)));
           named = d.named;
@@ -231,21 +245,22 @@ module _ (s : Said) (w : IsWell s) where
           order = d.order;
           none_yet = λ _. d.none_yet (omega (arith, le));
           keep = keeps_none _ _ _ _ _ _ _ _ (omega (arith, le)) d
-              (IsWellFormed s.structs (length (s.names ++ a ∷ [])) 0);
+              (IsWellFormed s.structs (length (s.scope.regions ++ a ∷ [])) 0);
         };
         places = places_early _ _ _ _ _ 1 w.places le (omega arith);
-        written = written_early _ _ _ _ _ w.places (omega (arith, le)) (s.names ++ a ∷ []) s.structs;
+        written = written_early _ _ _ _ _ w.places (omega (arith, le)) (s.scope.regions ++ a ∷ []) s.structs;
       }
 
   well_outlives : (a b : Name) → first_fault s (outlives a b) ≡ None → IsWell (says s (outlives a b))
   well_outlives a b e =
       let no = faultless s (outlives a b) e in
-      let le : rank s.reached ≤ 2 = (follows s (outlives a b) (in_order s (outlives a b) e)).0 in
+      let le : s.reached ≤ 2 = (follows s (outlives a b) (in_order s (outlives a b) e)).0 in
       let both =
       and_parts (is_universal s a) (is_universal s b)
       (not-false (is_universal s a && is_universal s b) no.unknown) in
       let d = w.declares in
       record {
+        plain = w.plain;
         asserted = w.asserted;
         declares = record {
           some = d.some;
@@ -254,10 +269,13 @@ module _ (s : Said) (w : IsWell s) where
           few_names = d.few_names;
           few_variables = d.few_variables;
           known = λ x y c. ⊎_elim (d.known x y)
-              (λ same. subst (λ (p : ℕ × ℕ). (p.0 < s.universals) × (p.1 < s.universals)) same
-              (ltb-true (number_of s.names a) s.universals both.0, ltb-true (number_of s.names b) s.universals both.1))
-              (inserted (list_any (same_pair (number_of s.names a, number_of s.names b)) s.outlives) s.outlives
-              (number_of s.names a, number_of s.names b) (x, y) c);
+              (λ same. subst (λ (p : ℕ × ℕ). (p.0 < s.universals) × (p.1 < s.universals)) same (
+                ltb-true (number_of s.scope.regions a) s.universals both.0,
+                ltb-true (number_of s.scope.regions b) s.universals both.1,
+              ))
+              (inserted (list_any (same_pair (number_of s.scope.regions a, number_of s.scope.regions b)) s.outlives)
+              s.outlives
+              (number_of s.scope.regions a, number_of s.scope.regions b) (x, y) c);
           named = d.named;
           counted = d.counted;
           takes = d.takes;
@@ -266,24 +284,26 @@ module _ (s : Said) (w : IsWell s) where
           keep = d.keep;
         };
         places = places_early _ _ _ _ _ 2 w.places le (omega arith);
-        written = written_early _ _ _ _ _ w.places (omega (arith, le)) s.names s.structs;
+        written = written_early _ _ _ _ _ w.places (omega (arith, le)) s.scope.regions s.structs;
       }
 
   well_further : (x : Name) → first_fault s (further x) ≡ None → IsWell (says s (further x))
   well_further x e =
       let no = faultless s (further x) e in
-      let le : rank s.reached ≤ 3 = (follows s (further x) (in_order s (further x) e)).0 in
-      let regions : length s.names < most_regions = leb-false most_regions (length s.names) no.regions in
+      let le : s.reached ≤ 3 = (follows s (further x) (in_order s (further x) e)).0 in
+      let regions : length s.scope.regions < most_regions =
+      leb-false most_regions (length s.scope.regions) no.regions in
       let d = w.declares in
       record {
+        plain = w.plain;
         asserted =
-            asserted_more s.names (s.names ++ x ∷ []) s.asserts
-            (omega (arith, length-append s.names (x ∷ []))) w.asserted;
+            asserted_more s.scope.regions (s.scope.regions ++ x ∷ []) s.asserts
+            (omega (arith, length-append s.scope.regions (x ∷ []))) w.asserted;
         declares = record {
           some = d.some;
           few = d.few;
-          all = omega (arith, d.all, length-append s.names (x ∷ []));
-          few_names = omega (arith, regions, length-append s.names (x ∷ []));
+          all = omega (arith, d.all, length-append s.scope.regions (x ∷ []));
+          few_names = omega (arith, regions, length-append s.scope.regions (x ∷ []));
           few_variables = d.few_variables;
           known = d.known;
           named = d.named;
@@ -292,29 +312,31 @@ module _ (s : Said) (w : IsWell s) where
           order = d.order;
           none_yet = λ _. d.none_yet (omega (arith, le));
           keep = keeps_none _ _ _ _ _ _ _ _ (omega (arith, le)) d
-              (IsWellFormed s.structs (length (s.names ++ x ∷ [])) 0);
+              (IsWellFormed s.structs (length (s.scope.regions ++ x ∷ [])) 0);
         };
         places = places_early _ _ _ _ _ 3 w.places le (omega arith);
-        written = written_early _ _ _ _ _ w.places (omega (arith, le)) (s.names ++ x ∷ []) s.structs;
+        written = written_early _ _ _ _ _ w.places (omega (arith, le)) (s.scope.regions ++ x ∷ []) s.structs;
       }
 
   well_assert : (a b : Name) → first_fault s (assert_line a b) ≡ None → IsWell (says s (assert_line a b))
   well_assert a b e =
       let no = faultless s (assert_line a b) e in
-      let le : rank s.reached ≤ 4 = (follows s (assert_line a b) (in_order s (assert_line a b) e)).0 in
+      let le : s.reached ≤ 4 = (follows s (assert_line a b) (in_order s (assert_line a b) e)).0 in
       let both =
-      and_parts (is_among s.names a) (is_among s.names b)
-      (not-false (is_among s.names a && is_among s.names b) no.unknown) in
+      and_parts (is_among s.scope.regions a) (is_among s.scope.regions b)
+      (not-false (is_among s.scope.regions a && is_among s.scope.regions b) no.unknown) in
       let d = w.declares in
       record {
+        plain = w.plain;
         asserted =
             λ x y c. ⊎_elim (w.asserted x y) (λ same.
-            subst (λ (p : ℕ × ℕ). (p.0 < length s.names) × (p.1 < length s.names)) same (
-              ltb-true (number_of s.names a) (length s.names) both.0,
-              ltb-true (number_of s.names b) (length s.names) both.1,
+            subst (λ (p : ℕ × ℕ). (p.0 < length s.scope.regions) × (p.1 < length s.scope.regions)) same (
+              ltb-true (number_of s.scope.regions a) (length s.scope.regions) both.0,
+              ltb-true (number_of s.scope.regions b) (length s.scope.regions) both.1,
             ))
-            (inserted (list_any (same_pair (number_of s.names a, number_of s.names b)) s.asserts) s.asserts
-            (number_of s.names a, number_of s.names b) (x, y) c);
+            (inserted (list_any (same_pair (number_of s.scope.regions a, number_of s.scope.regions b)) s.asserts)
+            s.asserts
+            (number_of s.scope.regions a, number_of s.scope.regions b) (x, y) c);
         declares = record {
           some = d.some;
           few = d.few;
@@ -330,20 +352,21 @@ module _ (s : Said) (w : IsWell s) where
           keep = d.keep;
         };
         places = places_early _ _ _ _ _ 4 w.places le (omega arith);
-        written = written_early _ _ _ _ _ w.places (omega (arith, le)) s.names s.structs;
+        written = written_early _ _ _ _ _ w.places (omega (arith, le)) s.scope.regions s.structs;
       }
 
   well_struct : (n : Name) (ps : List WrittenParameter) (has_drop : Bool) (fields : WrittenTypes)
       → first_fault s (struct_line n ps has_drop fields) ≡ None → IsWell (says s (struct_line n ps has_drop fields))
   well_struct n ps has_drop fields e =
       let no = faultless s (struct_line n ps has_drop fields) e in
-      let le : rank s.reached ≤ 5 =
+      let le : s.reached ≤ 5 =
       (follows s (struct_line n ps has_drop fields) (in_order s (struct_line n ps has_drop fields) e)).0 in
-      let known : are_known (field_scope s ps) fields ≡ true = not-false _ no.unknown in
-      let has : have_arguments (field_scope s ps) fields ≡ true = not-false _ no.shape in
+      let known : are_known (scope_inside s.scope ps) fields ≡ true = not-false _ no.unknown in
+      let has : have_arguments (scope_inside s.scope ps) fields ≡ true = not-false _ no.shape in
       let d = w.declares in
       let more = declared s ps has_drop fields in
       record {
+        plain = w.plain;
         asserted = w.asserted;
         declares = record {
           some = d.some;
@@ -352,62 +375,64 @@ module _ (s : Said) (w : IsWell s) where
           few_names = d.few_names;
           few_variables = d.few_variables;
           known = d.known;
-          named = omega (arith, d.named, length-append s.struct_names (n ∷ []), length-append s.structs (more ∷ []));
+          named = omega (arith, d.named, length-append s.scope.structs (n ∷ []), length-append s.structs (more ∷ []));
           counted =
               omega (
                 arith,
                 d.counted,
-                length-append s.kinds (map is_region ps ∷ []),
+                length-append s.scope.kinds (map is_region ps ∷ []),
                 length-append s.structs (more ∷ []),
               );
-          takes = kinds_pushed s.kinds s.structs (map is_region ps) more d.counted d.takes
+          takes = kinds_pushed s.scope.kinds s.structs (map is_region ps) more d.counted d.takes
               (regions_declared s ps has_drop fields) (types_declared s ps has_drop fields);
           order = order_push s.structs more d.order (good_fields s ps has_drop fields d.takes d.named known has);
           none_yet = λ _. d.none_yet (omega (arith, le));
           keep = keeps_none _ _ _ _ _ _ _ _ (omega (arith, le)) d
-              (IsWellFormed (s.structs ++ more ∷ []) (length s.names) 0);
+              (IsWellFormed (s.structs ++ more ∷ []) (length s.scope.regions) 0);
         };
         places = places_early _ _ _ _ _ 5 w.places le (omega arith);
-        written = written_early _ _ _ _ _ w.places (omega (arith, le)) s.names (s.structs ++ more ∷ []);
+        written = written_early _ _ _ _ _ w.places (omega (arith, le)) s.scope.regions (s.structs ++ more ∷ []);
       }
 
   well_variable : (x : ℕ) (t : WrittenType) → first_fault s (variable x t) ≡ None → IsWell (says s (variable x t))
   well_variable x t e =
       let no = faultless s (variable x t) e in
-      let le : rank s.reached ≤ 6 = (follows s (variable x t) (in_order s (variable x t) e)).0 in
-      let known : is_known (body_scope s) t ≡ true = not-false _ no.unknown in
-      let has : has_arguments (body_scope s) t ≡ true = not-false _ no.shape in
+      let le : s.reached ≤ 6 = (follows s (variable x t) (in_order s (variable x t) e)).0 in
+      let known : is_known s.scope t ≡ true = not-false _ no.unknown in
+      let has : has_arguments s.scope t ≡ true = not-false _ no.shape in
       let limit : length s.variables < most_variables = leb-false most_variables (length s.variables) no.variables in
       let d = w.declares in
       record {
+        plain = w.plain;
         asserted = w.asserted;
         declares = record {
           some = d.some;
           few = d.few;
           all = d.all;
           few_names = d.few_names;
-          few_variables = omega (arith, limit, length-append s.variables (meant (body_scope s) t ∷ []));
+          few_variables = omega (arith, limit, length-append s.variables (meant s.scope t ∷ []));
           known = d.known;
           named = d.named;
           counted = d.counted;
           takes = d.takes;
           order = d.order;
           none_yet = λ l. absurd (omega (arith, l));
-          keep = All-push (IsWellFormed s.structs (length s.names) 0) s.variables (meant (body_scope s) t) d.keep
-              (well_formed (body_scope s) s.structs d.takes d.named t known has);
+          keep = All-push (IsWellFormed s.structs (length s.scope.regions) 0) s.variables (meant s.scope t) d.keep
+              (unnamed t (well_formed s.scope s.structs d.takes d.named t known has));
         };
         places = places_early _ _ _ _ _ 6 w.places le (omega arith);
-        written = written_early _ _ _ _ _ w.places (omega (arith, le)) s.names s.structs;
+        written = written_early _ _ _ _ _ w.places (omega (arith, le)) s.scope.regions s.structs;
       }
 
   well_blocks : (n : ℕ) → first_fault s (blocks n) ≡ None → IsWell (says s (blocks n))
   well_blocks n e =
       let no = faultless s (blocks n) e in
-      let at : rank s.reached < 7 = before_blocks s n (in_order s (blocks n) e) in
+      let at : s.reached < 7 = before_blocks s n (in_order s (blocks n) e) in
       let some : 0 < n = positive n no.range in
       let p = w.places in
       let none = p.none_yet (omega (arith, at)) in
       record {
+        plain = w.plain;
         asserted = w.asserted;
         declares = declares_late _ _ _ _ _ _ _ _ 7 w.declares (omega arith);
         places = record {
@@ -427,7 +452,7 @@ module _ (s : Said) (w : IsWell s) where
       }
 
   -- a block begins where no terminator is owed
-  begins : s.owes ≡ false → 7 ≤ rank s.reached → ArePlaced 8 s.blocks (s.starts ++ length s.points ∷ []) s.points true
+  begins : s.owes ≡ false → 7 ≤ s.reached → ArePlaced 8 s.blocks (s.starts ++ length s.points ∷ []) s.points true
   begins done late =
       let p = w.places in
       let here_ends : ends s.points s.owes ≡ length s.points = rw done refl in
@@ -454,6 +479,7 @@ module _ (s : Said) (w : IsWell s) where
   well_block n e =
       let order = and_parts (is_in_body s) (not s.owes) (in_order s (block n) e) in
       record {
+        plain = w.plain;
         asserted = w.asserted;
         declares = declares_late _ _ _ _ _ _ _ _ 8 w.declares (omega arith);
         places = begins (not-true s.owes order.1) (in_body s order.0).0;
@@ -461,7 +487,7 @@ module _ (s : Said) (w : IsWell s) where
       }
 
   -- a statement or terminator stands where a terminator is owed
-  stands : (i : Statement Name WrittenType) → 7 ≤ rank s.reached → s.owes ≡ true → has_targets s i ≡ true
+  stands : (i : Statement Name WrittenType) → 7 ≤ s.reached → s.owes ≡ true → has_targets s i ≡ true
       → length s.points < most_points → edge_count s.points + edges_from i ≤ most_edges
       → ArePlaced 8 s.blocks s.starts (s.points ++ statement_meant s i ∷ []) (not (is_terminator i))
   stands i at owed targeted few_points few_edges =
@@ -485,61 +511,62 @@ module _ (s : Said) (w : IsWell s) where
               arith,
               few_edges,
               sum_by_push edges_from s.points j,
-              same_edges (number_of s.names) (meant (body_scope s)) i,
+              same_edges (number_of s.scope.regions) (meant s.scope) i,
             );
         goes_on = λ q k at plain. ⊎_elim
             (λ old. (let l = p.goes_on q k old plain in omega (arith, l, before, after)))
             (λ new. (let l = ends_behind s.points j (is_terminator i)
-            (sym (same_end (number_of s.names) (meant (body_scope s)) i) ∙ (ap is_terminator (sym new.1) ∙ plain))
+            (sym (same_end (number_of s.scope.regions) (meant s.scope) i) ∙ (ap is_terminator (sym new.1) ∙ plain))
             in omega (arith, new.0, l)))
             (pushed_at s.points j q k at);
         leads = λ q b k at leads. ⊎_elim
             (λ old. p.leads q b k old leads)
             (λ new. All-contains (λ c. c < s.blocks) (targets i) b (below_all s.blocks (targets i) targeted)
             (subst (λ (bs : List ℕ). Contains bs b)
-            (ap targets new.1 ∙ same_targets (number_of s.names) (meant (body_scope s)) i) leads))
+            (ap targets new.1 ∙ same_targets (number_of s.scope.regions) (meant s.scope) i) leads))
             (pushed_at s.points j q k at);
       }
 
   -- types whose names are known and have arguments keep to what is declared
-  types_good : (ts : List WrittenType) → list_all (is_known (body_scope s)) ts ≡ true
-      → list_all (has_arguments (body_scope s)) ts ≡ true
-      → All (IsWellFormed s.structs (length s.names) 0) (map (meant (body_scope s)) ts)
-  types_good [] k h = All-nil (IsWellFormed s.structs (length s.names) 0)
+  types_good : (ts : List WrittenType) → list_all (is_known s.scope) ts ≡ true
+      → list_all (has_arguments s.scope) ts ≡ true
+      → All (IsWellFormed s.structs (length s.scope.regions) 0) (map (meant s.scope) ts)
+  types_good [] k h = All-nil (IsWellFormed s.structs (length s.scope.regions) 0)
   types_good (t ∷ ts) k h =
-      let known = and_parts (is_known (body_scope s) t) (list_all (is_known (body_scope s)) ts) k in
-      let has = and_parts (has_arguments (body_scope s) t) (list_all (has_arguments (body_scope s)) ts) h in
+      let known = and_parts (is_known s.scope t) (list_all (is_known s.scope) ts) k in
+      let has = and_parts (has_arguments s.scope t) (list_all (has_arguments s.scope) ts) h in
       let d = w.declares in
-      let first : IsWellFormed s.structs (length s.names) 0 (meant (body_scope s) t) =
-      well_formed (body_scope s) s.structs d.takes d.named t known.0 has.0 in
-      All-cons (IsWellFormed s.structs (length s.names) 0) (meant (body_scope s) t)
-      (map (meant (body_scope s)) ts) first (types_good ts known.1 has.1)
+      let first : IsWellFormed s.structs (length s.scope.regions) 0 (meant s.scope t) =
+      unnamed t (well_formed s.scope s.structs d.takes d.named t known.0 has.0) in
+      All-cons (IsWellFormed s.structs (length s.scope.regions) 0) (meant s.scope t)
+      (map (meant s.scope) ts) first (types_good ts known.1 has.1)
 
   -- what is written in one more statement keeps to what is declared
   writes : (i : Statement Name WrittenType) → knows s i ≡ true → shapes_fit s i ≡ true
-      → AreWritten s.names s.structs (s.points ++ statement_meant s i ∷ [])
+      → AreWritten s.scope.regions s.structs (s.points ++ statement_meant s i ∷ [])
   writes i known fit =
       let j = statement_meant s i in
       let names =
-      three (are_declared s (variables_written i)) (list_all (is_among s.names) (regions_written i))
-      (list_all (is_known (body_scope s)) (types_written i)) known in
+      three (are_declared s (variables_written i)) (list_all (is_among s.scope.regions) (regions_written i))
+      (list_all (is_known s.scope) (types_written i)) known in
       let args =
-      and_parts (list_all (has_arguments (body_scope s)) (types_written i))
+      and_parts (list_all (has_arguments s.scope) (types_written i))
       (types_agree s.structs s.variables j) fit in
       record {
         regions = λ p r k at h. ⊎_elim
             (λ old. w.written.regions p r k old h)
-            (λ new. All-contains (λ q. q < length s.names) (map (number_of s.names) (regions_written i)) r
-            (numbers_below s.names (regions_written i) names.1)
+            (λ new. All-contains (λ q. q < length s.scope.regions)
+            (map (number_of s.scope.regions) (regions_written i)) r
+            (numbers_below s.scope.regions (regions_written i) names.1)
             (subst (λ (rs : List ℕ). Contains rs r)
-            (ap regions_written new.1 ∙ regions_mapped (number_of s.names) (meant (body_scope s)) i) h))
+            (ap regions_written new.1 ∙ regions_mapped (number_of s.scope.regions) (meant s.scope) i) h))
             (pushed_at s.points j p k at);
         types = λ p t k at h. ⊎_elim
             (λ old. w.written.types p t k old h)
-            (λ new. All-contains (IsWellFormed s.structs (length s.names) 0)
-            (map (meant (body_scope s)) (types_written i)) t (types_good (types_written i) names.2 args.0)
+            (λ new. All-contains (IsWellFormed s.structs (length s.scope.regions) 0)
+            (map (meant s.scope) (types_written i)) t (types_good (types_written i) names.2 args.0)
             (subst (λ (ts : List TypeTree). Contains ts t)
-            (ap types_written new.1 ∙ types_mapped (number_of s.names) (meant (body_scope s)) i) h))
+            (ap types_written new.1 ∙ types_mapped (number_of s.scope.regions) (meant s.scope) i) h))
             (pushed_at s.points j p k at);
       }
 
@@ -550,8 +577,9 @@ module _ (s : Said) (w : IsWell s) where
       let few_points : length s.points < most_points = leb-false most_points (length s.points) no.points in
       let few_edges : edge_count s.points + edges_from i ≤ most_edges =
       ltb-false most_edges (edge_count s.points + edges_from i) no.edges in
-      let at : 7 ≤ rank s.reached = (in_body s order.0).0 in
+      let at : 7 ≤ s.reached = (in_body s order.0).0 in
       record {
+        plain = w.plain;
         asserted = w.asserted;
         declares = declares_late _ _ _ _ _ _ _ _ 8 w.declares (omega arith);
         places = stands i at order.1 (not-false (has_targets s i) no.range) few_points few_edges;
@@ -563,10 +591,11 @@ module _ (s : Said) (w : IsWell s) where
       let no = faultless s end e in
       let order = and_parts (is_in_body s) (not s.owes) (in_order s end e) in
       let p = w.places in
-      let late : 7 ≤ rank s.reached = (in_body s order.0).0 in
+      let late : 7 ≤ s.reached = (in_body s order.0).0 in
       let done : s.owes ≡ false = not-true s.owes order.1 in
       let enough : s.blocks ≤ length s.starts = ltb-false (length s.starts) s.blocks no.range in
       record {
+        plain = w.plain;
         asserted = w.asserted;
         declares = declares_late _ _ _ _ _ _ _ _ 9 w.declares (omega arith);
         places = record {
@@ -609,7 +638,7 @@ well_said v lines forms h = behind_all (λ fs. IsWell (said fs)) well_push v [] 
 
 -- ---- the body
 
-module _ (s : Said) (w : IsWell s) (at_end : rank s.reached ≡ 9) where
+module _ (s : Said) (w : IsWell s) (at_end : s.reached ≡ 9) where
   done : ends s.points s.owes ≡ length s.points
   done = let e = (w.places.whole at_end).0 in rw e refl
 

@@ -12,8 +12,10 @@ use Rattle.nll_type_check.specs.Typing.{are_small}
 use Rattle.nll_types.specs.Structs.{Struct, no_struct, HasGoodFields, AreWellFormed, AreInOrder}
 use Rattle.nll_type_grammar.specs.WrittenTypes.{Name, WrittenTypes}
 use Rattle.nll_mir_grammar.specs.MirForms.{WrittenParameter, region_parameter, type_parameter, struct_line}
-use Rattle.nll_resolve.specs.Naming.{is_among, are_known, have_arguments, all_meant}
-use Rattle.nll_mir_text.specs.MirSaid.{Said, field_scope, is_region, regions_in, types_in}
+use Rattle.nll_resolve.specs.Naming.{is_among, all_meant}
+use Rattle.nll_resolve.specs.Telling.{are_known, have_arguments}
+use Rattle.nll_mir_text.specs.MirSaid.{Said, scope_inside}
+use Rattle.nll_mir_text.specs.Declaring.{is_region, regions_in, types_in}
 use Rattle.nll_mir_text.specs.MirSteps.{declared}
 use Rattle.nll_mir_text.specs.MirFaults.{has_repeats, redeclares, is_in_order, first_fault}
 use Rattle.nll_mir_text.specs.MirReading.{AreKinds, region_count, other_count}
@@ -81,11 +83,11 @@ four false false false d h = (refl, refl, refl, h)
 
 -- What is right of a struct line with which nothing is wrong.
 pub record IsFine (s : Said) (n : Name) (ps : List WrittenParameter) (fields : WrittenTypes) : Type 0 where
-  pub known : are_known (field_scope s ps) fields ≡ true
-  pub new : is_among s.struct_names n ≡ false
+  pub known : are_known (scope_inside s.scope ps) fields ≡ true
+  pub new : is_among s.scope.structs n ≡ false
   pub regions : has_repeats (region_names ps) ≡ false
   pub types : has_repeats (type_names ps) ≡ false
-  pub has : have_arguments (field_scope s ps) fields ≡ true
+  pub has : have_arguments (scope_inside s.scope ps) fields ≡ true
   pub few : length s.structs < most_structs
 
 pub struct_fine : (s : Said) (n : Name) (ps : List WrittenParameter) (has_drop : Bool) (fields : WrittenTypes)
@@ -93,48 +95,48 @@ pub struct_fine : (s : Said) (n : Name) (ps : List WrittenParameter) (has_drop :
 struct_fine s n ps has_drop fields e =
     let no = faultless s (struct_line n ps has_drop fields) e in
     let once =
-    four (is_among s.struct_names n) (has_repeats (region_names ps)) (has_repeats (type_names ps))
-    (list_any (is_among (n ∷ s.struct_names)) (type_names ps)) no.duplicate in
+    four (is_among s.scope.structs n) (has_repeats (region_names ps)) (has_repeats (type_names ps))
+    (list_any (is_among (n ∷ s.scope.structs)) (type_names ps)) no.duplicate in
     record {
-      known = not-false (are_known (field_scope s ps) fields) no.unknown;
+      known = not-false (are_known (scope_inside s.scope ps) fields) no.unknown;
       new = once.0;
       regions = once.1;
       types = once.2;
-      has = not-false (have_arguments (field_scope s ps) fields) no.shape;
+      has = not-false (have_arguments (scope_inside s.scope ps) fields) no.shape;
       few = leb-false most_structs (length s.structs) no.structs;
     }
 
 -- no name of its own stands twice in a struct line that declares none again
-pub once_each : (s : Said) (n : Name) (ps : List WrittenParameter) → redeclares s n ps ≡ false
+pub once_each : (s : Said) (n : Name) (ps : List WrittenParameter) → redeclares s.scope n ps ≡ false
     → (has_repeats (region_names ps) ≡ false) × (has_repeats (type_names ps) ≡ false)
 once_each s n ps once =
     let parts =
-    four (is_among s.struct_names n) (has_repeats (region_names ps)) (has_repeats (type_names ps))
-    (list_any (is_among (n ∷ s.struct_names)) (type_names ps)) once in (parts.1, parts.2)
+    four (is_among s.scope.structs n) (has_repeats (region_names ps)) (has_repeats (type_names ps))
+    (list_any (is_among (n ∷ s.scope.structs)) (type_names ps)) once in (parts.1, parts.2)
 
 -- ---- the first fault of a struct line that stands in order
 
 module _ (s : Said) (n : Name) (ps : List WrittenParameter) (has_drop : Bool) (fields : WrittenTypes)
     (order : is_in_order s (struct_line n ps has_drop fields) ≡ true) where
-  pub struct_unknown : are_known (field_scope s ps) fields ≡ false
+  pub struct_unknown : are_known (scope_inside s.scope ps) fields ≡ false
       → first_fault s (struct_line n ps has_drop fields) ≡ Some Unknown
   struct_unknown known = rw (order, known) refl
 
-  pub struct_duplicate : are_known (field_scope s ps) fields ≡ true → redeclares s n ps ≡ true
+  pub struct_duplicate : are_known (scope_inside s.scope ps) fields ≡ true → redeclares s.scope n ps ≡ true
       → first_fault s (struct_line n ps has_drop fields) ≡ Some Duplicate
   struct_duplicate known again = rw (order, known, again) refl
 
-  module _ (known : are_known (field_scope s ps) fields ≡ true) (once : redeclares s n ps ≡ false) where
-    pub struct_unfit : have_arguments (field_scope s ps) fields ≡ false
+  module _ (known : are_known (scope_inside s.scope ps) fields ≡ true) (once : redeclares s.scope n ps ≡ false) where
+    pub struct_unfit : have_arguments (scope_inside s.scope ps) fields ≡ false
         → first_fault s (struct_line n ps has_drop fields) ≡ Some Shape
     struct_unfit fit = rw (order, known, once, fit) refl
 
-    module _ (fit : have_arguments (field_scope s ps) fields ≡ true) where
-      pub struct_too_large : are_small (all_meant (field_scope s ps) fields) ≡ false
+    module _ (fit : have_arguments (scope_inside s.scope ps) fields ≡ true) where
+      pub struct_too_large : are_small (all_meant (scope_inside s.scope ps) fields) ≡ false
           → first_fault s (struct_line n ps has_drop fields) ≡ Some TypeSize
       struct_too_large small = rw (order, known, once, fit, small) refl
 
-      module _ (small : are_small (all_meant (field_scope s ps) fields) ≡ true) where
+      module _ (small : are_small (all_meant (scope_inside s.scope ps) fields) ≡ true) where
         pub too_many_structs : most_structs ≤ length s.structs
             → first_fault s (struct_line n ps has_drop fields) ≡ Some (Limit Structs)
         too_many_structs many = rw (order, known, once, fit, small, le-leb _ _ many) refl
@@ -153,16 +155,16 @@ module _ (s : Said) (ps : List WrittenParameter) (has_drop : Bool) (fields : Wri
   types_declared = types_counted ps ∙ sym (length-map (types_in ps) (λ p. p.1))
 
   -- the fields keep to what is declared, where their names are known and have arguments
-  pub good_fields : AreKinds s.kinds s.structs → length s.struct_names ≡ length s.structs
-      → are_known (field_scope s ps) fields ≡ true → have_arguments (field_scope s ps) fields ≡ true
+  pub good_fields : AreKinds s.scope.kinds s.structs → length s.scope.structs ≡ length s.structs
+      → are_known (scope_inside s.scope ps) fields ≡ true → have_arguments (scope_inside s.scope ps) fields ≡ true
       → HasGoodFields s.structs (declared s ps has_drop fields)
   good_fields kinds named known has =
-      let good = all_well_formed (field_scope s ps) s.structs kinds named fields known has in
-      let regions : length (field_scope s ps).regions ≡ length (declared s ps has_drop fields).regions + 1 =
+      let good = all_well_formed (scope_inside s.scope ps) s.structs kinds named fields known has in
+      let regions : length (scope_inside s.scope ps).regions ≡ length (declared s ps has_drop fields).regions + 1 =
       omega (arith, length-map (regions_in ps) (λ p. p.0), length-map (regions_in ps) (λ p. p.1)) in
-      let types : length (field_scope s ps).parameters ≡ length (declared s ps has_drop fields).types =
+      let types : length (scope_inside s.scope ps).parameters ≡ length (declared s ps has_drop fields).types =
       length-map (types_in ps) (λ p. p.0) ∙ sym (length-map (types_in ps) (λ p. p.1)) in
       subst (λ (n : ℕ). AreWellFormed s.structs (length (declared s ps has_drop fields).regions + 1) n
       (declared s ps has_drop fields).fields) types
-      (subst (λ (n : ℕ). AreWellFormed s.structs n (length (field_scope s ps).parameters)
+      (subst (λ (n : ℕ). AreWellFormed s.structs n (length (scope_inside s.scope ps).parameters)
       (declared s ps has_drop fields).fields) regions good)

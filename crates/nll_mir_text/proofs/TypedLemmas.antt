@@ -15,8 +15,8 @@ use Rattle.nll_resolve.specs.Naming.{meant, has_arguments}
 use Rattle.nll_format.specs.Text.{Says, IsText}
 use Rattle.nll_mir_grammar.specs.MirForms.{Form, WrittenParameter, universal, outlives, further, assert_line, struct_line, variable, blocks, block, at_point, end}
 use Rattle.nll_mir_grammar.specs.declared.version.Version.{Version}
-use Rattle.nll_mir_text.specs.MirSaid.{Said, said, statement_meant, body_scope}
-use Rattle.nll_mir_text.specs.MirSteps.{says, nothing_said, declared, rank}
+use Rattle.nll_mir_text.specs.MirSaid.{Said, said}
+use Rattle.nll_mir_text.specs.MirSteps.{says, nothing_said, declared, statement_meant}
 use Rattle.nll_mir_text.specs.MirFaults.{first_fault, shapes_fit}
 use Rattle.nll_mir_text.specs.MirText.{mir, body_said, IsWellTyped}
 use Rattle.nll_mir_text.proofs.FaultLemmas.{faultless}
@@ -35,7 +35,7 @@ record IsTyped (s : Said) : Type 0 where
   few_structs : length s.structs ≤ most_structs
   fields : All HasSmallFields s.structs
   variables : All IsSmall s.variables
-  none_yet : rank s.reached < 8 → length s.points ≡ 0
+  none_yet : s.reached < 8 → length s.points ≡ 0
   agree : (p : ℕ) (i : Statement ℕ TypeTree) → slice_get s.points p ≡ Some i
       → types_agree s.structs s.variables i ≡ true
   small : (p : ℕ) (i : Statement ℕ TypeTree) → slice_get s.points p ≡ Some i
@@ -56,7 +56,7 @@ typed_nothing = record {
 module _ (s : Said) (w : IsTyped s) where
   typed_universal : (a : Name) → first_fault s (universal a) ≡ None → IsTyped (says s (universal a))
   typed_universal a e =
-      let le : rank s.reached ≤ 1 = (follows s (universal a) (in_order s (universal a) e)).0 in
+      let le : s.reached ≤ 1 = (follows s (universal a) (in_order s (universal a) e)).0 in
       record {
         few_structs = w.few_structs;
         fields = w.fields;
@@ -68,7 +68,7 @@ module _ (s : Said) (w : IsTyped s) where
 
   typed_outlives : (a b : Name) → first_fault s (outlives a b) ≡ None → IsTyped (says s (outlives a b))
   typed_outlives a b e =
-      let le : rank s.reached ≤ 2 = (follows s (outlives a b) (in_order s (outlives a b) e)).0 in
+      let le : s.reached ≤ 2 = (follows s (outlives a b) (in_order s (outlives a b) e)).0 in
       record {
         few_structs = w.few_structs;
         fields = w.fields;
@@ -80,7 +80,7 @@ module _ (s : Said) (w : IsTyped s) where
 
   typed_further : (x : Name) → first_fault s (further x) ≡ None → IsTyped (says s (further x))
   typed_further x e =
-      let le : rank s.reached ≤ 3 = (follows s (further x) (in_order s (further x) e)).0 in
+      let le : s.reached ≤ 3 = (follows s (further x) (in_order s (further x) e)).0 in
       record {
         few_structs = w.few_structs;
         fields = w.fields;
@@ -92,7 +92,7 @@ module _ (s : Said) (w : IsTyped s) where
 
   typed_assert : (a b : Name) → first_fault s (assert_line a b) ≡ None → IsTyped (says s (assert_line a b))
   typed_assert a b e =
-      let le : rank s.reached ≤ 4 = (follows s (assert_line a b) (in_order s (assert_line a b) e)).0 in
+      let le : s.reached ≤ 4 = (follows s (assert_line a b) (in_order s (assert_line a b) e)).0 in
       record {
         few_structs = w.few_structs;
         fields = w.fields;
@@ -106,7 +106,7 @@ module _ (s : Said) (w : IsTyped s) where
       → first_fault s (struct_line n ps has_drop fields) ≡ None → IsTyped (says s (struct_line n ps has_drop fields))
   typed_struct n ps has_drop fields e =
       let no = faultless s (struct_line n ps has_drop fields) e in
-      let le : rank s.reached ≤ 5 =
+      let le : s.reached ≤ 5 =
       (follows s (struct_line n ps has_drop fields) (in_order s (struct_line n ps has_drop fields) e)).0 in
       let few : length s.structs < most_structs = leb-false most_structs (length s.structs) no.structs in
       let none : length s.points ≡ 0 = w.none_yet (omega (arith, le)) in
@@ -123,12 +123,12 @@ module _ (s : Said) (w : IsTyped s) where
   typed_variable : (x : ℕ) (t : WrittenType) → first_fault s (variable x t) ≡ None → IsTyped (says s (variable x t))
   typed_variable x t e =
       let no = faultless s (variable x t) e in
-      let le : rank s.reached ≤ 6 = (follows s (variable x t) (in_order s (variable x t) e)).0 in
+      let le : s.reached ≤ 6 = (follows s (variable x t) (in_order s (variable x t) e)).0 in
       let none : length s.points ≡ 0 = w.none_yet (omega (arith, le)) in
       record {
         few_structs = w.few_structs;
         fields = w.fields;
-        variables = All-push IsSmall s.variables (meant (body_scope s) t) w.variables (not-false _ no.size);
+        variables = All-push IsSmall s.variables (meant s.scope t) w.variables (not-false _ no.size);
         none_yet = λ _. none;
         agree = λ p i at. absurd (nothing_at s.points p i none at);
         small = λ p i at. absurd (nothing_at s.points p i none at);
@@ -136,7 +136,7 @@ module _ (s : Said) (w : IsTyped s) where
 
   typed_blocks : (n : ℕ) → first_fault s (blocks n) ≡ None → IsTyped (says s (blocks n))
   typed_blocks n e =
-      let at : rank s.reached < 7 = before_blocks s n (in_order s (blocks n) e) in
+      let at : s.reached < 7 = before_blocks s n (in_order s (blocks n) e) in
       record {
         few_structs = w.few_structs;
         fields = w.fields;
@@ -162,7 +162,7 @@ module _ (s : Said) (w : IsTyped s) where
       let j = statement_meant s i in
       let fit : shapes_fit s i ≡ true = not-false (shapes_fit s i) no.shape in
       let agrees : types_agree s.structs s.variables j ≡ true =
-      (and_parts (list_all (has_arguments (body_scope s)) (types_written i))
+      (and_parts (list_all (has_arguments s.scope) (types_written i))
       (types_agree s.structs s.variables j) fit).1 in
       let keeps : types_are_small s.structs s.variables j ≡ true = not-false _ no.size in
       record {

@@ -9,14 +9,14 @@ use Rattle.nll_types.specs.Shapes.{is_small}
 use Rattle.nll_type_grammar.specs.WrittenTypes.{WrittenType}
 use Rattle.nll_mir_grammar.specs.MirForms.{variable}
 use Rattle.nll_resolve.specs.Naming.{is_known, has_arguments, meant}
-use Rattle.nll_mir_text.specs.MirSaid.{Said, body_scope}
+use Rattle.nll_mir_text.specs.MirSaid.{Said}
 use Rattle.nll_mir_text.specs.MirFaults.{is_in_order, first_fault}
 
 module _ (s : Said) (x : ℕ) (t : WrittenType) (order : is_in_order s (variable x t) ≡ true) where
-  pub type_unknown : is_known (body_scope s) t ≡ false → first_fault s (variable x t) ≡ Some Unknown
+  pub type_unknown : is_known s.scope t ≡ false → first_fault s (variable x t) ≡ Some Unknown
   type_unknown known = rw (order, known) refl
 
-  module _ (known : is_known (body_scope s) t ≡ true) where
+  module _ (known : is_known s.scope t ≡ true) where
     pub other_variable : (x == length s.variables) ≡ false → first_fault s (variable x t) ≡ Some Range
     other_variable next = rw (order, known, next) refl
 
@@ -24,14 +24,14 @@ module _ (s : Said) (x : ℕ) (t : WrittenType) (order : is_in_order s (variable
     other_number other = other_variable (ne_eqb x (length s.variables) other)
 
     module _ (next : (x == length s.variables) ≡ true) where
-      pub type_unfit : has_arguments (body_scope s) t ≡ false → first_fault s (variable x t) ≡ Some Shape
+      pub type_unfit : has_arguments s.scope t ≡ false → first_fault s (variable x t) ≡ Some Shape
       type_unfit fit = rw (order, known, next, fit) refl
 
-      module _ (fit : has_arguments (body_scope s) t ≡ true) where
-        pub type_too_large : is_small (meant (body_scope s) t) ≡ false → first_fault s (variable x t) ≡ Some TypeSize
+      module _ (fit : has_arguments s.scope t ≡ true) where
+        pub type_too_large : is_small (meant s.scope t) ≡ false → first_fault s (variable x t) ≡ Some TypeSize
         type_too_large small = rw (order, known, next, fit, small) refl
 
-        module _ (small : is_small (meant (body_scope s) t) ≡ true) where
+        module _ (small : is_small (meant s.scope t) ≡ true) where
           pub too_many_variables : most_variables ≤ length s.variables
               → first_fault s (variable x t) ≡ Some (Limit Variables)
           too_many_variables many = rw (order, known, next, fit, small, le-leb _ _ many) refl

@@ -1,18 +1,32 @@
 -- What a reader makes of a struct line.
 -- Source: project's choice. Only private contracts cite this file.
 use Rattle.std.specs.Prelude.{◌≡◌, ◌≤◌, ◌+◌, Bool, true, false, ◌||◌, List, ◌∷◌, map, length, codes}
+use Rattle.std.specs.Prelude.{is_some}
+use Rattle.std.specs.List.{filter_map}
 use Rattle.nll_type_grammar.specs.WrittenTypes.{Name, WrittenTypes}
 use Rattle.nll_mir_grammar.specs.MirForms.{WrittenParameter}
 use Rattle.nll_types.specs.declared.parameter.Parameter.{Parameter}
 use Rattle.nll_mir_grammar.specs.declared.line.ParameterText.{ParameterText}
 use Rattle.nll_mir_grammar.specs.declared.line.ParameterText.TheVariants as parameters
-use Rattle.nll_resolve.specs.Naming.{Scope, is_among, are_known, have_arguments, all_meant}
+use Rattle.nll_resolve.specs.Naming.{Scope, is_among, all_meant}
+use Rattle.nll_resolve.specs.Telling.{are_known, have_arguments}
 use Rattle.nll_type_check.specs.Typing.{are_small}
-use Rattle.nll_mir_text.specs.MirSaid.{regions_in, types_in}
+use Rattle.nll_mir_text.specs.MirSaid.{region_in, type_in}
 use Rattle.nll_mir_text.specs.MirFaults.{has_repeats}
 use Rattle.nll_mir_text.specs.declared.tables.StructNames.{StructNames}
 use Rattle.nll_mir_text.specs.declared.own_names.OwnNames.{OwnNames}
 use Rattle.nll_mir_text.specs.declared.fields.JudgedFields.{JudgedFields}
+
+-- the region parameters, and the type parameters
+abbrev pub regions_in : List WrittenParameter → List (Name × Parameter)
+regions_in ps = filter_map region_in ps
+
+abbrev pub types_in : List WrittenParameter → List (Name × Parameter)
+types_in ps = filter_map type_in ps
+
+-- the parameter is one of a region
+abbrev pub is_region : WrittenParameter → Bool
+is_region p = is_some (region_in p)
 
 -- the names of the regions that a struct's fields may name: 'static and its region parameters
 abbrev pub region_names : List WrittenParameter → List Name

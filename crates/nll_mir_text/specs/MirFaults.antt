@@ -13,7 +13,7 @@ use Rattle.nll_format.specs.declared.error.TextKind.{TextKind}
 use Rattle.nll_format.specs.declared.error.TextKind.TheVariants.{Syntax, Unknown, Duplicate, Range}
 use Rattle.nll_format.specs.declared.error.TextKind.TheVariants.{Shape, TypeSize, Limit}
 use Rattle.nll_types.specs.Shapes.{is_small}
-use Rattle.nll_type_grammar.specs.WrittenTypes.{Name, WrittenType}
+use Rattle.nll_type_grammar.specs.WrittenTypes.{Name, WrittenType, tuple}
 use Rattle.nll_statements.specs.Statements.{Statement, types_written}
 use Rattle.nll_statements.specs.Effects.{targets}
 use Rattle.nll_statements.specs.Written.{regions_written, variables_written}
@@ -22,38 +22,29 @@ use Rattle.nll_type_check.specs.Typing.{types_agree, types_are_small, are_small}
 use Rattle.nll_mir_grammar.specs.MirForms.{WrittenParameter}
 use Rattle.nll_mir_grammar.specs.MirForms.{Form, universal, outlives, further, assert_line}
 use Rattle.nll_mir_grammar.specs.MirForms.{struct_line, variable, blocks, block, at_point, end}
-use Rattle.nll_resolve.specs.Naming.{is_among, is_known, are_known, has_arguments}
-use Rattle.nll_resolve.specs.Naming.{have_arguments, meant, all_meant}
-use Rattle.nll_mir_text.specs.MirSaid.{Said, body_scope, field_scope, group, is_before}
-use Rattle.nll_mir_text.specs.MirSaid.{statement_meant}
-use Rattle.nll_mir_text.specs.declared.groups.Group.{Group}
-use Rattle.nll_mir_text.specs.declared.groups.Group.TheVariants.{BlockCount, End}
-use Rattle.nll_mir_text.specs.declared.groups.Group.TheVariants as groups
+use Rattle.nll_resolve.specs.Naming.{Scope, is_among, is_known, has_arguments, meant, all_meant}
+use Rattle.nll_mir_text.specs.MirSaid.{Said, group, scope_inside, meant_in}
 
 -- ---- order
 
--- a line of the group or of a later one is there
-abbrev pub has_reached : Said → Group → Bool
-has_reached s g = not (is_before s.reached g)
-
 -- the `blocks` line is there, and no `end` line
 abbrev pub is_in_body : Said → Bool
-is_in_body s = has_reached s BlockCount && not (has_reached s End)
+is_in_body s = nat_le (group (blocks 0)) s.reached && not (nat_le (group end) s.reached)
 
 -- The line stands in order: no line of a later group is there, a text has a `let` line before the
 -- one `blocks` line, then blocks, each a `block` line, statements and one terminator, then `end`.
 abbrev pub is_in_order : Said → Form → Bool
-is_in_order s (blocks n) = has_reached s groups.Variables && not (has_reached s BlockCount)
+is_in_order s (blocks n) = s.reached + 1 == group (blocks n)
 is_in_order s (block n) = is_in_body s && not s.owes
 is_in_order s (at_point i) = is_in_body s && s.owes
 is_in_order s end = is_in_body s && not s.owes
-is_in_order s f = not (is_before (group f) s.reached)
+is_in_order s f = nat_le s.reached (group f)
 
 -- ---- names
 
 -- the name is that of a universal region
 abbrev pub is_universal : Said → Name → Bool
-is_universal s a = nat_lt (number_of s.names a) s.universals
+is_universal s a = nat_lt (number_of s.scope.regions a) s.universals
 
 -- a name stands in the row twice
 abbrev pub has_repeats : List Name → Bool
@@ -62,12 +53,12 @@ has_repeats (x ∷ xs) = is_among xs x || has_repeats xs
 
 -- A name of the struct's own is declared already: the struct's, a parameter's that stands twice or
 -- is 'static, or a type parameter's that is a struct's.
-abbrev pub redeclares : Said → Name → List WrittenParameter → Bool
+abbrev pub redeclares : Scope → Name → List WrittenParameter → Bool
 redeclares s n ps =
-    is_among s.struct_names n
-    || has_repeats (field_scope s ps).regions
-    || has_repeats (field_scope s ps).parameters
-    || list_any (is_among (n ∷ s.struct_names)) (field_scope s ps).parameters
+    is_among s.structs n
+    || has_repeats (scope_inside s ps).regions
+    || has_repeats (scope_inside s ps).parameters
+    || list_any (is_among (n ∷ s.structs)) (scope_inside s ps).parameters
 
 -- the variables are declared
 abbrev pub are_declared : Said → List ℕ → Bool
@@ -77,8 +68,8 @@ are_declared s xs = list_all (λ x. nat_lt x (length s.variables)) xs
 abbrev pub knows : Said → Statement Name WrittenType → Bool
 knows s i =
     are_declared s (variables_written i)
-    && list_all (is_among s.names) (regions_written i)
-    && list_all (is_known (body_scope s)) (types_written i)
+    && list_all (is_among s.scope.regions) (regions_written i)
+    && list_all (is_known s.scope) (types_written i)
 
 -- ---- blocks
 
@@ -91,34 +82,35 @@ has_targets s i = list_all (λ b. nat_lt b s.blocks) (targets i)
 -- the statement's types agree, and those that are written have arguments of the right kinds
 abbrev pub shapes_fit : Said → Statement Name WrittenType → Bool
 shapes_fit s i =
-    list_all (has_arguments (body_scope s)) (types_written i)
-    && types_agree s.structs s.variables (statement_meant s i)
+    list_all (has_arguments s.scope) (types_written i)
+    && types_agree s.structs s.variables (meant_in s.scope i)
 
 -- ---- faults
 
 -- Whether a line of the form has a fault of the kind, after lines that say s.
 abbrev pub has_fault : Said → Form → TextKind → Bool
 has_fault s f Syntax = not (is_in_order s f)
-has_fault s (universal a) Duplicate = is_among s.names a
+has_fault s (universal a) Duplicate = is_among s.scope.regions a
 has_fault s (universal a) (Limit Universals) = nat_le most_universals s.universals
-has_fault s (universal a) (Limit Regions) = nat_le most_regions (length s.names)
+has_fault s (universal a) (Limit Regions) = nat_le most_regions (length s.scope.regions)
 has_fault s (outlives a b) Unknown = not (is_universal s a && is_universal s b)
-has_fault s (further x) Duplicate = is_among s.names x
-has_fault s (further x) (Limit Regions) = nat_le most_regions (length s.names)
-has_fault s (assert_line a b) Unknown = not (is_among s.names a && is_among s.names b)
+has_fault s (further x) Duplicate = is_among s.scope.regions x
+has_fault s (further x) (Limit Regions) = nat_le most_regions (length s.scope.regions)
+has_fault s (assert_line a b) Unknown =
+    not (is_among s.scope.regions a && is_among s.scope.regions b)
 has_fault s (struct_line n ps has_drop fields) Unknown =
-    not (are_known (field_scope s ps) fields)
-has_fault s (struct_line n ps has_drop fields) Duplicate = redeclares s n ps
+    not (is_known (scope_inside s.scope ps) (tuple fields))
+has_fault s (struct_line n ps has_drop fields) Duplicate = redeclares s.scope n ps
 has_fault s (struct_line n ps has_drop fields) Shape =
-    not (have_arguments (field_scope s ps) fields)
+    not (has_arguments (scope_inside s.scope ps) (tuple fields))
 has_fault s (struct_line n ps has_drop fields) TypeSize =
-    not (are_small (all_meant (field_scope s ps) fields))
+    not (are_small (all_meant (scope_inside s.scope ps) fields))
 has_fault s (struct_line n ps has_drop fields) (Limit Structs) =
     nat_le most_structs (length s.structs)
-has_fault s (variable x t) Unknown = not (is_known (body_scope s) t)
+has_fault s (variable x t) Unknown = not (is_known s.scope t)
 has_fault s (variable x t) Range = not (x == length s.variables)
-has_fault s (variable x t) Shape = not (has_arguments (body_scope s) t)
-has_fault s (variable x t) TypeSize = not (is_small (meant (body_scope s) t))
+has_fault s (variable x t) Shape = not (has_arguments s.scope t)
+has_fault s (variable x t) TypeSize = not (is_small (meant s.scope t))
 has_fault s (variable x t) (Limit Variables) = nat_le most_variables (length s.variables)
 has_fault s (blocks n) Range = n == 0
 has_fault s (blocks n) (Limit Points) = nat_lt most_points n
@@ -127,7 +119,7 @@ has_fault s (at_point i) Unknown = not (knows s i)
 has_fault s (at_point i) Range = not (has_targets s i)
 has_fault s (at_point i) Shape = not (shapes_fit s i)
 has_fault s (at_point i) TypeSize =
-    not (types_are_small s.structs s.variables (statement_meant s i))
+    not (types_are_small s.structs s.variables (meant_in s.scope i))
 has_fault s (at_point i) (Limit Points) = nat_le most_points (length s.points)
 has_fault s (at_point i) (Limit Edges) = nat_lt most_edges (edge_count s.points + edges_from i)
 has_fault s end Range = nat_lt (length s.starts) s.blocks

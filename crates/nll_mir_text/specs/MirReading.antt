@@ -44,16 +44,23 @@ use Rattle.nll_mir_text.specs.declared.reader.Reader.{Reader}
 abbrev pub statement_kept : Kept ℕ Ty → Statement ℕ TypeTree
 statement_kept i = map_statement (λ r. r) tree (statement_of i)
 
+-- what names mean in the types of variables and of statements
+abbrev pub scope_in : Regions → StructNames → Scope
+scope_in regions structs = record {
+  regions = regions.names;
+  parameters = [];
+  structs = structs.names;
+  kinds = map (λ ks. ks.items) structs.kinds.items;
+}
+
 -- what the reader's lines say
 abbrev pub said_by : Reader → Said
 said_by r = record {
-  reached = r.reached;
-  names = r.regions.names;
+  reached = rank r.reached;
+  scope = scope_in r.regions r.structs;
   universals = r.regions.universals;
   outlives = r.regions.outlives.keys;
   asserts = r.regions.asserts.keys;
-  struct_names = r.structs.names;
-  kinds = map (λ ks. ks.items) r.structs.kinds.items;
   structs = structs_of r.variables.table.structs;
   variables = map tree r.variables.types.items;
   blocks = r.points.blocks;
@@ -70,15 +77,6 @@ HoldsForms r forms = said forms ≡ said_by r
 pub record AreShapes (shapes : List Node) (numbers : List ℕ) (types : List Ty) : Type 0 where
   pub below : AreBelow (length shapes) numbers
   pub same : map (shape_in shapes) numbers ≡ map (λ t. shape_of (tree t)) types
-
--- what names mean in the types of variables and of statements
-abbrev pub scope_in : Regions → StructNames → Scope
-scope_in regions structs = record {
-  regions = regions.names;
-  parameters = [];
-  structs = structs.names;
-  kinds = map (λ ks. ks.items) structs.kinds.items;
-}
 
 -- how many of the kinds are that of a region, and how many are not
 abbrev pub region_count : List Bool → ℕ
@@ -144,7 +142,7 @@ HasFewParameters _ = Unit {0}
 pub record IsDue (r : Reader) (f : Form) : Type 0 where
   pub ready : IsReady r
   pub order : is_in_order (said_by r) f ≡ true
-  pub follows : rank r.reached ≤ rank (group f)
+  pub follows : rank r.reached ≤ group f
   pub texts : HasTexts f
   pub few : HasFewParameters f
 

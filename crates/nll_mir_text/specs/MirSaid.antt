@@ -1,9 +1,9 @@
 -- What the lines of a MIR text say together.
 -- Source: project's choice; docs/FORMATS.md says the same in words. The code keeps tables; this
 -- speaks of whole lists of lines.
-use Rattle.std.specs.Prelude.{ℕ, Bool, true, false, not, if◌then◌else◌, nat_lt, List, [], ◌∷◌}
-use Rattle.std.specs.Prelude.{◌++◌, length, map, codes, get_or, Option, Some, None, unwrap_or}
-use Rattle.std.specs.List.{filter_map, last_or, position_or_len}
+use Rattle.std.specs.Prelude.{ℕ, max, Bool, true, false, not, List, [], ◌∷◌, ◌++◌, length, map}
+use Rattle.std.specs.Prelude.{codes, get_or, Option, Some, None, is_some, unwrap_or}
+use Rattle.std.specs.List.{filter_map, last_or}
 use Rattle.indexmap.specs.IndexSet.{insert_all}
 use Rattle.nll_problem.specs.Building.{same_pair}
 use Rattle.nll_format.specs.Names.{number_of}
@@ -16,10 +16,6 @@ use Rattle.nll_mir_grammar.specs.MirForms.{WrittenParameter, region_parameter, t
 use Rattle.nll_mir_grammar.specs.MirForms.{Form, universal, outlives, further, assert_line}
 use Rattle.nll_mir_grammar.specs.MirForms.{struct_line, variable, blocks, block, at_point, end}
 use Rattle.nll_resolve.specs.Naming.{Scope, meant, all_meant}
-use Rattle.nll_mir_text.specs.declared.groups.Group.{Group}
-use Rattle.nll_mir_text.specs.declared.groups.Group.TheVariants.{Header, Universals, Outlives}
-use Rattle.nll_mir_text.specs.declared.groups.Group.TheVariants.{Regions, Asserts, Structs}
-use Rattle.nll_mir_text.specs.declared.groups.Group.TheVariants.{Variables, BlockCount, Blocks, End}
 
 -- ---- the parameters of a struct
 
@@ -33,63 +29,25 @@ abbrev pub type_in : WrittenParameter → Option (Name × Parameter)
 type_in (region_parameter a p) = None
 type_in (type_parameter n p) = Some (n, p)
 
--- the parameter is one of a region
-abbrev pub is_region : WrittenParameter → Bool
-is_region (region_parameter a p) = true
-is_region (type_parameter n p) = false
-
--- the region parameters, and the type parameters
-abbrev pub regions_in : List WrittenParameter → List (Name × Parameter)
-regions_in ps = filter_map region_in ps
-
-abbrev pub types_in : List WrittenParameter → List (Name × Parameter)
-types_in ps = filter_map type_in ps
-
 -- ---- the groups of lines
 
--- the group of a line of the form
-abbrev pub group : Form → Group
-group (universal a) = Universals
-group (outlives a b) = Outlives
-group (further x) = Regions
-group (assert_line a b) = Asserts
-group (struct_line n ps has_drop fields) = Structs
-group (variable x t) = Variables
-group (blocks n) = BlockCount
-group (block n) = Blocks
-group (at_point i) = Blocks
-group end = End
+-- the group of a line of the form: the groups stand in the order of their numbers
+abbrev pub group : Form → ℕ
+group (universal a) = 1
+group (outlives a b) = 2
+group (further x) = 3
+group (assert_line a b) = 4
+group (struct_line n ps has_drop fields) = 5
+group (variable x t) = 6
+group (blocks n) = 7
+group (block n) = 8
+group (at_point i) = 8
+group end = 9
 
--- the groups in the order in which they stand, that of the header in front
-abbrev pub groups : List Group
-groups =
-    Header ∷ Universals ∷ Outlives ∷ Regions ∷ Asserts ∷ Structs ∷ Variables ∷ BlockCount
-    ∷ Blocks ∷ End ∷ []
-
--- the groups are one
-abbrev pub same_group : Group → Group → Bool
-same_group Header Header = true
-same_group Universals Universals = true
-same_group Outlives Outlives = true
-same_group Regions Regions = true
-same_group Asserts Asserts = true
-same_group Structs Structs = true
-same_group Variables Variables = true
-same_group BlockCount BlockCount = true
-same_group Blocks Blocks = true
-same_group End End = true
-same_group _ _ = false
-
--- the first group stands before the second one
-abbrev pub is_before : Group → Group → Bool
-is_before g h =
-    nat_lt (position_or_len (same_group g) groups) (position_or_len (same_group h) groups)
-
--- the last group, in this order, that has a line; the header has one
-abbrev pub last_group : List Form → Group
-last_group [] = Header
-last_group (f ∷ forms) =
-    if is_before (last_group forms) (group f) then group f else last_group forms
+-- the last group, in this order, that has a line; 0 where none has
+abbrev pub reached : List Form → ℕ
+reached [] = 0
+reached (f ∷ forms) = max (group f) (reached forms)
 
 -- ---- what one line says
 
@@ -159,22 +117,22 @@ scope_said forms = record {
   regions = names_said forms;
   parameters = [];
   structs = map (λ d. d.0) (filter_map struct_in forms);
-  kinds = map (λ d. map is_region d.1) (filter_map struct_in forms);
+  kinds = map (λ d. map (λ p. is_some (region_in p)) d.1) (filter_map struct_in forms);
 }
 
 -- what names mean in the fields of a struct with these parameters: 'static, the struct's own
 -- parameters, and the structs that are declared
 abbrev pub scope_inside : Scope → List WrittenParameter → Scope
 scope_inside s ps = record s {
-  regions = codes "static" ∷ map (λ p. p.0) (regions_in ps);
-  parameters = map (λ p. p.0) (types_in ps);
+  regions = codes "static" ∷ map (λ p. p.0) (filter_map region_in ps);
+  parameters = map (λ p. p.0) (filter_map type_in ps);
 }
 
 -- the struct that a line declares, where names mean this in its fields
 abbrev pub struct_meant : Scope → List WrittenParameter → Bool → WrittenTypes → Struct
 struct_meant s ps has_drop fields = record {
-  regions = map (λ p. p.1) (regions_in ps);
-  types = map (λ p. p.1) (types_in ps);
+  regions = map (λ p. p.1) (filter_map region_in ps);
+  types = map (λ p. p.1) (filter_map type_in ps);
   has_drop = has_drop;
   fields = all_meant s fields;
 }
@@ -206,19 +164,17 @@ start_in _ = None
 -- What lines say together.
 pub record Said : Type 0 where
   -- the last group that has a line
-  pub reached : Group
-  -- the regions in order, 'static first, and how many of them are universal
-  pub names : List Name
+  pub reached : ℕ
+  -- what names mean in the types of variables and of statements
+  pub scope : Scope
+  -- how many of the regions are universal, 'static among them
   pub universals : ℕ
   -- of each pair of regions the first is known to outlive the second; each pair once
   pub outlives : List (ℕ × ℕ)
   -- of each pair of regions the first is to hold, at all points, what the second holds; each pair
   -- once
   pub asserts : List (ℕ × ℕ)
-  -- the structs' names, for each whether each of its parameters is one of a region, and what each
-  -- declares
-  pub struct_names : List Name
-  pub kinds : List (List Bool)
+  -- what the structs declare
   pub structs : List Struct
   -- the types of the variables
   pub variables : List TypeTree
@@ -233,16 +189,14 @@ pub record Said : Type 0 where
 -- what lines of these forms say
 abbrev pub said : List Form → Said
 said forms = record {
-  reached = last_group forms;
-  names = names_said forms;
+  reached = reached forms;
+  scope = scope_said forms;
   universals = length (universals_said forms);
   outlives =
       insert_all same_pair []
       (map (numbers_of (universals_said forms)) (filter_map outlives_in forms));
   asserts =
       insert_all same_pair [] (map (numbers_of (names_said forms)) (filter_map assert_in forms));
-  struct_names = (scope_said forms).structs;
-  kinds = (scope_said forms).kinds;
   structs = filter_map declared_in (with_fronts forms);
   variables = map (meant (scope_said forms)) (filter_map variable_in forms);
   blocks = get_or (filter_map blocks_in forms) 0 0;
@@ -250,16 +204,3 @@ said forms = record {
   points = map (meant_in (scope_said forms)) (filter_map statement_in forms);
   owes = unwrap_or (last_or None (filter_map owes_in forms)) false;
 }
-
--- what names mean in the types of variables and of statements, after lines that say s
-abbrev pub body_scope : Said → Scope
-body_scope s =
-    record { regions = s.names; parameters = []; structs = s.struct_names; kinds = s.kinds }
-
--- and in the fields of a struct with these parameters
-abbrev pub field_scope : Said → List WrittenParameter → Scope
-field_scope s ps = scope_inside (body_scope s) ps
-
--- a statement as it is meant after lines that say s
-abbrev pub statement_meant : Said → Statement Name WrittenType → Statement ℕ TypeTree
-statement_meant s i = meant_in (body_scope s) i

@@ -33,7 +33,7 @@ mir version = record {
 -- the body that lines say
 abbrev pub body_said : Said → BodyText
 body_said s = record {
-  names = s.names;
+  names = s.scope.regions;
   universals = s.universals;
   outlives = s.outlives;
   asserts = s.asserts;

@@ -30,9 +30,10 @@ use Rattle.nll_mir_text.specs.declared.tables.StructNames.{StructNames}
 use Rattle.nll_mir_text.specs.declared.tables.Variables.{Variables}
 use Rattle.nll_mir_text.specs.declared.judged_type.JudgedType.{JudgedType}
 use Rattle.nll_mir_text.specs.declared.shapes.ShapedTypes.{ShapedTypes}
-use Rattle.nll_mir_text.specs.declared.groups.Group.TheVariants.{Header}
 pub use Rattle.nll_mir_text.specs.MirSaid.{meant_in}
-use Rattle.nll_mir_text.specs.MirSaid.{Said, statement_meant}
+use Rattle.nll_mir_text.specs.MirSaid.{Said}
+use Rattle.nll_mir_text.specs.MirSteps.{statement_meant}
+use Rattle.nll_mir_text.specs.MirReading.{scope_in}
 use Rattle.nll_mir_text.specs.MirFaults.{knows, shapes_fit}
 
 -- a statement of the code as its line has it
@@ -97,13 +98,11 @@ is_bound names w = is_among names w.0.now && is_among names w.1.now
 -- what lines say of names, structs and variables, as these tables have it
 abbrev pub declared_by : Regions → StructNames → Variables → Said
 declared_by regions structs variables = record {
-  reached = Header;
-  names = regions.names;
+  reached = 0;
+  scope = scope_in regions structs;
   universals = regions.universals;
   outlives = regions.outlives.keys;
   asserts = regions.asserts.keys;
-  struct_names = structs.names;
-  kinds = map (λ ks. ks.items) structs.kinds.items;
   structs = structs_of variables.table.structs;
   variables = map tree variables.types.items;
   blocks = 0;

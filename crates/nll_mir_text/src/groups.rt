@@ -1,8 +1,8 @@
 //! The groups of lines, in the order in which they stand.
 
-ghost use Rattle.std.specs.Prelude.{◌≡◌};
+ghost use Rattle.std.specs.Prelude.{◌≡◌, ◌+◌, ◌≤◌, ◌==◌, nat_lt};
 ghost use Rattle.nll_mir_grammar.specs.Lines.{form_of};
-ghost use Rattle.nll_mir_text.specs.MirSaid as specs;
+ghost use Rattle.nll_mir_text.specs.MirSaid.{group};
 ghost use Rattle.nll_mir_text.specs.MirSteps as steps;
 
 use nll_mir_grammar::Line;
@@ -23,9 +23,10 @@ pub enum Group {
 }
 
 impl Group {
-    // How many groups stand before it.
+    // Its number in the order of groups.
     fn rank(self) -> u8
-        ensures { result ≡ steps.rank self }
+        ensures rank { result ≡ steps.rank self }
+        ensures few { result ≤ 9 }
     {
         match self {
             Group::Header => 0,
@@ -43,15 +44,22 @@ impl Group {
 
     /// Whether it stands before another group.
     pub fn is_before(self, other: Group) -> bool
-        ensures { result ≡ specs.is_before self other }
+        ensures { result ≡ nat_lt (steps.rank self) (steps.rank other) }
     {
         self.rank() < other.rank()
+    }
+
+    /// Whether it stands right before another group.
+    pub fn precedes(self, other: Group) -> bool
+        ensures { result ≡ (steps.rank self + 1 == steps.rank other) }
+    {
+        self.rank() + 1 == other.rank()
     }
 }
 
 /// The group of a line.
 pub fn group_of(line: &Line<'_>) -> Group
-    ensures { result ≡ specs.group (form_of line.now) }
+    ensures { steps.rank result ≡ group (form_of line.now) }
 {
     match line {
         Line::Universal(_) => Group::Universals,

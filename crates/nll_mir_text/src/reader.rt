@@ -6,6 +6,7 @@ ghost use Rattle.nll_types.specs.Declarations.{structs_of};
 ghost use Rattle.nll_mir_grammar.specs.Lines.{form_of};
 ghost use Rattle.nll_mir_text.specs.MirFaults as faults;
 ghost use Rattle.nll_mir_text.specs.MirFaults.{is_in_order};
+ghost use Rattle.nll_mir_text.specs.MirSteps as steps;
 ghost use Rattle.nll_mir_text.specs.MirReading.{said_by, HoldsForms, IsReady, HasTexts};
 ghost use Rattle.nll_mir_text.specs.MirReading.{HasFewParameters, IsDue, IsTaken, IsRefused};
 ghost use Rattle.nll_body.specs.Parts.{body_of};
@@ -98,7 +99,7 @@ impl Reader {
 
     // Whether a line of a group or of a later one is there.
     fn has_reached(&self, group: Group) -> bool
-        ensures { result ≡ faults.has_reached (said_by self.now) group }
+        ensures { result ≡ steps.has_reached (said_by self.now) group }
     {
         !self.reached.is_before(group)
     }
@@ -115,9 +116,7 @@ impl Reader {
         ensures { result ≡ is_in_order (said_by self.now) (form_of line.now) }
     {
         match line {
-            Line::Blocks(_) => {
-                self.has_reached(Group::Variables) & !self.has_reached(Group::BlockCount)
-            }
+            Line::Blocks(_) => self.reached.precedes(Group::BlockCount),
             Line::Block(_) | Line::End => self.is_in_body() & !self.points.owes,
             Line::At(_) => self.is_in_body() & self.points.owes,
             _ => !group_of(line).is_before(self.reached),

@@ -1,3 +1,4 @@
+pub mod NameLaws
 pub mod MeantLemmas
 pub mod PushLemmas
 pub mod ResolvedLemmas

@@ -15,7 +15,8 @@ use Rattle.nll_type_grammar.specs.TypeTexts.{arguments_at, types_among}
 use Rattle.nll_type_grammar.specs.declared.type_text.TypeNode.{TypeNode}
 use Rattle.nll_type_grammar.specs.declared.type_text.Argument.{Argument}
 use Rattle.nll_type_grammar.specs.declared.type_text.Argument.TheVariants as arguments
-use Rattle.nll_resolve.specs.Naming.{Scope, is_among, meant, all_meant, regions_meant, types_meant, are_known, have_arguments, arguments_are_known, arguments_have_arguments, kinds_of, same_kinds}
+use Rattle.nll_resolve.specs.Naming.{Scope, is_among, meant, all_meant, regions_meant, types_meant, kinds_of, same_kinds}
+use Rattle.nll_resolve.specs.Telling.{are_known, have_arguments, arguments_are_known, arguments_have_arguments}
 use Rattle.nll_resolve.specs.Resolution as resolution
 use Rattle.nll_resolve.specs.Resolution.{tree_over, trees_from, resolved}
 use Rattle.nll_resolve.specs.Telling.{AreTold, IsOfType, told_at, is_region, region_numbers}

@@ -50,25 +50,29 @@ abbrev mutual
   types_meant s (region_argument r args) = types_meant s args
   types_meant s (type_argument t args) = more (meant s t) (types_meant s args)
 
--- Each name in the type is known: a region's, a type parameter's or a struct's.
+-- Whether each region's name in the type passes one test, and each other name, with the arguments
+-- behind it, another test.
 abbrev mutual
-  pub is_known : Scope → WrittenType → Bool
-  is_known s written.int = true
-  is_known s (written.reference r m t) = is_among s.regions r && is_known s t
-  is_known s (written.tuple ts) = are_known s ts
-  is_known s (written.named n args) =
-      (is_among s.parameters n || is_among s.structs n) && arguments_are_known s args
-  is_known s (written.function ts t) = are_known s ts && is_known s t
+  pub each_name : (Name → Bool) → (Name → Arguments → Bool) → WrittenType → Bool
+  each_name p q written.int = true
+  each_name p q (written.reference r m t) = p r && each_name p q t
+  each_name p q (written.tuple ts) = each_name_in p q ts
+  each_name p q (written.named n args) = q n args && each_name_among p q args
+  each_name p q (written.function ts t) = each_name_in p q ts && each_name p q t
 
-  pub are_known : Scope → WrittenTypes → Bool
-  are_known s written.none = true
-  are_known s (written.more t ts) = is_known s t && are_known s ts
+  pub each_name_in : (Name → Bool) → (Name → Arguments → Bool) → WrittenTypes → Bool
+  each_name_in p q written.none = true
+  each_name_in p q (written.more t ts) = each_name p q t && each_name_in p q ts
 
-  pub arguments_are_known : Scope → Arguments → Bool
-  arguments_are_known s no_argument = true
-  arguments_are_known s (region_argument r args) =
-      is_among s.regions r && arguments_are_known s args
-  arguments_are_known s (type_argument t args) = is_known s t && arguments_are_known s args
+  pub each_name_among : (Name → Bool) → (Name → Arguments → Bool) → Arguments → Bool
+  each_name_among p q no_argument = true
+  each_name_among p q (region_argument r args) = p r && each_name_among p q args
+  each_name_among p q (type_argument t args) = each_name p q t && each_name_among p q args
+
+-- each name in the type is known: a region's, a type parameter's or a struct's
+abbrev pub is_known : Scope → WrittenType → Bool
+is_known s t =
+    each_name (is_among s.regions) (λ n args. is_among s.parameters n || is_among s.structs n) t
 
 -- for each argument whether it is a region
 abbrev pub kinds_of : Arguments → List Bool
@@ -89,22 +93,6 @@ same_kinds (true ∷ ks) (true ∷ ls) = same_kinds ks ls
 same_kinds (false ∷ ks) (false ∷ ls) = same_kinds ks ls
 same_kinds _ _ = false
 
--- Each name in the type has arguments of the kinds that it takes.
-abbrev mutual
-  pub has_arguments : Scope → WrittenType → Bool
-  has_arguments s written.int = true
-  has_arguments s (written.reference r m t) = has_arguments s t
-  has_arguments s (written.tuple ts) = have_arguments s ts
-  has_arguments s (written.named n args) =
-      same_kinds (kinds_of args) (kinds_taken s n) && arguments_have_arguments s args
-  has_arguments s (written.function ts t) = have_arguments s ts && has_arguments s t
-
-  pub have_arguments : Scope → WrittenTypes → Bool
-  have_arguments s written.none = true
-  have_arguments s (written.more t ts) = has_arguments s t && have_arguments s ts
-
-  pub arguments_have_arguments : Scope → Arguments → Bool
-  arguments_have_arguments s no_argument = true
-  arguments_have_arguments s (region_argument r args) = arguments_have_arguments s args
-  arguments_have_arguments s (type_argument t args) =
-      has_arguments s t && arguments_have_arguments s args
+-- each name in the type has arguments of the kinds that it takes
+abbrev pub has_arguments : Scope → WrittenType → Bool
+has_arguments s t = each_name (λ r. true) (λ n args. same_kinds (kinds_of args) (kinds_taken s n)) t

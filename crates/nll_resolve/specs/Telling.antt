@@ -1,25 +1,45 @@
 -- What is told of types node by node: whether the names in each are known, and whether they have
 -- the arguments that they take; and the shapes of types.
 -- Source: project's choice. Only private contracts cite this file.
-use Rattle.std.specs.Prelude.{◌≡◌, ℕ, ◌<◌, Bool, true, false, List, [], ◌∷◌, ◌++◌, length}
+use Rattle.std.specs.Prelude.{◌≡◌, ℕ, ◌<◌, Bool, true, false, ◌||◌, List, [], ◌∷◌, ◌++◌, length}
 use Rattle.std.specs.Prelude.{All, map, slice_index, slice_index_or}
 use Rattle.nll_format.specs.Names.{number_of}
 use Rattle.nll_types.specs.Shapes.{shape_of}
 use Rattle.nll_types.specs.Table.{AreBelow, shape_in}
 use Rattle.nll_types.specs.Types.{TypeTree}
 use Rattle.nll_types.specs.declared.node.Node.{Node}
-use Rattle.nll_type_grammar.specs.WrittenTypes.{Name, WrittenType}
+use Rattle.nll_type_grammar.specs.WrittenTypes.{Name, WrittenType, WrittenTypes, Arguments, tuple}
 use Rattle.nll_type_grammar.specs.TypeTexts.{at, type_over, types_from}
 use Rattle.nll_type_grammar.specs.TypeTexts as texts
 use Rattle.nll_type_grammar.specs.declared.type_text.TypeNode.{TypeNode}
 use Rattle.nll_type_grammar.specs.declared.type_text.Argument.{Argument}
 use Rattle.nll_type_grammar.specs.declared.type_text.Argument.TheVariants as arguments
 use Rattle.nll_resolve.specs.Naming.{Scope, is_among, is_known, has_arguments, meant}
+use Rattle.nll_resolve.specs.Naming.{each_name_among}
+use Rattle.nll_resolve.specs.Naming.{kinds_of, kinds_taken, same_kinds}
 use Rattle.nll_resolve.specs.Resolution as resolution
 use Rattle.nll_resolve.specs.Resolution.{parts_of, tree_over, trees_from}
 use Rattle.nll_resolve.specs.declared.resolved_type.ResolvedNode.{ResolvedNode}
 use Rattle.nll_resolve.specs.declared.resolved_type.ResolvedNode.TheVariants as nodes
 use Rattle.nll_resolve.specs.declared.told.Told.{Told}
+
+-- each name in the types is known
+abbrev pub are_known : Scope → WrittenTypes → Bool
+are_known s ts = is_known s (tuple ts)
+
+-- each name in the types has arguments of the kinds that it takes
+abbrev pub have_arguments : Scope → WrittenTypes → Bool
+have_arguments s ts = has_arguments s (tuple ts)
+
+-- the same of each name among arguments
+abbrev pub arguments_are_known : Scope → Arguments → Bool
+arguments_are_known s args =
+    each_name_among (is_among s.regions)
+    (λ n args. is_among s.parameters n || is_among s.structs n) args
+
+abbrev pub arguments_have_arguments : Scope → Arguments → Bool
+arguments_have_arguments s args =
+    each_name_among (λ r. true) (λ n args. same_kinds (kinds_of args) (kinds_taken s n)) args
 
 -- what is told of the type of a number
 abbrev pub told_at : List Told → ℕ → Told

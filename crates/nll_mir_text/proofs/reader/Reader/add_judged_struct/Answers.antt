@@ -4,11 +4,12 @@ use Rattle.nll_type_grammar.specs.TypeTexts.{written}
 use Rattle.nll_mir_grammar.specs.Lines.{parameter_of}
 use Rattle.nll_mir_grammar.specs.Tuples.{parts}
 use Rattle.std.proofs.lemmas.List.{length-map}
-use Rattle.nll_resolve.specs.Naming.{Scope, are_known, have_arguments, all_meant}
+use Rattle.nll_resolve.specs.Naming.{Scope, all_meant}
+use Rattle.nll_resolve.specs.Telling.{are_known, have_arguments}
 use Rattle.nll_type_check.specs.Typing.{are_small}
 use Rattle.nll_types.specs.Declarations as kept
 use Rattle.nll_mir_text.specs.MirFaults.{redeclares}
-use Rattle.nll_mir_text.specs.MirSaid.{field_scope}
+use Rattle.nll_mir_text.specs.MirSaid.{scope_inside}
 use Rattle.nll_mir_text.specs.Declaring.{AreJudged, AreOwn, own_scope}
 use Rattle.nll_mir_text.specs.declared.fields.JudgedFields.{JudgedFields}
 use Rattle.nll_mir_text.specs.declared.own_names.OwnNames.{OwnNames}
@@ -32,24 +33,26 @@ returns-then-redeclares-clause-refused c =
 
 -- what is known of a struct line whose names are known and declare none again
 record IsNew (r : Reader) (own : OwnNames) (text : StructText) (judged : JudgedFields) : Type 0 where
-  known : are_known (field_scope (said_by r) (map parameter_of text.parameters.items)) (parts (written text.fields))
-      ≡ true
-  once : redeclares (said_by r) text.name.now (map parameter_of text.parameters.items) ≡ false
-  fits : judged.fits ≡ have_arguments (field_scope (said_by r) (map parameter_of text.parameters.items))
+  known : are_known (scope_inside (said_by r).scope (map parameter_of text.parameters.items))
+      (parts (written text.fields)) ≡ true
+  once : redeclares (said_by r).scope text.name.now (map parameter_of text.parameters.items) ≡ false
+  fits : judged.fits ≡ have_arguments (scope_inside (said_by r).scope (map parameter_of text.parameters.items))
       (parts (written text.fields))
-  small : judged.small ≡ are_small (all_meant (field_scope (said_by r) (map parameter_of text.parameters.items))
+  small : judged.small ≡ are_small (all_meant (scope_inside (said_by r).scope (map parameter_of text.parameters.items))
       (parts (written text.fields)))
 
 is_new : (r : Reader) (own : OwnNames) (text : StructText) (judged : JudgedFields)
     → AreOwn (map parameter_of text.parameters.items) own
     → AreJudged (own_scope own r.structs) (parts (written text.fields)) judged
-    → redeclares (said_by r) text.name.now (map parameter_of text.parameters.items) ≡ false → IsNew r own text judged
+    → redeclares (said_by r).scope text.name.now (map parameter_of text.parameters.items) ≡ false
+    → IsNew r own text judged
 is_new r own text judged h j once =
     let s = said_by r in
     let ps = map parameter_of text.parameters.items in
     let fields = parts (written text.fields) in
     let each = once_each s text.name.now ps once in
-    let same : own_scope own r.structs ≡ field_scope s ps = own_scope_is s ps own r.structs h each.0 each.1 refl refl in
+    let same : own_scope own r.structs ≡ scope_inside s.scope ps =
+    own_scope_is s ps own r.structs h each.0 each.1 refl refl in
     record {
       known = sym (own_known s ps own r.structs fields h refl) ∙ j.known;
       once = once;

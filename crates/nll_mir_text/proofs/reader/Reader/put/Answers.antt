@@ -3,7 +3,7 @@ use Rattle.std.proofs.lemmas.List.{length-append, map_push}
 use Rattle.nll_types.specs.Types.{TypeTree}
 use Rattle.nll_statements.specs.Statements.{Statement}
 use Rattle.nll_statements.specs.Edges.{edge_count}
-use Rattle.nll_mir_text.specs.MirSaid.{statement_meant}
+use Rattle.nll_mir_text.specs.MirSteps.{statement_meant}
 use Rattle.nll_mir_text.specs.MirReading.{said_by, statement_kept}
 use Rattle.nll_mir_text.proofs.PointLemmas.{point_said, edges_more}
 use Rattle.nll_mir_text.proofs.reader.Reader.put.Goals as goal

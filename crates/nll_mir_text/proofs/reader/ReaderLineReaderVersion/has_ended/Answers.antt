@@ -1,6 +1,6 @@
 use Rattle.std.proofs.Common.{ap, sym, ◌∙◌}
 use Rattle.nll_mir_text.specs.MirSaid.{Said}
-use Rattle.nll_mir_text.specs.MirFaults.{has_reached}
+use Rattle.nll_mir_text.specs.MirSteps.{has_reached}
 use Rattle.nll_mir_text.specs.declared.groups.Group.TheVariants as groups
 use Rattle.nll_mir_text.proofs.SaidLemmas.{ended, end_reached}
 use Rattle.nll_mir_text.proofs.reader.ReaderLineReaderVersion.has_ended.Goals as goal
