@@ -29,11 +29,19 @@ pub fn after_sign(tokens: &[Token<'_>], at: usize, sign: u8) -> Option<usize>
     }
 }
 
-// Whether the words are the same.
-fn is_same(word: &[u8], other: &[u8]) -> bool
+/// Whether the words are the same. They are short, so one byte after another is compared.
+pub fn is_same(word: &[u8], other: &[u8]) -> bool
     ensures { IsTrue result ↔ (word.now ≡ other.now) }
 {
-    word == other
+    if word.len() != other.len() {
+        return false;
+    }
+    for place in 0..word.len() {
+        if word[place] != other[place] {
+            return false;
+        }
+    }
+    true
 }
 
 /// What stands behind the word, where it comes next.
