@@ -6,6 +6,7 @@ ghost use Rattle.std.specs.Hash as fed;
 ghost use Rattle.std.specs.Str.{bytes_eq};
 
 use indexmap::Equivalent;
+use nll_text::same_bytes;
 use smallvec::SmallVec;
 use std::hash::Hash;
 
@@ -25,6 +26,6 @@ impl<'a> Equivalent<Name> for Sought<'a> {
     ghost respects_eq = { λ q x y. nat_list_eq_equiv.congr q.0.now x.items y.items };
 
     fn equivalent(&self, key: &Name) -> bool {
-        self.0 == key.as_slice()
+        same_bytes(self.0, key.as_slice())
     }
 }

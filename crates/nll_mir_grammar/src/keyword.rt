@@ -4,7 +4,7 @@ ghost use Rattle.std.specs.Prelude.{◌≡◌, ◌∷◌, MatchOption, drop, tru
 ghost use Rattle.nll_mir_grammar.specs.Kinds.{keyword_name, IsNoLineKeyword, IsNoPointKeyword};
 ghost use Rattle.nll_mir_grammar.specs.declared.keyword.Keyword.{Keyword as keyword};
 
-use crate::words::is_same;
+use nll_text::same_bytes;
 
 /// The first word of a line that begins with no place.
 #[derive(Clone, Copy)]
@@ -33,31 +33,31 @@ pub enum Keyword {
 fn line_keyword(word: &[u8]) -> Option<Keyword>
     ensures { MatchOption result (IsNoLineKeyword word.now) (λ k. word.now ≡ keyword_name k) }
 {
-    if is_same(word, b"let") {
+    if same_bytes(word, b"let") {
         return Some(Keyword::Let);
     }
-    if is_same(word, b"block") {
+    if same_bytes(word, b"block") {
         return Some(Keyword::Block);
     }
-    if is_same(word, b"struct") {
+    if same_bytes(word, b"struct") {
         return Some(Keyword::Struct);
     }
-    if is_same(word, b"outlives") {
+    if same_bytes(word, b"outlives") {
         return Some(Keyword::Outlives);
     }
-    if is_same(word, b"region") {
+    if same_bytes(word, b"region") {
         return Some(Keyword::Region);
     }
-    if is_same(word, b"universal") {
+    if same_bytes(word, b"universal") {
         return Some(Keyword::Universal);
     }
-    if is_same(word, b"assert") {
+    if same_bytes(word, b"assert") {
         return Some(Keyword::Assert);
     }
-    if is_same(word, b"blocks") {
+    if same_bytes(word, b"blocks") {
         return Some(Keyword::Blocks);
     }
-    if is_same(word, b"end") {
+    if same_bytes(word, b"end") {
         return Some(Keyword::End);
     }
     None
@@ -67,31 +67,31 @@ fn line_keyword(word: &[u8]) -> Option<Keyword>
 fn point_keyword(word: &[u8]) -> Option<Keyword>
     ensures { MatchOption result (IsNoPointKeyword word.now) (λ k. word.now ≡ keyword_name k) }
 {
-    if is_same(word, b"live") {
+    if same_bytes(word, b"live") {
         return Some(Keyword::Live);
     }
-    if is_same(word, b"dead") {
+    if same_bytes(word, b"dead") {
         return Some(Keyword::Dead);
     }
-    if is_same(word, b"goto") {
+    if same_bytes(word, b"goto") {
         return Some(Keyword::Goto);
     }
-    if is_same(word, b"drop") {
+    if same_bytes(word, b"drop") {
         return Some(Keyword::Drop);
     }
-    if is_same(word, b"switch") {
+    if same_bytes(word, b"switch") {
         return Some(Keyword::Switch);
     }
-    if is_same(word, b"read") {
+    if same_bytes(word, b"read") {
         return Some(Keyword::Read);
     }
-    if is_same(word, b"nop") {
+    if same_bytes(word, b"nop") {
         return Some(Keyword::Nop);
     }
-    if is_same(word, b"return") {
+    if same_bytes(word, b"return") {
         return Some(Keyword::Return);
     }
-    if is_same(word, b"stop") {
+    if same_bytes(word, b"stop") {
         return Some(Keyword::Stop);
     }
     None
