@@ -6,7 +6,6 @@ ghost use Rattle.std.specs.Hash as fed;
 ghost use Rattle.std.specs.Str.{bytes_eq};
 
 use indexmap::Equivalent;
-use nll_text::same_bytes;
 use smallvec::SmallVec;
 use std::hash::Hash;
 
@@ -26,6 +25,6 @@ impl<'a> Equivalent<Name> for Sought<'a> {
     ghost respects_eq = { λ q x y. nat_list_eq_equiv.congr q.0.now x.items y.items };
 
     fn equivalent(&self, key: &Name) -> bool {
-        same_bytes(self.0, key.as_slice())
+        self.0 == key.as_slice()
     }
 }
