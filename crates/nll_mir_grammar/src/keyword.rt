@@ -4,6 +4,8 @@ ghost use Rattle.std.specs.Prelude.{◌≡◌, ◌∷◌, MatchOption, drop, tru
 ghost use Rattle.nll_mir_grammar.specs.Kinds.{keyword_name, IsNoLineKeyword, IsNoPointKeyword};
 ghost use Rattle.nll_mir_grammar.specs.declared.keyword.Keyword.{Keyword as keyword};
 
+use nll_text::same_bytes;
+
 /// The first word of a line that begins with no place.
 #[derive(Clone, Copy)]
 pub enum Keyword {
@@ -31,31 +33,31 @@ pub enum Keyword {
 fn line_keyword(word: &[u8]) -> Option<Keyword>
     ensures { MatchOption result (IsNoLineKeyword word.now) (λ k. word.now ≡ keyword_name k) }
 {
-    if word == b"let".as_slice() {
+    if same_bytes(word, b"let") {
         return Some(Keyword::Let);
     }
-    if word == b"block".as_slice() {
+    if same_bytes(word, b"block") {
         return Some(Keyword::Block);
     }
-    if word == b"struct".as_slice() {
+    if same_bytes(word, b"struct") {
         return Some(Keyword::Struct);
     }
-    if word == b"outlives".as_slice() {
+    if same_bytes(word, b"outlives") {
         return Some(Keyword::Outlives);
     }
-    if word == b"region".as_slice() {
+    if same_bytes(word, b"region") {
         return Some(Keyword::Region);
     }
-    if word == b"universal".as_slice() {
+    if same_bytes(word, b"universal") {
         return Some(Keyword::Universal);
     }
-    if word == b"assert".as_slice() {
+    if same_bytes(word, b"assert") {
         return Some(Keyword::Assert);
     }
-    if word == b"blocks".as_slice() {
+    if same_bytes(word, b"blocks") {
         return Some(Keyword::Blocks);
     }
-    if word == b"end".as_slice() {
+    if same_bytes(word, b"end") {
         return Some(Keyword::End);
     }
     None
@@ -65,31 +67,31 @@ fn line_keyword(word: &[u8]) -> Option<Keyword>
 fn point_keyword(word: &[u8]) -> Option<Keyword>
     ensures { MatchOption result (IsNoPointKeyword word.now) (λ k. word.now ≡ keyword_name k) }
 {
-    if word == b"live".as_slice() {
+    if same_bytes(word, b"live") {
         return Some(Keyword::Live);
     }
-    if word == b"dead".as_slice() {
+    if same_bytes(word, b"dead") {
         return Some(Keyword::Dead);
     }
-    if word == b"goto".as_slice() {
+    if same_bytes(word, b"goto") {
         return Some(Keyword::Goto);
     }
-    if word == b"drop".as_slice() {
+    if same_bytes(word, b"drop") {
         return Some(Keyword::Drop);
     }
-    if word == b"switch".as_slice() {
+    if same_bytes(word, b"switch") {
         return Some(Keyword::Switch);
     }
-    if word == b"read".as_slice() {
+    if same_bytes(word, b"read") {
         return Some(Keyword::Read);
     }
-    if word == b"nop".as_slice() {
+    if same_bytes(word, b"nop") {
         return Some(Keyword::Nop);
     }
-    if word == b"return".as_slice() {
+    if same_bytes(word, b"return") {
         return Some(Keyword::Return);
     }
-    if word == b"stop".as_slice() {
+    if same_bytes(word, b"stop") {
         return Some(Keyword::Stop);
     }
     None

@@ -1,12 +1,12 @@
 //! Single tokens: signs, words, names and numbers.
 
-ghost use Rattle.std.specs.Prelude.{◌≡◌, ◌<◌, ◌+◌, [], ◌∷◌, ◌↔◌, IsTrue, MatchOption, length};
+ghost use Rattle.std.specs.Prelude.{◌≡◌, ◌<◌, ◌+◌, [], ◌∷◌, MatchOption, length};
 ghost use Rattle.nll_text.specs.Tokens as lex;
 ghost use Rattle.nll_text.specs.Tokens.{view};
 ghost use Rattle.nll_mir_grammar.specs.Grammars.{Begins, HasNone, IsNotNext, from};
 ghost use Rattle.nll_mir_grammar.specs.Parts as parts;
 
-use nll_text::{Token, number_of};
+use nll_text::{Token, number_of, same_bytes};
 use nll_type_grammar::is_capital;
 
 /// The token at the index.
@@ -29,20 +29,13 @@ pub fn after_sign(tokens: &[Token<'_>], at: usize, sign: u8) -> Option<usize>
     }
 }
 
-// Whether the words are the same.
-fn is_same(word: &[u8], other: &[u8]) -> bool
-    ensures { IsTrue result ↔ (word.now ≡ other.now) }
-{
-    word == other
-}
-
 /// What stands behind the word, where it comes next.
 pub fn after_word(tokens: &[Token<'_>], at: usize, word: &[u8]) -> Option<usize>
     ensures { MatchOption result (IsNotNext (lex.word word.now) (from at tokens.now))
         (λ rest. from at tokens.now ≡ lex.word word.now ∷ from rest tokens.now) }
 {
     match token_at(tokens, at) {
-        Some(Token::Word(first)) if is_same(first, word) => Some(at + 1),
+        Some(Token::Word(first)) if same_bytes(first, word) => Some(at + 1),
         _ => None,
     }
 }

@@ -1,12 +1,10 @@
 -- The first token of a line, where it is what is looked for.
-use Rattle.std.proofs.Common.{◌≡◌, ℕ, ◌^◌, ◌<◌, Bool, true, false, not, eqb, List, [], ◌∷◌, ◌++◌, length, take, drop, refl, sym, ap, ◌∙◌, subst, arith}
+use Rattle.std.proofs.Common.{◌≡◌, ℕ, ◌^◌, ◌<◌, true, false, eqb, List, [], ◌∷◌, ◌++◌, length, take, drop, refl, sym, ap, ◌∙◌, subst, arith}
 use Rattle.std.specs.List.{IsSplitAt}
-use Rattle.std.specs.Str.{bytes_eq}
 use Rattle.std.specs.Fmt.{decimal}
 use Rattle.std.proofs.Math.Seq.{take-append_seam, drop-append_seam}
 use Rattle.std.proofs.lemmas.List.{length-append, take-append-drop}
 use Rattle.std.proofs.lemmas.Bool.{false≢true, eqb-true}
-use Rattle.std.proofs.lemmas.Slice.Eq.{bytes_eq-Decides}
 use Rattle.nll_text.specs.Lines.{is_blank}
 use Rattle.nll_text.specs.Number.{IsNumber}
 use Rattle.nll_text.specs.Tokens.{Token, word, region, spelling, is_word_byte, IsWord, IsGap, first_passes, IsMadeOf}
@@ -28,11 +26,9 @@ module _ (line gap core : List ℕ) (s : SplitsWhile is_blank line gap core) whe
   too_short w short = λ ts h. omega (arith, ap length (first_token (word w) ts h), length-append w h.1)
 
   pub another_word : (w front rest : List ℕ) → IsSplitAt core (length w) front rest
-      → true ≡ not (bytes_eq front w) → BeginsNotWith line (word w)
-  another_word w front rest split ne = λ ts h. (
-      let same : front ≡ w = split.1 ∙ ap (take (length w)) (first_token (word w) ts h) ∙ take-append_seam w h.1 in
-      let yes : bytes_eq front w ≡ true = (bytes_eq-Decides front w).1 same in
-      false≢true (sym (ne ∙ ap not yes)))
+      → (front ≡ w → ⊥) → BeginsNotWith line (word w)
+  another_word w front rest split differs = λ ts h. differs
+      (split.1 ∙ ap (take (length w)) (first_token (word w) ts h) ∙ take-append_seam w h.1)
 
   pub longer_word : (w front rest : List ℕ) → IsSplitAt core (length w) front rest
       → true ≡ first_passes is_word_byte rest → BeginsNotWith line (word w)
@@ -41,18 +37,11 @@ module _ (line gap core : List ℕ) (s : SplitsWhile is_blank line gap core) whe
       false≢true (sym (on ∙ ap (first_passes is_word_byte) same ∙ h.5)))
 
   pub this_word : (w front rest : List ℕ) → IsWord w → IsSplitAt core (length w) front rest
-      → false ≡ not (bytes_eq front w) → false ≡ first_passes is_word_byte rest
-      → BeginsWith line (word w) rest
-  this_word w front rest is split eq off =
-      let yes : bytes_eq front w ≡ true = not_false (bytes_eq front w) eq in
-      let same : front ≡ w = (bytes_eq-Decides front w).0 yes in
+      → front ≡ w → false ≡ first_passes is_word_byte rest → BeginsWith line (word w) rest
+  this_word w front rest is split same off =
       let joined : core ≡ w ++ rest = sym (take-append-drop (length w) core)
       ∙ rw (sym split.1, sym split.2, same) refl in
       token_after line gap core (word w) rest s (begins_with core (word w) rest joined is (sym off))
-    where
-      not_false : (b : Bool) → false ≡ not b → b ≡ true
-      not_false true e = refl
-      not_false false e = absurd (false≢true e)
 
   -- ---- a number
 

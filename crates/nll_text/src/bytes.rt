@@ -1,6 +1,6 @@
 //! The classes of bytes, and the longest front of one class.
 
-ghost use Rattle.std.specs.Prelude.{◌≡◌};
+ghost use Rattle.std.specs.Prelude.{◌≡◌, ◌↔◌, IsTrue};
 ghost use Rattle.std.specs.List.{prefix_len};
 ghost use Rattle.nll_text.specs.Lines as lines;
 ghost use Rattle.nll_text.specs.Tokens as tokens;
@@ -65,6 +65,22 @@ fn run_len(bytes: &[u8]) -> usize
     ensures { result ≡ prefix_len is_no_blank bytes.now }
 {
     bytes.iter().take_while(|byte| !is_blank(**byte)).count()
+}
+
+/// Whether these are the same bytes. It is for short ones, as words are: it compares one byte after
+/// another.
+pub fn same_bytes(bytes: &[u8], others: &[u8]) -> bool
+    ensures { IsTrue result ↔ (bytes.now ≡ others.now) }
+{
+    if bytes.len() != others.len() {
+        return false;
+    }
+    for place in 0..bytes.len() {
+        if bytes[place] != others[place] {
+            return false;
+        }
+    }
+    true
 }
 
 // The word bytes at the front, perhaps none, and the rest.

@@ -7,7 +7,7 @@ ghost use Rattle.nll_text.specs.Tokens as tokens;
 ghost use Rattle.nll_text.specs.Tokens.{IsGap, IsWord, first_passes};
 ghost use Rattle.nll_text.specs.Lexing.{BeginsWith, BeginsNotWith};
 
-use crate::bytes::{is_word_byte, split_gap, split_word};
+use crate::bytes::{is_word_byte, same_bytes, split_gap, split_word};
 use crate::number::digits_in_front;
 
 // Whether the first byte is one that words are made of.
@@ -28,7 +28,7 @@ pub fn after_word<'a>(line: &'a [u8], word: &[u8]) -> Option<&'a [u8]>
 {
     let (_gap, core) = split_gap(line);
     let (front, rest) = core.split_at_checked(word.len())?;
-    if front != word {
+    if !same_bytes(front, word) {
         return None;
     }
     if goes_on(rest) {

@@ -6,7 +6,7 @@ ghost use Rattle.nll_text.specs.Tokens.{views};
 ghost use Rattle.nll_type_grammar.specs.WrittenTypes as spec;
 ghost use Rattle.nll_type_grammar.specs.OpenTypes.{IsNoFront, BeginsWithin};
 
-use nll_text::Token;
+use nll_text::{Token, same_bytes};
 
 /// How a type begins.
 #[derive(Clone, Copy)]
@@ -73,7 +73,7 @@ fn is_word(tokens: &[Token<'_>], word: &[u8]) -> bool
         (rest : List lex.Token) → views tokens.now ≡ lex.word word.now ∷ rest → ⊥ }
 {
     match word_at(tokens) {
-        Some(name) => name == word,
+        Some(name) => same_bytes(name, word),
         None => false,
     }
 }
