@@ -68,7 +68,7 @@ impl<'q> State<'q> {
     {
         let mut values = Values::empty(alloc, problem)?;
         for place in 0..self.seats.len() {
-            enter_log(&mut values, self.seats[place].owner().log())?;
+            enter_log(alloc, &mut values, self.seats[place].owner().log())?;
         }
         Ok(values)
     }

@@ -28,7 +28,7 @@ pub fn values_of(alloc: Global, problem: &Problem, grown: &[Vec<Growth>]) -> Res
 {
     let mut values = Values::empty(alloc, problem)?;
     for log in grown {
-        enter_log(&mut values, log)?;
+        enter_log(alloc, &mut values, log)?;
     }
     Ok(values)
 }

@@ -1,19 +1,18 @@
 -- What was posted, after a step.
-use Rattle.std.proofs.Common.{◌≡◌, ◌≢◌, ℕ, zero, suc, ◌+◌, ◌<◌, ◌≤◌, false, List, [], ◌∷◌, ◌++◌, length, take, drop, slice_get, slice_set, slice_index_or, replicate, refl, sym, ap, ◌∙◌, subst, ⊎_elim, arith}
+use Rattle.std.proofs.Common.{◌≡◌, ◌≢◌, ℕ, zero, suc, ◌+◌, ◌<◌, ◌≤◌, false, List, [], ◌∷◌, ◌++◌, length, take, drop, min, slice_get, slice_set, slice_index_or, replicate, refl, sym, ap, ◌∙◌, subst, ⊎_elim, arith}
 use Rattle.std.specs.Prelude.{Option, Some, None, IfSome, IfNone}
 use Rattle.std.proofs.lemmas.Bool.{cases_eq}
 use Rattle.std.proofs.lemmas.Option.{slice_get_within}
-use Rattle.std.proofs.lemmas.List.{get_or-set_other, take-append-drop}
+use Rattle.std.proofs.lemmas.List.{get_or-set_same, get_or-set_other, take-append-drop}
 use Rattle.nll_problem.specs.Problem.{Problem}
 use Rattle.nll_cut.specs.Partition.{Cut}
 use Rattle.nll_mail.specs.declared.growth.Growth.{Growth}
 use Rattle.nll_owner.specs.Logs.{IsPrefix, log_of}
 use Rattle.nll_owner.specs.Owner.{Owner, IsSound, part_for, given_to, first_owner}
-use Rattle.nll_owner.proofs.PostingLemmas.{take_all}
-use Rattle.nll_worker.specs.Tallies.{IsCounted, HasGrown, due_of, given_of}
-use Rattle.nll_worker.specs.Turning.{HasPosted, HasGivenAll}
+use Rattle.nll_owner.proofs.PostingLemmas.{take_all, Posting}
+use Rattle.nll_worker.specs.Tallies.{IsCounted, HasGrown}
+use Rattle.nll_worker.specs.Turning.{HasPosted, HasGivenMore}
 use Rattle.nll_worker.specs.declared.tally.Tally.{Tally}
-use Rattle.nll_worker.proofs.SumLemmas.{sum_same}
 use Rattle.nll_worker.proofs.ListLemmas.{set_length}
 use Rattle.nll_worker.proofs.TallyLemmas.{part_grows, given_same, all_given}
 
@@ -103,23 +102,60 @@ pub posts_all : (o : Owner) (posts : List (List Growth)) (t : Tally) → IsSound
 posts_all o posts t sound p is none j l = p.front j l
     ∙ (ap (λ n. take n (part_for o j)) (all_given o t sound is none j l) ∙ take_all (part_for o j))
 
--- all of one part more was given out
-pub given_more : (old next : Owner) (to : ℕ) → HasGivenAll to old → next ≡ record old { given = next.given }
-    → ((j : ℕ) → j ≢ to → given_to next j ≡ given_to old j)
-    → given_to next to ≡ length (part_for old to) → HasGivenAll (to + 1) next
-given_more old next to was others other_given given j l =
-    let part_was : (k : ℕ) → part_for next k ≡ part_for old k = λ k. ap (λ (o : Owner). part_for o k) others in
-    ⊎_elim
-    (λ (here : j ≡ to). ap (given_to next) here
-    ∙ (given ∙ (ap length (sym (part_was to)) ∙ ap (λ k. length (part_for next k)) (sym here))))
-    (λ (other : j ≢ to). other_given j other ∙ (was j (below j to l other) ∙ ap length (sym (part_was j))))
-    (cases_eq j to)
-  where
-    below : (j to : ℕ) → j < to + 1 → j ≢ to → j < to
-    below j to l other = grind arith
+-- ---- how much was given out of a part
 
--- then nothing waits
-pub none_waits : (o : Owner) (waiting : ℕ) → HasGivenAll o.cut.owners o → given_of o + waiting ≡ due_of o → waiting ≡ 0
-none_waits o waiting all sum =
-    let same = sum_same o.cut.owners (λ j. given_to o j) (λ j. length (part_for o j)) all in
-    omega (arith, same, sum)
+pub one_more : (first now next : Owner) (to : ℕ) (sent : List Growth) → Posting first now to sent
+    → to < first.cut.owners → next ≡ record now { given = slice_set now.given to (given_to now to + 1) }
+    → given_to next to ≡ given_to now to + 1
+one_more first now next to sent p to_in gives =
+    ap (λ (o : Owner). given_to o to) gives ∙ get_or-set_same now.given to (given_to now to + 1) 0
+    (subst (λ n. to < n) (sym p.sound.receivers) (subst (λ (o : Owner). to < o.cut.owners) (sym p.others) to_in))
+
+-- as much as may be at once
+pub given_most : (old now : Owner) (to posted most : ℕ) (g : Growth) → now ≡ record old { given = now.given }
+    → given_to now to ≡ given_to old to + posted → posted ≤ most → most ≤ posted
+    → slice_get (part_for now to) (given_to now to) ≡ Some g
+    → given_to now to ≡ min (given_to old to + most) (length (part_for old to))
+given_most old now to posted most g others count few many next =
+    let same = ap (λ (o : Owner). length (part_for o to)) others in
+    let more = slice_get_within (part_for now to) (given_to now to) g next in
+    omega (arith, count, few, many, same, more)
+
+-- all that was left
+pub given_rest : (old now : Owner) (to posted most : ℕ) → now ≡ record old { given = now.given }
+    → given_to now to ≡ given_to old to + posted → posted ≤ most → given_to now to ≡ length (part_for now to)
+    → given_to now to ≡ min (given_to old to + most) (length (part_for old to))
+given_rest old now to posted most others count few all =
+    let same = ap (λ (o : Owner). length (part_for o to)) others in omega (arith, count, few, same, all)
+
+-- of one part more
+module _ (first old next : Owner) (to most : ℕ) (others : old ≡ record first { given = old.given })
+    (other_given : (j : ℕ) → j ≢ to → given_to next j ≡ given_to old j)
+    (rest : (j : ℕ) → to ≤ j → given_to old j ≡ given_to first j) where
+  pub given_behind : (j : ℕ) → to + 1 ≤ j → given_to next j ≡ given_to first j
+  given_behind j l = other_given j (differs j to l) ∙ rest j (omega (arith, l))
+    where
+      differs : (j to : ℕ) → to + 1 ≤ j → j ≢ to
+      differs j to l = grind arith
+
+  pub given_more : HasGivenMore most to first old
+      → given_to next to ≡ min (given_to old to + most) (length (part_for old to)) → HasGivenMore most (to + 1) first next
+  given_more was given j l = ⊎_elim
+      (λ (here : j ≡ to). subst (λ k. given_to next k ≡ min (given_to first k + most) (length (part_for first k)))
+      (sym here) last)
+      (λ (other : j ≢ to). other_given j other ∙ was j (below j to l other))
+      (cases_eq j to)
+    where
+      last : given_to next to ≡ min (given_to first to + most) (length (part_for first to))
+      last =
+          let same = ap (λ (o : Owner). length (part_for o to)) others in
+          let from = rest to (omega arith) in
+          omega (arith, given, same, from)
+
+      below : (j to : ℕ) → j < to + 1 → j ≢ to → j < to
+      below j to l other = grind arith
+
+-- where nothing waits, nothing more is to be given out
+pub none_more : (o : Owner) (t : Tally) (most : ℕ) → IsSound o → IsCounted o t → t.waiting ≡ 0
+    → HasGivenMore most o.cut.owners o o
+none_more o t most sound is none j l = let all = all_given o t sound is none j l in omega (arith, all)

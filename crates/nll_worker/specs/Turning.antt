@@ -1,6 +1,6 @@
 -- What a worker has between its steps. Private contracts alone cite this file.
 -- Source: project's choice.
-use Rattle.std.specs.Prelude.{◌≡◌, ◌^◌, ℕ, ◌+◌, ◌<◌, ◌≤◌, true, false, List, length, take, Contains}
+use Rattle.std.specs.Prelude.{◌≡◌, ◌^◌, ℕ, ◌+◌, ◌<◌, ◌≤◌, true, false, List, length, take, min, Contains}
 use Rattle.nll_mail.specs.declared.growth.Growth.{Growth}
 use Rattle.nll_owner.specs.Logs.{log_of}
 use Rattle.nll_owner.specs.Owner.{Owner, IsSound, IsDone, received_from, part_for, given_to}
@@ -16,9 +16,10 @@ pub record HasPosted (o : Owner) (posts : List (List Growth)) : Type 0 where
   pub count : length posts ≡ o.cut.owners
   pub front : (j : ℕ) → j < o.cut.owners → log_of posts j ≡ take (given_to o j) (part_for o j)
 
--- all of the first so many parts was given out
-abbrev pub HasGivenAll : ℕ → Owner → Type 0
-HasGivenAll owners o = (j : ℕ) → j < owners → given_to o j ≡ length (part_for o j)
+-- of each of the first so many parts so many growths more were given out, or all that were left
+abbrev pub HasGivenMore : ℕ → ℕ → Owner → Owner → Type 0
+HasGivenMore most owners old new =
+    (j : ℕ) → j < owners → given_to new j ≡ min (given_to old j + most) (length (part_for old j))
 
 -- The owner is loaded and has nothing left to do. It owes 1 for its load and for each growth of
 -- each part, posted or not.

@@ -1,41 +1,51 @@
-//! What a worker posts. A mailbox that is full is tried again later.
+//! What a worker posts: to each owner so much at once, at most. The rest, and what a full mailbox
+//! refuses, is tried again later.
 
-ghost use Rattle.std.specs.Prelude.{◌≡◌, ◌≢◌, ◌<◌, ◌≤◌, ℕ, List, length, map, take, slice_set};
-ghost use Rattle.std.specs.Prelude.{OnOk, false, vec_len};
+ghost use Rattle.std.specs.Prelude.{◌≡◌, ◌≢◌, ◌+◌, ◌<◌, ◌≤◌, ℕ, List, length, map, take, min};
+ghost use Rattle.std.specs.Prelude.{OnOk, false, slice_set, vec_len};
 ghost use Rattle.nll_problem.specs.Limits.{most_owners};
 ghost use Rattle.nll_mail.specs.declared.growth.Growth.{Growth};
 ghost use Rattle.nll_owner.specs.Logs.{log_of};
 ghost use Rattle.nll_owner.specs.Owner.{IsSound, part_for, given_to};
 ghost use Rattle.nll_worker.specs.Mailboxes.{Alike, Stays};
 ghost use Rattle.nll_worker.specs.Tallies.{IsCounted};
-ghost use Rattle.nll_worker.specs.Turning.{HasPosted, HasGivenAll, GoesOn, ComesTo};
+ghost use Rattle.nll_worker.specs.Turning.{HasPosted, HasGivenMore, GoesOn, ComesTo};
 
 use crate::inbox::Heard;
 use crate::tally::{Tally, unsent_count};
 use nll_mail::{Mail, PostError};
 use nll_owner::Owner;
 
+// How many growths are posted to an owner at once, at most. What the others post is heard before
+// more follow: so fewer of them wait in mailboxes.
+const MOST_POSTED: usize = 4096;
+
 // Posts what isn't given out yet of the part of the log that another owner reads, as long as its
-// mailbox isn't full.
+// mailbox isn't full and it isn't too much at once.
 fn post_part<M: Mail>(owner: &mut Owner<'_>, sender: &mut M::S, to: u16) -> Result<(), PostError>
     requires sound { IsSound owner.old }
     requires whole { owner.old.broken ≡ false }
     requires to { to < owner.old.cut.owners }
     requires sent { M.sent sender.old ≡ take (given_to owner.old to) (part_for owner.old to) }
     ensures sent { M.sent sender.new ≡ take (given_to owner.new to) (part_for owner.old to) }
-    ensures all { M.is_bounded ≡ false
-        → OnOk result (given_to owner.new to ≡ length (part_for owner.old to)) }
+    ensures many { M.is_bounded ≡ false → OnOk result (given_to owner.new to
+        ≡ min (given_to owner.old to + MOST_POSTED) (length (part_for owner.old to))) }
     ensures others { owner.new ≡ record owner.old { given = owner.new.given } }
     ensures other_given { (j : ℕ) → j ≢ to → given_to owner.new j ≡ given_to owner.old j }
     ensures pair { (r : M.R) → M.pairs sender.old r → M.pairs sender.new r }
     ensures sound { IsSound owner.new }
 {
+    let mut posted = 0;
     while let Some(growth) = owner.next_for(to) {
+        if posted >= MOST_POSTED {
+            return Ok(());
+        }
         match M::post(sender, growth) {
             Ok(()) => owner.outgoing(to),
             Err(PostError::Full(_)) => return Ok(()),
             Err(error) => return Err(error),
         };
+        posted += 1;
     }
     Ok(())
 }
@@ -51,8 +61,8 @@ fn post_to<M: Mail>(
     requires to { to < owner.old.cut.owners }
     requires posts { HasPosted owner.old (map M.sent senders.old.items) }
     ensures posts { HasPosted owner.new (map M.sent senders.new.items) }
-    ensures all { M.is_bounded ≡ false
-        → OnOk result (given_to owner.new to ≡ length (part_for owner.old to)) }
+    ensures many { M.is_bounded ≡ false → OnOk result (given_to owner.new to
+        ≡ min (given_to owner.old to + MOST_POSTED) (length (part_for owner.old to))) }
     ensures others { owner.new ≡ record owner.old { given = owner.new.given } }
     ensures other_given { (j : ℕ) → j ≢ to → given_to owner.new j ≡ given_to owner.old j }
     ensures pairs { Alike (Stays M.Mail) senders.old.items senders.new.items }
@@ -61,7 +71,8 @@ fn post_to<M: Mail>(
     post_part::<M>(owner, &mut senders[to as usize], to)
 }
 
-// Posts what isn't given out yet, to all owners that read it and whose mailboxes aren't full.
+// Posts what isn't given out yet, to all owners that read it and whose mailboxes aren't full: to
+// each not too much at once.
 fn post_all<M: Mail>(
     owner: &mut Owner<'_>,
     senders: &mut Vec<M::S>,
@@ -72,7 +83,8 @@ fn post_all<M: Mail>(
     requires whole { owner.old.broken ≡ false }
     requires posts { HasPosted owner.old (map M.sent senders.old.items) }
     ensures posts { HasPosted owner.new (map M.sent senders.new.items) }
-    ensures all { M.is_bounded ≡ false → OnOk result (HasGivenAll owners owner.new) }
+    ensures many { M.is_bounded ≡ false
+        → OnOk result (HasGivenMore MOST_POSTED owners owner.old owner.new) }
     ensures others { owner.new ≡ record owner.old { given = owner.new.given } }
     ensures pairs { Alike (Stays M.Mail) senders.old.items senders.new.items }
     ensures sound { IsSound owner.new }
@@ -100,7 +112,8 @@ fn post_waiting<M: Mail>(
     ensures counted { IsCounted owner.new tally.new }
     ensures same { (tally.new.turns ≡ tally.old.turns)
         × (tally.new.cleared ≡ tally.old.cleared) }
-    ensures all { M.is_bounded ≡ false → OnOk result (tally.new.waiting ≡ 0) }
+    ensures many { M.is_bounded ≡ false
+        → OnOk result (HasGivenMore MOST_POSTED owners owner.old owner.new) }
     ensures others { owner.new ≡ record owner.old { given = owner.new.given } }
     ensures pairs { Alike (Stays M.Mail) senders.old.items senders.new.items }
     ensures sound { IsSound owner.new }
@@ -131,7 +144,8 @@ pub fn share_out<M: Mail>(
     ensures comes { (taken : List (List Growth)) (owed cleared : ℕ)
         → ComesTo owner.old taken owed cleared tally.old heard
         → ComesTo owner.new taken owed cleared tally.new result }
-    ensures all { M.is_bounded ≡ false → GoesOn result → tally.new.waiting ≡ 0 }
+    ensures many { M.is_bounded ≡ false → GoesOn result
+        → HasGivenMore MOST_POSTED owners owner.old owner.new }
     ensures others { owner.new ≡ record owner.old { given = owner.new.given } }
     ensures pairs { Alike (Stays M.Mail) senders.old.items senders.new.items }
     ensures sound { IsSound owner.new }

@@ -2,14 +2,15 @@ use Rattle.std.proofs.Common.{refl, ap, ◌∙◌, arith}
 use Rattle.nll_owner.specs.Owner.{Owner}
 use Rattle.nll_worker.specs.Mailboxes.{Stays}
 use Rattle.nll_worker.proofs.ListLemmas.{alike_refl, stays_on}
-use Rattle.nll_worker.proofs.PostLemmas.{given_more}
+use Rattle.nll_worker.proofs.PostLemmas.{given_behind, given_more}
 use Rattle.nll_worker.proofs.posts.post_all.Goals as goal
 
 pub loop-to-init : goal.loop-to-init
 loop-to-init g c = record {
   sound = c.requires.sound;
   others = refl;
-  all = λ unbounded j l. absurd (omega (arith, l));
+  many = λ unbounded j l. absurd (omega (arith, l));
+  rest = λ j l. refl;
   posts = c.requires.posts;
   pairs = alike_refl (Stays g.M.Mail) (λ s r p. p) c.args.senders.now.items;
 }
@@ -23,9 +24,11 @@ loop-to-preserved g c = record {
   others =
       c.post_to.ensures.others ∙ ap (λ (o : Owner). record o { given = c.post_to.new.owner.given })
       c.loop-to.invariant.others;
-  all = λ unbounded. given_more c.loop-to.owner c.post_to.new.owner c.loop-to.to
-      (c.loop-to.invariant.all unbounded) c.post_to.ensures.others c.post_to.ensures.other_given
-      (c.in_ok-post_to.ensures.all unbounded);
+  many = λ unbounded. given_more c.args.owner.now c.loop-to.owner c.post_to.new.owner c.loop-to.to 4096
+      c.loop-to.invariant.others c.post_to.ensures.other_given c.loop-to.invariant.rest
+      (c.loop-to.invariant.many unbounded) (c.in_ok-post_to.ensures.many unbounded);
+  rest = given_behind c.args.owner.now c.loop-to.owner c.post_to.new.owner c.loop-to.to 4096
+      c.loop-to.invariant.others c.post_to.ensures.other_given c.loop-to.invariant.rest;
   posts = c.post_to.ensures.posts;
   pairs = stays_on g.M.Mail _ _ _ c.loop-to.invariant.pairs c.post_to.ensures.pairs;
 }

@@ -1,14 +1,15 @@
-use Rattle.std.proofs.Common.{◌≡◌, false, map}
-use Rattle.nll_owner.specs.Owner.{IsSound}
+use Rattle.std.proofs.Common.{◌≡◌, ◌≤◌, ℕ, false, map}
+use Rattle.nll_owner.specs.Owner.{IsSound, given_to}
 use Rattle.nll_worker.specs.Mailboxes.{Alike, Stays}
-use Rattle.nll_worker.specs.Turning.{HasPosted, HasGivenAll}
+use Rattle.nll_worker.specs.Turning.{HasPosted, HasGivenMore}
 use Rattle.nll_worker.proofs.posts.post_all.Given as goal
 
 abbrev pub invariant-loop-to : goal.invariant-loop-to
 invariant-loop-to g l = record {
   sound : IsSound l.owner;
   others : l.owner ≡ record l.fn.owner { given = l.owner.given };
-  all : g.M.Mail.is_bounded ≡ false → HasGivenAll l.to l.owner;
+  many : g.M.Mail.is_bounded ≡ false → HasGivenMore 4096 l.to l.fn.owner l.owner;
+  rest : (j : ℕ) → l.to ≤ j → given_to l.owner j ≡ given_to l.fn.owner j;
   posts : HasPosted l.owner (map g.M.Mail.sent l.senders.items);
   pairs : Alike (Stays g.M.Mail) l.fn.senders.items l.senders.items;
 }

@@ -1,7 +1,7 @@
-use Rattle.std.proofs.Common.{◌≡◌, ◌+◌, ◌<◌, slice_set, sym, ap, ◌∙◌, subst}
+use Rattle.std.proofs.Common.{◌≡◌, ◌+◌, ◌<◌, slice_set, sym, ap, ◌∙◌, subst, arith}
 use Rattle.nll_owner.specs.Owner.{Owner, given_to}
 use Rattle.nll_owner.proofs.PostingLemmas.{posting_more, posted_few, fewer}
-use Rattle.nll_worker.proofs.PostLemmas.{gives_next}
+use Rattle.nll_worker.proofs.PostLemmas.{gives_next, one_more, given_most, given_rest}
 use Rattle.nll_worker.proofs.posts.post_part.Goals as goal
 
 pub post-requires : goal.post-requires
@@ -27,5 +27,24 @@ loop-growth-preserved g c = record {
   posting =
       rw c.in-Ok.ensures.ok (posting_more _ _ _ _ _ c.loop-growth.invariant.posting c.requires.to c.in-Some.growth
       c.in-Some.ensures.some.1 (gives g c) c.outgoing.ensures.sound);
+  count =
+      let one =
+      one_more _ _ _ _ _ c.loop-growth.invariant.posting c.requires.to (gives g c) in
+      omega (arith, one, c.loop-growth.invariant.count);
+  few = omega (arith, c.if-posted-ge-MOST_POSTED.false);
   pair = λ r h. c.post.ensures.pair r (c.loop-growth.invariant.pair r h);
 }
+
+pub returns-then-posted-ge-MOST_POSTED-clause-many : goal.returns-then-posted-ge-MOST_POSTED-clause-many
+returns-then-posted-ge-MOST_POSTED-clause-many g c = λ unbounded.
+    given_most c.args.owner.now c.loop-growth.owner c.args.to c.loop-growth.posted 4096 c.in-Some.growth
+    c.loop-growth.invariant.posting.others c.loop-growth.invariant.count c.loop-growth.invariant.few
+    c.if-posted-ge-MOST_POSTED.true c.in-Some.ensures.some.1
+
+pub returns-clause-many : goal.returns-clause-many
+returns-clause-many g c = λ unbounded.
+    let p = c.loop-growth.invariant.posting in
+    given_rest c.args.owner.now c.loop-growth.owner c.args.to c.loop-growth.posted 4096 p.others
+    c.loop-growth.invariant.count c.loop-growth.invariant.few
+    (c.in_default.ensures.none (ap (λ (o : Owner). o.broken) p.others ∙ c.requires.whole)
+    (subst (λ (o : Owner). c.args.to < o.cut.owners) (sym p.others) c.requires.to))

@@ -3,7 +3,7 @@ use Rattle.nll_core.specs.Growing.{Gains}
 use Rattle.nll_core.specs.Values.{IsHeld}
 use Rattle.nll_mail.specs.declared.growth.Growth.{Growth}
 use Rattle.nll_owner.specs.Logs.{IsTold}
-use Rattle.nll_owner.proofs.log_entry.enter_log.Given as goal
+use Rattle.nll_owner.proofs.log_entry.enter_parts.Given as goal
 
 abbrev pub invariant-loop-place : goal.invariant-loop-place
 invariant-loop-place l = record {
