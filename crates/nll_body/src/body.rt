@@ -2,6 +2,7 @@
 
 ghost use Rattle.std.specs.Prelude.{◌≡◌, ◌≢◌, ◌↔◌, ◌<◌, ◌++◌, ℕ, length, map, Some};
 ghost use Rattle.std.specs.Prelude.{AllPairs, Contains, IfErr, IfOk, OnOk};
+ghost use Rattle.nll_sets.specs.Prefix.{IsPrefix};
 ghost use Rattle.nll_types.specs.Declarations.{structs_of};
 ghost use Rattle.nll_types.specs.DropRegions.{IsDropRegion};
 ghost use Rattle.nll_types.specs.Places.{type_of, path_of};
@@ -270,8 +271,9 @@ impl Body {
     /// RFC 2094, "Liveness".
     pub fn uses(&self, point: u32, used: &mut Vec<u32>) -> Result<(), Memory>
         requires { point < length self.now.points }
-        ensures { OnOk result ((i : standing ℕ TypeTree) → StandsAt self.now point i
+        ensures ok { OnOk result ((i : standing ℕ TypeTree) → StandsAt self.now point i
             → used.new.items ≡ used.old.items ++ variables_used i) }
+        ensures begins { IsPrefix used.old.items used.new.items }
     {
         self.points[point as usize].uses(used)
     }

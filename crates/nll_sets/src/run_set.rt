@@ -5,6 +5,7 @@ ghost use Rattle.std.specs.Prelude.{replicate, max, [], IfOk, IsOk, IsOkAnd, OnO
 ghost use Rattle.std.specs.Prelude.{IfNone};
 ghost use Rattle.nll_sets.specs.ElementSet.{flag, elements};
 ghost use Rattle.nll_sets.specs.Runs.{first_of, last_of, run_of, IsRunFrom, IsRunCount, MakeUp};
+ghost use Rattle.nll_sets.specs.Prefix.{IsPrefix};
 ghost use Rattle.nll_sets.specs.Runs.{Fills, IsWithin, Touches, numbers, IsGapFrom, ListsGaps};
 
 use crate::element::Element;
@@ -210,7 +211,8 @@ impl RunSet {
     pub fn gaps(&self, run: Run, out: &mut Vec<Run>) -> Result<(), Memory>
         requires proper { run.first ≤ run.last }
         requires below { run.last < length self.now }
-        ensures { OnOk result (ListsGaps self.now run out.old.items out.new.items) }
+        ensures listed { OnOk result (ListsGaps self.now run out.old.items out.new.items) }
+        ensures begins { IsPrefix out.old.items out.new.items }
     {
         // Behind the last element there is still a number of 32 bits.
         prove!(self.len <= u32::MAX);

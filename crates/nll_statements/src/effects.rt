@@ -2,6 +2,7 @@
 
 ghost use Rattle.std.specs.Prelude.{◌≡◌, ◌++◌, map, filter, [], ◌∷◌, OnOk, MatchOption};
 ghost use Rattle.std.specs.List.{flat_map};
+ghost use Rattle.nll_sets.specs.Prefix.{IsPrefix};
 ghost use Rattle.nll_types.specs.Places.{path_of};
 ghost use Rattle.nll_types.specs.Operands.{operand_of};
 ghost use Rattle.nll_statements.specs.Effects as spec;
@@ -78,8 +79,9 @@ impl<R, T> Statement<R, T> {
     /// # Source
     /// RFC 2094, "Liveness".
     pub fn uses(&self, used: &mut Vec<u32>) -> Result<(), Memory>
-        ensures { OnOk result
+        ensures ok { OnOk result
             (used.new.items ≡ used.old.items ++ variables_used (statement_of self.now)) }
+        ensures begins { IsPrefix used.old.items used.new.items }
     {
         self.reads(used)?;
         push_projected(self.target(), used)
@@ -87,8 +89,9 @@ impl<R, T> Statement<R, T> {
 
     // Puts the variables of the places that it reads or borrows behind the others.
     pub(crate) fn reads(&self, used: &mut Vec<u32>) -> Result<(), Memory>
-        ensures { OnOk result (used.new.items ≡ used.old.items
+        ensures ok { OnOk result (used.new.items ≡ used.old.items
             ++ map (λ p. p.variable) (spec.sources_of (statement_of self.now))) }
+        ensures begins { IsPrefix used.old.items used.new.items }
     {
         match self {
             Statement::Assign(_, operand) | Statement::Switch(operand, _) => {
@@ -106,8 +109,9 @@ impl<R, T> Statement<R, T> {
 
     /// Puts the blocks to which it goes on behind the others.
     pub fn targets(&self, blocks: &mut Vec<u32>) -> Result<(), Memory>
-        ensures { OnOk result
+        ensures ok { OnOk result
             (blocks.new.items ≡ blocks.old.items ++ spec.targets (statement_of self.now)) }
+        ensures begins { IsPrefix blocks.old.items blocks.new.items }
     {
         match self {
             Statement::Goto(block) => push_number(*block, blocks),
@@ -132,7 +136,8 @@ fn whole_variable(place: &Place) -> Option<u32>
 
 // Puts a number behind the others.
 pub(crate) fn push_number(number: u32, numbers: &mut Vec<u32>) -> Result<(), Memory>
-    ensures { OnOk result (numbers.new.items ≡ numbers.old.items ++ number ∷ []) }
+    ensures ok { OnOk result (numbers.new.items ≡ numbers.old.items ++ number ∷ []) }
+    ensures begins { IsPrefix numbers.old.items numbers.new.items }
 {
     numbers.push(number)?;
     Ok(())
@@ -140,7 +145,8 @@ pub(crate) fn push_number(number: u32, numbers: &mut Vec<u32>) -> Result<(), Mem
 
 // Puts a number behind the others, where there is one.
 pub(crate) fn push_some(number: Option<u32>, numbers: &mut Vec<u32>) -> Result<(), Memory>
-    ensures { OnOk result (numbers.new.items ≡ numbers.old.items ++ other_block number) }
+    ensures ok { OnOk result (numbers.new.items ≡ numbers.old.items ++ other_block number) }
+    ensures begins { IsPrefix numbers.old.items numbers.new.items }
 {
     match number {
         Some(number) => push_number(number, numbers),
@@ -150,7 +156,8 @@ pub(crate) fn push_some(number: Option<u32>, numbers: &mut Vec<u32>) -> Result<(
 
 // Puts numbers behind the others.
 fn push_numbers(more: &[u32], numbers: &mut Vec<u32>) -> Result<(), Memory>
-    ensures { OnOk result (numbers.new.items ≡ numbers.old.items ++ more.now) }
+    ensures ok { OnOk result (numbers.new.items ≡ numbers.old.items ++ more.now) }
+    ensures begins { IsPrefix numbers.old.items numbers.new.items }
 {
     numbers.extend_from_slice(more)?;
     Ok(())
@@ -158,8 +165,9 @@ fn push_numbers(more: &[u32], numbers: &mut Vec<u32>) -> Result<(), Memory>
 
 // Puts the variable of an operand's place behind the others.
 fn push_operand(operand: &Operand, used: &mut Vec<u32>) -> Result<(), Memory>
-    ensures { OnOk result (used.new.items
+    ensures ok { OnOk result (used.new.items
         ≡ used.old.items ++ map (λ p. p.variable) (place_in (operand_of operand.now))) }
+    ensures begins { IsPrefix used.old.items used.new.items }
 {
     match operand {
         Operand::Const => Ok(()),
@@ -169,8 +177,9 @@ fn push_operand(operand: &Operand, used: &mut Vec<u32>) -> Result<(), Memory>
 
 // Puts the variables of operands' places behind the others.
 fn push_operands(operands: &[Operand], used: &mut Vec<u32>) -> Result<(), Memory>
-    ensures { OnOk result (used.new.items ≡ used.old.items
+    ensures ok { OnOk result (used.new.items ≡ used.old.items
         ++ map (λ p. p.variable) (flat_map place_in (map operand_of operands.now))) }
+    ensures begins { IsPrefix used.old.items used.new.items }
 {
     for operand in operands {
         push_operand(operand, used)?;
@@ -180,8 +189,9 @@ fn push_operands(operands: &[Operand], used: &mut Vec<u32>) -> Result<(), Memory
 
 // Puts the variables of the places of a call's operands behind the others.
 fn push_arguments<T>(arguments: &[(Operand, T)], used: &mut Vec<u32>) -> Result<(), Memory>
-    ensures { OnOk result (used.new.items ≡ used.old.items
+    ensures ok { OnOk result (used.new.items ≡ used.old.items
         ++ map (λ p. p.variable) (flat_map place_in (map (λ a. operand_of a.0) arguments.now))) }
+    ensures begins { IsPrefix used.old.items used.new.items }
 {
     for argument in arguments {
         push_operand(&argument.0, used)?;
@@ -191,9 +201,10 @@ fn push_arguments<T>(arguments: &[(Operand, T)], used: &mut Vec<u32>) -> Result<
 
 // Puts the variable of a place that isn't a whole variable behind the others.
 fn push_projected(place: Option<&Place>, used: &mut Vec<u32>) -> Result<(), Memory>
-    ensures { OnOk result (MatchOption place.entry (used.new.items ≡ used.old.items)
+    ensures ok { OnOk result (MatchOption place.entry (used.new.items ≡ used.old.items)
         (λ p. used.new.items ≡ used.old.items
         ++ map (λ q. q.variable) (filter is_projected (path_of p.now ∷ [])))) }
+    ensures begins { IsPrefix used.old.items used.new.items }
 {
     match place {
         Some(place) if !place.projections().is_empty() => push_number(place.variable(), used),
@@ -203,7 +214,8 @@ fn push_projected(place: Option<&Place>, used: &mut Vec<u32>) -> Result<(), Memo
 
 // Puts a block, and the other one where there is one, behind the others.
 fn push_exits(block: u32, unwind: Option<u32>, blocks: &mut Vec<u32>) -> Result<(), Memory>
-    ensures { OnOk result (blocks.new.items ≡ blocks.old.items ++ block ∷ other_block unwind) }
+    ensures ok { OnOk result (blocks.new.items ≡ blocks.old.items ++ block ∷ other_block unwind) }
+    ensures begins { IsPrefix blocks.old.items blocks.new.items }
 {
     push_number(block, blocks)?;
     push_some(unwind, blocks)

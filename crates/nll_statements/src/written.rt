@@ -1,6 +1,7 @@
 //! The variables that are written in a statement or terminator.
 
 ghost use Rattle.std.specs.Prelude.{◌≡◌, ◌++◌, ◌∷◌, [], OnOk, MatchOption};
+ghost use Rattle.nll_sets.specs.Prefix.{IsPrefix};
 ghost use Rattle.nll_types.specs.Places.{path_of};
 ghost use Rattle.nll_statements.specs.Written as spec;
 ghost use Rattle.nll_statements.specs.Written.{variables_written};
@@ -27,8 +28,9 @@ impl<R, T> Statement<R, T> {
     /// Puts the variables that are written in it behind the others, one for each place in it too;
     /// for a `return` that is the return place.
     pub fn variables(&self, written: &mut Vec<u32>) -> Result<(), Memory>
-        ensures { OnOk result (written.new.items
+        ensures ok { OnOk result (written.new.items
             ≡ written.old.items ++ variables_written (statement_of self.now)) }
+        ensures begins { IsPrefix written.old.items written.new.items }
     {
         push_some(self.variable_alone(), written)?;
         push_place(self.target(), written)?;
@@ -38,8 +40,9 @@ impl<R, T> Statement<R, T> {
 
 // Puts the variable of a place behind the others.
 fn push_place(place: Option<&Place>, written: &mut Vec<u32>) -> Result<(), Memory>
-    ensures { OnOk result (MatchOption place.entry (written.new.items ≡ written.old.items)
+    ensures ok { OnOk result (MatchOption place.entry (written.new.items ≡ written.old.items)
         (λ p. written.new.items ≡ written.old.items ++ (path_of p.now).variable ∷ [])) }
+    ensures begins { IsPrefix written.old.items written.new.items }
 {
     match place {
         Some(place) => push_number(place.variable(), written),

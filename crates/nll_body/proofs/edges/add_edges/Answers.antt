@@ -24,7 +24,7 @@ returns-then-not-is_terminator-clause-ok c =
 listed : (c : After-as_slice) → c.as_slice.result.now ≡ targets (meant c.args.statement.now)
 listed c =
     targets_listed c.args.statement.now c.clear.new.self.items c.targets.new.blocks.items c.as_slice.result.now
-    c.as_slice.ensures.value c.in_ok-targets.ensures c.clear.ensures.items
+    c.as_slice.ensures.value c.in_ok-targets.ensures.ok c.clear.ensures.items
 
 ends : (c : After-as_slice) → is_terminator (meant c.args.statement.now) ≡ true
 ends c = same_end (λ r. r) tree (statement_of c.args.statement.now)

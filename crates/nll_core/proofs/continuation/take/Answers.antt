@@ -8,4 +8,4 @@ pub returns-clause-found : goal.returns-clause-found
 returns-clause-found c =
     subst (λ (list : List Run). ListsNew c.args.reached.now c.insert_run.new.self list c.gaps.new.out.items)
     c.requires.none
-    (lists_gaps _ _ _ _ _ c.in_ok-gaps.ensures c.in_ok-insert_run.ensures.ok)
+    (lists_gaps _ _ _ _ _ c.in_ok-gaps.ensures.listed c.in_ok-insert_run.ensures.ok)

@@ -42,7 +42,7 @@ loop-run-preserved c =
           (λ x a b. some.all x (omega (arith, a, c.max.ensures)) b)
           (λ x a b. some.none x a (omega (arith, a, b, c.max.ensures))) fills,
       lists_append c.args.reached.now c.loop-run.reached c.insert_run.new.self _ _ _ c.loop-run.invariant.0.kept
-          fills.kept c.loop-run.invariant.1 (lists_gaps _ _ _ _ _ c.in_ok-gaps.ensures fills),
+          fills.kept c.loop-run.invariant.1 (lists_gaps _ _ _ _ _ c.in_ok-gaps.ensures.listed fills),
     )
 
 pub returns-clause-fills : goal.returns-clause-fills
