@@ -34,8 +34,7 @@ read_get (y ∷ ys) (suc k) x e = read_get ys k x e
 pub part_in : (log : List Growth) (from to : ℕ) → to ≤ length log → (g : Growth)
     → Contains (take (to - from) (drop from log)) g → Contains log g
 part_in log from to low g h =
-    let at : h.0 < to - from = omega (arith, h.1, length-take (to - from) (drop from log)) in
-    (
+    let at : h.0 < to - from = omega (arith, h.1, length-take (to - from) (drop from log)) in (
       from + h.0,
       omega (arith, at, low),
       sym (get_or-drop from log h.0 g) ∙ (sym (get_or-take (to - from) (drop from log) h.0 g at) ∙ h.2),
@@ -45,8 +44,7 @@ pub in_part : (log : List Growth) (from to k : ℕ) (g : Growth) → from ≤ k 
     → slice_get log k ≡ Some g → Contains (take (to - from) (drop from log)) g
 in_part log from to k g low high within is =
     let on : from + (k - from) ≡ k = omega (arith, low) in
-    let at : k - from < to - from = omega (arith, low, high) in
-    (
+    let at : k - from < to - from = omega (arith, low, high) in (
       k - from,
       omega (arith, at, high, within, length-take (to - from) (drop from log), length-drop from log),
       get_or-take (to - from) (drop from log) (k - from) g at

@@ -16,13 +16,12 @@ overflow_add-next c =
     )
 
 pub loop-gap-preserved : goal.loop-gap-preserved
-loop-gap-preserved c =
-    (
-      subst (λ (runs : List Run). ListsTo c.args.self.now c.args.run c.args.out.now.items runs (c.in-Some.gap.last + 1))
-          (sym c.in_ok-push.ensures.items)
-          (lists_gap _ _ _ _ _ c.in-Some.gap c.loop-gap.invariant.0 c.in-Some.ensures.some),
-      prefix_further _ _ _ c.loop-gap.invariant.1 (prefix_pushed _ _ _ _ c.push.ensures.items),
-    )
+loop-gap-preserved c = (
+  subst (λ (runs : List Run). ListsTo c.args.self.now c.args.run c.args.out.now.items runs (c.in-Some.gap.last + 1))
+      (sym c.in_ok-push.ensures.items)
+      (lists_gap _ _ _ _ _ c.in-Some.gap c.loop-gap.invariant.0 c.in-Some.ensures.some),
+  prefix_further _ _ _ c.loop-gap.invariant.1 (prefix_pushed _ _ _ _ c.push.ensures.items),
+)
 
 pub returns-clause-listed : goal.returns-clause-listed
 returns-clause-listed c =
