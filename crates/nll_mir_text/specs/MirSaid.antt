@@ -31,20 +31,30 @@ type_in (type_parameter n p) = Some (n, p)
 
 -- ---- the groups of lines
 
--- the group of a line of the form: the groups stand in the order of their numbers
-abbrev pub group : Form → ℕ
-group (universal a) = 1
-group (outlives a b) = 2
-group (further x) = 3
-group (assert_line a b) = 4
-group (struct_line n ps has_drop fields) = 5
-group (variable x t) = 6
-group (blocks n) = 7
-group (block n) = 8
-group (at_point i) = 8
-group end = 9
+-- the group of a line of the form, by the word that its first line begins with
+abbrev pub group_of : Form → Name
+group_of (universal a) = codes "universal"
+group_of (outlives a b) = codes "outlives"
+group_of (further x) = codes "region"
+group_of (assert_line a b) = codes "assert"
+group_of (struct_line n ps has_drop fields) = codes "struct"
+group_of (variable x t) = codes "let"
+group_of (blocks n) = codes "blocks"
+group_of (block n) = codes "block"
+group_of (at_point i) = codes "block"
+group_of end = codes "end"
 
--- the last group, in this order, that has a line; 0 where none has
+-- the groups in the order in which they stand, that of the header in front
+abbrev pub groups : List Name
+groups =
+    codes "nll-mir" ∷ codes "universal" ∷ codes "outlives" ∷ codes "region" ∷ codes "assert"
+    ∷ codes "struct" ∷ codes "let" ∷ codes "blocks" ∷ codes "block" ∷ codes "end" ∷ []
+
+-- the place of a form's group in this order
+abbrev pub group : Form → ℕ
+group f = number_of groups (group_of f)
+
+-- the place of the last group, in this order, that has a line; the header has one
 abbrev pub reached : List Form → ℕ
 reached [] = 0
 reached (f ∷ forms) = max (group f) (reached forms)
