@@ -111,7 +111,8 @@ module _ (format : Format) where
 
   -- the text stops too early
   pub amid_end : (Held : List format.Form → Type 0) (number : ℕ)
-      → ((forms : List format.Form) → Held forms → format.HasEnded forms → ⊥) → RefusesLeft format Held [] number (record { line = number; kind = End })
+      → ((forms : List format.Form) → Held forms → format.HasEnded forms → ⊥)
+      → RefusesLeft format Held [] number (record { line = number; kind = End })
   amid_end Held number none all amid text headed =
       let done = amid_all Held all number amid in
       let last : length (lines_of text) ≡ number = omega (arith, ap length headed.cut.cut, done.3) in

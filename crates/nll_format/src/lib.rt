@@ -1,8 +1,8 @@
 //! What all texts share above their lines and tokens: what a text is, the kinds of its faults,
 //! the parts of lines, names and labels.
 //!
-//! Reading order: `limits`, `error`, `header`, `common_lines`, `line_reader`, `lines`, `arguments`, `name`,
-//! `names`, `labels`.
+//! Reading order: `limits`, `error`, `header`, `common_lines`, `line_reader`, `lines`, `arguments`,
+//! `name`, `names`, `labels`.
 #![tactic(auto)]
 
 mod arguments;

@@ -173,7 +173,7 @@ start_in _ = None
 
 -- What lines say together.
 pub record Said : Type 0 where
-  -- the last group that has a line
+  -- the place of the last group that has a line
   pub reached : ℕ
   -- what names mean in the types of variables and of statements
   pub scope : Scope
