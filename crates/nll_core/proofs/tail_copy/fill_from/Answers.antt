@@ -48,3 +48,7 @@ pub returns-clause-fills : goal.returns-clause-fills
 returns-clause-fills c =
     filling_end c.args.sub.now c.args.from c.args.reached.now c.loop-run.reached c.loop-run.next c.loop-run.invariant.0
     c.in_default.ensures.none
+
+pub loop-run-smaller : goal.loop-run-smaller
+loop-run-smaller c =
+    omega (arith, within (goal.at.loop-run-smaller c).In-Some, c.in-Some.ensures.some.reach)
