@@ -21,7 +21,7 @@ use Rattle.nll_statements.specs.Kept.{arguments_of, call_of}
 use Rattle.nll_statements.specs.declared.statement.Call.{Call}
 use Rattle.nll_resolve.specs.Naming.{Scope, is_among, is_known, has_arguments, meant}
 use Rattle.nll_resolve.specs.Resolution.{Resolved, IsResolved, tree_of}
-use Rattle.nll_mir_text.specs.Stating.{bound_numbers, is_bound, argument_kept, argument_in, argument_resolved, as_resolved, has_names, AreAmid, AreOfArguments, IsOfStatement}
+use Rattle.nll_mir_text.specs.ResolvedStatements.{bound_numbers, is_bound, argument_kept, argument_in, argument_resolved, as_resolved, has_names, AreAmid, AreOfArguments, IsOfStatement}
 
 and_true : (b : Bool) → (b && true) ≡ b
 and_true true = refl

@@ -1,5 +1,5 @@
 pub mod CallLemmas
-pub mod DeclaringLemmas
+pub mod StructLineLemmas
 pub mod FaultLemmas
 pub mod FormLemmas
 pub mod GoodFieldLemmas
@@ -14,7 +14,7 @@ pub mod PointLemmas
 pub mod SaidLemmas
 pub mod ShapeLemmas
 pub mod SoundLemmas
-pub mod StatingLemmas
+pub mod StatementLemmas
 pub mod StructLemmas
 pub mod TextLemmas
 pub mod TypedLemmas

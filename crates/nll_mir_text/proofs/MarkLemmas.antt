@@ -4,7 +4,7 @@ use Rattle.std.proofs.lemmas.List.{append_assoc, at_drop_more, map_more}
 use Rattle.nll_mir_grammar.specs.MirForms.{WrittenParameter, region_parameter, type_parameter}
 use Rattle.nll_mir_grammar.specs.Lines.{parameter_of}
 use Rattle.nll_mir_grammar.specs.declared.line.ParameterText.{ParameterText}
-use Rattle.nll_mir_text.specs.Declaring.{region_marks, type_marks}
+use Rattle.nll_mir_text.specs.StructLines.{region_marks, type_marks}
 
 region_marks_more : (p : WrittenParameter) (ps : List WrittenParameter)
     → region_marks (p ∷ []) ++ region_marks ps ≡ region_marks (p ∷ ps)

@@ -17,12 +17,12 @@ use Rattle.nll_mir_grammar.specs.Lines.{parameter_of}
 use Rattle.nll_mir_grammar.specs.declared.line.ParameterText.{ParameterText}
 use Rattle.nll_mir_grammar.specs.declared.line.ParameterText.TheVariants as parameters
 use Rattle.nll_resolve.specs.Naming.{Scope, is_among, is_known}
-use Rattle.nll_resolve.specs.Telling.{are_known, arguments_are_known}
+use Rattle.nll_resolve.specs.ToldTypes.{are_known, arguments_are_known}
 use Rattle.nll_mir_text.specs.MirSaid.{Said, scope_inside, region_in, type_in}
-use Rattle.nll_mir_text.specs.Declaring.{regions_in, types_in}
+use Rattle.nll_mir_text.specs.StructLines.{regions_in, types_in}
 use Rattle.nll_mir_text.specs.MirFaults.{has_repeats}
 use Rattle.nll_mir_text.specs.MirReading.{IsNamed}
-use Rattle.nll_mir_text.specs.Declaring.{AreNamesOf, AreOwn, region_names, type_names, takes_name, own_scope}
+use Rattle.nll_mir_text.specs.StructLines.{AreNamesOf, AreOwn, region_names, type_names, takes_name, own_scope}
 use Rattle.nll_mir_text.specs.declared.tables.StructNames.{StructNames}
 use Rattle.nll_mir_text.specs.declared.own_names.OwnNames.{OwnNames}
 

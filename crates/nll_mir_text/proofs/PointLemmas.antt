@@ -34,7 +34,7 @@ use Rattle.nll_mir_text.specs.MirSaid.{Said}
 use Rattle.nll_mir_text.specs.MirSteps.{says, statement_meant}
 use Rattle.nll_mir_text.specs.MirFaults.{are_declared, is_in_order, knows, has_targets, shapes_fit, first_fault}
 use Rattle.nll_mir_text.specs.MirReading.{AreShapes, scope_in}
-use Rattle.nll_mir_text.specs.Stating.{as_resolved, declared_by, has_names, IsOfPoint, IsOfStatement}
+use Rattle.nll_mir_text.specs.ResolvedStatements.{as_resolved, declared_by, has_names, IsOfPoint, IsOfStatement}
 
 second : (a b : Bool) → (a && b) ≡ true → b ≡ true
 second true b h = h

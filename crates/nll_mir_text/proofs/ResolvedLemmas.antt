@@ -14,7 +14,7 @@ use Rattle.nll_statements.specs.declared.statement.Statement.TheVariants as kept
 use Rattle.nll_statements.specs.Statements.{map_statement}
 use Rattle.nll_resolve.specs.Naming.{Scope, is_among, is_known}
 use Rattle.nll_resolve.specs.Resolution.{Resolved, IsResolved}
-use Rattle.nll_mir_text.specs.Stating.{as_written, has_names, IsOfStatement}
+use Rattle.nll_mir_text.specs.ResolvedStatements.{as_written, has_names, IsOfStatement}
 
 -- the images of the items so far behind others, with that of one item more
 pub behind_more : {X Y : Type 0} (f : X → Y) (new old before : List Y) (y : Y) (xs : List X) (i : ℕ) (d : X)

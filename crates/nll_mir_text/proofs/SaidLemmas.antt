@@ -20,7 +20,7 @@ use Rattle.nll_mir_grammar.specs.MirForms.{Form, WrittenParameter, universal, ou
 use Rattle.nll_mir_grammar.specs.declared.version.Version.{Version}
 use Rattle.nll_mir_text.specs.declared.groups.Group.TheVariants.{End}
 use Rattle.nll_mir_text.specs.MirSaid.{Said, said, group, reached, universal_in, further_in, outlives_in, assert_in, struct_in, variable_in, blocks_in, statement_in, owes_in, numbers_of, universals_said, names_said, meant_in, with_fronts, declared_in, start_in}
-use Rattle.nll_mir_text.specs.Declaring.{is_region}
+use Rattle.nll_mir_text.specs.StructLines.{is_region}
 use Rattle.nll_mir_text.specs.MirSteps.{says, declared, nothing_said, has_reached}
 use Rattle.nll_mir_text.specs.MirFaults.{first_fault, is_in_order, is_universal}
 use Rattle.nll_mir_text.specs.MirReading.{Adds}

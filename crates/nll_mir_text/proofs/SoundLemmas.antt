@@ -18,13 +18,13 @@ use Rattle.nll_statements.specs.Written.{regions_written, variables_written}
 use Rattle.nll_statements.proofs.MapLemmas.{regions_mapped, types_mapped}
 use Rattle.nll_mir_grammar.specs.MirForms.{Form, WrittenParameter, universal, outlives, further, assert_line, struct_line, variable, blocks, block, at_point, end}
 use Rattle.nll_resolve.specs.Naming.{meant, is_among, has_arguments, is_known}
-use Rattle.nll_resolve.specs.Telling.{have_arguments, are_known}
+use Rattle.nll_resolve.specs.ToldTypes.{have_arguments, are_known}
 use Rattle.nll_format.specs.Text.{Says, IsText}
 use Rattle.nll_body.specs.Edges.{edges_from, edge_count}
 use Rattle.nll_body.specs.Sound.{IsSound}
 use Rattle.nll_body.proofs.PointLemmas.{same_targets, same_end}
 use Rattle.nll_mir_text.specs.MirSaid.{Said, said, scope_inside}
-use Rattle.nll_mir_text.specs.Declaring.{is_region}
+use Rattle.nll_mir_text.specs.StructLines.{is_region}
 use Rattle.nll_mir_text.specs.MirSteps.{says, nothing_said, declared, statement_meant}
 use Rattle.nll_mir_text.specs.MirFaults.{is_universal, first_fault, has_targets, shapes_fit, knows, are_declared, is_in_body}
 use Rattle.nll_type_check.specs.Typing.{types_agree}

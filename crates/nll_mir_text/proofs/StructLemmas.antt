@@ -13,13 +13,13 @@ use Rattle.nll_types.specs.Structs.{Struct, no_struct, HasGoodFields, AreWellFor
 use Rattle.nll_type_grammar.specs.WrittenTypes.{Name, WrittenTypes}
 use Rattle.nll_mir_grammar.specs.MirForms.{WrittenParameter, region_parameter, type_parameter, struct_line}
 use Rattle.nll_resolve.specs.Naming.{is_among, all_meant}
-use Rattle.nll_resolve.specs.Telling.{are_known, have_arguments}
+use Rattle.nll_resolve.specs.ToldTypes.{are_known, have_arguments}
 use Rattle.nll_mir_text.specs.MirSaid.{Said, scope_inside}
-use Rattle.nll_mir_text.specs.Declaring.{is_region, regions_in, types_in}
+use Rattle.nll_mir_text.specs.StructLines.{is_region, regions_in, types_in}
 use Rattle.nll_mir_text.specs.MirSteps.{declared}
 use Rattle.nll_mir_text.specs.MirFaults.{has_repeats, redeclares, is_in_order, first_fault}
 use Rattle.nll_mir_text.specs.MirReading.{AreKinds, region_count, other_count}
-use Rattle.nll_mir_text.specs.Declaring.{region_names, type_names}
+use Rattle.nll_mir_text.specs.StructLines.{region_names, type_names}
 use Rattle.nll_mir_text.proofs.FaultLemmas.{faultless}
 use Rattle.nll_mir_text.proofs.GoodFieldLemmas.{all_well_formed}
 

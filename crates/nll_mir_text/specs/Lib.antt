@@ -3,6 +3,6 @@ pub mod MirFaults
 pub mod MirText
 pub mod MirSteps
 pub mod MirReading
-pub mod Declaring
-pub mod Stating
-pub mod Placing
+pub mod StructLines
+pub mod ResolvedStatements
+pub mod ResolvedLines

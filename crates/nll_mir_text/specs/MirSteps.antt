@@ -16,7 +16,7 @@ use Rattle.nll_mir_text.specs.declared.groups.Group.TheVariants.{Header, Univers
 use Rattle.nll_mir_text.specs.declared.groups.Group.TheVariants.{Regions, Asserts, Structs}
 use Rattle.nll_mir_text.specs.declared.groups.Group.TheVariants.{Variables, BlockCount, Blocks, End}
 use Rattle.nll_mir_text.specs.MirSaid.{Said, said, group, numbers_of, scope_inside}
-use Rattle.nll_mir_text.specs.Declaring.{is_region}
+use Rattle.nll_mir_text.specs.StructLines.{is_region}
 use Rattle.nll_mir_text.specs.MirSaid.{struct_meant, meant_in}
 
 -- the number of a group of the code

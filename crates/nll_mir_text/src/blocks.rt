@@ -9,9 +9,9 @@ ghost use Rattle.nll_statements.specs.Kept.{statement_of};
 ghost use Rattle.nll_statements.specs.Statements.{Statement as written_statement};
 ghost use Rattle.nll_mir_text.specs.MirReading.{said_by, IsAdmitted, IsDue, IsReady};
 ghost use Rattle.nll_mir_text.specs.MirReading.{IsTaken, IsRefused};
-ghost use Rattle.nll_mir_text.specs.Placing.{IsPlaced};
+ghost use Rattle.nll_mir_text.specs.ResolvedLines.{IsPlaced};
 ghost use Rattle.nll_mir_text.specs.MirSteps.{statement_meant};
-ghost use Rattle.nll_mir_text.specs.Stating.{as_resolved, IsOfPoint};
+ghost use Rattle.nll_mir_text.specs.ResolvedStatements.{as_resolved, IsOfPoint};
 ghost use Rattle.nll_mir_grammar.specs.declared.line.Line.TheVariants as lines;
 
 use crate::groups::Group;

@@ -14,9 +14,9 @@ ghost use Rattle.nll_mir_text.specs.MirFaults.{first_fault, is_universal};
 ghost use Rattle.nll_mir_text.specs.MirReading.{said_by, IsReady};
 ghost use Rattle.nll_mir_text.specs.MirReading.{IsDue, IsTaken, IsRefused};
 ghost use Rattle.nll_mir_text.specs.MirReading.{struct_form};
-ghost use Rattle.nll_mir_text.specs.Declaring.{AreJudged, AreOwn, own_scope};
-ghost use Rattle.nll_mir_text.specs.Placing.{IsOfVariable};
-ghost use Rattle.nll_mir_text.specs.Stating.{IsOfType};
+ghost use Rattle.nll_mir_text.specs.StructLines.{AreJudged, AreOwn, own_scope};
+ghost use Rattle.nll_mir_text.specs.ResolvedLines.{IsOfVariable};
+ghost use Rattle.nll_mir_text.specs.ResolvedStatements.{IsOfType};
 
 use crate::fields::{JudgedFields, declaration, judge_fields, resolve_fields};
 use crate::groups::Group;

@@ -2,7 +2,7 @@
 
 ghost use Rattle.std.specs.Prelude.{◌≡◌, IfOk};
 ghost use Rattle.nll_types.specs.Table.{Extends};
-ghost use Rattle.nll_mir_text.specs.Stating.{IsOfType};
+ghost use Rattle.nll_mir_text.specs.ResolvedStatements.{IsOfType};
 
 use nll_resolve::ResolvedType;
 use nll_sets::Memory;

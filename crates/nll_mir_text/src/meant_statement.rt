@@ -6,7 +6,7 @@ ghost use Rattle.nll_resolve.specs.Resolution.{tree_of};
 ghost use Rattle.nll_statements.specs.Kept.{call_of, made_of, statement_of};
 ghost use Rattle.nll_statements.specs.Statements.{map_statement};
 ghost use Rattle.nll_mir_text.specs.MirReading.{statement_kept};
-ghost use Rattle.nll_mir_text.specs.Stating.{argument_kept, argument_resolved, as_resolved};
+ghost use Rattle.nll_mir_text.specs.ResolvedStatements.{argument_kept, argument_resolved, as_resolved};
 
 use nll_problem::RegionId;
 use nll_resolve::ResolvedType;

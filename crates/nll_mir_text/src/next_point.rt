@@ -6,7 +6,7 @@ ghost use Rattle.nll_type_grammar.specs.WrittenTypes.{Name, WrittenType};
 ghost use Rattle.nll_statements.specs.Kept.{statement_of};
 ghost use Rattle.nll_statements.specs.Statements.{Statement as written_statement};
 ghost use Rattle.nll_mir_text.specs.MirReading.{AreShapes, scope_in};
-ghost use Rattle.nll_mir_text.specs.Stating.{declared_by, IsOfPoint, IsOfStatement};
+ghost use Rattle.nll_mir_text.specs.ResolvedStatements.{declared_by, IsOfPoint, IsOfStatement};
 ghost use Rattle.nll_mir_text.specs.declared.tables.Regions.{Regions as regions_kept};
 ghost use Rattle.nll_mir_text.specs.declared.tables.StructNames.{StructNames as structs_kept};
 

@@ -11,7 +11,7 @@ ghost use Rattle.nll_resolve.specs.Naming.{is_among};
 ghost use Rattle.nll_types.specs.declared.parameter.Parameter.{Parameter as marks};
 ghost use Rattle.nll_mir_text.specs.MirFaults.{has_repeats};
 ghost use Rattle.nll_mir_text.specs.MirReading.{IsNamed};
-ghost use Rattle.nll_mir_text.specs.Declaring.{AreOwn, region_names, type_names, takes_name};
+ghost use Rattle.nll_mir_text.specs.StructLines.{AreOwn, region_names, type_names, takes_name};
 
 use nll_format::Names;
 use nll_mir_grammar::ParameterText;

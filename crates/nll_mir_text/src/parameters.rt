@@ -2,8 +2,8 @@
 
 ghost use Rattle.std.specs.Prelude.{◌≡◌, ◌++◌, ◌∷◌, [], map, IfOk, OnOk};
 ghost use Rattle.nll_mir_grammar.specs.Lines.{parameter_of};
-ghost use Rattle.nll_mir_text.specs.Declaring as specs;
-ghost use Rattle.nll_mir_text.specs.Declaring.{region_marks, type_marks};
+ghost use Rattle.nll_mir_text.specs.StructLines as specs;
+ghost use Rattle.nll_mir_text.specs.StructLines.{region_marks, type_marks};
 
 use nll_mir_grammar::ParameterText;
 use nll_sets::Memory;

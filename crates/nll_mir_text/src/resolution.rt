@@ -11,8 +11,8 @@ ghost use Rattle.nll_statements.specs.Statements.{map_statement};
 ghost use Rattle.nll_resolve.specs.Naming.{is_among, is_known};
 ghost use Rattle.nll_resolve.specs.Resolution.{IsResolved};
 ghost use Rattle.nll_mir_text.specs.MirReading.{scope_in};
-ghost use Rattle.nll_mir_text.specs.Stating.{as_written, has_names, is_bound, bound_numbers};
-ghost use Rattle.nll_mir_text.specs.Stating.{AreOfArguments, IsOfStatement};
+ghost use Rattle.nll_mir_text.specs.ResolvedStatements.{as_written, has_names, is_bound, bound_numbers};
+ghost use Rattle.nll_mir_text.specs.ResolvedStatements.{AreOfArguments, IsOfStatement};
 
 use crate::tables::{Regions, StructNames};
 use nll_format::Names;

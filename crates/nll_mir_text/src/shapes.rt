@@ -4,7 +4,7 @@ ghost use Rattle.std.specs.Prelude.{◌≡◌, ◌∷◌, [], true, map, IfOk, O
 ghost use Rattle.nll_types.specs.Table.{Extends};
 ghost use Rattle.nll_statements.specs.Kept.{call_of, statement_of};
 ghost use Rattle.nll_statements.specs.Statements.{types_written};
-ghost use Rattle.nll_mir_text.specs.Stating.{AreOfTypes, AddsTypes};
+ghost use Rattle.nll_mir_text.specs.ResolvedStatements.{AreOfTypes, AddsTypes};
 
 use nll_problem::RegionId;
 use nll_resolve::ResolvedType;

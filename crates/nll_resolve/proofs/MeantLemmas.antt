@@ -16,10 +16,10 @@ use Rattle.nll_type_grammar.specs.declared.type_text.TypeNode.{TypeNode}
 use Rattle.nll_type_grammar.specs.declared.type_text.Argument.{Argument}
 use Rattle.nll_type_grammar.specs.declared.type_text.Argument.TheVariants as arguments
 use Rattle.nll_resolve.specs.Naming.{Scope, is_among, meant, all_meant, regions_meant, types_meant, kinds_of, same_kinds}
-use Rattle.nll_resolve.specs.Telling.{are_known, have_arguments, arguments_are_known, arguments_have_arguments}
+use Rattle.nll_resolve.specs.ToldTypes.{are_known, have_arguments, arguments_are_known, arguments_have_arguments}
 use Rattle.nll_resolve.specs.Resolution as resolution
 use Rattle.nll_resolve.specs.Resolution.{tree_over, trees_from, resolved}
-use Rattle.nll_resolve.specs.Telling.{AreTold, IsOfType, told_at, is_region, region_numbers}
+use Rattle.nll_resolve.specs.ToldTypes.{AreTold, IsOfType, told_at, is_region, region_numbers}
 use Rattle.nll_resolve.specs.declared.resolved_type.ResolvedNode.{ResolvedNode}
 use Rattle.nll_resolve.specs.declared.told.Told.{Told}
 use Rattle.nll_resolve.proofs.ToldLemmas.{kinds_same, known_parts, fit_parts}

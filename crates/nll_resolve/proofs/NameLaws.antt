@@ -3,7 +3,7 @@ use Rattle.std.proofs.Common.{◌≡◌, Bool, true, ◌&&◌, refl}
 use Rattle.std.specs.Prelude.{◌||◌}
 use Rattle.nll_type_grammar.specs.WrittenTypes.{Name, WrittenType, WrittenTypes, Arguments, int, reference, tuple, named, function, none, more, no_argument, region_argument, type_argument}
 use Rattle.nll_resolve.specs.Naming.{Scope, is_among, is_known, has_arguments, kinds_of, kinds_taken, same_kinds}
-use Rattle.nll_resolve.specs.Telling.{arguments_are_known, arguments_have_arguments}
+use Rattle.nll_resolve.specs.ToldTypes.{arguments_are_known, arguments_have_arguments}
 
 module _ (s : Scope) where
   -- each name is known

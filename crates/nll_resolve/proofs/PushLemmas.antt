@@ -16,7 +16,7 @@ use Rattle.nll_type_grammar.specs.WrittenTypes.{WrittenType}
 use Rattle.nll_type_grammar.specs.declared.type_text.TypeNode.{TypeNode}
 use Rattle.nll_resolve.specs.Naming.{Scope, meant}
 use Rattle.nll_resolve.specs.Resolution.{AreNodes, parts_of, tree_over, trees_from, all_at}
-use Rattle.nll_resolve.specs.Telling.{AreResolved, AreShaped, IsPushed}
+use Rattle.nll_resolve.specs.ToldTypes.{AreResolved, AreShaped, IsPushed}
 use Rattle.nll_resolve.specs.declared.resolved_type.ResolvedNode.{ResolvedNode}
 use Rattle.nll_resolve.specs.declared.resolved_type.ResolvedNode.TheVariants as nodes
 use Rattle.nll_resolve.specs.declared.told.Told.{Told}

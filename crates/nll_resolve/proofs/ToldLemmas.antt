@@ -13,8 +13,8 @@ use Rattle.nll_type_grammar.specs.TypeTexts.{all_at, arguments_at, types_among}
 use Rattle.nll_type_grammar.specs.declared.type_text.Argument.{Argument}
 use Rattle.nll_type_grammar.specs.declared.type_text.Argument.TheVariants as arguments
 use Rattle.nll_resolve.specs.Naming.{Scope, is_among, kinds_of, same_kinds}
-use Rattle.nll_resolve.specs.Telling.{are_known, arguments_are_known, have_arguments, arguments_have_arguments}
-use Rattle.nll_resolve.specs.Telling.{AreTold, IsTold, told_at, argument_is_known, argument_fits, is_region}
+use Rattle.nll_resolve.specs.ToldTypes.{are_known, arguments_are_known, have_arguments, arguments_have_arguments}
+use Rattle.nll_resolve.specs.ToldTypes.{AreTold, IsTold, told_at, argument_is_known, argument_fits, is_region}
 use Rattle.nll_resolve.specs.declared.told.Told.{Told}
 
 pub rest_below : (n i : ℕ) (is : List ℕ) → AreBelow n (i ∷ is) → AreBelow n is

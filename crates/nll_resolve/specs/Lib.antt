@@ -1,3 +1,3 @@
 pub mod Naming
 pub mod Resolution
-pub mod Telling
+pub mod ToldTypes

@@ -7,8 +7,8 @@ ghost use Rattle.nll_types.specs.Table.{AreBelow};
 ghost use Rattle.nll_type_grammar.specs.TypeTexts.{types_among};
 ghost use Rattle.nll_resolve.specs.Naming as naming;
 ghost use Rattle.nll_resolve.specs.Resolution.{scope_of};
-ghost use Rattle.nll_resolve.specs.Telling.{argument_is_known, argument_fits, region_numbers};
-ghost use Rattle.nll_resolve.specs.Telling.{is_region as region_kind};
+ghost use Rattle.nll_resolve.specs.ToldTypes.{argument_is_known, argument_fits, region_numbers};
+ghost use Rattle.nll_resolve.specs.ToldTypes.{is_region as region_kind};
 
 use crate::resolved_type::ResolvedArguments;
 use crate::scope::{Scope, find};

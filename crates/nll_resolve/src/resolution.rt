@@ -10,11 +10,11 @@ ghost use Rattle.nll_type_grammar.specs.TypeTexts as texts;
 ghost use Rattle.nll_type_grammar.specs.TypeTexts.{all_at, arguments_at, type_over, types_among};
 ghost use Rattle.nll_type_grammar.specs.TypeTexts.{written};
 ghost use Rattle.nll_resolve.specs.Naming.{is_known, meant};
-ghost use Rattle.nll_resolve.specs.Telling.{arguments_are_known, arguments_have_arguments};
+ghost use Rattle.nll_resolve.specs.ToldTypes.{arguments_are_known, arguments_have_arguments};
 ghost use Rattle.nll_resolve.specs.Resolution.{AreNodes, HasRoom, IsResolved, scope_of};
 ghost use Rattle.nll_resolve.specs.Resolution.{parts_of, resolved};
-ghost use Rattle.nll_resolve.specs.Telling.{AreTold, IsTold, IsOfType, IsPushed};
-ghost use Rattle.nll_resolve.specs.Telling.{region_numbers, told_at};
+ghost use Rattle.nll_resolve.specs.ToldTypes.{AreTold, IsTold, IsOfType, IsPushed};
+ghost use Rattle.nll_resolve.specs.ToldTypes.{region_numbers, told_at};
 
 use crate::arguments::{push_arguments, takes};
 use crate::resolved_type::{

@@ -7,7 +7,7 @@ ghost use Rattle.nll_types.specs.Table.{Extends, AreBelow, shape_in};
 ghost use Rattle.nll_types.specs.Types.{TypeTree, tuple, named, function};
 ghost use Rattle.nll_resolve.specs.Resolution.{AreNodes, all_at, at, parts_of, resolved};
 ghost use Rattle.nll_resolve.specs.Resolution.{tree_over};
-ghost use Rattle.nll_resolve.specs.Telling.{AreShaped};
+ghost use Rattle.nll_resolve.specs.ToldTypes.{AreShaped};
 
 use crate::resolved_type::{ResolvedName, ResolvedNode};
 use nll_sets::Memory;

@@ -4,7 +4,7 @@ ghost use Rattle.std.specs.Prelude.{◌≡◌, ◌&&◌};
 ghost use Rattle.std.specs.List.{list_all};
 ghost use Rattle.nll_types.specs.Table.{AreBelow};
 ghost use Rattle.std.specs.Prelude.{length};
-ghost use Rattle.nll_resolve.specs.Telling.{told_at};
+ghost use Rattle.nll_resolve.specs.ToldTypes.{told_at};
 
 /// What is told of the names in a written type.
 #[derive(Clone, Copy, Default)]

@@ -3,7 +3,7 @@ use Rattle.std.proofs.lemmas.Result.{IfOk-weaker}
 use Rattle.nll_types.specs.Views.{trees}
 use Rattle.nll_mir_grammar.specs.Lines.{parameter_of}
 use Rattle.nll_mir_grammar.specs.declared.line.ParameterText.{ParameterText}
-use Rattle.nll_mir_text.specs.Declaring.{region_marks, type_marks}
+use Rattle.nll_mir_text.specs.StructLines.{region_marks, type_marks}
 use Rattle.nll_mir_text.proofs.fields.declaration.Goals as goal
 
 pub returns-clause-regions : goal.returns-clause-regions

@@ -5,7 +5,7 @@ use Rattle.nll_types.specs.Types.{TypeTree}
 use Rattle.nll_types.specs.Operands.{Operand}
 use Rattle.nll_types.specs.declared.operand.Operand.{Operand as KeptOperand}
 use Rattle.nll_resolve.specs.Resolution.{Resolved}
-use Rattle.nll_mir_text.specs.Stating.{argument_kept, argument_resolved}
+use Rattle.nll_mir_text.specs.ResolvedStatements.{argument_kept, argument_resolved}
 use Rattle.nll_mir_text.proofs.MarkLemmas.{moved, none_left}
 use Rattle.nll_mir_text.proofs.meant_statement.push_arguments.Goals as goal
 

@@ -1,6 +1,6 @@
 use Rattle.std.proofs.Common.{◌≡◌, ◌++◌, map, length}
 use Rattle.std.specs.Vec.Iter.{into_iter_items, into_iter_len}
-use Rattle.nll_mir_text.specs.Stating.{argument_kept, argument_resolved}
+use Rattle.nll_mir_text.specs.ResolvedStatements.{argument_kept, argument_resolved}
 use Rattle.nll_mir_text.proofs.meant_statement.push_arguments.Given as goal
 
 abbrev pub invariant-loop-argument : goal.invariant-loop-argument

@@ -3,7 +3,7 @@ use Rattle.nll_types.specs.Views.{tree}
 use Rattle.nll_types.proofs.ShapingLemmas.{extends_then}
 use Rattle.nll_statements.specs.Kept.{statement_of}
 use Rattle.nll_resolve.specs.Resolution.{tree_of}
-use Rattle.nll_mir_text.proofs.StatingLemmas.{have_shapes}
+use Rattle.nll_mir_text.proofs.StatementLemmas.{have_shapes}
 use Rattle.nll_mir_text.proofs.PointLemmas.{as_many, point_judged}
 use Rattle.nll_mir_text.proofs.next_point.judge_point.Goals as goal
 

@@ -1,6 +1,6 @@
 use Rattle.std.proofs.Common.{◌≡◌, ◌∷◌, drop}
 use Rattle.std.specs.List.{list_any}
-use Rattle.nll_mir_text.specs.Declaring.{takes_name}
+use Rattle.nll_mir_text.specs.StructLines.{takes_name}
 use Rattle.nll_mir_text.proofs.own_names.any_taken.Given as goal
 
 abbrev pub invariant-loop-parameter : goal.invariant-loop-parameter

@@ -1,7 +1,7 @@
 use Rattle.std.proofs.Common.{map, ◌∙◌, ◌∷◌, ◌++◌, [], ap, sym}
 use Rattle.std.proofs.lemmas.List.{drop_more}
 use Rattle.nll_mir_grammar.specs.Lines.{parameter_of}
-use Rattle.nll_mir_text.specs.Declaring.{is_region}
+use Rattle.nll_mir_text.specs.StructLines.{is_region}
 use Rattle.nll_mir_text.proofs.MarkLemmas.{moved}
 use Rattle.nll_mir_text.proofs.parameters.push_kinds.Goals as goal
 

@@ -1,6 +1,6 @@
 use Rattle.std.proofs.Common.{◌≡◌, ◌++◌, map, drop}
 use Rattle.nll_mir_grammar.specs.Lines.{parameter_of}
-use Rattle.nll_mir_text.specs.Declaring.{is_region}
+use Rattle.nll_mir_text.specs.StructLines.{is_region}
 use Rattle.nll_mir_text.proofs.parameters.push_kinds.Given as goal
 
 abbrev pub invariant-loop-parameter : goal.invariant-loop-parameter

@@ -1,6 +1,6 @@
 use Rattle.std.proofs.Common.{◌≡◌, ◌++◌, map, drop}
 use Rattle.nll_mir_grammar.specs.Lines.{parameter_of}
-use Rattle.nll_mir_text.specs.Declaring.{region_marks, type_marks}
+use Rattle.nll_mir_text.specs.StructLines.{region_marks, type_marks}
 use Rattle.nll_mir_text.proofs.parameters.push_marks.Given as goal
 
 abbrev pub invariant-loop-parameter : goal.invariant-loop-parameter

@@ -1,7 +1,7 @@
 use Rattle.std.proofs.Common.{◌≡◌, length}
 use Rattle.std.specs.Vec.Iter.{into_iter_items, into_iter_len}
 use Rattle.nll_mir_text.specs.MirReading.{scope_in}
-use Rattle.nll_mir_text.specs.Stating.{AreAmid}
+use Rattle.nll_mir_text.specs.ResolvedStatements.{AreAmid}
 use Rattle.nll_mir_text.proofs.resolution.push_arguments.Given as goal
 
 abbrev pub invariant-loop-argument : goal.invariant-loop-argument

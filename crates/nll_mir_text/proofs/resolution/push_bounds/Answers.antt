@@ -3,7 +3,7 @@ use Rattle.std.specs.Prelude.{◌&&◌}
 use Rattle.std.specs.List.{list_all}
 use Rattle.std.proofs.lemmas.List.{at_drop_more, take_all}
 use Rattle.std.proofs.lemmas.List.Folds.{list_all_at}
-use Rattle.nll_mir_text.specs.Stating.{is_bound, bound_numbers}
+use Rattle.nll_mir_text.specs.ResolvedStatements.{is_bound, bound_numbers}
 use Rattle.nll_mir_text.proofs.ResolvedLemmas.{behind_more}
 use Rattle.nll_mir_text.proofs.resolution.push_bounds.Goals as goal
 

@@ -1,6 +1,6 @@
 use Rattle.std.proofs.Common.{◌≡◌, ◌++◌, drop, map, take}
 use Rattle.std.specs.List.{list_all}
-use Rattle.nll_mir_text.specs.Stating.{is_bound, bound_numbers}
+use Rattle.nll_mir_text.specs.ResolvedStatements.{is_bound, bound_numbers}
 use Rattle.nll_mir_text.proofs.resolution.push_bounds.Given as goal
 
 abbrev pub invariant-loop-bound : goal.invariant-loop-bound

@@ -1,8 +1,8 @@
 use Rattle.std.proofs.Common.{◌∙◌, sym, subst}
 use Rattle.nll_types.proofs.ShapingLemmas.{extends_then}
-use Rattle.nll_mir_text.specs.Stating.{AddsTypes}
+use Rattle.nll_mir_text.specs.ResolvedStatements.{AddsTypes}
 use Rattle.nll_mir_text.proofs.MarkLemmas.{map_item}
-use Rattle.nll_mir_text.proofs.StatingLemmas.{adds_then}
+use Rattle.nll_mir_text.proofs.StatementLemmas.{adds_then}
 use Rattle.nll_mir_text.proofs.shapes.shape_arguments.Goals as goal
 
 pub loop-argument-preserved : goal.loop-argument-preserved

@@ -1,6 +1,6 @@
 use Rattle.std.proofs.Common.{◌≡◌, map, take}
 use Rattle.nll_types.specs.Table.{Extends}
-use Rattle.nll_mir_text.specs.Stating.{AddsTypes}
+use Rattle.nll_mir_text.specs.ResolvedStatements.{AddsTypes}
 use Rattle.nll_mir_text.proofs.shapes.shape_arguments.Given as goal
 
 abbrev pub invariant-loop-argument : goal.invariant-loop-argument

@@ -4,7 +4,7 @@ use Rattle.nll_types.specs.declared.operand.Operand.{Operand}
 use Rattle.nll_types.proofs.ShapingLemmas.{extends_then}
 use Rattle.nll_resolve.specs.Resolution.{Resolved}
 use Rattle.nll_mir_text.proofs.CallLemmas.{same_types}
-use Rattle.nll_mir_text.proofs.StatingLemmas.{adds_then}
+use Rattle.nll_mir_text.proofs.StatementLemmas.{adds_then}
 use Rattle.nll_mir_text.proofs.shapes.shape_call.Goals as goal
 
 pub returns-clause-shaped : goal.returns-clause-shaped

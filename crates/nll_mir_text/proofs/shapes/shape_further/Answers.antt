@@ -1,5 +1,5 @@
 use Rattle.std.proofs.Common.{ap, ◌&&◌}
-use Rattle.nll_mir_text.proofs.StatingLemmas.{types_push}
+use Rattle.nll_mir_text.proofs.StatementLemmas.{types_push}
 use Rattle.nll_mir_text.proofs.shapes.shape_further.Goals as goal
 
 pub returns-clause-shaped : goal.returns-clause-shaped

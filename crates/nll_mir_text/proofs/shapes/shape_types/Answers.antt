@@ -1,5 +1,5 @@
 use Rattle.std.proofs.Common.{refl, []}
-use Rattle.nll_mir_text.proofs.StatingLemmas.{none_told}
+use Rattle.nll_mir_text.proofs.StatementLemmas.{none_told}
 use Rattle.nll_mir_text.proofs.shapes.shape_types.Goals as goal
 
 pub returns-clause-shaped : goal.returns-clause-shaped

@@ -1,5 +1,5 @@
 use Rattle.std.proofs.Common.{map, arith}
-use Rattle.nll_resolve.specs.Telling.{is_region}
+use Rattle.nll_resolve.specs.ToldTypes.{is_region}
 use Rattle.nll_resolve.proofs.ToldLemmas.{kinds_differ, length_kinds}
 use Rattle.nll_resolve.proofs.arguments.are_of.Goals as goal
 

@@ -1,6 +1,6 @@
 use Rattle.std.proofs.Common.{◌≡◌, drop, map, length}
 use Rattle.nll_resolve.specs.Naming.{same_kinds}
-use Rattle.nll_resolve.specs.Telling.{is_region}
+use Rattle.nll_resolve.specs.ToldTypes.{is_region}
 use Rattle.nll_resolve.proofs.arguments.are_of.Given as goal
 
 abbrev pub invariant-loop-number : goal.invariant-loop-number

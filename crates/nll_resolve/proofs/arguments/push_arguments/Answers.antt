@@ -3,7 +3,7 @@ use Rattle.std.proofs.Math.Numerals.{add-one}
 use Rattle.std.proofs.Math.Seq.{drop-cons}
 use Rattle.nll_type_grammar.specs.TypeTexts.{types_among}
 use Rattle.nll_type_grammar.specs.declared.type_text.Argument.TheVariants as arguments
-use Rattle.nll_resolve.specs.Telling.{argument_is_known, argument_fits, region_numbers}
+use Rattle.nll_resolve.specs.ToldTypes.{argument_is_known, argument_fits, region_numbers}
 use Rattle.nll_resolve.proofs.MeantLemmas.{pushed_more, regions_first, types_first}
 use Rattle.nll_resolve.proofs.ToldLemmas.{all_step, first_below, others_below}
 use Rattle.nll_resolve.proofs.arguments.push_arguments.Goals as goal

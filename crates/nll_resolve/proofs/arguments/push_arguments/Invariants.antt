@@ -2,7 +2,7 @@ use Rattle.std.proofs.Common.{◌≡◌, ◌&&◌, ◌++◌, drop, length}
 use Rattle.std.specs.List.{list_all}
 use Rattle.nll_types.specs.Table.{AreBelow}
 use Rattle.nll_type_grammar.specs.TypeTexts.{types_among}
-use Rattle.nll_resolve.specs.Telling.{argument_is_known, argument_fits, region_numbers}
+use Rattle.nll_resolve.specs.ToldTypes.{argument_is_known, argument_fits, region_numbers}
 use Rattle.nll_resolve.proofs.arguments.push_arguments.Given as goal
 
 abbrev pub invariant-loop-argument : goal.invariant-loop-argument

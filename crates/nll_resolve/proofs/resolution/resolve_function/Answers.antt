@@ -1,6 +1,6 @@
 use Rattle.std.proofs.Common.{refl, ap, ◌∙◌, ◌&&◌}
 use Rattle.nll_resolve.specs.Resolution.{scope_of}
-use Rattle.nll_resolve.specs.Telling.{told_at}
+use Rattle.nll_resolve.specs.ToldTypes.{told_at}
 use Rattle.nll_resolve.proofs.MeantLemmas.{of_function}
 use Rattle.nll_resolve.proofs.resolution.resolve_function.Goals as goal
 

@@ -1,6 +1,6 @@
 use Rattle.std.proofs.Common.{take}
 use Rattle.nll_resolve.specs.Resolution.{scope_of}
-use Rattle.nll_resolve.specs.Telling.{AreResolved}
+use Rattle.nll_resolve.specs.ToldTypes.{AreResolved}
 use Rattle.nll_resolve.proofs.resolution.resolve_nodes.Given as goal
 
 abbrev pub invariant-loop-node : goal.invariant-loop-node

@@ -1,7 +1,7 @@
 use Rattle.std.proofs.Common.{◌≡◌, [], take}
 use Rattle.nll_types.specs.Table.{Extends}
 use Rattle.nll_resolve.specs.Resolution.{trees_from}
-use Rattle.nll_resolve.specs.Telling.{AreShaped}
+use Rattle.nll_resolve.specs.ToldTypes.{AreShaped}
 use Rattle.nll_resolve.proofs.shapes.put_shapes.Given as goal
 
 abbrev pub invariant-loop-node : goal.invariant-loop-node

@@ -1,6 +1,6 @@
 use Rattle.std.proofs.Common.{◌≡◌, ◌&&◌, drop}
 use Rattle.std.specs.List.{list_all}
-use Rattle.nll_resolve.specs.Telling.{told_at}
+use Rattle.nll_resolve.specs.ToldTypes.{told_at}
 use Rattle.nll_resolve.proofs.told.all_told.Given as goal
 
 abbrev pub invariant-loop-part : goal.invariant-loop-part

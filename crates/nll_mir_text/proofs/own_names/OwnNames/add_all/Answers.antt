@@ -2,7 +2,7 @@ use Rattle.std.proofs.Common.{List, subst, sym}
 use Rattle.std.proofs.lemmas.List.{map_more}
 use Rattle.nll_mir_grammar.specs.Lines.{parameter_of}
 use Rattle.nll_mir_grammar.specs.MirForms.{WrittenParameter}
-use Rattle.nll_mir_text.specs.Declaring.{AreOwn}
+use Rattle.nll_mir_text.specs.StructLines.{AreOwn}
 use Rattle.nll_mir_text.proofs.own_names.OwnNames.add_all.Goals as goal
 
 pub loop-parameter-preserved : goal.loop-parameter-preserved

@@ -5,12 +5,12 @@ use Rattle.nll_mir_grammar.specs.Lines.{parameter_of}
 use Rattle.nll_mir_grammar.specs.Tuples.{parts}
 use Rattle.std.proofs.lemmas.List.{length-map}
 use Rattle.nll_resolve.specs.Naming.{Scope, all_meant}
-use Rattle.nll_resolve.specs.Telling.{are_known, have_arguments}
+use Rattle.nll_resolve.specs.ToldTypes.{are_known, have_arguments}
 use Rattle.nll_type_check.specs.Typing.{are_small}
 use Rattle.nll_types.specs.Declarations as kept
 use Rattle.nll_mir_text.specs.MirFaults.{redeclares}
 use Rattle.nll_mir_text.specs.MirSaid.{scope_inside}
-use Rattle.nll_mir_text.specs.Declaring.{AreJudged, AreOwn, own_scope}
+use Rattle.nll_mir_text.specs.StructLines.{AreJudged, AreOwn, own_scope}
 use Rattle.nll_mir_text.specs.declared.fields.JudgedFields.{JudgedFields}
 use Rattle.nll_mir_text.specs.declared.own_names.OwnNames.{OwnNames}
 use Rattle.nll_mir_text.specs.declared.reader.Reader.{Reader}

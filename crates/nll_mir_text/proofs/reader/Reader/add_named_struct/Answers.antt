@@ -3,9 +3,9 @@ use Rattle.nll_type_grammar.specs.TypeTexts.{written}
 use Rattle.nll_resolve.specs.Naming.{is_known}
 use Rattle.nll_mir_grammar.specs.Lines.{parameter_of}
 use Rattle.nll_mir_grammar.specs.Tuples.{parts}
-use Rattle.nll_mir_text.specs.Declaring.{own_scope}
+use Rattle.nll_mir_text.specs.StructLines.{own_scope}
 use Rattle.nll_mir_text.specs.MirReading.{said_by}
-use Rattle.nll_mir_text.proofs.DeclaringLemmas.{few_own}
+use Rattle.nll_mir_text.proofs.StructLineLemmas.{few_own}
 use Rattle.nll_mir_text.proofs.OwnLemmas.{own_known}
 use Rattle.nll_mir_text.proofs.StructLemmas.{struct_unknown}
 use Rattle.nll_mir_text.proofs.reader.Reader.add_named_struct.Goals as goal

@@ -1,7 +1,7 @@
 use Rattle.std.proofs.Common.{inr}
 use Rattle.std.proofs.lemmas.Result.{on_ok_weaker, IfErr-weaker}
 use Rattle.nll_mir_text.specs.MirReading.{said_by}
-use Rattle.nll_mir_text.specs.Stating.{as_written}
+use Rattle.nll_mir_text.specs.ResolvedStatements.{as_written}
 use Rattle.nll_mir_text.proofs.PointLemmas.{names_unknown, undeclared}
 use Rattle.nll_mir_text.proofs.reader.Reader.add_statement.Goals as goal
 

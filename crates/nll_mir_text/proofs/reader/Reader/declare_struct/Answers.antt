@@ -1,8 +1,8 @@
 use Rattle.std.proofs.Common.{◌∙◌, ap, map, List, ◌++◌, ◌∷◌, [], Bool}
 use Rattle.nll_mir_grammar.specs.Lines.{parameter_of}
 use Rattle.nll_mir_grammar.specs.declared.line.ParameterText.{ParameterText}
-use Rattle.nll_mir_text.specs.Declaring.{is_region}
-use Rattle.nll_mir_text.proofs.DeclaringLemmas.{fields_are, few_declared, good_declared, taken}
+use Rattle.nll_mir_text.specs.StructLines.{is_region}
+use Rattle.nll_mir_text.proofs.StructLineLemmas.{fields_are, few_declared, good_declared, taken}
 use Rattle.nll_mir_text.proofs.reader.Reader.declare_struct.Goals as goal
 
 pub declare-requires-clause-fields : goal.declare-requires-clause-fields

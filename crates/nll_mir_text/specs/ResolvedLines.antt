@@ -9,7 +9,7 @@ use Rattle.nll_resolve.specs.Resolution.{Resolved, IsResolved}
 use Rattle.nll_mir_grammar.specs.MirForms.{at_point, variable}
 use Rattle.nll_mir_text.specs.MirFaults.{is_in_order}
 use Rattle.nll_mir_text.specs.MirReading.{said_by, scope_in}
-use Rattle.nll_mir_text.specs.Stating.{IsOfStatement}
+use Rattle.nll_mir_text.specs.ResolvedStatements.{IsOfStatement}
 use Rattle.nll_mir_text.specs.declared.reader.Reader.{Reader}
 
 -- The line of the written statement stands in order, and the statement over numbers is of it.

@@ -18,7 +18,7 @@ use Rattle.nll_types.specs.Judging.{HaveShapes}
 use Rattle.nll_types.proofs.NumberLemmas.{below_later, shapes_later}
 use Rattle.nll_mir_text.specs.declared.shapes.ShapedTypes.{ShapedTypes}
 use Rattle.nll_mir_text.specs.MirReading.{AreShapes}
-use Rattle.nll_mir_text.specs.Stating.{is_bound, AreOfTypes, AddsTypes}
+use Rattle.nll_mir_text.specs.ResolvedStatements.{is_bound, AreOfTypes, AddsTypes}
 
 and_true : (b : Bool) → (b && true) ≡ b
 and_true true = refl
