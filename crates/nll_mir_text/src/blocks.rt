@@ -120,7 +120,7 @@ impl Reader {
         admitted: Admitted,
     ) -> Result<(), Memory>
         ensures { OnOk result ((i : written_statement Name WrittenType)
-            → IsAdmitted (said_by self.old) i a self.old
+            → IsAdmitted (said_by self.old) i admitted self.old
             → as_resolved (statement_of statement) ≡ statement_meant (said_by self.old) i
             → IsTaken (said_by self.old) (forms.at_point i) self.new) }
     {

@@ -1,4 +1,5 @@
 use Rattle.std.proofs.Common.{refl, sym, ◌∙◌, inr, arith}
+use Rattle.std.proofs.lemmas.Bool.{not-true, not-false}
 use Rattle.std.proofs.lemmas.List.{length-map}
 use Rattle.nll_statements.specs.Kept.{statement_of}
 use Rattle.nll_mir_text.specs.MirReading.{said_by, scope_in, statement_kept}
@@ -7,12 +8,12 @@ use Rattle.nll_mir_text.proofs.reader.Reader.admit_judged.Goals as goal
 
 pub returns-then-not-judged-clause-refused : goal.returns-then-not-judged-clause-refused
 returns-then-not-judged-clause-refused c =
-    λ i placed told. inr (undeclared (said_by c.args.self.now) i placed.order (sym told.known ∙ c.if-not-judged.true))
+    λ i placed told. inr (undeclared (said_by c.args.self.now) i placed.order (sym told.known ∙ (not-true _ c.if-not-judged.true)))
 
 pub returns-then-not-targets_are_blocks-clause-refused : goal.returns-then-not-targets_are_blocks-clause-refused
 returns-then-not-targets_are_blocks-clause-refused c = λ i placed told.
     let s = said_by c.args.self.now in
-    let known = sym told.known ∙ c.if-not-judged.false in
+    let known = sym told.known ∙ (not-false _ c.if-not-judged.false) in
     let blocks = sym (targets_are s i (statement_of c.args.statement.now) placed.of _ c.targets_are_blocks.ensures)
     ∙ c.if-not-targets_are_blocks.true in
     inr (out_of_range s i placed.order known blocks)
@@ -20,50 +21,50 @@ returns-then-not-targets_are_blocks-clause-refused c = λ i placed told.
 pub returns-then-not-judged-2-clause-refused : goal.returns-then-not-judged-2-clause-refused
 returns-then-not-judged-2-clause-refused c = λ i placed told.
     let s = said_by c.args.self.now in
-    let known = sym told.known ∙ c.if-not-judged.false in
+    let known = sym told.known ∙ (not-false _ c.if-not-judged.false) in
     let blocks = sym (targets_are s i (statement_of c.args.statement.now) placed.of _ c.targets_are_blocks.ensures)
     ∙ c.if-not-targets_are_blocks.false in
-    inr (unfit s i placed.order known blocks (sym told.fits ∙ c.if-not-judged-2.true))
+    inr (unfit s i placed.order known blocks (sym told.fits ∙ (not-true _ c.if-not-judged-2.true)))
 
 pub returns-then-not-judged-3-clause-refused : goal.returns-then-not-judged-3-clause-refused
 returns-then-not-judged-3-clause-refused c = λ i placed told.
     let s = said_by c.args.self.now in
-    let known = sym told.known ∙ c.if-not-judged.false in
+    let known = sym told.known ∙ (not-false _ c.if-not-judged.false) in
     let blocks = sym (targets_are s i (statement_of c.args.statement.now) placed.of _ c.targets_are_blocks.ensures)
     ∙ c.if-not-targets_are_blocks.false in
-    inr (too_large s i placed.order known blocks (sym told.fits ∙ c.if-not-judged-2.false)
-    (sym (told.fits_small c.if-not-judged-2.false) ∙ c.if-not-judged-3.true))
+    inr (too_large s i placed.order known blocks (sym told.fits ∙ (not-false _ c.if-not-judged-2.false))
+    (sym (told.fits_small (not-false _ c.if-not-judged-2.false)) ∙ (not-true _ c.if-not-judged-3.true)))
 
 pub returns-then-len-clause-refused : goal.returns-then-len-clause-refused
 returns-then-len-clause-refused c = λ i placed told.
     let s = said_by c.args.self.now in
-    let known = sym told.known ∙ c.if-not-judged.false in
+    let known = sym told.known ∙ (not-false _ c.if-not-judged.false) in
     let blocks = sym (targets_are s i (statement_of c.args.statement.now) placed.of _ c.targets_are_blocks.ensures)
     ∙ c.if-not-targets_are_blocks.false in
     let kept = c.args.self.now.points.statements in
-    inr (too_many_points s i placed.order known blocks (sym told.fits ∙ c.if-not-judged-2.false)
-    (sym (told.fits_small c.if-not-judged-2.false) ∙ c.if-not-judged-3.false)
+    inr (too_many_points s i placed.order known blocks (sym told.fits ∙ (not-false _ c.if-not-judged-2.false))
+    (sym (told.fits_small (not-false _ c.if-not-judged-2.false)) ∙ (not-false _ c.if-not-judged-3.false))
     (omega (arith, c.len.ensures, kept.ok.0, length-map kept.items statement_kept, c.if-len.true)))
 
 pub returns-then-edges-gt-MAX_EDGES-clause-refused : goal.returns-then-edges-gt-MAX_EDGES-clause-refused
 returns-then-edges-gt-MAX_EDGES-clause-refused c = λ i placed told.
     let s = said_by c.args.self.now in
-    let known = sym told.known ∙ c.if-not-judged.false in
+    let known = sym told.known ∙ (not-false _ c.if-not-judged.false) in
     let blocks = sym (targets_are s i (statement_of c.args.statement.now) placed.of _ c.targets_are_blocks.ensures)
     ∙ c.if-not-targets_are_blocks.false in
     let kept = c.args.self.now.points.statements in
     let edges =
     edges_resolved (scope_in c.args.self.now.regions c.args.self.now.structs) i
     (statement_of c.args.statement.now) placed.of in
-    inr (too_many_edges s i placed.order known blocks (sym told.fits ∙ c.if-not-judged-2.false)
-    (sym (told.fits_small c.if-not-judged-2.false) ∙ c.if-not-judged-3.false)
+    inr (too_many_edges s i placed.order known blocks (sym told.fits ∙ (not-false _ c.if-not-judged-2.false))
+    (sym (told.fits_small (not-false _ c.if-not-judged-2.false)) ∙ (not-false _ c.if-not-judged-3.false))
     (omega (arith, c.len.ensures, kept.ok.0, length-map kept.items statement_kept, c.if-len.false))
     (omega (arith, c.in_ok-exits.ensures.edges, edges, c.requires.edges, c.if-edges-gt-MAX_EDGES.true)))
 
 pub returns-clause-admitted : goal.returns-clause-admitted
 returns-clause-admitted c = λ i placed told.
     let s = said_by c.args.self.now in
-    let known = sym told.known ∙ c.if-not-judged.false in
+    let known = sym told.known ∙ (not-false _ c.if-not-judged.false) in
     let blocks = sym (targets_are s i (statement_of c.args.statement.now) placed.of _ c.targets_are_blocks.ensures)
     ∙ c.if-not-targets_are_blocks.false in
     let kept = c.args.self.now.points.statements in
@@ -71,8 +72,8 @@ returns-clause-admitted c = λ i placed told.
     edges_resolved (scope_in c.args.self.now.regions c.args.self.now.structs) i
     (statement_of c.args.statement.now) placed.of in
     record {
-      fine = no_fault s i placed.order known blocks (sym told.fits ∙ c.if-not-judged-2.false)
-          (sym (told.fits_small c.if-not-judged-2.false) ∙ c.if-not-judged-3.false)
+      fine = no_fault s i placed.order known blocks (sym told.fits ∙ (not-false _ c.if-not-judged-2.false))
+          (sym (told.fits_small (not-false _ c.if-not-judged-2.false)) ∙ (not-false _ c.if-not-judged-3.false))
           (omega (arith, c.len.ensures, kept.ok.0, length-map kept.items statement_kept, c.if-len.false))
           (omega (arith, c.in_ok-exits.ensures.edges, edges, c.requires.edges, c.if-edges-gt-MAX_EDGES.false));
       same = refl;
