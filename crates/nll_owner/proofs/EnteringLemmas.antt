@@ -85,6 +85,10 @@ module _ (log : List Growth) (old now : List (List Bool)) (from to : ℕ) (runs 
 
 -- ---- runs are entered one after another
 
+-- each element of the run is held
+abbrev RunHeld : List (List Bool) → RegionRun → Type 0
+RunHeld values k = (e : ℕ) → IsWithin k.run e → IsHeld values k.region e
+
 -- a run of a list is entered, where those before it were
 module _ (runs : List RegionRun) (old now : List (List Bool)) (n : ℕ) (run : RegionRun) (within : n < length runs)
     (is : run ≡ get_or runs n run) (gains : Gains (IsToldByRuns runs) old now) where
@@ -104,12 +108,12 @@ module _ (runs : List RegionRun) (old now : List (List Bool)) (n : ℕ) (run : R
         (gains_weaker (λ r e. (r ≡ run.region) × IsWithin run.run e) (IsToldByRuns runs)
         (λ r e s. (run, there, sym s.0, s.1.0, s.1.1)) now next one)
 
-    pub runs_entered : ((e : ℕ) → IsWithin run.run e → IsHeld next run.region e)
-        → ((m : ℕ) (k : RegionRun) → m < n → get_or runs m k ≡ k → (e : ℕ) → IsWithin k.run e → IsHeld now k.region e)
-        → (m : ℕ) (k : RegionRun) → m < n + 1 → get_or runs m k ≡ k → (e : ℕ) → IsWithin k.run e
-        → IsHeld next k.region e
-    runs_entered here before = at_next (λ (k : RegionRun). (e : ℕ) → IsWithin k.run e → IsHeld next k.region e) runs n run
-        within is (λ m k low at e own. one.kept k.region e (before m k low at e own)) here
+    pub runs_entered : RunHeld next run
+        → ((m : ℕ) (k : RegionRun) → m < n → get_or runs m k ≡ k → RunHeld now k)
+        → (m : ℕ) (k : RegionRun) → m < n + 1 → get_or runs m k ≡ k → RunHeld next k
+    runs_entered here before =
+        at_next (RunHeld next) runs n run within is
+        (λ m k low at e own. one.kept k.region e (before m k low at e own)) here
 
 -- all runs of a list are held
 pub told_held : (runs : List RegionRun) (values : List (List Bool))

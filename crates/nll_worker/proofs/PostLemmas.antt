@@ -141,11 +141,13 @@ module _ (first old next : Owner) (to most : ℕ) (others : old ≡ record first
   pub given_more : HasGivenMore most to first old
       → given_to next to ≡ min (given_to old to + most) (length (part_for old to)) → HasGivenMore most (to + 1) first next
   given_more was given j l = ⊎_elim
-      (λ (here : j ≡ to). subst (λ k. given_to next k ≡ min (given_to first k + most) (length (part_for first k)))
-      (sym here) last)
+      (λ (here : j ≡ to). subst given_so (sym here) last)
       (λ (other : j ≢ to). other_given j other ∙ was j (below j to l other))
       (cases_eq j to)
     where
+      given_so : ℕ → Type 0
+      given_so k = given_to next k ≡ min (given_to first k + most) (length (part_for first k))
+
       last : given_to next to ≡ min (given_to first to + most) (length (part_for first to))
       last =
           let same = ap (λ (o : Owner). length (part_for o to)) others in
