@@ -138,17 +138,17 @@ module _ (first old next : Owner) (to most : ℕ) (others : old ≡ record first
       differs : (j to : ℕ) → to + 1 ≤ j → j ≢ to
       differs j to l = grind arith
 
-  pub given_more : HasGivenMore most to first old
-      → given_to next to ≡ min (given_to old to + most) (length (part_for old to)) → HasGivenMore most (to + 1) first next
+  -- of a part, as much more than this owner gave out as may be at once
+  abbrev GivenSo : Owner → ℕ → Type 0
+  GivenSo o k = given_to next k ≡ min (given_to o k + most) (length (part_for o k))
+
+  pub given_more : HasGivenMore most to first old → GivenSo old to → HasGivenMore most (to + 1) first next
   given_more was given j l = ⊎_elim
-      (λ (here : j ≡ to). subst given_so (sym here) last)
+      (λ (here : j ≡ to). subst (GivenSo first) (sym here) last)
       (λ (other : j ≢ to). other_given j other ∙ was j (below j to l other))
       (cases_eq j to)
     where
-      given_so : ℕ → Type 0
-      given_so k = given_to next k ≡ min (given_to first k + most) (length (part_for first k))
-
-      last : given_to next to ≡ min (given_to first to + most) (length (part_for first to))
+      last : GivenSo first to
       last =
           let same = ap (λ (o : Owner). length (part_for o to)) others in
           let from = rest to (omega arith) in

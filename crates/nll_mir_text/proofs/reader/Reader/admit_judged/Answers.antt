@@ -3,12 +3,14 @@ use Rattle.std.proofs.lemmas.Bool.{not-true, not-false}
 use Rattle.std.proofs.lemmas.List.{length-map}
 use Rattle.nll_statements.specs.Kept.{statement_of}
 use Rattle.nll_mir_text.specs.MirReading.{said_by, scope_in, statement_kept}
-use Rattle.nll_mir_text.proofs.PointLemmas.{undeclared, out_of_range, unfit, too_large, too_many_points, too_many_edges, no_fault, targets_are, edges_resolved, ends_resolved}
+use Rattle.nll_mir_text.proofs.PointLemmas.{undeclared, out_of_range, unfit, too_large, too_many_points}
+use Rattle.nll_mir_text.proofs.PointLemmas.{too_many_edges, no_fault, targets_are, edges_resolved, ends_resolved}
 use Rattle.nll_mir_text.proofs.reader.Reader.admit_judged.Goals as goal
 
 pub returns-then-not-judged-clause-refused : goal.returns-then-not-judged-clause-refused
-returns-then-not-judged-clause-refused c =
-    λ i placed told. inr (undeclared (said_by c.args.self.now) i placed.order (sym told.known ∙ (not-true _ c.if-not-judged.true)))
+returns-then-not-judged-clause-refused c = λ i placed told.
+    let s = said_by c.args.self.now in
+    inr (undeclared s i placed.order (sym told.known ∙ (not-true _ c.if-not-judged.true)))
 
 pub returns-then-not-targets_are_blocks-clause-refused : goal.returns-then-not-targets_are_blocks-clause-refused
 returns-then-not-targets_are_blocks-clause-refused c = λ i placed told.
