@@ -1,6 +1,7 @@
 //! The options among the words behind a command.
 ghost use Rattle.std.specs.Prelude.{◌≡◌, ◌≢◌, ◌⊎◌, ◌++◌, ◌∷◌, [], ℕ, List, map, string_bytes};
 ghost use Rattle.std.specs.Prelude.{MatchOption, OnOk, IfOk, IfErr, None, true, false};
+ghost use Rattle.nll_text.specs.Number.{IsNumber};
 ghost use Rattle.nll_command_line.specs.CommandLine as lines;
 ghost use Rattle.nll_command_line.specs.CommandLine.{begins_as_option};
 ghost use Rattle.nll_command_line.specs.Options.{AreRead, Given, HasOptions, IsLawful, key_of};
@@ -10,7 +11,7 @@ ghost use Rattle.nll_command_line.specs.Taking.{IsKind, IsUnfit, IsUnfitBefore, 
 
 use crate::error::LineError;
 use crate::task::Task;
-use nll_text::number_of;
+use nll_text::number_in_front;
 
 /// How regions are dealt to owners.
 #[derive(Clone, Copy, Debug, PartialEq, Eq)]
@@ -102,7 +103,7 @@ impl<'a> Options<'a> {
             × ((given : List Given) → SaysBy given self.old
             → IsUnfit given Key.Owners value.now)) }
     {
-        let Some(number) = number_of(value.as_bytes()) else {
+        let Some(number) = number_alone(value.as_bytes()) else {
             return Err(LineError::Usage);
         };
         if number == 0 || number > 64 || self.owners.is_some() {
@@ -192,6 +193,17 @@ impl<'a> Options<'a> {
             Task::Replay => self.schedule.is_some() && self.mail.is_none(),
         }
     }
+}
+
+// The number that the bytes are, with nothing behind it.
+fn number_alone(bytes: &[u8]) -> Option<u32>
+    ensures { MatchOption result ((n : ℕ) → ¬ IsNumber bytes.now n) (λ n. IsNumber bytes.now n) }
+{
+    let (number, rest) = number_in_front(bytes)?;
+    if !rest.is_empty() {
+        return None;
+    }
+    Some(number)
 }
 
 fn begins_as_option(word: &str) -> bool

@@ -3,7 +3,7 @@ use super::rows::Asked::Line;
 use super::rows::{Row, compare_lines, compare_rows};
 use super::transcript::Transcript;
 use super::{mir_lines, tokens, type_names, written_types};
-use nll_text::{Token, is_header, next_line, number_of, same_bytes, tokens_of};
+use nll_text::{Token, is_header, next_line, same_bytes, tokens_of};
 use nll_type_grammar::is_capital;
 
 /// What is asked of a line.
@@ -15,7 +15,7 @@ pub enum OfLine {
     Header(&'static str, &'static str),
     /// Its tokens, where it may have so many.
     Tokens(usize),
-    /// The number that it is.
+    /// The number in front, and what stands behind it.
     Number,
     /// Whether it is the same as this one.
     Same(&'static str),
@@ -47,7 +47,7 @@ pub fn write_line(out: &mut Transcript, line: &str, asked: OfLine) {
             )
         }
         OfLine::Tokens(most) => tokens::write_tokens_in(out, line, most),
-        OfLine::Number => out.option("", number_of(line.as_bytes())),
+        OfLine::Number => tokens::write_number(out, line),
         OfLine::Same(other) => out.flag("", same_bytes(line.as_bytes(), other.as_bytes()), ""),
         OfLine::Capital => out.flag("", is_capital(line.as_bytes()), ""),
         _ => write_read(out, line, asked),

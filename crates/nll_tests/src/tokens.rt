@@ -1,9 +1,9 @@
-//! Lines that are read as tokens, and tokens that are read as numbers.
+//! Lines that are read as tokens, and numbers in front of lines.
 use super::lines::OfLine;
 use super::rows::Asked::{Line, Scanned};
 use super::rows::{Row, compare_lines, compare_rows};
 use super::transcript::Transcript;
-use nll_text::{Token, one_token_list, scan_line, tokens_of};
+use nll_text::{Token, number_in_front, one_token_list, scan_line, tokens_of};
 use std::slice;
 
 // Writes tokens, each with a bar behind it.
@@ -28,6 +28,17 @@ pub fn write_tokens_in(out: &mut Transcript, line: &str, most: usize) {
         Err(error) => out.show("", &error),
     }
     drop(tokens);
+}
+
+/// Writes the number in front of a line, and what stands behind it.
+pub fn write_number(out: &mut Transcript, line: &str) {
+    match number_in_front(line.as_bytes()) {
+        Some((number, rest)) => {
+            out.number("", number, "|");
+            out.part("", rest);
+        }
+        None => out.say("none"),
+    }
 }
 
 // Lines and their tokens, each with a bar behind it.
@@ -117,21 +128,22 @@ const SCANNED: &[Row] = &[
     ),
 ];
 
-// Words, and the numbers that they are.
+// Lines, the number in front of each, and what stands behind it.
 const NUMBERS: &[(&str, &str)] = &[
-    ("0", "Some(0)"),
-    ("7", "Some(7)"),
-    ("10", "Some(10)"),
-    ("100000000", "Some(100000000)"),
-    ("999999999", "Some(999999999)"),
-    ("1000000000", "None"),
-    ("", "None"),
-    ("00", "None"),
-    ("01", "None"),
-    ("000", "None"),
-    ("1_0", "None"),
-    ("+1", "None"),
-    ("1a", "None"),
+    ("0", "0||"),
+    ("7 8", "7| 8|"),
+    ("10#", "10|#|"),
+    ("100000000'x", "100000000|'x|"),
+    ("999999999", "999999999||"),
+    ("1000000000", "none"),
+    ("", "none"),
+    (" 1", "none"),
+    ("00", "none"),
+    ("01", "none"),
+    ("000", "none"),
+    ("1_0", "none"),
+    ("+1", "none"),
+    ("1a", "none"),
 ];
 
 // A line is read as its tokens, whatever the list held before; one of more tokens than it may have

@@ -6,25 +6,40 @@ use Rattle.std.specs.Str.Parse.{AllDigits, digits_value}
 use Rattle.std.proofs.Math.Seq.{get_or-append_seam, drop-append_seam}
 use Rattle.std.proofs.lemmas.Bool.{false≢true, cases_lt}
 use Rattle.std.proofs.lemmas.Bool.Decides.{nat_tests}
-use Rattle.std.proofs.lemmas.List.{length-append, length-take, get_or-take, get_or_append_left, take-append-drop}
+use Rattle.std.proofs.lemmas.List.{append-nil, length-append, length-take, get_or-take, get_or_append_left, take-append-drop}
 use Rattle.std.proofs.lemmas.Str.Parse.{digit_at}
-use Rattle.nll_text.specs.Lines.{is_blank}
-use Rattle.nll_text.specs.Number.{IsNumber, IsDigitFront}
-use Rattle.nll_text.specs.Tokens.{word, is_word_byte, first_passes, IsMadeOf}
-use Rattle.nll_text.specs.Lexing.{BeginsWith, BeginsNotWith, SplitsWhile}
-use Rattle.nll_text.proofs.ByteLemmas.{Passes}
-use Rattle.nll_text.proofs.FrontLemmas.{first_token, this_number}
+use Rattle.nll_text.specs.Number.{IsNumber, IsNumberFront, IsDigitFront}
+use Rattle.nll_text.specs.Tokens.{is_word_byte, first_passes}
+use Rattle.nll_text.proofs.ByteLemmas.{Passes, same_split}
 use Rattle.nll_text.proofs.NumberLemmas.{no_digits, number_form, number_from_form, HasNumberForm}
 
 digit_passes : (b : ℕ) → 48 ≤ b → b ≤ 57 → is_word_byte b ≡ true
 digit_passes b low high = grind (arith, nat_tests)
 
 -- digits are bytes of words
-digits_pass : (ds : List ℕ) → AllDigits 10 ds → Passes is_word_byte ds
+pub digits_pass : (ds : List ℕ) → AllDigits 10 ds → Passes is_word_byte ds
 digits_pass [] h = tt
 digits_pass (d ∷ ds) h =
     let range = digit_at (d ∷ ds) 0 h (omega arith) in
     (digit_passes d range.0 range.1, digits_pass ds h.1)
+
+-- a number that is all of the bytes is in front of them, and nothing stands behind it
+pub whole_in_front : (ds : List ℕ) (n : ℕ) → IsNumber ds n → IsNumberFront ds n []
+whole_in_front ds n is = record { digits = ds; number = is; joined = sym (append-nil ds); stops = refl }
+
+-- a number in front of bytes, with nothing behind it, is all of them
+pub whole_front : (ds : List ℕ) (n : ℕ) (rest : List ℕ) → IsNumberFront ds n rest → length rest ≡ 0 → IsNumber ds n
+whole_front ds n [] front none =
+    subst (λ (xs : List ℕ). IsNumber xs n) (sym (front.joined ∙ append-nil front.digits)) front.number
+whole_front ds n (b ∷ bs) front none = absurd (omega arith)
+
+-- nothing stands behind a number in front of a number
+pub nothing_behind : (ds : List ℕ) (m n : ℕ) (rest : List ℕ) → IsNumber ds m → IsNumberFront ds n rest → rest ≡ []
+nothing_behind ds m n rest is front =
+    let all = digits_pass ds (number_form ds m is).digits in
+    let each = digits_pass front.digits (number_form front.digits n front.number).digits in
+    (same_split is_word_byte front.digits rest ds [] each front.stops all refl
+    (sym front.joined ∙ sym (append-nil ds))).1
 
 -- the front of a front
 take_less : (i j : ℕ) (xs : List ℕ) → i ≤ j → take i (take j xs) ≡ take i xs
@@ -74,47 +89,43 @@ module _ (core : List ℕ) (n count : ℕ) (f : IsDigitFront (take 9 core) n cou
       (cases_lt (length d) count))
       (cases_lt count (length d))
 
-  module _ (line gap : List ℕ) (s : SplitsWhile is_blank line gap core) (ds rest : List ℕ)
-      (front : ds ≡ take count core) (back : rest ≡ drop count core) where
-    -- a number that is the first token is as long as the digits at the front
-    record Spelled (m : ℕ) (more : List ℕ) : Type 0 where
-      joined : core ≡ decimal m ++ more
-      form : HasNumberForm (decimal m)
-      counted : count ≡ length (decimal m)
+  module _ (ds rest : List ℕ) (front : ds ≡ take count core) (back : rest ≡ drop count core) where
+    -- a number in front is as long as the digits there
+    record Spelled (digits more : List ℕ) : Type 0 where
+      form : HasNumberForm digits
+      counted : count ≡ length digits
 
-    spelled : (m : ℕ) → m < 10 ^ 9 → (ts : _) → (h : IsMadeOf line (word (decimal m) ∷ ts)) → Spelled m h.1
-    spelled m small ts h =
-        let e = first_token line gap core s (word (decimal m)) ts h in
-        let form = number_form (decimal m) m (record { small = small; printed = refl }) in
+    spelled : (m : ℕ) (more : List ℕ) (h : IsNumberFront core m more) → Spelled h.digits more
+    spelled m more h =
+        let form = number_form h.digits m h.number in
         record {
-          joined = e;
           form = form;
-          counted = spelled_length (decimal m) h.1 e form.digits form.short h.5;
+          counted = spelled_length h.digits more h.joined form.digits form.short h.stops;
         }
 
-    pub no_digit_there : length ds ≡ 0 → (m : ℕ) → m < 10 ^ 9 → BeginsNotWith line (word (decimal m))
-    no_digit_there none m small = λ ts h. (
-        let k = spelled m small ts h in
-        omega (arith, k.counted, k.form.some, none, ap length front, length-take count core, within))
+    pub no_digit_there : length ds ≡ 0 → (m : ℕ) (more : List ℕ) → IsNumberFront core m more → ⊥
+    no_digit_there none m more h =
+        let k = spelled m more h in
+        omega (arith, k.counted, k.form.some, none, ap length front, length-take count core, within)
 
-    pub zero_in_front : get_or ds 0 0 ≡ 48 → 1 < count → (m : ℕ) → m < 10 ^ 9 → BeginsNotWith line (word (decimal m))
-    zero_in_front nought long m small = λ ts h. (
-        let k = spelled m small ts h in
-        let here : get_or ds 0 0 ≡ get_or (decimal m) 0 0 =
+    pub zero_in_front : get_or ds 0 0 ≡ 48 → 1 < count → (m : ℕ) (more : List ℕ) → IsNumberFront core m more → ⊥
+    zero_in_front nought long m more h =
+        let k = spelled m more h in
+        let here : get_or ds 0 0 ≡ get_or h.digits 0 0 =
         ap (λ (l : List ℕ). get_or l 0 0) front
         ∙ get_or-take count core 0 0 (omega (arith, long))
-        ∙ ap (λ (l : List ℕ). get_or l 0 0) k.joined
-        ∙ get_or_append_left (decimal m) h.1 0 0 k.form.some in
-        omega (arith, long, k.counted, k.form.lone (sym here ∙ nought)))
+        ∙ ap (λ (l : List ℕ). get_or l 0 0) h.joined
+        ∙ get_or_append_left h.digits more 0 0 k.form.some in
+        omega (arith, long, k.counted, k.form.lone (sym here ∙ nought))
 
-    pub word_goes_on : true ≡ first_passes is_word_byte rest → (m : ℕ) → m < 10 ^ 9
-        → BeginsNotWith line (word (decimal m))
-    word_goes_on on m small = λ ts h. (
-        let k = spelled m small ts h in
-        let same : rest ≡ h.1 =
-        back ∙ ap (λ (i : ℕ). drop i core) k.counted ∙ ap (drop (length (decimal m))) k.joined
-        ∙ drop-append_seam (decimal m) h.1 in
-        false≢true (sym (on ∙ ap (first_passes is_word_byte) same ∙ h.5)))
+    pub word_goes_on : true ≡ first_passes is_word_byte rest → (m : ℕ) (more : List ℕ)
+        → IsNumberFront core m more → ⊥
+    word_goes_on on m more h =
+        let k = spelled m more h in
+        let same : rest ≡ more =
+        back ∙ ap (λ (i : ℕ). drop i core) k.counted ∙ ap (drop (length h.digits)) h.joined
+        ∙ drop-append_seam h.digits more in
+        false≢true (sym (on ∙ ap (first_passes is_word_byte) same ∙ h.stops))
 
     all_digits : AllDigits 10 ds
     all_digits = subst (AllDigits 10) (take_less count 9 core at_most_nine ∙ sym front) f.digits
@@ -128,10 +139,10 @@ module _ (core : List ℕ) (n count : ℕ) (f : IsDigitFront (take 9 core) n cou
         subst (IsNumber ds) value is
 
     pub number_there : 0 < length ds → (get_or ds 0 0 ≡ 48 → length ds ≡ 1) → false ≡ first_passes is_word_byte rest
-        → (n < 10 ^ 9) × BeginsWith line (word (decimal n)) rest
-    number_there some lone off =
-        let joined : core ≡ ds ++ rest = sym (take-append-drop count core) ∙ rw (front, back) refl in
-        let is = is_number some lone in
-        let split : SplitsWhile is_word_byte core ds rest =
-        record { joined = joined; each = digits_pass ds all_digits; stops = sym off } in
-        (is.small, this_number line gap core s ds rest n split is)
+        → IsNumberFront core n rest
+    number_there some lone off = record {
+      digits = ds;
+      number = is_number some lone;
+      joined = sym (take-append-drop count core) ∙ rw (front, back) refl;
+      stops = sym off;
+    }

@@ -1,17 +1,18 @@
 -- The first token of a line, where it is what is looked for.
-use Rattle.std.proofs.Common.{◌≡◌, ℕ, ◌^◌, ◌<◌, true, false, eqb, List, [], ◌∷◌, ◌++◌, length, take, drop, refl, sym, ap, ◌∙◌, subst, arith}
+use Rattle.std.proofs.Common.{◌≡◌, ℕ, ◌^◌, ◌<◌, true, false, eqb, List, [], ◌∷◌, ◌++◌, length, take, drop, refl, sym, ap, ◌∙◌, subst, arith, Option, Some, None, MatchOption}
 use Rattle.std.specs.List.{IsSplitAt}
 use Rattle.std.specs.Fmt.{decimal}
 use Rattle.std.proofs.Math.Seq.{take-append_seam, drop-append_seam}
 use Rattle.std.proofs.lemmas.List.{length-append, take-append-drop}
 use Rattle.std.proofs.lemmas.Bool.{false≢true, eqb-true}
 use Rattle.nll_text.specs.Lines.{is_blank}
-use Rattle.nll_text.specs.Number.{IsNumber}
+use Rattle.nll_text.specs.Number.{IsNumberFront}
 use Rattle.nll_text.specs.Tokens.{Token, word, region, spelling, is_word_byte, IsWord, IsGap, first_passes, IsMadeOf}
 use Rattle.nll_text.specs.Lexing.{BeginsWith, BeginsNotWith, SplitsWhile}
 use Rattle.nll_text.proofs.ByteLemmas.{same_split}
 use Rattle.nll_text.proofs.NumberLemmas.{number_form}
-use Rattle.nll_text.proofs.TokenLemmas.{token_solid, token_after, begins_with, word_begins, region_begins, nothing_left, past_gap}
+use Rattle.nll_text.proofs.DigitLemmas.{digits_pass}
+use Rattle.nll_text.proofs.TokenLemmas.{token_solid, token_after, begins_with, region_begins, nothing_left, past_gap}
 
 module _ (line gap core : List ℕ) (s : SplitsWhile is_blank line gap core) where
   -- what stands behind the blanks of a line begins with the line's first token
@@ -45,19 +46,33 @@ module _ (line gap core : List ℕ) (s : SplitsWhile is_blank line gap core) whe
 
   -- ---- a number
 
-  pub no_number : (w rest : List ℕ) → SplitsWhile is_word_byte core w rest
-      → ((n : ℕ) → IsNumber w n → ⊥) → (n : ℕ) → n < 10 ^ 9 → BeginsNotWith line (word (decimal n))
-  no_number w rest split none n small = λ ts h. (
-      let same =
-      same_split is_word_byte w rest (decimal n) h.1 split.each split.stops h.4.1 h.5
-      (sym split.joined ∙ first_token (word (decimal n)) ts h) in
-      none n (record { small = small; printed = same.0 }))
+  no_number : ((n : ℕ) (rest : List ℕ) → IsNumberFront core n rest → ⊥) → (n : ℕ) → n < 10 ^ 9
+      → BeginsNotWith line (word (decimal n))
+  no_number none n small = λ ts h.
+      none n h.1 (record {
+        digits = decimal n;
+        number = record { small = small; printed = refl };
+        joined = first_token (word (decimal n)) ts h;
+        stops = h.5;
+      })
 
-  pub this_number : (w rest : List ℕ) (n : ℕ) → SplitsWhile is_word_byte core w rest → IsNumber w n
-      → BeginsWith line (word (decimal n)) rest
-  this_number w rest n split is =
-      let b = token_after line gap core (word w) rest s (word_begins core w rest split (number_form w n is).some) in
-      subst (λ (v : List ℕ). BeginsWith line (word v) rest) is.printed b
+  this_number : (n : ℕ) (rest : List ℕ) → IsNumberFront core n rest
+      → (n < 10 ^ 9) × BeginsWith line (word (decimal n)) rest
+  this_number n rest is =
+      let form = number_form is.digits n is.number in
+      let spelled : IsWord is.digits = (form.some, digits_pass is.digits form.digits) in
+      let b = token_after line gap core (word is.digits) rest s
+      (begins_with core (word is.digits) rest is.joined spelled is.stops) in
+      (is.number.small, subst (λ (v : List ℕ). BeginsWith line (word v) rest) is.number.printed b)
+
+  -- what is the number in front of the bytes behind the blanks is the first token
+  pub number_first : {X : Type 0} (number : X → ℕ) (behind : X → List ℕ) (o : Option X)
+      → MatchOption o ((n : ℕ) (rest : List ℕ) → IsNumberFront core n rest → ⊥)
+      (λ x. IsNumberFront core (number x) (behind x))
+      → MatchOption o ((n : ℕ) → n < 10 ^ 9 → BeginsNotWith line (word (decimal n)))
+      (λ x. (number x < 10 ^ 9) × BeginsWith line (word (decimal (number x))) (behind x))
+  number_first number behind None h = no_number h
+  number_first number behind (Some x) h = this_number (number x) (behind x) h
 
   -- ---- a region
 

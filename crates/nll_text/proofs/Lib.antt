@@ -1,8 +1,8 @@
 pub mod LineLemmas
 pub mod ByteLemmas
 pub mod TableLemmas
-pub mod FrontLemmas
 pub mod DigitLemmas
+pub mod FrontLemmas
 pub mod TokenLemmas
 pub mod Utf8Lemmas
 pub mod NumberLemmas

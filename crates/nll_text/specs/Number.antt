@@ -1,14 +1,22 @@
 -- Numbers in a text: `0`, or one to nine digits with no zero in front.
 -- Source: project's choice.
-use Rattle.std.specs.Prelude.{◌≡◌, ℕ, ◌<◌, ◌≤◌, ◌^◌, List, false, length, take, slice_index_or}
+use Rattle.std.specs.Prelude.{◌≡◌, ℕ, ◌<◌, ◌≤◌, ◌^◌, List, ◌++◌, false, length, take, slice_index_or}
 use Rattle.std.specs.Char.{is_ascii_digit}
 use Rattle.std.specs.Fmt.{decimal}
 use Rattle.std.specs.Str.Parse.{AllDigits, digits_value}
+use Rattle.nll_text.specs.Tokens.{first_passes, is_word_byte}
 
 -- The word is the number as it is printed, and the number is below a thousand million.
 pub record IsNumber (word : List ℕ) (n : ℕ) : Type 0 where
   pub small : n < 10 ^ 9
   pub printed : word ≡ decimal n
+
+-- The bytes are a whole word that is this number, and then the rest.
+pub record IsNumberFront (bytes : List ℕ) (n : ℕ) (rest : List ℕ) : Type 0 where
+  pub digits : List ℕ
+  pub number : IsNumber digits n
+  pub joined : bytes ≡ digits ++ rest
+  pub stops : first_passes is_word_byte rest ≡ false
 
 -- So many digits stand at the front of the bytes and no more, and this is their value.
 pub record IsDigitFront (bytes : List ℕ) (n count : ℕ) : Type 0 where

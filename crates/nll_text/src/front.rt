@@ -6,6 +6,7 @@ ghost use Rattle.std.specs.Fmt.{decimal};
 ghost use Rattle.nll_text.specs.Tokens as tokens;
 ghost use Rattle.nll_text.specs.Tokens.{IsGap, IsWord, first_passes};
 ghost use Rattle.nll_text.specs.Lexing.{BeginsWith, BeginsNotWith};
+ghost use Rattle.nll_text.specs.Number.{IsNumberFront};
 
 use crate::bytes::{is_word_byte, same_bytes, split_gap, split_word};
 use crate::number::digits_in_front;
@@ -37,15 +38,14 @@ pub fn after_word<'a>(line: &'a [u8], word: &[u8]) -> Option<&'a [u8]>
     Some(rest)
 }
 
-/// The number that is the first token of a line, and what stands behind it.
-pub fn first_number(line: &[u8]) -> Option<(u32, &[u8])>
-    ensures { MatchOption result
-        ((n : ℕ) → n < 10 ^ 9 → BeginsNotWith line.now (tokens.word (decimal n)))
-        (λ p. (p.0 < 10 ^ 9) × BeginsWith line.now (tokens.word (decimal p.0)) p.1.now) }
+/// The number that is the first word of bytes, with nothing before it, and what stands behind it:
+/// `0`, or one to nine digits with no zero in front.
+pub fn number_in_front(bytes: &[u8]) -> Option<(u32, &[u8])>
+    ensures { MatchOption result ((n : ℕ) (rest : List ℕ) → ¬ IsNumberFront bytes.now n rest)
+        (λ p. IsNumberFront bytes.now p.0 p.1.now) }
 {
-    let (_gap, core) = split_gap(line);
-    let (number, count) = digits_in_front(core);
-    let (digits, rest) = core.split_at(count);
+    let (number, count) = digits_in_front(bytes);
+    let (digits, rest) = bytes.split_at(count);
     let first = digits.first()?;
     if *first == b'0' && count > 1 {
         return None;
@@ -54,6 +54,16 @@ pub fn first_number(line: &[u8]) -> Option<(u32, &[u8])>
         return None;
     }
     Some((number, rest))
+}
+
+/// The number that is the first token of a line, and what stands behind it.
+pub fn first_number(line: &[u8]) -> Option<(u32, &[u8])>
+    ensures { MatchOption result
+        ((n : ℕ) → n < 10 ^ 9 → BeginsNotWith line.now (tokens.word (decimal n)))
+        (λ p. (p.0 < 10 ^ 9) × BeginsWith line.now (tokens.word (decimal p.0)) p.1.now) }
+{
+    let (_gap, core) = split_gap(line);
+    number_in_front(core)
 }
 
 /// The name of the region that is the first token of a line, and what stands behind it.

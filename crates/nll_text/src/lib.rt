@@ -18,11 +18,10 @@ mod token;
 
 pub use bytes::same_bytes;
 pub use error::{LexError, ScanError};
-pub use front::{after_word, first_number, first_region, is_gap};
+pub use front::{after_word, first_number, first_region, is_gap, number_in_front};
 pub use header::is_header;
 pub use laws::one_token_list;
 pub use lexer::tokens_of;
 pub use lines::next_line;
-pub use number::number_of;
 pub use scan::{Scanned, is_skipped_line, scan_line};
 pub use token::Token;
