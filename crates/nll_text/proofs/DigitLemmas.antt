@@ -1,7 +1,6 @@
 -- The digits at the front of bytes, and the number that they spell.
-use Rattle.std.proofs.Common.{◌≡◌, ⊎_elim, ℕ, zero, suc, ◌^◌, ◌<◌, ◌≤◌, true, false, List, [], ◌∷◌, ◌++◌, length, take, drop, get_or, refl, sym, ap, ◌∙◌, subst, arith}
+use Rattle.std.proofs.Common.{◌≡◌, ⊎_elim, ℕ, zero, suc, ◌<◌, ◌≤◌, true, false, List, [], ◌∷◌, ◌++◌, length, take, drop, get_or, refl, sym, ap, ◌∙◌, subst, arith}
 use Rattle.std.specs.Char.{is_ascii_digit}
-use Rattle.std.specs.Fmt.{decimal}
 use Rattle.std.specs.Str.Parse.{AllDigits, digits_value}
 use Rattle.std.proofs.Math.Seq.{get_or-append_seam, drop-append_seam}
 use Rattle.std.proofs.lemmas.Bool.{false≢true, cases_lt}
@@ -91,11 +90,11 @@ module _ (core : List ℕ) (n count : ℕ) (f : IsDigitFront (take 9 core) n cou
 
   module _ (ds rest : List ℕ) (front : ds ≡ take count core) (back : rest ≡ drop count core) where
     -- a number in front is as long as the digits there
-    record Spelled (digits more : List ℕ) : Type 0 where
+    record Spelled (digits : List ℕ) : Type 0 where
       form : HasNumberForm digits
       counted : count ≡ length digits
 
-    spelled : (m : ℕ) (more : List ℕ) (h : IsNumberFront core m more) → Spelled h.digits more
+    spelled : (m : ℕ) (more : List ℕ) (h : IsNumberFront core m more) → Spelled h.digits
     spelled m more h =
         let form = number_form h.digits m h.number in
         record {

@@ -1,4 +1,4 @@
-use Rattle.std.proofs.Common.{◌≡◌, [], length, sym, ap, arith}
+use Rattle.std.proofs.Common.{[], length, sym, ap}
 use Rattle.std.proofs.lemmas.Bool.{eqb-true, eqb-false}
 use Rattle.nll_text.proofs.DigitLemmas.{whole_in_front, whole_front, nothing_behind}
 use Rattle.nll_command_line.proofs.options.number_alone.Goals as goal
