@@ -1,7 +1,6 @@
 -- A table of types that gets further shapes leaves what a reader's lines say.
 use Rattle.std.proofs.Common.{◌≡◌, ◌∙◌, refl, ap, sym, length}
-use Rattle.nll_types.specs.Table.{Extends}
-use Rattle.nll_types.specs.Tables.{Tables}
+use Rattle.nll_types.specs.Tables.{Tables, AddsShapes}
 use Rattle.nll_mir_grammar.specs.MirForms.{Form}
 use Rattle.nll_mir_text.specs.MirSaid.{Said}
 use Rattle.nll_mir_text.specs.MirFaults.{is_in_order}
@@ -13,10 +12,9 @@ use Rattle.nll_mir_text.proofs.ShapeLemmas.{shapes_extended}
 abbrev pub grown : Reader → Tables → Reader
 grown r t = record r { variables = record r.variables { table = t } }
 
-module _ (r : Reader) (t : Tables) (same : t.structs ≡ r.variables.table.structs)
-    (extends : Extends r.variables.table.shapes t.shapes) where
+module _ (r : Reader) (t : Tables) (grows : AddsShapes r.variables.table t) where
   pub said_grown : said_by (grown r t) ≡ said_by r
-  said_grown = rw same refl
+  said_grown = rw grows.structs refl
 
   pub ready_grown : IsReady r → IsReady (grown r t)
   ready_grown h = record {
@@ -25,12 +23,12 @@ module _ (r : Reader) (t : Tables) (same : t.structs ≡ r.variables.table.struc
     few_universals = h.few_universals;
     few_regions = h.few_regions;
     no_parameter = h.no_parameter;
-    named_structs = h.named_structs ∙ sym (ap length same);
-    counted_kinds = h.counted_kinds ∙ sym (ap length same);
-    kinds = rw same h.kinds;
-    few_structs = rw same h.few_structs;
+    named_structs = h.named_structs ∙ sym (ap length grows.structs);
+    counted_kinds = h.counted_kinds ∙ sym (ap length grows.structs);
+    kinds = rw grows.structs h.kinds;
+    few_structs = rw grows.structs h.few_structs;
     few_variables = h.few_variables;
-    shapes = shapes_extended _ _ _ _ extends h.shapes;
+    shapes = shapes_extended _ _ _ _ grows.extends h.shapes;
     few_blocks = h.few_blocks;
     no_start = h.no_start;
     starts = h.starts;

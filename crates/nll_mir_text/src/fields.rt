@@ -4,7 +4,8 @@ ghost use Rattle.std.specs.Prelude.{◌≡◌, ◌<◌, ◌^◌, ◌++◌, true,
 ghost use Rattle.std.specs.Prelude.{MatchOption};
 ghost use Rattle.std.specs.List.{list_all};
 ghost use Rattle.nll_types.specs.Shapes.{is_small_shape, tuple_shape, shapes_of};
-ghost use Rattle.nll_types.specs.Table.{AreBelow, Extends, shape_in};
+ghost use Rattle.nll_types.specs.Table.{AreBelow, shape_in};
+ghost use Rattle.nll_types.specs.Tables.{AddsShapes};
 ghost use Rattle.nll_types.specs.Types.{TypeTrees, tuple};
 ghost use Rattle.nll_types.specs.Views.{tree, trees};
 ghost use Rattle.nll_type_grammar.specs.TypeTexts.{written};
@@ -88,8 +89,7 @@ pub fn judge_fields(
     table: &mut TypeTable,
     fields: &ResolvedType,
 ) -> Result<JudgedFields, Memory>
-    ensures structs { table.new.structs ≡ table.old.structs }
-    ensures extends { Extends table.old.shapes table.new.shapes }
+    ensures grows { AddsShapes table.old table.new }
     ensures judged { IfOk result (λ j. (s : naming_scope) (t : WrittenType) → IsTuple t
         → IsResolved s t fields.now → AreJudged s (parts t) j) }
 {

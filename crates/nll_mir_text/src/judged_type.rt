@@ -1,7 +1,7 @@
 //! What is judged of a type of a variable.
 
-ghost use Rattle.std.specs.Prelude.{◌≡◌, IfOk};
-ghost use Rattle.nll_types.specs.Table.{Extends};
+ghost use Rattle.std.specs.Prelude.{IfOk};
+ghost use Rattle.nll_types.specs.Tables.{AddsShapes};
 ghost use Rattle.nll_mir_text.specs.ResolvedStatements.{IsOfType};
 
 use nll_resolve::ResolvedType;
@@ -24,8 +24,7 @@ pub fn judge_type(
     table: &mut TypeTable,
     ty: &ResolvedType,
 ) -> Result<JudgedType, Memory>
-    ensures structs { table.new.structs ≡ table.old.structs }
-    ensures extends { Extends table.old.shapes table.new.shapes }
+    ensures grows { AddsShapes table.old table.new }
     ensures judged { IfOk result (IsOfType table.new.shapes ty.now) }
 {
     let shape = ty.shape(alloc, table)?;

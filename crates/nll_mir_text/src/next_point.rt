@@ -1,7 +1,7 @@
 //! Judging a statement over numbers, and putting it at the next point.
 
 ghost use Rattle.std.specs.Prelude.{◌≡◌, ◌++◌, ◌∷◌, [], not, IfOk, OnOk};
-ghost use Rattle.nll_types.specs.Table.{Extends};
+ghost use Rattle.nll_types.specs.Tables.{AddsShapes};
 ghost use Rattle.nll_type_grammar.specs.WrittenTypes.{Name, WrittenType};
 ghost use Rattle.nll_statements.specs.Kept.{statement_of};
 ghost use Rattle.nll_statements.specs.Statements.{Statement as written_statement};
@@ -38,8 +38,7 @@ pub fn judge_point(
     requires { AreShapes variables.old.table.shapes variables.old.shapes.items
         variables.old.types.items }
     ensures others { variables.new ≡ record variables.old { table = variables.new.table } }
-    ensures structs { variables.new.table.structs ≡ variables.old.table.structs }
-    ensures extends { Extends variables.old.table.shapes variables.new.table.shapes }
+    ensures grows { AddsShapes variables.old.table variables.new.table }
     ensures judged { IfOk result (λ j. (regions : regions_kept) (structs : structs_kept)
         (i : written_statement Name WrittenType)
         → IsOfStatement (scope_in regions structs) i (statement_of statement.now)

@@ -1,7 +1,7 @@
 //! The shapes of the types that are written in a statement.
 
-ghost use Rattle.std.specs.Prelude.{◌≡◌, ◌∷◌, [], true, map, IfOk, OnOk};
-ghost use Rattle.nll_types.specs.Table.{Extends};
+ghost use Rattle.std.specs.Prelude.{◌∷◌, [], true, map, IfOk, OnOk};
+ghost use Rattle.nll_types.specs.Tables.{AddsShapes};
 ghost use Rattle.nll_statements.specs.Kept.{call_of, statement_of};
 ghost use Rattle.nll_statements.specs.Statements.{types_written};
 ghost use Rattle.nll_mir_text.specs.ResolvedStatements.{AreOfTypes, AddsTypes};
@@ -30,8 +30,7 @@ fn shape_further(
     ty: &ResolvedType,
     shaped: &mut ShapedTypes,
 ) -> Result<(), Memory>
-    ensures structs { table.new.structs ≡ table.old.structs }
-    ensures extends { Extends table.old.shapes table.new.shapes }
+    ensures grows { AddsShapes table.old table.new }
     ensures shaped { OnOk result (AddsTypes (ty.now ∷ []) table.old.shapes shaped.old
         table.new.shapes shaped.new) }
 {
@@ -48,8 +47,7 @@ fn shape_arguments(
     arguments: &[(Operand, ResolvedType)],
     shaped: &mut ShapedTypes,
 ) -> Result<(), Memory>
-    ensures structs { table.new.structs ≡ table.old.structs }
-    ensures extends { Extends table.old.shapes table.new.shapes }
+    ensures grows { AddsShapes table.old table.new }
     ensures shaped { OnOk result (AddsTypes (map (λ a. a.1) arguments.now) table.old.shapes
         shaped.old table.new.shapes shaped.new) }
 {
@@ -66,8 +64,7 @@ fn shape_call(
     call: &Call<RegionId, ResolvedType>,
     shaped: &mut ShapedTypes,
 ) -> Result<(), Memory>
-    ensures structs { table.new.structs ≡ table.old.structs }
-    ensures extends { Extends table.old.shapes table.new.shapes }
+    ensures grows { AddsShapes table.old table.new }
     ensures shaped { OnOk result (AddsTypes (types_written (call_of call.now)) table.old.shapes
         shaped.old table.new.shapes shaped.new) }
 {
@@ -82,8 +79,7 @@ fn shape_written(
     statement: &Statement<RegionId, ResolvedType>,
     shaped: &mut ShapedTypes,
 ) -> Result<(), Memory>
-    ensures structs { table.new.structs ≡ table.old.structs }
-    ensures extends { Extends table.old.shapes table.new.shapes }
+    ensures grows { AddsShapes table.old table.new }
     ensures shaped { OnOk result (AddsTypes (types_written (statement_of statement.now))
         table.old.shapes shaped.old table.new.shapes shaped.new) }
 {
@@ -100,8 +96,7 @@ pub fn shape_types(
     table: &mut TypeTable,
     statement: &Statement<RegionId, ResolvedType>,
 ) -> Result<ShapedTypes, Memory>
-    ensures structs { table.new.structs ≡ table.old.structs }
-    ensures extends { Extends table.old.shapes table.new.shapes }
+    ensures grows { AddsShapes table.old table.new }
     ensures shaped { IfOk result (AreOfTypes table.new.shapes
         (types_written (statement_of statement.now))) }
 {

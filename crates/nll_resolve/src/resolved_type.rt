@@ -2,7 +2,8 @@
 
 ghost use Rattle.std.specs.Prelude.{◌≡◌, ◌<◌, length, IfOk};
 ghost use Rattle.nll_types.specs.Shapes.{shape_of};
-ghost use Rattle.nll_types.specs.Table.{Extends, shape_in};
+ghost use Rattle.nll_types.specs.Table.{shape_in};
+ghost use Rattle.nll_types.specs.Tables.{AddsShapes};
 ghost use Rattle.nll_types.specs.Views.{tree};
 ghost use Rattle.nll_resolve.specs.Resolution.{AreNodes, tree_of};
 
@@ -99,8 +100,7 @@ impl ResolvedType {
     /// # Cost
     /// Linear in the type (not proved).
     pub fn shape(&self, alloc: Global, table: &mut TypeTable) -> Result<usize, Memory>
-        ensures structs { table.new.structs ≡ table.old.structs }
-        ensures extends { Extends table.old.shapes table.new.shapes }
+        ensures grows { AddsShapes table.old table.new }
         ensures within { IfOk result (λ i. i < length table.new.shapes) }
         ensures shape { IfOk result
             (λ i. shape_in table.new.shapes i ≡ shape_of (tree_of self.now)) }

@@ -3,7 +3,8 @@
 ghost use Rattle.std.specs.Prelude.{◌≡◌, ◌<◌, List, [], length, map, slice_index, IfOk, OnOk};
 ghost use Rattle.std.specs.Prelude.{IsTrue, ◌∷◌, ◌++◌};
 ghost use Rattle.nll_types.specs.Shapes.{reference_shape, shape_of};
-ghost use Rattle.nll_types.specs.Table.{Extends, AreBelow, shape_in};
+ghost use Rattle.nll_types.specs.Table.{AreBelow, shape_in};
+ghost use Rattle.nll_types.specs.Tables.{AddsShapes};
 ghost use Rattle.nll_types.specs.Types.{TypeTree, tuple, named, function};
 ghost use Rattle.nll_resolve.specs.Resolution.{AreNodes, all_at, at, parts_of, resolved};
 ghost use Rattle.nll_resolve.specs.Resolution.{tree_over};
@@ -53,8 +54,7 @@ fn is_reference(shapes: &Shapes, shape: usize, mutable: bool, target: usize) -> 
 // without hashing.
 fn reference_to(table: &mut TypeTable, mutable: bool, target: usize) -> Result<usize, Memory>
     requires { target < length table.old.shapes }
-    ensures structs { table.new.structs ≡ table.old.structs }
-    ensures extends { Extends table.old.shapes table.new.shapes }
+    ensures grows { AddsShapes table.old table.new }
     ensures within { IfOk result (λ i. i < length table.new.shapes) }
     ensures at { IfOk result (λ i. shape_in table.new.shapes i
         ≡ reference_shape mutable (shape_in table.old.shapes target)) }
@@ -78,8 +78,7 @@ fn shape_of_tuple(
 ) -> Result<usize, Memory>
     requires parts { AreBelow (length done.now) parts.now }
     requires shapes { AreBelow (length table.old.shapes) done.now }
-    ensures structs { table.new.structs ≡ table.old.structs }
-    ensures extends { Extends table.old.shapes table.new.shapes }
+    ensures grows { AddsShapes table.old table.new }
     ensures within { IfOk result (λ i. i < length table.new.shapes) }
     ensures shape { IfOk result (λ i. (ts : List TypeTree) → AreShaped table.old.shapes ts done.now
         → shape_in table.new.shapes i ≡ shape_of (tuple (all_at ts parts.now))) }
@@ -97,8 +96,7 @@ fn shape_of_name(
 ) -> Result<usize, Memory>
     requires parts { AreBelow (length done.now) name.now.arguments.types.items }
     requires shapes { AreBelow (length table.old.shapes) done.now }
-    ensures structs { table.new.structs ≡ table.old.structs }
-    ensures extends { Extends table.old.shapes table.new.shapes }
+    ensures grows { AddsShapes table.old table.new }
     ensures within { IfOk result (λ i. i < length table.new.shapes) }
     ensures shape { IfOk result (λ i. (ts : List TypeTree) → AreShaped table.old.shapes ts done.now
         → shape_in table.new.shapes i ≡ shape_of (named name.now.number
@@ -120,8 +118,7 @@ fn shape_of_function(
     requires inputs { AreBelow (length done.now) inputs.now }
     requires output { output < length done.now }
     requires shapes { AreBelow (length table.old.shapes) done.now }
-    ensures structs { table.new.structs ≡ table.old.structs }
-    ensures extends { Extends table.old.shapes table.new.shapes }
+    ensures grows { AddsShapes table.old table.new }
     ensures within { IfOk result (λ i. i < length table.new.shapes) }
     ensures shape { IfOk result (λ i. (ts : List TypeTree) → AreShaped table.old.shapes ts done.now
         → shape_in table.new.shapes i ≡ shape_of (function (all_at ts inputs.now) (at ts output))) }
@@ -139,8 +136,7 @@ fn shape_of_node(
 ) -> Result<usize, Memory>
     requires parts { AreBelow (length done.now) (parts_of node.now) }
     requires shapes { AreBelow (length table.old.shapes) done.now }
-    ensures structs { table.new.structs ≡ table.old.structs }
-    ensures extends { Extends table.old.shapes table.new.shapes }
+    ensures grows { AddsShapes table.old table.new }
     ensures within { IfOk result (λ i. i < length table.new.shapes) }
     ensures shape { IfOk result (λ i. (ts : List TypeTree) → AreShaped table.old.shapes ts done.now
         → shape_in table.new.shapes i ≡ shape_of (tree_over ts node.now)) }
@@ -167,8 +163,7 @@ fn put_shapes(
 ) -> Result<usize, Memory>
     requires sound { AreNodes nodes.now }
     requires empty { done.old.items ≡ [] }
-    ensures structs { table.new.structs ≡ table.old.structs }
-    ensures extends { Extends table.old.shapes table.new.shapes }
+    ensures grows { AddsShapes table.old table.new }
     ensures within { IfOk result (λ i. i < length table.new.shapes) }
     ensures shape { IfOk result
         (λ i. shape_in table.new.shapes i ≡ shape_of (resolved nodes.now)) }
@@ -187,8 +182,7 @@ pub(crate) fn shape_of_nodes(
     nodes: &[ResolvedNode],
 ) -> Result<usize, Memory>
     requires { AreNodes nodes.now }
-    ensures structs { table.new.structs ≡ table.old.structs }
-    ensures extends { Extends table.old.shapes table.new.shapes }
+    ensures grows { AddsShapes table.old table.new }
     ensures within { IfOk result (λ i. i < length table.new.shapes) }
     ensures shape { IfOk result
         (λ i. shape_in table.new.shapes i ≡ shape_of (resolved nodes.now)) }

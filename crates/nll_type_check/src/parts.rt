@@ -8,7 +8,8 @@ ghost use Rattle.nll_types.specs.Judging.{HaveShapes, IsJudged, have_variables};
 ghost use Rattle.nll_types.specs.Operands.{operand_of, operand_type, place_in};
 ghost use Rattle.nll_types.specs.Places.{behind, part_count, small_prefixes};
 ghost use Rattle.nll_types.specs.Shapes.{shape_of, is_small};
-ghost use Rattle.nll_types.specs.Table.{Extends, AreBelow, shape_in};
+ghost use Rattle.nll_types.specs.Table.{AreBelow, shape_in};
+ghost use Rattle.nll_types.specs.Tables.{AddsShapes};
 ghost use Rattle.nll_types.specs.Types.{TypeTree};
 ghost use Rattle.nll_types.specs.declared.place.Projection.TheVariants.{Field as field};
 ghost use Rattle.nll_statements.specs.TypePairs.{beside_parts, operand_types, parts_of_type};
@@ -43,8 +44,7 @@ fn judge_part(
 ) -> Result<Judgement, Memory>
     requires variables { AreBelow (length table.old.shapes) variables.now }
     requires shape { shape < length table.old.shapes }
-    ensures structs { table.new.structs ≡ table.old.structs }
-    ensures extends { Extends table.old.shapes table.new.shapes }
+    ensures grows { AddsShapes table.old table.new }
     ensures declared { IfOk result (λ j. j.declared
         ≡ have_variables (length variables.now) (place_in (operand_of operand.now))) }
     ensures judged { IfOk result (λ j. (types : List TypeTree) (t u : TypeTree)
@@ -73,8 +73,7 @@ pub(crate) fn judge_parts(
 ) -> Result<Judgement, Memory>
     requires variables { AreBelow (length table.old.shapes) variables.now }
     requires shape { shape < length table.old.shapes }
-    ensures structs { table.new.structs ≡ table.old.structs }
-    ensures extends { Extends table.old.shapes table.new.shapes }
+    ensures grows { AddsShapes table.old table.new }
     ensures declared { IfOk result (λ j. j.declared ≡ have_variables (length variables.now)
         (flat_map place_in (map operand_of operands.now))) }
     ensures judged { IfOk result (λ j. (types : List TypeTree) (t : TypeTree)
@@ -111,8 +110,7 @@ pub(crate) fn judge_arguments<T>(
     requires variables { AreBelow (length table.old.shapes) variables.now }
     requires written { AreBelow (length table.old.shapes) written.now }
     requires each { length arguments.now ≤ length written.now }
-    ensures structs { table.new.structs ≡ table.old.structs }
-    ensures extends { Extends table.old.shapes table.new.shapes }
+    ensures grows { AddsShapes table.old table.new }
     ensures declared { IfOk result (λ j. j.declared ≡ have_variables (length variables.now)
         (flat_map place_in (map (λ a. operand_of a.0) arguments.now))) }
     ensures judged { IfOk result (λ j. (types others : List TypeTree) (g : T → TypeTree)

@@ -9,7 +9,8 @@ ghost use Rattle.nll_types.specs.Operands.{operand_of, operand_type, place_in};
 ghost use Rattle.nll_types.specs.Places.{path_of, small_prefixes};
 ghost use Rattle.nll_types.specs.Shapes.{shape_of, is_small};
 ghost use Rattle.nll_types.specs.Structs.{Struct};
-ghost use Rattle.nll_types.specs.Table.{Extends, AreBelow, shape_in};
+ghost use Rattle.nll_types.specs.Table.{AreBelow, shape_in};
+ghost use Rattle.nll_types.specs.Tables.{AddsShapes};
 ghost use Rattle.nll_types.specs.Types.{TypeTree, int};
 ghost use Rattle.nll_statements.specs.Kept.{statement_of};
 ghost use Rattle.nll_statements.specs.Statements.{map_statement, types_written, make, call};
@@ -35,8 +36,7 @@ fn judge_make(
 ) -> Result<Judgement, Memory>
     requires variables { AreBelow (length table.old.shapes) variables.now }
     requires shape { shape < length table.old.shapes }
-    ensures structs { table.new.structs ≡ table.old.structs }
-    ensures extends { Extends table.old.shapes table.new.shapes }
+    ensures grows { AddsShapes table.old table.new }
     ensures declared { IfOk result (λ j. j.declared ≡ have_variables (length variables.now)
         (path_of place.now ∷ flat_map place_in (map operand_of operands.now))) }
     ensures judged { IfOk result (λ j. (types : List TypeTree) (t : TypeTree)
@@ -66,8 +66,7 @@ fn judge_call<T>(
     requires variables { AreBelow (length table.old.shapes) variables.now }
     requires written { AreBelow (length table.old.shapes) written.now }
     requires each { length written.now ≡ length arguments.now + 1 }
-    ensures structs { table.new.structs ≡ table.old.structs }
-    ensures extends { Extends table.old.shapes table.new.shapes }
+    ensures grows { AddsShapes table.old table.new }
     ensures declared { IfOk result (λ j. j.declared ≡ have_variables (length variables.now)
         (path_of place.now ∷ flat_map place_in (map (λ a. operand_of a.0) arguments.now))) }
     ensures judged { IfOk result (λ j. (types : List TypeTree) (g : T → TypeTree) (t : TypeTree)
@@ -95,8 +94,7 @@ fn judge_switch(
     operand: &Operand,
 ) -> Result<Judgement, Memory>
     requires { AreBelow (length table.old.shapes) variables.now }
-    ensures structs { table.new.structs ≡ table.old.structs }
-    ensures extends { Extends table.old.shapes table.new.shapes }
+    ensures grows { AddsShapes table.old table.new }
     ensures declared { IfOk result (λ j. j.declared
         ≡ have_variables (length variables.now) (place_in (operand_of operand.now))) }
     ensures judged { IfOk result (λ j. (types : List TypeTree)
@@ -150,8 +148,7 @@ pub fn judge_statement<R, T>(
     requires variables { AreBelow (length table.old.shapes) variables.now }
     requires written { AreBelow (length table.old.shapes) written.now }
     requires each { length written.now ≡ length (types_written (statement_of statement.now)) }
-    ensures structs { table.new.structs ≡ table.old.structs }
-    ensures extends { Extends table.old.shapes table.new.shapes }
+    ensures grows { AddsShapes table.old table.new }
     ensures declared { IfOk result (λ j. j.declared ≡ list_all
         (λ x. nat_lt x (length variables.now)) (variables_written (statement_of statement.now))) }
     ensures judged { IfOk result (λ j. (types : List TypeTree) (f : R → ℕ) (g : T → TypeTree)

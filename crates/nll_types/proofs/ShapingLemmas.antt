@@ -7,6 +7,7 @@ use Rattle.std.proofs.Math.Seq.{get_or-append_seam, take-length}
 use Rattle.nll_types.specs.Views.{tree, trees}
 use Rattle.nll_types.specs.Shapes.{Shape, ShapeList, int_shape, shape_of, shapes_of, argument_shape, put_in_shape, put_in_shapes}
 use Rattle.nll_types.specs.Table.{at, all_at, shapes_in, shape_in, Extends, AreBelow, IsOver}
+use Rattle.nll_types.specs.Tables.{Tables, AddsShapes}
 use Rattle.std.specs.Global.{Vec}
 use Rattle.nll_types.specs.declared.node.Node.{Node}
 use Rattle.nll_types.specs.declared.node.Node.TheVariants.{Function}
@@ -35,6 +36,20 @@ pub extends_then : (a b c : List Node) → Extends a b → Extends b c → Exten
 extends_then a b c x y = record {
   longer = (let p = x.longer in let q = y.longer in omega arith);
   kept = λ i h. y.kept i (let p = x.longer in omega arith) ∙ x.kept i h;
+}
+
+-- a table that stays as it is
+pub grows_same : (t : Tables) → AddsShapes t t
+grows_same t = record {
+  structs = refl;
+  extends = extends_same t.shapes;
+}
+
+-- a table that grows twice
+pub grows_then : (a b c : Tables) → AddsShapes a b → AddsShapes b c → AddsShapes a c
+grows_then a b c x y = record {
+  structs = y.structs ∙ x.structs;
+  extends = extends_then a.shapes b.shapes c.shapes x.extends y.extends;
 }
 
 pub below_more : (m n : ℕ) (is : List ℕ) → m ≤ n → AreBelow m is → AreBelow n is

@@ -8,11 +8,10 @@ use Rattle.nll_types.specs.Types.{TypeTree}
 use Rattle.nll_types.specs.Structs.{Struct}
 use Rattle.nll_types.specs.Places.{behind, behind_all, small_behind}
 use Rattle.nll_types.specs.Shapes.{Shape, shape_of, behind_shape, is_small, is_small_shape}
-use Rattle.nll_types.specs.Table.{Extends, shape_in}
+use Rattle.nll_types.specs.Table.{shape_in}
 use Rattle.nll_types.specs.declared.node.Node.{Node}
 use Rattle.nll_types.specs.declared.place.Projection.{Projection}
 use Rattle.nll_types.proofs.ShapeLemmas.{same_nodes, behind_agrees}
-use Rattle.nll_types.proofs.ShapingLemmas.{extends_then}
 
 -- the shape behind projections, one after another
 abbrev pub behind_shapes : List Struct → List Projection → Shape → Option Shape
@@ -65,7 +64,6 @@ small_behind_agrees structs (p ∷ ps) t =
 -- after n projections the number is that of the shape come to, and the flag tells of those before it
 pub record IsOnWay (structs : List Struct) (first now : List Node) (ps : List Projection) (n from number : ℕ)
     (small : Bool) : Type 0 where
-  pub extends : Extends first now
   pub within : number < length now
   pub same : behind_shapes structs ps (shape_in first from) ≡ behind_shapes structs (drop n ps) (shape_in now number)
   pub told : small_shapes structs ps (shape_in first from)
@@ -74,7 +72,6 @@ pub record IsOnWay (structs : List Struct) (first now : List Node) (ps : List Pr
 pub way_starts : (structs : List Struct) (first : List Node) (ps : List Projection) (from : ℕ) → from < length first
     → IsOnWay structs first first ps 0 from from true
 way_starts structs first ps from h = record {
-  extends = record { longer = omega arith; kept = λ i l. refl };
   within = h;
   same = refl;
   told = refl;
@@ -107,11 +104,10 @@ step_small structs ps n d s u l e =
 -- one projection more is taken
 pub way_on : (structs : List Struct) (first now next : List Node) (ps : List Projection) (n from number m : ℕ)
     (d : Projection) (small : Bool)
-    → n < length ps → IsOnWay structs first now ps n from number small → Extends now next → m < length next
+    → n < length ps → IsOnWay structs first now ps n from number small → m < length next
     → Some (shape_in next m) ≡ behind_shape structs (get_or ps n d) (shape_in now number)
     → IsOnWay structs first next ps (n + 1) from m (small && is_small_shape (shape_in now number))
-way_on structs first now next ps n from number m d small l way e within to = record {
-  extends = extends_then first now next way.extends e;
+way_on structs first now next ps n from number m d small l way within to = record {
   within = within;
   same = way.same ∙ step_shapes structs ps n d (shape_in now number) (Some (shape_in next m)) l to;
   told = way.told ∙ ap (λ (b : Bool). small && b)

@@ -1,6 +1,7 @@
 -- The structs and the shapes of a body.
 -- Source: project's choice.
-use Rattle.std.specs.Prelude.{List}
+use Rattle.std.specs.Prelude.{◌≡◌, List}
+use Rattle.nll_types.specs.Table.{Extends}
 use Rattle.nll_types.specs.declared.node.Node.{Node}
 use Rattle.nll_types.specs.declared.structs.Declaration.{Declaration}
 
@@ -8,3 +9,8 @@ use Rattle.nll_types.specs.declared.structs.Declaration.{Declaration}
 pub record Tables : Type 0 where
   pub structs : List Declaration
   pub shapes : List Node
+
+-- The table has the structs that it had, and each number of a shape still has that shape.
+pub record AddsShapes (old new : Tables) : Type 0 where
+  pub structs : new.structs ≡ old.structs
+  pub extends : Extends old.shapes new.shapes

@@ -10,7 +10,8 @@ ghost use Rattle.nll_types.specs.Judging.{HaveShapes, IsJudged, have_variables};
 ghost use Rattle.nll_types.specs.Operands.{operand_of, operand_type, place_in, reference_to};
 ghost use Rattle.nll_types.specs.Places.{path_of, type_of, small_prefixes};
 ghost use Rattle.nll_types.specs.Shapes.{shape_of, is_small, reference_shape};
-ghost use Rattle.nll_types.specs.Table.{Extends, AreBelow, shape_in};
+ghost use Rattle.nll_types.specs.Table.{AreBelow, shape_in};
+ghost use Rattle.nll_types.specs.Tables.{AddsShapes};
 ghost use Rattle.nll_types.specs.Types.{TypeTree};
 
 use crate::judgement::Judgement;
@@ -63,8 +64,7 @@ impl TypeTable {
         place: &Place,
     ) -> Result<Found, Memory>
         requires { AreBelow (length self.old.shapes) variables.now }
-        ensures structs { self.new.structs ≡ self.old.structs }
-        ensures extends { Extends self.old.shapes self.new.shapes }
+        ensures grows { AddsShapes self.old self.new }
         ensures declared { IfOk result
             (λ f. f.declared ≡ nat_lt (path_of place.now).variable (length variables.now)) }
         ensures within { IfOk result
@@ -104,8 +104,7 @@ impl TypeTable {
         operand: &Operand,
     ) -> Result<Found, Memory>
         requires { AreBelow (length self.old.shapes) variables.now }
-        ensures structs { self.new.structs ≡ self.old.structs }
-        ensures extends { Extends self.old.shapes self.new.shapes }
+        ensures grows { AddsShapes self.old self.new }
         ensures declared { IfOk result (λ f. f.declared
             ≡ have_variables (length variables.now) (place_in (operand_of operand.now))) }
         ensures within { IfOk result

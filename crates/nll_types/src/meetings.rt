@@ -8,7 +8,8 @@ ghost use Rattle.nll_types.specs.Judging.{HaveShapes, IsJudged, have_variables};
 ghost use Rattle.nll_types.specs.Operands.{operand_of, operand_type, place_in, reference_to};
 ghost use Rattle.nll_types.specs.Places.{path_of, type_of, small_prefixes};
 ghost use Rattle.nll_types.specs.Shapes.{shape_of, is_small};
-ghost use Rattle.nll_types.specs.Table.{Extends, AreBelow, shape_in};
+ghost use Rattle.nll_types.specs.Table.{AreBelow, shape_in};
+ghost use Rattle.nll_types.specs.Tables.{AddsShapes};
 ghost use Rattle.nll_types.specs.Types.{TypeTree};
 
 use crate::found::{agree, refers, shape_found};
@@ -32,8 +33,7 @@ impl TypeTable {
         place: &Place,
     ) -> Result<Judgement, Memory>
         requires { AreBelow (length self.old.shapes) variables.now }
-        ensures structs { self.new.structs ≡ self.old.structs }
-        ensures extends { Extends self.old.shapes self.new.shapes }
+        ensures grows { AddsShapes self.old self.new }
         ensures declared { IfOk result (λ j. j.declared ≡ have_variables (length variables.now)
             (path_of place.now ∷ place_in (operand_of operand.now))) }
         ensures judged { IfOk result (λ j. (types : List TypeTree)
@@ -64,8 +64,7 @@ impl TypeTable {
         borrowed: &Place,
     ) -> Result<Judgement, Memory>
         requires { AreBelow (length self.old.shapes) variables.now }
-        ensures structs { self.new.structs ≡ self.old.structs }
-        ensures extends { Extends self.old.shapes self.new.shapes }
+        ensures grows { AddsShapes self.old self.new }
         ensures declared { IfOk result (λ j. j.declared ≡ have_variables (length variables.now)
             (path_of place.now ∷ path_of borrowed.now ∷ [])) }
         ensures judged { IfOk result (λ j. (types : List TypeTree) (r : ℕ)
@@ -97,8 +96,7 @@ impl TypeTable {
     ) -> Result<Judgement, Memory>
         requires variables { AreBelow (length self.old.shapes) variables.now }
         requires shape { shape < length self.old.shapes }
-        ensures structs { self.new.structs ≡ self.old.structs }
-        ensures extends { Extends self.old.shapes self.new.shapes }
+        ensures grows { AddsShapes self.old self.new }
         ensures declared { IfOk result (λ j. j.declared
             ≡ have_variables (length variables.now) (path_of place.now ∷ [])) }
         ensures judged { IfOk result (λ j. (types : List TypeTree) (t : TypeTree)
@@ -127,8 +125,7 @@ impl TypeTable {
     ) -> Result<Judgement, Memory>
         requires variables { AreBelow (length self.old.shapes) variables.now }
         requires shape { shape < length self.old.shapes }
-        ensures structs { self.new.structs ≡ self.old.structs }
-        ensures extends { Extends self.old.shapes self.new.shapes }
+        ensures grows { AddsShapes self.old self.new }
         ensures declared { IfOk result (λ j. j.declared
             ≡ have_variables (length variables.now) (place_in (operand_of operand.now))) }
         ensures judged { IfOk result (λ j. (types : List TypeTree) (t : TypeTree)
@@ -157,8 +154,7 @@ impl TypeTable {
         place: &Place,
     ) -> Result<Judgement, Memory>
         requires { AreBelow (length self.old.shapes) variables.now }
-        ensures structs { self.new.structs ≡ self.old.structs }
-        ensures extends { Extends self.old.shapes self.new.shapes }
+        ensures grows { AddsShapes self.old self.new }
         ensures declared { IfOk result (λ j. j.declared
             ≡ have_variables (length variables.now) (path_of place.now ∷ [])) }
         ensures judged { IfOk result (λ j. (types : List TypeTree)

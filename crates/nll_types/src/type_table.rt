@@ -6,8 +6,9 @@ ghost use Rattle.nll_types.specs.Declarations.{declared, structs_of};
 ghost use Rattle.nll_types.specs.Shapes.{shape_of, put_in_shape, behind_shape};
 ghost use Rattle.nll_types.specs.Places.{behind_all, part_count, small_behind};
 ghost use Rattle.nll_types.specs.Structs.{HasGoodFields};
-ghost use Rattle.nll_types.specs.Table.{IsOver, Extends, AreBelow, all_at};
+ghost use Rattle.nll_types.specs.Table.{IsOver, AreBelow, all_at};
 ghost use Rattle.nll_types.specs.Table.{shape_in, shape_over, shapes_in};
+ghost use Rattle.nll_types.specs.Tables.{AddsShapes};
 ghost use Rattle.nll_types.specs.Types.{TypeTree};
 ghost use Rattle.nll_types.specs.Views.{tree};
 ghost use Rattle.nll_types.specs.declared.place.Projection.TheVariants.{Field as field};
@@ -103,8 +104,7 @@ impl TypeTable {
     /// The number of the shape that a node makes of earlier ones.
     pub fn add(&mut self, node: Node) -> Result<usize, Memory>
         requires { IsOver (length self.old.shapes) node }
-        ensures structs { self.new.structs ≡ self.old.structs }
-        ensures extends { Extends self.old.shapes self.new.shapes }
+        ensures grows { AddsShapes self.old self.new }
         ensures within { IfOk result (λ i. i < length self.new.shapes) }
         ensures at { IfOk result (λ i. shape_in self.new.shapes i
             ≡ shape_over (shapes_in self.old.shapes) node) }
@@ -114,8 +114,7 @@ impl TypeTable {
 
     /// The number of the shape of a type with the shapes of these arguments put in.
     pub fn shape(&mut self, alloc: Global, ty: &Ty, arguments: &[usize]) -> Result<usize, Memory>
-        ensures structs { self.new.structs ≡ self.old.structs }
-        ensures extends { Extends self.old.shapes self.new.shapes }
+        ensures grows { AddsShapes self.old self.new }
         ensures within { IfOk result (λ i. i < length self.new.shapes) }
         ensures at { IfOk result (λ i. AreBelow (length self.old.shapes) arguments.now
             → shape_in self.new.shapes i
@@ -136,8 +135,7 @@ impl TypeTable {
         place: usize,
     ) -> Result<Option<usize>, Memory>
         requires { number < length self.old.shapes }
-        ensures structs { self.new.structs ≡ self.old.structs }
-        ensures extends { Extends self.old.shapes self.new.shapes }
+        ensures grows { AddsShapes self.old self.new }
         ensures within { IfOk result (λ o. IfSome o (λ i. i < length self.new.shapes)) }
         ensures at { IfOk result (λ o. option_map (shape_in self.new.shapes) o
             ≡ behind_shape (structs_of self.old.structs) (field place)
@@ -165,8 +163,7 @@ impl TypeTable {
         number: usize,
     ) -> Result<Option<usize>, Memory>
         requires { number < length self.old.shapes }
-        ensures structs { self.new.structs ≡ self.old.structs }
-        ensures extends { Extends self.old.shapes self.new.shapes }
+        ensures grows { AddsShapes self.old self.new }
         ensures within { IfOk result (λ o. IfSome o (λ i. i < length self.new.shapes)) }
         ensures at { IfOk result (λ o. option_map (shape_in self.new.shapes) o
             ≡ behind_shape (structs_of self.old.structs) projection
@@ -190,8 +187,7 @@ impl TypeTable {
         projections: &[Projection],
     ) -> Result<Option<(usize, bool)>, Memory>
         requires { from < length self.old.shapes }
-        ensures structs { self.new.structs ≡ self.old.structs }
-        ensures extends { Extends self.old.shapes self.new.shapes }
+        ensures grows { AddsShapes self.old self.new }
         ensures within { IfOk result (λ o. IfSome o (λ r. r.0 < length self.new.shapes)) }
         ensures at { IfOk result (λ o. (t : TypeTree) → shape_of t ≡ shape_in self.old.shapes from
             → option_map (λ r. shape_in self.new.shapes r.0) o

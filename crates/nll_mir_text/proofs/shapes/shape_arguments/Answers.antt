@@ -1,5 +1,5 @@
-use Rattle.std.proofs.Common.{◌∙◌, sym, subst}
-use Rattle.nll_types.proofs.ShapingLemmas.{extends_then}
+use Rattle.std.proofs.Common.{sym, subst}
+use Rattle.nll_types.proofs.ShapingLemmas.{grows_then}
 use Rattle.nll_mir_text.specs.ResolvedStatements.{AddsTypes}
 use Rattle.nll_mir_text.proofs.MarkLemmas.{map_item}
 use Rattle.nll_mir_text.proofs.StatementLemmas.{adds_then}
@@ -11,8 +11,7 @@ loop-argument-preserved c =
     let i = l.invariant in
     let e = c.in_ok-shape_further.ensures in
     record {
-      structs = e.structs ∙ i.structs;
-      extends = extends_then _ _ _ i.extends e.extends;
+      grows = grows_then _ _ _ i.grows e.grows;
       shaped =
           subst (λ ts. AddsTypes ts c.args.table.now.shapes c.args.shaped.now c.shape_further.new.table.shapes
           c.shape_further.new.shaped)

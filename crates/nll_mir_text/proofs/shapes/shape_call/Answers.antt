@@ -1,7 +1,7 @@
 use Rattle.std.proofs.Common.{map, ap, ◌∙◌}
 use Rattle.std.proofs.lemmas.Result.{on_ok_weaker}
 use Rattle.nll_types.specs.declared.operand.Operand.{Operand}
-use Rattle.nll_types.proofs.ShapingLemmas.{extends_then}
+use Rattle.nll_types.proofs.ShapingLemmas.{grows_then}
 use Rattle.nll_resolve.specs.Resolution.{Resolved}
 use Rattle.nll_mir_text.proofs.CallLemmas.{same_types}
 use Rattle.nll_mir_text.proofs.StatementLemmas.{adds_then}
@@ -15,8 +15,5 @@ returns-clause-shaped c =
     on_ok_weaker c.shape_further.result
     (λ second. adds_then _ _ _ _ _ _ _ _ first second) c.shape_further.ensures.shaped
 
-pub returns-clause-structs : goal.returns-clause-structs
-returns-clause-structs c = c.shape_further.ensures.structs ∙ c.in_ok-shape_arguments.ensures.structs
-
-pub returns-clause-extends : goal.returns-clause-extends
-returns-clause-extends c = extends_then _ _ _ c.in_ok-shape_arguments.ensures.extends c.shape_further.ensures.extends
+pub returns-clause-grows : goal.returns-clause-grows
+returns-clause-grows c = grows_then _ _ _ c.in_ok-shape_arguments.ensures.grows c.shape_further.ensures.grows

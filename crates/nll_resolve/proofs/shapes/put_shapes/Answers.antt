@@ -1,6 +1,6 @@
-use Rattle.std.proofs.Common.{◌≡◌, ◌<◌, ◌≤◌, ◌-◌, [], length, take, arith, ap, ◌∙◌}
+use Rattle.std.proofs.Common.{◌≡◌, ◌<◌, ◌≤◌, ◌-◌, [], length, take, arith, ap}
 use Rattle.std.proofs.Math.Seq.{take-length}
-use Rattle.nll_types.proofs.ShapingLemmas.{extends_then}
+use Rattle.nll_types.proofs.ShapingLemmas.{grows_then}
 use Rattle.nll_resolve.specs.Resolution.{trees_from}
 use Rattle.nll_resolve.proofs.PushLemmas.{shaped_push}
 use Rattle.nll_resolve.proofs.ResolvedLemmas.{parts_at, one_more, count_taken}
@@ -29,10 +29,9 @@ loop-node-preserved c =
     let within : c.loop-node.node-index < length ns = c.loop-node-test.true in
     let e = c.in_ok-shape.ensures in
     record {
-      structs = e.structs ∙ i.structs;
-      extends = extends_then _ _ _ i.extends e.extends;
+      grows = grows_then _ _ _ i.grows e.grows;
       shaped = rw (c.in_ok-push.ensures.ok, one_more ns c.loop-node.node-index c.node-item.result within c.node-item.is)
-          (shaped_push _ _ (trees_from [] (take c.loop-node.node-index ns)) c.loop-node.done.items _ _ e.extends
+          (shaped_push _ _ (trees_from [] (take c.loop-node.node-index ns)) c.loop-node.done.items _ _ e.grows.extends
           i.shaped e.within (e.shape _ (rw c.as_slice.ensures i.shaped)));
     }
 

@@ -5,7 +5,7 @@ use Rattle.nll_types.specs.Declarations.{structs_of}
 use Rattle.nll_types.specs.Operands.{operand_of, operand_type, place_in}
 use Rattle.nll_types.specs.Places.{small_prefixes}
 use Rattle.nll_types.specs.Shapes.{is_small}
-use Rattle.nll_types.specs.Table.{Extends}
+use Rattle.nll_types.specs.Tables.{AddsShapes}
 use Rattle.nll_types.specs.Types.{TypeTree}
 use Rattle.nll_types.specs.Judging.{HaveShapes, have_variables}
 use Rattle.nll_type_check.specs.Typing.{agree}
@@ -14,8 +14,7 @@ use Rattle.nll_type_check.proofs.PartLemmas.{left_declared}
 use Rattle.nll_type_check.proofs.parts.judge_arguments.Given as goal
 
 abbrev pub invariant-loop-place : goal.invariant-loop-place
-invariant-loop-place g l = (l.table.structs ≡ l.fn.table.structs)
-    × Extends l.fn.table.shapes l.table.shapes
+invariant-loop-place g l = AddsShapes l.fn.table l.table
     × ((l.judged.declared && left_declared (λ a. operand_of a.0) (length l.variables) l.arguments l.place)
     ≡ have_variables (length l.variables) (flat_map place_in (map (λ a. operand_of a.0) l.arguments)))
     × ((types others : List TypeTree) (h : g.row.T.Denot → TypeTree) → HaveShapes l.fn.table.shapes l.variables types

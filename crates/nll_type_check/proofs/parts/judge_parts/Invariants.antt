@@ -5,7 +5,8 @@ use Rattle.nll_types.specs.Declarations.{structs_of}
 use Rattle.nll_types.specs.Operands.{operand_of, place_in}
 use Rattle.nll_types.specs.Places.{small_prefixes}
 use Rattle.nll_types.specs.Shapes.{shape_of}
-use Rattle.nll_types.specs.Table.{Extends, shape_in}
+use Rattle.nll_types.specs.Table.{shape_in}
+use Rattle.nll_types.specs.Tables.{AddsShapes}
 use Rattle.nll_types.specs.Types.{TypeTree, TypeTrees}
 use Rattle.nll_statements.specs.TypePairs.{operand_types, parts_of_type}
 use Rattle.nll_types.specs.Judging.{HaveShapes, have_variables}
@@ -15,8 +16,7 @@ use Rattle.nll_type_check.proofs.PartLemmas.{all_agree, left_declared, row_after
 use Rattle.nll_type_check.proofs.parts.judge_parts.Given as goal
 
 abbrev pub invariant-loop-place : goal.invariant-loop-place
-invariant-loop-place l = (l.table.structs ≡ l.fn.table.structs)
-    × Extends l.fn.table.shapes l.table.shapes
+invariant-loop-place l = AddsShapes l.fn.table l.table
     × ((l.judged.declared && left_declared operand_of (length l.variables) l.operands l.place)
     ≡ have_variables (length l.variables) (flat_map place_in (map operand_of l.operands)))
     × ((types : List TypeTree) (t : TypeTree) (ts : TypeTrees) → HaveShapes l.fn.table.shapes l.variables types

@@ -2,7 +2,7 @@ use Rattle.std.proofs.Common.{◌&&◌, length, ap, ◌∙◌, arith}
 use Rattle.nll_types.specs.Declarations.{structs_of}
 use Rattle.nll_types.specs.Operands.{operand_of}
 use Rattle.nll_types.specs.Places.{path_of}
-use Rattle.nll_types.proofs.ShapingLemmas.{extends_then}
+use Rattle.nll_types.proofs.ShapingLemmas.{grows_then}
 use Rattle.nll_types.proofs.NumberLemmas.{below_later, shapes_later, shape_later, shape_at}
 use Rattle.nll_types.proofs.MeetingLemmas.{judged_as}
 use Rattle.nll_type_check.proofs.JudgedLemmas.{both_judged, target_first}
@@ -16,30 +16,24 @@ returns-clause-judged g c = λ types f t wheres b unwind h e.
     let inputs = c.in_ok-inputs.ensures.judged types _ f h e in
     let shape = shape_at c.args.table.now.shapes c.args.written.now _ (length xs) t e (last_type (λ a. f a.1) xs t) in
     let later =
-    shape_later _ _ _ t c.judge_arguments.ensures.extends (c.requires.written (length xs) (omega arith)) shape in
+    shape_later _ _ _ t c.judge_arguments.ensures.grows.extends (c.requires.written (length xs) (omega arith)) shape in
     let result =
-    (rw c.judge_arguments.ensures.structs at c.in_ok-result.ensures.judged) types t
-    (shapes_later _ _ _ types c.judge_arguments.ensures.extends c.requires.variables h) later in
+    (rw c.judge_arguments.ensures.grows.structs at c.in_ok-result.ensures.judged) types t
+    (shapes_later _ _ _ types c.judge_arguments.ensures.grows.extends c.requires.variables h) later in
     let p = path_of c.args.place.now in
     judged_as (call_fits structs types (λ a. operand_of a.0) (λ a. f a.1) xs t p wheres b unwind)
     (call_small structs types (λ a. operand_of a.0) (λ a. f a.1) xs t p wheres b unwind)
     (both_judged _ _ _ _ _ _ _ inputs result c.and.ensures.fits c.and.ensures.small)
 
-pub returns-clause-structs : goal.returns-clause-structs
-returns-clause-structs g c = c.judge_given.ensures.structs ∙ c.judge_arguments.ensures.structs
+pub returns-clause-grows : goal.returns-clause-grows
+returns-clause-grows g c = grows_then _ _ _ c.judge_arguments.ensures.grows c.judge_given.ensures.grows
 
-pub returns-clause-extends : goal.returns-clause-extends
-returns-clause-extends g c = extends_then _ _ _ c.judge_arguments.ensures.extends c.judge_given.ensures.extends
-
-pub returns-in_err-result-clause-structs : goal.returns-in_err-result-clause-structs
-returns-in_err-result-clause-structs g c = c.judge_given.ensures.structs ∙ c.judge_arguments.ensures.structs
-
-pub returns-in_err-result-clause-extends : goal.returns-in_err-result-clause-extends
-returns-in_err-result-clause-extends g c =
-    extends_then _ _ _ c.judge_arguments.ensures.extends c.judge_given.ensures.extends
+pub returns-in_err-result-clause-grows : goal.returns-in_err-result-clause-grows
+returns-in_err-result-clause-grows g c = grows_then _ _ _ c.judge_arguments.ensures.grows c.judge_given.ensures.grows
 
 pub judge_given-requires-clause-variables : goal.judge_given-requires-clause-variables
-judge_given-requires-clause-variables g c = below_later _ _ _ c.judge_arguments.ensures.extends c.requires.variables
+judge_given-requires-clause-variables g c =
+    below_later _ _ _ c.judge_arguments.ensures.grows.extends c.requires.variables
 
 pub judge_arguments-requires-clause-variables : goal.judge_arguments-requires-clause-variables
 judge_arguments-requires-clause-variables g c = c.requires.variables

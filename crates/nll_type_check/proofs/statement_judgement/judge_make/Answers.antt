@@ -4,7 +4,7 @@ use Rattle.nll_types.specs.Declarations.{structs_of}
 use Rattle.nll_types.specs.Operands.{operand_of, place_in}
 use Rattle.nll_types.specs.Places.{path_of, type_of, small_prefixes}
 use Rattle.nll_types.specs.Shapes.{is_small}
-use Rattle.nll_types.proofs.ShapingLemmas.{extends_then}
+use Rattle.nll_types.proofs.ShapingLemmas.{grows_then}
 use Rattle.nll_statements.specs.TypePairs.{beside_parts, operand_types, parts_of_type}
 use Rattle.nll_type_check.specs.Typing.{parts_are_small}
 use Rattle.nll_types.proofs.NumberLemmas.{below_later, shapes_later, shape_later}
@@ -16,9 +16,9 @@ pub returns-clause-judged : goal.returns-clause-judged
 returns-clause-judged c = λ types t h e.
     let parts = c.in_ok-parts.ensures.judged types t h e in
     let result =
-    (rw c.judge_parts.ensures.structs at c.in_ok-result.ensures.judged) types t
-    (shapes_later _ _ _ types c.judge_parts.ensures.extends c.requires.variables h)
-    (shape_later _ _ _ t c.judge_parts.ensures.extends c.requires.shape e) in
+    (rw c.judge_parts.ensures.grows.structs at c.in_ok-result.ensures.judged) types t
+    (shapes_later _ _ _ types c.judge_parts.ensures.grows.extends c.requires.variables h)
+    (shape_later _ _ _ t c.judge_parts.ensures.grows.extends c.requires.shape e) in
     let structs = structs_of c.args.table.now.structs in
     let places = list_all (small_prefixes structs types) (flat_map place_in (map operand_of c.args.operands.now)) in
     let pairs =
@@ -28,20 +28,14 @@ returns-clause-judged c = λ types t h e.
     (small_prefixes structs types (path_of c.args.place.now)))
     (both_judged _ _ _ _ _ _ _ parts result c.and.ensures.fits c.and.ensures.small)
 
-pub returns-clause-structs : goal.returns-clause-structs
-returns-clause-structs c = c.judge_given.ensures.structs ∙ c.judge_parts.ensures.structs
+pub returns-clause-grows : goal.returns-clause-grows
+returns-clause-grows c = grows_then _ _ _ c.judge_parts.ensures.grows c.judge_given.ensures.grows
 
-pub returns-clause-extends : goal.returns-clause-extends
-returns-clause-extends c = extends_then _ _ _ c.judge_parts.ensures.extends c.judge_given.ensures.extends
-
-pub returns-in_err-result-clause-structs : goal.returns-in_err-result-clause-structs
-returns-in_err-result-clause-structs c = c.judge_given.ensures.structs ∙ c.judge_parts.ensures.structs
-
-pub returns-in_err-result-clause-extends : goal.returns-in_err-result-clause-extends
-returns-in_err-result-clause-extends c = extends_then _ _ _ c.judge_parts.ensures.extends c.judge_given.ensures.extends
+pub returns-in_err-result-clause-grows : goal.returns-in_err-result-clause-grows
+returns-in_err-result-clause-grows c = grows_then _ _ _ c.judge_parts.ensures.grows c.judge_given.ensures.grows
 
 pub judge_given-requires-clause-variables : goal.judge_given-requires-clause-variables
-judge_given-requires-clause-variables c = below_later _ _ _ c.judge_parts.ensures.extends c.requires.variables
+judge_given-requires-clause-variables c = below_later _ _ _ c.judge_parts.ensures.grows.extends c.requires.variables
 
 pub judge_parts-requires-clause-variables : goal.judge_parts-requires-clause-variables
 judge_parts-requires-clause-variables c = c.requires.variables

@@ -63,41 +63,23 @@ returns-in-Assign-clause-judged g c =
     (small_prefixes structs types (path_of c.in-Assign.place)))
     (told types e)) c.judge_assigned.ensures.judged)
 
-pub returns-in-Assign-clause-structs : goal.returns-in-Assign-clause-structs
-returns-in-Assign-clause-structs g c = c.judge_assigned.ensures.structs
+pub returns-in-Assign-clause-grows : goal.returns-in-Assign-clause-grows
+returns-in-Assign-clause-grows g c = c.judge_assigned.ensures.grows
 
-pub returns-in-Assign-clause-extends : goal.returns-in-Assign-clause-extends
-returns-in-Assign-clause-extends g c = c.judge_assigned.ensures.extends
+pub returns-in-Borrow-clause-grows : goal.returns-in-Borrow-clause-grows
+returns-in-Borrow-clause-grows g c = c.judge_borrowed.ensures.grows
 
-pub returns-in-Borrow-clause-structs : goal.returns-in-Borrow-clause-structs
-returns-in-Borrow-clause-structs g c = c.judge_borrowed.ensures.structs
+pub returns-in-Make-clause-grows : goal.returns-in-Make-clause-grows
+returns-in-Make-clause-grows g c = c.judge_make.ensures.grows
 
-pub returns-in-Borrow-clause-extends : goal.returns-in-Borrow-clause-extends
-returns-in-Borrow-clause-extends g c = c.judge_borrowed.ensures.extends
+pub returns-in-Read-clause-grows : goal.returns-in-Read-clause-grows
+returns-in-Read-clause-grows g c = c.judge_read.ensures.grows
 
-pub returns-in-Make-clause-structs : goal.returns-in-Make-clause-structs
-returns-in-Make-clause-structs g c = c.judge_make.ensures.structs
+pub returns-in-Switch-clause-grows : goal.returns-in-Switch-clause-grows
+returns-in-Switch-clause-grows g c = c.judge_switch.ensures.grows
 
-pub returns-in-Make-clause-extends : goal.returns-in-Make-clause-extends
-returns-in-Make-clause-extends g c = c.judge_make.ensures.extends
-
-pub returns-in-Read-clause-structs : goal.returns-in-Read-clause-structs
-returns-in-Read-clause-structs g c = c.judge_read.ensures.structs
-
-pub returns-in-Read-clause-extends : goal.returns-in-Read-clause-extends
-returns-in-Read-clause-extends g c = c.judge_read.ensures.extends
-
-pub returns-in-Switch-clause-structs : goal.returns-in-Switch-clause-structs
-returns-in-Switch-clause-structs g c = c.judge_switch.ensures.structs
-
-pub returns-in-Switch-clause-extends : goal.returns-in-Switch-clause-extends
-returns-in-Switch-clause-extends g c = c.judge_switch.ensures.extends
-
-pub returns-in-Call-clause-structs : goal.returns-in-Call-clause-structs
-returns-in-Call-clause-structs g c = c.judge_call.ensures.structs
-
-pub returns-in-Call-clause-extends : goal.returns-in-Call-clause-extends
-returns-in-Call-clause-extends g c = c.judge_call.ensures.extends
+pub returns-in-Call-clause-grows : goal.returns-in-Call-clause-grows
+returns-in-Call-clause-grows g c = c.judge_call.ensures.grows
 
 pub judge_assigned-requires : goal.judge_assigned-requires
 judge_assigned-requires g c = c.requires.variables

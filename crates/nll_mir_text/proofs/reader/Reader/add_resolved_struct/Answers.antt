@@ -3,4 +3,4 @@ use Rattle.nll_mir_text.proofs.reader.Reader.add_resolved_struct.Goals as goal
 
 pub add_judged_struct-requires-clause-due : goal.add_judged_struct-requires-clause-due
 add_judged_struct-requires-clause-due c =
-    due_grown _ _ c.in_ok-judged.ensures.structs c.in_ok-judged.ensures.extends _ c.requires.due
+    due_grown _ _ c.in_ok-judged.ensures.grows _ c.requires.due

@@ -21,13 +21,13 @@ admit_judged-requires c =
       few_universals = r.few_universals;
       few_regions = r.few_regions;
       no_parameter = r.no_parameter;
-      named_structs = r.named_structs ∙ ap length (sym e.structs);
-      counted_kinds = r.counted_kinds ∙ ap length (sym e.structs);
+      named_structs = r.named_structs ∙ ap length (sym e.grows.structs);
+      counted_kinds = r.counted_kinds ∙ ap length (sym e.grows.structs);
       kinds = subst (λ ds. AreKinds (map (λ ks. ks.items) c.args.self.now.structs.kinds.items) (structs_of ds))
-          (sym e.structs) r.kinds;
-      few_structs = omega (arith, ap length e.structs, r.few_structs);
+          (sym e.grows.structs) r.kinds;
+      few_structs = omega (arith, ap length e.grows.structs, r.few_structs);
       few_variables = omega (arith, ap length types, r.few_variables);
-      shapes = rw (types, numbers) (shapes_extended _ _ _ _ e.extends r.shapes);
+      shapes = rw (types, numbers) (shapes_extended _ _ _ _ e.grows.extends r.shapes);
       few_blocks = r.few_blocks;
       no_start = r.no_start;
       starts = r.starts;
@@ -42,9 +42,9 @@ returns-clause-admitted c =
     let new : Reader = record old { variables = c.judge_point.new.variables } in
     let e = c.in_ok-judged.ensures in
     let types = ap (λ (v : Variables). v.types.items) e.others in
-    let same : said_by new ≡ said_by old = rw (types, e.structs) refl in
+    let same : said_by new ≡ said_by old = rw (types, e.grows.structs) refl in
     IfOk-weaker c.admit_judged.result _ _ (λ a told. λ i placed.
-    let j = judged_same old.regions old.structs old.variables c.judge_point.new.variables i _ types e.structs
+    let j = judged_same old.regions old.structs old.variables c.judge_point.new.variables i _ types e.grows.structs
     (e.judged old.regions old.structs i placed.of) in
     subst (λ s. IsAdmitted s i a new) same
     (told i (record { order = placed.order; of = placed.of })
@@ -56,9 +56,9 @@ returns-clause-refused c =
     let new : Reader = record old { variables = c.judge_point.new.variables } in
     let e = c.in_ok-judged.ensures in
     let types = ap (λ (v : Variables). v.types.items) e.others in
-    let same : said_by new ≡ said_by old = rw (types, e.structs) refl in
+    let same : said_by new ≡ said_by old = rw (types, e.grows.structs) refl in
     IfErr-weaker c.admit_judged.result _ _ (λ kind told. λ i placed.
-    let j = judged_same old.regions old.structs old.variables c.judge_point.new.variables i _ types e.structs
+    let j = judged_same old.regions old.structs old.variables c.judge_point.new.variables i _ types e.grows.structs
     (e.judged old.regions old.structs i placed.of) in
     subst (λ s. IsRefused s (at_point i) kind) same
     (told i (record { order = placed.order; of = placed.of })
