@@ -1,9 +1,12 @@
 -- The sets that an owner hands out: which they are, and what stays once one is taken.
-use Rattle.std.proofs.Common.{◌≡◌, ◌≢◌, ◌↔◌, ℕ, zero, suc, ◌<◌, Bool, List, [], ◌∷◌, length, set, slice_get, Some, refl, sym, ap, ◌∙◌, subst, arith}
+use Rattle.std.proofs.Common.{◌≡◌, ◌≢◌, ◌↔◌, ℕ, zero, suc, ◌<◌, Bool, List, [], ◌∷◌, length, get_or, set, slice_get, Some, refl, sym, ap, ◌∙◌, subst, arith}
+use Rattle.std.proofs.lemmas.List.{get_or_default, get_or-set_other, length-set}
 use Rattle.std.proofs.lemmas.Option.{get_or_from_slice_get, slice_get-get_or, slice_get_read, slice_get_within}
 use Rattle.nll_core.specs.Search.{IsIn}
 use Rattle.nll_core.specs.Values.{set_of}
-use Rattle.nll_cut.specs.Partition.{owner_of}
+use Rattle.nll_problem.specs.Problem.{Problem}
+use Rattle.nll_cut.specs.Partition.{Cut, owner_of}
+use Rattle.nll_mail.specs.declared.growth.Growth.{Growth}
 use Rattle.nll_owner.specs.Logs.{IsTold}
 use Rattle.nll_owner.specs.Owner.{Owner, Has, received_from}
 use Rattle.nll_owner.specs.Keeping.{IsKept, IsSlot, IsSlotIn}
@@ -63,6 +66,52 @@ module _ (o : Owner) (slots : List ℕ) (sets : List (List Bool)) (kept : IsKept
           λ h. subst (λ ys. IsIn ys e) is (tells.1 (own_list.1 h)),
         );
   }
+
+-- ---- what stays once the copies are let go
+
+-- the sets at the slots of own regions are as they were
+abbrev pub KeepsOwn : Cut → ℕ → List ℕ → List (List Bool) → List (List Bool) → Type 0
+KeepsOwn c i slots old new =
+    (length new ≡ length old)
+    × ((s r : ℕ) → IsSlotIn slots s r → owner_of c r ≡ i → set_of new s ≡ set_of old s)
+
+-- one more set is let go, of another owner's region
+pub own_kept : (c : Cut) (i : ℕ) (slots : List ℕ) (old now : List (List Bool)) (s r : ℕ) → IsSlotIn slots s r
+    → owner_of c r ≢ i → KeepsOwn c i slots old now → KeepsOwn c i slots old (set now s [])
+own_kept c i slots old now s r at other keeps = (
+  length-set now s [] ∙ keeps.0,
+  λ t q here own.
+      let apart : t ≢ s = λ same.
+      let is : q ≡ r =
+      sym here.1 ∙ (ap (λ k. get_or slots k q) same ∙ (get_or_default slots s q r at.0 ∙ at.1)) in
+      other (ap (owner_of c) (sym is) ∙ own) in
+      get_or-set_other now s t [] [] apart ∙ keeps.1 t q here own,
+)
+
+-- what an own region has there is what it had
+pub own_stays : (c : Cut) (i : ℕ) (slots : List ℕ) (old new : List (List Bool)) → length old ≡ length slots
+    → KeepsOwn c i slots old new → (r : ℕ) (xs : List Bool) → owner_of c r ≡ i
+    → HasSet (record { regions = slots; sets = new }) r xs ↔ HasSet (record { regions = slots; sets = old }) r xs
+own_stays c i slots old new same keeps r xs own = (
+  λ has. (has.0, has.1, sym (alike has.0 has.1) ∙ has.2),
+  λ has. (has.0, has.1, alike has.0 has.1 ∙ has.2),
+)
+  where
+    alike : (s : ℕ) → slice_get slots s ≡ Some r → slice_get new s ≡ slice_get old s
+    alike s is =
+        let low = slice_get_within slots s r is in
+        slice_get-get_or new s [] (omega (arith, low, same, keeps.0))
+        ∙ (ap Some (keeps.1 s r (low, get_or_from_slice_get slots s r r is) own)
+        ∙ sym (slice_get-get_or old s [] (omega (arith, low, same))))
+
+-- a holding in which each own region has what it had has the same values
+pub same_values : (q : Problem) (c : Cut) (i : ℕ) (log : List Growth) (old new : Holding) → AreValuesOf q c i log old
+    → ((r : ℕ) (xs : List Bool) → owner_of c r ≡ i → HasSet new r xs ↔ HasSet old r xs) → AreValuesOf q c i log new
+same_values q c i log old new values same = record {
+  whole = λ r low own. let w = values.whole r low own in (w.0, (same r w.0 own).1 w.1);
+  shaped = λ r xs own has. values.shaped r xs own ((same r xs own).0 has);
+  told = λ r e xs own has. values.told r e xs own ((same r xs own).0 has);
+}
 
 -- ---- what stays once one is taken
 

@@ -1,17 +1,21 @@
 //! The sets that an owner hands out.
 
-ghost use Rattle.std.specs.Prelude.{◌≡◌, ◌≢◌, ◌↔◌, ℕ, Bool, List, [], length};
+ghost use Rattle.std.specs.Prelude.{◌≡◌, ◌≢◌, ◌↔◌, ◌<◌, ℕ, Bool, List, [], Contains, length};
+ghost use Rattle.nll_core.specs.Values.{set_of};
+ghost use Rattle.nll_cut.specs.Partition.{owner_of};
 ghost use Rattle.nll_owner.specs.Holding.{HasSet};
+ghost use Rattle.nll_owner.specs.Keeping.{IsSlotIn};
 
 use crate::slots::Slots;
 use nll_core::Values;
+use nll_cut::Cut;
 use nll_problem::RegionId;
 use nll_sets::RunSet;
 use std::alloc::Global;
 use std::marker::Model;
 
-/// The sets that an owner hands out: of its own regions the values, and of those that it reads its
-/// copies.
+/// The sets that an owner hands out: the values of its own regions. Of the regions that it read it
+/// has no more than that it read them.
 pub struct Holding {
     slots: Slots,
     // By slot.
@@ -50,11 +54,15 @@ impl Holding {
         }
     }
 
-    /// The regions of these slots with these sets.
-    pub(crate) fn of(slots: Slots, values: Values) -> Holding
-        requires { length values ≡ length slots }
-        ensures { result ≡ record { regions = slots; sets = values } }
+    /// The values of the regions that an owner of a cut has, out of the sets of all that it holds.
+    pub(crate) fn of(alloc: Global, cut: &Cut, me: u16, slots: Slots, values: Values) -> Holding
+        requires as_many { length values ≡ length slots }
+        requires regions { (r : ℕ) → Contains slots r → r < length cut.now.list }
+        ensures { (r : ℕ) (set : List Bool) → owner_of cut.now r ≡ me
+            → HasSet result r set ↔ HasSet (record { regions = slots; sets = values }) r set }
     {
+        let mut values = values;
+        empty_copies(alloc, cut, me, &slots, &mut values);
         Holding { slots, values }
     }
 
@@ -71,5 +79,20 @@ impl Holding {
     {
         let slot = self.slots.find(region).unwrap();
         self.values.take(alloc, slot)
+    }
+}
+
+// Lets the sets of the regions of other owners go.
+fn empty_copies(alloc: Global, cut: &Cut, me: u16, slots: &Slots, values: &mut Values)
+    requires as_many { length values.old ≡ length slots.now }
+    requires regions { (r : ℕ) → Contains slots.now r → r < length cut.now.list }
+    ensures size { length values.new ≡ length values.old }
+    ensures own { (s r : ℕ) → IsSlotIn slots.now s r → owner_of cut.now r ≡ me
+        → set_of values.new s ≡ set_of values.old s }
+{
+    for slot in 0..slots.len() {
+        if cut.owner_of(slots.region(slot)) != me {
+            drop(values.take(alloc, RegionId(slot)));
+        }
     }
 }

@@ -307,16 +307,21 @@ impl<'q> Knowledge<'q> {
         &self.log
     }
 
-    /// Hands out the log and the sets.
-    pub fn into_parts(self) -> (Vec<Growth>, Holding)
+    /// Hands out the log, and the values of the own regions.
+    pub fn into_parts(self, alloc: Global) -> (Vec<Growth>, Holding)
         ensures log { result.0.items ≡ self.entry.log }
         ensures values { let o = self.entry in
             AreValuesOf o.problem o.cut o.me o.log result.1 }
     {
         let Knowledge {
-            log, slots, values, ..
+            cut,
+            me,
+            slots,
+            values,
+            log,
+            ..
         } = self;
-        (log, Holding::of(slots, values))
+        (log, Holding::of(alloc, cut, me, slots, values))
     }
 
     /// How many growths were given out.

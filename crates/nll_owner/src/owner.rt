@@ -403,14 +403,17 @@ impl<'q> Owner<'q> {
         self.knowledge.set(self.knowledge.slot(region))
     }
 
-    /// Hands out the log, and the values of the own regions.
-    pub fn into_parts(self) -> (Vec<Growth>, Holding)
+    /// Hands out the log, and the values of the own regions. Takes no memory.
+    ///
+    /// # Cost
+    /// A look at each region that the owner holds (not proved).
+    pub fn into_parts(self, alloc: Global) -> (Vec<Growth>, Holding)
         ensures log { result.0.items ≡ self.entry.log }
         ensures values { let o = self.entry in
             AreValuesOf o.problem o.cut o.me o.log result.1 }
     {
         let Owner { knowledge, .. } = self;
-        knowledge.into_parts()
+        knowledge.into_parts(alloc)
     }
 
     /// What was received from an owner, in the order of receipt; nothing where it is no other

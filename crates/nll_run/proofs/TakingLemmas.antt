@@ -1,7 +1,7 @@
 -- Sets are taken out of the holdings of all owners, region by region.
 use Rattle.std.proofs.Common.{◌≡◌, ◌↔◌, ℕ, ◌+◌, ◌<◌, ◌≤◌, Bool, List, [], ◌∷◌, ◌++◌, length, set, get_or, false, refl, sym, ap, ◌∙◌, subst, ⊎_elim, arith}
 use Rattle.std.proofs.lemmas.Bool.{cases_eq, cases_lt, false≢true}
-use Rattle.std.proofs.lemmas.List.{get_or_past, get_or_push, get_or-set_other, get_or-set_same}
+use Rattle.std.proofs.lemmas.List.{get_or_default, get_or_past, get_or-set_other, get_or-set_same}
 use Rattle.nll_sets.specs.ElementSet.{flag}
 use Rattle.nll_problem.specs.Problem.{Problem}
 use Rattle.nll_core.specs.Values.{IsHeld, IsShaped, set_of}
@@ -74,6 +74,26 @@ module _ (c : Cut) (count : ℕ) (old now : List Holding) (sets : List (List Boo
         ((w.rest (owner_of c count) count taken (omega arith)).0 here))
         (cases_lt r count);
   }
+
+-- where a region is left, its owner's holding has a set of it
+module _ (q : Problem) (c : Cut) (cut : IsCutOf q c) (count : ℕ) (old now : List Holding) (sets : List (List Bool))
+    (w : AreTaken c count old now sets) (low : count < q.regions) (logs : List (List Growth))
+    (have : HaveValuesOf q c logs old) where
+  region_low : count < length c.list
+  region_low = omega (arith, low, cut.regions)
+
+  pub owner_low : owner_of c count < length now
+  owner_low = let l = cut.cut.owned count region_low in omega (arith, l, have.counted, w.as_many)
+
+  pub has_set : (xs : List Bool) × HasSet (holding_of now (owner_of c count)) count xs
+  has_set =
+      let x = (have.each (owner_of c count) (cut.cut.owned count region_low)).whole count low refl in
+      (x.0, (w.rest (owner_of c count) count x.0 (omega arith)).1 x.1)
+
+  -- the holding that is read in place
+  pub read_holding : (h : Holding) → h ≡ get_or now (owner_of c count) h → holding_of now (owner_of c count) ≡ h
+  read_holding h is =
+      sym (is ∙ get_or_default now (owner_of c count) h (record { regions = []; sets = [] }) owner_low)
 
 -- once all are taken, they are the values that the logs tell
 module _ (q : Problem) (c : Cut) (cut : IsCutOf q c) (old now : List Holding) (sets : List (List Bool))

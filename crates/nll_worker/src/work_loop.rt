@@ -270,6 +270,6 @@ fn with_owner<M: Mail, L: Ledger, G: Gate, R: Wait>(
     let (left, ending) = work_on::<M, L, G, R>(
         rt, alloc, problem, cut, gate, book, share, &mut owner, senders, receivers, me,
     );
-    let (log, holding) = owner.into_parts();
+    let (log, holding) = owner.into_parts(alloc);
     (left, ending, log, holding)
 }
