@@ -1,6 +1,5 @@
--- The sets that an owner hands out: which they are, and what stays once one is taken.
-use Rattle.std.proofs.Common.{◌≡◌, ◌≢◌, ◌↔◌, ℕ, zero, suc, ◌<◌, Bool, List, [], ◌∷◌, length, get_or, set, slice_get, Some, refl, sym, ap, ◌∙◌, subst, arith}
-use Rattle.std.proofs.lemmas.List.{get_or_default, get_or-set_other, length-set}
+-- The sets that an owner hands out.
+use Rattle.std.proofs.Common.{◌≡◌, ◌↔◌, ℕ, ◌<◌, Bool, List, [], length, Contains, refl, sym, ap, ◌∙◌, subst, arith}
 use Rattle.std.proofs.lemmas.Option.{get_or_from_slice_get, slice_get-get_or, slice_get_read, slice_get_within}
 use Rattle.nll_core.specs.Search.{IsIn}
 use Rattle.nll_core.specs.Values.{set_of}
@@ -12,7 +11,7 @@ use Rattle.nll_owner.specs.Owner.{Owner, Has, received_from}
 use Rattle.nll_owner.specs.Keeping.{IsKept, IsSlot, IsSlotIn}
 use Rattle.nll_owner.specs.Holding.{Holding, HasSet, AreValuesOf}
 use Rattle.nll_owner.proofs.LogLemmas.{list_own}
-use Rattle.nll_owner.proofs.SlotLemmas.{own_held, slot_of}
+use Rattle.nll_owner.proofs.SlotLemmas.{own_held, slot_of, slot_region}
 
 -- ---- which they are
 
@@ -47,6 +46,12 @@ module _ (o : Owner) (slots : List ℕ) (sets : List (List Bool)) (kept : IsKept
   pub as_many : length sets ≡ length slots
   as_many = kept.shaped.slots ∙ sym (ap length kept.same_slots)
 
+  pub kept_region : (r : ℕ) → Contains slots r → r < length o.cut.list
+  kept_region r h =
+      let at : IsSlot o h.0 r = subst (λ ys. IsSlotIn ys h.0 r) kept.same_slots (h.1, h.2) in
+      let low = slot_region o h.0 r at in
+      omega (arith, low, kept.sound.cut.regions)
+
   slot_here : (r : ℕ) (xs : List Bool) (has : HasSet handed r xs) → IsSlot o has.0 r
   slot_here r xs has = subst (λ ys. IsSlotIn ys has.0 r) kept.same_slots (slot_in handed r xs has)
 
@@ -75,35 +80,6 @@ KeepsOwn c i slots old new =
     (length new ≡ length old)
     × ((s r : ℕ) → IsSlotIn slots s r → owner_of c r ≡ i → set_of new s ≡ set_of old s)
 
--- one more set is let go, of another owner's region
-pub own_kept : (c : Cut) (i : ℕ) (slots : List ℕ) (old now : List (List Bool)) (s r : ℕ) → IsSlotIn slots s r
-    → owner_of c r ≢ i → KeepsOwn c i slots old now → KeepsOwn c i slots old (set now s [])
-own_kept c i slots old now s r at other keeps = (
-  length-set now s [] ∙ keeps.0,
-  λ t q here own.
-      let apart : t ≢ s = λ same.
-      let is : q ≡ r =
-      sym here.1 ∙ (ap (λ k. get_or slots k q) same ∙ (get_or_default slots s q r at.0 ∙ at.1)) in
-      other (ap (owner_of c) (sym is) ∙ own) in
-      get_or-set_other now s t [] [] apart ∙ keeps.1 t q here own,
-)
-
--- what an own region has there is what it had
-pub own_stays : (c : Cut) (i : ℕ) (slots : List ℕ) (old new : List (List Bool)) → length old ≡ length slots
-    → KeepsOwn c i slots old new → (r : ℕ) (xs : List Bool) → owner_of c r ≡ i
-    → HasSet (record { regions = slots; sets = new }) r xs ↔ HasSet (record { regions = slots; sets = old }) r xs
-own_stays c i slots old new same keeps r xs own = (
-  λ has. (has.0, has.1, sym (alike has.0 has.1) ∙ has.2),
-  λ has. (has.0, has.1, alike has.0 has.1 ∙ has.2),
-)
-  where
-    alike : (s : ℕ) → slice_get slots s ≡ Some r → slice_get new s ≡ slice_get old s
-    alike s is =
-        let low = slice_get_within slots s r is in
-        slice_get-get_or new s [] (omega (arith, low, same, keeps.0))
-        ∙ (ap Some (keeps.1 s r (low, get_or_from_slice_get slots s r r is) own)
-        ∙ sym (slice_get-get_or old s [] (omega (arith, low, same))))
-
 -- a holding in which each own region has what it had has the same values
 pub same_values : (q : Problem) (c : Cut) (i : ℕ) (log : List Growth) (old new : Holding) → AreValuesOf q c i log old
     → ((r : ℕ) (xs : List Bool) → owner_of c r ≡ i → HasSet new r xs ↔ HasSet old r xs) → AreValuesOf q c i log new
@@ -112,36 +88,3 @@ same_values q c i log old new values same = record {
   shaped = λ r xs own has. values.shaped r xs own ((same r xs own).0 has);
   told = λ r e xs own has. values.told r e xs own ((same r xs own).0 has);
 }
-
--- ---- what stays once one is taken
-
-get_other : {X : Type 0} (xs : List X) (k j : ℕ) (x : X) → j ≢ k → slice_get (set xs k x) j ≡ slice_get xs j
-get_other [] k j x other = refl
-get_other (y ∷ ys) zero zero x other = absurd (other refl)
-get_other (y ∷ ys) zero (suc j) x other = refl
-get_other (y ∷ ys) (suc k) zero x other = refl
-get_other (y ∷ ys) (suc k) (suc j) x other = get_other ys k j x (λ e. other (ap suc e))
-
-get_same : {X : Type 0} (xs : List X) (k : ℕ) (x : X) → k < length xs → slice_get (set xs k x) k ≡ Some x
-get_same [] k x low = absurd (omega (arith, low))
-get_same (y ∷ ys) zero x low = refl
-get_same (y ∷ ys) (suc k) x low = get_same ys k x (omega (arith, low))
-
-module _ (h : Holding) (same : length h.sets ≡ length h.regions) (s r : ℕ) (at : IsSlotIn h.regions s r) where
-  abbrev rest : Holding
-  rest = record { regions = h.regions; sets = set h.sets s [] }
-
-  place_other : (q t : ℕ) → slice_get h.regions t ≡ Some q → q ≢ r → t ≢ s
-  place_other q t is other here =
-      other
-      (sym (get_or_from_slice_get h.regions s q r (subst (λ k. slice_get h.regions k ≡ Some q) here is)) ∙ at.1)
-
-  pub others_stay : (q : ℕ) (xs : List Bool) → q ≢ r
-      → HasSet (record { regions = h.regions; sets = set h.sets s [] }) q xs ↔ HasSet h q xs
-  others_stay q xs other = (
-    λ has. (has.0, has.1, sym (get_other h.sets s has.0 [] (place_other q has.0 has.1 other)) ∙ has.2),
-    λ has. (has.0, has.1, get_other h.sets s has.0 [] (place_other q has.0 has.1 other) ∙ has.2),
-  )
-
-  pub none_stays : HasSet (record { regions = h.regions; sets = set h.sets s [] }) r []
-  none_stays = (s, (set_at h s r same at).1, get_same h.sets s [] (omega (arith, at.0, same)))
