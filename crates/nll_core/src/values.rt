@@ -1,7 +1,7 @@
 //! The values of regions: a set of elements for each.
 
 ghost use Rattle.std.specs.Prelude.{◌≡◌, ℕ, ◌+◌, ◌-◌, ◌≤◌, ◌<◌, not, length, IfOk, OnOk};
-ghost use Rattle.std.specs.Prelude.{OnErr, false, replicate, slice_set};
+ghost use Rattle.std.specs.Prelude.{OnErr, false, replicate, slice_set, []};
 ghost use Rattle.nll_sets.specs.ElementSet.{elements};
 ghost use Rattle.nll_sets.specs.Runs.{first_of, last_of, numbers, IsWithin};
 ghost use Rattle.nll_core.specs.Growing.{Gains, Tells, missing_pairs};
@@ -12,6 +12,7 @@ use nll_problem::{Problem, RegionId};
 use nll_sets::{Element, ElementSet, Memory, Run, RunSet};
 use std::alloc::Global;
 use std::marker::Model;
+use std::mem;
 
 /// A set of elements for each region. Contracts see it as one flag for each region and element.
 #[derive(Drop)]
@@ -45,6 +46,13 @@ impl Values {
             sets.push(RunSet::empty(alloc, len)?)?;
         }
         Ok(Values { sets })
+    }
+
+    /// These sets, one for each region.
+    pub fn of_sets(sets: Vec<RunSet>) -> Values
+        ensures { result ≡ sets.items }
+    {
+        Values { sets }
     }
 
     /// Whether the value of a region has an element.
@@ -130,5 +138,14 @@ impl Values {
         ensures { result.now ≡ set_of self.now region }
     {
         &self.sets[region.0 as usize]
+    }
+
+    /// Takes the set of a region out; the empty set of no elements stays. Takes no memory.
+    pub fn take(&mut self, alloc: Global, region: RegionId) -> RunSet
+        requires { region < length self.old }
+        ensures set { result ≡ set_of self.old region }
+        ensures rest { self.new ≡ slice_set self.old region [] }
+    {
+        mem::replace(&mut self.sets[region.0 as usize], RunSet::new(alloc))
     }
 }

@@ -5,9 +5,9 @@ use Rattle.std.specs.Prelude.{drop, slice_get, Contains, Option, Some, None}
 use Rattle.nll_problem.specs.Problem.{Problem}
 use Rattle.nll_cut.specs.Partition.{Cut}
 use Rattle.nll_mail.specs.declared.growth.Growth.{Growth}
-use Rattle.nll_owner.specs.Logs.{IsPrefix, IsTold}
+use Rattle.nll_owner.specs.Logs.{IsPrefix}
 use Rattle.nll_owner.specs.Owner.{Owner, IsSound, part_for, given_to, received_from}
-use Rattle.nll_model.specs.State.{Lane, Seat, State, IsAt, lane_to, with_lane, first_seat}
+use Rattle.nll_model.specs.State.{Lane, Seat, lane_to, with_lane, first_seat}
 
 -- The first growth that is owed for went to the back of the box, or there is none.
 abbrev pub Pushes : Bool → Lane → Lane → Type 0
@@ -71,7 +71,3 @@ IsGrowthFrom from growth j g = (j ≡ from) × (g ≡ growth)
 -- the seats are those of owners that have done nothing yet
 abbrev pub AreFirst : Problem → Cut → List Seat → Type 0
 AreFirst q c seats = (i : ℕ) (s : Seat) → slice_get seats i ≡ Some s → s ≡ first_seat q c i
-
--- some log says that the region r has e
-abbrev pub IsSaid : State → ℕ → ℕ → Type 0
-IsSaid w r e = (i : ℕ) × (s : Seat) × IsAt w i s × IsTold s.owner.log r e

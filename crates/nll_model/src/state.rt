@@ -5,6 +5,7 @@ ghost use Rattle.std.specs.Prelude.{OnErr, IfOk, IsTrue};
 ghost use Rattle.nll_problem.specs.Problem.{Problem};
 ghost use Rattle.nll_core.specs.Values.{IsHeld, IsShaped};
 ghost use Rattle.nll_cut.specs.Partition.{Cut};
+ghost use Rattle.nll_owner.specs.Logs.{IsCutOf};
 ghost use Rattle.nll_owner.specs.declared.error.OwnerError.TheVariants.{Broken};
 ghost use Rattle.nll_model.specs.State.{Seat, IsAt};
 ghost use Rattle.nll_model.specs.Events.{Does, IsPossible};
@@ -15,9 +16,10 @@ ghost use Rattle.nll_model.specs.declared.outcome.Step.TheVariants.{Done};
 use crate::outcome::Step;
 use crate::seat::{Item, Seat};
 use nll_core::Values;
+use nll_cut::Cut;
 use nll_event::Event;
-use nll_owner::{OwnerError, enter_log};
-use nll_problem::Problem;
+use nll_owner::OwnerError;
+use nll_problem::{Problem, RegionId};
 use nll_sets::Memory;
 use std::alloc::Global;
 use std::marker::Model;
@@ -59,18 +61,24 @@ impl<'q> State<'q> {
         self.balance
     }
 
-    /// The values that the logs say.
-    pub fn values(&self, alloc: Global, problem: &Problem) -> Result<Values, Memory>
-        requires { (c : Cut) × IsSoundState problem.now c self.now }
+    /// The values that the logs say: of each region a copy of its owner's set.
+    ///
+    /// # Errors
+    /// - `Memory`.
+    pub fn values(&self, alloc: Global, problem: &Problem, cut: &Cut) -> Result<Values, Memory>
+        requires cut { IsCutOf problem.now cut.now }
+        requires sound { IsSoundState problem.now cut.now self.now }
         ensures shaped { IfOk result (λ values. IsShaped problem.now values) }
-        ensures held { IfOk result (λ values. (c : Cut) → IsSoundState problem.now c self.now
-            → (r e : ℕ) → IsHeld values r e ↔ Says c self.now r e) }
+        ensures held { IfOk result (λ values. (r e : ℕ)
+            → IsHeld values r e ↔ Says cut.now self.now r e) }
     {
-        let mut values = Values::empty(alloc, problem)?;
-        for place in 0..self.seats.len() {
-            enter_log(alloc, &mut values, self.seats[place].owner().log())?;
+        let mut sets = Vec::new(alloc);
+        for number in 0..problem.regions() {
+            let region = RegionId(number);
+            let owner = self.seats[cut.owner_of(region) as usize].owner();
+            sets.push(owner.set(region).copy()?)?;
         }
-        Ok(values)
+        Ok(Values::of_sets(sets))
     }
 
     /// Whether an event is possible.

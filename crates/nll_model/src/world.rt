@@ -188,7 +188,7 @@ impl<'q> World<'q> {
         ensures held { IfOk result (λ values. (r e : ℕ)
             → IsHeld values r e ↔ Says self.now.cut self.now.state r e) }
     {
-        let values = self.state.values(alloc, self.problem)?;
+        let values = self.state.values(alloc, self.problem, self.cut)?;
         Ok(values)
     }
 }

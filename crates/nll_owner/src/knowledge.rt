@@ -12,6 +12,7 @@ ghost use Rattle.nll_core.specs.Search.{IsIn};
 ghost use Rattle.nll_cut.specs.Partition.{owner_of, reads};
 ghost use Rattle.nll_mail.specs.declared.growth.Growth.{Growth};
 ghost use Rattle.nll_owner.specs.Logs.{part};
+ghost use Rattle.nll_owner.specs.Holding.{AreValuesOf};
 ghost use Rattle.nll_owner.specs.Owner.{IsSound, IsCalled, Has, HasBases, Passes};
 ghost use Rattle.nll_owner.specs.Owner.{part_for, given_to, received_from, with_growth};
 ghost use Rattle.nll_owner.specs.Owner.{first_owner, with_growths, GotBeginning};
@@ -19,6 +20,7 @@ ghost use Rattle.nll_owner.specs.Keeping.{Grows, HasBeside, HasAllBeside, growth
 ghost use Rattle.nll_owner.specs.Keeping.{held_regions, holds_region};
 ghost use Rattle.nll_owner.specs.Outboxes.{AreQueued, AreAllQueued, TellsAs};
 
+use crate::holding::Holding;
 use crate::outboxes::Outboxes;
 use crate::slots::{Slot, Slots};
 use nll_core::Values;
@@ -305,12 +307,21 @@ impl<'q> Knowledge<'q> {
         &self.log
     }
 
-    /// Hands out the log.
-    pub fn into_log(self) -> Vec<Growth>
-        ensures { result.items ≡ self.entry.log }
+    /// Hands out the log, and the values of the own regions.
+    pub fn into_parts(self, alloc: Global) -> (Vec<Growth>, Holding)
+        ensures log { result.0.items ≡ self.entry.log }
+        ensures values { let o = self.entry in
+            AreValuesOf o.problem o.cut o.me o.log result.1 }
     {
-        let Knowledge { log, .. } = self;
-        log
+        let Knowledge {
+            cut,
+            me,
+            slots,
+            values,
+            log,
+            ..
+        } = self;
+        (log, Holding::of(alloc, cut, me, slots, values))
     }
 
     /// How many growths were given out.

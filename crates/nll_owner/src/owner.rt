@@ -6,7 +6,10 @@ ghost use Rattle.std.specs.Prelude.{IfSome, IfNone, ℕ, min, ◌-◌};
 ghost use Rattle.std.specs.List.{sum, sum_by};
 ghost use Rattle.nll_problem.specs.Graph.{element_count};
 ghost use Rattle.nll_problem.specs.Limits.{most_rank};
+ghost use Rattle.nll_core.specs.Search.{IsIn};
+ghost use Rattle.nll_cut.specs.Partition.{owner_of};
 ghost use Rattle.nll_mail.specs.declared.growth.Growth.{Growth};
+ghost use Rattle.nll_owner.specs.Holding.{AreValuesOf};
 ghost use Rattle.nll_owner.specs.Logs.{IsPrefix, IsTold};
 ghost use Rattle.nll_owner.specs.Owner.{IsSound, IsDone, IsReady, Has, Passes, part_for, given_to};
 ghost use Rattle.nll_owner.specs.Owner.{received_from, with_growth, with_growths, GotBeginning};
@@ -20,6 +23,7 @@ ghost use Rattle.nll_owner.specs.declared.error.OwnerError.TheVariants.{Broken};
 
 use crate::error::OwnerError;
 use crate::follow_up::Following;
+use crate::holding::Holding;
 use crate::knowledge::Knowledge;
 use crate::outboxes::Outboxes;
 use crate::slots::Slots;
@@ -28,7 +32,7 @@ use nll_core::Steps;
 use nll_cut::Cut;
 use nll_mail::Growth;
 use nll_problem::{Problem, RegionId};
-use nll_sets::{Element, Memory};
+use nll_sets::{Element, Memory, RunSet};
 use std::alloc::Global;
 use std::borrow::Cow;
 use std::marker::Model;
@@ -389,12 +393,27 @@ impl<'q> Owner<'q> {
         self.knowledge.entries()
     }
 
-    /// Hands out the log.
-    pub fn into_log(self) -> Vec<Growth>
-        ensures { result.items ≡ self.entry.log }
+    /// The value of an own region.
+    pub fn set(&self, region: RegionId) -> &RunSet
+        requires region { region < self.now.problem.regions }
+        requires own { owner_of self.now.cut region ≡ self.now.me }
+        ensures width { length result.now ≡ element_count self.now.problem.graph }
+        ensures told { (x : ℕ) → IsIn result.now x ↔ IsTold self.now.log region x }
+    {
+        self.knowledge.set(self.knowledge.slot(region))
+    }
+
+    /// Hands out the log, and the values of the own regions. Takes no memory.
+    ///
+    /// # Cost
+    /// A look at each region that the owner holds (not proved).
+    pub fn into_parts(self, alloc: Global) -> (Vec<Growth>, Holding)
+        ensures log { result.0.items ≡ self.entry.log }
+        ensures values { let o = self.entry in
+            AreValuesOf o.problem o.cut o.me o.log result.1 }
     {
         let Owner { knowledge, .. } = self;
-        knowledge.into_log()
+        knowledge.into_parts(alloc)
     }
 
     /// What was received from an owner, in the order of receipt; nothing where it is no other

@@ -1,6 +1,6 @@
 //! The regions that an owner holds.
 
-ghost use Rattle.std.specs.Prelude.{◌≡◌, ◌<◌, ◌≤◌, ℕ, Contains, AllPairs, length, IfOk, IfSome, IfNone};
+ghost use Rattle.std.specs.Prelude.{◌≡◌, ◌<◌, ◌≤◌, ℕ, Contains, AllPairs, length, [], IfOk, IfSome, IfNone};
 ghost use Rattle.nll_problem.specs.Limits.{most_regions};
 ghost use Rattle.nll_cut.specs.Readers.{is_read};
 ghost use Rattle.nll_owner.specs.Keeping.{held_below, holds_region, IsSlotIn, TellsSlots};
@@ -60,6 +60,16 @@ impl Slots {
             regions: held,
             table,
         })
+    }
+
+    /// No regions. Takes no memory.
+    pub fn none(alloc: Global) -> Slots
+        ensures { result ≡ [] }
+    {
+        Slots {
+            regions: Vec::new(alloc),
+            table: Vec::new(alloc),
+        }
     }
 
     /// How many there are.

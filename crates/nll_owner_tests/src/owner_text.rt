@@ -271,7 +271,9 @@ fn last_answers_over(alloc: Global, problem: &Problem, cut: &Cut) -> Result<Stri
     let mut owner = Owner::new(alloc, problem, cut, 0)?;
     let loaded = owner.load();
     let written = write_last_answers(&mut out, &mut owner);
-    let entries = owner.into_log().len();
+    let (log, _) = owner.into_parts(alloc);
+    let entries = log.len();
+    drop(log);
     loaded?;
     written?;
     write!(out, "{entries}")?;

@@ -4,12 +4,12 @@ use Rattle.std.specs.List.{sum_by}
 use Rattle.std.proofs.lemmas.Bool.{cases_lt}
 use Rattle.std.proofs.lemmas.List.{get_or_past}
 use Rattle.std.proofs.lemmas.List.Sums.{sum_by-cons}
-use Rattle.nll_problem.specs.Graph.{element_count}
 use Rattle.nll_problem.specs.Problem.{Problem, IsSound as IsSoundProblem}
 use Rattle.nll_problem.specs.Solution.{Least}
 use Rattle.nll_core.specs.Values.{IsHeld, IsShaped}
 use Rattle.nll_cut.specs.Partition.{Cut, owner_of}
 use Rattle.nll_mail.specs.declared.growth.Growth.{Growth}
+use Rattle.nll_owner.specs.Holding.{Holding, AreValuesOf}
 use Rattle.nll_owner.specs.Logs.{IsPrefix, IsTold, IsCutOf, IsWellFormed, log_of, part, AreSound}
 use Rattle.nll_owner.specs.Owner.{Owner, first_owner}
 use Rattle.nll_worker.specs.Sums.{sum_to}
@@ -17,6 +17,7 @@ use Rattle.nll_worker.specs.Finishing.{Finishes}
 use Rattle.nll_mail.specs.declared.mail.Mail as Mail
 use Rattle.nll_ledger.specs.declared.ledger.Ledger as Ledger
 use Rattle.nll_owner.specs.Delivery.{IsPair, IsPairBefore}
+use Rattle.nll_run.specs.Holdings.{HaveValuesOf, holding_of}
 use Rattle.nll_run.specs.Outcome.{AreRanked, IsOutcome}
 use Rattle.nll_worker.specs.Finishing.{Leaves, WasMade, FinishedAs, IsError}
 use Rattle.nll_worker.specs.declared.ending.Ending.{Ending}
@@ -101,12 +102,13 @@ error_bad endings.Unstarted t e = absurd t
 error_bad endings.NoOwner t e = absurd t
 
 module _ {D M S R C P L B H E : Type 0} (m : Mail.Ghosts M S R C P) (b : Ledger.Ghosts L B H E) (book : B)
-    (log : D → List Growth) (left : D → E) (closed : D → List C) (kept : D → List R) (why_of : D → Ending) (q : Problem)
-    (c : Cut) (cut : IsCutOf q c) (ds : List D) (count : length ds ≡ c.owners)
+    (log : D → List Growth) (holding : D → Holding) (left : D → E) (closed : D → List C) (kept : D → List R)
+    (why_of : D → Ending) (q : Problem) (c : Cut) (cut : IsCutOf q c) (ds : List D) (count : length ds ≡ c.owners)
     (leaves : (k : ℕ) (d : D) → slice_get ds k ≡ Some d → Leaves b book k (left d) (why_of d))
     (finishes : (k : ℕ) (d : D) → slice_get ds k ≡ Some d → WasMade (why_of d)
     → FinishedAs q c k (log_of (map m.all_sent (closed d))) (log_of (map m.received (kept d)))
-    (b.left_owed (left d)) (b.left_cleared (left d)) (why_of d) (log d))
+    (b.left_owed (left d)) (b.left_cleared (left d)) (why_of d) (log d)
+    (holding d))
     (calm : (k : ℕ) (d : D) → slice_get ds k ≡ Some d → IsCalm (why_of d)) where
   abbrev sent : ℕ → ℕ → List Growth
   sent i j = sent_by m.all_sent (map closed ds) i j
@@ -178,25 +180,23 @@ module _ {D M S R C P L B H E : Type 0} (m : Mail.Ghosts M S R C P) (b : Ledger.
       (subst (λ x. IsWellFormed x i (owner i).log) (ends i l).cut
       (subst (λ x. IsWellFormed (owner i).cut x (owner i).log) (ends i l).me (ends i l).sound.well_formed))
 
-  region_in : (i : ℕ) (g : Growth) → i < c.owners → owner_of c g.region ≡ i → g.region < q.regions
-  region_in i g l own = ⊎_elim
-      (λ (h : g.region < length c.list). subst (λ n. g.region < n) cut.regions h)
-      (λ (h : length c.list ≤ g.region). absurd
-      (let past = get_or_past c.list g.region c.owners h in omega (arith, past, own, l)))
-      (cases_lt g.region (length c.list))
+  holds_values : (i : ℕ) → i < c.owners → AreValuesOf q c i (log_of logs i) (holding_of (map holding ds) i)
+  holds_values i l =
+      let d = done i l in
+      let f = finishes i d.0 d.1 (made (why_of d.0) (calm i d.0 d.1)) in
+      subst (λ (y : List Growth × Holding). AreValuesOf q c i y.0 y.1)
+      (λ j. (
+        sym (mapped log ds i d.0 [] d.1) j,
+        sym (mapped holding ds i d.0 (record { regions = []; sets = [] }) d.1) j,
+      )) f.3
 
-  -- each growth of a log is of the problem's numbers
-  pub in_range : (log : List Growth) (g : Growth) → Contains logs log → Contains log g
-      → (g.region < q.regions) × (g.element < element_count q.graph)
-  in_range log g h at =
-      let k = contains_place logs log h in
-      let l : k.0 < c.owners = (let w = within logs k.0 log k.1 in omega (arith, w, log_count)) in
-      let here : log_of logs k.0 ≡ log = read_place logs k.0 log [] k.1 in
-      let at' : Contains (log_of logs k.0) g = subst (λ xs. Contains xs g) (sym here) at in (
-        region_in k.0 g l ((well_formed k.0 l).own g at'),
-        subst (λ (p : Problem). g.element < element_count p.graph) (ends k.0 l).problem
-            ((ends k.0 l).sound.elements g (subst (λ xs. Contains xs g) (log_is k.0 l) at')),
-      )
+  -- each owner's holding has the values that its log tells
+  pub have_values : HaveValuesOf q c logs (map holding ds)
+  have_values = record {
+    logs_counted = log_count;
+    counted = map_size holding ds ∙ count;
+    each = holds_values;
+  }
 
   module _ (posts : List P)
       (settled : ArePostsOf m (sent_by m.all_sent (map closed ds)) (got_by m.received (map kept ds))
@@ -261,38 +261,13 @@ module _ {D M S R C P L B H E : Type 0} (m : Mail.Ghosts M S R C P) (b : Ledger.
       sums = sym (sum_of b.left_owed) ∙ (sym owed_is ∙ (quiets all_quiet_left ∙ (cleared_is ∙ sum_of b.left_cleared)))
 
       module _ (problem : IsSoundProblem q) (values : List (List Bool)) (shaped : IsShaped q values)
-          (held : (r e : ℕ) → IsHeld values r e ↔ ((l : List Growth) × Contains logs l × IsTold l r e)) where
+          (logged : (r e : ℕ) → IsHeld values r e ↔ IsTold (log_of logs (owner_of c r)) r e) where
         law : ((i j : ℕ) → i < c.owners → j < c.owners → i ≢ j
             → (sent i j ≡ part q c j (log_of logs i)) × (got i j ≡ sent i j) × (rest i j ≡ []))
             × AreSound q c logs (λ i j. part q c i (log_of logs j))
             × ((r e : ℕ) → IsTold (log_of logs (owner_of c r)) r e ↔ Least q r e)
         law = concludes q c owner sent got rest owed cleared ending ends tied logs problem cut log_count log_is quiet
             sums
-
-        logged : (r e : ℕ) → IsHeld values r e ↔ IsTold (log_of logs (owner_of c r)) r e
-        logged r e = (
-          (λ h.
-              let x = (held r e).0 h in
-              let k = contains_place logs x.0 x.1 in
-              let l : k.0 < c.owners = (let w = within logs k.0 x.0 k.1 in omega (arith, w, log_count)) in
-              let here : log_of logs k.0 ≡ x.0 = read_place logs k.0 x.0 [] k.1 in
-              let g = x.2 in
-              let own : owner_of c r ≡ k.0 = ap (owner_of c) (sym g.2)
-              ∙ (well_formed k.0 l).own g.0 (subst (λ xs. Contains xs g.0) (sym here) g.1) in
-              subst (λ xs. IsTold xs r e) (sym (ap (log_of logs) own ∙ here)) x.2),
-          (λ h. ⊎_elim
-              (λ (low : owner_of c r < length logs).
-              let p = place logs (owner_of c r) low in
-              (held r e).1 (
-                p.0,
-                contained logs (owner_of c r) p.0 p.1,
-                subst (λ xs. IsTold xs r e) (read_place logs (owner_of c r) p.0 [] p.1) h,
-              ))
-              (λ (past : length logs ≤ owner_of c r).
-              absurd (let none = get_or_past logs (owner_of c r) [] past in
-              let l = (subst (λ xs. IsTold xs r e) none h).1.1 in omega (arith, l)))
-              (cases_lt (owner_of c r) (length logs))),
-        )
 
         ranked : AreRanked q c logs
         ranked =

@@ -1,7 +1,7 @@
 pub mod PlaceLemmas
 pub mod TableLemmas
 pub mod SettlingLemmas
-pub mod FillingLemmas
+pub mod TakingLemmas
 pub mod EndingLemmas
 pub mod ConcludingLemmas
 pub mod ReasonLemmas

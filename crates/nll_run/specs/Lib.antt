@@ -1,4 +1,5 @@
 pub mod Outcome
+pub mod Holdings
 pub mod Table
 pub mod Settling
 pub mod Refusing

@@ -14,11 +14,11 @@ ghost use Rattle.nll_run.specs.Table.{AreNewEnds, IsTable};
 ghost use Rattle.nll_run.specs.declared.error.RunError.TheVariants.{Thread};
 
 use crate::error::RunError;
-use crate::log_values::values_of;
 use crate::mailboxes::{make_columns, make_rows, make_workers};
 use crate::outcome::Outcome;
 use crate::parts::{Parts, reason_of, take_apart};
 use crate::settlement::settle_all;
+use crate::values::values_of;
 use nll_cut::Cut;
 use nll_ledger::Ledger;
 use nll_mail::Mail;
@@ -159,7 +159,7 @@ fn prepare<M: Mail, L: Ledger>(
     Ok((book, VecDeque::from(workers)))
 }
 
-// Settles the mailboxes, gathers the ledger and fills the values.
+// Settles the mailboxes, gathers the ledger and puts the values together.
 fn conclude<M: Mail, L: Ledger>(
     alloc: Global,
     problem: &Problem,
@@ -178,7 +178,7 @@ fn conclude<M: Mail, L: Ledger>(
     requires finishes { (k : ℕ) (d : _) → slice_get finished.items k ≡ Some d → WasMade d.ending
         → FinishedAs problem.now cut.now k (log_of (map M.all_sent d.closed.items))
         (log_of (map M.received d.receivers.items)) (L.left_owed d.left) (L.left_cleared d.left)
-        d.ending d.log.items }
+        d.ending d.log.items d.holding }
     ensures ok { IfOk result (λ o. IsOutcome M.Mail problem.now cut.now o.values
         (map (λ list. list.items) o.grown.items) o.posts.items) }
     ensures refused { (error : RunError)
@@ -195,6 +195,7 @@ fn conclude<M: Mail, L: Ledger>(
     let Parts {
         lefts,
         grown,
+        holdings,
         rows,
         columns,
     } = take_apart::<M, L>(alloc, VecDeque::from(finished))?;
@@ -202,7 +203,8 @@ fn conclude<M: Mail, L: Ledger>(
     let mut columns = columns;
     let mut posts = Vec::new(alloc);
     settle_all::<M>(VecDeque::from(rows), &mut columns, owners, &mut posts)?;
-    let values = values_of(alloc, problem, &grown)?;
+    let mut holdings = holdings;
+    let values = values_of(alloc, problem, cut, &mut holdings)?;
     Ok(Outcome {
         values,
         grown,

@@ -1,17 +1,17 @@
 //! Runs: the owners of a cut, each in a thread of its own, until nothing is left to do anywhere.
 //!
-//! Read `coordinator` first, then `mailboxes`, `settlement`, `parts` and `log_values`. What a
+//! Read `coordinator` first, then `mailboxes`, `settlement`, `parts` and `values`. What a
 //! worker does, and how workers are started and joined, is in `nll_worker`. The definitions are in
 //! specs/: `Outcome` has what a run answers.
 #![tactic(auto)]
 
 mod coordinator;
 mod error;
-mod log_values;
 mod mailboxes;
 mod outcome;
 mod parts;
 mod settlement;
+mod values;
 
 pub use coordinator::{run, run_with};
 pub use error::RunError;

@@ -6,6 +6,7 @@ ghost use Rattle.nll_run.specs.Refusing.{IsReason};
 use crate::error::RunError;
 use nll_ledger::Ledger;
 use nll_mail::{Growth, Mail};
+use nll_owner::Holding;
 use nll_sets::Memory;
 use nll_worker::{Ending, Finished};
 use std::alloc::Global;
@@ -16,6 +17,7 @@ use std::collections::VecDeque;
 pub struct Parts<M: Mail, L: Ledger> {
     pub lefts: Vec<L::Left>,
     pub grown: Vec<Vec<Growth>>,
+    pub holdings: Vec<Holding>,
     pub rows: Vec<VecDeque<M::Closed>>,
     pub columns: Vec<VecDeque<M::R>>,
 }
@@ -51,6 +53,8 @@ pub fn take_apart<M: Mail, L: Ledger>(
     ensures lefts { IfOk result (λ p. p.lefts.items ≡ map (λ d. d.left) finished.items) }
     ensures grown { IfOk result
         (λ p. map (λ l. l.items) p.grown.items ≡ map (λ d. d.log.items) finished.items) }
+    ensures holdings { IfOk result
+        (λ p. p.holdings.items ≡ map (λ d. d.holding) finished.items) }
     ensures rows { IfOk result
         (λ p. map (λ r. r.items) p.rows.items ≡ map (λ d. d.closed.items) finished.items) }
     ensures columns { IfOk result
@@ -59,11 +63,13 @@ pub fn take_apart<M: Mail, L: Ledger>(
     let mut finished = finished;
     let mut lefts = Vec::new(alloc);
     let mut grown = Vec::new(alloc);
+    let mut holdings = Vec::new(alloc);
     let mut rows = Vec::new(alloc);
     let mut columns = Vec::new(alloc);
     while let Some(done) = finished.pop_front() {
         let Finished {
             log,
+            holding,
             left,
             closed,
             receivers,
@@ -71,12 +77,14 @@ pub fn take_apart<M: Mail, L: Ledger>(
         } = done;
         lefts.push(left)?;
         grown.push(log)?;
+        holdings.push(holding)?;
         rows.push(VecDeque::from(closed))?;
         columns.push(VecDeque::from(receivers))?;
     }
     Ok(Parts {
         lefts,
         grown,
+        holdings,
         rows,
         columns,
     })

@@ -8,6 +8,7 @@ use Rattle.nll_cut.specs.Partition.{Cut}
 use Rattle.nll_mail.specs.declared.growth.Growth.{Growth}
 use Rattle.nll_mail.specs.declared.mail.Mail as Mail
 use Rattle.nll_ledger.specs.declared.ledger.Ledger as Ledger
+use Rattle.nll_owner.specs.Holding.{Holding, AreValuesOf}
 use Rattle.nll_owner.specs.Logs.{IsPrefix, log_of}
 use Rattle.nll_owner.specs.Owner.{Owner, IsSound, IsDone, Passes, received_from, part_for}
 use Rattle.nll_worker.specs.Mailboxes.{Alike, AreAllEmpty, Keeps}
@@ -67,11 +68,12 @@ WasMade Unstarted = ⊥
 WasMade NoOwner = ⊥
 WasMade _ = Unit {0}
 
--- it finished with an owner of this log
+-- it finished with an owner of this log, whose values are there
 abbrev pub FinishedAs : Problem → Cut → ℕ → (ℕ → List Growth) → (ℕ → List Growth)
-    → ℕ → ℕ → Ending → List Growth → Type 0
-FinishedAs q c i sent got owed cleared ending log =
+    → ℕ → ℕ → Ending → List Growth → Holding → Type 0
+FinishedAs q c i sent got owed cleared ending log holding =
     (o : Owner) × (o.log ≡ log) × Finishes q c i o sent got owed cleared ending
+    × AreValuesOf q c i log holding
 
 -- the worker neither found all quiet nor was stopped by another
 abbrev pub IsError : Ending → Type 0
@@ -109,15 +111,15 @@ module _ {L B H E : Type 0} (ledger : Ledger.Ghosts L B H E) where
       pub none_kept : kept ≡ []
       pub space : length senders ≤ room
 
-    -- The worker of owner i gives back the log of its owner, what is left of its share, and the
-    -- ends of its mailboxes: each sender closed, each receiver the end that it was.
+    -- The worker of owner i gives back the log and the values of its owner, what is left of its
+    -- share, and the ends of its mailboxes: each sender closed, each receiver the end that it was.
     pub record IsEnded (q : Problem) (c : Cut) (book : B) (i : ℕ) (senders : List S)
-        (receivers : List R) (log : List Growth) (left : E) (closed : List C) (ended : List R)
-        (ending : Ending) : Type 0 where
+        (receivers : List R) (log : List Growth) (holding : Holding) (left : E) (closed : List C)
+        (ended : List R) (ending : Ending) : Type 0 where
       pub shuts : Alike (λ s z. (r : R) → mail.pairs s r → mail.closes z r) senders closed
       pub keeps : Alike (Keeps mail) receivers ended
       pub leaves : Leaves book i left ending
       pub finishes :
           WasMade ending
           → FinishedAs q c i (log_of (map mail.all_sent closed)) (log_of (map mail.received ended))
-          (ledger.left_owed left) (ledger.left_cleared left) ending log
+          (ledger.left_owed left) (ledger.left_cleared left) ending log holding

@@ -17,7 +17,7 @@ use crate::worker::{Back, Finished, Given, Worker, work};
 use nll_cut::Cut;
 use nll_ledger::Ledger;
 use nll_mail::Mail;
-use nll_owner::Tables;
+use nll_owner::{Holding, Tables};
 use nll_problem::Problem;
 use std::alloc::Global;
 use std::collections::VecDeque;
@@ -51,8 +51,8 @@ pub fn work_if_started<M: Mail, L: Ledger, G: Gate, R: Wait>(
     requires cut { length cut.now.list ≡ problem.now.regions }
     requires tables { AreTables problem.now cut.now tables.now }
     ensures ended { IfOk result (λ done. IsEnded L.Ledger M.Mail problem.now cut.now book.now
-        worker.me worker.outbox.senders.items worker.receivers.items done.log.items done.left
-        done.closed.items done.receivers.items done.ending × WasStarted done.ending) }
+        worker.me worker.outbox.senders.items worker.receivers.items done.log.items done.holding
+        done.left done.closed.items done.receivers.items done.ending × WasStarted done.ending) }
     ensures back { IfErr result (λ back. back ≡ worker) }
 {
     if called_off.load(Ordering::SeqCst) == worker.me as u64 {
@@ -75,8 +75,8 @@ pub fn call_off<M: Mail, L: Ledger>(
         (vec_capacity worker.room) }
     requires reason { WasStarted ending → ⊥ }
     ensures ended { (q : Problem) (c : Cut) → IsEnded L.Ledger M.Mail q c book.now worker.me
-        worker.outbox.senders.items worker.receivers.items result.log.items result.left
-        result.closed.items result.receivers.items result.ending }
+        worker.outbox.senders.items worker.receivers.items result.log.items result.holding
+        result.left result.closed.items result.receivers.items result.ending }
     ensures ending { result.ending ≡ ending }
 {
     let Worker {
@@ -90,6 +90,7 @@ pub fn call_off<M: Mail, L: Ledger>(
     let closed = outbox.close_all(room);
     Finished {
         log: Vec::new(alloc),
+        holding: Holding::none(alloc),
         left,
         closed,
         receivers,
@@ -105,8 +106,8 @@ pub fn finish<M: Mail, L: Ledger>(alloc: Global, book: &L::Book, back: Back<M, L
     ensures done { IfOk back (λ done. result ≡ done) }
     ensures unstarted { IfErr back (λ worker. (result.ending ≡ Unstarted)
         × ((q : Problem) (c : Cut) → IsEnded L.Ledger M.Mail q c book.now worker.me
-        worker.outbox.senders.items worker.receivers.items result.log.items result.left
-        result.closed.items result.receivers.items result.ending)) }
+        worker.outbox.senders.items worker.receivers.items result.log.items result.holding
+        result.left result.closed.items result.receivers.items result.ending)) }
 {
     match back {
         Ok(done) => done,
@@ -129,8 +130,8 @@ fn join<M: Mail, L: Ledger, R: Threads>(
     ensures joined { IfOk start (λ h. IsEnded L.Ledger M.Mail h.promise.problem.value
         h.promise.cut.value book.now h.promise.worker.value.me
         h.promise.worker.value.outbox.senders.items h.promise.worker.value.receivers.items
-        result.log.items result.left result.closed.items result.receivers.items result.ending
-        × (result.ending ≢ Forbidden)) }
+        result.log.items result.holding result.left result.closed.items result.receivers.items
+        result.ending × (result.ending ≢ Forbidden)) }
     ensures over { IfErr start (λ done. result ≡ done) }
 {
     match start {
@@ -156,7 +157,7 @@ pub fn join_all<M: Mail, L: Ledger, R: Threads>(
     ensures { Alike (λ start done. IfOk start (λ h. IsEnded L.Ledger M.Mail
         h.promise.problem.value h.promise.cut.value book.now h.promise.worker.value.me
         h.promise.worker.value.outbox.senders.items h.promise.worker.value.receivers.items
-        done.log.items done.left done.closed.items done.receivers.items done.ending
+        done.log.items done.holding done.left done.closed.items done.receivers.items done.ending
         × (done.ending ≢ Forbidden)) × IfErr start (λ known. done ≡ known))
         starts.items result.items }
 {

@@ -52,8 +52,8 @@ pub fn run_all<M: Mail, L: Ledger, G: Gate, P: Permit, R: Threads + Wait + Sync>
     requires tables { AreTables problem.now cut.now tables.now }
     ensures ended { IfOk result (λ all. Each workers.items all.items (λ w done.
         IsEnded L.Ledger M.Mail problem.now cut.now book.now w.me w.outbox.senders.items
-        w.receivers.items done.log.items done.left done.closed.items done.receivers.items
-        done.ending)) }
+        w.receivers.items done.log.items done.holding done.left done.closed.items
+        done.receivers.items done.ending)) }
     ensures answered { IfOk result (λ all. Each workers.items all.items (λ w done.
         IsAnswered (P.permits permit.now w.me) done.ending)) }
 {
@@ -92,7 +92,7 @@ fn run_marked<'x, M: Mail + 'x, L: Ledger + 'x, G: Gate, P: Permit, R: Threads +
     requires tables { AreTables problem.now cut.now tables.now }
     ensures { IfOk result (λ all. Alike (λ w done. IsEnded L.Ledger M.Mail
         problem.now cut.now book.now w.me w.outbox.senders.items w.receivers.items
-        done.log.items done.left done.closed.items done.receivers.items done.ending
+        done.log.items done.holding done.left done.closed.items done.receivers.items done.ending
         × IsAnswered (P.permits permit.now w.me) done.ending) workers.items all.items) }
 {
     thread::scope(
@@ -106,7 +106,7 @@ fn run_marked<'x, M: Mail + 'x, L: Ledger + 'x, G: Gate, P: Permit, R: Threads +
                 × AreTables problem.now cut.now tables.now }
             ensures { IfOk result (λ all. Alike (λ w done. IsEnded L.Ledger M.Mail
                 problem.entry.now cut.entry.now book.entry.now w.me w.outbox.senders.items
-                w.receivers.items done.log.items done.left done.closed.items
+                w.receivers.items done.log.items done.holding done.left done.closed.items
                 done.receivers.items done.ending
                 × IsAnswered (P.permits permit.entry.now w.me) done.ending)
                 workers.items all.items) }
@@ -138,7 +138,7 @@ fn run_in<'s, 'x: 's, M: Mail + 'x, L: Ledger + 'x, G: Gate, P: Permit, R: Threa
     requires tables { AreTables problem.now cut.now tables.now }
     ensures { IfOk result (λ all. Alike (λ w done. IsEnded L.Ledger M.Mail
         problem.now cut.now book.now w.me w.outbox.senders.items w.receivers.items
-        done.log.items done.left done.closed.items done.receivers.items done.ending
+        done.log.items done.holding done.left done.closed.items done.receivers.items done.ending
         × IsAnswered (P.permits permit.now w.me) done.ending) workers.items all.items) }
 {
     let room = Vec::with_capacity(alloc, workers.len())?;
@@ -184,9 +184,9 @@ fn start_each<
         × IsGiven L.Ledger M.Mail cut.now book.now w.me w.share w.outbox.senders.items
         w.receivers.items w.room.items (vec_capacity w.room))
         × IfErr start (λ done. IsEnded L.Ledger M.Mail problem.now cut.now book.now w.me
-        w.outbox.senders.items w.receivers.items done.log.items done.left done.closed.items
-        done.receivers.items done.ending × IsAnswered (P.permits permit.now w.me) done.ending))
-        workers.items result.items }
+        w.outbox.senders.items w.receivers.items done.log.items done.holding done.left
+        done.closed.items done.receivers.items done.ending × IsAnswered (P.permits permit.now w.me)
+        done.ending)) workers.items result.items }
 {
     let mut workers = workers;
     let mut starts = room;
@@ -226,8 +226,8 @@ fn start_one<'s, 'x: 's, M: Mail + 'x, L: Ledger + 'x, G: Gate, R: Threads + Wai
         × (h.promise.book.value ≡ book.now) × (h.promise.problem.value ≡ problem.now)
         × (h.promise.cut.value ≡ cut.now)) }
     ensures refused { IfErr result (λ done. IsEnded L.Ledger M.Mail problem.now cut.now book.now
-        worker.me worker.outbox.senders.items worker.receivers.items done.log.items done.left
-        done.closed.items done.receivers.items done.ending × (done.ending ≢ Forbidden)) }
+        worker.me worker.outbox.senders.items worker.receivers.items done.log.items done.holding
+        done.left done.closed.items done.receivers.items done.ending × (done.ending ≢ Forbidden)) }
 {
     let me = worker.me as u64;
     let given = Given {
@@ -246,7 +246,7 @@ fn start_one<'s, 'x: 's, M: Mail + 'x, L: Ledger + 'x, G: Gate, R: Threads + Wai
                 × AreTables problem.now cut.now tables.now }
             ensures { IfOk result (λ done. IsEnded L.Ledger M.Mail problem.entry.now
                 cut.entry.now book.entry.now worker.me worker.outbox.senders.items
-                worker.receivers.items done.log.items done.left done.closed.items
+                worker.receivers.items done.log.items done.holding done.left done.closed.items
                 done.receivers.items done.ending × WasStarted done.ending)
                 × IfErr result (λ back. back ≡ worker) }
         {

@@ -21,7 +21,7 @@ use crossbeam_utils::Backoff;
 use nll_cut::Cut;
 use nll_ledger::{Leave, Ledger};
 use nll_mail::{Growth, Mail};
-use nll_owner::{Owner, Tables};
+use nll_owner::{Holding, Owner, Tables};
 use nll_problem::Problem;
 use std::alloc::Global;
 use std::sync::Wait;
@@ -210,7 +210,7 @@ pub fn begin<M: Mail, L: Ledger, G: Gate, R: Wait>(
     senders: &mut Vec<M::S>,
     receivers: &mut Vec<M::R>,
     me: u16,
-) -> (L::Left, Ending, Vec<Growth>)
+) -> (L::Left, Ending, Vec<Growth>, Holding)
     requires cut { length cut.now.list ≡ problem.now.regions }
     requires tables { AreTables problem.now cut.now tables.now }
     requires me { me < cut.now.owners }
@@ -222,7 +222,7 @@ pub fn begin<M: Mail, L: Ledger, G: Gate, R: Wait>(
     ensures started { WasStarted result.1 }
     ensures finishes { WasMade result.1 → FinishedAs problem.now cut.now me
         (log_of (map M.sent senders.new.items)) (log_of (map M.received receivers.new.items))
-        (L.left_owed result.0) (L.left_cleared result.0) result.1 result.2.items }
+        (L.left_owed result.0) (L.left_cleared result.0) result.1 result.2.items result.3 }
     ensures pairs { Alike (Stays M.Mail) senders.old.items senders.new.items }
     ensures keeps { Alike (Keeps M.Mail) receivers.old.items receivers.new.items }
 {
@@ -230,11 +230,16 @@ pub fn begin<M: Mail, L: Ledger, G: Gate, R: Wait>(
         Ok(owner) => with_owner::<M, L, G, R>(
             rt, alloc, problem, cut, gate, book, share, owner, senders, receivers, me,
         ),
-        Err(_) => (halt::<L>(book, share), Ending::NoOwner, Vec::new(alloc)),
+        Err(_) => (
+            halt::<L>(book, share),
+            Ending::NoOwner,
+            Vec::new(alloc),
+            Holding::none(alloc),
+        ),
     }
 }
 
-// Works, and hands out the log.
+// Works, and hands out the log and the values.
 fn with_owner<M: Mail, L: Ledger, G: Gate, R: Wait>(
     rt: &R,
     alloc: Global,
@@ -247,7 +252,7 @@ fn with_owner<M: Mail, L: Ledger, G: Gate, R: Wait>(
     senders: &mut Vec<M::S>,
     receivers: &mut Vec<M::R>,
     me: u16,
-) -> (L::Left, Ending, Vec<Growth>)
+) -> (L::Left, Ending, Vec<Growth>, Holding)
     requires first { owner ≡ first_owner problem.now cut.now me }
     requires few { cut.now.owners ≤ most_owners }
     requires fresh { IsFresh L.Ledger book.now me share }
@@ -257,7 +262,7 @@ fn with_owner<M: Mail, L: Ledger, G: Gate, R: Wait>(
     ensures started { WasStarted result.1 }
     ensures finishes { WasMade result.1 → FinishedAs problem.now cut.now me
         (log_of (map M.sent senders.new.items)) (log_of (map M.received receivers.new.items))
-        (L.left_owed result.0) (L.left_cleared result.0) result.1 result.2.items }
+        (L.left_owed result.0) (L.left_cleared result.0) result.1 result.2.items result.3 }
     ensures pairs { Alike (Stays M.Mail) senders.old.items senders.new.items }
     ensures keeps { Alike (Keeps M.Mail) receivers.old.items receivers.new.items }
 {
@@ -265,5 +270,6 @@ fn with_owner<M: Mail, L: Ledger, G: Gate, R: Wait>(
     let (left, ending) = work_on::<M, L, G, R>(
         rt, alloc, problem, cut, gate, book, share, &mut owner, senders, receivers, me,
     );
-    (left, ending, owner.into_log())
+    let (log, holding) = owner.into_parts(alloc);
+    (left, ending, log, holding)
 }

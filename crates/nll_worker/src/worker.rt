@@ -11,7 +11,7 @@ use crate::work_loop::begin;
 use nll_cut::Cut;
 use nll_ledger::Ledger;
 use nll_mail::{Growth, Mail};
-use nll_owner::Tables;
+use nll_owner::{Holding, Tables};
 use nll_problem::Problem;
 use std::alloc::Global;
 use std::snapshot::Snapshot;
@@ -29,11 +29,12 @@ pub struct Worker<M: Mail, L: Ledger> {
     pub room: Vec<M::Closed>,
 }
 
-/// What a worker gives back: the log of its owner, what is left of its share, the ends of its
-/// mailboxes, and how it ended.
+/// What a worker gives back: the log of its owner and the values of the owner's regions, what is
+/// left of its share, the ends of its mailboxes, and how it ended.
 #[derive(Drop)]
 pub struct Finished<M: Mail, L: Ledger> {
     pub log: Vec<Growth>,
+    pub holding: Holding,
     pub left: L::Left,
     pub closed: Vec<M::Closed>,
     pub receivers: Vec<M::R>,
@@ -59,7 +60,7 @@ impl<M: Mail, L: Ledger> Promise<Back<M, L>> for Given<M, L> {
     ghost kept_by = { λ given back. IfOk back (λ done. IsEnded L.Ledger M.Mail
         given.problem.value given.cut.value given.book.value given.worker.value.me
         given.worker.value.outbox.senders.items given.worker.value.receivers.items
-        done.log.items done.left done.closed.items done.receivers.items done.ending
+        done.log.items done.holding done.left done.closed.items done.receivers.items done.ending
         × WasStarted done.ending)
         × IfErr back (λ worker. worker ≡ given.worker.value) };
 }
@@ -81,8 +82,8 @@ pub fn work<M: Mail, L: Ledger, G: Gate, R: Wait>(
     requires cut { length cut.now.list ≡ problem.now.regions }
     requires tables { AreTables problem.now cut.now tables.now }
     ensures ended { IsEnded L.Ledger M.Mail problem.now cut.now book.now worker.me
-        worker.outbox.senders.items worker.receivers.items result.log.items result.left
-        result.closed.items result.receivers.items result.ending }
+        worker.outbox.senders.items worker.receivers.items result.log.items result.holding
+        result.left result.closed.items result.receivers.items result.ending }
     ensures started { WasStarted result.ending }
 {
     let Worker {
@@ -94,7 +95,7 @@ pub fn work<M: Mail, L: Ledger, G: Gate, R: Wait>(
     } = worker;
     let mut outbox = outbox;
     let mut receivers = receivers;
-    let (left, ending, log) = begin::<M, L, G, R>(
+    let (left, ending, log, holding) = begin::<M, L, G, R>(
         rt,
         alloc,
         problem,
@@ -110,6 +111,7 @@ pub fn work<M: Mail, L: Ledger, G: Gate, R: Wait>(
     let closed = outbox.close_all(room);
     Finished {
         log,
+        holding,
         left,
         closed,
         receivers,

@@ -1,7 +1,4 @@
-use Rattle.std.proofs.Common.{refl, sym, subst}
 use Rattle.std.proofs.lemmas.Result.{IfOk-from_err}
-use Rattle.nll_owner.specs.Outboxes.{Outboxes, AreAllQueued}
-use Rattle.nll_owner.specs.Owner.{first_owner}
 use Rattle.nll_owner.proofs.OutboxLemmas.{queued_first}
 use Rattle.nll_owner.proofs.owner.parts_of.Goals as goal
 

@@ -1,4 +1,4 @@
-use Rattle.std.proofs.Common.{sym, ap, subst, ◌∙◌, arith, ◌≡◌, ◌<◌, ◌+◌, ℕ, List, length, length-drop, map, drop}
+use Rattle.std.proofs.Common.{sym, ap, subst, ◌∙◌, arith, ◌<◌, ℕ, List, length, length-drop, map, drop}
 use Rattle.std.proofs.lemmas.List.{take_rest, drop-drop}
 use Rattle.std.proofs.lemmas.Result.{IfOk-from_err}
 use Rattle.nll_owner.specs.Owner.{Owner}

@@ -1,6 +1,7 @@
 use Rattle.std.specs.Prelude.{None}
 use Rattle.std.proofs.Common.{◌≡◌, ℕ, List, Err, length, map, slice_get, Some, Contains, sym, subst, ap, ◌∙◌, arith}
 use Rattle.std.specs.List.{sum_by}
+use Rattle.nll_run.specs.Holdings.{HaveValuesOf}
 use Rattle.nll_run.specs.Outcome.{IsOutcome}
 use Rattle.nll_run.specs.Settling.{ArePostsOf, InRows, sent_by, got_by}
 use Rattle.nll_run.specs.Refusing.{IsReason}
@@ -8,8 +9,20 @@ use Rattle.nll_run.specs.declared.error.RunError.TheVariants.{Thread}
 use Rattle.nll_worker.specs.Finishing.{WasStarted}
 use Rattle.nll_run.proofs.PlaceLemmas.{map_from, map_place}
 use Rattle.nll_run.proofs.ReasonLemmas.{calm_started, none_or, one_reason}
-use Rattle.nll_run.proofs.ConcludingLemmas.{in_range, says_least}
+use Rattle.nll_run.proofs.ConcludingLemmas.{have_values, says_least}
 use Rattle.nll_run.proofs.coordinator.conclude.Goals as goal
+
+-- the holdings have the values that the logs tell
+had : (g : _) (c : After-settle_all) → HaveValuesOf c.args.problem.now c.args.cut.now
+    (map (λ d. d.log.items) c.args.finished.items) c.in_ok-lefts.holdings.items
+had g c =
+    let holdings = c.in_ok-lefts.ensures.holdings ∙ ap (map (λ d. d.holding)) c.from.ensures.0 in
+    subst (HaveValuesOf c.args.problem.now c.args.cut.now (map (λ d. d.log.items) c.args.finished.items)) (sym holdings)
+    (have_values g.M.Mail g.L.Ledger c.args.book (λ d. d.log.items) (λ d. d.holding) (λ d. d.left)
+    (λ d. d.closed.items) (λ d. d.receivers.items) (λ d. d.ending) c.args.problem.now c.args.cut.now c.requires.cut
+    c.args.finished.items (omega (arith, c.requires.count)) c.requires.leaves c.requires.finishes
+    (λ k d e. subst (λ xs. IsReason (map (λ d. d.ending) xs) None) c.deref.ensures.value c.in_default.ensures k d.ending
+    (map_place (λ d. d.ending) c.args.finished.items k d e)))
 
 pub gather-requires-clause-each : goal.gather-requires-clause-each
 gather-requires-clause-each g c = λ k l e.
@@ -22,21 +35,7 @@ gather-requires-clause-each g c = λ k l e.
     )
 
 pub values_of-requires : goal.values_of-requires
-values_of-requires g c =
-    let m = g.M.Mail in let b = g.L.Ledger in
-    let grown = ap (map (λ x. x.items)) c.deref-2.ensures.value
-    ∙ (c.in_ok-lefts.ensures.grown ∙ ap (map (λ d. d.log.items)) c.from.ensures.0) in
-    let count : length c.args.finished.items ≡ c.args.cut.now.owners = omega (arith, c.requires.count) in
-    record {
-      range = λ log x h at.
-          in_range m b c.args.book
-          (λ d. d.log.items) (λ d. d.left) (λ d. d.closed.items) (λ d. d.receivers.items)
-          (λ d. d.ending) c.args.problem.now c.args.cut.now c.requires.cut c.args.finished.items count
-          c.requires.leaves c.requires.finishes
-          (λ k d e. subst (λ xs. IsReason (map (λ d. d.ending) xs) None) c.deref.ensures.value c.in_default.ensures k
-          d.ending (map_place (λ d. d.ending) c.args.finished.items k d e))
-          log x (subst (λ ls. Contains ls log) grown h) at;
-    }
+values_of-requires g c = record { cut = c.requires.cut; holdings = (map (λ d. d.log.items) c.args.finished.items, had g c) }
 
 pub returns-clause-ok : goal.returns-clause-ok
 returns-clause-ok g c =
@@ -48,7 +47,6 @@ returns-clause-ok g c =
     let rows = ap (map (λ x. x.items)) c.from-2.ensures.0
     ∙ (c.in_ok-lefts.ensures.rows ∙ ap (map (λ d. d.closed.items)) c.from.ensures.0) in
     let columns = c.in_ok-lefts.ensures.columns ∙ ap (map (λ d. d.receivers.items)) c.from.ensures.0 in
-    let values = ap (map (λ x. x.items)) c.deref-2.ensures.value ∙ grown in
     let settled =
     subst (λ (y : List (List _) × (List (List _) × ℕ)).
     ArePostsOf m (sent_by m.all_sent y.0) (got_by m.received y.1.0)
@@ -57,7 +55,7 @@ returns-clause-ok g c =
     subst (λ ls. IsOutcome m c.args.problem.now c.args.cut.now c.in_ok-values.values ls c.settle_all.new.posts.items)
     (sym grown)
     (says_least m b c.args.book
-    (λ d. d.log.items) (λ d. d.left) (λ d. d.closed.items) (λ d. d.receivers.items)
+    (λ d. d.log.items) (λ d. d.holding) (λ d. d.left) (λ d. d.closed.items) (λ d. d.receivers.items)
     (λ d. d.ending) c.args.problem.now c.args.cut.now c.requires.cut ds count c.requires.leaves c.requires.finishes
     (λ k d e. subst (λ xs. IsReason (map (λ d. d.ending) xs) None) c.deref.ensures.value c.in_default.ensures k d.ending
     (map_place (λ d. d.ending) c.args.finished.items k d e))
@@ -68,11 +66,7 @@ returns-clause-ok g c =
     (λ k l e off. let s = c.gather.ensures.stopped k l (subst (λ xs. slice_get xs k ≡ Some l) (sym lefts) e) off in
     (s.0, s.1, subst (λ xs. slice_get xs s.0 ≡ Some s.1) lefts s.2, s.3))
     c.requires.problem c.in_ok-values.values c.in_ok-values.ensures.shaped
-    (λ r e. (
-      λ h. let x = (c.in_ok-values.ensures.held r e).0 h in
-          (x.0, subst (λ ls. Contains ls x.0) values x.1, x.2),
-      λ x. (c.in_ok-values.ensures.held r e).1 (x.0, subst (λ ls. Contains ls x.0) (sym values) x.1, x.2),
-    ))
+    (c.in_ok-values.ensures.held (map (λ d. d.log.items) ds) (had g c))
     c.in_ok-settle_all.ensures.order)
 
 pub returns-in-Some-clause-refused : goal.returns-in-Some-clause-refused

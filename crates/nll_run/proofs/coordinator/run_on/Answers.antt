@@ -62,7 +62,8 @@ conclude-requires-clause-finishes g c κs within' = λ k d e made.
     let w = place c.in_ok-book.workers.items k
     (let h = within c.in-Ok.finished.items k d e in omega (arith, h, each.len)) in
     subst (λ i. FinishedAs c.args.problem.now c.args.cut.now i (log_of (map m.all_sent d.closed.items))
-    (log_of (map m.received d.receivers.items)) (b.left_owed d.left) (b.left_cleared d.left) d.ending d.log.items)
+    (log_of (map m.received d.receivers.items)) (b.left_owed d.left) (b.left_cleared d.left) d.ending d.log.items
+    d.holding)
     (c.in_ok-book.ensures.each k w.0 w.1).0 ((each.at k w.0 d w.1 e).finishes made)
 
 pub returns-in-Ok-clause-permitted : goal.returns-in-Ok-clause-permitted

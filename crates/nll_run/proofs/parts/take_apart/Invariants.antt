@@ -7,6 +7,8 @@ invariant-loop-done g l = record {
   lefts : l.lefts.items ++ map (λ d. d.left) l.finished.items ≡ map (λ d. d.left) l.initial.finished.items;
   grown : map (λ x. x.items) l.grown.items ++ map (λ d. d.log.items) l.finished.items
       ≡ map (λ d. d.log.items) l.initial.finished.items;
+  holdings : l.holdings.items ++ map (λ d. d.holding) l.finished.items
+      ≡ map (λ d. d.holding) l.initial.finished.items;
   rows : map (λ x. x.items) l.rows.items ++ map (λ d. d.closed.items) l.finished.items
       ≡ map (λ d. d.closed.items) l.initial.finished.items;
   columns : map (λ x. x.items) l.columns.items ++ map (λ d. d.receivers.items) l.finished.items

@@ -16,14 +16,14 @@ returns-in-Ok-clause-joined g c =
     ok_holds c.args.start c.in-Ok.handle _ c.in-Ok.is
     (taken_back (λ f. f.ending)
     (λ f. IsEnded b m p.problem.value p.cut.value c.args.book.now w.me w.outbox.senders.items w.receivers.items
-    f.log.items f.left f.closed.items f.receivers.items f.ending)
+    f.log.items f.holding f.left f.closed.items f.receivers.items f.ending)
     w
     (λ x f. (q : Problem) (k : Cut) → IsEnded b m q k c.args.book.now x.me x.outbox.senders.items x.receivers.items
-    f.log.items f.left f.closed.items f.receivers.items f.ending)
+    f.log.items f.holding f.left f.closed.items f.receivers.items f.ending)
     c.join.result c.finish.result
     (subst (λ k. IfOk c.join.result (λ f. IsEnded b m p.problem.value p.cut.value k w.me w.outbox.senders.items
-    w.receivers.items f.log.items f.left f.closed.items f.receivers.items f.ending × WasStarted f.ending)) given.0
-    c.join.ensures.0)
+    w.receivers.items f.log.items f.holding f.left f.closed.items f.receivers.items f.ending × WasStarted f.ending))
+    given.0 c.join.ensures.0)
     c.join.ensures.1
     (λ off. off p.problem.value p.cut.value)
     c.finish.ensures.done c.finish.ensures.unstarted)

@@ -21,13 +21,13 @@ invariant-loop-start g l =
     × ((more : List _)
     → Alike (λ start done. IfOk start (λ h.
     IsEnded b m h.promise.problem.value h.promise.cut.value l.book h.promise.worker.value.me
-    h.promise.worker.value.outbox.senders.items h.promise.worker.value.receivers.items done.log.items done.left
-    done.closed.items done.receivers.items done.ending × (done.ending ≢ Forbidden))
+    h.promise.worker.value.outbox.senders.items h.promise.worker.value.receivers.items done.log.items done.holding
+    done.left done.closed.items done.receivers.items done.ending × (done.ending ≢ Forbidden))
     × IfErr start (λ known. done ≡ known)) l.starts.items more
     → Alike (λ start done. IfOk start (λ h.
     IsEnded b m h.promise.problem.value h.promise.cut.value l.book h.promise.worker.value.me
-    h.promise.worker.value.outbox.senders.items h.promise.worker.value.receivers.items done.log.items done.left
-    done.closed.items done.receivers.items done.ending × (done.ending ≢ Forbidden))
+    h.promise.worker.value.outbox.senders.items h.promise.worker.value.receivers.items done.log.items done.holding
+    done.left done.closed.items done.receivers.items done.ending × (done.ending ≢ Forbidden))
     × IfErr start (λ known. done ≡ known)) l.initial.starts.items (l.finished.items ++ more))
 
 abbrev pub decreases-loop-start : goal.decreases-loop-start

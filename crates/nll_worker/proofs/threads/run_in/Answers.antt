@@ -36,7 +36,7 @@ returns g c =
     all_end _ _ _ c.args.workers.items c.start_each-starts.result.items c.from-starts.result.items
     c.join_all.result.items c.from-starts.ensures.0 c.start_each-starts.ensures c.join_all.ensures
     (λ w h d a j. (
-      carry (λ u q k. IsEnded b m q k c.args.book.now u.me u.outbox.senders.items u.receivers.items d.log.items d.left
-          d.closed.items d.receivers.items d.ending) _ _ _ _ _ _ a.0 a.2 a.3 j.0,
+      carry (λ u q k. IsEnded b m q k c.args.book.now u.me u.outbox.senders.items u.receivers.items d.log.items
+          d.holding d.left d.closed.items d.receivers.items d.ending) _ _ _ _ _ _ a.0 a.2 a.3 j.0,
       answered (g.P.Permit.permits c.args.permit.now w.me) d.ending a.4 j.1,
     ))

@@ -17,8 +17,8 @@ invariant-loop-worker g l =
     × (h.promise.cut.value ≡ l.cut)
     × g.P.Permit.permits l.permit w.me true
     × IsGiven b m l.cut l.book w.me w.share w.outbox.senders.items w.receivers.items w.room.items (vec_capacity w.room))
-    (λ w done. IsEnded b m l.problem l.cut l.book w.me w.outbox.senders.items w.receivers.items done.log.items done.left
-    done.closed.items done.receivers.items done.ending
+    (λ w done. IsEnded b m l.problem l.cut l.book w.me w.outbox.senders.items w.receivers.items done.log.items
+    done.holding done.left done.closed.items done.receivers.items done.ending
     × IsAnswered (g.P.Permit.permits l.permit w.me) done.ending)
     l.initial.workers.items l.starts.items l.workers.items
 

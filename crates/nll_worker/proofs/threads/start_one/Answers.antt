@@ -15,14 +15,14 @@ returns-in-Err-clause-refused g c =
     let back = c.spawn_with-back in
     taken_back (λ f. f.ending)
     (λ f. IsEnded b m c.args.problem.now c.args.cut.now c.args.book.now w.me w.outbox.senders.items w.receivers.items
-    f.log.items f.left f.closed.items f.receivers.items f.ending)
+    f.log.items f.holding f.left f.closed.items f.receivers.items f.ending)
     w
     (λ x f. (q : Problem) (k : Cut) → IsEnded b m q k c.args.book.now x.me x.outbox.senders.items x.receivers.items
-    f.log.items f.left f.closed.items f.receivers.items f.ending)
+    f.log.items f.holding f.left f.closed.items f.receivers.items f.ending)
     back.result c.finish.result
     (subst (λ v. IfOk back.result (λ f. IsEnded b m v.2.now v.3.now v.6.now v.8.me v.8.outbox.senders.items
-    v.8.receivers.items f.log.items f.left f.closed.items f.receivers.items f.ending × WasStarted f.ending)) same
-    back.ensures.0)
+    v.8.receivers.items f.log.items f.holding f.left f.closed.items f.receivers.items f.ending × WasStarted f.ending))
+    same back.ensures.0)
     (subst (λ v. IfErr back.result (λ x. x ≡ v.8)) same back.ensures.1)
     (λ off. off c.args.problem.now c.args.cut.now)
     c.finish.ensures.done c.finish.ensures.unstarted

@@ -21,6 +21,7 @@ returns-clause-ended g c =
       finishes =
           λ made. subst (λ xs. FinishedAs c.args.problem.now c.args.cut.now c.args.worker.me (log_of xs)
           (log_of (map m.received b.new.receivers.items)) (g.L.Ledger.left_owed b.result.0)
-          (g.L.Ledger.left_cleared b.result.0) b.result.1 b.result.2.items) (sym lists) (b.ensures.finishes made);
+          (g.L.Ledger.left_cleared b.result.0) b.result.1 b.result.2.items b.result.3) (sym lists)
+          (b.ensures.finishes made);
       leaves = b.ensures.leaves;
     }
