@@ -6,7 +6,8 @@ ghost use Rattle.nll_text.specs.Tokens.{view};
 ghost use Rattle.nll_mir_grammar.specs.Grammars.{Begins, HasNone, IsNotNext, from};
 ghost use Rattle.nll_mir_grammar.specs.Parts as parts;
 
-use nll_text::{Token, number_of, same_bytes};
+use crate::number::number_of;
+use nll_text::{Token, same_bytes};
 use nll_type_grammar::is_capital;
 
 /// The token at the index.

@@ -45,14 +45,6 @@ module _ (line gap core : List ℕ) (s : SplitsWhile is_blank line gap core) whe
 
   -- ---- a number
 
-  pub no_number : (w rest : List ℕ) → SplitsWhile is_word_byte core w rest
-      → ((n : ℕ) → IsNumber w n → ⊥) → (n : ℕ) → n < 10 ^ 9 → BeginsNotWith line (word (decimal n))
-  no_number w rest split none n small = λ ts h. (
-      let same =
-      same_split is_word_byte w rest (decimal n) h.1 split.each split.stops h.4.1 h.5
-      (sym split.joined ∙ first_token (word (decimal n)) ts h) in
-      none n (record { small = small; printed = same.0 }))
-
   pub this_number : (w rest : List ℕ) (n : ℕ) → SplitsWhile is_word_byte core w rest → IsNumber w n
       → BeginsWith line (word (decimal n)) rest
   this_number w rest n split is =
