@@ -201,9 +201,9 @@ fn owners_of(value: &str) -> Option<u16>
         (λ n. (0 < n) × (n ≤ most_owners) × (value.now ≡ decimal n)) }
 {
     // `parse` takes a `+` and zeros in front as well.
-    if !matches!(value.as_bytes().first(), Some(b'1'..=b'9')) {
+    let [b'1'..=b'9', ..] = value.as_bytes() else {
         return None;
-    }
+    };
     match value.parse::<u16>() {
         Ok(owners) if owners <= 64 => Some(owners),
         _ => None,

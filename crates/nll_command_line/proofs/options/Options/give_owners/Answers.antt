@@ -18,12 +18,12 @@ pub returns-in_default-clause-err : goal.returns-in_default-clause-err
 returns-in_default-clause-err c = (
   refl,
   λ given says. no_more_owners given _ says c.args.value.now
-  (λ n is some few. absurd (c.in_default.ensures n some few is)),
+      (λ n is some few. absurd (c.in_default.ensures n some few is)),
 )
 
 pub returns-then-is_some-clause-err : goal.returns-then-is_some-clause-err
 returns-then-is_some-clause-err c = (
   refl,
   λ given says. no_more_owners given _ says c.args.value.now
-  (λ n is some few. some_of c.args.self.now.owners (sym c.is_some.ensures ∙ c.if-is_some.true)),
+      (λ n is some few. some_of c.args.self.now.owners (sym c.is_some.ensures ∙ c.if-is_some.true)),
 )
