@@ -4,6 +4,7 @@ pub mod GrammarLemmas
 pub mod HelpLemmas
 pub mod LineErrorLemmas
 pub mod LineLemmas
+pub mod NumberLemmas
 pub mod OptionLemmas
 pub mod PlacingLemmas
 pub mod PlainLineLemmas

@@ -1,6 +1,8 @@
 //! The options among the words behind a command.
 ghost use Rattle.std.specs.Prelude.{◌≡◌, ◌≢◌, ◌⊎◌, ◌++◌, ◌∷◌, [], ℕ, List, map, string_bytes};
-ghost use Rattle.std.specs.Prelude.{MatchOption, OnOk, IfOk, IfErr, None, true, false};
+ghost use Rattle.std.specs.Prelude.{◌<◌, ◌≤◌, MatchOption, OnOk, IfOk, IfErr, None, true, false};
+ghost use Rattle.std.specs.Fmt.{decimal};
+ghost use Rattle.nll_problem.specs.Limits.{most_owners};
 ghost use Rattle.nll_command_line.specs.CommandLine as lines;
 ghost use Rattle.nll_command_line.specs.CommandLine.{begins_as_option};
 ghost use Rattle.nll_command_line.specs.Options.{AreRead, Given, HasOptions, IsLawful, key_of};
@@ -10,7 +12,6 @@ ghost use Rattle.nll_command_line.specs.Taking.{IsKind, IsUnfit, IsUnfitBefore, 
 
 use crate::error::LineError;
 use crate::task::Task;
-use nll_text::number_of;
 
 /// How regions are dealt to owners.
 #[derive(Clone, Copy, Debug, PartialEq, Eq)]
@@ -102,13 +103,13 @@ impl<'a> Options<'a> {
             × ((given : List Given) → SaysBy given self.old
             → IsUnfit given Key.Owners value.now)) }
     {
-        let Some(number) = number_of(value.as_bytes()) else {
+        let Some(owners) = owners_of(value) else {
             return Err(LineError::Usage);
         };
-        if number == 0 || number > 64 || self.owners.is_some() {
+        if self.owners.is_some() {
             return Err(LineError::Usage);
         }
-        self.owners = Some(number as u16);
+        self.owners = Some(owners);
         Ok(())
     }
 
@@ -191,6 +192,21 @@ impl<'a> Options<'a> {
             Task::Values | Task::Check => self.schedule.is_none(),
             Task::Replay => self.schedule.is_some() && self.mail.is_none(),
         }
+    }
+}
+
+// How many owners the value says, from 1 to 64, where it is that number as it is printed.
+fn owners_of(value: &str) -> Option<u16>
+    ensures { MatchOption result ((n : ℕ) → 0 < n → n ≤ most_owners → value.now ≢ decimal n)
+        (λ n. (0 < n) × (n ≤ most_owners) × (value.now ≡ decimal n)) }
+{
+    // `parse` takes a `+` and zeros in front as well.
+    let [b'1'..=b'9', ..] = value.as_bytes() else {
+        return None;
+    };
+    match value.parse::<u16>() {
+        Ok(owners) if owners <= 64 => Some(owners),
+        _ => None,
     }
 }
 

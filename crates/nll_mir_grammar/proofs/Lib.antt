@@ -1,3 +1,4 @@
+pub mod NumberLemmas
 pub mod TokenLemmas
 pub mod GrammarLemmas
 pub mod PartLemmas

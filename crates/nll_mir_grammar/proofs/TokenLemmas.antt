@@ -8,8 +8,9 @@ use Rattle.std.proofs.Math.ListN.{drop_of_length-le}
 use Rattle.std.proofs.lemmas.Bool.{ltb-true, ltb-false}
 use Rattle.std.proofs.lemmas.List.{drop-drop, drop_more, length-drop, length-map}
 use Rattle.std.specs.List.{drop-map}
-use Rattle.nll_text.specs.Tokens.{view, views}
+use Rattle.nll_text.specs.Tokens.{Token, view, views, word, sign}
 use Rattle.nll_text.specs.declared.token.Token.{Token as InLine}
+use Rattle.nll_text.specs.declared.token.Token.TheVariants as in_line
 use Rattle.nll_mir_grammar.specs.Grammars.{from}
 
 -- none are behind the last
@@ -39,6 +40,16 @@ token_found tokens at (Some x) e h =
     let first : drop at tokens ≡ x.now ∷ drop (at + 1) tokens = drop_more tokens at x.now inside
     ∙ ap (λ t. t ∷ drop (at + 1) tokens) (sym h) in
     (inside, sym (of_rest tokens at) ∙ (ap views first ∙ ap (λ l. view x.now ∷ l) (of_rest tokens (at + 1))))
+
+-- the first of some, where it is this word
+pub word_next : (ts rest : List Token) (token : InLine) (name : Bor (List ℕ)) (w : List ℕ)
+    → ts ≡ view token ∷ rest → token ≡ in_line.Word name → name.now ≡ w → ts ≡ word w ∷ rest
+word_next ts rest token name w first is same = first ∙ ap (λ t. t ∷ rest) (ap view is ∙ ap word same)
+
+-- and where it is this sign
+pub sign_next : (ts rest : List Token) (token : InLine) (b s : ℕ)
+    → ts ≡ view token ∷ rest → token ≡ in_line.Sign b → b ≡ s → ts ≡ sign s ∷ rest
+sign_next ts rest token b s first is same = first ∙ ap (λ t. t ∷ rest) (ap view is ∙ ap sign same)
 
 -- some are behind an index inside
 pub some_left : (tokens : List InLine) (at : ℕ) → at < length tokens → from at tokens ≡ [] → ⊥

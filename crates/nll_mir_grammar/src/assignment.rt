@@ -12,7 +12,7 @@ use crate::line::Line;
 use crate::pairs::Read;
 use crate::place::{operand_at, place_at};
 use crate::right::{borrow_at, make_at, signature_at};
-use crate::words::{after_sign, after_word, word_at};
+use crate::words::{after_sign, token_at, word_at};
 use nll_statements::{Call, Make, Statement};
 use nll_text::Token;
 use nll_types::Place;
@@ -100,16 +100,12 @@ fn right_side<'a>(alloc: Global, place: Place, tokens: &[Token<'a>], at: usize) 
         (λ p. IsRightSide (from at tokens.now) (path_of place) (form_of p.0)
         (from p.1 tokens.now))) }
 {
-    if let Some(behind) = after_sign(tokens, at, b'&') {
-        return borrowed(alloc, place, tokens, behind);
+    match token_at(tokens, at) {
+        Some(Token::Sign(b'&')) => borrowed(alloc, place, tokens, at + 1),
+        Some(Token::Word(b"make")) => made(alloc, place, tokens, at + 1),
+        Some(Token::Word(b"call")) => called(alloc, place, tokens, at + 1),
+        _ => assigned(alloc, place, tokens, at),
     }
-    if let Some(behind) = after_word(tokens, at, b"make") {
-        return made(alloc, place, tokens, behind);
-    }
-    if let Some(behind) = after_word(tokens, at, b"call") {
-        return called(alloc, place, tokens, behind);
-    }
-    assigned(alloc, place, tokens, at)
 }
 
 // The `=` of an assignment to the place, and what goes there.

@@ -6,7 +6,7 @@ ghost use Rattle.nll_mir_grammar.specs.Grammars.{Begins, HasNone, Puts, behind, 
 ghost use Rattle.nll_mir_grammar.specs.Parts as parts;
 
 use crate::pairs::Read;
-use crate::words::{after_sign, after_word, region_at};
+use crate::words::{after_sign, region_at, token_at};
 use nll_sets::Memory;
 use nll_text::Token;
 use std::alloc::Global;
@@ -92,9 +92,9 @@ fn bounds_behind<'a>(
         (λ rest. Begins parts.bound_lists (from at tokens.now)
         (map (λ w. (w.0.now, w.1.now)) bounds.new.items) (from rest tokens.now))) }
 {
-    match after_word(tokens, at, b"where") {
-        Some(inner) => list_bounds(tokens, inner, bounds),
-        None => Ok(Some(at)),
+    match token_at(tokens, at) {
+        Some(Token::Word(b"where")) => list_bounds(tokens, at + 1, bounds),
+        _ => Ok(Some(at)),
     }
 }
 

@@ -4,8 +4,6 @@ ghost use Rattle.std.specs.Prelude.{◌≡◌, ◌∷◌, MatchOption, drop, tru
 ghost use Rattle.nll_mir_grammar.specs.Kinds.{keyword_name, IsNoLineKeyword, IsNoPointKeyword};
 ghost use Rattle.nll_mir_grammar.specs.declared.keyword.Keyword.{Keyword as keyword};
 
-use nll_text::same_bytes;
-
 /// The first word of a line that begins with no place.
 #[derive(Clone, Copy)]
 pub enum Keyword {
@@ -33,68 +31,36 @@ pub enum Keyword {
 fn line_keyword(word: &[u8]) -> Option<Keyword>
     ensures { MatchOption result (IsNoLineKeyword word.now) (λ k. word.now ≡ keyword_name k) }
 {
-    if same_bytes(word, b"let") {
-        return Some(Keyword::Let);
+    match word {
+        b"let" => Some(Keyword::Let),
+        b"block" => Some(Keyword::Block),
+        b"struct" => Some(Keyword::Struct),
+        b"outlives" => Some(Keyword::Outlives),
+        b"region" => Some(Keyword::Region),
+        b"universal" => Some(Keyword::Universal),
+        b"assert" => Some(Keyword::Assert),
+        b"blocks" => Some(Keyword::Blocks),
+        b"end" => Some(Keyword::End),
+        _ => None,
     }
-    if same_bytes(word, b"block") {
-        return Some(Keyword::Block);
-    }
-    if same_bytes(word, b"struct") {
-        return Some(Keyword::Struct);
-    }
-    if same_bytes(word, b"outlives") {
-        return Some(Keyword::Outlives);
-    }
-    if same_bytes(word, b"region") {
-        return Some(Keyword::Region);
-    }
-    if same_bytes(word, b"universal") {
-        return Some(Keyword::Universal);
-    }
-    if same_bytes(word, b"assert") {
-        return Some(Keyword::Assert);
-    }
-    if same_bytes(word, b"blocks") {
-        return Some(Keyword::Blocks);
-    }
-    if same_bytes(word, b"end") {
-        return Some(Keyword::End);
-    }
-    None
 }
 
 // The keyword of a statement or terminator.
 fn point_keyword(word: &[u8]) -> Option<Keyword>
     ensures { MatchOption result (IsNoPointKeyword word.now) (λ k. word.now ≡ keyword_name k) }
 {
-    if same_bytes(word, b"live") {
-        return Some(Keyword::Live);
+    match word {
+        b"live" => Some(Keyword::Live),
+        b"dead" => Some(Keyword::Dead),
+        b"goto" => Some(Keyword::Goto),
+        b"drop" => Some(Keyword::Drop),
+        b"switch" => Some(Keyword::Switch),
+        b"read" => Some(Keyword::Read),
+        b"nop" => Some(Keyword::Nop),
+        b"return" => Some(Keyword::Return),
+        b"stop" => Some(Keyword::Stop),
+        _ => None,
     }
-    if same_bytes(word, b"dead") {
-        return Some(Keyword::Dead);
-    }
-    if same_bytes(word, b"goto") {
-        return Some(Keyword::Goto);
-    }
-    if same_bytes(word, b"drop") {
-        return Some(Keyword::Drop);
-    }
-    if same_bytes(word, b"switch") {
-        return Some(Keyword::Switch);
-    }
-    if same_bytes(word, b"read") {
-        return Some(Keyword::Read);
-    }
-    if same_bytes(word, b"nop") {
-        return Some(Keyword::Nop);
-    }
-    if same_bytes(word, b"return") {
-        return Some(Keyword::Return);
-    }
-    if same_bytes(word, b"stop") {
-        return Some(Keyword::Stop);
-    }
-    None
 }
 
 // Whether the word begins with `_`.

@@ -11,6 +11,7 @@ mod keyword;
 mod laws;
 mod line;
 mod lines;
+mod number;
 mod operands;
 mod pairs;
 mod parameters;

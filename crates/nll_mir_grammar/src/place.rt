@@ -6,7 +6,7 @@ ghost use Rattle.nll_types.specs.Operands.{operand_of};
 ghost use Rattle.nll_mir_grammar.specs.Grammars.{Begins, HasNone, from, many};
 ghost use Rattle.nll_mir_grammar.specs.Parts as parts;
 
-use crate::words::{after_sign, after_word, number_at, variable_at};
+use crate::words::{after_sign, number_at, token_at, variable_at};
 use nll_sets::Memory;
 use nll_text::Token;
 use nll_types::{Operand, Place, Projection};
@@ -120,20 +120,20 @@ pub fn operand_at(
     ensures { IfOk result (λ o. MatchOption o (HasNone parts.operands (from at tokens.now))
         (λ p. Begins parts.operands (from at tokens.now) (operand_of p.0) (from p.1 tokens.now))) }
 {
-    if let Some(rest) = after_word(tokens, at, b"copy") {
-        let Some((place, rest)) = place_at(alloc, tokens, rest)? else {
-            return Ok(None);
-        };
-        return Ok(Some((Operand::Copy(place), rest)));
-    }
-    if let Some(rest) = after_word(tokens, at, b"move") {
-        let Some((place, rest)) = place_at(alloc, tokens, rest)? else {
-            return Ok(None);
-        };
-        return Ok(Some((Operand::Move(place), rest)));
-    }
-    match after_word(tokens, at, b"const") {
-        Some(rest) => Ok(Some((Operand::Const, rest))),
-        None => Ok(None),
+    match token_at(tokens, at) {
+        Some(Token::Word(b"copy")) => {
+            let Some((place, rest)) = place_at(alloc, tokens, at + 1)? else {
+                return Ok(None);
+            };
+            Ok(Some((Operand::Copy(place), rest)))
+        }
+        Some(Token::Word(b"move")) => {
+            let Some((place, rest)) = place_at(alloc, tokens, at + 1)? else {
+                return Ok(None);
+            };
+            Ok(Some((Operand::Move(place), rest)))
+        }
+        Some(Token::Word(b"const")) => Ok(Some((Operand::Const, at + 1))),
+        _ => Ok(None),
     }
 }

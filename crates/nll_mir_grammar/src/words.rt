@@ -6,7 +6,8 @@ ghost use Rattle.nll_text.specs.Tokens.{view};
 ghost use Rattle.nll_mir_grammar.specs.Grammars.{Begins, HasNone, IsNotNext, from};
 ghost use Rattle.nll_mir_grammar.specs.Parts as parts;
 
-use nll_text::{Token, number_of, same_bytes};
+use crate::number::number_of;
+use nll_text::Token;
 use nll_type_grammar::is_capital;
 
 /// The token at the index.
@@ -25,17 +26,6 @@ pub fn after_sign(tokens: &[Token<'_>], at: usize, sign: u8) -> Option<usize>
 {
     match token_at(tokens, at) {
         Some(Token::Sign(first)) if first == sign => Some(at + 1),
-        _ => None,
-    }
-}
-
-/// What stands behind the word, where it comes next.
-pub fn after_word(tokens: &[Token<'_>], at: usize, word: &[u8]) -> Option<usize>
-    ensures { MatchOption result (IsNotNext (lex.word word.now) (from at tokens.now))
-        (λ rest. from at tokens.now ≡ lex.word word.now ∷ from rest tokens.now) }
-{
-    match token_at(tokens, at) {
-        Some(Token::Word(first)) if same_bytes(first, word) => Some(at + 1),
         _ => None,
     }
 }
@@ -130,9 +120,9 @@ pub fn block_at(tokens: &[Token<'_>], at: usize) -> Option<(u32, usize)>
 pub fn mutability_at(tokens: &[Token<'_>], at: usize) -> (bool, usize)
     ensures { Begins parts.mutabilities (from at tokens.now) result.0 (from result.1 tokens.now) }
 {
-    match after_word(tokens, at, b"mut") {
-        Some(rest) => (true, rest),
-        None => (false, at),
+    match token_at(tokens, at) {
+        Some(Token::Word(b"mut")) => (true, at + 1),
+        _ => (false, at),
     }
 }
 
@@ -140,8 +130,8 @@ pub fn mutability_at(tokens: &[Token<'_>], at: usize) -> (bool, usize)
 pub fn drop_mark_at(tokens: &[Token<'_>], at: usize) -> (bool, usize)
     ensures { Begins parts.drop_marks (from at tokens.now) result.0 (from result.1 tokens.now) }
 {
-    match after_word(tokens, at, b"drop") {
-        Some(rest) => (true, rest),
-        None => (false, at),
+    match token_at(tokens, at) {
+        Some(Token::Word(b"drop")) => (true, at + 1),
+        _ => (false, at),
     }
 }

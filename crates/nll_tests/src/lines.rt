@@ -3,7 +3,7 @@ use super::rows::Asked::Line;
 use super::rows::{Row, compare_lines, compare_rows};
 use super::transcript::Transcript;
 use super::{mir_lines, tokens, type_names, written_types};
-use nll_text::{Token, is_header, next_line, number_of, same_bytes, tokens_of};
+use nll_text::{Token, is_header, next_line, same_bytes, tokens_of};
 use nll_type_grammar::is_capital;
 
 /// What is asked of a line.
@@ -15,8 +15,6 @@ pub enum OfLine {
     Header(&'static str, &'static str),
     /// Its tokens, where it may have so many.
     Tokens(usize),
-    /// The number that it is.
-    Number,
     /// Whether it is the same as this one.
     Same(&'static str),
     /// Whether it begins as the name of a struct does.
@@ -47,7 +45,6 @@ pub fn write_line(out: &mut Transcript, line: &str, asked: OfLine) {
             )
         }
         OfLine::Tokens(most) => tokens::write_tokens_in(out, line, most),
-        OfLine::Number => out.option("", number_of(line.as_bytes())),
         OfLine::Same(other) => out.flag("", same_bytes(line.as_bytes(), other.as_bytes()), ""),
         OfLine::Capital => out.flag("", is_capital(line.as_bytes()), ""),
         _ => write_read(out, line, asked),

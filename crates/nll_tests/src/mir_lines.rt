@@ -281,6 +281,28 @@ end ~ end
 end end ~ none
 ";
 
+// Lines with numbers, of which some aren't written as they are printed, or have ten digits.
+const NUMBERS: &str = "
+blocks 0 ~ blocks 0
+blocks 10 ~ blocks 10
+blocks 100000000 ~ blocks 100000000
+blocks 999999999 ~ blocks 999999999
+blocks 1000000000 ~ none
+blocks 00 ~ none
+blocks 01 ~ none
+blocks 1_0 ~ none
+blocks +1 ~ none
+blocks 1a ~ none
+live _999999999 ~ live 999999999
+live _1000000000 ~ none
+live _ ~ none
+live _00 ~ none
+goto bb999999999 ~ goto 999999999
+goto bb1000000000 ~ none
+goto bb ~ none
+goto bb01 ~ none
+";
+
 // Lines, and whether they may stand in a text of version 1, and of version 2.
 const VERSIONS: &str = "
 universal 'a ~ true true
@@ -336,6 +358,7 @@ end ~ no statement
 #[test]
 fn lines_have_forms(rt: HostRuntime) {
     compare_text(&rt, rt.alloc(), OfLine::Form, LINES);
+    compare_text(&rt, rt.alloc(), OfLine::Form, NUMBERS);
     compare_text(&rt, rt.alloc(), OfLine::First, VERSIONS);
     compare_text(&rt, rt.alloc(), OfLine::Effects, EFFECTS);
     one_form();

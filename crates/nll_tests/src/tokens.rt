@@ -1,4 +1,4 @@
-//! Lines that are read as tokens, and tokens that are read as numbers.
+//! Lines that are read as tokens.
 use super::lines::OfLine;
 use super::rows::Asked::{Line, Scanned};
 use super::rows::{Row, compare_lines, compare_rows};
@@ -117,31 +117,12 @@ const SCANNED: &[Row] = &[
     ),
 ];
 
-// Words, and the numbers that they are.
-const NUMBERS: &[(&str, &str)] = &[
-    ("0", "Some(0)"),
-    ("7", "Some(7)"),
-    ("10", "Some(10)"),
-    ("100000000", "Some(100000000)"),
-    ("999999999", "Some(999999999)"),
-    ("1000000000", "None"),
-    ("", "None"),
-    ("00", "None"),
-    ("01", "None"),
-    ("000", "None"),
-    ("1_0", "None"),
-    ("+1", "None"),
-    ("1a", "None"),
-];
-
 // A line is read as its tokens, whatever the list held before; one of more tokens than it may have
-// is read as none. It is skipped, read as tokens, or faulty. A number has up to nine digits, and no
-// zero in front.
+// is read as none. It is skipped, read as tokens, or faulty.
 #[test]
 fn lines_are_read_as_tokens(rt: HostRuntime) {
     compare_lines(&rt, rt.alloc(), OfLine::Tokens(13), TOKENS);
     compare_rows(&rt, rt.alloc(), MOST);
     compare_rows(&rt, rt.alloc(), SCANNED);
-    compare_lines(&rt, rt.alloc(), OfLine::Number, NUMBERS);
     one_token_list();
 }

@@ -1,5 +1,5 @@
 -- The first token of a line, where it is what is looked for.
-use Rattle.std.proofs.Common.{◌≡◌, ℕ, ◌^◌, ◌<◌, true, false, eqb, List, [], ◌∷◌, ◌++◌, length, take, drop, refl, sym, ap, ◌∙◌, subst, arith}
+use Rattle.std.proofs.Common.{◌≡◌, ℕ, ◌<◌, true, false, eqb, List, [], ◌∷◌, ◌++◌, length, take, drop, refl, sym, ap, ◌∙◌, subst, arith}
 use Rattle.std.specs.List.{IsSplitAt}
 use Rattle.std.specs.Fmt.{decimal}
 use Rattle.std.proofs.Math.Seq.{take-append_seam, drop-append_seam}
@@ -44,14 +44,6 @@ module _ (line gap core : List ℕ) (s : SplitsWhile is_blank line gap core) whe
       token_after line gap core (word w) rest s (begins_with core (word w) rest joined is (sym off))
 
   -- ---- a number
-
-  pub no_number : (w rest : List ℕ) → SplitsWhile is_word_byte core w rest
-      → ((n : ℕ) → IsNumber w n → ⊥) → (n : ℕ) → n < 10 ^ 9 → BeginsNotWith line (word (decimal n))
-  no_number w rest split none n small = λ ts h. (
-      let same =
-      same_split is_word_byte w rest (decimal n) h.1 split.each split.stops h.4.1 h.5
-      (sym split.joined ∙ first_token (word (decimal n)) ts h) in
-      none n (record { small = small; printed = same.0 }))
 
   pub this_number : (w rest : List ℕ) (n : ℕ) → SplitsWhile is_word_byte core w rest → IsNumber w n
       → BeginsWith line (word (decimal n)) rest

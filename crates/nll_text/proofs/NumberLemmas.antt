@@ -1,5 +1,5 @@
 -- Numbers, and the words that spell them.
-use Rattle.std.proofs.Common.{◌≡◌, ◌≢◌, ℕ, ◌+◌, ◌-◌, ◌*◌, ◌^◌, ◌<◌, ◌≤◌, List, length, get_or, take, true, false, refl, sym, ◌∙◌, ◌⊎◌, arith, inl, inr, Option, Some, None, MatchOption}
+use Rattle.std.proofs.Common.{◌≡◌, ◌≢◌, ℕ, ◌+◌, ◌-◌, ◌*◌, ◌^◌, ◌<◌, ◌≤◌, List, length, get_or, take, true, false, refl, sym, ◌∙◌, ◌⊎◌, arith, inl, inr}
 use Rattle.std.specs.Char.{is_ascii_digit}
 use Rattle.std.specs.Fmt.{decimal}
 use Rattle.std.specs.Str.Parse.{AllDigits, digits_value}
@@ -82,18 +82,9 @@ read_digit word i n d lt e is r =
       value = omega (arith, digits_value_more 10 word i lt, value, r.value);
     }
 
--- ---- a word as a number
+-- ---- a zero in front
 
 pub lone_by_cases : (word : List ℕ) (b : ℕ) → 0 < length word → b ≡ get_or word 0 0
     → ((b ≡ 48) × (length word ≤ 1)) ⊎ (b ≢ 48) → get_or word 0 0 ≡ 48 → length word ≡ 1
 lone_by_cases word b some e (inl h) zero = omega (arith, h.1)
 lone_by_cases word b some e (inr h) zero = absurd (h (e ∙ zero))
-
-pub number_from_digits : (word : List ℕ) (o : Option ℕ) → 0 < length word → length word ≤ 9
-    → (get_or word 0 0 ≡ 48 → length word ≡ 1)
-    → MatchOption o (¬ AllDigits 10 word) (λ n. AllDigits 10 word × (n ≡ digits_value 10 word))
-    → MatchOption o ((n : ℕ) → ¬ IsNumber word n) (λ n. IsNumber word n)
-number_from_digits word None some short lone h = λ n number. h (number_form word n number).digits
-number_from_digits word (Some n) some short lone h =
-    rw h.1
-    (number_from_form word (record { some = some; short = short; lone = lone; digits = h.0 }))

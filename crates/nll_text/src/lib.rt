@@ -23,6 +23,5 @@ pub use header::is_header;
 pub use laws::one_token_list;
 pub use lexer::tokens_of;
 pub use lines::next_line;
-pub use number::number_of;
 pub use scan::{Scanned, is_skipped_line, scan_line};
 pub use token::Token;

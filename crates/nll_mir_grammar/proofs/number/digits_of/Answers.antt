@@ -1,6 +1,6 @@
 use Rattle.std.proofs.Common.{arith, sym}
 use Rattle.nll_text.proofs.NumberLemmas.{no_digits, value_so_far, read_digit}
-use Rattle.nll_text.proofs.number.digits_of.Goals as goal
+use Rattle.nll_mir_grammar.proofs.number.digits_of.Goals as goal
 
 pub returns-then-not-is_ascii_digit : goal.returns-then-not-is_ascii_digit
 returns-then-not-is_ascii_digit c =

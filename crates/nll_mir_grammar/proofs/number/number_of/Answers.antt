@@ -1,6 +1,7 @@
 use Rattle.std.proofs.Common.{arith, sym, ◌∙◌, ◌<◌, ◌≡◌, length, get_or}
-use Rattle.nll_text.proofs.NumberLemmas.{number_form, number_from_digits, lone_by_cases}
-use Rattle.nll_text.proofs.number.number_of.Goals as goal
+use Rattle.nll_text.proofs.NumberLemmas.{number_form, lone_by_cases}
+use Rattle.nll_mir_grammar.proofs.NumberLemmas.{number_from_digits}
+use Rattle.nll_mir_grammar.proofs.number.number_of.Goals as goal
 
 pub returns-then-word-gt9 : goal.returns-then-word-gt9
 returns-then-word-gt9 c = λ n h. omega (arith, (number_form _ n h).short)
