@@ -2,7 +2,6 @@
 use Rattle.std.proofs.Common.{length-append, ◌≡◌, ◌≢◌, ◌↔◌, ◌+◌, ◌<◌, ◌≤◌, ℕ, zero, suc, Bool, true, false, List, [], ◌∷◌, ◌++◌, length, map, drop, slice_index_or, slice_get, Some, Contains, AllPairs, refl, ap, sym, ◌∙◌, subst, inl, inr, ◌⊎◌, ⊎_elim, arith}
 use Rattle.std.specs.List.{sum_by}
 use Rattle.std.proofs.lemmas.Bool.{cases_lt}
-use Rattle.std.proofs.lemmas.List.{get_or_past}
 use Rattle.std.proofs.lemmas.List.Sums.{sum_by-cons}
 use Rattle.nll_problem.specs.Problem.{Problem, IsSound as IsSoundProblem}
 use Rattle.nll_problem.specs.Solution.{Least}
@@ -27,7 +26,7 @@ use Rattle.nll_worker.proofs.RunLemmas.{concludes, not_stray}
 use Rattle.nll_run.specs.Settling.{ArePostsOf, InRows, sent_by, got_by}
 use Rattle.nll_run.specs.Refusing.{IsCalm}
 use Rattle.nll_run.proofs.RankingLemmas.{are_ranked}
-use Rattle.nll_run.proofs.PlaceLemmas.{place, within, read_place, map_place, map_from, map_size, mapped, contains_place, contained}
+use Rattle.nll_run.proofs.PlaceLemmas.{place, within, map_place, map_from, map_size, mapped, contains_place, contained}
 
 -- the rest of a list behind one that begins it
 prefix_rest : {X : Type 0} (front whole : List X) → IsPrefix front whole → whole ≡ front ++ drop (length front) whole
@@ -261,13 +260,17 @@ module _ {D M S R C P L B H E : Type 0} (m : Mail.Ghosts M S R C P) (b : Ledger.
       sums = sym (sum_of b.left_owed) ∙ (sym owed_is ∙ (quiets all_quiet_left ∙ (cleared_is ∙ sum_of b.left_cleared)))
 
       module _ (problem : IsSoundProblem q) (values : List (List Bool)) (shaped : IsShaped q values)
-          (logged : (r e : ℕ) → IsHeld values r e ↔ IsTold (log_of logs (owner_of c r)) r e) where
+          (held : HaveValuesOf q c logs (map holding ds) → (r e : ℕ)
+          → IsHeld values r e ↔ IsTold (log_of logs (owner_of c r)) r e) where
         law : ((i j : ℕ) → i < c.owners → j < c.owners → i ≢ j
             → (sent i j ≡ part q c j (log_of logs i)) × (got i j ≡ sent i j) × (rest i j ≡ []))
             × AreSound q c logs (λ i j. part q c i (log_of logs j))
             × ((r e : ℕ) → IsTold (log_of logs (owner_of c r)) r e ↔ Least q r e)
         law = concludes q c owner sent got rest owed cleared ending ends tied logs problem cut log_count log_is quiet
             sums
+
+        logged : (r e : ℕ) → IsHeld values r e ↔ IsTold (log_of logs (owner_of c r)) r e
+        logged = held have_values
 
         ranked : AreRanked q c logs
         ranked =

@@ -1,5 +1,5 @@
 -- Sets are taken out of the holdings of all owners, region by region.
-use Rattle.std.proofs.Common.{◌≡◌, ◌↔◌, ℕ, ◌+◌, ◌<◌, ◌≤◌, Bool, List, [], ◌∷◌, ◌++◌, length, set, get_or, false, refl, sym, ap, ◌∙◌, subst, ⊎_elim, arith}
+use Rattle.std.proofs.Common.{◌≡◌, ◌≢◌, ◌↔◌, true, ℕ, ◌+◌, ◌<◌, ◌≤◌, Bool, List, [], ◌∷◌, ◌++◌, length, set, get_or, refl, sym, ap, ◌∙◌, subst, ⊎_elim, arith}
 use Rattle.std.proofs.lemmas.Bool.{cases_eq, cases_lt, false≢true}
 use Rattle.std.proofs.lemmas.List.{get_or_default, get_or_past, get_or-set_other, get_or-set_same}
 use Rattle.nll_sets.specs.ElementSet.{flag}
@@ -29,71 +29,68 @@ taken_none c old sets none = record {
   each = λ r low. absurd (omega (arith, low));
 }
 
--- the set of one region more is taken
+-- a region is left, whose owner's holding is read in place
 module _ (c : Cut) (count : ℕ) (old now : List Holding) (sets : List (List Bool)) (w : AreTaken c count old now sets)
-    (taken : List Bool) (left : Holding) (within : owner_of c count < length now)
-    (here : HasSet (holding_of now (owner_of c count)) count taken)
-    (others : (r : ℕ) (xs : List Bool) → r ≢ count
-    → HasSet left r xs ↔ HasSet (holding_of now (owner_of c count)) r xs) where
-  next : List Holding
-  next = set now (owner_of c count) left
+    (i : ℕ) (own : i ≡ owner_of c count) (within : i < length now) (h : Holding) (is : h ≡ get_or now i h) where
+  there : h ≡ holding_of now i
+  there = is ∙ get_or_default now i h (record { regions = []; sets = [] }) within
 
-  stays : (i r : ℕ) (xs : List Bool) → count + 1 ≤ r → HasSet (holding_of next i) r xs ↔ HasSet (holding_of now i) r xs
-  stays i r xs low = ⊎_elim
-      (λ (own : i ≡ owner_of c count).
-      let is : holding_of next i ≡ left =
-      ap (holding_of next) own
-      ∙ get_or-set_same now (owner_of c count) left (record { regions = []; sets = [] }) within in
-      let apart : r ≢ count = λ same. omega (arith, low, same) in
-      let both = others r xs apart in (
-        λ h. subst (λ k. HasSet (holding_of now k) r xs) (sym own) (both.0 (subst (λ x. HasSet x r xs) is h)),
-        λ h. subst (λ x. HasSet x r xs) (sym is) (both.1 (subst (λ k. HasSet (holding_of now k) r xs) own h)),
-      ))
-      (λ (other : i ≢ owner_of c count).
-      let is : holding_of next i ≡ holding_of now i =
-      get_or-set_other now (owner_of c count) i left (record { regions = []; sets = [] }) other in
-      (λ h. subst (λ x. HasSet x r xs) is h, λ h. subst (λ x. HasSet x r xs) (sym is) h))
-      (cases_eq i (owner_of c count))
+  owned_by : h ≡ holding_of now (owner_of c count)
+  owned_by = there ∙ ap (holding_of now) own
 
-  pub taken_more : AreTaken c (count + 1) old (set now (owner_of c count) left) (sets ++ taken ∷ [])
-  taken_more = record {
-    as_many = set_size now (owner_of c count) left ∙ w.as_many;
-    rest = λ i r xs low.
-        let a = stays i r xs low in
-        let b = w.rest i r xs (omega (arith, low)) in
-        (λ h. b.0 (a.0 h), λ h. a.1 (b.1 h));
-    size = push_size sets taken ∙ ap (λ n. n + 1) w.size;
-    each = λ r low. ⊎_elim
-        (λ (early : r < count).
-        subst (λ xs. HasSet (holding_of old (owner_of c r)) r xs)
-        (sym (list_low sets taken r (omega (arith, early, w.size)))) (w.each r early))
-        (λ (late : count ≤ r).
-        let last : r ≡ count = omega (arith, low, late) in
-        subst (λ (y : ℕ × List Bool). HasSet (holding_of old (owner_of c y.0)) y.0 y.1)
-        (λ j. (sym last j, sym (list_last sets taken r (omega (arith, last, w.size))) j))
-        ((w.rest (owner_of c count) count taken (omega arith)).0 here))
-        (cases_lt r count);
-  }
+  -- it has a set of the region
+  pub has_set : (q : Problem) → count < q.regions → IsCutOf q c → (logs : List (List Growth))
+      → HaveValuesOf q c logs old → (xs : List Bool) × HasSet h count xs
+  has_set q low cut logs have =
+      let x = (have.each (owner_of c count) (cut.cut.owned count (omega (arith, low, cut.regions)))).whole count low
+      refl in (
+        x.0,
+        subst (λ y. HasSet y count x.0) (sym owned_by) ((w.rest (owner_of c count) count x.0 (omega arith)).1 x.1),
+      )
 
--- where a region is left, its owner's holding has a set of it
-module _ (q : Problem) (c : Cut) (cut : IsCutOf q c) (count : ℕ) (old now : List Holding) (sets : List (List Bool))
-    (w : AreTaken c count old now sets) (low : count < q.regions) (logs : List (List Growth))
-    (have : HaveValuesOf q c logs old) where
-  region_low : count < length c.list
-  region_low = omega (arith, low, cut.regions)
+  -- the set is taken
+  module _ (taken : List Bool) (left : Holding) (here : HasSet h count taken)
+      (others : (r : ℕ) (xs : List Bool) → r ≢ count → HasSet left r xs ↔ HasSet h r xs) where
+    abbrev next : List Holding
+    next = set now i left
 
-  pub owner_low : owner_of c count < length now
-  owner_low = let l = cut.cut.owned count region_low in omega (arith, l, have.counted, w.as_many)
+    stays : (j r : ℕ) (xs : List Bool) → count + 1 ≤ r
+        → HasSet (holding_of next j) r xs ↔ HasSet (holding_of now j) r xs
+    stays j r xs low = ⊎_elim
+        (λ (same : j ≡ i).
+        let at : holding_of next j ≡ left =
+        ap (holding_of next) same ∙ get_or-set_same now i left (record { regions = []; sets = [] }) within in
+        let back : h ≡ holding_of now j = there ∙ ap (holding_of now) (sym same) in
+        let both = others r xs (λ here. omega (arith, low, here)) in (
+          λ t. subst (λ y. HasSet y r xs) back (both.0 (subst (λ y. HasSet y r xs) at t)),
+          λ t. subst (λ y. HasSet y r xs) (sym at) (both.1 (subst (λ y. HasSet y r xs) (sym back) t)),
+        ))
+        (λ (other : j ≢ i).
+        let at : holding_of next j ≡ holding_of now j =
+        get_or-set_other now i j left (record { regions = []; sets = [] }) other in
+        (λ t. subst (λ y. HasSet y r xs) at t, λ t. subst (λ y. HasSet y r xs) (sym at) t))
+        (cases_eq j i)
 
-  pub has_set : (xs : List Bool) × HasSet (holding_of now (owner_of c count)) count xs
-  has_set =
-      let x = (have.each (owner_of c count) (cut.cut.owned count region_low)).whole count low refl in
-      (x.0, (w.rest (owner_of c count) count x.0 (omega arith)).1 x.1)
-
-  -- the holding that is read in place
-  pub read_holding : (h : Holding) → h ≡ get_or now (owner_of c count) h → holding_of now (owner_of c count) ≡ h
-  read_holding h is =
-      sym (is ∙ get_or_default now (owner_of c count) h (record { regions = []; sets = [] }) owner_low)
+    pub taken_more : AreTaken c (count + 1) old (set now i left) (sets ++ taken ∷ [])
+    taken_more = record {
+      as_many = set_size now i left ∙ w.as_many;
+      rest = λ j r xs low.
+          let a = stays j r xs low in
+          let b = w.rest j r xs (omega (arith, low)) in
+          (λ t. b.0 (a.0 t), λ t. a.1 (b.1 t));
+      size = push_size sets taken ∙ ap (λ n. n + 1) w.size;
+      each = λ r low. ⊎_elim
+          (λ (early : r < count).
+          subst (λ xs. HasSet (holding_of old (owner_of c r)) r xs)
+          (sym (list_low sets taken r (omega (arith, early, w.size)))) (w.each r early))
+          (λ (late : count ≤ r).
+          let last : r ≡ count = omega (arith, low, late) in
+          subst (λ (y : ℕ × List Bool). HasSet (holding_of old (owner_of c y.0)) y.0 y.1)
+          (λ k. (sym last k, sym (list_last sets taken r (omega (arith, last, w.size))) k))
+          ((w.rest (owner_of c count) count taken (omega arith)).0
+          (subst (λ y. HasSet y count taken) owned_by here)))
+          (cases_lt r count);
+    }
 
 -- once all are taken, they are the values that the logs tell
 module _ (q : Problem) (c : Cut) (cut : IsCutOf q c) (old now : List Holding) (sets : List (List Bool))

@@ -1,5 +1,5 @@
 use Rattle.std.specs.Prelude.{None}
-use Rattle.std.proofs.Common.{◌≡◌, ℕ, List, Err, length, map, slice_get, Some, Contains, sym, subst, ap, ◌∙◌, arith}
+use Rattle.std.proofs.Common.{◌≡◌, ℕ, List, Err, length, map, slice_get, Some, sym, subst, ap, ◌∙◌, arith}
 use Rattle.std.specs.List.{sum_by}
 use Rattle.nll_run.specs.Holdings.{HaveValuesOf}
 use Rattle.nll_run.specs.Outcome.{IsOutcome}
@@ -12,18 +12,6 @@ use Rattle.nll_run.proofs.ReasonLemmas.{calm_started, none_or, one_reason}
 use Rattle.nll_run.proofs.ConcludingLemmas.{have_values, says_least}
 use Rattle.nll_run.proofs.coordinator.conclude.Goals as goal
 
--- the holdings have the values that the logs tell
-had : (g : _) (c : After-settle_all) → HaveValuesOf c.args.problem.now c.args.cut.now
-    (map (λ d. d.log.items) c.args.finished.items) c.in_ok-lefts.holdings.items
-had g c =
-    let holdings = c.in_ok-lefts.ensures.holdings ∙ ap (map (λ d. d.holding)) c.from.ensures.0 in
-    subst (HaveValuesOf c.args.problem.now c.args.cut.now (map (λ d. d.log.items) c.args.finished.items)) (sym holdings)
-    (have_values g.M.Mail g.L.Ledger c.args.book (λ d. d.log.items) (λ d. d.holding) (λ d. d.left)
-    (λ d. d.closed.items) (λ d. d.receivers.items) (λ d. d.ending) c.args.problem.now c.args.cut.now c.requires.cut
-    c.args.finished.items (omega (arith, c.requires.count)) c.requires.leaves c.requires.finishes
-    (λ k d e. subst (λ xs. IsReason (map (λ d. d.ending) xs) None) c.deref.ensures.value c.in_default.ensures k d.ending
-    (map_place (λ d. d.ending) c.args.finished.items k d e)))
-
 pub gather-requires-clause-each : goal.gather-requires-clause-each
 gather-requires-clause-each g c = λ k l e.
     let lefts = c.in_ok-lefts.ensures.lefts ∙ ap (map (λ d. d.left)) c.from.ensures.0 in
@@ -35,7 +23,22 @@ gather-requires-clause-each g c = λ k l e.
     )
 
 pub values_of-requires : goal.values_of-requires
-values_of-requires g c = record { cut = c.requires.cut; holdings = (map (λ d. d.log.items) c.args.finished.items, had g c) }
+values_of-requires g c =
+    let logs = map (λ d. d.log.items) c.args.finished.items in
+    let holdings = c.in_ok-lefts.ensures.holdings ∙ ap (map (λ d. d.holding)) c.from.ensures.0 in
+    record {
+      cut = c.requires.cut;
+      holdings = (
+        logs,
+        subst (HaveValuesOf c.args.problem.now c.args.cut.now logs) (sym holdings)
+            (have_values g.M.Mail g.L.Ledger c.args.book (λ d. d.log.items) (λ d. d.holding) (λ d. d.left)
+            (λ d. d.closed.items) (λ d. d.receivers.items) (λ d. d.ending) c.args.problem.now c.args.cut.now
+            c.requires.cut c.args.finished.items (omega (arith, c.requires.count)) c.requires.leaves
+            c.requires.finishes
+            (λ k d e. subst (λ xs. IsReason (map (λ d. d.ending) xs) None) c.deref.ensures.value c.in_default.ensures k
+            d.ending (map_place (λ d. d.ending) c.args.finished.items k d e))),
+      );
+    }
 
 pub returns-clause-ok : goal.returns-clause-ok
 returns-clause-ok g c =
@@ -44,6 +47,7 @@ returns-clause-ok g c =
     let count : length ds ≡ c.args.cut.now.owners = omega (arith, c.requires.count) in
     let lefts = c.in_ok-lefts.ensures.lefts ∙ ap (map (λ d. d.left)) c.from.ensures.0 in
     let grown = c.in_ok-lefts.ensures.grown ∙ ap (map (λ d. d.log.items)) c.from.ensures.0 in
+    let holdings = c.in_ok-lefts.ensures.holdings ∙ ap (map (λ d. d.holding)) c.from.ensures.0 in
     let rows = ap (map (λ x. x.items)) c.from-2.ensures.0
     ∙ (c.in_ok-lefts.ensures.rows ∙ ap (map (λ d. d.closed.items)) c.from.ensures.0) in
     let columns = c.in_ok-lefts.ensures.columns ∙ ap (map (λ d. d.receivers.items)) c.from.ensures.0 in
@@ -66,7 +70,8 @@ returns-clause-ok g c =
     (λ k l e off. let s = c.gather.ensures.stopped k l (subst (λ xs. slice_get xs k ≡ Some l) (sym lefts) e) off in
     (s.0, s.1, subst (λ xs. slice_get xs s.0 ≡ Some s.1) lefts s.2, s.3))
     c.requires.problem c.in_ok-values.values c.in_ok-values.ensures.shaped
-    (c.in_ok-values.ensures.held (map (λ d. d.log.items) ds) (had g c))
+    (λ have. c.in_ok-values.ensures.held (map (λ d. d.log.items) ds)
+    (subst (HaveValuesOf c.args.problem.now c.args.cut.now (map (λ d. d.log.items) ds)) (sym holdings) have))
     c.in_ok-settle_all.ensures.order)
 
 pub returns-in-Some-clause-refused : goal.returns-in-Some-clause-refused

@@ -1,4 +1,4 @@
-use Rattle.std.proofs.Common.{◌≤◌, ◌+◌, vec_len, vec_capacity}
+use Rattle.std.proofs.Common.{◌≤◌, vec_capacity}
 use Rattle.nll_run.proofs.TakingLemmas.{AreTaken}
 use Rattle.nll_run.proofs.values.values_of.Given as goal
 
