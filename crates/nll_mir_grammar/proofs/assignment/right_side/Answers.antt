@@ -1,6 +1,6 @@
-use Rattle.std.proofs.Common.{◌≡◌, codes, arith, ◌∙◌, ap, ◌∷◌}
+use Rattle.std.proofs.Common.{◌≡◌, codes, arith}
 use Rattle.std.proofs.lemmas.Slice.Eq.{text_from_reads}
-use Rattle.nll_text.specs.Tokens.{word, sign, view}
+use Rattle.nll_text.specs.Tokens.{word, sign}
 use Rattle.nll_mir_grammar.specs.Grammars.{from, IsNotNext}
 use Rattle.nll_mir_grammar.specs.Lines.{form_of}
 use Rattle.nll_mir_grammar.proofs.LineLemmas.{read_value_side, read_side_behind}
