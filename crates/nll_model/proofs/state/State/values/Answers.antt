@@ -66,6 +66,7 @@ returns-clause-held c =
       c.regions-number-end.ensures.value,
     ) in
     said_all c.args.problem.now c.args.cut.now c.requires.cut c.args.self.now c.requires.sound c.of_sets.result
-    (subst (AreSaid c.args.problem.now c.args.cut.now c.args.self.now c.args.problem.now.regions) (sym c.of_sets.ensures)
+    (subst (AreSaid c.args.problem.now c.args.cut.now c.args.self.now c.args.problem.now.regions)
+    (sym c.of_sets.ensures)
     (subst (λ n. AreSaid c.args.problem.now c.args.cut.now c.args.self.now n c.loop-number.sets.items) is
     c.loop-number.invariant))
