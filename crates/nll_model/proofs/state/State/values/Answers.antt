@@ -1,4 +1,4 @@
-use Rattle.std.proofs.Common.{◌≡◌, ◌↔◌, ◌<◌, ◌+◌, ◌++◌, [], ◌∷◌, length, get_or, sym, ap, ◌∙◌, subst, arith}
+use Rattle.std.proofs.Common.{◌≡◌, ◌↔◌, ◌<◌, ◌+◌, ◌++◌, [], ◌∷◌, get_or, sym, ap, ◌∙◌, subst, arith}
 use Rattle.nll_problem.specs.Graph.{element_count}
 use Rattle.nll_problem.specs.Problem.{Problem}
 use Rattle.nll_core.specs.Search.{IsIn}
