@@ -24,11 +24,7 @@ pub enum Meeting {
 }
 
 // A place of a variable.
-fn place_of(
-    alloc: Global,
-    variable: u32,
-    projections: &[Projection],
-) -> Result<Place, Memory> {
+fn place_of(alloc: Global, variable: u32, projections: &[Projection]) -> Result<Place, Memory> {
     let projections = SmallVec::from_slice(alloc, projections)?;
     Place::new(alloc, variable, projections)
 }
@@ -37,12 +33,13 @@ fn place_of(
 fn judged(
     alloc: Global,
     table: &mut TypeTable,
-    (first, second): (usize, usize),
+    first: usize,
+    second: usize,
     meeting: Meeting,
     place: Place,
 ) -> Result<Judgement, Memory>
-    requires { first < length table.old.shapes }
-    requires { second < length table.old.shapes }
+    requires first { first < length table.old.shapes }
+    requires second { second < length table.old.shapes }
 {
     let variables = [first, second];
     let whole = Place::Whole(0);
@@ -74,12 +71,10 @@ fn write_types(
     meeting: Meeting,
     (variable, projections): (u32, &[Projection]),
 ) -> Result<(), Memory> {
-    let shapes = (
-        table.shape(out.alloc, first, &[])?,
-        table.shape(out.alloc, second, &[])?,
-    );
+    let first = table.shape(out.alloc, first, &[])?;
+    let second = table.shape(out.alloc, second, &[])?;
     let place = place_of(out.alloc, variable, projections)?;
-    let judgement = judged(out.alloc, table, shapes, meeting, place)?;
+    let judgement = judged(out.alloc, table, first, second, meeting, place)?;
     write_judgement(out, judgement);
     Ok(())
 }

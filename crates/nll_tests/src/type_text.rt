@@ -295,11 +295,7 @@ pub enum OfType {
     /// The last of so many structs that double.
     Doubling(usize),
     /// What is judged of a place, where `_0` and `_1` have the last two types that steps make.
-    Meeting(
-        &'static [Step],
-        Meeting,
-        (u32, &'static [Projection]),
-    ),
+    Meeting(&'static [Step], Meeting, (u32, &'static [Projection])),
     /// What is judged of some together.
     Both,
 }
