@@ -20,16 +20,19 @@ returns-in_default-3 c = λ n some few e.
 pub returns-in-Ok : goal.returns-in-Ok
 returns-in-Ok c =
     let first = ap (λ (l : List ℕ). get_or l 0 0) c.as_bytes.ensures.value in
-    let number = is_printed c.args.value.now _ c.in-Ok.owners c.parse.ensures.value.0 c.in-Ok.is (omega (arith, first)) in
-    (number.0, c.if-owners-le64.true, number.1)
+    let number = is_printed c.args.value.now _ c.in-Ok.owners c.parse.ensures.value.0 c.in-Ok.is
+    (omega (arith, first)) in
+    (number.0, omega arith, number.1)
 
 pub returns-in_default-parse : goal.returns-in_default-parse
 returns-in_default-parse c = λ n some few e.
-    let read = parse-decimal 16 n c.args.value.now _ (omega (arith, few)) (omega (arith, few)) e c.parse.ensures.value.0 in
+    let read = parse-decimal 16 n c.args.value.now _ (omega (arith, few)) (omega (arith, few)) e
+    c.parse.ensures.value.0 in
     let same : c.in-Ok.owners ≡ n = cc in
-    omega (arith, few, same, c.if-owners-le64.false)
+    omega (arith, few, same)
 
 pub returns-in_default-parse-2 : goal.returns-in_default-parse-2
 returns-in_default-parse-2 c = λ n some few e.
-    let read = parse-decimal 16 n c.args.value.now _ (omega (arith, few)) (omega (arith, few)) e c.parse.ensures.value.0 in
+    let read = parse-decimal 16 n c.args.value.now _ (omega (arith, few)) (omega (arith, few)) e
+    c.parse.ensures.value.0 in
     cc
