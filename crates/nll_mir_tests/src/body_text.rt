@@ -19,7 +19,8 @@ pub enum Asked {
     All,
     /// How much it has, and what its last point does.
     Size,
-    /// How many edges leave its first point, and the variables that are written in its line.
+    /// How many edges leave its first point, whether the block ends there, and the variables that
+    /// are written in its line.
     First,
     /// The regions of each variable's type.
     Variables,
@@ -131,10 +132,12 @@ fn write_size(rt: &impl Abort, alloc: Global, out: &mut String, body: &Body) {
     }
 }
 
-// Writes how many edges leave the point of a statement, and the variables that are written in it.
+// Writes how many edges leave the point of a statement, whether the block ends with it, and the
+// variables that are written in it.
 fn write_statement(rt: &impl Abort, alloc: Global, out: &mut String, statement: &Stmt) {
     let exits = statement.exits(alloc).expect(rt, "memory");
-    write_number(rt, out, "", exits.edges as u64, "");
+    let ends = if exits.ends { " ends" } else { "" };
+    write_number(rt, out, "", exits.edges as u64, ends);
     let mut written = Vec::new(alloc);
     statement.variables(&mut written).expect(rt, "memory");
     write_numbers(rt, out, " written", written.as_slice());

@@ -40,7 +40,8 @@ return ~ bb0/0 returns uses 0
 stop ~ bb0/0
 ";
 
-// How many edges leave the point of each line, and the variables that are written in it.
+// How many edges leave the point of each line, whether the block ends with it, and the variables
+// that are written in it.
 const WRITTEN: &str = "
 _1 = const|stop| ~ 1 written 1
 _1 = move _3.1|stop| ~ 1 written 1 3
@@ -51,15 +52,15 @@ read _4.0|stop| ~ 1 written 4
 live _4|stop| ~ 1 written 4
 dead _4|stop| ~ 1 written 4
 nop|stop| ~ 1
-goto bb0| ~ 1
-switch copy _1 bb1 bb0 bb1| ~ 2 written 1
-switch const bb1| ~ 1
-drop _4 -> bb1| ~ 1 written 4
-drop _4 -> bb1 unwind bb0| ~ 2 written 4
-drop _4 -> bb1 unwind bb1| ~ 1 written 4
-_4.0 = call f(copy _1: int, move _3.0: int): int -> bb1 unwind bb0| ~ 2 written 4 1 3
-return| ~ 0 written 0
-stop| ~ 0
+goto bb0| ~ 1 ends
+switch copy _1 bb1 bb0 bb1| ~ 2 ends written 1
+switch const bb1| ~ 1 ends
+drop _4 -> bb1| ~ 1 ends written 4
+drop _4 -> bb1 unwind bb0| ~ 2 ends written 4
+drop _4 -> bb1 unwind bb1| ~ 1 ends written 4
+_4.0 = call f(copy _1: int, move _3.0: int): int -> bb1 unwind bb0| ~ 2 ends written 4 1 3
+return| ~ 0 ends written 0
+stop| ~ 0 ends
 ";
 
 // Each variable is written as often as a place of it stands in the line, and each block to which

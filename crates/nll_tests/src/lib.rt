@@ -2,8 +2,8 @@
 //! Expected values are found by hand from the definitions. The plain solver, `rounds`, is a second
 //! body of `solve`'s contract.
 //!
-//! Reading order: `rounds`, `transcript`, `problem_text`, `calls`, `type_data`, `type_text`,
-//! `rows`, then each module of tests.
+//! Reading order: `rounds`, `transcript`, `problem_text`, `calls`, `type_data`, `meetings`,
+//! `type_text`, `rows`, then each module of tests.
 #![tactic(auto)]
 
 mod rounds;
@@ -24,6 +24,8 @@ mod frontiers;
 mod graphs;
 #[cfg(test)]
 mod lines;
+#[cfg(test)]
+mod meetings;
 #[cfg(test)]
 mod messages;
 #[cfg(test)]

@@ -1,6 +1,7 @@
 //! What types, structs and shapes tell, as text.
 ghost use Rattle.std.specs.Prelude.{◌<◌, length};
 
+use super::meetings::{Meeting, write_both, write_meeting};
 use super::transcript::Transcript;
 use super::type_data::Step::{Int, Named, Parameter, Reference, Tuple};
 use super::type_data::{Step, Written, declare, types_of};
@@ -293,6 +294,10 @@ pub enum OfType {
     Deep(usize),
     /// The last of so many structs that double.
     Doubling(usize),
+    /// What is judged of a place, where `_0` and `_1` have the last two types that steps make.
+    Meeting(&'static [Step], Meeting, (u32, &'static [Projection])),
+    /// What is judged of some together.
+    Both,
 }
 
 // Writes what is told over a table.
@@ -302,6 +307,8 @@ fn write_told(out: &mut Transcript, table: &mut TypeTable, asked: OfType) {
         OfType::Field => write_field(out, table),
         OfType::Deep(depth) => write_deep(out, table, depth),
         OfType::Doubling(more) => write_doubling(out, table, more),
+        OfType::Meeting(steps, meeting, place) => write_meeting(out, table, steps, meeting, place),
+        OfType::Both => write_both(out),
     }
 }
 

@@ -1,8 +1,10 @@
 //! Types, structs, shapes and places: what each call gives for worked declarations.
+use super::meetings::Meeting::{Assigned, Borrowed, Given, Read, Wanted};
 use super::rows::Asked::Type;
 use super::rows::{Row, compare_rows};
+use super::type_data::Step;
 use super::type_data::Step::{Int, Named, Reference, Tuple};
-use super::type_text::OfType::{Deep, Doubling, Field, Place};
+use super::type_text::OfType::{Both, Deep, Doubling, Field, Meeting, Place};
 use nll_types::Projection;
 
 const DEREF: Projection = Projection::Deref;
@@ -113,9 +115,84 @@ const LARGE: &[Row] = &[
     ),
 ];
 
-// Types, places, shapes and drop regions are those of the definitions.
+// A reference to an `int`, and another one of another region.
+const REFERENCES: &[Step] = &[Int, Reference(3, false), Int, Reference(4, false)];
+
+// An `int`, and a pair of one and of a reference.
+const PAIR: &[Step] = &[Int, Int, Int, Reference(3, true), Tuple(2)];
+
+const FIRST: Projection = Projection::Field(0);
+
+const SECOND: Projection = Projection::Field(1);
+
+const FITS: &str = "declared true fits true small true|";
+
+const UNFIT: &str = "declared true fits false small false|";
+
+// The types of `_0` and `_1`, and a place that meets `_0`.
+const MEETINGS: &[Row] = &[
+    (
+        "regions are forgotten",
+        Type(Meeting(REFERENCES, Assigned, (1, &[]))),
+        FITS,
+    ),
+    (
+        "what is behind a reference",
+        Type(Meeting(REFERENCES, Assigned, (1, &[DEREF]))),
+        UNFIT,
+    ),
+    (
+        "no such variable",
+        Type(Meeting(REFERENCES, Assigned, (2, &[]))),
+        "declared false fits false small false|",
+    ),
+    (
+        "a reference to what is behind another",
+        Type(Meeting(REFERENCES, Borrowed(false), (1, &[DEREF]))),
+        FITS,
+    ),
+    (
+        "a `mut` one where one is wanted that isn't",
+        Type(Meeting(REFERENCES, Borrowed(true), (1, &[DEREF]))),
+        UNFIT,
+    ),
+    (
+        "a value of a part",
+        Type(Meeting(PAIR, Given, (1, &[FIRST]))),
+        FITS,
+    ),
+    (
+        "one of another part",
+        Type(Meeting(PAIR, Given, (1, &[SECOND]))),
+        UNFIT,
+    ),
+    (
+        "what is behind a part",
+        Type(Meeting(PAIR, Wanted, (1, &[SECOND, DEREF]))),
+        FITS,
+    ),
+    ("a pair", Type(Meeting(PAIR, Wanted, (1, &[]))), UNFIT),
+    ("a part", Type(Meeting(PAIR, Read, (1, &[SECOND]))), FITS),
+    (
+        "a part that isn't there",
+        Type(Meeting(PAIR, Read, (1, &[SECOND, SECOND]))),
+        UNFIT,
+    ),
+    // What is judged of two together: both fit, one is too large and has another variable, one
+    // doesn't fit.
+    (
+        "two",
+        Type(Both),
+        "declared true fits true small true|declared false fits true small false|\
+            declared true fits false small false|",
+    ),
+];
+
+// Types, places, shapes and drop regions are those of the definitions, and so is what is judged
+// where types meet.
 #[test]
 fn types_are_told(rt: HostRuntime) {
     compare_rows(&rt, rt.alloc(), PLACES);
     compare_rows(&rt, rt.alloc(), LARGE);
+    compare_rows(&rt, rt.alloc(), MEETINGS);
 }
