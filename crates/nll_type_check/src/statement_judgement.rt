@@ -22,7 +22,7 @@ use crate::declared::is_declared;
 use crate::parts::{judge_arguments, judge_parts};
 use nll_sets::Memory;
 use nll_statements::Statement;
-use nll_types::{Judgement, Node, Operand, Place, Shapes, TypeTable};
+use nll_types::{Judgement, Node, Operand, Place, TypeTable};
 use std::alloc::Global;
 
 // Judges a tuple or struct of a type of this shape that is made of operands and goes to a place.
@@ -110,18 +110,18 @@ fn judge_switch(
 }
 
 // Judges a return: the type of the return place is to be small.
-fn judge_return(shapes: &Shapes, variables: &[usize]) -> Judgement
-    requires { AreBelow (length shapes.now) variables.now }
+fn judge_return(table: &TypeTable, variables: &[usize]) -> Judgement
+    requires { AreBelow (length table.now.shapes) variables.now }
     ensures declared { result.declared ≡ nat_lt 0 (length variables.now) }
     ensures judged { (structs : List Struct) (types : List TypeTree)
-        → HaveShapes shapes.now variables.now types
+        → HaveShapes table.now.shapes variables.now types
         → IsJudged true (small_prefixes structs types
         (record { variable = 0; projections = [] })) result }
 {
     if variables.is_empty() {
         return Judgement::fitting(false, true);
     }
-    Judgement::fitting(true, shapes.is_small(variables[0]))
+    Judgement::fitting(true, table.shapes().is_small(variables[0]))
 }
 
 // Judges a variable that stands by itself.
@@ -178,7 +178,7 @@ pub fn judge_statement<R, T>(
             let (place, arguments) = (&call.place, call.arguments.as_slice());
             judge_call(alloc, table, variables, place, arguments, written)
         }
-        Statement::Return => Ok(judge_return(table.shapes(), variables)),
+        Statement::Return => Ok(judge_return(table, variables)),
         Statement::Live(variable) | Statement::Dead(variable) => {
             Ok(judge_variable(variables.len(), *variable))
         }

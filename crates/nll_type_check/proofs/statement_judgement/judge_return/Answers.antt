@@ -6,5 +6,6 @@ use Rattle.nll_type_check.proofs.statement_judgement.judge_return.Goals as goal
 pub returns-clause-judged : goal.returns-clause-judged
 returns-clause-judged c = λ structs types h.
     let some : 0 < length c.args.variables.now = grind arith in
-    judged_as refl (c.is_small.ensures ∙ return_small structs c.args.shapes.now c.args.variables.now types h some)
+    judged_as refl ((rw c.shapes.ensures at c.is_small.ensures)
+    ∙ return_small structs c.args.table.now.shapes c.args.variables.now types h some)
     c.fitting-2.ensures.judged

@@ -50,7 +50,7 @@ pub returns-in-Return-clause-judged : goal.returns-in-Return-clause-judged
 returns-in-Return-clause-judged g c =
     let structs = structs_of c.args.table.now.structs in
     rw c.in-Return.is (λ types f h e w. judged_as refl (return_order _)
-    ((rw c.shapes.ensures at c.judge_return.ensures.judged) structs types e))
+    (c.judge_return.ensures.judged structs types e))
 
 pub returns-in-Assign-clause-judged : goal.returns-in-Assign-clause-judged
 returns-in-Assign-clause-judged g c =
