@@ -25,12 +25,18 @@ class RandomOrder:
 
 
 class Link:
-    """The constraints that fill one region from another: where their walks start, and what these reached."""
+    """The constraints that fill one region from another: where their walks start, what these reached, and whether
+    they rest, since the one region had all of the other."""
 
     def __init__(self, sup):
         self.sup = sup
         self.starts = []
         self.reached = set()
+        self.rests = False
+
+    def is_idle(self, run):
+        """Whether nothing is reached yet, and no walk starts in the run."""
+        return not self.reached and ALL not in self.starts and not any(p in run for p in self.starts)
 
 
 class Walk:
@@ -87,6 +93,8 @@ class Walk:
             new = [e for e in run if e not in self.link.reached]
             self.link.reached.update(new)
             return new
+        if self.link.is_idle(run) or self.link.reached.issuperset(run):
+            return []
         points = [e for e in run if e < self.paths.points]
         if points:
             self.begin(points)
@@ -108,9 +116,24 @@ class Paths:
         self.jumps = [[q for q in targets if q != p + 1] for p, targets in enumerate(self.next)]
 
 
+def runs_of(elements):
+    """The runs of elements that ascend: as many as follow each other by number are one."""
+    runs = []
+    for e in elements:
+        if runs and runs[-1][-1] + 1 == e:
+            runs[-1].append(e)
+        else:
+            runs.append([e])
+    return runs
+
+
+# A set of more runs isn't compared with another one.
+MOST_RUNS = 64
+
+
 class ProgramOrder:
-    """The order of the program. It follows up the log, a run of one region at a time, and lets each link go on
-    that reads the region."""
+    """The order of the program. It follows up the log in rounds: all that came since the round before, by region and
+    then by element, a run at a time; each link that reads the region goes on from its runs."""
 
     def __init__(self, owner):
         self.owner = owner
@@ -132,25 +155,40 @@ class ProgramOrder:
         yield from self.settle()
 
     def receive(self, growth):
-        yield from self.follow(growth.region, [growth.element])
+        yield from self.follow([(growth.region, growth.element)])
         yield from self.settle()
-
-    def next_run(self):
-        """The next growths of the log that give one region elements which follow each other by number."""
-        log = self.owner.log
-        region, first, _ = log[self.place]
-        begin = self.place
-        while self.place < len(log) and log[self.place][:2] == (region, first + self.place - begin):
-            self.place += 1
-        return region, list(range(first, first + self.place - begin))
 
     def settle(self):
         while self.place < len(self.owner.log):
-            region, run = self.next_run()
-            yield from self.follow(region, run)
+            told = [growth[:2] for growth in self.owner.log[self.place:]]
+            self.place = len(self.owner.log)
+            yield from self.follow(told)
 
-    def follow(self, sub, run):
-        for link in self.links[sub]:
+    def follow(self, told):
+        """Lets each link that reads a region go on from what is told of it."""
+        for region in sorted({region for region, _ in told}):
+            runs = runs_of(sorted(e for told_of, e in told if told_of == region))
+            for link in self.links[region]:
+                yield from self.advance(link, region, runs)
+
+    def may_rest(self, link, sub, runs):
+        """Whether the link's region has all that the other one has. Where the link rests, it had all but the runs."""
+        inside, own = self.owner.has[sub], self.owner.has[link.sup]
+        if link.rests:
+            return all(own.issuperset(run) for run in runs)
+        return len(runs_of(sorted(inside))) <= MOST_RUNS and inside <= own
+
+    def advance(self, link, sub, runs):
+        """Lets a link go on from runs; where it rested, from all of the region that it reads."""
+        if not link.rests and all(link.is_idle(run) for run in runs):
+            return
+        if self.may_rest(link, sub, runs):
+            link.rests = True
+            return
+        if link.rests:
+            link.rests = False
+            runs = runs_of(sorted(self.owner.has[sub]))
+        for run in runs:
             for e in Walk(self.paths, link, self.owner.has[sub]).go_on(run):
                 if e not in self.owner.has[link.sup]:
                     yield link.sup, e

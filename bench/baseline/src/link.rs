@@ -14,16 +14,23 @@ pub struct Link {
     first: u32,
     end: u32,
     /// Whether one of them holds at all points.
-    everywhere: bool,
+    pub everywhere: bool,
+    /// Whether the own region had all of the other one (`rounds`).
+    pub rests: bool,
     /// Whether a return point is reached.
     returned: bool,
-    reached: Runs,
+    pub reached: Runs,
 }
 
 impl Link {
     pub fn new(sup: u32, slot: u32, places: Range<usize>, everywhere: bool) -> Link {
         let (first, end) = (places.start as u32, places.end as u32);
-        Link { sup, slot, first, end, everywhere, returned: false, reached: Runs::default() }
+        Link { sup, slot, first, end, everywhere, rests: false, returned: false, reached: Runs::default() }
+    }
+
+    /// Where its constraints stand.
+    pub fn places(&self) -> Range<usize> {
+        self.first as usize..self.end as usize
     }
 
     /// Goes on once a run is known of the region that is read. Puts the runs of what is newly reached
@@ -55,7 +62,7 @@ impl Link {
             return;
         };
         self.enter_next(ground, inside, part, found);
-        for constraint in ground.asking_in(self.first as usize..self.end as usize, part) {
+        for constraint in ground.asking_in(self.places(), part) {
             enter(&ground.lines, inside, constraint.at, &mut self.reached, found);
         }
         for &(point, from) in ground.landing_in(part) {

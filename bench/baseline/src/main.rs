@@ -2,7 +2,7 @@
 //! written by hand without any proof: the partner of `nllc` in measurements and in differential
 //! tests. Reading order: `main`, `text` (lines, tokens, which fault is told), `tables`, `facts`,
 //! `problem`, `solve`, `runs`, `report`; for MIR texts `shapes`, `body`, `mir`, `rules`; for owners `cut`,
-//! `ground`, `link`, `owner`, `owners`, `threads`; for their events `schedule`, `world`, `driving`.
+//! `ground`, `link`, `owner`, `owners`, `threads`; for their events `schedule`, `rounds`, `world`, `driving`.
 //!
 //! `baseline read FILE` and `baseline problem FILE` print one line of counts, of what is read and
 //! of the problem that it means; `baseline bases FILE` prints those of a body with its base
@@ -26,6 +26,7 @@ mod owner;
 mod owners;
 mod problem;
 mod report;
+mod rounds;
 mod rules;
 mod runs;
 mod schedule;

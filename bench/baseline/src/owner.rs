@@ -20,14 +20,14 @@ pub struct Growth {
 const NONE: u32 = u32::MAX;
 
 pub struct Owner<'g> {
-    ground: &'g Ground<'g>,
+    pub ground: &'g Ground<'g>,
     me: u16,
     /// For each region where its value or its copy stands.
-    slots: Vec<u32>,
-    values: Vec<Runs>,
+    pub slots: Vec<u32>,
+    pub values: Vec<Runs>,
     /// By the slot of the region that they read.
-    links: Vec<Link>,
-    starts: Vec<u32>,
+    pub links: Vec<Link>,
+    pub starts: Vec<u32>,
     pub log: Vec<Growth>,
     pub received: Vec<Vec<Growth>>,
     /// For each owner the places in the log of what it's still to be told.
@@ -36,9 +36,9 @@ pub struct Owner<'g> {
     unsent: u64,
     clock: u64,
     /// How far in the log growths were followed up, and put into the outboxes.
-    followed: usize,
+    pub followed: usize,
     queued: usize,
-    found: Vec<Run>,
+    pub found: Vec<Run>,
     new: Vec<Run>,
 }
 
@@ -108,6 +108,12 @@ impl<'g> Owner<'g> {
 
     /// Enters the base elements, and grows until nothing is left to do.
     pub fn load(&mut self) {
+        self.enter_bases();
+        self.settle();
+    }
+
+    /// Enters the base elements.
+    pub fn enter_bases(&mut self) {
         let problem = self.ground.problem;
         for region in 0..problem.regions() {
             if !self.owns(region) {
@@ -123,18 +129,23 @@ impl<'g> Owner<'g> {
                 self.grow(region, slot, run);
             }
         }
-        self.settle();
     }
 
     /// Enters a growth of another owner, and grows until nothing is left to do.
     pub fn receive(&mut self, from: u16, growth: Growth) {
+        let (slot, run) = self.enter(from, growth);
+        self.follow(slot, run);
+        self.settle();
+    }
+
+    /// Enters a growth of another owner: where its region's copy stands, and its element.
+    pub fn enter(&mut self, from: u16, growth: Growth) -> (u32, Run) {
         self.received[from as usize].push(growth);
         self.clock = self.clock.max(growth.rank);
         let slot = self.slots[growth.region as usize];
         let run = Run { first: growth.element, last: growth.element };
         self.values[slot as usize].insert(run);
-        self.follow(slot, run);
-        self.settle();
+        (slot, run)
     }
 
     /// How many growths the others are still to be told, all together.
@@ -156,7 +167,7 @@ impl<'g> Owner<'g> {
     }
 
     /// Grows an own region by the elements of a run that are new.
-    fn grow(&mut self, region: u32, slot: u32, run: Run) {
+    pub fn grow(&mut self, region: u32, slot: u32, run: Run) {
         self.new.clear();
         self.values[slot as usize].insert_new(run, &mut self.new);
         for run in &self.new {
@@ -204,7 +215,7 @@ impl<'g> Owner<'g> {
     }
 
     /// Puts the places of growths that aren't queued yet into the outboxes of those that read them.
-    fn queue(&mut self) {
+    pub fn queue(&mut self) {
         while let Some(&Growth { region, .. }) = self.log.get(self.queued) {
             let first = self.queued;
             while self.log.get(self.queued).is_some_and(|growth| growth.region == region) {

@@ -100,7 +100,7 @@ impl<'g> World<'g> {
     fn load(&mut self, i: usize) -> Option<()> {
         let seat = &mut self.seats[i];
         (!seat.loaded).then(|| {
-            seat.owner.load();
+            seat.owner.load_in_rounds();
             seat.loaded = true;
             seat.fill();
         })
@@ -111,7 +111,7 @@ impl<'g> World<'g> {
             return None;
         }
         let growth = self.seats[j].lanes[i].boxed.pop_front()?;
-        self.seats[i].owner.receive(j as u16, growth);
+        self.seats[i].owner.receive_in_rounds(j as u16, growth);
         self.seats[i].fill();
         Some(())
     }
