@@ -3,7 +3,7 @@ use super::rows::Asked::Line;
 use super::rows::{Row, compare_lines, compare_rows};
 use super::transcript::Transcript;
 use super::{mir_lines, tokens, type_names, written_types};
-use nll_text::{Token, is_header, next_line, same_bytes, tokens_of};
+use nll_text::{Token, is_header, next_line, tokens_of};
 use nll_type_grammar::is_capital;
 
 /// What is asked of a line.
@@ -15,8 +15,6 @@ pub enum OfLine {
     Header(&'static str, &'static str),
     /// Its tokens, where it may have so many.
     Tokens(usize),
-    /// Whether it is the same as this one.
-    Same(&'static str),
     /// Whether it begins as the name of a struct does.
     Capital,
     /// The type in front.
@@ -45,7 +43,6 @@ pub fn write_line(out: &mut Transcript, line: &str, asked: OfLine) {
             )
         }
         OfLine::Tokens(most) => tokens::write_tokens_in(out, line, most),
-        OfLine::Same(other) => out.flag("", same_bytes(line.as_bytes(), other.as_bytes()), ""),
         OfLine::Capital => out.flag("", is_capital(line.as_bytes()), ""),
         _ => write_read(out, line, asked),
     }
@@ -117,17 +114,6 @@ const OTHERS: &[Row] = &[
     ("a b 1", Line(OfLine::Header("a b", "1")), "false"),
 ];
 
-// Words, and whether they are the same as others.
-const SAME: &[Row] = &[
-    ("", Line(OfLine::Same("")), "true"),
-    ("live", Line(OfLine::Same("live")), "true"),
-    ("live", Line(OfLine::Same("line")), "false"),
-    ("live", Line(OfLine::Same("Live")), "false"),
-    ("live", Line(OfLine::Same("livd")), "false"),
-    ("live", Line(OfLine::Same("lived")), "false"),
-    ("lived", Line(OfLine::Same("live")), "false"),
-];
-
 // A line ends at a line feed, and nothing stands behind the last one. A header is two runs of bytes
 // that aren't blanks.
 #[test]
@@ -135,5 +121,4 @@ fn texts_are_cut_into_lines(rt: HostRuntime) {
     compare_lines(&rt, rt.alloc(), OfLine::Lines, LINES);
     compare_lines(&rt, rt.alloc(), OfLine::Header("nll-facts", "1"), HEADERS);
     compare_rows(&rt, rt.alloc(), OTHERS);
-    compare_rows(&rt, rt.alloc(), SAME);
 }

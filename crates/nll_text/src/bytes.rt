@@ -67,9 +67,9 @@ fn run_len(bytes: &[u8]) -> usize
     bytes.iter().take_while(|byte| !is_blank(**byte)).count()
 }
 
-/// Whether these are the same bytes. It is for short ones, as words are: it compares one byte after
-/// another.
-pub fn same_bytes(bytes: &[u8], others: &[u8]) -> bool
+// Whether these are the same bytes. It is for short ones, as words are: it compares one byte after
+// another.
+pub(crate) fn same_bytes(bytes: &[u8], others: &[u8]) -> bool
     ensures { IsTrue result ↔ (bytes.now ≡ others.now) }
 {
     if bytes.len() != others.len() {

@@ -16,7 +16,6 @@ mod number;
 mod scan;
 mod token;
 
-pub use bytes::same_bytes;
 pub use error::{LexError, ScanError};
 pub use front::{after_word, first_number, first_region, is_gap};
 pub use header::is_header;

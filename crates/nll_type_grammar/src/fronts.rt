@@ -6,7 +6,7 @@ ghost use Rattle.nll_text.specs.Tokens.{views};
 ghost use Rattle.nll_type_grammar.specs.WrittenTypes as spec;
 ghost use Rattle.nll_type_grammar.specs.OpenTypes.{IsNoFront, BeginsWithin};
 
-use nll_text::{Token, same_bytes};
+use nll_text::Token;
 
 /// How a type begins.
 #[derive(Clone, Copy)]
@@ -53,28 +53,16 @@ pub fn region_at<'a>(tokens: &[Token<'a>]) -> Option<&'a [u8]>
     }
 }
 
-// The word in front.
-fn word_at<'a>(tokens: &[Token<'a>]) -> Option<&'a [u8]>
-    ensures { MatchOption result
-        ((s : List ℕ) (rest : List lex.Token) → views tokens.now ≡ lex.word s ∷ rest → ⊥)
-        (λ s. views tokens.now ≡ lex.word s.now ∷ views (drop 1 tokens.now)) }
+// Whether `int` stands in front.
+fn is_int(tokens: &[Token<'_>]) -> bool
+    ensures yes { result ≡ true
+        → views tokens.now ≡ lex.word (codes "int") ∷ views (drop 1 tokens.now) }
+    ensures other { result ≡ false → (rest : List lex.Token)
+        → views tokens.now ≡ lex.word (codes "int") ∷ rest → ⊥ }
 {
     match tokens {
-        [Token::Word(word), ..] => Some(word),
-        _ => None,
-    }
-}
-
-// Whether the word stands in front.
-fn is_word(tokens: &[Token<'_>], word: &[u8]) -> bool
-    ensures yes { result ≡ true
-        → views tokens.now ≡ lex.word word.now ∷ views (drop 1 tokens.now) }
-    ensures other { result ≡ false →
-        (rest : List lex.Token) → views tokens.now ≡ lex.word word.now ∷ rest → ⊥ }
-{
-    match word_at(tokens) {
-        Some(name) => same_bytes(name, word),
-        None => false,
+        [Token::Word(b"int"), ..] => true,
+        _ => false,
     }
 }
 
@@ -173,7 +161,10 @@ fn is_function(tokens: &[Token<'_>]) -> bool
     ensures other { result ≡ false → (rest : List lex.Token) → views tokens.now
         ≡ lex.word (codes "fn") ∷ lex.sign 40 ∷ rest → ⊥ }
 {
-    is_word(tokens, b"fn") && is_sign(&tokens[1..], b'(')
+    match tokens {
+        [Token::Word(b"fn"), Token::Sign(b'('), ..] => true,
+        _ => false,
+    }
 }
 
 // Whether `fn ()` stands in front.
@@ -183,7 +174,10 @@ fn is_thunk(tokens: &[Token<'_>]) -> bool
     ensures other { result ≡ false → (rest : List lex.Token) → views tokens.now
         ≡ lex.word (codes "fn") ∷ lex.sign 40 ∷ lex.sign 41 ∷ rest → ⊥ }
 {
-    is_function(tokens) && is_sign(&tokens[2..], b')')
+    match tokens {
+        [Token::Word(b"fn"), Token::Sign(b'('), Token::Sign(b')'), ..] => true,
+        _ => false,
+    }
 }
 
 /// How a type begins here, and how many tokens that takes.
@@ -191,7 +185,7 @@ pub fn front_at<'a>(tokens: &[Token<'a>]) -> Option<(Front<'a>, usize)>
     ensures { MatchOption result (IsNoFront (views tokens.now))
         (λ p. BeginsWithin p.0 p.1 tokens.now) }
 {
-    if is_word(tokens, b"int") {
+    if is_int(tokens) {
         return Some((Front::Int, 1));
     }
     if is_unit(tokens) {
