@@ -7,6 +7,8 @@
 #[cfg(test)]
 mod failure;
 #[cfg(test)]
+mod holdings;
+#[cfg(test)]
 mod lent;
 #[cfg(test)]
 mod memory;
