@@ -103,25 +103,21 @@ fn go_on<M: Mail, L: Ledger, G: Gate, R: Wait>(
     book: &L::Book,
     share: L::Share,
     owner: &mut Owner<'_>,
-    owners: u16,
     tally: &mut Tally,
     senders: &mut Vec<M::S>,
     receivers: &mut Vec<M::R>,
-    me: u16,
     batch: &mut Vec<Growth>,
     heard: Heard,
 ) -> (L::Left, Ending)
-    requires owners { owners ≡ owner.old.cut.owners }
-    requires me { owner.old.me ≡ me }
-    requires few { owners ≤ most_owners }
     requires sound { IsSound owner.old }
-    requires book { L.belongs book.now share × (L.number share ≡ me) × (L.called share ≡ false) }
+    requires book { L.belongs book.now share × (L.number share ≡ owner.old.me)
+        × (L.called share ≡ false) }
     requires came { ComesTo owner.old (map M.received receivers.old.items)
         (L.owed share) (L.cleared share) tally.old heard }
     requires posts { HasPosted owner.old (map M.sent senders.old.items) }
-    ensures leaves { Leaves L.Ledger book.now me result.0 result.1 }
+    ensures leaves { Leaves L.Ledger book.now owner.old.me result.0 result.1 }
     ensures started { WasStarted result.1 }
-    ensures finishes { Finishes owner.old.problem owner.old.cut me owner.new
+    ensures finishes { let o = owner.old in Finishes o.problem o.cut o.me owner.new
         (log_of (map M.sent senders.new.items)) (log_of (map M.received receivers.new.items))
         (L.left_owed result.0) (L.left_cleared result.0) result.1 }
     ensures pairs { Alike (Stays M.Mail) senders.old.items senders.new.items }
@@ -131,7 +127,7 @@ fn go_on<M: Mail, L: Ledger, G: Gate, R: Wait>(
     let mut heard = heard;
     let backoff = Backoff::new();
     for _ in rt.forever() {
-        heard = share_out::<M>(heard, owner, senders, owners, tally);
+        heard = share_out::<M>(heard, owner, senders, tally);
         match heard {
             Heard::Stray => return (halt::<L>(book, share), Ending::Stray),
             Heard::Memory => return (halt::<L>(book, share), Ending::Memory),
@@ -149,7 +145,7 @@ fn go_on<M: Mail, L: Ledger, G: Gate, R: Wait>(
             0
         };
         heard = rounds::<M, L, G>(
-            gate, book, &mut share, owner, owners, tally, receivers, me, batch, until,
+            gate, book, &mut share, owner, tally, receivers, batch, until,
         );
     }
     unreachable!()
@@ -159,30 +155,25 @@ fn go_on<M: Mail, L: Ledger, G: Gate, R: Wait>(
 fn work_on<M: Mail, L: Ledger, G: Gate, R: Wait>(
     rt: &R,
     alloc: Global,
-    problem: &Problem,
-    cut: &Cut,
     gate: &G,
     book: &L::Book,
     share: L::Share,
     owner: &mut Owner<'_>,
     senders: &mut Vec<M::S>,
     receivers: &mut Vec<M::R>,
-    me: u16,
 ) -> (L::Left, Ending)
-    requires first { owner.old ≡ first_owner problem.now cut.now me }
-    requires few { cut.now.owners ≤ most_owners }
-    requires fresh { IsFresh L.Ledger book.now me share }
-    requires posts { AreAllEmpty cut.now.owners (map M.sent senders.old.items) }
-    requires taken { AreAllEmpty cut.now.owners (map M.received receivers.old.items) }
-    ensures leaves { Leaves L.Ledger book.now me result.0 result.1 }
+    requires first { let o = owner.old in o ≡ first_owner o.problem o.cut o.me }
+    requires fresh { IsFresh L.Ledger book.now owner.old.me share }
+    requires posts { AreAllEmpty owner.old.cut.owners (map M.sent senders.old.items) }
+    requires taken { AreAllEmpty owner.old.cut.owners (map M.received receivers.old.items) }
+    ensures leaves { Leaves L.Ledger book.now owner.old.me result.0 result.1 }
     ensures started { WasStarted result.1 }
-    ensures finishes { Finishes problem.now cut.now me owner.new
+    ensures finishes { let o = owner.old in Finishes o.problem o.cut o.me owner.new
         (log_of (map M.sent senders.new.items)) (log_of (map M.received receivers.new.items))
         (L.left_owed result.0) (L.left_cleared result.0) result.1 }
     ensures pairs { Alike (Stays M.Mail) senders.old.items senders.new.items }
     ensures keeps { Alike (Keeps M.Mail) receivers.old.items receivers.new.items }
 {
-    let owners = cut.owners();
     let mut share = share;
     let mut tally = Tally {
         grown: 0,
@@ -190,10 +181,10 @@ fn work_on<M: Mail, L: Ledger, G: Gate, R: Wait>(
         turns: 0,
         cleared: 0,
     };
-    let heard = first_turn::<L, G>(gate, book, &mut share, owner, owners, &mut tally, me);
+    let heard = first_turn::<L, G>(gate, book, &mut share, owner, &mut tally);
     let mut batch = Vec::new(alloc);
     go_on::<M, L, G, R>(
-        rt, gate, book, share, owner, owners, &mut tally, senders, receivers, me, &mut batch, heard,
+        rt, gate, book, share, owner, &mut tally, senders, receivers, &mut batch, heard,
     )
 }
 
@@ -228,7 +219,7 @@ pub fn begin<M: Mail, L: Ledger, G: Gate, R: Wait>(
 {
     match Owner::on(alloc, problem, cut, tables, me) {
         Ok(owner) => with_owner::<M, L, G, R>(
-            rt, alloc, problem, cut, gate, book, share, owner, senders, receivers, me,
+            rt, alloc, gate, book, share, owner, senders, receivers,
         ),
         Err(_) => (
             halt::<L>(book, share),
@@ -243,24 +234,20 @@ pub fn begin<M: Mail, L: Ledger, G: Gate, R: Wait>(
 fn with_owner<M: Mail, L: Ledger, G: Gate, R: Wait>(
     rt: &R,
     alloc: Global,
-    problem: &Problem,
-    cut: &Cut,
     gate: &G,
     book: &L::Book,
     share: L::Share,
     owner: Owner<'_>,
     senders: &mut Vec<M::S>,
     receivers: &mut Vec<M::R>,
-    me: u16,
 ) -> (L::Left, Ending, Vec<Growth>, Holding)
-    requires first { owner ≡ first_owner problem.now cut.now me }
-    requires few { cut.now.owners ≤ most_owners }
-    requires fresh { IsFresh L.Ledger book.now me share }
-    requires posts { AreAllEmpty cut.now.owners (map M.sent senders.old.items) }
-    requires taken { AreAllEmpty cut.now.owners (map M.received receivers.old.items) }
-    ensures leaves { Leaves L.Ledger book.now me result.0 result.1 }
+    requires first { owner ≡ first_owner owner.problem owner.cut owner.me }
+    requires fresh { IsFresh L.Ledger book.now owner.me share }
+    requires posts { AreAllEmpty owner.cut.owners (map M.sent senders.old.items) }
+    requires taken { AreAllEmpty owner.cut.owners (map M.received receivers.old.items) }
+    ensures leaves { Leaves L.Ledger book.now owner.entry.me result.0 result.1 }
     ensures started { WasStarted result.1 }
-    ensures finishes { WasMade result.1 → FinishedAs problem.now cut.now me
+    ensures finishes { let o = owner.entry in WasMade result.1 → FinishedAs o.problem o.cut o.me
         (log_of (map M.sent senders.new.items)) (log_of (map M.received receivers.new.items))
         (L.left_owed result.0) (L.left_cleared result.0) result.1 result.2.items result.3 }
     ensures pairs { Alike (Stays M.Mail) senders.old.items senders.new.items }
@@ -268,7 +255,7 @@ fn with_owner<M: Mail, L: Ledger, G: Gate, R: Wait>(
 {
     let mut owner = owner;
     let (left, ending) = work_on::<M, L, G, R>(
-        rt, alloc, problem, cut, gate, book, share, &mut owner, senders, receivers, me,
+        rt, alloc, gate, book, share, &mut owner, senders, receivers,
     );
     let (log, holding) = owner.into_parts(alloc);
     (left, ending, log, holding)

@@ -12,7 +12,7 @@ pub loop-init : goal.loop-init
 loop-init g c = (
   tt,
   tt,
-  record { problem = refl; cut = refl; me = c.requires.me },
+  record { problem = refl; cut = refl; me = refl },
   c.requires.sound,
   c.requires.book,
   c.requires.came,
