@@ -56,26 +56,29 @@ pub fn first_turn<L: Ledger, G: Gate>(
     book: &L::Book,
     share: &mut L::Share,
     owner: &mut Owner<'_>,
-    tally: &mut Tally,
-) -> Heard
+) -> (Tally, Heard)
     requires first { let o = owner.old in o ≡ first_owner o.problem o.cut o.me }
     requires fresh { IsFresh L.Ledger book.now owner.old.me share.old }
-    requires counted { IsCounted owner.old tally.old }
-    requires none { (tally.old.turns ≡ 0) × (tally.old.cleared ≡ 0) }
     ensures grows { HasGrown owner.old owner.new }
     ensures sound { IsSound owner.new }
     ensures book { L.belongs book.now share.new × (L.number share.new ≡ L.number share.old)
         × (L.called share.new ≡ L.called share.old) }
     ensures comes { (taken : List (List TheGrowth)) → AreAllEmpty owner.old.cut.owners taken
-        → ComesTo owner.new taken (L.owed share.new) (L.cleared share.new) tally.new result }
+        → ComesTo owner.new taken (L.owed share.new) (L.cleared share.new) result.0 result.1 }
 {
+    let mut tally = Tally {
+        grown: 0,
+        waiting: 0,
+        turns: 0,
+        cleared: 0,
+    };
     gate.enter(owner.me() as usize, 1);
     match owner.load() {
         Ok(()) => {}
-        Err(_) => return Heard::Memory,
+        Err(_) => return (tally, Heard::Memory),
     }
-    keep_book::<L>(book, share, owner, tally, 1);
-    Heard::Growths
+    keep_book::<L>(book, share, owner, &mut tally, 1);
+    (tally, Heard::Growths)
 }
 
 // A turn, where one of the mailboxes has growths: the owner receives them, and the book is kept of

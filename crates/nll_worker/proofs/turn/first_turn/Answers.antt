@@ -1,5 +1,5 @@
 use Rattle.std.proofs.Common.{refl, arith}
-use Rattle.nll_worker.proofs.TurnLemmas.{first_grows, first_takes, first_due, none_taken}
+use Rattle.nll_worker.proofs.TurnLemmas.{first_counted, first_grows, first_takes, first_due, none_taken}
 use Rattle.nll_worker.proofs.turn.first_turn.Goals as goal
 
 pub returns-in-Err : goal.returns-in-Err
@@ -16,7 +16,7 @@ pub keep_book-requires-clause-grew : goal.keep_book-requires-clause-grew
 keep_book-requires-clause-grew g c κs within = (
   c.args.owner.now,
   first_grows _ _ _ c.args.owner.now c.load.new.self c.requires.first c.load.ensures.others c.load.ensures.begins,
-  c.requires.counted,
+  first_counted _ _ _ c.args.owner.now c.requires.first,
   (let none = first_due _ _ _ c.args.owner.now c.requires.first in omega (arith, none, c.requires.fresh.owed_is)),
 )
 
@@ -37,5 +37,5 @@ returns-clause-comes g c = λ taken none. record {
       none (omega (arith, c.keep_book.ensures.clears, c.requires.fresh.cleared_is));
   counted = c.keep_book.ensures.counted;
   cleared_is = c.keep_book.ensures.cleared;
-  turns = omega (arith, c.keep_book.ensures.turns, c.keep_book.ensures.clears, c.requires.none.0);
+  turns = omega (arith, c.keep_book.ensures.turns, c.keep_book.ensures.clears);
 }

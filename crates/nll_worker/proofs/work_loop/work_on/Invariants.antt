@@ -3,7 +3,7 @@ use Rattle.nll_owner.specs.Owner.{IsSound}
 use Rattle.nll_worker.specs.Mailboxes.{Alike, Stays, Keeps}
 use Rattle.nll_worker.specs.Finishing.{IsOwnerOf}
 use Rattle.nll_worker.specs.Turning.{ComesTo, HasPosted}
-use Rattle.nll_worker.proofs.work_loop.go_on.Given as goal
+use Rattle.nll_worker.proofs.work_loop.work_on.Given as goal
 
 abbrev pub invariant-loop : goal.invariant-loop
 invariant-loop g l =
