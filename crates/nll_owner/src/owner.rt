@@ -296,6 +296,21 @@ impl<'q> Owner<'q> {
         self.knowledge.problem
     }
 
+    /// How many owners there are.
+    pub fn owners(&self) -> u16
+        ensures value { result ≡ self.now.cut.owners }
+        ensures sound { IsSound self.now }
+    {
+        self.knowledge.cut.owners()
+    }
+
+    /// The number of this owner.
+    pub fn me(&self) -> u16
+        ensures { result ≡ self.now.me }
+    {
+        self.knowledge.me
+    }
+
     /// Whether the owner was loaded.
     pub fn is_loaded(&self) -> bool
         ensures { result ≡ self.now.loaded }

@@ -1,5 +1,6 @@
 -- What a worker's end comes to.
 use Rattle.std.proofs.Common.{◌≡◌, ◌≢◌, ℕ, ◌+◌, ◌<◌, List, length, sym, ap, ◌∙◌, subst, arith}
+use Rattle.nll_owner.specs.Holding.{Holding, AreValuesOf}
 use Rattle.nll_owner.specs.Logs.{log_of}
 use Rattle.nll_owner.specs.Owner.{Owner, IsSound, part_for}
 use Rattle.nll_cut.specs.Partition.{Cut}
@@ -11,7 +12,7 @@ use Rattle.nll_worker.specs.declared.tally.Tally.{Tally}
 use Rattle.nll_worker.specs.Sums.{sum_to}
 use Rattle.nll_worker.specs.Tallies.{HasGrown}
 use Rattle.nll_worker.specs.Turning.{IsAtRest, HasPosted, HasTakenAll}
-use Rattle.nll_worker.specs.Finishing.{Finishes, IsOwnerOf, HasStray}
+use Rattle.nll_worker.specs.Finishing.{Finishes, FinishedAs, IsOwnerOf, HasStray}
 use Rattle.nll_worker.proofs.SumLemmas.{sum_same}
 use Rattle.nll_worker.proofs.PostLemmas.{posts_front, posts_all}
 use Rattle.nll_worker.proofs.TurnLemmas.{taken_all}
@@ -110,3 +111,16 @@ pub finishes_left : (q : Problem) (c : Cut) (i : ℕ) (o : Owner) (sent got : �
     → Finishes q c i o sent got owed cleared ending → Finishes q c i o sent got owed' cleared' ending
 finishes_left q c i o sent got owed cleared owed' cleared' ending a b f =
     subst (λ (y : ℕ × ℕ). Finishes q c i o sent got y.0 y.1 ending) (λ i. (sym a i, sym b i)) f
+
+-- what a worker gives back whose owner handed out its log and its sets
+pub finished_as : (q : Problem) (c : Cut) (i : ℕ) (o : Owner) (sent got : ℕ → List Growth) (owed cleared : ℕ)
+    (ending : Ending) (log : List Growth) (holding : Holding) → log ≡ o.log
+    → Finishes q c i o sent got owed cleared ending → AreValuesOf o.problem o.cut o.me o.log holding
+    → FinishedAs q c i sent got owed cleared ending log holding
+finished_as q c i o sent got owed cleared ending log holding is f values = (
+  o,
+  sym is,
+  f,
+  subst (λ (y : Problem × Cut × ℕ × List Growth). AreValuesOf y.0 y.1 y.2 y.3 holding)
+      (λ k. (f.problem k, f.cut k, f.me k, sym is k)) values,
+)

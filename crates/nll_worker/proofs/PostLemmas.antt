@@ -10,6 +10,7 @@ use Rattle.nll_mail.specs.declared.growth.Growth.{Growth}
 use Rattle.nll_owner.specs.Logs.{IsPrefix, log_of}
 use Rattle.nll_owner.specs.Owner.{Owner, IsSound, part_for, given_to, first_owner}
 use Rattle.nll_owner.proofs.PostingLemmas.{take_all, Posting}
+use Rattle.nll_worker.specs.Mailboxes.{AreAllEmpty}
 use Rattle.nll_worker.specs.Tallies.{IsCounted, HasGrown}
 use Rattle.nll_worker.specs.Turning.{HasPosted, HasGivenMore}
 use Rattle.nll_worker.specs.declared.tally.Tally.{Tally}
@@ -81,13 +82,15 @@ posts_grown old new posts h sound p = record {
       ∙ (ap (take (given_to old j)) (sym b.1) ∙ ap (λ n. take n (part_for new j)) (sym (given_same old new h j))));
 }
 
-pub posts_first : (q : Problem) (c : Cut) (i : ℕ) (o : Owner) (posts : List (List Growth)) → o ≡ first_owner q c i
-    → length posts ≡ c.owners → ((j : ℕ) → log_of posts j ≡ []) → HasPosted o posts
-posts_first q c i o posts first count none = subst (λ (x : Owner). HasPosted x posts) (sym first) (record {
-  count = count;
-  front = λ j l. none j ∙ sym (ap (λ n. take n (part_for (first_owner q c i) j)) (read_replicate c.owners j 0)
-      ∙ take_none (part_for (first_owner q c i) j));
-})
+-- an owner that has done nothing but grow has given out nothing, and nothing was posted
+pub posts_first : (q : Problem) (c : Cut) (i : ℕ) (old new : Owner) (posts : List (List Growth))
+    → old ≡ first_owner q c i → HasGrown old new → AreAllEmpty c.owners posts → HasPosted new posts
+posts_first q c i old new posts first h none = record {
+  count = none.0 ∙ sym (ap (λ (k : Cut). k.owners) h.cut ∙ ap (λ (o : Owner). o.cut.owners) first);
+  front = λ j l.
+      let given = given_same old new h j ∙ (ap (λ (o : Owner). given_to o j) first ∙ read_replicate c.owners j 0) in
+      none.1 j ∙ sym (ap (λ n. take n (part_for new j)) given ∙ take_none (part_for new j));
+}
 
 -- the front of each part was posted
 pub posts_front : (o : Owner) (posts : List (List Growth)) → HasPosted o posts → (j : ℕ) → j < o.cut.owners

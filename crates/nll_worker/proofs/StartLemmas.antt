@@ -7,23 +7,15 @@ use Rattle.nll_worker.specs.Finishing.{IsAnswered, IsError, WasMade, WasStarted}
 use Rattle.nll_worker.specs.declared.ending.Ending.{Ending}
 use Rattle.nll_worker.specs.declared.ending.Ending.TheVariants.{Quiet, Stopped, Memory, Forbidden, Unstarted, NoOwner, Stray}
 
-pub unmade : (e : Ending) → (WasStarted e → ⊥) → WasMade e → ⊥
-unmade Quiet off is = off tt
-unmade Stopped off is = off tt
-unmade Memory off is = off tt
-unmade NoOwner off is = off tt
-unmade Stray off is = off tt
-unmade Forbidden off is = is
-unmade Unstarted off is = is
-
-pub unstarted_error : (e : Ending) → (WasStarted e → ⊥) → IsError e
-unstarted_error Quiet off = absurd (off tt)
-unstarted_error Stopped off = absurd (off tt)
-unstarted_error Memory off = tt
-unstarted_error NoOwner off = tt
-unstarted_error Stray off = tt
-unstarted_error Forbidden off = tt
-unstarted_error Unstarted off = tt
+-- a worker without an owner is an error
+pub unmade_error : (e : Ending) → (WasMade e → ⊥) → IsError e
+unmade_error Quiet off = absurd (off tt)
+unmade_error Stopped off = absurd (off tt)
+unmade_error Memory off = tt
+unmade_error NoOwner off = tt
+unmade_error Stray off = tt
+unmade_error Forbidden off = tt
+unmade_error Unstarted off = tt
 
 pub started_allowed : (e : Ending) → WasStarted e → e ≢ Forbidden
 started_allowed e started is = subst (λ x. WasStarted x) is started

@@ -1,9 +1,9 @@
 -- What a turn comes to.
-use Rattle.std.proofs.Common.{◌≡◌, ◌≢◌, ℕ, zero, suc, ◌+◌, ◌*◌, ◌^◌, ◌<◌, ◌≤◌, List, [], ◌++◌, length, length-append, append_assoc, slice_set, slice_index_or, Contains, sym, ap, ◌∙◌, subst, ◌⊎◌, ⊎_elim, arith}
+use Rattle.std.proofs.Common.{◌≡◌, ◌≢◌, ℕ, zero, suc, ◌+◌, ◌*◌, ◌^◌, ◌<◌, ◌≤◌, List, [], ◌++◌, length, length-append, append_assoc, slice_set, slice_index_or, Contains, refl, sym, ap, ◌∙◌, subst, ◌⊎◌, ⊎_elim, arith}
 use Rattle.std.proofs.lemmas.Bool.{cases_eq}
 use Rattle.std.proofs.lemmas.List.Elements.{Contains-append_left}
 use Rattle.nll_owner.specs.Logs.{IsPrefix, log_of}
-use Rattle.nll_owner.specs.Owner.{Owner, IsSound, IsDone, received_from, with_growths, first_owner}
+use Rattle.nll_owner.specs.Owner.{Owner, IsSound, IsDone, received_from, given_to, with_growths, first_owner}
 use Rattle.nll_cut.specs.Partition.{Cut}
 use Rattle.nll_problem.specs.Problem.{Problem}
 use Rattle.nll_mail.specs.declared.growth.Growth.{Growth}
@@ -269,3 +269,14 @@ module _ (q : Problem) (c : Cut) (i : ℕ) (old new : Owner) (first : old ≡ fi
 -- nothing is due of an owner that has done nothing yet
 pub first_due : (q : Problem) (c : Cut) (i : ℕ) (o : Owner) → o ≡ first_owner q c i → due_of o ≡ 0
 first_due q c i o first = ap due_of first ∙ sum_zero c.owners
+
+-- nothing is to be counted of an owner that has done nothing yet
+pub first_counted : (q : Problem) (c : Cut) (i : ℕ) (o : Owner) → o ≡ first_owner q c i
+    → IsCounted o (record { grown = 0; waiting = 0; turns = 0; cleared = 0 })
+first_counted q c i o first =
+    let given =
+    sum_same c.owners (λ j. given_to (first_owner q c i) j) (λ j. 0) (λ j l. read_replicate c.owners j 0) in
+    let none = sum_zero c.owners in
+    let due = first_due q c i (first_owner q c i) refl in
+    subst (λ (x : Owner). IsCounted x (record { grown = 0; waiting = 0; turns = 0; cleared = 0 })) (sym first)
+    (record { grown = refl; waiting = omega (arith, given, none, due) })

@@ -86,7 +86,6 @@ fn hear<M: Mail, G: Gate>(
     gate: &G,
     turn: u64,
     owner: &mut Owner<'_>,
-    me: u16,
     receiver: &mut M::R,
     from: u16,
     batch: &mut Vec<Growth>,
@@ -113,7 +112,7 @@ fn hear<M: Mail, G: Gate>(
     if batch.is_empty() {
         return Heard::Nothing;
     }
-    gate.enter(me as usize, turn);
+    gate.enter(owner.me() as usize, turn);
     hand_in(owner, from, batch)
 }
 
@@ -123,7 +122,6 @@ pub fn hear_from<M: Mail, G: Gate>(
     gate: &G,
     turn: u64,
     owner: &mut Owner<'_>,
-    me: u16,
     receivers: &mut Vec<M::R>,
     from: u16,
     batch: &mut Vec<Growth>,
@@ -146,7 +144,6 @@ pub fn hear_from<M: Mail, G: Gate>(
         gate,
         turn,
         owner,
-        me,
         &mut receivers[from as usize],
         from,
         batch,

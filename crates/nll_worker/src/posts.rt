@@ -3,7 +3,6 @@
 
 ghost use Rattle.std.specs.Prelude.{◌≡◌, ◌≢◌, ◌+◌, ◌<◌, ◌≤◌, ℕ, List, length, map, take, min};
 ghost use Rattle.std.specs.Prelude.{OnOk, false, slice_set, vec_len};
-ghost use Rattle.nll_problem.specs.Limits.{most_owners};
 ghost use Rattle.nll_mail.specs.declared.growth.Growth.{Growth};
 ghost use Rattle.nll_owner.specs.Logs.{log_of};
 ghost use Rattle.nll_owner.specs.Owner.{IsSound, part_for, given_to};
@@ -73,23 +72,18 @@ fn post_to<M: Mail>(
 
 // Posts what isn't given out yet, to all owners that read it and whose mailboxes aren't full: to
 // each not too much at once.
-fn post_all<M: Mail>(
-    owner: &mut Owner<'_>,
-    senders: &mut Vec<M::S>,
-    owners: u16,
-) -> Result<(), PostError>
-    requires owners { owners ≡ owner.old.cut.owners }
+fn post_all<M: Mail>(owner: &mut Owner<'_>, senders: &mut Vec<M::S>) -> Result<(), PostError>
     requires sound { IsSound owner.old }
     requires whole { owner.old.broken ≡ false }
     requires posts { HasPosted owner.old (map M.sent senders.old.items) }
     ensures posts { HasPosted owner.new (map M.sent senders.new.items) }
     ensures many { M.is_bounded ≡ false
-        → OnOk result (HasGivenMore MOST_POSTED owners owner.old owner.new) }
+        → OnOk result (HasGivenMore MOST_POSTED owner.old.cut.owners owner.old owner.new) }
     ensures others { owner.new ≡ record owner.old { given = owner.new.given } }
     ensures pairs { Alike (Stays M.Mail) senders.old.items senders.new.items }
     ensures sound { IsSound owner.new }
 {
-    for to in 0..owners {
+    for to in 0..owner.owners() {
         post_to::<M>(owner, senders, to)?;
     }
     Ok(())
@@ -99,11 +93,8 @@ fn post_all<M: Mail>(
 fn post_waiting<M: Mail>(
     owner: &mut Owner<'_>,
     senders: &mut Vec<M::S>,
-    owners: u16,
     tally: &mut Tally,
 ) -> Result<(), PostError>
-    requires owners { owners ≡ owner.old.cut.owners }
-    requires few { owners ≤ most_owners }
     requires sound { IsSound owner.old }
     requires whole { owner.old.broken ≡ false }
     requires posts { HasPosted owner.old (map M.sent senders.old.items) }
@@ -113,7 +104,7 @@ fn post_waiting<M: Mail>(
     ensures same { (tally.new.turns ≡ tally.old.turns)
         × (tally.new.cleared ≡ tally.old.cleared) }
     ensures many { M.is_bounded ≡ false
-        → OnOk result (HasGivenMore MOST_POSTED owners owner.old owner.new) }
+        → OnOk result (HasGivenMore MOST_POSTED owner.old.cut.owners owner.old owner.new) }
     ensures others { owner.new ≡ record owner.old { given = owner.new.given } }
     ensures pairs { Alike (Stays M.Mail) senders.old.items senders.new.items }
     ensures sound { IsSound owner.new }
@@ -121,8 +112,8 @@ fn post_waiting<M: Mail>(
     if tally.waiting == 0 {
         return Ok(());
     }
-    let posted = post_all::<M>(owner, senders, owners);
-    tally.waiting = unsent_count(owner, owners);
+    let posted = post_all::<M>(owner, senders);
+    tally.waiting = unsent_count(owner);
     posted
 }
 
@@ -131,11 +122,8 @@ pub fn share_out<M: Mail>(
     heard: Heard,
     owner: &mut Owner<'_>,
     senders: &mut Vec<M::S>,
-    owners: u16,
     tally: &mut Tally,
 ) -> Heard
-    requires owners { owners ≡ owner.old.cut.owners }
-    requires few { owners ≤ most_owners }
     requires sound { IsSound owner.old }
     requires came { (taken : List (List Growth)) × (owed : ℕ) × (cleared : ℕ)
         × ComesTo owner.old taken owed cleared tally.old heard }
@@ -145,7 +133,7 @@ pub fn share_out<M: Mail>(
         → ComesTo owner.old taken owed cleared tally.old heard
         → ComesTo owner.new taken owed cleared tally.new result }
     ensures many { M.is_bounded ≡ false → GoesOn result
-        → HasGivenMore MOST_POSTED owners owner.old owner.new }
+        → HasGivenMore MOST_POSTED owner.old.cut.owners owner.old owner.new }
     ensures others { owner.new ≡ record owner.old { given = owner.new.given } }
     ensures pairs { Alike (Stays M.Mail) senders.old.items senders.new.items }
     ensures sound { IsSound owner.new }
@@ -156,7 +144,7 @@ pub fn share_out<M: Mail>(
         Heard::Growths => {}
         Heard::Nothing => {}
     }
-    match post_waiting::<M>(owner, senders, owners, tally) {
+    match post_waiting::<M>(owner, senders, tally) {
         Ok(()) => heard,
         Err(_) => Heard::Memory,
     }

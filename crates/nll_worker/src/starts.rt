@@ -12,12 +12,11 @@ ghost use Rattle.nll_worker.specs.declared.ending.Ending.TheVariants.{Forbidden,
 
 use crate::ending::Ending;
 use crate::gate::Gate;
-use crate::work_loop::halt;
-use crate::worker::{Back, Finished, Given, Worker, work};
+use crate::worker::{Back, Finished, Given, Worker, call_off, work};
 use nll_cut::Cut;
 use nll_ledger::Ledger;
 use nll_mail::Mail;
-use nll_owner::{Holding, Tables};
+use nll_owner::Tables;
 use nll_problem::Problem;
 use std::alloc::Global;
 use std::collections::VecDeque;
@@ -59,42 +58,6 @@ pub fn work_if_started<M: Mail, L: Ledger, G: Gate, R: Wait>(
         Err(worker)
     } else {
         Ok(work::<M, L, G, R>(rt, alloc, problem, cut, tables, gate, book, worker))
-    }
-}
-
-/// Ends a worker that wasn't started, for this reason: sets the stop flag by its share, leaves, and
-/// closes its senders.
-pub fn call_off<M: Mail, L: Ledger>(
-    alloc: Global,
-    book: &L::Book,
-    worker: Worker<M, L>,
-    ending: Ending,
-) -> Finished<M, L>
-    requires given { (c : Cut) × IsGiven L.Ledger M.Mail c book.now worker.me worker.share
-        worker.outbox.senders.items worker.receivers.items worker.room.items
-        (vec_capacity worker.room) }
-    requires reason { WasStarted ending → ⊥ }
-    ensures ended { (q : Problem) (c : Cut) → IsEnded L.Ledger M.Mail q c book.now worker.me
-        worker.outbox.senders.items worker.receivers.items result.log.items result.holding
-        result.left result.closed.items result.receivers.items result.ending }
-    ensures ending { result.ending ≡ ending }
-{
-    let Worker {
-        me: _,
-        share,
-        outbox,
-        receivers,
-        room,
-    } = worker;
-    let left = halt::<L>(book, share);
-    let closed = outbox.close_all(room);
-    Finished {
-        log: Vec::new(alloc),
-        holding: Holding::none(alloc),
-        left,
-        closed,
-        receivers,
-        ending,
     }
 }
 

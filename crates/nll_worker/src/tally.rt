@@ -1,7 +1,6 @@
 //! What a worker counts of its owner's log.
 
 ghost use Rattle.std.specs.Prelude.{◌≡◌, ◌+◌, ◌*◌, ◌^◌, ◌≤◌, false};
-ghost use Rattle.nll_problem.specs.Limits.{most_owners};
 ghost use Rattle.nll_owner.specs.Owner.{Owner, IsSound, first_owner};
 ghost use Rattle.nll_worker.specs.Tallies.{IsCounted, HasGrown, due_of, given_of};
 ghost use Rattle.nll_worker.specs.declared.tally.Tally.{Tally};
@@ -22,23 +21,19 @@ pub struct Tally {
 }
 
 /// How many growths of the log aren't given out yet, over all owners that read them.
-pub fn unsent_count(owner: &Owner<'_>, owners: u16) -> u64
-    requires owners { owners ≡ owner.now.cut.owners }
-    requires few { owners ≤ most_owners }
+pub fn unsent_count(owner: &Owner<'_>) -> u64
     requires whole { owner.now.broken ≡ false }
     ensures count { given_of owner.now + result ≡ due_of owner.now }
 {
     let mut count = 0;
-    for to in 0..owners {
+    for to in 0..owner.owners() {
         count += owner.unsent(to);
     }
     count
 }
 
 /// Counts anew where the log has grown: for how many growths more there is to owe.
-pub fn count_new(owner: &Owner<'_>, owners: u16, tally: &mut Tally) -> u64
-    requires owners { owners ≡ owner.now.cut.owners }
-    requires few { owners ≤ most_owners }
+pub fn count_new(owner: &Owner<'_>, tally: &mut Tally) -> u64
     requires whole { owner.now.broken ≡ false }
     requires grew { (before : Owner) × HasGrown before owner.now × IsCounted before tally.old }
     ensures counted { IsCounted owner.now tally.new }
@@ -51,7 +46,7 @@ pub fn count_new(owner: &Owner<'_>, owners: u16, tally: &mut Tally) -> u64
     if grown == tally.grown {
         return 0;
     }
-    let waiting = unsent_count(owner, owners);
+    let waiting = unsent_count(owner);
     let new = waiting - tally.waiting;
     tally.grown = grown;
     tally.waiting = waiting;

@@ -11,8 +11,8 @@ ghost use Rattle.nll_worker.specs.declared.ending.Ending.TheVariants.{Forbidden}
 use crate::ending::Ending;
 use crate::gate::Gate;
 use crate::permit::Permit;
-use crate::starts::{Start, call_off, finish, join_all, work_if_started};
-use crate::worker::{Back, Finished, Given, Worker};
+use crate::starts::{Start, finish, join_all, work_if_started};
+use crate::worker::{Back, Finished, Given, Worker, call_off};
 use nll_cut::Cut;
 use nll_ledger::Ledger;
 use nll_mail::Mail;

@@ -1,9 +1,6 @@
 //! A worker's turns.
 
 ghost use Rattle.std.specs.Prelude.{◌≡◌, ◌+◌, ◌^◌, ◌<◌, ◌≤◌, ℕ, List, false, map, vec_len};
-ghost use Rattle.nll_problem.specs.Limits.{most_owners};
-ghost use Rattle.nll_problem.specs.Problem.{Problem};
-ghost use Rattle.nll_cut.specs.Partition.{Cut};
 ghost use Rattle.nll_mail.specs.declared.growth.Growth.{Growth as TheGrowth};
 ghost use Rattle.nll_owner.specs.Owner.{Owner, IsSound, first_owner};
 ghost use Rattle.nll_worker.specs.Mailboxes.{Alike, AreAllEmpty, Keeps};
@@ -27,12 +24,9 @@ fn keep_book<L: Ledger>(
     book: &L::Book,
     share: &mut L::Share,
     owner: &Owner<'_>,
-    owners: u16,
     tally: &mut Tally,
     items: u64,
 )
-    requires owners { owners ≡ owner.now.cut.owners }
-    requires few { owners ≤ most_owners }
     requires sound { IsSound owner.now }
     requires whole { owner.now.broken ≡ false }
     requires book { L.belongs book.now share.old }
@@ -49,7 +43,7 @@ fn keep_book<L: Ledger>(
     ensures cleared { tally.new.cleared ≡ L.cleared share.new }
     ensures turns { tally.new.turns ≡ tally.old.turns + 1 }
 {
-    let count = count_new(owner, owners, tally);
+    let count = count_new(owner, tally);
     L::owe(book, share, count);
     L::clear(book, share, items);
     tally.turns += 1;
@@ -62,30 +56,29 @@ pub fn first_turn<L: Ledger, G: Gate>(
     book: &L::Book,
     share: &mut L::Share,
     owner: &mut Owner<'_>,
-    owners: u16,
-    tally: &mut Tally,
-    me: u16,
-) -> Heard
-    requires owners { owners ≡ owner.old.cut.owners }
-    requires few { owners ≤ most_owners }
-    requires first { (q : Problem) × (c : Cut) × (owner.old ≡ first_owner q c me) }
-    requires fresh { IsFresh L.Ledger book.now me share.old }
-    requires counted { IsCounted owner.old tally.old }
-    requires none { (tally.old.turns ≡ 0) × (tally.old.cleared ≡ 0) }
+) -> (Tally, Heard)
+    requires first { let o = owner.old in o ≡ first_owner o.problem o.cut o.me }
+    requires fresh { IsFresh L.Ledger book.now owner.old.me share.old }
     ensures grows { HasGrown owner.old owner.new }
     ensures sound { IsSound owner.new }
     ensures book { L.belongs book.now share.new × (L.number share.new ≡ L.number share.old)
         × (L.called share.new ≡ L.called share.old) }
-    ensures comes { (taken : List (List TheGrowth)) → AreAllEmpty owners taken
-        → ComesTo owner.new taken (L.owed share.new) (L.cleared share.new) tally.new result }
+    ensures comes { (taken : List (List TheGrowth)) → AreAllEmpty owner.old.cut.owners taken
+        → ComesTo owner.new taken (L.owed share.new) (L.cleared share.new) result.0 result.1 }
 {
-    gate.enter(me as usize, 1);
+    let mut tally = Tally {
+        grown: 0,
+        waiting: 0,
+        turns: 0,
+        cleared: 0,
+    };
+    gate.enter(owner.me() as usize, 1);
     match owner.load() {
         Ok(()) => {}
-        Err(_) => return Heard::Memory,
+        Err(_) => return (tally, Heard::Memory),
     }
-    keep_book::<L>(book, share, owner, owners, tally, 1);
-    Heard::Growths
+    keep_book::<L>(book, share, owner, &mut tally, 1);
+    (tally, Heard::Growths)
 }
 
 // A turn, where one of the mailboxes has growths: the owner receives them, and the book is kept of
@@ -95,16 +88,12 @@ fn turn<M: Mail, L: Ledger, G: Gate>(
     book: &L::Book,
     share: &mut L::Share,
     owner: &mut Owner<'_>,
-    owners: u16,
     tally: &mut Tally,
     receivers: &mut Vec<M::R>,
-    me: u16,
     from: u16,
     batch: &mut Vec<Growth>,
 ) -> Heard
-    requires owners { owners ≡ owner.old.cut.owners }
-    requires few { owners ≤ most_owners }
-    requires from { from < owners }
+    requires from { from < owner.old.cut.owners }
     requires book { L.belongs book.now share.old }
     requires rests { IsAtRest owner.old (map M.received receivers.old.items)
         (L.owed share.old) (L.cleared share.old) tally.old }
@@ -117,12 +106,12 @@ fn turn<M: Mail, L: Ledger, G: Gate>(
     ensures keeps { Alike (Keeps M.Mail) receivers.old.items receivers.new.items }
 {
     let turn = tally.turns + 1;
-    match hear_from::<M, G>(gate, turn, owner, me, receivers, from, batch) {
+    match hear_from::<M, G>(gate, turn, owner, receivers, from, batch) {
         Heard::Nothing => Heard::Nothing,
         Heard::Stray => Heard::Stray,
         Heard::Memory => Heard::Memory,
         Heard::Growths => {
-            keep_book::<L>(book, share, owner, owners, tally, batch.len() as u64);
+            keep_book::<L>(book, share, owner, tally, batch.len() as u64);
             Heard::Growths
         }
     }
@@ -134,14 +123,10 @@ pub fn round<M: Mail, L: Ledger, G: Gate>(
     book: &L::Book,
     share: &mut L::Share,
     owner: &mut Owner<'_>,
-    owners: u16,
     tally: &mut Tally,
     receivers: &mut Vec<M::R>,
-    me: u16,
     batch: &mut Vec<Growth>,
 ) -> Heard
-    requires owners { owners ≡ owner.old.cut.owners }
-    requires few { owners ≤ most_owners }
     requires book { L.belongs book.now share.old }
     requires rests { IsAtRest owner.old (map M.received receivers.old.items)
         (L.owed share.old) (L.cleared share.old) tally.old }
@@ -154,10 +139,8 @@ pub fn round<M: Mail, L: Ledger, G: Gate>(
     ensures keeps { Alike (Keeps M.Mail) receivers.old.items receivers.new.items }
 {
     let mut any = false;
-    for from in 0..owners {
-        let heard = turn::<M, L, G>(
-            gate, book, share, owner, owners, tally, receivers, me, from, batch,
-        );
+    for from in 0..owner.owners() {
+        let heard = turn::<M, L, G>(gate, book, share, owner, tally, receivers, from, batch);
         match heard {
             Heard::Nothing => {}
             Heard::Growths => any = true,
@@ -186,15 +169,11 @@ pub fn rounds<M: Mail, L: Ledger, G: Gate>(
     book: &L::Book,
     share: &mut L::Share,
     owner: &mut Owner<'_>,
-    owners: u16,
     tally: &mut Tally,
     receivers: &mut Vec<M::R>,
-    me: u16,
     batch: &mut Vec<Growth>,
     until: u64,
 ) -> Heard
-    requires owners { owners ≡ owner.old.cut.owners }
-    requires few { owners ≤ most_owners }
     requires book { L.belongs book.now share.old }
     requires rests { IsAtRest owner.old (map M.received receivers.old.items)
         (L.owed share.old) (L.cleared share.old) tally.old }
@@ -206,9 +185,7 @@ pub fn rounds<M: Mail, L: Ledger, G: Gate>(
         (L.owed share.new) (L.cleared share.new) tally.new result }
     ensures keeps { Alike (Keeps M.Mail) receivers.old.items receivers.new.items }
 {
-    let mut heard = round::<M, L, G>(
-        gate, book, share, owner, owners, tally, receivers, me, batch,
-    );
+    let mut heard = round::<M, L, G>(gate, book, share, owner, tally, receivers, batch);
     for _ in 1..MOST_ROUNDS {
         match heard {
             Heard::Growths => {}
@@ -217,9 +194,7 @@ pub fn rounds<M: Mail, L: Ledger, G: Gate>(
         if tally.cleared >= until {
             return heard;
         }
-        let next = round::<M, L, G>(
-            gate, book, share, owner, owners, tally, receivers, me, batch,
-        );
+        let next = round::<M, L, G>(gate, book, share, owner, tally, receivers, batch);
         heard = behind_a_growth(next);
     }
     heard

@@ -1,29 +1,21 @@
 //! One worker, from its start until its share has left.
 
-ghost use Rattle.std.specs.Prelude.{◌≡◌, ◌<◌, ◌≤◌, length, map, true, false};
-ghost use Rattle.nll_problem.specs.Limits.{most_owners};
+ghost use Rattle.std.specs.Prelude.{◌≡◌, map, true, false};
 ghost use Rattle.nll_ledger.specs.Leaving.{IfLeft, IfOpen, IfQuiet, IfStopped};
 ghost use Rattle.nll_owner.specs.Logs.{log_of};
-ghost use Rattle.nll_owner.specs.Owner.{IsSound, first_owner};
-ghost use Rattle.nll_owner.specs.Tables.{AreTables};
+ghost use Rattle.nll_owner.specs.Owner.{first_owner};
 ghost use Rattle.nll_worker.specs.Mailboxes.{Alike, AreAllEmpty, Stays, Keeps};
-ghost use Rattle.nll_worker.specs.Finishing.{Finishes, Leaves, WasMade, FinishedAs, IsFresh};
-ghost use Rattle.nll_worker.specs.Finishing.{WasStarted};
-ghost use Rattle.nll_worker.specs.Turning.{HasPosted, ComesTo};
+ghost use Rattle.nll_worker.specs.Finishing.{Finishes, Leaves, IsFresh, WasStarted};
 
 use crate::ending::Ending;
 use crate::gate::Gate;
 use crate::inbox::Heard;
 use crate::posts::share_out;
-use crate::tally::Tally;
 use crate::turn::{first_turn, rounds};
 use crossbeam_utils::Backoff;
-use nll_cut::Cut;
 use nll_ledger::{Leave, Ledger};
 use nll_mail::{Growth, Mail};
-use nll_owner::{Holding, Owner, Tables};
-use nll_problem::Problem;
-use std::alloc::Global;
+use nll_owner::Owner;
 use std::sync::Wait;
 
 /// How many growths a worker receives, where it can, before it tries again to post into a full
@@ -95,43 +87,34 @@ fn ask_to_leave<L: Ledger>(
     }
 }
 
-// Works until the share has left, where the first turn came to this: what is left of it, and how
-// this ended.
-fn go_on<M: Mail, L: Ledger, G: Gate, R: Wait>(
+/// Loads the owner and works until the share has left: what is left of it, and how this ended.
+pub fn work_on<M: Mail, L: Ledger, G: Gate, R: Wait>(
     rt: &R,
     gate: &G,
     book: &L::Book,
     share: L::Share,
     owner: &mut Owner<'_>,
-    owners: u16,
-    tally: &mut Tally,
     senders: &mut Vec<M::S>,
     receivers: &mut Vec<M::R>,
-    me: u16,
     batch: &mut Vec<Growth>,
-    heard: Heard,
 ) -> (L::Left, Ending)
-    requires owners { owners ≡ owner.old.cut.owners }
-    requires me { owner.old.me ≡ me }
-    requires few { owners ≤ most_owners }
-    requires sound { IsSound owner.old }
-    requires book { L.belongs book.now share × (L.number share ≡ me) × (L.called share ≡ false) }
-    requires came { ComesTo owner.old (map M.received receivers.old.items)
-        (L.owed share) (L.cleared share) tally.old heard }
-    requires posts { HasPosted owner.old (map M.sent senders.old.items) }
-    ensures leaves { Leaves L.Ledger book.now me result.0 result.1 }
+    requires first { let o = owner.old in o ≡ first_owner o.problem o.cut o.me }
+    requires fresh { IsFresh L.Ledger book.now owner.old.me share }
+    requires posts { AreAllEmpty owner.old.cut.owners (map M.sent senders.old.items) }
+    requires taken { AreAllEmpty owner.old.cut.owners (map M.received receivers.old.items) }
+    ensures leaves { Leaves L.Ledger book.now owner.old.me result.0 result.1 }
     ensures started { WasStarted result.1 }
-    ensures finishes { Finishes owner.old.problem owner.old.cut me owner.new
+    ensures finishes { let o = owner.old in Finishes o.problem o.cut o.me owner.new
         (log_of (map M.sent senders.new.items)) (log_of (map M.received receivers.new.items))
         (L.left_owed result.0) (L.left_cleared result.0) result.1 }
     ensures pairs { Alike (Stays M.Mail) senders.old.items senders.new.items }
     ensures keeps { Alike (Keeps M.Mail) receivers.old.items receivers.new.items }
 {
     let mut share = share;
-    let mut heard = heard;
+    let (mut tally, mut heard) = first_turn::<L, G>(gate, book, &mut share, owner);
     let backoff = Backoff::new();
     for _ in rt.forever() {
-        heard = share_out::<M>(heard, owner, senders, owners, tally);
+        heard = share_out::<M>(heard, owner, senders, &mut tally);
         match heard {
             Heard::Stray => return (halt::<L>(book, share), Ending::Stray),
             Heard::Memory => return (halt::<L>(book, share), Ending::Memory),
@@ -149,127 +132,8 @@ fn go_on<M: Mail, L: Ledger, G: Gate, R: Wait>(
             0
         };
         heard = rounds::<M, L, G>(
-            gate, book, &mut share, owner, owners, tally, receivers, me, batch, until,
+            gate, book, &mut share, owner, &mut tally, receivers, batch, until,
         );
     }
     unreachable!()
-}
-
-// Loads the owner and works until the share has left: what is left of it, and how this ended.
-fn work_on<M: Mail, L: Ledger, G: Gate, R: Wait>(
-    rt: &R,
-    alloc: Global,
-    problem: &Problem,
-    cut: &Cut,
-    gate: &G,
-    book: &L::Book,
-    share: L::Share,
-    owner: &mut Owner<'_>,
-    senders: &mut Vec<M::S>,
-    receivers: &mut Vec<M::R>,
-    me: u16,
-) -> (L::Left, Ending)
-    requires first { owner.old ≡ first_owner problem.now cut.now me }
-    requires few { cut.now.owners ≤ most_owners }
-    requires fresh { IsFresh L.Ledger book.now me share }
-    requires posts { AreAllEmpty cut.now.owners (map M.sent senders.old.items) }
-    requires taken { AreAllEmpty cut.now.owners (map M.received receivers.old.items) }
-    ensures leaves { Leaves L.Ledger book.now me result.0 result.1 }
-    ensures started { WasStarted result.1 }
-    ensures finishes { Finishes problem.now cut.now me owner.new
-        (log_of (map M.sent senders.new.items)) (log_of (map M.received receivers.new.items))
-        (L.left_owed result.0) (L.left_cleared result.0) result.1 }
-    ensures pairs { Alike (Stays M.Mail) senders.old.items senders.new.items }
-    ensures keeps { Alike (Keeps M.Mail) receivers.old.items receivers.new.items }
-{
-    let owners = cut.owners();
-    let mut share = share;
-    let mut tally = Tally {
-        grown: 0,
-        waiting: 0,
-        turns: 0,
-        cleared: 0,
-    };
-    let heard = first_turn::<L, G>(gate, book, &mut share, owner, owners, &mut tally, me);
-    let mut batch = Vec::new(alloc);
-    go_on::<M, L, G, R>(
-        rt, gate, book, share, owner, owners, &mut tally, senders, receivers, me, &mut batch, heard,
-    )
-}
-
-/// Makes the owner and works.
-pub fn begin<M: Mail, L: Ledger, G: Gate, R: Wait>(
-    rt: &R,
-    alloc: Global,
-    problem: &Problem,
-    cut: &Cut,
-    tables: &Tables,
-    gate: &G,
-    book: &L::Book,
-    share: L::Share,
-    senders: &mut Vec<M::S>,
-    receivers: &mut Vec<M::R>,
-    me: u16,
-) -> (L::Left, Ending, Vec<Growth>, Holding)
-    requires cut { length cut.now.list ≡ problem.now.regions }
-    requires tables { AreTables problem.now cut.now tables.now }
-    requires me { me < cut.now.owners }
-    requires few { cut.now.owners ≤ most_owners }
-    requires fresh { IsFresh L.Ledger book.now me share }
-    requires posts { AreAllEmpty cut.now.owners (map M.sent senders.old.items) }
-    requires taken { AreAllEmpty cut.now.owners (map M.received receivers.old.items) }
-    ensures leaves { Leaves L.Ledger book.now me result.0 result.1 }
-    ensures started { WasStarted result.1 }
-    ensures finishes { WasMade result.1 → FinishedAs problem.now cut.now me
-        (log_of (map M.sent senders.new.items)) (log_of (map M.received receivers.new.items))
-        (L.left_owed result.0) (L.left_cleared result.0) result.1 result.2.items result.3 }
-    ensures pairs { Alike (Stays M.Mail) senders.old.items senders.new.items }
-    ensures keeps { Alike (Keeps M.Mail) receivers.old.items receivers.new.items }
-{
-    match Owner::on(alloc, problem, cut, tables, me) {
-        Ok(owner) => with_owner::<M, L, G, R>(
-            rt, alloc, problem, cut, gate, book, share, owner, senders, receivers, me,
-        ),
-        Err(_) => (
-            halt::<L>(book, share),
-            Ending::NoOwner,
-            Vec::new(alloc),
-            Holding::none(alloc),
-        ),
-    }
-}
-
-// Works, and hands out the log and the values.
-fn with_owner<M: Mail, L: Ledger, G: Gate, R: Wait>(
-    rt: &R,
-    alloc: Global,
-    problem: &Problem,
-    cut: &Cut,
-    gate: &G,
-    book: &L::Book,
-    share: L::Share,
-    owner: Owner<'_>,
-    senders: &mut Vec<M::S>,
-    receivers: &mut Vec<M::R>,
-    me: u16,
-) -> (L::Left, Ending, Vec<Growth>, Holding)
-    requires first { owner ≡ first_owner problem.now cut.now me }
-    requires few { cut.now.owners ≤ most_owners }
-    requires fresh { IsFresh L.Ledger book.now me share }
-    requires posts { AreAllEmpty cut.now.owners (map M.sent senders.old.items) }
-    requires taken { AreAllEmpty cut.now.owners (map M.received receivers.old.items) }
-    ensures leaves { Leaves L.Ledger book.now me result.0 result.1 }
-    ensures started { WasStarted result.1 }
-    ensures finishes { WasMade result.1 → FinishedAs problem.now cut.now me
-        (log_of (map M.sent senders.new.items)) (log_of (map M.received receivers.new.items))
-        (L.left_owed result.0) (L.left_cleared result.0) result.1 result.2.items result.3 }
-    ensures pairs { Alike (Stays M.Mail) senders.old.items senders.new.items }
-    ensures keeps { Alike (Keeps M.Mail) receivers.old.items receivers.new.items }
-{
-    let mut owner = owner;
-    let (left, ending) = work_on::<M, L, G, R>(
-        rt, alloc, problem, cut, gate, book, share, &mut owner, senders, receivers, me,
-    );
-    let (log, holding) = owner.into_parts(alloc);
-    (left, ending, log, holding)
 }

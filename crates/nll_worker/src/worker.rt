@@ -1,17 +1,20 @@
 //! What a worker owns, and what it gives back.
 
 ghost use Rattle.std.specs.Prelude.{◌≡◌, length, vec_capacity};
+ghost use Rattle.nll_problem.specs.Problem.{Problem};
+ghost use Rattle.nll_cut.specs.Partition.{Cut};
+ghost use Rattle.nll_owner.specs.Owner.{first_owner};
 ghost use Rattle.nll_owner.specs.Tables.{AreTables};
-ghost use Rattle.nll_worker.specs.Finishing.{IsGiven, IsEnded, WasStarted};
+ghost use Rattle.nll_worker.specs.Finishing.{IsGiven, IsEnded, WasMade, WasStarted};
 
 use crate::ending::Ending;
 use crate::gate::Gate;
 use crate::outbox::Outbox;
-use crate::work_loop::begin;
+use crate::work_loop::{halt, work_on};
 use nll_cut::Cut;
 use nll_ledger::Ledger;
 use nll_mail::{Growth, Mail};
-use nll_owner::{Holding, Tables};
+use nll_owner::{Holding, Owner, Tables};
 use nll_problem::Problem;
 use std::alloc::Global;
 use std::snapshot::Snapshot;
@@ -86,32 +89,92 @@ pub fn work<M: Mail, L: Ledger, G: Gate, R: Wait>(
         result.left result.closed.items result.receivers.items result.ending }
     ensures started { WasStarted result.ending }
 {
+    match Owner::on(alloc, problem, cut, tables, worker.me) {
+        Ok(owner) => with_owner::<M, L, G, R>(rt, alloc, gate, book, owner, worker),
+        Err(_) => call_off::<M, L>(alloc, book, worker, Ending::NoOwner),
+    }
+}
+
+// Works with the owner that was made for the worker.
+fn with_owner<M: Mail, L: Ledger, G: Gate, R: Wait>(
+    rt: &R,
+    alloc: Global,
+    gate: &G,
+    book: &L::Book,
+    owner: Owner<'_>,
+    worker: Worker<M, L>,
+) -> Finished<M, L>
+    requires first { owner ≡ first_owner owner.problem owner.cut owner.me }
+    requires given { IsGiven L.Ledger M.Mail owner.cut book.now owner.me worker.share
+        worker.outbox.senders.items worker.receivers.items worker.room.items
+        (vec_capacity worker.room) }
+    ensures ended { let o = owner.entry in IsEnded L.Ledger M.Mail o.problem o.cut book.now o.me
+        worker.outbox.senders.items worker.receivers.items result.log.items result.holding
+        result.left result.closed.items result.receivers.items result.ending }
+    ensures started { WasStarted result.ending }
+{
     let Worker {
-        me,
+        me: _,
         share,
         outbox,
         receivers,
         room,
     } = worker;
+    let mut owner = owner;
     let mut outbox = outbox;
     let mut receivers = receivers;
-    let (left, ending, log, holding) = begin::<M, L, G, R>(
+    let mut batch = Vec::new(alloc);
+    let (left, ending) = work_on::<M, L, G, R>(
         rt,
-        alloc,
-        problem,
-        cut,
-        tables,
         gate,
         book,
         share,
+        &mut owner,
         &mut outbox.senders,
         &mut receivers,
-        me,
+        &mut batch,
     );
+    let (log, holding) = owner.into_parts(alloc);
     let closed = outbox.close_all(room);
     Finished {
         log,
         holding,
+        left,
+        closed,
+        receivers,
+        ending,
+    }
+}
+
+/// Ends a worker that has no owner, for this reason: sets the stop flag by its share, leaves, and
+/// closes its senders.
+pub fn call_off<M: Mail, L: Ledger>(
+    alloc: Global,
+    book: &L::Book,
+    worker: Worker<M, L>,
+    ending: Ending,
+) -> Finished<M, L>
+    requires given { (c : Cut) × IsGiven L.Ledger M.Mail c book.now worker.me worker.share
+        worker.outbox.senders.items worker.receivers.items worker.room.items
+        (vec_capacity worker.room) }
+    requires reason { WasMade ending → ⊥ }
+    ensures ended { (q : Problem) (c : Cut) → IsEnded L.Ledger M.Mail q c book.now worker.me
+        worker.outbox.senders.items worker.receivers.items result.log.items result.holding
+        result.left result.closed.items result.receivers.items result.ending }
+    ensures ending { result.ending ≡ ending }
+{
+    let Worker {
+        me: _,
+        share,
+        outbox,
+        receivers,
+        room,
+    } = worker;
+    let left = halt::<L>(book, share);
+    let closed = outbox.close_all(room);
+    Finished {
+        log: Vec::new(alloc),
+        holding: Holding::none(alloc),
         left,
         closed,
         receivers,

@@ -1,6 +1,4 @@
-use Rattle.std.proofs.Common.{subst, sym}
 use Rattle.nll_worker.specs.Mailboxes.{Stays}
-use Rattle.nll_worker.specs.Turning.{HasGivenMore}
 use Rattle.nll_worker.proofs.ListLemmas.{alike_refl}
 use Rattle.nll_worker.proofs.PostLemmas.{none_more}
 use Rattle.nll_worker.proofs.posts.post_waiting.Goals as goal
@@ -10,5 +8,4 @@ returns-then-tally-eq0-clause-pairs g c = alike_refl (Stays g.M.Mail) (λ s r p.
 
 pub returns-then-tally-eq0-clause-many : goal.returns-then-tally-eq0-clause-many
 returns-then-tally-eq0-clause-many g c = λ unbounded.
-    subst (λ n. HasGivenMore 4096 n c.args.owner.now c.args.owner.now) (sym c.requires.owners)
-    (none_more c.args.owner.now c.args.tally.now 4096 c.requires.sound c.requires.counted c.if-tally-eq0.true)
+    none_more c.args.owner.now c.args.tally.now 4096 c.requires.sound c.requires.counted c.if-tally-eq0.true

@@ -1,4 +1,4 @@
-use Rattle.std.proofs.Common.{◌≤◌, subst, arith}
+use Rattle.std.proofs.Common.{arith}
 use Rattle.nll_worker.proofs.TallyLemmas.{due_small}
 use Rattle.nll_worker.proofs.turn.keep_book.Goals as goal
 
@@ -6,7 +6,7 @@ pub owe-requires-clause-few : goal.owe-requires-clause-few
 owe-requires-clause-few g c =
     let w = c.requires.grew in
     let more = c.count_new-count.ensures.more w.0 w.1 w.2 in
-    let small = due_small c.args.owner.now c.requires.sound (subst (λ n. n ≤ 64) c.requires.owners c.requires.few) in
+    let small = due_small c.args.owner.now c.requires.sound c.requires.sound.cut.cut.owner_limit in
     (omega (arith, more, small), omega (arith, more, small, w.3))
 
 pub returns-clause-owes : goal.returns-clause-owes

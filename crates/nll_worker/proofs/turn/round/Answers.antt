@@ -1,4 +1,4 @@
-use Rattle.std.proofs.Common.{map, refl, sym, ap, ◌∙◌}
+use Rattle.std.proofs.Common.{map, refl, ap, ◌∙◌, arith}
 use Rattle.nll_cut.specs.Partition.{Cut}
 use Rattle.nll_worker.specs.Mailboxes.{Keeps}
 use Rattle.nll_worker.specs.Turning.{IsAtRest}
@@ -17,9 +17,10 @@ loop-from-init g c = record {
   keeps = alike_refl (Keeps g.M.Mail) (λ r. ((λ s p. p), (λ s p. p), refl)) c.args.receivers.now.items;
 }
 
-pub turn-heard-requires-clause-owners : goal.turn-heard-requires-clause-owners
-turn-heard-requires-clause-owners g c κs within = c.requires.owners
-    ∙ sym (ap (λ (k : Cut). k.owners) c.loop-from.invariant.grows.cut)
+pub turn-heard-requires-clause-from : goal.turn-heard-requires-clause-from
+turn-heard-requires-clause-from g c κs within =
+    let same = ap (λ (k : Cut). k.owners) c.loop-from.invariant.grows.cut in
+    omega (arith, same, c.loop-from-test.true, c.owners-from-end.ensures.value)
 
 pub returns-in-Stray-clause-grows : goal.returns-in-Stray-clause-grows
 returns-in-Stray-clause-grows g c = grown_on _ _ _ c.loop-from.invariant.grows c.turn-heard.ensures.grows

@@ -1,4 +1,4 @@
-use Rattle.std.proofs.Common.{◌<◌, Contains, length, length-append, map, subst, sym, ap, ◌∙◌, arith}
+use Rattle.std.proofs.Common.{Contains, length, length-append, map, subst, sym, ap, ◌∙◌, arith}
 use Rattle.std.proofs.lemmas.List.Elements.{Contains-append_right}
 use Rattle.nll_owner.specs.Logs.{log_of}
 use Rattle.nll_owner.specs.Owner.{Owner}
@@ -13,10 +13,6 @@ overflow_add-turn g c =
     cleared_small c.args.owner.now _ _ 0 c.requires.rests.working.sound.cut.cut.owner_limit c.requires.rests.taking
     in
     omega (arith, few, c.requires.rests.turns)
-
-pub keep_book-requires-clause-owners : goal.keep_book-requires-clause-owners
-keep_book-requires-clause-owners g c κs within = c.requires.owners
-    ∙ sym (ap (λ (o : Owner). o.cut.owners) c.in-Growths.ensures.hears.1.4)
 
 pub keep_book-requires-clause-whole : goal.keep_book-requires-clause-whole
 keep_book-requires-clause-whole g c κs within = ap (λ (o : Owner). o.broken) c.in-Growths.ensures.hears.1.4
@@ -35,10 +31,8 @@ pub keep_book-requires-clause-small : goal.keep_book-requires-clause-small
 keep_book-requires-clause-small g c κs within =
     let rests = c.requires.rests in
     let h = c.in-Growths.ensures.hears in
-    let from_in : c.args.from < c.args.owner.now.cut.owners =
-    subst (λ n. c.args.from < n) c.requires.owners c.requires.from in
     let cleared = cleared_small c.args.owner.now _ _ 0 rests.working.sound.cut.cut.owner_limit rests.taking in
-    let few = c.hear_from.ensures.few (rests.taking.few c.args.from from_in) in
+    let few = c.hear_from.ensures.few (rests.taking.few c.args.from c.requires.from) in
     let before = log_of (map g.M.Mail.received c.args.receivers.now.items) c.args.from in
     let more = ap length h.0 ∙ length-append before c.hear_from.new.batch.items in
     (omega (arith, cleared), omega (arith, few, more, c.len.ensures, c.hear_from.new.batch.ok.0))
@@ -60,13 +54,11 @@ returns-in-Stray-clause-comes g c =
     let h = c.in-Stray.ensures.hears in
     let gs = c.hear_from.new.batch.items in
     let stray = h.1.0 in
-    let before = log_of (map g.M.Mail.received c.args.receivers.now.items) c.args.from in
-    let from_in : c.args.from < c.args.owner.now.cut.owners =
-    subst (λ n. c.args.from < n) c.requires.owners c.requires.from in (
+    let before = log_of (map g.M.Mail.received c.args.receivers.now.items) c.args.from in (
       stray_same c.args.owner.now c.hear_from.new.owner _ h.1.1 (
         c.args.from,
         stray.0,
-        from_in,
+        c.requires.from,
         subst (λ xs. Contains xs stray.0) (sym h.0)
             (Contains-append_right before gs stray.0 stray.1),
         stray.2,
@@ -82,10 +74,8 @@ returns-in-Memory-clause-grows g c =
 pub returns-in-Memory-clause-comes : goal.returns-in-Memory-clause-comes
 returns-in-Memory-clause-comes g c =
     let h = c.in-Memory.ensures.hears in
-    let from_in : c.args.from < c.args.owner.now.cut.owners =
-    subst (λ n. c.args.from < n) c.requires.owners c.requires.from in
     taken_lost c.args.owner.now _ _ _ _ c.requires.rests _ c.args.from c.hear_from.new.batch.items h.0
-    c.hear_from.ensures.others c.hear_from.new.owner from_in h.1
+    c.hear_from.ensures.others c.hear_from.new.owner c.requires.from h.1
 
 pub returns-in-Growths-clause-grows : goal.returns-in-Growths-clause-grows
 returns-in-Growths-clause-grows g c = let h = c.in-Growths.ensures.hears in
@@ -95,13 +85,11 @@ pub returns-in-Growths-clause-comes : goal.returns-in-Growths-clause-comes
 returns-in-Growths-clause-comes g c =
     let h = c.in-Growths.ensures.hears in
     let k = c.keep_book.ensures in
-    let from_in : c.args.from < c.args.owner.now.cut.owners =
-    subst (λ n. c.args.from < n) c.requires.owners c.requires.from in
     record {
       working = some_works c.args.owner.now _ _ _ _ c.requires.rests c.hear_from.new.owner h.1.4 _ h.1.2 h.1.3 k.owes;
       taking = some_take c.args.owner.now _ _ _ _ c.requires.rests c.hear_from.new.owner h.1.4 c.args.from
-          c.hear_from.new.batch.items _ from_in h.1.0 h.0 c.hear_from.ensures.others
-          (c.hear_from.ensures.few (c.requires.rests.taking.few c.args.from from_in)) _
+          c.hear_from.new.batch.items _ c.requires.from h.1.0 h.0 c.hear_from.ensures.others
+          (c.hear_from.ensures.few (c.requires.rests.taking.few c.args.from c.requires.from)) _
           (omega (arith, k.clears, c.len.ensures, c.hear_from.new.batch.ok.0));
       counted = k.counted;
       cleared_is = k.cleared;

@@ -2,24 +2,26 @@ use Rattle.std.proofs.Common.{map, refl, ◌∙◌}
 use Rattle.nll_worker.specs.Mailboxes.{Stays, Keeps}
 use Rattle.nll_worker.specs.Turning.{IsAtRest}
 use Rattle.nll_worker.proofs.ListLemmas.{alike_refl, stays_on, keeps_on}
-use Rattle.nll_worker.proofs.PostLemmas.{posts_grown}
+use Rattle.nll_worker.proofs.PostLemmas.{posts_first, posts_grown}
 use Rattle.nll_worker.proofs.TurnLemmas.{taken_all, rests_open}
 use Rattle.nll_worker.proofs.FinishLemmas.{is_given, is_grown, finishes_fail, finishes_stray, finishes_quiet, finishes_left}
-use Rattle.nll_worker.proofs.work_loop.go_on.Goals as goal
-use Rattle.nll_worker.proofs.work_loop.go_on.Goals.{in-Growths, in-Nothing}
+use Rattle.nll_worker.proofs.work_loop.work_on.Goals as goal
+use Rattle.nll_worker.proofs.work_loop.work_on.Goals.{in-Growths, in-Nothing}
 
 pub loop-init : goal.loop-init
-loop-init g c = (
-  tt,
-  tt,
-  record { problem = refl; cut = refl; me = c.requires.me },
-  c.requires.sound,
-  c.requires.book,
-  c.requires.came,
-  c.requires.posts,
-  alike_refl (Stays g.M.Mail) (λ s r p. p) c.args.senders.now.items,
-  alike_refl (Keeps g.M.Mail) (λ r. ((λ s p. p), (λ s p. p), refl)) c.args.receivers.now.items,
-)
+loop-init g c =
+    let f = c.first_turn-heard in
+    let fresh = c.requires.fresh in (
+      tt,
+      tt,
+      record { problem = f.ensures.grows.problem; cut = f.ensures.grows.cut; me = f.ensures.grows.me },
+      f.ensures.sound,
+      (f.ensures.book.0, f.ensures.book.1 ∙ fresh.number_is, f.ensures.book.2 ∙ fresh.called_is),
+      f.ensures.comes _ c.requires.taken,
+      posts_first _ _ _ c.args.owner.now f.new.owner _ c.requires.first f.ensures.grows c.requires.posts,
+      alike_refl (Stays g.M.Mail) (λ s r p. p) c.args.senders.now.items,
+      alike_refl (Keeps g.M.Mail) (λ r. ((λ s p. p), (λ s p. p), refl)) c.args.receivers.now.items,
+    )
 
 pub returns-in-Stray-clause-finishes : goal.returns-in-Stray-clause-finishes
 returns-in-Stray-clause-finishes g c =

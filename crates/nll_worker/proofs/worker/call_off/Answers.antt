@@ -1,9 +1,9 @@
 use Rattle.std.proofs.Common.{refl, sym, subst, ◌∙◌}
 use Rattle.nll_worker.specs.Mailboxes.{Stays, Keeps}
-use Rattle.nll_worker.specs.Finishing.{WasStarted}
+use Rattle.nll_worker.specs.Finishing.{WasMade}
 use Rattle.nll_worker.proofs.ListLemmas.{alike_refl, shut_on}
-use Rattle.nll_worker.proofs.StartLemmas.{unmade, unstarted_error}
-use Rattle.nll_worker.proofs.starts.call_off.Goals as goal
+use Rattle.nll_worker.proofs.StartLemmas.{unmade_error}
+use Rattle.nll_worker.proofs.worker.call_off.Goals as goal
 
 pub returns-clause-ended : goal.returns-clause-ended
 returns-clause-ended g c = λ q cut.
@@ -12,12 +12,12 @@ returns-clause-ended g c = λ q cut.
       shuts = shut_on m _ _ _ (alike_refl (Stays m) (λ s r p. p) c.args.worker.outbox.senders.items)
           c.close_all-closed.ensures;
       keeps = alike_refl (Keeps m) (λ r. ((λ s p. p), (λ s p. p), refl)) c.args.worker.receivers.items;
-      finishes = λ made. absurd (unmade c.args.ending c.requires.reason made);
+      finishes = λ made. absurd (c.requires.reason made);
       leaves = record {
         of_book = c.halt-left.ensures.left.0;
         number_is = c.halt-left.ensures.left.1 ∙ c.requires.given.1.fresh.number_is;
-        quiet_is = λ e. absurd (c.requires.reason (subst (λ x. WasStarted x) (sym e) tt));
+        quiet_is = λ e. absurd (c.requires.reason (subst (λ x. WasMade x) (sym e) tt));
         not_quiet = λ _. c.halt-left.ensures.stopped;
-        called_is = λ _. unstarted_error c.args.ending c.requires.reason;
+        called_is = λ _. unmade_error c.args.ending c.requires.reason;
       };
     }

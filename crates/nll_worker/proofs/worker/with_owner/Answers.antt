@@ -1,0 +1,28 @@
+use Rattle.std.proofs.Common.{map, sym, subst, arith}
+use Rattle.nll_owner.specs.Logs.{log_of}
+use Rattle.nll_worker.specs.Mailboxes.{Stays}
+use Rattle.nll_worker.specs.Finishing.{Finishes}
+use Rattle.nll_worker.proofs.FinishLemmas.{finished_as}
+use Rattle.nll_worker.proofs.ListLemmas.{alike_length, shut_lists, shut_on}
+use Rattle.nll_worker.proofs.worker.with_owner.Goals as goal
+
+pub close_all-closed-requires-after_bounds : goal.close_all-closed-requires-after_bounds
+close_all-closed-requires-after_bounds g c κs within =
+    let same = alike_length (Stays g.M.Mail) _ _ c.work_on-left.ensures.pairs in
+    (c.requires.given.none_kept, omega (arith, same, c.requires.given.space))
+
+pub returns-clause-ended : goal.returns-clause-ended
+returns-clause-ended g c =
+    let m = g.M.Mail in
+    let b = c.work_on-left in
+    let p = c.into_parts-log.ensures in
+    let lists = shut_lists m b.new.senders.items c.close_all-closed.result.items c.close_all-closed.ensures in
+    record {
+      shuts = shut_on m _ _ _ b.ensures.pairs c.close_all-closed.ensures;
+      keeps = b.ensures.keeps;
+      finishes = λ made. finished_as _ _ _ b.new.owner _ _ _ _ _ _ _ p.log (subst (λ xs. Finishes c.args.owner.problem
+          c.args.owner.cut c.args.owner.me b.new.owner (log_of xs) (log_of (map m.received b.new.receivers.items))
+          (g.L.Ledger.left_owed b.result.0) (g.L.Ledger.left_cleared b.result.0) b.result.1) (sym lists)
+          b.ensures.finishes) p.values;
+      leaves = b.ensures.leaves;
+    }
