@@ -20,7 +20,7 @@ use crate::line::{Line, line_of};
 use crate::version::{Version, is_of_version};
 use nll_format::{LineReader, Names, TextKind, pass_over};
 use nll_problem::{
-    At, Constraint, Kind, MAX_POINTS, MAX_UNIVERSALS, Problem, ProblemBuilder, RegionId,
+    At, BuildError, Constraint, Kind, MAX_POINTS, MAX_UNIVERSALS, Problem, ProblemBuilder, RegionId,
 };
 use std::alloc::Global;
 
@@ -86,7 +86,7 @@ impl Reader {
         ensures err { IfErr result (λ kind. kind ≡ TextKind.Memory) }
     {
         if group(line) > 2 && self.builder.is_none() {
-            self.begin()?;
+            self.begin().map_err(TextKind::of)?;
         }
         Ok(())
     }
@@ -110,13 +110,13 @@ impl Reader {
 
     // Makes the builder. It is a call of its own so that a line which finds one doesn't pay for the
     // room that making one takes.
-    fn begin(&mut self) -> Result<(), TextKind>
+    fn begin(&mut self) -> Result<(), BuildError>
         requires ready { IsReady self.old }
         requires begun { 0 < self.old.reached }
         requires early { self.old.reached ≤ 2 }
         ensures said { OnOk result (said_by self.new ≡ said_by self.old) }
         ensures kept { OnOk result ((n : ℕ) → 2 < n → IsKept n self.new) }
-        ensures err { IfErr result (λ kind. kind ≡ TextKind.Memory) }
+        ensures err { IfErr result (λ error. error ≡ BuildError.Memory) }
     {
         let universals = self.names.len() as u32;
         let builder = ProblemBuilder::new(self.alloc, self.points, universals)?;
@@ -172,7 +172,7 @@ impl Reader {
         let Some(builder) = &mut self.builder else {
             unreachable!();
         };
-        builder.region()?;
+        builder.region().map_err(TextKind::of)?;
         self.names.add(self.alloc, name)?;
         self.reached = 4;
         Ok(())
@@ -187,7 +187,7 @@ impl Reader {
         let Some(builder) = &mut self.builder else {
             unreachable!();
         };
-        builder.next(from, to)?;
+        builder.next(from, to).map_err(TextKind::of)?;
         self.reached = 5;
         Ok(())
     }
@@ -201,7 +201,7 @@ impl Reader {
         let Some(builder) = &mut self.builder else {
             unreachable!();
         };
-        builder.ret(point)?;
+        builder.ret(point).map_err(TextKind::of)?;
         self.reached = 5;
         Ok(())
     }
@@ -219,7 +219,7 @@ impl Reader {
         let Some(builder) = &mut self.builder else {
             unreachable!();
         };
-        builder.outlives(longer, shorter)?;
+        builder.outlives(longer, shorter).map_err(TextKind::of)?;
         self.reached = 3;
         Ok(())
     }
@@ -235,7 +235,7 @@ impl Reader {
         let Some(builder) = &mut self.builder else {
             unreachable!();
         };
-        builder.base(region, point)?;
+        builder.base(region, point).map_err(TextKind::of)?;
         self.recent = region.0 as usize;
         self.reached = 5;
         Ok(())
@@ -254,7 +254,8 @@ impl Reader {
         let Some(builder) = &mut self.builder else {
             unreachable!();
         };
-        builder.constraint(Constraint { sup, sub, at })?;
+        let constraint = Constraint { sup, sub, at };
+        builder.constraint(constraint).map_err(TextKind::of)?;
         self.reached = 5;
         Ok(())
     }

@@ -1,10 +1,10 @@
 //! Why a text is refused.
 
 ghost use Rattle.std.specs.Prelude.{◌≡◌, ◌≢◌, ◌⊎◌};
+ghost use Rattle.nll_format.specs.Kinds.{kind_of};
 
 use nll_problem::{BuildError, Kind};
-use nll_sets::Memory;
-use std::alloc::{AllocError, AllocFailed};
+use nll_sets::OutOfMemory;
 use thiserror::Error;
 
 /// What is wrong with a line, in the order in which one kind is told before another.
@@ -45,6 +45,20 @@ pub enum TextKind {
     Memory,
 }
 
+impl TextKind {
+    /// The kind that tells an error of the builder, whose regions come from names.
+    pub fn of(error: BuildError) -> TextKind
+        ensures { result ≡ kind_of error }
+    {
+        match error {
+            BuildError::PointRange => TextKind::Range,
+            BuildError::RegionRange => TextKind::Unknown,
+            BuildError::Limit(kind) => TextKind::Limit(kind),
+            BuildError::Memory => TextKind::Memory,
+        }
+    }
+}
+
 /// The first line that is wrong, and what is wrong with it.
 ///
 /// # Units
@@ -71,51 +85,13 @@ impl TextError {
     }
 }
 
-impl From<AllocError> for TextKind {
+impl<E: OutOfMemory> From<E> for TextKind {
     ghost use Rattle.std.specs.Prelude.{◌≡◌};
     ghost use Rattle.nll_format.specs.declared.error.TextKind.TheVariants.{Memory as memory};
 
     ghost from_gives = { λ _ kind. kind ≡ memory };
 
-    fn from(_: AllocError) -> TextKind {
+    fn from(_: E) -> TextKind {
         TextKind::Memory
-    }
-}
-
-impl<T: Drop> From<AllocFailed<T>> for TextKind {
-    ghost use Rattle.std.specs.Prelude.{◌≡◌};
-    ghost use Rattle.nll_format.specs.declared.error.TextKind.TheVariants.{Memory as memory};
-
-    ghost from_gives = { λ _ kind. kind ≡ memory };
-
-    fn from(_: AllocFailed<T>) -> TextKind {
-        TextKind::Memory
-    }
-}
-
-impl From<Memory> for TextKind {
-    ghost use Rattle.std.specs.Prelude.{◌≡◌};
-    ghost use Rattle.nll_format.specs.declared.error.TextKind.TheVariants.{Memory as memory};
-
-    ghost from_gives = { λ _ kind. kind ≡ memory };
-
-    fn from(_: Memory) -> TextKind {
-        TextKind::Memory
-    }
-}
-
-impl From<BuildError> for TextKind {
-    ghost use Rattle.std.specs.Prelude.{◌≡◌};
-    ghost use Rattle.nll_format.specs.Kinds.{kind_of};
-
-    ghost from_gives = { λ error kind. kind ≡ kind_of error };
-
-    fn from(error: BuildError) -> TextKind {
-        match error {
-            BuildError::PointRange => TextKind::Range,
-            BuildError::RegionRange => TextKind::Unknown,
-            BuildError::Limit(kind) => TextKind::Limit(kind),
-            BuildError::Memory => TextKind::Memory,
-        }
     }
 }

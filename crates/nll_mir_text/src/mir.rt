@@ -33,8 +33,7 @@ fn make_body(alloc: Global, reader: Reader) -> Result<Body, TextKind>
 {
     match pairs(alloc, &reader) {
         Ok((outlives, asserts)) => {
-            let body = Body::new(alloc, reader.finish(outlives, asserts))?;
-            Ok(body)
+            Body::new(alloc, reader.finish(outlives, asserts)).map_err(TextKind::of)
         }
         Err(memory) => {
             drop(reader);

@@ -159,7 +159,7 @@ fn write_kinds(out: &mut String) {
         BuildError::Memory,
     ] {
         say(out, " ");
-        show(out, &TextKind::from(error));
+        show(out, &TextKind::of(error));
     }
 }
 
