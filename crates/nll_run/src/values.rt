@@ -1,6 +1,6 @@
 //! The values of all regions, out of the sets that the owners hand out.
 
-ghost use Rattle.std.specs.Prelude.{◌↔◌, ℕ, List, IfOk};
+ghost use Rattle.std.specs.Prelude.{◌≡◌, ◌↔◌, ℕ, List, IfOk, OnErr};
 ghost use Rattle.nll_core.specs.Values.{IsHeld, IsShaped};
 ghost use Rattle.nll_cut.specs.Partition.{owner_of};
 ghost use Rattle.nll_mail.specs.declared.growth.Growth.{Growth};
@@ -35,6 +35,7 @@ pub fn values_of(
     ensures held { IfOk result (λ values. (logs : List (List Growth))
         → HaveValuesOf problem.now cut.now logs holdings.old.items
         → (r e : ℕ) → IsHeld values r e ↔ IsTold (log_of logs (owner_of cut.now r)) r e) }
+    ensures err { OnErr result (holdings.new.items ≡ holdings.old.items) }
 {
     let regions = problem.regions();
     let mut sets = Vec::with_capacity(alloc, regions as usize)?;

@@ -1,4 +1,4 @@
-use Rattle.std.proofs.Common.{◌≡◌, List, Bool, sym, subst, arith}
+use Rattle.std.proofs.Common.{List, Bool, sym, subst, arith}
 use Rattle.nll_owner.specs.Holding.{HasSet}
 use Rattle.nll_owner_tests.proofs.holdings.write_all_taken.Goals as goal
 use Rattle.nll_owner_tests.proofs.holdings.write_all_taken.Goals.{then-owner_of-me+in_ok-write_taken, else-owner_of-me}
