@@ -14,8 +14,8 @@ use nll_sets::RunSet;
 use std::alloc::Global;
 use std::marker::Model;
 
-/// The sets that an owner hands out: the values of its own regions. It lets those of the regions that
-/// it read go, which no clause says.
+/// The sets that an owner hands out: the values of its own regions. It lets the sets of the regions
+/// that it read go, which no clause says.
 pub struct Holding {
     slots: Slots,
     // By slot.
