@@ -167,7 +167,7 @@ impl<'g> Owner<'g> {
     }
 
     /// Grows an own region by the elements of a run that are new.
-    pub fn grow(&mut self, region: u32, slot: u32, run: Run) {
+    fn grow(&mut self, region: u32, slot: u32, run: Run) {
         self.new.clear();
         self.values[slot as usize].insert_new(run, &mut self.new);
         for run in &self.new {
@@ -181,6 +181,14 @@ impl<'g> Owner<'g> {
         }
     }
 
+    /// Grows an own region by what a list has, and empties the list.
+    pub fn grow_all(&mut self, region: u32, slot: u32, found: &mut Vec<Run>) {
+        for &run in &*found {
+            self.grow(region, slot, run);
+        }
+        found.clear();
+    }
+
     /// Hands a run to the links that read its region, and grows what they newly reach.
     fn follow(&mut self, slot: u32, run: Run) {
         let mut found = take(&mut self.found);
@@ -188,10 +196,7 @@ impl<'g> Owner<'g> {
             let link = &mut self.links[number as usize];
             link.resume(self.ground, &self.values[slot as usize], run, &mut found);
             let (sup, to) = (link.sup, link.slot);
-            for &run in &found {
-                self.grow(sup, to, run);
-            }
-            found.clear();
+            self.grow_all(sup, to, &mut found);
         }
         self.found = found;
     }

@@ -112,10 +112,7 @@ impl Owner<'_> {
             link.resume(self.ground, &self.values[slot as usize], run, &mut found);
         }
         let (sup, to) = (link.sup, link.slot);
-        for &run in &found {
-            self.grow(sup, to, run);
-        }
-        found.clear();
+        self.grow_all(sup, to, &mut found);
         self.found = found;
     }
 }
