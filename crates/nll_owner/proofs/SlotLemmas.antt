@@ -1,8 +1,8 @@
 -- The slots of the regions that an owner holds.
-use Rattle.std.proofs.Common.{◌≡◌, ℕ, zero, suc, ◌+◌, ◌<◌, ◌≤◌, Bool, true, false, cond, ◌||◌, List, [], ◌∷◌, ◌++◌, length, get_or, set, slice_index, AllPairs, Contains, refl, sym, ap, ◌∙◌, subst, ⊎_elim, arith}
+use Rattle.std.proofs.Common.{◌≡◌, ◌≢◌, ℕ, zero, suc, ◌+◌, ◌<◌, ◌≤◌, Bool, true, false, cond, ◌||◌, List, [], ◌∷◌, ◌++◌, length, get_or, set, slice_index, AllPairs, Contains, refl, sym, ap, ◌∙◌, subst, ⊎_elim, arith}
 use Rattle.std.specs.Prelude.{Option, Some, None, IfNone, IsSome}
 use Rattle.std.specs.List.{filter, range_with_len}
-use Rattle.std.proofs.lemmas.Bool.{cases_eq, cases_lt, eq-eqb}
+use Rattle.std.proofs.lemmas.Bool.{cases_eq, cases_lt, eq-eqb, eqb-true}
 use Rattle.std.proofs.lemmas.List.{get_or_default, get_or-set_other, get_or-set_same}
 use Rattle.std.proofs.lemmas.List.Elements.{filter-append}
 use Rattle.std.proofs.lemmas.List.FromFn.{length-range_with_len, get_or-range_with_len}
@@ -134,6 +134,10 @@ or_right : (a b : Bool) → b ≡ true → (a || b) ≡ true
 or_right true b h = refl
 or_right false b h = h
 
+or_other : (a b : Bool) → (a ≡ true → ⊥) → (a || b) ≡ true → b ≡ true
+or_other true b h w = absurd (h refl)
+or_other false b h w = w
+
 pub own_held : (o : Owner) (r : ℕ) → owner_of o.cut r ≡ o.me
     → holds_region o.cut o.me (reads o.problem o.cut o.me) r ≡ true
 own_held o r own = or_left _ (reads o.problem o.cut o.me r) (eq-eqb _ _ own)
@@ -141,6 +145,13 @@ own_held o r own = or_left _ (reads o.problem o.cut o.me r) (eq-eqb _ _ own)
 pub read_held : (o : Owner) (r : ℕ) → reads o.problem o.cut o.me r ≡ true
     → holds_region o.cut o.me (reads o.problem o.cut o.me) r ≡ true
 read_held o r reading = or_right _ _ reading
+
+-- of the regions of others, those that it holds are read
+pub other_read : (o : Owner) (r : ℕ) → Contains (held_regions o) r → owner_of o.cut r ≢ o.me
+    → reads o.problem o.cut o.me r ≡ true
+other_read o r h other =
+    or_other _ (reads o.problem o.cut o.me r) (λ own. other (eqb-true _ _ own))
+    (filter_from (holds_region o.cut o.me (reads o.problem o.cut o.me)) (range_with_len 0 o.problem.regions) r h).1
 
 -- what the owner has is of regions that it holds
 pub has_held : (o : Owner) → IsSound o → (r e : ℕ) → Has o r e

@@ -180,11 +180,22 @@ impl<'q> Knowledge<'q> {
         let clock = self.clock.max(growth.rank);
         let slot = self.slot(growth.region);
         let list = &mut self.received[from as usize];
-        make_room(list)?;
+        make_room(list, 1)?;
         self.values.insert(slot, growth.element)?;
         list.push_reserved(growth);
         self.clock = clock;
         Ok(())
+    }
+
+    // Makes room for so many growths more of an owner.
+    fn reserve_received(&mut self, from: u16, count: usize) -> Result<(), Memory>
+        ensures { self.new ≡ self.old }
+    {
+        if from as usize >= self.received.len() {
+            return Ok(());
+        }
+        let list = &mut self.received[from as usize];
+        make_room(list, count)
     }
 
     /// Puts growths of one owner into the copies of their regions and at the end of what was
@@ -203,6 +214,7 @@ impl<'q> Knowledge<'q> {
         ensures has { OnOk result (HasAllBeside growths.now self.old self.new) }
         ensures sound { IsSound self.new }
     {
+        self.reserve_received(from, growths.len())?;
         for growth in growths {
             self.enter_received(from, *growth)?;
         }
@@ -244,8 +256,7 @@ impl<'q> Knowledge<'q> {
     }
 
     /// Whether the owner may be told a growth by another one.
-    pub fn passes(&self, readers: &Readers, from: u16, growth: &Growth) -> bool
-        requires { TellsAs self.now readers.now }
+    pub fn passes(&self, from: u16, growth: &Growth) -> bool
         ensures { IsTrue result
             ↔ Passes self.now.problem self.now.cut self.now.me from growth.now }
     {
@@ -260,11 +271,22 @@ impl<'q> Knowledge<'q> {
         if element.0 >= self.problem.points() + self.problem.universals() {
             return false;
         }
-        // A region that is read is of the problem.
-        if !readers.reads(self.me, region) {
+        self.reads_from(from, region)
+    }
+
+    // Whether another owner has a region that this one reads: of the regions of others, the owner
+    // holds those that it reads.
+    fn reads_from(&self, from: u16, region: RegionId) -> bool
+        ensures { IsTrue result ↔ ((owner_of self.now.cut region ≡ from)
+            × (reads self.now.problem self.now.cut self.now.me region ≡ true)) }
+    {
+        if from == self.me {
             return false;
         }
-        self.cut.owner_of(region) == from
+        match self.slots.find(region) {
+            Some(_) => self.cut.owner_of(region) == from,
+            None => false,
+        }
     }
 
     /// Whether a value or a copy has an element.
@@ -373,17 +395,17 @@ fn push_growths(log: &mut Vec<Growth>, region: RegionId, first: u32, count: u32,
     }
 }
 
-// Makes room for a growth more at the end of a list, of which there are many and which only grow:
-// for a quarter of the list at once.
-fn make_room(list: &mut Vec<Growth>) -> Result<(), Memory>
+// Makes room for so many growths more at the end of a list, of which there are many and which only
+// grow: for a quarter of the list at least.
+fn make_room(list: &mut Vec<Growth>, more: usize) -> Result<(), Memory>
     ensures items { list.new.items ≡ list.old.items }
-    ensures room { OnOk result (vec_len list.new + 1 ≤ vec_capacity list.new) }
+    ensures room { OnOk result (vec_len list.new + more ≤ vec_capacity list.new) }
 {
-    if list.len() < list.capacity() {
+    if list.capacity() - list.len() >= more {
         return Ok(());
     }
     let quarter = list.len() / 4;
-    list.reserve_exact(quarter.max(4))?;
+    list.reserve_exact(more.max(quarter).max(4))?;
     Ok(())
 }
 

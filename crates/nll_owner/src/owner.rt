@@ -272,8 +272,7 @@ impl<'q> Owner<'q> {
         ensures { IsTrue result
             ↔ Passes self.now.problem self.now.cut self.now.me from growth.now }
     {
-        self.knowledge
-            .passes(&self.tables.as_ref().readers, from, growth)
+        self.knowledge.passes(from, growth)
     }
 
     /// Whether the owner may be told all of these growths by another one.

@@ -17,9 +17,9 @@ pub type Slot = RegionId;
 /// The regions that an owner holds: its own ones and those that it reads, ascending.
 #[derive(Drop)]
 pub struct Slots {
-    regions: Vec<u32>,
+    regions: Vec<u16>,
     // By region the slot, and any number where it has none.
-    table: Vec<u32>,
+    table: Vec<u16>,
 }
 
 impl Model for Slots {
@@ -84,7 +84,7 @@ impl Slots {
         requires { slot < length self.now }
         ensures { IsSlotIn self.now slot result }
     {
-        RegionId(self.regions[slot as usize])
+        RegionId(self.regions[slot as usize] as u32)
     }
 
     /// The slot of a region, if it has one.
@@ -100,7 +100,7 @@ impl Slots {
             return None;
         }
         let at = self.table[number] as usize;
-        if at < self.regions.len() && self.regions[at] == region.0 {
+        if at < self.regions.len() && self.regions[at] as u32 == region.0 {
             return Some(RegionId(at as u32));
         }
         None
@@ -114,30 +114,31 @@ fn held_of(
     readers: &Readers,
     me: u16,
     regions: u32,
-) -> Result<Vec<u32>, Memory>
-    requires { length cut.now.list ≡ regions }
+) -> Result<Vec<u16>, Memory>
+    requires regions { length cut.now.list ≡ regions }
+    requires few { regions ≤ most_regions }
     ensures { IfOk result (λ held.
         held.items ≡ held_below regions cut.now me (λ r. is_read readers.now me r)) }
 {
     let mut held = Vec::new(alloc);
     for number in 0..regions {
         if holds(cut, readers, me, RegionId(number)) {
-            held.push(number)?;
+            held.push(number as u16)?;
         }
     }
     Ok(held)
 }
 
 // The places of regions in a list, by region.
-fn table_of(alloc: Global, held: &[u32], regions: u32) -> Result<Vec<u32>, Memory>
+fn table_of(alloc: Global, held: &[u16], regions: u32) -> Result<Vec<u16>, Memory>
     requires ascending { AllPairs {X = ℕ} (λ r s. r < s) held.now }
     requires within { (s r : ℕ) → IsSlotIn held.now s r → r < regions }
     requires few { length held.now ≤ most_regions }
     ensures { IfOk result (λ table. TellsSlots held.now table.items) }
 {
-    let mut table = vec![in alloc; 0u32; regions as usize]?;
+    let mut table = vec![in alloc; 0u16; regions as usize]?;
     for slot in 0..held.len() {
-        table[held[slot] as usize] = slot as u32;
+        table[held[slot] as usize] = slot as u16;
     }
     Ok(table)
 }

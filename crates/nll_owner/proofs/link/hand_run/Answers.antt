@@ -54,7 +54,7 @@ returns-clause-followed c =
     (rw c.requires.steps at c.in_ok-go_on.ensures.fits)
     (rw c.requires.steps at c.in_ok-go_on.ensures.reached) c.in_ok-go_on.ensures.found
     c.grow_runs.new.self c.grow_runs.ensures.grows c.args.due.now.place c.args.limit c.args.rest.now c.requires.place
-    c.requires.followed c.requires.awake c.requires.awake c.in_ok-go_on.ensures.ok.1
+    c.requires.followed c.requires.awake c.requires.awake c.in_ok-go_on.ensures.whole
     (rw c.deref.ensures.value at c.in_ok-grow_runs.ensures.covers)
 
 pub returns-in_err-go_on-clause-same : goal.returns-in_err-go_on-clause-same

@@ -11,4 +11,4 @@ loop-number-preserved c =
     c.args.runs.now c.loop-number.number _
     (omega (arith, c.loop-number-test.true, c.requires))
     (get_or_default c.args.runs.now c.loop-number.number _ _ (omega (arith, c.loop-number-test.true, c.requires)))
-    c.loop-number.invariant (c.is_idle.ensures.0 c.if-not-is_idle.false)
+    c.loop-number.invariant (c.is_idle.ensures c.if-not-is_idle.false)

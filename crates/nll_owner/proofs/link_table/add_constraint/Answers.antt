@@ -20,4 +20,4 @@ returns-in_ok-add c =
     within c.index.ensures c.index_mut.ensures.value c.if-eq.ensures in
     adds_point c.args.k c.args.row.now.items (c.len-count.result - 1) c.index_mut.result.now
     (record { sup = c.index_mut.result.now.sup; frontier = c.add.new.self; rests = c.index_mut.result.now.rests })
-    within (sym c.index_mut.ensures.value) fills refl c.in_ok-add.ensures.ok
+    within (sym c.index_mut.ensures.value) fills refl c.in_ok-add.ensures

@@ -1,4 +1,4 @@
-use Rattle.std.proofs.Common.{ℕ, Bool, cond, [], ◌∷◌, ◌++◌, append-nil, sym, ap, ◌∙◌}
+use Rattle.std.proofs.Common.{ℕ, Bool, cond, [], ◌∷◌, ◌++◌, append-nil, sym, ap, ◌∙◌, arith}
 use Rattle.nll_cut.specs.Readers.{is_read}
 use Rattle.nll_owner.specs.Keeping.{held_below}
 use Rattle.nll_owner.proofs.SlotLemmas.{held_more}
@@ -21,3 +21,6 @@ loop-number-preserved c =
           ∙ (sym (append-nil before)
           ∙ (ap (λ b. before ++ cond b (n ∷ []) []) (sym (sym c.holds.ensures ∙ w.if-holds.false)) ∙ sym more)))
     ]
+
+pub overflow_cast-number : goal.overflow_cast-number
+overflow_cast-number c = omega (arith, c.loop-number-test.true, c.requires.few)

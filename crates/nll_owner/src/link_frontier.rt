@@ -1,0 +1,163 @@
+//! The frontiers of links.
+
+ghost use Rattle.std.specs.Prelude.{◌≡◌, ◌≤◌, ◌<◌, true, false, [], ◌∷◌, ◌++◌, ℕ, Contains, length};
+ghost use Rattle.std.specs.Prelude.{IfOk, OnOk};
+ghost use Rattle.nll_problem.specs.Graph.{element_count};
+ghost use Rattle.nll_problem.specs.At.{IsAmong, at_rank};
+ghost use Rattle.nll_problem.specs.declared.at.At.{At as places};
+ghost use Rattle.nll_core.specs.Search.{IsIn};
+ghost use Rattle.nll_core.specs.Walking.{AreIn};
+ghost use Rattle.nll_core.specs.Frontiers.{IsAskedFrom, GoesOn, IsIdle, ListsNew, first_frontier};
+
+use nll_core::{Frontier, Steps};
+use nll_problem::At;
+use nll_sets::{Memory, Run, RunSet};
+use std::alloc::Global;
+use std::marker::Model;
+
+/// The frontier of a link. Most links are of one constraint, and nothing is ever reached for it;
+/// until something is, the frontier is the place where the constraint holds. Contracts see all that
+/// as a frontier.
+#[derive(Drop)]
+pub struct LinkFrontier {
+    state: State,
+}
+
+/// A frontier that is one place so far, or one that takes memory.
+#[derive(Drop)]
+pub enum State {
+    // Nothing is reached.
+    Fresh(At),
+    Kept(Box<Frontier>),
+}
+
+impl Model for LinkFrontier {
+    ghost use Rattle.nll_core.specs.Frontiers as spec;
+    ghost use Rattle.nll_owner.specs.LinkFrontiers.{frontier_of};
+
+    ghost Value = { spec.Frontier };
+
+    ghost view = { λ f. frontier_of f.state };
+}
+
+impl LinkFrontier {
+    /// That of a constraint which holds there. Takes no memory.
+    pub fn new(at: At) -> LinkFrontier
+        ensures { result ≡ first_frontier (at ∷ []) }
+    {
+        LinkFrontier {
+            state: State::Fresh(at),
+        }
+    }
+
+    /// Adds where a further constraint holds, behind all others.
+    pub fn add(&mut self, alloc: Global, at: At) -> Result<(), Memory>
+        requires { (x : places) → Contains self.old.starts x → at_rank x < at_rank at }
+        ensures { OnOk result
+            (self.new ≡ record self.old { starts = self.old.starts ++ at ∷ [] }) }
+    {
+        match &mut self.state {
+            State::Kept(frontier) => frontier.add(alloc, at),
+            State::Fresh(first) => {
+                let kept = frontier_of_two(alloc, *first, at)?;
+                self.state = State::Kept(kept);
+                Ok(())
+            }
+        }
+    }
+
+    /// Whether going on from a run of elements reaches nothing, since nothing is reached yet, no
+    /// constraint holds at all points, and no walk begins in the run.
+    pub fn is_idle(&self, run: Run) -> bool
+        ensures { result ≡ true → IsIdle self.now.starts run self.now.reached }
+    {
+        match &self.state {
+            State::Kept(frontier) => frontier.is_idle(run),
+            State::Fresh(at) => is_outside(*at, run),
+        }
+    }
+
+    /// Goes on from a run of elements of the set in which walks may go, as `Frontier::go_on` does.
+    pub fn go_on(
+        &mut self,
+        steps: &Steps,
+        inside: &RunSet,
+        run: Run,
+        found: &mut Vec<Run>,
+    ) -> Result<(), Memory>
+        requires width { length inside.now ≡ element_count steps.now }
+        requires fits { let old = self.old in
+            old.refused ≡ false → length old.reached ≤ element_count steps.now }
+        requires starts { (at : places)
+            → Contains self.old.starts at → IsAmong steps.now.points at }
+        requires proper { run.first ≤ run.last }
+        requires run { AreIn inside.now run }
+        requires sound { self.old.refused ≡ false → (x : ℕ) → IsIn self.old.reached x
+            → IsAskedFrom steps.now (IsIn inside.now) self.old.starts x }
+        ensures starts { self.new.starts ≡ self.old.starts }
+        ensures fits { OnOk result (length self.new.reached ≤ element_count steps.now) }
+        ensures reached { OnOk result (GoesOn steps.now inside.now run self.old.starts
+            self.old.reached self.new.reached) }
+        ensures found { OnOk result
+            (ListsNew self.old.reached self.new.reached [] found.new.items) }
+        ensures whole { OnOk result (self.new.refused ≡ false) }
+    {
+        match &mut self.state {
+            State::Kept(frontier) => frontier.go_on(steps, inside, run, found),
+            State::Fresh(at) => {
+                let kept = first_kept(*at, steps, inside, run, found)?;
+                self.state = State::Kept(kept);
+                Ok(())
+            }
+        }
+    }
+}
+
+// A frontier of two constraints, which has reached nothing yet.
+fn frontier_of_two(alloc: Global, first: At, second: At) -> Result<Box<Frontier>, Memory>
+    requires { at_rank first < at_rank second }
+    ensures { IfOk result (λ b. b.value ≡ first_frontier (first ∷ second ∷ [])) }
+{
+    let mut frontier = Frontier::new(alloc, first);
+    match frontier.add(alloc, second) {
+        Ok(()) => Ok(Box::new(alloc, frontier)?),
+        Err(error) => Err(error),
+    }
+}
+
+// Whether a place isn't all points, and no point of a run.
+fn is_outside(at: At, run: Run) -> bool
+    ensures { result ≡ true → IsIdle (at ∷ []) run [] }
+{
+    match at {
+        At::All => false,
+        At::Point(point) => point < run.first || run.last < point,
+    }
+}
+
+// A frontier of one constraint that went on from a run of elements for the first time.
+fn first_kept(
+    at: At,
+    steps: &Steps,
+    inside: &RunSet,
+    run: Run,
+    found: &mut Vec<Run>,
+) -> Result<Box<Frontier>, Memory>
+    requires width { length inside.now ≡ element_count steps.now }
+    requires start { IsAmong steps.now.points at }
+    requires proper { run.first ≤ run.last }
+    requires run { AreIn inside.now run }
+    ensures starts { IfOk result (λ b. b.value.starts ≡ at ∷ []) }
+    ensures fits { IfOk result (λ b. length b.value.reached ≤ element_count steps.now) }
+    ensures reached { IfOk result
+        (λ b. GoesOn steps.now inside.now run (at ∷ []) [] b.value.reached) }
+    ensures found { IfOk result (λ b. ListsNew [] b.value.reached [] found.new.items) }
+    ensures whole { IfOk result (λ b. b.value.refused ≡ false) }
+{
+    let alloc = *found.allocator();
+    let mut frontier = Frontier::new(alloc, at);
+    match frontier.go_on(steps, inside, run, found) {
+        Ok(()) => Ok(Box::new(alloc, frontier)?),
+        Err(error) => Err(error),
+    }
+}
