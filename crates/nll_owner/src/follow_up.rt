@@ -10,7 +10,7 @@ ghost use Rattle.nll_owner.specs.Keeping.{Grows, IsClosed, held_regions};
 ghost use Rattle.nll_owner.specs.Following.{IsFollowing, HasFollowed, Nothing, following_of};
 
 use crate::knowledge::Knowledge;
-use crate::link::Link;
+use crate::link_row::LinkRow;
 use crate::link_table::links_of;
 use crate::region_runs::RegionRuns;
 use crate::rows::follow_runs;
@@ -27,7 +27,7 @@ use std::marker::Model;
 #[derive(Drop)]
 pub struct Following {
     // By the slot of the region that they read.
-    rows: Vec<Vec<Link>>,
+    rows: Vec<LinkRow>,
     // How far in the log.
     place: usize,
     // What was followed up last, and what the last link has found. They're kept so that their

@@ -11,7 +11,7 @@ ghost use Rattle.nll_owner.specs.declared.region_run.RegionRun as spec;
 
 use crate::due::Due;
 use crate::knowledge::Knowledge;
-use crate::link::{Link, advance};
+use crate::link_row::LinkRow;
 use crate::region_run::RegionRun;
 use nll_core::Steps;
 use nll_problem::RegionId;
@@ -20,7 +20,7 @@ use nll_sets::{Memory, Run};
 /// Hands runs to the links that read their regions, and grows the own regions by what these newly
 /// reach. The log was followed up to a place; contracts alone ask for it.
 pub fn follow_runs(
-    rows: &mut Vec<Vec<Link>>,
+    rows: &mut Vec<LinkRow>,
     knowledge: &mut Knowledge,
     steps: &Steps,
     runs: &[RegionRun],
@@ -47,7 +47,7 @@ pub fn follow_runs(
 // Hands the first runs, as many as are of one region, to the links that read this region. Answers
 // how many they are.
 fn follow_first(
-    rows: &mut Vec<Vec<Link>>,
+    rows: &mut Vec<LinkRow>,
     knowledge: &mut Knowledge,
     steps: &Steps,
     runs: &[RegionRun],
@@ -75,7 +75,7 @@ fn follow_first(
         place,
     };
     let row = &mut rows[slot.0 as usize];
-    advance_all(knowledge, steps, &due, runs, row, found)?;
+    row.advance(knowledge, steps, &due, runs, found)?;
     Ok(count)
 }
 
@@ -100,32 +100,4 @@ fn is_of(region: RegionId, run: &RegionRun) -> bool
     ensures { IsTrue result ↔ run.now.region ≡ region }
 {
     run.region == region
-}
-
-// Hands the first runs of a list to the links that read their region.
-fn advance_all(
-    knowledge: &mut Knowledge,
-    steps: &Steps,
-    due: &Due,
-    runs: &[RegionRun],
-    row: &mut Vec<Link>,
-    found: &mut Vec<Run>,
-) -> Result<(), Memory>
-    requires sound { IsSound knowledge.old }
-    requires steps { steps.now ≡ knowledge.old.problem.graph }
-    requires due { AreDue knowledge.old due.now runs.now }
-    requires links { (l : _) → Contains row.old.items l → IsLinkOf knowledge.old.cut
-        knowledge.old.me due.now.region knowledge.old.problem.constraints l }
-    requires followed { (l : _) → Contains row.old.items l
-        → LacksOnly knowledge.old due.now runs.now l }
-    ensures grows { Grows knowledge.old knowledge.new }
-    ensures followed { OnOk result ((l : _) → Contains row.new.items l
-        → LacksOnly knowledge.new due.now (drop due.now.count runs.now) l) }
-    ensures same { map link_shape row.new.items ≡ map link_shape row.old.items }
-{
-    for number in 0..row.len() {
-        let link = &mut row[number];
-        advance(knowledge, steps, due, runs, link, found)?;
-    }
-    Ok(())
 }

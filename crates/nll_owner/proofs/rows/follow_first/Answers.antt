@@ -25,14 +25,14 @@ slot-slot-requires-clause-held c =
     has_held _ c.requires.sound (first d).region (first d).run.first
     (c.requires.held.has (first d) there (first d).run.first (omega arith, c.requires.held.proper (first d) there))
 
-pub advance_all-requires-clause-links : goal.advance_all-requires-clause-links
-advance_all-requires-clause-links c =
+pub advance-requires-clause-links : goal.advance-requires-clause-links
+advance-requires-clause-links c =
     row_links (λ row. row.items) c.args.rows.now.items c.args.place c.slot-slot.result _ c.args.runs.now
     c.args.knowledge.now c.index_mut-row.result.now
     c.requires.following c.slot-slot.ensures (rw c.slot.view_is at c.index_mut-row.ensures.value)
 
-pub advance_all-requires-clause-followed : goal.advance_all-requires-clause-followed
-advance_all-requires-clause-followed c =
+pub advance-requires-clause-followed : goal.advance-requires-clause-followed
+advance-requires-clause-followed c =
     row_followed (λ row. row.items) c.args.rows.now.items c.args.place c.slot-slot.result _ c.args.runs.now
     c.args.knowledge.now c.index_mut-row.result.now
     c.requires.following c.slot-slot.ensures (rw c.slot.view_is at c.index_mut-row.ensures.value)
@@ -43,5 +43,5 @@ returns-clause-following c =
     c.args.runs.now c.args.knowledge.now c.index_mut-row.result.now
     c.requires.following c.slot-slot.ensures (rw c.slot.view_is at c.index_mut-row.ensures.value)
     c.count_of-count.result c.count_of-count.ensures.bound c.count_of-count.ensures.same
-    c.advance_all.new.knowledge c.advance_all.ensures.grows c.advance_all.new.row c.advance_all.ensures.same
-    c.in_ok-advance_all.ensures.followed)
+    c.advance.new.knowledge c.advance.ensures.grows c.advance.new.self c.advance.ensures.same
+    c.in_ok-advance.ensures.followed)

@@ -3,7 +3,7 @@ use Rattle.nll_owner.specs.Keeping.{Grows}
 use Rattle.nll_owner.specs.Following.{IsFollowed, IsLeft, link_shape}
 use Rattle.nll_owner.specs.RegionRuns.{IsToldByRuns}
 use Rattle.nll_owner.specs.declared.link.Link.{Link}
-use Rattle.nll_owner.proofs.rows.advance_all.Given as goal
+use Rattle.nll_owner.proofs.link_row.advance_all.Given as goal
 
 -- The links before the number were handed the first runs, and those behind it are due them.
 abbrev pub invariant-loop-number : goal.invariant-loop-number

@@ -2,8 +2,8 @@ use Rattle.std.proofs.Common.{Contains, take, sym}
 use Rattle.std.proofs.lemmas.List.{take_more}
 use Rattle.std.proofs.lemmas.Result.{IfOk-from_err}
 use Rattle.nll_owner.proofs.LinkingLemmas.{place_below}
-use Rattle.nll_owner.proofs.link_table.row_of.Goals as goal
-use Rattle.nll_owner.proofs.link_table.row_of.Goals.{After-k-item}
+use Rattle.nll_owner.proofs.link_table.list_links.Goals as goal
+use Rattle.nll_owner.proofs.link_table.list_links.Goals.{After-k-item}
 
 there : (c : After-k-item) → Contains c.args.constraints.now c.k-item.result
 there c = (c.loop-k.k-index, c.loop-k-test.true, sym c.k-item.is)
@@ -27,24 +27,13 @@ loop-k-preserved c = record {
   fresh = c.in_ok-enter.ensures.fresh c.loop-k.invariant.fresh;
 }
 
-pub returns-in_err-row : goal.returns-in_err-row
-returns-in_err-row c =
+pub returns-in_err-enter : goal.returns-in_err-enter
+returns-in_err-enter c =
     let back = c.from_residual in
     record {
       links = IfOk-from_err back.result _ back.ensures.0;
       fresh = IfOk-from_err back.result _ back.ensures.0;
     }
-
-pub returns-in_err-enter : goal.returns-in_err-enter
-returns-in_err-enter c =
-    let back = c.from_residual-in_err-enter in
-    record {
-      links = IfOk-from_err back.result _ back.ensures.0;
-      fresh = IfOk-from_err back.result _ back.ensures.0;
-    }
-
-pub count_links-requires : goal.count_links-requires
-count_links-requires c = c.requires.sups
 
 pub returns-clause-fresh : goal.returns-clause-fresh
 returns-clause-fresh c = c.loop-k.invariant.fresh

@@ -1,6 +1,6 @@
 use Rattle.std.proofs.Common.{take}
 use Rattle.nll_owner.specs.Following.{AreLinksOf, AreFresh}
-use Rattle.nll_owner.proofs.link_table.row_of.Given as goal
+use Rattle.nll_owner.proofs.link_table.list_links.Given as goal
 
 abbrev pub invariant-loop-k : goal.invariant-loop-k
 invariant-loop-k l = record {
