@@ -1,7 +1,7 @@
 //! The frontiers of links.
 
 ghost use Rattle.std.specs.Prelude.{◌≡◌, ◌≤◌, ◌<◌, true, false, [], ◌∷◌, ◌++◌, ℕ, Contains, length};
-ghost use Rattle.std.specs.Prelude.{IfOk, OnOk};
+ghost use Rattle.std.specs.Prelude.{IfOk, OnOk, OnErr};
 ghost use Rattle.nll_problem.specs.Graph.{element_count};
 ghost use Rattle.nll_problem.specs.At.{IsAmong, at_rank};
 ghost use Rattle.nll_problem.specs.declared.at.At.{At as places};
@@ -14,6 +14,7 @@ use nll_problem::At;
 use nll_sets::{Memory, Run, RunSet};
 use std::alloc::Global;
 use std::marker::Model;
+use std::mem;
 
 /// The frontier of a link. Most links are of one constraint, and nothing is ever reached for it;
 /// until something is, the frontier is the place where the constraint holds. Contracts see all that
@@ -102,12 +103,22 @@ impl LinkFrontier {
             (ListsNew self.old.reached self.new.reached [] found.new.items) }
         ensures whole { OnOk result (self.new.refused ≡ false) }
     {
-        match &mut self.state {
-            State::Kept(frontier) => frontier.go_on(steps, inside, run, found),
+        let mut frontier = self.take(*found.allocator())?;
+        let told = frontier.go_on(steps, inside, run, found);
+        self.state = State::Kept(frontier);
+        told
+    }
+
+    // Takes the frontier out, one that takes memory.
+    fn take(&mut self, alloc: Global) -> Result<Box<Frontier>, Memory>
+        ensures ok { IfOk result (λ b. b.value ≡ self.old) }
+        ensures err { OnErr result (self.new ≡ self.old) }
+    {
+        match mem::replace(&mut self.state, State::Fresh(At::All)) {
+            State::Kept(frontier) => Ok(frontier),
             State::Fresh(at) => {
-                let kept = first_kept(*at, steps, inside, run, found)?;
-                self.state = State::Kept(kept);
-                Ok(())
+                self.state = State::Fresh(at);
+                Ok(Box::new(alloc, Frontier::new(alloc, at))?)
             }
         }
     }
@@ -132,32 +143,5 @@ fn is_outside(at: At, run: Run) -> bool
     match at {
         At::All => false,
         At::Point(point) => point < run.first || run.last < point,
-    }
-}
-
-// A frontier of one constraint that went on from a run of elements for the first time.
-fn first_kept(
-    at: At,
-    steps: &Steps,
-    inside: &RunSet,
-    run: Run,
-    found: &mut Vec<Run>,
-) -> Result<Box<Frontier>, Memory>
-    requires width { length inside.now ≡ element_count steps.now }
-    requires start { IsAmong steps.now.points at }
-    requires proper { run.first ≤ run.last }
-    requires run { AreIn inside.now run }
-    ensures starts { IfOk result (λ b. b.value.starts ≡ at ∷ []) }
-    ensures fits { IfOk result (λ b. length b.value.reached ≤ element_count steps.now) }
-    ensures reached { IfOk result
-        (λ b. GoesOn steps.now inside.now run (at ∷ []) [] b.value.reached) }
-    ensures found { IfOk result (λ b. ListsNew [] b.value.reached [] found.new.items) }
-    ensures whole { IfOk result (λ b. b.value.refused ≡ false) }
-{
-    let alloc = *found.allocator();
-    let mut frontier = Frontier::new(alloc, at);
-    match frontier.go_on(steps, inside, run, found) {
-        Ok(()) => Ok(Box::new(alloc, frontier)?),
-        Err(error) => Err(error),
     }
 }

@@ -51,10 +51,11 @@ pub struct Counts {
 /// the regions that this one reads.
 ///
 /// # Cost
-/// Besides lent tables: what the regions that it owns or reads hold, in runs, some 60 bytes for
-/// each of these regions, four for each region of the problem, 16 bytes for each growth of its log
-/// and of what it received, and a link for each pair of an own region and another one that it reads
-/// (not proved).
+/// Besides lent tables: what the regions that it owns or reads hold, in runs, some 75 bytes for
+/// each of these regions, two for each region of the problem, 16 bytes for each growth of its log
+/// and of what it received, and a link for each pair of an own region and another one that it
+/// reads: 24 bytes where more than one reads the same region, and some 100 more once the link has
+/// reached something (not proved).
 ///
 /// # Source
 /// RFC 2094, "Solving constraints"; that the regions are dealt to owners is project's choice.
