@@ -1,7 +1,7 @@
 //! The frontiers of links.
 
 ghost use Rattle.std.specs.Prelude.{◌≡◌, ◌≤◌, ◌<◌, true, false, [], ◌∷◌, ◌++◌, ℕ, Contains, length};
-ghost use Rattle.std.specs.Prelude.{IfOk, OnOk, OnErr};
+ghost use Rattle.std.specs.Prelude.{IfOk, OnOk};
 ghost use Rattle.nll_problem.specs.Graph.{element_count};
 ghost use Rattle.nll_problem.specs.At.{IsAmong, at_rank};
 ghost use Rattle.nll_problem.specs.declared.at.At.{At as places};
@@ -14,7 +14,6 @@ use nll_problem::At;
 use nll_sets::{Memory, Run, RunSet};
 use std::alloc::Global;
 use std::marker::Model;
-use std::mem;
 
 /// The frontier of a link. Most links are of one constraint, and nothing is ever reached for it;
 /// until something is, the frontier is the place where the constraint holds. Contracts see all that
@@ -103,23 +102,13 @@ impl LinkFrontier {
             (ListsNew self.old.reached self.new.reached [] found.new.items) }
         ensures whole { OnOk result (self.new.refused ≡ false) }
     {
-        let mut frontier = self.take(*found.allocator())?;
-        let told = frontier.go_on(steps, inside, run, found);
-        self.state = State::Kept(frontier);
-        told
-    }
-
-    // Takes the frontier out, one that takes memory.
-    fn take(&mut self, alloc: Global) -> Result<Box<Frontier>, Memory>
-        ensures ok { IfOk result (λ b. b.value ≡ self.old) }
-        ensures err { OnErr result (self.new ≡ self.old) }
-    {
-        match mem::replace(&mut self.state, State::Fresh(At::All)) {
-            State::Kept(frontier) => Ok(frontier),
-            State::Fresh(at) => {
-                self.state = State::Fresh(at);
-                Ok(Box::new(alloc, Frontier::new(alloc, at))?)
-            }
+        if let State::Fresh(at) = &self.state {
+            let alloc = *found.allocator();
+            self.state = State::Kept(Box::new(alloc, Frontier::new(alloc, *at))?);
+        }
+        match &mut self.state {
+            State::Kept(frontier) => frontier.go_on(steps, inside, run, found),
+            State::Fresh(_) => unreachable!(),
         }
     }
 }
