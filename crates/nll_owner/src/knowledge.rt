@@ -180,22 +180,11 @@ impl<'q> Knowledge<'q> {
         let clock = self.clock.max(growth.rank);
         let slot = self.slot(growth.region);
         let list = &mut self.received[from as usize];
-        make_room(list, 1)?;
+        make_room(list)?;
         self.values.insert(slot, growth.element)?;
         list.push_reserved(growth);
         self.clock = clock;
         Ok(())
-    }
-
-    // Makes room for so many growths more of an owner.
-    fn reserve_received(&mut self, from: u16, count: usize) -> Result<(), Memory>
-        ensures { self.new ≡ self.old }
-    {
-        if from as usize >= self.received.len() {
-            return Ok(());
-        }
-        let list = &mut self.received[from as usize];
-        make_room(list, count)
     }
 
     /// Puts growths of one owner into the copies of their regions and at the end of what was
@@ -214,7 +203,6 @@ impl<'q> Knowledge<'q> {
         ensures has { OnOk result (HasAllBeside growths.now self.old self.new) }
         ensures sound { IsSound self.new }
     {
-        self.reserve_received(from, growths.len())?;
         for growth in growths {
             self.enter_received(from, *growth)?;
         }
@@ -395,17 +383,17 @@ fn push_growths(log: &mut Vec<Growth>, region: RegionId, first: u32, count: u32,
     }
 }
 
-// Makes room for so many growths more at the end of a list, of which there are many and which only
-// grow: for a quarter of the list at least.
-fn make_room(list: &mut Vec<Growth>, more: usize) -> Result<(), Memory>
+// Makes room for a growth more at the end of a list, of which there are many and which only grow:
+// for a quarter of the list at once.
+fn make_room(list: &mut Vec<Growth>) -> Result<(), Memory>
     ensures items { list.new.items ≡ list.old.items }
-    ensures room { OnOk result (vec_len list.new + more ≤ vec_capacity list.new) }
+    ensures room { OnOk result (vec_len list.new + 1 ≤ vec_capacity list.new) }
 {
-    if list.capacity() - list.len() >= more {
+    if list.len() < list.capacity() {
         return Ok(());
     }
     let quarter = list.len() / 4;
-    list.reserve_exact(more.max(quarter).max(4))?;
+    list.reserve_exact(quarter.max(4))?;
     Ok(())
 }
 

@@ -1,7 +1,7 @@
 use Rattle.std.proofs.Common.{◌≡◌, ◌++◌, ◌+◌, ◌∷◌, [], List, Contains, take, refl, sym, ap, ◌∙◌, subst, arith}
 use Rattle.std.proofs.lemmas.List.{take_all}
 use Rattle.nll_mail.specs.declared.growth.Growth.{Growth}
-use Rattle.nll_owner.specs.Owner.{Owner, IsSound, Passes, with_growth, with_growths}
+use Rattle.nll_owner.specs.Owner.{Owner, Passes, with_growth, with_growths}
 use Rattle.nll_owner.specs.Keeping.{HasAllBeside}
 use Rattle.nll_owner.proofs.ReceivingLemmas.{with_none, with_more, take_next, got_first}
 use Rattle.nll_owner.proofs.ReceivingLemmas.{beside_none, beside_more, received_on, received_same}
@@ -9,28 +9,12 @@ use Rattle.nll_owner.proofs.knowledge.Knowledge.enter_all_received.Goals as goal
 use Rattle.nll_owner.proofs.knowledge.Knowledge.enter_all_received.Goals.{After-growth-item}
 
 pub loop-growth-init : goal.loop-growth-init
-loop-growth-init c =
-    let same = c.reserve_received.ensures in
-    record {
-      others = received_same c.args.self.now c.args.self.now c.reserve_received.new.self refl same;
-      received = ap (λ (o : Owner). o.received) same ∙ sym (with_none c.args.self.now.received c.args.from);
-      has = subst (λ (o : Owner). HasAllBeside [] c.args.self.now o) (sym same) (beside_none c.args.self.now);
-      sound = subst IsSound (sym same) c.requires.sound;
-    }
-
-pub returns-in_err-reserve_received-clause-others : goal.returns-in_err-reserve_received-clause-others
-returns-in_err-reserve_received-clause-others c =
-    received_same c.args.self.now c.args.self.now c.reserve_received.new.self refl c.reserve_received.ensures
-
-pub returns-in_err-reserve_received-clause-perhaps : goal.returns-in_err-reserve_received-clause-perhaps
-returns-in_err-reserve_received-clause-perhaps c =
-    got_first c.args.self.now.received c.args.from 0 c.args.growths.now c.reserve_received.new.self.received
-    (ap (λ (o : Owner). o.received) c.reserve_received.ensures
-    ∙ sym (with_none c.args.self.now.received c.args.from))
-
-pub returns-in_err-reserve_received-clause-sound : goal.returns-in_err-reserve_received-clause-sound
-returns-in_err-reserve_received-clause-sound c =
-    subst IsSound (sym c.reserve_received.ensures) c.requires.sound
+loop-growth-init c = record {
+  others = refl;
+  received = sym (with_none c.args.self.now.received c.args.from);
+  has = beside_none c.args.self.now;
+  sound = c.requires.sound;
+}
 
 there : (c : After-growth-item) → Contains c.args.growths.now c.growth-item.result
 there c = (c.loop-growth.growth-index, c.loop-growth-test.true, sym c.growth-item.is)
