@@ -1,20 +1,16 @@
 -- What the graph has after some of the points, and after all.
-use Rattle.std.proofs.Common.{◌≡◌, ℕ, ◌+◌, ◌<◌, ◌≤◌, List, [], Contains, length, Some, slice_get, inl, inr, refl, sym, ap, ◌∙◌, subst, ⊎_elim, arith, get_or, map}
+use Rattle.std.proofs.Common.{◌≡◌, ℕ, ◌+◌, ◌≤◌, List, [], Contains, length, Some, slice_get, inl, inr, refl, sym, ap, ◌∙◌, subst, ⊎_elim, arith, get_or}
 use Rattle.std.proofs.lemmas.Bool.{cases_lt}
-use Rattle.std.specs.Prelude.{option_map}
-use Rattle.std.proofs.lemmas.Option.{get_or_from_slice_get, slice_get_within, slice_get_read, slice_get-map}
+use Rattle.std.proofs.lemmas.Option.{get_or_from_slice_get, slice_get_within}
 use Rattle.std.proofs.lemmas.List.Sums.{sum_by_more, sum_by_more_le}
 use Rattle.nll_problem.specs.Graph.{Graph}
 use Rattle.nll_problem.specs.GraphBuilding.{bare_graph}
 use Rattle.nll_problem.specs.Limits.{most_edges}
 use Rattle.nll_types.specs.Types.{TypeTree}
-use Rattle.nll_types.specs.declared.ty.Ty.{Ty}
-use Rattle.nll_statements.specs.declared.statement.Statement.{Statement as Kept}
 use Rattle.nll_statements.specs.Statements.{Statement, return}
 use Rattle.nll_body.specs.Edges.{LeavesTo, edges_from, edge_count}
 use Rattle.nll_body.specs.Making.{AddsPoint, HasPoints}
 use Rattle.nll_body.specs.Bodies.{BodyText, IsGraphOf}
-use Rattle.nll_body.specs.Views.{meant}
 
 none_there : {X : Type 0} (x : X) → Contains [] x → ⊥
 none_there x h = absurd (omega (arith, h.1))
@@ -30,7 +26,8 @@ points_none starts count stand = record {
   counted = omega arith;
 }
 
-some_same : (i j : Statement ℕ TypeTree) → Some i ≡ Some j → i ≡ j
+-- one statement stands at a point
+pub some_same : (i j : Statement ℕ TypeTree) → Some i ≡ Some j → i ≡ j
 some_same i j h = cc
 
 -- one point more
@@ -100,14 +97,3 @@ graph_shown body graph has = record {
     λ h. (has.returns p).1 (slice_get_within body.points p return h, h),
   );
 }
-
--- what stands at a point of the code stands there as it is meant
-pub stands : (points : List (Kept ℕ Ty)) (k : ℕ) (x : Kept ℕ Ty) → k < length points → x ≡ get_or points k x
-    → slice_get (map meant points) k ≡ Some (meant x)
-stands points k x within is = slice_get-map meant points k
-    ∙ ap (option_map meant) (slice_get_read points (length points) k x refl within is)
-
--- and nothing else does
-pub stands_alone : (points : List (Kept ℕ Ty)) (k : ℕ) (x : Kept ℕ Ty) (i : Statement ℕ TypeTree) → k < length points
-    → x ≡ get_or points k x → slice_get (map meant points) k ≡ Some i → meant x ≡ i
-stands_alone points k x i within is at = some_same (meant x) i (sym (stands points k x within is) ∙ at)

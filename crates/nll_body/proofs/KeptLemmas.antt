@@ -11,14 +11,13 @@ use Rattle.nll_types.specs.Structs.{IsWellFormed}
 use Rattle.nll_types.specs.Views.{tree}
 use Rattle.nll_types.specs.declared.structs.Declaration.{Declaration}
 use Rattle.nll_types.specs.declared.ty.Ty.{Ty}
-use Rattle.nll_statements.specs.declared.statement.Statement.{Statement as Kept}
+use Rattle.nll_statements.specs.Statements.{Statement}
 use Rattle.nll_body.specs.Bodies.{BodyText, HasType, IsGraphOf}
 use Rattle.nll_body.specs.Kept.{kept_body, IsKept}
 use Rattle.nll_body.specs.Sound.{IsSound}
-use Rattle.nll_body.specs.Views.{meant}
 
 module _ (names : List (List ℕ)) (universals : ℕ) (outlives asserts : List (ℕ × ℕ)) (structs : List Declaration)
-    (variables : List Ty) (starts : List ℕ) (points : List (Kept ℕ Ty)) where
+    (variables : List Ty) (starts : List ℕ) (points : List (Statement ℕ TypeTree)) where
   -- the body of these parts
   abbrev made : BodyText
   made = record {
@@ -29,7 +28,7 @@ module _ (names : List (List ℕ)) (universals : ℕ) (outlives asserts : List (
     structs = structs_of structs;
     variables = map tree variables;
     starts = starts;
-    points = map meant points;
+    points = points;
   }
 
   pub kept_same : (labels : Labels) (graph : Graph) → labels ≡ record { names = names; points = blocks starts }
@@ -63,7 +62,7 @@ good_type body sound x t h =
 
 -- a type of the code is that of its variable
 pub typed : (labels : Labels) (outlives asserts : List (ℕ × ℕ)) (structs : List Declaration) (variables : List Ty)
-    (points : List (Kept ℕ Ty)) (graph : Graph) (body : BodyText)
+    (points : List (Statement ℕ TypeTree)) (graph : Graph) (body : BodyText)
     → kept_body labels outlives asserts structs variables points graph ≡ body → (x : ℕ) (t : Ty)
     → x < length body.variables → t ≡ get_or variables x t → HasType body x (tree t)
 typed labels outlives asserts structs variables points graph body is x t within at =

@@ -1,6 +1,5 @@
 pub mod EdgeLemmas
 pub mod PointLemmas
 pub mod GraphLemmas
-pub mod EffectLemmas
 pub mod KeptLemmas
 pub mod RangeLemmas

@@ -12,7 +12,7 @@ use Rattle.nll_statements.specs.Kept.{statement_of}
 use Rattle.nll_statements.specs.declared.statement.Statement.{Statement as Kept}
 use Rattle.nll_body.specs.Edges.{LeadsTo}
 use Rattle.nll_body.specs.Making.{AddsTargets, AddsEdges, AddsPoint}
-use Rattle.nll_body.specs.Views.{meant}
+use Rattle.nll_statement_list.specs.Views.{meant}
 use Rattle.nll_body.proofs.EdgeLemmas.{one_more, pair, pair_left, pair_right}
 
 -- other regions and types leave the end of a block as it is

@@ -4,7 +4,6 @@ use Rattle.std.specs.Prelude.{map}
 use Rattle.nll_types.specs.Declarations.{structs_of}
 use Rattle.nll_types.specs.Views.{tree}
 use Rattle.nll_body.specs.Bodies.{BodyText}
-use Rattle.nll_body.specs.Views.{meant}
 use Rattle.nll_body.specs.declared.parts.BodyParts.{BodyParts}
 
 -- the body of these parts
@@ -17,5 +16,5 @@ body_of p = record {
   structs = structs_of p.structs;
   variables = map tree p.variables.items;
   starts = p.starts.items;
-  points = map meant p.points.items;
+  points = p.points;
 }

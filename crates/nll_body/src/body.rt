@@ -11,17 +11,17 @@ ghost use Rattle.nll_types.specs.Types.{TypeTree, HasRegion};
 ghost use Rattle.nll_types.specs.Views.{tree};
 ghost use Rattle.nll_statements.specs.Effects.{variables_used, defined, dropped};
 ghost use Rattle.nll_statements.specs.Statements.{Statement as standing};
+ghost use Rattle.nll_statement_list.specs.Views.{meant};
 ghost use Rattle.nll_body.specs.Bodies.{HasType, IsGraphOf, StandsAt, labels_of};
 ghost use Rattle.nll_body.specs.Parts.{body_of};
 ghost use Rattle.nll_body.specs.Sound.{IsSound};
-ghost use Rattle.nll_body.specs.Views.{meant};
 
 use crate::edges::graph_of;
 use crate::parts::BodyParts;
-use crate::statement::Stmt;
 use nll_format::Labels;
 use nll_problem::{BuildError, Graph, RegionId};
 use nll_sets::Memory;
+use nll_statement_list::{StatementList, Stmt};
 use nll_types::{Place, Structs, Ty, place_type, types_of_places_are_well_formed};
 use std::alloc::Global;
 use std::marker::Model;
@@ -33,7 +33,7 @@ pub struct Body {
     asserts: Vec<(u32, u32)>,
     structs: Structs,
     variables: Vec<Ty>,
-    points: Vec<Stmt>,
+    points: StatementList,
     graph: Graph,
 }
 
@@ -54,9 +54,9 @@ impl Drop for Body {
 
 impl Model for Body {
     ghost use Rattle.std.specs.Coded.{codes, Coded};
+    ghost use Rattle.nll_statement_list.specs.TypeCodes.{Step, tree_code, trees_code};
     ghost use Rattle.nll_body.specs.Bodies.{BodyText};
     ghost use Rattle.nll_body.specs.Kept.{kept_body, IsKept};
-    ghost use Rattle.nll_body.specs.TypeCodes.{Step, tree_code, trees_code};
 
     ghost Value = { BodyText };
 
@@ -65,11 +65,11 @@ impl Model for Body {
 
     ghost view = { λ b.
         kept_body b.labels b.outlives.items b.asserts.items b.structs b.variables.items
-        b.points.items b.graph };
+        b.points b.graph };
 
     ghost invariant = { λ b. IsKept
         (kept_body b.labels b.outlives.items b.asserts.items b.structs b.variables.items
-        b.points.items b.graph)
+        b.points b.graph)
         b.labels b.graph };
 }
 
@@ -101,7 +101,7 @@ impl Body {
         ensures err { IfErr result (λ e. e ≡ BuildError.Memory) }
     {
         let starts = parts.starts.as_slice();
-        let told = graph_of(alloc, parts.universals, starts, parts.points.as_slice());
+        let told = graph_of(alloc, parts.universals, starts, &parts.points);
         match told {
             Ok(graph) => Ok(assembled(parts, graph)),
             Err(error) => {
@@ -199,12 +199,15 @@ impl Body {
         &self.structs
     }
 
-    /// The statement or terminator at a point.
-    pub fn line_at(&self, point: u32) -> &Stmt
+    /// The statement or terminator at a point, made anew.
+    ///
+    /// # Errors
+    /// `Memory` alone.
+    pub fn line_at(&self, alloc: Global, point: u32) -> Result<Stmt, Memory>
         requires { point < length self.now.points }
-        ensures { StandsAt self.now point (meant result.now) }
+        ensures { IfOk result (λ i. StandsAt self.now point (meant i)) }
     {
-        &self.points[point as usize]
+        self.points.statement(alloc, point as usize)
     }
 
     /// The type of a variable.
@@ -275,7 +278,7 @@ impl Body {
             → used.new.items ≡ used.old.items ++ variables_used i) }
         ensures begins { IsPrefix used.old.items used.new.items }
     {
-        self.points[point as usize].uses(used)
+        self.points.uses(point as usize, used)
     }
 
     /// The variable that is defined at a point.
@@ -286,7 +289,7 @@ impl Body {
         requires { point < length self.now.points }
         ensures { (i : standing ℕ TypeTree) → StandsAt self.now point i → result ≡ defined i }
     {
-        self.points[point as usize].defines()
+        self.points.defines(point as usize)
     }
 
     /// The variable that is dropped at a point.
@@ -294,6 +297,6 @@ impl Body {
         requires { point < length self.now.points }
         ensures { (i : standing ℕ TypeTree) → StandsAt self.now point i → result ≡ dropped i }
     {
-        self.points[point as usize].drops()
+        self.points.drops(point as usize)
     }
 }

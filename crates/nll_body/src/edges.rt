@@ -1,21 +1,22 @@
 //! The graph of a body: the edges that leave its points, and its return points.
 
-ghost use Rattle.std.specs.Prelude.{◌≡◌, ◌↔◌, ◌<◌, ◌≤◌, ◌+◌, ◌==◌, ℕ, [], length, map};
-ghost use Rattle.std.specs.Prelude.{Contains, IfErr, IfOk, OnOk, IsTrue};
+ghost use Rattle.std.specs.Prelude.{◌≡◌, ◌↔◌, ◌<◌, ◌≤◌, ◌+◌, ◌==◌, ℕ, [], length};
+ghost use Rattle.std.specs.Prelude.{Contains, IfErr, IfOk, OnOk, IsTrue, Some, slice_get, true};
 ghost use Rattle.indexmap.specs.IndexSet.{insert_all};
 ghost use Rattle.nll_problem.specs.Answers.{AddsFact};
 ghost use Rattle.nll_problem.specs.Graph.{IsNext};
 ghost use Rattle.nll_problem.specs.GraphBuilding.{bare_graph};
 ghost use Rattle.nll_problem.specs.Limits.{most_points, most_edges, most_universals};
 ghost use Rattle.nll_statements.specs.Effects.{targets};
-ghost use Rattle.nll_statements.specs.Statements.{return};
+ghost use Rattle.nll_statements.specs.Statements.{Statement as standing, is_terminator, return};
+ghost use Rattle.nll_types.specs.Types.{TypeTree};
 ghost use Rattle.nll_body.specs.Edges.{LeadsTo, LeavesTo, edges_from, edge_count};
 ghost use Rattle.nll_body.specs.Making.{AddsTargets, AddsEdges, AddsPoint};
 ghost use Rattle.nll_body.specs.Making.{AreBlocks, AreEnds, HasPoints};
-ghost use Rattle.nll_body.specs.Views.{meant};
+ghost use Rattle.nll_statement_list.specs.Views.{meant};
 
-use crate::statement::Stmt;
 use nll_problem::{BuildError, Graph, GraphBuilder};
+use nll_statement_list::{StatementList, Stmt};
 use nll_statements::Statement;
 use std::alloc::Global;
 
@@ -62,7 +63,7 @@ fn is_return(statement: &Stmt) -> bool
     }
 }
 
-// Adds the edges that leave a point. The list of blocks is for its own use.
+// Adds the edges that leave a terminator. The list of blocks is for its own use.
 fn add_edges(
     graph: &mut GraphBuilder,
     point: u32,
@@ -70,6 +71,7 @@ fn add_edges(
     starts: &[u32],
     blocks: &mut Vec<u32>,
 ) -> Result<(), BuildError>
+    requires terminator { is_terminator (meant statement.now) ≡ true }
     requires few { graph.old.points ≤ most_points }
     requires point { point < graph.old.points }
     requires blocks { (b : ℕ) → Contains (targets (meant statement.now)) b
@@ -81,58 +83,87 @@ fn add_edges(
         (AddsEdges starts.now point (meant statement.now) graph.old graph.new) }
     ensures err { IfErr result (λ e. e ≡ BuildError.Memory) }
 {
-    if !statement.is_terminator() {
-        return add_edge(graph, point, point + 1);
-    }
     blocks.clear();
     statement.targets(blocks)?;
     add_targets(graph, point, starts, blocks.as_slice())
 }
 
-// Adds what stands at a point.
-fn add_point(
+// Adds a terminator at a point.
+fn add_terminator(
     graph: &mut GraphBuilder,
     point: u32,
-    statement: &Stmt,
+    statement: Stmt,
     starts: &[u32],
     blocks: &mut Vec<u32>,
 ) -> Result<(), BuildError>
+    requires terminator { is_terminator (meant statement) ≡ true }
     requires few { graph.old.points ≤ most_points }
     requires point { point < graph.old.points }
-    requires blocks { (b : ℕ) → Contains (targets (meant statement.now)) b
+    requires blocks { (b : ℕ) → Contains (targets (meant statement)) b
         → b < length starts.now }
-    requires ends { (q : ℕ) → LeavesTo starts.now point (meant statement.now) q
+    requires ends { (q : ℕ) → LeavesTo starts.now point (meant statement) q
         → q < graph.old.points }
-    requires room { length graph.old.edges + edges_from (meant statement.now) ≤ most_edges }
+    requires room { length graph.old.edges + edges_from (meant statement) ≤ most_edges }
     ensures ok { OnOk result
-        (AddsPoint starts.now point (meant statement.now) graph.old graph.new) }
+        (AddsPoint starts.now point (meant statement) graph.old graph.new) }
     ensures err { IfErr result (λ e. e ≡ BuildError.Memory) }
 {
-    add_edges(graph, point, statement, starts, blocks)?;
-    if !is_return(statement) {
+    let returns = is_return(&statement);
+    let told = add_edges(graph, point, &statement, starts, blocks);
+    drop(statement);
+    told?;
+    if !returns {
         return Ok(());
     }
     graph.ret(point)
 }
 
+// Adds what stands at a point of a list. Only a terminator is made for it.
+fn add_next(
+    alloc: Global,
+    graph: &mut GraphBuilder,
+    point: u32,
+    starts: &[u32],
+    points: &StatementList,
+    blocks: &mut Vec<u32>,
+) -> Result<(), BuildError>
+    requires few { length points.now ≤ most_points }
+    requires same { graph.old.points ≡ length points.now }
+    requires point { point < length points.now }
+    requires blocks { AreBlocks (length starts.now) points.now }
+    requires ends { AreEnds starts.now points.now }
+    requires room { (i : standing ℕ TypeTree) → slice_get points.now point ≡ Some i
+        → length graph.old.edges + edges_from i ≤ most_edges }
+    ensures ok { OnOk result ((i : standing ℕ TypeTree) → slice_get points.now point ≡ Some i
+        → AddsPoint starts.now point i graph.old graph.new) }
+    ensures err { IfErr result (λ e. e ≡ BuildError.Memory) }
+{
+    if !points.is_terminator(point as usize) {
+        return add_edge(graph, point, point + 1);
+    }
+    let statement = points.statement(alloc, point as usize)?;
+    add_terminator(graph, point, statement, starts, blocks)
+}
+
 // Adds what stands at each of the points to a graph that has nothing but so many points.
 fn add_points(
+    alloc: Global,
     graph: &mut GraphBuilder,
     starts: &[u32],
-    points: &[Stmt],
+    points: &StatementList,
     blocks: &mut Vec<u32>,
 ) -> Result<(), BuildError>
     requires bare { graph.old ≡ bare_graph (length points.now) graph.old.universals }
     requires few { length points.now ≤ most_points }
-    requires blocks { AreBlocks (length starts.now) (map meant points.now) }
-    requires ends { AreEnds starts.now (map meant points.now) }
-    requires room { edge_count (map meant points.now) ≤ most_edges }
-    ensures ok { OnOk result (HasPoints starts.now graph.old.universals (map meant points.now)
+    requires blocks { AreBlocks (length starts.now) points.now }
+    requires ends { AreEnds starts.now points.now }
+    requires room { edge_count points.now ≤ most_edges }
+    ensures ok { OnOk result (HasPoints starts.now graph.old.universals points.now
         (length points.now) graph.new) }
     ensures err { IfErr result (λ e. e ≡ BuildError.Memory) }
 {
     for point in 0..points.len() {
-        add_point(graph, point as u32, &points[point], starts, blocks)?;
+        add_next(alloc, graph, point as u32, starts, points, blocks)?;
     }
     Ok(())
 }
@@ -146,22 +177,22 @@ pub(crate) fn graph_of(
     alloc: Global,
     universals: u32,
     starts: &[u32],
-    points: &[Stmt],
+    points: &StatementList,
 ) -> Result<Graph, BuildError>
     requires some { 0 < length points.now }
     requires few { length points.now ≤ most_points }
     requires some_universal { 0 < universals }
     requires few_universals { universals ≤ most_universals }
-    requires blocks { AreBlocks (length starts.now) (map meant points.now) }
-    requires ends { AreEnds starts.now (map meant points.now) }
-    requires room { edge_count (map meant points.now) ≤ most_edges }
-    ensures ok { IfOk result (λ g. HasPoints starts.now universals (map meant points.now)
+    requires blocks { AreBlocks (length starts.now) points.now }
+    requires ends { AreEnds starts.now points.now }
+    requires room { edge_count points.now ≤ most_edges }
+    ensures ok { IfOk result (λ g. HasPoints starts.now universals points.now
         (length points.now) g) }
     ensures err { IfErr result (λ e. e ≡ BuildError.Memory) }
 {
     let mut graph = GraphBuilder::new(alloc, points.len() as u32, universals)?;
     let mut blocks = Vec::new(alloc);
-    let told = add_points(&mut graph, starts, points, &mut blocks);
+    let told = add_points(alloc, &mut graph, starts, points, &mut blocks);
     drop(blocks);
     match told {
         Ok(()) => Ok(graph.finish()),

@@ -1,13 +1,12 @@
 //! Bodies: what a MIR text means. It knows no text.
 //!
-//! Reading order: `statement`, `parts`, `body`, `edges`. The definitions are in specs/.
+//! Reading order: `parts`, `body`, `edges`. The definitions are in specs/.
 #![tactic(auto)]
 
 mod body;
 mod edges;
 mod parts;
-mod statement;
 
 pub use body::Body;
+pub use nll_statement_list::Stmt;
 pub use parts::BodyParts;
-pub use statement::Stmt;

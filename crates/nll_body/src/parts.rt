@@ -1,7 +1,7 @@
 //! What a reader gathers for a body.
 
-use crate::statement::Stmt;
 use nll_format::Names;
+use nll_statement_list::StatementList;
 use nll_types::{Structs, Ty};
 
 /// The parts of a body.
@@ -21,5 +21,5 @@ pub struct BodyParts {
     /// The first point of each block.
     pub starts: Vec<u32>,
     /// What stands at each point.
-    pub points: Vec<Stmt>,
+    pub points: StatementList,
 }

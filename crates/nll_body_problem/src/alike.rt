@@ -2,7 +2,6 @@
 //! same types, and for where calls go on.
 
 ghost use Rattle.std.specs.Prelude.{◌≡◌, IsTrue, List};
-ghost use Rattle.nll_body.specs.Views.{meant};
 ghost use Rattle.nll_statements.specs.Kept.{made_of, call_of};
 ghost use Rattle.nll_statements.specs.Statements.{assign, borrow, map_statement};
 ghost use Rattle.nll_types.specs.Operands.{operand_of, operand_type};
@@ -10,6 +9,7 @@ ghost use Rattle.nll_types.specs.Places.{path_of, type_of};
 ghost use Rattle.nll_types.specs.Structs.{Struct};
 ghost use Rattle.nll_types.specs.Types.{TypeTree};
 ghost use Rattle.nll_types.specs.Views.{tree};
+ghost use Rattle.nll_statement_list.specs.Views.{meant};
 ghost use Rattle.nll_body_problem.specs.Known.{AreAlike, AreKinds, AreLikeArguments};
 ghost use Rattle.nll_body_problem.specs.Known.{AreLikeOperands, AreOfOneType, AskTheSame};
 

@@ -3,6 +3,8 @@
 
 ghost use Rattle.std.specs.Prelude.{◌≡◌, ◌<◌, ℕ, [], Contains, IfErr, OnOk, length};
 ghost use Rattle.nll_problem.specs.At.{IsAmong};
+ghost use Rattle.nll_statement_list.specs.Views.{meant};
+ghost use Rattle.nll_body.specs.Bodies.{StandsAt};
 ghost use Rattle.nll_body.specs.Sound.{IsSound};
 ghost use Rattle.nll_body_problem.specs.Adding.{AddsConstraints, AreRegions, IsRefused};
 ghost use Rattle.nll_body_problem.specs.Adding.{IsOfPair, IsOfPairs, IsOfPairsEverywhere};
@@ -13,7 +15,7 @@ ghost use Rattle.nll_body_problem.specs.Known.{AreAskedAt, AreKinds, AreKnown};
 use crate::kinds::kinds_of;
 use crate::known::{Known, find, keep_once, nothing_known, remember};
 use crate::survey::Survey;
-use nll_body::Body;
+use nll_body::{Body, Stmt};
 use nll_problem::{At, BuildError, Constraint, ProblemBuilder, RegionId};
 use nll_rules::{Variables, asks, region_free};
 use std::alloc::Global;
@@ -131,11 +133,47 @@ fn add_next(
     ensures known { OnOk result (AreKnown survey.now.body.now known.new.entries.items) }
     ensures err { IfErr result (IsRefused (IsAskedAt survey.now.body.now point) builder.old) }
 {
-    if let Some(pairs) = find(known, survey, point) {
+    let statement = survey.body.line_at(alloc, point)?;
+    let told = add_standing(alloc, survey, point, &statement, known, asked, builder);
+    drop(statement);
+    told
+}
+
+// Adds what a statement or terminator asks that stands at a point. The list is for its own use.
+fn add_standing(
+    alloc: Global,
+    survey: &Survey<'_>,
+    point: u32,
+    statement: &Stmt,
+    known: &mut Known,
+    asked: &mut Vec<(RegionId, RegionId)>,
+    builder: &mut ProblemBuilder,
+) -> Result<(), BuildError>
+    requires sound { IsSound survey.now.body.now }
+    requires kinds { AreKinds survey.now.body.now.variables survey.now.kinds.now }
+    requires point { point < length survey.now.body.now.points }
+    requires statement { StandsAt survey.now.body.now point (meant statement.now) }
+    requires known { AreKnown survey.now.body.now known.old.entries.items }
+    requires points { builder.old.graph.points ≡ length survey.now.body.now.points }
+    requires regions { builder.old.regions ≡ length survey.now.body.now.names }
+    ensures ok { OnOk result
+        (AddsConstraints (IsAskedAt survey.now.body.now point) builder.old builder.new) }
+    ensures known { OnOk result (AreKnown survey.now.body.now known.new.entries.items) }
+    ensures err { IfErr result (IsRefused (IsAskedAt survey.now.body.now point) builder.old) }
+{
+    if let Some(pairs) = find(alloc, known, survey, point, statement)? {
         return add_known(survey.body, point, pairs, builder);
     }
-    let many = add_point(alloc, survey, point, asked, builder)?;
-    remember(alloc, known, survey, point, many, asked.as_slice())?;
+    let many = add_point(alloc, survey, point, statement, asked, builder)?;
+    remember(
+        alloc,
+        known,
+        survey,
+        point,
+        statement,
+        many,
+        asked.as_slice(),
+    )?;
     Ok(())
 }
 
@@ -163,11 +201,13 @@ fn add_point(
     alloc: Global,
     survey: &Survey<'_>,
     point: u32,
+    statement: &Stmt,
     asked: &mut Vec<(RegionId, RegionId)>,
     builder: &mut ProblemBuilder,
 ) -> Result<bool, BuildError>
     requires sound { IsSound survey.now.body.now }
     requires point { point < length survey.now.body.now.points }
+    requires statement { StandsAt survey.now.body.now point (meant statement.now) }
     requires points { builder.old.graph.points ≡ length survey.now.body.now.points }
     requires regions { builder.old.regions ≡ length survey.now.body.now.names }
     ensures ok { OnOk result
@@ -182,7 +222,7 @@ fn add_point(
         types: body.variable_types(),
         region_free: survey.region_free,
     };
-    asks(alloc, &variables, body.line_at(point), asked)?;
+    asks(alloc, &variables, statement, asked)?;
     let many = keep_once(asked);
     add_pairs(builder, body.graph().next_of(point), asked.as_slice())?;
     Ok(many)

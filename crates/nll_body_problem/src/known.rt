@@ -1,7 +1,9 @@
 //! What statements were found to ask, so that it isn't worked out again where others ask the same.
 
-ghost use Rattle.std.specs.Prelude.{◌≡◌, ◌<◌, ◌++◌, ◌∷◌, [], MatchOption, OnOk, length};
+ghost use Rattle.std.specs.Prelude.{◌≡◌, ◌<◌, ◌++◌, ◌∷◌, [], IfOk, MatchOption, OnOk, length};
 ghost use Rattle.nll_problem.specs.Problem.{SameSet};
+ghost use Rattle.nll_statement_list.specs.Views.{meant};
+ghost use Rattle.nll_body.specs.Bodies.{StandsAt};
 ghost use Rattle.nll_body_problem.specs.Known.{AreAskedAt, AreKinds, AreKnown};
 ghost use Rattle.nll_body_problem.specs.declared.known.Entry.{Entry as entry};
 
@@ -77,32 +79,36 @@ fn hint(known: &Known, survey: &Survey<'_>, statement: &Stmt) -> usize {
     }
 }
 
-/// The pairs that what stands at a point asks, where they are known of a point with a statement
-/// like it.
+/// The pairs that a statement or terminator asks that stands at a point, where they are known of a
+/// point with one like it.
 pub(crate) fn find<'a>(
+    alloc: Global,
     known: &'a Known,
     survey: &Survey<'_>,
     point: u32,
-) -> Option<&'a [(RegionId, RegionId)]>
+    statement: &Stmt,
+) -> Result<Option<&'a [(RegionId, RegionId)]>, Memory>
     requires known { AreKnown survey.now.body.now known.now.entries.items }
     requires kinds { AreKinds survey.now.body.now.variables survey.now.kinds.now }
-    requires point { point < length survey.now.body.now.points }
-    ensures { MatchOption result Unit (λ pairs. AreAskedAt survey.now.body.now point pairs.now) }
+    requires statement { StandsAt survey.now.body.now point (meant statement.now) }
+    ensures { IfOk result (λ found. MatchOption found Unit
+        (λ pairs. AreAskedAt survey.now.body.now point pairs.now)) }
 {
     if known.entries.is_empty() {
-        return None;
+        return Ok(None);
     }
-    let body = survey.body;
-    let statement = body.line_at(point);
     let place = hint(known, survey, statement);
     if place >= known.entries.len() {
-        return None;
+        return Ok(None);
     }
     let entry = &known.entries[place];
-    if is_alike(survey.kinds, body.line_at(entry.point), statement) {
-        Some(entry.pairs.as_slice())
+    let other = survey.body.line_at(alloc, entry.point)?;
+    let alike = is_alike(survey.kinds, &other, statement);
+    drop(other);
+    if alike {
+        Ok(Some(entry.pairs.as_slice()))
     } else {
-        None
+        Ok(None)
     }
 }
 
@@ -124,13 +130,14 @@ fn push(
     Ok(())
 }
 
-/// Adds the pairs that what stands at a point asks, where they may be asked again and it is costly
-/// to work them out.
+/// Adds the pairs that a statement or terminator at a point asks, where they may be asked again and
+/// it is costly to work them out.
 pub(crate) fn remember(
     alloc: Global,
     known: &mut Known,
     survey: &Survey<'_>,
     point: u32,
+    statement: &Stmt,
     many: bool,
     asked: &[(RegionId, RegionId)],
 ) -> Result<(), Memory>
@@ -139,7 +146,6 @@ pub(crate) fn remember(
     requires asked { AreAskedAt survey.now.body.now point asked.now }
     ensures { OnOk result (AreKnown survey.now.body.now known.new.entries.items) }
 {
-    let statement = survey.body.line_at(point);
     if !many && !goes_by_field(statement) {
         return Ok(());
     }

@@ -146,7 +146,9 @@ fn write_statement(rt: &impl Abort, alloc: Global, out: &mut String, statement: 
 // The same of the first point of a body.
 fn write_first(rt: &impl Abort, alloc: Global, out: &mut String, body: &Body) {
     if body.points() != 0 {
-        write_statement(rt, alloc, out, body.line_at(0));
+        let statement = body.line_at(alloc, 0).expect(rt, "memory");
+        write_statement(rt, alloc, out, &statement);
+        drop(statement);
     }
 }
 

@@ -8,11 +8,10 @@ use Rattle.std.proofs.lemmas.List.{append-nil, map_push}
 use Rattle.std.proofs.lemmas.List.Folds.{list_all-append}
 use Rattle.nll_format.specs.Names.{number_of}
 use Rattle.nll_types.specs.Types.{TypeTree}
-use Rattle.nll_types.specs.Places.{PlacePath, path_of}
+use Rattle.nll_types.specs.Places.{path_of}
 use Rattle.nll_types.specs.Operands.{Operand}
 use Rattle.nll_types.specs.Views.{tree}
 use Rattle.nll_types.specs.declared.operand.Operand.{Operand as KeptOperand}
-use Rattle.nll_types.specs.declared.ty.Ty.{Ty}
 use Rattle.nll_type_grammar.specs.WrittenTypes.{Name, WrittenType}
 use Rattle.nll_type_grammar.specs.TypeTexts.{written}
 use Rattle.nll_type_grammar.specs.declared.type_text.TypeNode.{TypeNode}
@@ -21,7 +20,7 @@ use Rattle.nll_statements.specs.Kept.{arguments_of, call_of}
 use Rattle.nll_statements.specs.declared.statement.Call.{Call}
 use Rattle.nll_resolve.specs.Naming.{Scope, is_among, is_known, has_arguments, meant}
 use Rattle.nll_resolve.specs.Resolution.{Resolved, IsResolved, tree_of}
-use Rattle.nll_mir_text.specs.ResolvedStatements.{bound_numbers, is_bound, argument_kept, argument_in, argument_resolved, as_resolved, has_names, AreAmid, AreOfArguments, IsOfStatement}
+use Rattle.nll_mir_text.specs.ResolvedStatements.{bound_numbers, is_bound, argument_in, argument_resolved, has_names, AreAmid, AreOfArguments, IsOfStatement}
 
 and_true : (b : Bool) → (b && true) ≡ b
 and_true true = refl
@@ -46,11 +45,6 @@ pub same_types : {X : Type 0} (args : List (KeptOperand × X))
 same_types [] = refl
 same_types (a ∷ args) = ap (λ ts. a.1 ∷ ts) (same_types args)
 
-arguments_fused : (args : List (KeptOperand × Ty))
-    → map {B = Operand × TypeTree} (λ a. (a.0, tree a.1)) (arguments_of args) ≡ map argument_kept args
-arguments_fused [] = refl
-arguments_fused (a ∷ args) = ap (λ bs. argument_kept a ∷ bs) (arguments_fused args)
-
 resolved_fused : (args : List (KeptOperand × Resolved))
     → map {B = Operand × TypeTree} (λ a. (a.0, tree_of a.1)) (arguments_of args) ≡ map argument_resolved args
 resolved_fused [] = refl
@@ -71,25 +65,6 @@ bounds_fused : (names : List Name) (ws : List (Bor (List ℕ) × Bor (List ℕ))
     (map {B = Name × Name} (λ w. (w.0.now, w.1.now)) ws) ≡ map (bound_numbers names) ws
 bounds_fused names [] = refl
 bounds_fused names (w ∷ ws) = ap (λ vs. bound_numbers names w ∷ vs) (bounds_fused names ws)
-
--- ---- what a call means
-
--- a call that is made of the parts of another, which lacked no memory, means what it is
-pub call_told : {E : Type 0} (made : Call ℕ Ty) (other : Call ℕ Resolved)
-    (arguments : Result (Vec (KeptOperand × Ty)) E) (type : Result Ty E)
-    → made.place ≡ other.place
-    → arguments ≡ Ok made.arguments → IfOk arguments
-    (λ v. map argument_kept v.items ≡ map argument_resolved other.arguments.items)
-    → type ≡ Ok made.result → IfOk type (λ t. tree t ≡ tree_of other.result)
-    → made.wheres ≡ other.wheres → made.target ≡ other.target → made.unwind ≡ other.unwind
-    → map_statement (λ r. r) tree (call_of made) ≡ as_resolved (call_of other)
-call_told made other arguments type place some_arguments all_arguments some_type of_type wheres target unwind =
-    let arguments_same : map argument_kept made.arguments.items ≡ map argument_resolved other.arguments.items =
-    rw some_arguments at all_arguments in
-    let type_same : tree made.result ≡ tree_of other.result = rw some_type at of_type in
-    let all = arguments_fused made.arguments.items ∙ (arguments_same ∙ sym (resolved_fused other.arguments.items)) in
-    let where_same = ap (λ (p : PlacePath). p) (ap path_of place) in
-    rw (wheres, target, unwind, ap path_of place, all, type_same) refl
 
 -- ---- names in calls
 

@@ -33,6 +33,7 @@ module _ (r : Reader) (t : Tables) (grows : AddsShapes r.variables.table t) wher
     no_start = h.no_start;
     starts = h.starts;
     few_points = h.few_points;
+    counted_points = h.counted_points;
     edges = h.edges;
     few_edges = h.few_edges;
   }

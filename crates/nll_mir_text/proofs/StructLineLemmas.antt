@@ -160,6 +160,7 @@ module _ (r : Reader) (own : OwnNames) (text : StructText) (due : IsDue r (struc
           no_start = λ _. due.ready.no_start (omega (arith, due.follows));
           starts = due.ready.starts;
           few_points = due.ready.few_points;
+          counted_points = due.ready.counted_points;
           edges = due.ready.edges;
           few_edges = due.ready.few_edges;
         };

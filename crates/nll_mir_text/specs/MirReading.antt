@@ -6,7 +6,6 @@ use Rattle.std.specs.List.{AllByRecursion}
 use Rattle.std.specs.Str.{IsUtf8}
 use Rattle.nll_problem.specs.Limits.{most_points, most_edges, most_universals, most_regions}
 use Rattle.nll_problem.specs.Limits.{most_variables, most_structs, most_bytes}
-use Rattle.nll_types.specs.Types.{TypeTree}
 use Rattle.nll_types.specs.Shapes.{shape_of}
 use Rattle.nll_types.specs.Table.{shape_in, AreBelow}
 use Rattle.nll_types.specs.Declarations.{structs_of}
@@ -14,10 +13,8 @@ use Rattle.nll_types.specs.Structs.{Struct, struct_at}
 use Rattle.nll_types.specs.Views.{tree}
 use Rattle.nll_types.specs.declared.node.Node.{Node}
 use Rattle.nll_types.specs.declared.ty.Ty.{Ty}
-use Rattle.nll_statements.specs.Statements.{Statement, is_terminator, map_statement}
+use Rattle.nll_statements.specs.Statements.{Statement, is_terminator}
 use Rattle.nll_statements.specs.Edges.{edges_from, edge_count}
-use Rattle.nll_statements.specs.Kept.{statement_of}
-use Rattle.nll_statements.specs.declared.statement.Statement.{Statement as Kept}
 use Rattle.nll_text.specs.Lines.{lines_of}
 use Rattle.nll_format.specs.Text.{IsText, IsHeaded}
 use Rattle.nll_format.specs.Lines.{IsAmidWith}
@@ -40,10 +37,6 @@ use Rattle.nll_mir_text.specs.declared.reader.Reader.{Reader}
 
 -- ---- what a reader holds
 
--- a statement of the code, with its types as trees
-abbrev pub statement_kept : Kept ℕ Ty → Statement ℕ TypeTree
-statement_kept i = map_statement (λ r. r) tree (statement_of i)
-
 -- what names mean in the types of variables and of statements
 abbrev pub scope_in : Regions → StructNames → Scope
 scope_in regions structs = record {
@@ -65,7 +58,7 @@ said_by r = record {
   variables = map tree r.variables.types.items;
   blocks = r.points.blocks;
   starts = r.points.starts.items;
-  points = map statement_kept r.points.statements.items;
+  points = r.points.statements;
   owes = r.points.owes;
 }
 
@@ -114,8 +107,9 @@ pub record IsReady (r : Reader) : Type 0 where
   pub few_blocks : r.points.blocks ≤ most_points
   pub no_start : rank r.reached < 7 → length r.points.starts.items ≡ 0
   pub starts : length r.points.starts.items ≤ r.points.blocks
-  pub few_points : length r.points.statements.items ≤ most_points
-  pub edges : r.points.edges ≡ edge_count (map statement_kept r.points.statements.items)
+  pub few_points : length r.points.statements ≤ most_points
+  pub counted_points : r.points.count ≡ length r.points.statements
+  pub edges : r.points.edges ≡ edge_count r.points.statements
   pub few_edges : r.points.edges ≤ most_edges
 
 -- ---- one line
@@ -161,7 +155,7 @@ pub record IsAdmitted (s : Said) (i : Statement Name WrittenType) (a : Admitted)
   pub fine : first_fault s (at_point i) ≡ None
   pub same : said_by r ≡ s
   pub ready : IsReady r
-  pub few : length r.points.statements.items < most_points
+  pub few : length r.points.statements < most_points
   pub counted : a.edges ≡ r.points.edges + edges_from i
   pub few_edges : a.edges ≤ most_edges
   pub ends : a.ends ≡ is_terminator i

@@ -1,6 +1,6 @@
 -- What is judged of the statements of a body.
 -- Source: project's choice. Only private contracts cite this file.
-use Rattle.std.specs.Prelude.{◌≡◌, ℕ, ◌<◌, Bool, true, false, ◌&&◌, List, [], ◌++◌, map, length}
+use Rattle.std.specs.Prelude.{◌≡◌, ℕ, ◌<◌, ◌^◌, Bool, true, false, ◌&&◌, List, [], ◌++◌, map, length}
 use Rattle.std.specs.List.{list_all}
 use Rattle.std.specs.Borrow.{Bor}
 use Rattle.nll_format.specs.Names.{number_of}
@@ -14,13 +14,14 @@ use Rattle.nll_types.specs.Views.{tree}
 use Rattle.nll_types.specs.declared.judgement.Judgement.{Judgement}
 use Rattle.nll_types.specs.declared.node.Node.{Node}
 use Rattle.nll_types.specs.declared.operand.Operand.{Operand as KeptOperand}
-use Rattle.nll_types.specs.declared.ty.Ty.{Ty}
 use Rattle.nll_type_grammar.specs.WrittenTypes.{Name, WrittenType}
 use Rattle.nll_type_grammar.specs.TypeTexts.{written}
 use Rattle.nll_type_grammar.specs.declared.type_text.TypeNode.{TypeNode}
-use Rattle.nll_statements.specs.Statements.{Statement, map_statement, types_written}
+use Rattle.nll_statements.specs.Statements.{Statement, is_terminator, map_statement, types_written}
+use Rattle.nll_statements.specs.Edges.{edges_from}
 use Rattle.nll_statements.specs.Written.{regions_written}
 use Rattle.nll_statements.specs.Kept.{statement_of}
+use Rattle.nll_statements.specs.declared.edges.Exits.{Exits}
 use Rattle.nll_statements.specs.declared.statement.Statement.{Statement as Kept}
 use Rattle.nll_resolve.specs.Naming.{Scope, is_among, is_known, has_arguments, meant}
 use Rattle.nll_resolve.specs.Resolution.{Resolved, tree_of}
@@ -87,10 +88,6 @@ pub record AreAmid (s : Scope) (all left : List (KeptOperand × List TypeNode))
 abbrev pub bound_numbers : List Name → Bor (List ℕ) × Bor (List ℕ) → ℕ × ℕ
 bound_numbers names w = (number_of names w.0.now, number_of names w.1.now)
 
--- an argument of a call of the code, with its type as a tree
-abbrev pub argument_kept : KeptOperand × Ty → Operand × TypeTree
-argument_kept a = (operand_of a.0, tree a.1)
-
 -- both names of a bound are among these
 abbrev pub is_bound : List Name → Bor (List ℕ) × Bor (List ℕ) → Bool
 is_bound names w = is_among names w.0.now && is_among names w.1.now
@@ -138,3 +135,10 @@ pub record IsOfPoint (s : Said) (i : Statement Name WrittenType) (j : Judgement)
   pub fits : j.fits ≡ shapes_fit s i
   pub fits_small : j.fits ≡ true
       → j.small ≡ types_are_small s.structs s.variables (statement_meant s i)
+
+-- It tells whether the block ends with the statement, and how many edges leave the point where it
+-- stands.
+pub record AreExits {R T : Type 0} (e : Exits) (i : Statement R T) : Type 0 where
+  pub ends : e.ends ≡ is_terminator i
+  pub edges : e.edges ≡ edges_from i
+  pub few : e.edges < 2 ^ 63

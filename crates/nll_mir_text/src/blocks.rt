@@ -11,12 +11,11 @@ ghost use Rattle.nll_mir_text.specs.MirReading.{said_by, IsAdmitted, IsDue, IsRe
 ghost use Rattle.nll_mir_text.specs.MirReading.{IsTaken, IsRefused};
 ghost use Rattle.nll_mir_text.specs.ResolvedLines.{IsPlaced};
 ghost use Rattle.nll_mir_text.specs.MirSteps.{statement_meant};
-ghost use Rattle.nll_mir_text.specs.ResolvedStatements.{as_resolved, IsOfPoint};
+ghost use Rattle.nll_mir_text.specs.ResolvedStatements.{as_resolved, AreExits, IsOfPoint};
 ghost use Rattle.nll_mir_grammar.specs.declared.line.Line.TheVariants as lines;
 
 use crate::groups::Group;
-use crate::meant_statement::statement_meant;
-use crate::next_point::{Admitted, add_point, judge_point};
+use crate::next_point::{Admitted, JudgedPoint, add_point, judge_point};
 use crate::ranges::targets_are_blocks;
 use crate::reader::Reader;
 use crate::resolution::resolve_statement;
@@ -26,7 +25,6 @@ use nll_resolve::ResolvedType;
 use nll_sets::Memory;
 use nll_statements::Statement;
 use nll_type_grammar::TypeText;
-use nll_types::Judgement;
 
 impl Reader {
     /// Begins a block.
@@ -38,7 +36,7 @@ impl Reader {
         if number as usize != self.points.starts.len() || number >= self.points.blocks {
             return Err(TextKind::Range);
         }
-        let start = self.points.statements.len() as u32;
+        let start = self.points.count as u32;
         self.points.starts.push(start)?;
         self.points.owes = true;
         self.reached = Group::Blocks;
@@ -62,40 +60,42 @@ impl Reader {
     // What there is with a statement, unless it has a fault by what was judged of it.
     fn admit_judged(
         &self,
-        judged: Judgement,
+        judged: JudgedPoint,
         statement: &Statement<RegionId, ResolvedType>,
     ) -> Result<Admitted, TextKind>
-        requires { IsReady self.now }
+        requires ready { IsReady self.now }
+        requires exits { AreExits judged.exits (statement_of statement.now) }
         ensures admitted { IfOk result (λ a. (i : written_statement Name WrittenType)
-            → IsPlaced self.now i statement.now → IsOfPoint (said_by self.now) i judged
+            → IsPlaced self.now i statement.now
+            → IsOfPoint (said_by self.now) i judged.judgement
             → IsAdmitted (said_by self.now) i a self.now) }
         ensures refused { IfErr result (λ kind. (i : written_statement Name WrittenType)
-            → IsPlaced self.now i statement.now → IsOfPoint (said_by self.now) i judged
+            → IsPlaced self.now i statement.now
+            → IsOfPoint (said_by self.now) i judged.judgement
             → IsRefused (said_by self.now) (forms.at_point i) kind) }
     {
-        if !judged.declared {
+        if !judged.judgement.declared {
             return Err(TextKind::Unknown);
         }
         if !targets_are_blocks(self.points.blocks, statement) {
             return Err(TextKind::Range);
         }
-        if !judged.fits {
+        if !judged.judgement.fits {
             return Err(TextKind::Shape);
         }
-        if !judged.small {
+        if !judged.judgement.small {
             return Err(TextKind::TypeSize);
         }
-        if self.points.statements.len() >= MAX_POINTS as usize {
+        if self.points.count >= MAX_POINTS as usize {
             return Err(TextKind::Limit(Kind::Points));
         }
-        let exits = statement.exits(self.alloc)?;
-        let edges = self.points.edges + exits.edges;
+        let edges = self.points.edges + judged.exits.edges;
         if edges > MAX_EDGES {
             return Err(TextKind::Limit(Kind::Edges));
         }
         Ok(Admitted {
             edges,
-            ends: exits.ends,
+            ends: judged.exits.ends,
         })
     }
 
@@ -124,8 +124,7 @@ impl Reader {
             → as_resolved (statement_of statement) ≡ statement_meant (said_by self.old) i
             → IsTaken (said_by self.old) (forms.at_point i) self.new) }
     {
-        let meant = statement_meant(self.alloc, statement)?;
-        add_point(&mut self.points, meant, admitted)?;
+        add_point(&mut self.points, statement, admitted)?;
         self.reached = Group::Blocks;
         Ok(())
     }

@@ -11,7 +11,6 @@ mod header;
 mod judged_type;
 mod laws;
 mod limits;
-mod meant_statement;
 mod mir;
 mod next_point;
 mod own_names;

@@ -19,6 +19,7 @@ use nll_body::BodyParts;
 use nll_format::{LineReader, Names, TextKind};
 use nll_mir_grammar::{Line, Version, line_of};
 use nll_sets::Memory;
+use nll_statement_list::StatementList;
 use nll_text::{ScanError, Scanned, Token, scan_line};
 use nll_types::{Structs, Ty, TypeTable};
 use std::alloc::Global;
@@ -38,14 +39,16 @@ pub struct Reader {
 fn no_points(alloc: Global) -> Points
     ensures blocks { result.blocks ≡ 0 }
     ensures starts { result.starts.items ≡ [] }
-    ensures statements { result.statements.items ≡ [] }
+    ensures statements { result.statements ≡ [] }
+    ensures count { result.count ≡ 0 }
     ensures edges { result.edges ≡ 0 }
     ensures owes { result.owes ≡ false }
 {
     Points {
         blocks: 0,
         starts: Vec::new(alloc),
-        statements: Vec::new(alloc),
+        statements: StatementList::new(alloc),
+        count: 0,
         edges: 0,
         owes: false,
     }

@@ -6,9 +6,8 @@ ghost use Rattle.nll_resolve.specs.Naming.{is_among};
 
 use indexmap::IndexSet;
 use nll_format::Names;
-use nll_problem::RegionId;
 use nll_sets::Memory;
-use nll_statements::Statement;
+use nll_statement_list::StatementList;
 use nll_types::{Ty, TypeTable};
 use std::alloc::Global;
 
@@ -63,7 +62,9 @@ pub struct Points {
     pub blocks: u32,
     /// The first point of each block that is there.
     pub starts: Vec<u32>,
-    pub statements: Vec<Statement<RegionId, Ty>>,
+    pub statements: StatementList,
+    /// How many points there are.
+    pub count: usize,
     /// How many edges leave the points.
     pub edges: usize,
     /// Whether the last block still lacks its terminator.

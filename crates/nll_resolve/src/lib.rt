@@ -1,9 +1,10 @@
 //! What the names in written types mean.
-//! Read `scope`, `resolved_type`, `told`, `arguments`, `resolution`, then `shapes` and `trees`; the
-//! definitions are in specs/.
+//! Read `scope`, `resolved_type`, `told`, `arguments`, `resolution`, then `shapes`, `trees` and
+//! `pieces`; the definitions are in specs/.
 #![tactic(auto)]
 
 mod arguments;
+mod pieces;
 mod resolution;
 mod resolved_type;
 mod scope;

@@ -5,12 +5,15 @@ ghost use Rattle.nll_types.specs.Shapes.{shape_of};
 ghost use Rattle.nll_types.specs.Table.{shape_in};
 ghost use Rattle.nll_types.specs.Tables.{AddsShapes};
 ghost use Rattle.nll_types.specs.Views.{tree};
+ghost use Rattle.nll_resolve.specs.Resolution as resolution;
 ghost use Rattle.nll_resolve.specs.Resolution.{AreNodes, tree_of};
 
+use crate::pieces::put_nodes;
 use crate::shapes::shape_of_nodes;
 use crate::trees::type_of_nodes;
 use nll_problem::RegionId;
 use nll_sets::Memory;
+use nll_statement_list::{Piece, PutType};
 use nll_types::{Ty, TypeTable};
 use smallvec::SmallVec;
 use std::alloc::Global;
@@ -70,7 +73,8 @@ pub(crate) type Nodes = SmallVec<ResolvedNode, 4>;
 /// of.
 ///
 /// # Shape
-/// It may have as many nodes, and be as deep, as its text is long; so nothing but `ty` recurses.
+/// It may have as many nodes, and be as deep, as its text is long; so nothing but `ty` and
+/// `put_type` recurses.
 #[derive(Drop)]
 pub struct ResolvedType {
     nodes: Nodes,
@@ -125,5 +129,17 @@ impl ResolvedType {
         ensures { result ≡ record { nodes = nodes.items; fits = fits } }
     {
         ResolvedType { nodes, fits }
+    }
+}
+
+impl PutType for ResolvedType {
+    ghost tree_of = { resolution.tree_of };
+
+    /// Puts the pieces that make the type behind the others, from its nodes.
+    ///
+    /// # Cost
+    /// Linear in the type, and a depth of calls as deep as the type is, as of `ty`.
+    fn put_type(&self, pieces: &mut Vec<Piece>) -> Result<(), Memory> {
+        put_nodes(self.nodes.as_slice(), pieces)
     }
 }

@@ -2,7 +2,7 @@ use Rattle.std.proofs.Common.{◌↔◌, ℕ, ◌<◌, Contains, sym, subst, ari
 use Rattle.std.proofs.lemmas.Result.{err_from_is_err_and}
 use Rattle.nll_rules.specs.Asking.{Asks}
 use Rattle.nll_body.specs.Bodies.{GoesOn}
-use Rattle.nll_body.specs.Views.{meant}
+use Rattle.nll_statement_list.specs.Views.{meant}
 use Rattle.nll_body_problem.specs.BodyProblem.{IsAskedAt}
 use Rattle.nll_body_problem.specs.Known.{AreAskedAt}
 use Rattle.nll_body_problem.proofs.AddingLemmas.{adds_same, refused_same}
@@ -26,10 +26,10 @@ goes c =
 -- the pairs are what the statement asks
 pairs : (c : After-as_slice) → (x : ℕ × ℕ)
     → Contains c.as_slice.result.now x ↔ Asks c.args.survey.now.body.now.structs c.args.survey.now.body.now.variables
-    (meant c.line_at.result.now) x
+    (meant c.args.statement.now) x
 pairs c =
     kept_asked c.args.survey.now.body.now
-    (meant c.line_at.result.now) _ _ c.clear.new.self.items c.asks.new.asked.items c.keep_once-many.new.pairs.items
+    (meant c.args.statement.now) _ _ c.clear.new.self.items c.asks.new.asked.items c.keep_once-many.new.pairs.items
     c.as_slice.result.now
     c.structs.ensures c.variable_types.ensures c.clear.ensures.items c.in_ok-asks.ensures c.keep_once-many.ensures
     c.as_slice.ensures.value
@@ -39,7 +39,7 @@ returns-clause-asked c =
     let d = (goal.at.returns-clause-asked c).After-as_slice in
     subst (AreAskedAt c.args.survey.now.body.now c.args.point) c.as_slice.ensures.value
     (asked_pairs c.args.survey.now.body.now c.args.point
-    (meant c.line_at.result.now) c.as_slice.result.now c.line_at.ensures (pairs d))
+    (meant c.args.statement.now) c.as_slice.result.now c.requires.statement (pairs d))
 
 pub add_pairs-requires-clause-points : goal.add_pairs-requires-clause-points
 add_pairs-requires-clause-points c =
@@ -51,14 +51,14 @@ add_pairs-requires-clause-regions c =
     let d = (goal.at.add_pairs-requires-clause-regions c).After-as_slice in
     λ x h. subst (λ (n : ℕ). (x.0 < n) × (x.1 < n)) (sym c.requires.regions)
     (asks_below c.args.survey.now.body.now c.requires.sound c.args.point
-    (meant c.line_at.result.now) c.line_at.ensures x ((pairs d x).0 h))
+    (meant c.args.statement.now) c.requires.statement x ((pairs d x).0 h))
 
 pub returns-clause-ok : goal.returns-clause-ok
 returns-clause-ok c =
     let d = goal.at.returns-clause-ok c in
     adds_same _ (IsAskedAt c.args.survey.now.body.now c.args.point) c.args.builder.now c.add_pairs.new.builder
     (asked_here c.args.survey.now.body.now c.args.point
-    (meant c.line_at.result.now) c.next_of.result.now c.as_slice.result.now c.line_at.ensures (goes d.After-next_of)
+    (meant c.args.statement.now) c.next_of.result.now c.as_slice.result.now c.requires.statement (goes d.After-next_of)
     (pairs d.After-as_slice))
     c.in_ok-add_pairs.ensures.ok
 
@@ -68,6 +68,6 @@ returns-in_err-add_pairs-clause-err c =
     let p = err_from_is_err_and c.from_residual-in_err-add_pairs.result c.from_residual-in_err-add_pairs.ensures.1 in
     rw (p.1, p.2) (refused_same _ (IsAskedAt c.args.survey.now.body.now c.args.point) c.args.builder.now _
     (λ k. (asked_here c.args.survey.now.body.now c.args.point
-    (meant c.line_at.result.now) c.next_of.result.now c.as_slice.result.now c.line_at.ensures (goes d.After-next_of)
+    (meant c.args.statement.now) c.next_of.result.now c.as_slice.result.now c.requires.statement (goes d.After-next_of)
     (pairs d.After-as_slice) k).0)
     c.in_err-add_pairs.ensures.err)

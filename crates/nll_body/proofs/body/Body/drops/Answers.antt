@@ -1,20 +1,6 @@
-use Rattle.std.proofs.Common.{◌<◌, length, map, ap, subst, sym, ◌∙◌, arith}
-use Rattle.std.proofs.lemmas.List.{length-map}
-use Rattle.nll_types.specs.Views.{tree}
-use Rattle.nll_statements.specs.Effects.{dropped}
-use Rattle.nll_statements.specs.Kept.{statement_of}
+use Rattle.std.proofs.Common.{subst, sym}
 use Rattle.nll_body.specs.Bodies.{BodyText, StandsAt}
-use Rattle.nll_body.specs.Views.{meant}
-use Rattle.nll_body.proofs.GraphLemmas.{stands_alone}
-use Rattle.nll_body.proofs.EffectLemmas.{same_dropped}
 use Rattle.nll_body.proofs.body.Body.drops.Goals as goal
 
 pub returns : goal.returns
-returns c = λ i at.
-    let low : c.args.point < length (map meant c.self.inside.points.items) =
-    subst (λ (b : BodyText). c.args.point < length b.points) (sym c.self.view_is) c.requires in
-    c.drops.ensures
-    ∙ (sym (same_dropped (λ r. r) tree (statement_of c.index.result.now))
-    ∙ ap dropped (stands_alone c.self.inside.points.items c.args.point c.index.result.now i
-    (omega (arith, low, length-map c.self.inside.points.items meant)) c.index.ensures
-    (subst (λ (b : BodyText). StandsAt b c.args.point i) (sym c.self.view_is) at)))
+returns c = λ i at. c.drops.ensures i (subst (λ (b : BodyText). StandsAt b c.args.point i) (sym c.self.view_is) at)

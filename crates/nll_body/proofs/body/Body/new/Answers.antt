@@ -1,31 +1,25 @@
-use Rattle.std.proofs.Common.{map, subst, sym}
-use Rattle.std.proofs.lemmas.List.{length-map}
 use Rattle.nll_body.specs.Parts.{body_of}
 use Rattle.nll_body.specs.Sound.{IsSound}
-use Rattle.nll_body.specs.Making.{HasPoints}
-use Rattle.nll_body.specs.Views.{meant}
 use Rattle.nll_body.proofs.GraphLemmas.{graph_shown}
 use Rattle.nll_body.proofs.body.Body.new.Goals as goal
 
 pub graph_of-told-requires-clause-blocks : goal.graph_of-told-requires-clause-blocks
 graph_of-told-requires-clause-blocks c =
     let sound : IsSound (body_of c.args.parts) = c.requires in
-    rw (c.as_slice-starts.ensures.value, c.as_slice.ensures.value) (λ p b i h k. sound.blocks p b i h k)
+    rw c.as_slice-starts.ensures.value (λ p b i h k. sound.blocks p b i h k)
 
 pub graph_of-told-requires-clause-ends : goal.graph_of-told-requires-clause-ends
 graph_of-told-requires-clause-ends c =
     let sound : IsSound (body_of c.args.parts) = c.requires in
-    rw (c.as_slice-starts.ensures.value, c.as_slice.ensures.value) (λ p q i h k. sound.in_range p q (i, h, k))
+    rw c.as_slice-starts.ensures.value (λ p q i h k. sound.in_range p q (i, h, k))
 
 pub assembled-requires-clause-graph : goal.assembled-requires-clause-graph
 assembled-requires-clause-graph c =
     graph_shown (body_of c.args.parts) c.in-Ok.graph
-    (subst (λ n. HasPoints c.args.parts.starts.items c.args.parts.universals
-    (map meant c.args.parts.points.items) n c.in-Ok.graph) (sym (length-map c.args.parts.points.items meant))
-    (rw (c.as_slice-starts.ensures.value, c.as_slice.ensures.value) at c.in-Ok.ensures.ok))
+    (rw c.as_slice-starts.ensures.value at c.in-Ok.ensures.ok)
 
 pub graph_of-told-requires-clause-room : goal.graph_of-told-requires-clause-room
-graph_of-told-requires-clause-room c = rw c.as_slice.ensures.value c.requires.edge_limit
+graph_of-told-requires-clause-room c = c.requires.edge_limit
 
 pub assembled-requires-clause-sound : goal.assembled-requires-clause-sound
 assembled-requires-clause-sound c = c.requires

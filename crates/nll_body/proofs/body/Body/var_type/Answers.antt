@@ -9,11 +9,11 @@ returns-clause-well_formed c =
     good_type c.args.self.now (subst IsSound c.self.view_is c.self.invariant.sound) c.args.variable
     (tree c.index.result.now)
     (typed c.self.inside.labels c.self.inside.outlives.items c.self.inside.asserts.items c.self.inside.structs
-    c.self.inside.variables.items c.self.inside.points.items c.self.inside.graph c.args.self.now c.self.view_is
+    c.self.inside.variables.items c.self.inside.points c.self.inside.graph c.args.self.now c.self.view_is
     c.args.variable c.index.result.now c.requires c.index.ensures)
 
 pub returns-clause-value : goal.returns-clause-value
 returns-clause-value c =
     typed c.self.inside.labels c.self.inside.outlives.items c.self.inside.asserts.items c.self.inside.structs
-    c.self.inside.variables.items c.self.inside.points.items c.self.inside.graph c.args.self.now c.self.view_is
+    c.self.inside.variables.items c.self.inside.points c.self.inside.graph c.args.self.now c.self.view_is
     c.args.variable c.index.result.now c.requires c.index.ensures

@@ -102,6 +102,7 @@ returns-clause-taken c = λ t of.
             λ h. r.no_start (omega (arith, (follows (said_by c.args.self.now) (variable c.args.number t) of.order).0));
         starts = r.starts;
         few_points = r.few_points;
+        counted_points = r.counted_points;
         edges = r.edges;
         few_edges = r.few_edges;
       };

@@ -9,8 +9,8 @@ use Rattle.nll_mir_text.proofs.ShapeLemmas.{shapes_extended}
 use Rattle.nll_mir_text.proofs.PointLemmas.{judged_same}
 use Rattle.nll_mir_text.proofs.reader.Reader.admit.Goals as goal
 
-pub admit_judged-requires : goal.admit_judged-requires
-admit_judged-requires c =
+pub admit_judged-requires-clause-ready : goal.admit_judged-requires-clause-ready
+admit_judged-requires-clause-ready c =
     let r = c.requires in
     let e = c.in_ok-judged.ensures in
     let types = ap (λ (v : Variables). v.types.items) e.others in
@@ -32,6 +32,7 @@ admit_judged-requires c =
       no_start = r.no_start;
       starts = r.starts;
       few_points = r.few_points;
+      counted_points = r.counted_points;
       edges = r.edges;
       few_edges = r.few_edges;
     }

@@ -1,8 +1,7 @@
 use Rattle.std.proofs.Common.{refl, sym, ◌∙◌, inr, arith}
 use Rattle.std.proofs.lemmas.Bool.{not-true, not-false}
-use Rattle.std.proofs.lemmas.List.{length-map}
 use Rattle.nll_statements.specs.Kept.{statement_of}
-use Rattle.nll_mir_text.specs.MirReading.{said_by, scope_in, statement_kept}
+use Rattle.nll_mir_text.specs.MirReading.{said_by, scope_in}
 use Rattle.nll_mir_text.proofs.PointLemmas.{undeclared, out_of_range, unfit, too_large, too_many_points}
 use Rattle.nll_mir_text.proofs.PointLemmas.{too_many_edges, no_fault, targets_are, edges_resolved, ends_resolved}
 use Rattle.nll_mir_text.proofs.reader.Reader.admit_judged.Goals as goal
@@ -37,16 +36,15 @@ returns-then-not-judged-3-clause-refused c = λ i placed told.
     inr (too_large s i placed.order known blocks (sym told.fits ∙ (not-false _ c.if-not-judged-2.false))
     (sym (told.fits_small (not-false _ c.if-not-judged-2.false)) ∙ (not-true _ c.if-not-judged-3.true)))
 
-pub returns-then-len-clause-refused : goal.returns-then-len-clause-refused
-returns-then-len-clause-refused c = λ i placed told.
+pub returns-then-self-clause-refused : goal.returns-then-self-clause-refused
+returns-then-self-clause-refused c = λ i placed told.
     let s = said_by c.args.self.now in
     let known = sym told.known ∙ (not-false _ c.if-not-judged.false) in
     let blocks = sym (targets_are s i (statement_of c.args.statement.now) placed.of _ c.targets_are_blocks.ensures)
     ∙ c.if-not-targets_are_blocks.false in
-    let kept = c.args.self.now.points.statements in
     inr (too_many_points s i placed.order known blocks (sym told.fits ∙ (not-false _ c.if-not-judged-2.false))
     (sym (told.fits_small (not-false _ c.if-not-judged-2.false)) ∙ (not-false _ c.if-not-judged-3.false))
-    (omega (arith, c.len.ensures, kept.ok.0, length-map kept.items statement_kept, c.if-len.true)))
+    (omega (arith, c.requires.ready.counted_points, c.if-self.true)))
 
 pub returns-then-edges-gt-MAX_EDGES-clause-refused : goal.returns-then-edges-gt-MAX_EDGES-clause-refused
 returns-then-edges-gt-MAX_EDGES-clause-refused c = λ i placed told.
@@ -54,14 +52,13 @@ returns-then-edges-gt-MAX_EDGES-clause-refused c = λ i placed told.
     let known = sym told.known ∙ (not-false _ c.if-not-judged.false) in
     let blocks = sym (targets_are s i (statement_of c.args.statement.now) placed.of _ c.targets_are_blocks.ensures)
     ∙ c.if-not-targets_are_blocks.false in
-    let kept = c.args.self.now.points.statements in
     let edges =
     edges_resolved (scope_in c.args.self.now.regions c.args.self.now.structs) i
     (statement_of c.args.statement.now) placed.of in
     inr (too_many_edges s i placed.order known blocks (sym told.fits ∙ (not-false _ c.if-not-judged-2.false))
     (sym (told.fits_small (not-false _ c.if-not-judged-2.false)) ∙ (not-false _ c.if-not-judged-3.false))
-    (omega (arith, c.len.ensures, kept.ok.0, length-map kept.items statement_kept, c.if-len.false))
-    (omega (arith, c.in_ok-exits.ensures.edges, edges, c.requires.edges, c.if-edges-gt-MAX_EDGES.true)))
+    (omega (arith, c.requires.ready.counted_points, c.if-self.false))
+    (omega (arith, c.requires.exits.edges, edges, c.requires.ready.edges, c.if-edges-gt-MAX_EDGES.true)))
 
 pub returns-clause-admitted : goal.returns-clause-admitted
 returns-clause-admitted c = λ i placed told.
@@ -69,21 +66,20 @@ returns-clause-admitted c = λ i placed told.
     let known = sym told.known ∙ (not-false _ c.if-not-judged.false) in
     let blocks = sym (targets_are s i (statement_of c.args.statement.now) placed.of _ c.targets_are_blocks.ensures)
     ∙ c.if-not-targets_are_blocks.false in
-    let kept = c.args.self.now.points.statements in
     let edges =
     edges_resolved (scope_in c.args.self.now.regions c.args.self.now.structs) i
     (statement_of c.args.statement.now) placed.of in
     record {
       fine = no_fault s i placed.order known blocks (sym told.fits ∙ (not-false _ c.if-not-judged-2.false))
           (sym (told.fits_small (not-false _ c.if-not-judged-2.false)) ∙ (not-false _ c.if-not-judged-3.false))
-          (omega (arith, c.len.ensures, kept.ok.0, length-map kept.items statement_kept, c.if-len.false))
-          (omega (arith, c.in_ok-exits.ensures.edges, edges, c.requires.edges, c.if-edges-gt-MAX_EDGES.false));
+          (omega (arith, c.requires.ready.counted_points, c.if-self.false))
+          (omega (arith, c.requires.exits.edges, edges, c.requires.ready.edges, c.if-edges-gt-MAX_EDGES.false));
       same = refl;
-      ready = c.requires;
-      few = omega (arith, c.len.ensures, kept.ok.0, c.if-len.false);
-      counted = omega (arith, c.in_ok-exits.ensures.edges, edges);
+      ready = c.requires.ready;
+      few = omega (arith, c.requires.ready.counted_points, c.if-self.false);
+      counted = omega (arith, c.requires.exits.edges, edges);
       few_edges = omega (arith, c.if-edges-gt-MAX_EDGES.false);
-      ends = c.in_ok-exits.ensures.ends
+      ends = c.requires.exits.ends
           ∙ ends_resolved (scope_in c.args.self.now.regions c.args.self.now.structs) i
           (statement_of c.args.statement.now) placed.of;
     }

@@ -37,6 +37,7 @@ returns-clause-ready c =
       no_start = λ h. ap length p.starts;
       starts = omega (arith, ap length p.starts);
       few_points = omega (arith, ap length p.statements);
+      counted_points = omega (arith, p.count, ap length p.statements);
       edges = rw (p.edges, p.statements) refl;
       few_edges = omega (arith, p.edges);
     }
