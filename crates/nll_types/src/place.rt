@@ -26,9 +26,8 @@ impl Default for Projection {
 /// A variable, and what is taken of it, one projection after another.
 ///
 /// # Shape
-/// A body has some million places, most of them with one projection or none: these ask for no
-/// memory of their own. More stand in a box, so that each place is small, and up to three of them
-/// in the box itself.
+/// A place is small: most have one projection or none, and ask for no memory of their own. More
+/// projections stand in a box, and up to three of them in the box itself.
 #[derive(Drop)]
 pub enum Place {
     /// The whole variable.
