@@ -49,7 +49,7 @@ as_body text body (Rule error) means h = (body, means, h)
 as_body text body (Run error) means h = absurd h
 as_body text body Memory means h = tt
 
--- whether the kind is want of memory
+-- whether the kind is that of refused memory
 abbrev is_memory : TextKind → Bool
 is_memory kind.Memory = true
 is_memory other = false

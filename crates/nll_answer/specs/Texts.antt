@@ -45,7 +45,7 @@ IsMeaning text problem labels =
 
 -- ---- why a text has no answer
 
--- the error of an answer for that of a text of this kind: want of memory has no line
+-- the error of an answer for that of a text of this kind: refused memory has no line
 abbrev pub told_as : TextError → TextKind → AnswerError
 told_as error kind.Memory = Memory
 told_as error other = Text error
@@ -54,7 +54,7 @@ told_as error other = Text error
 abbrev pub error_of_text : TextError → AnswerError
 error_of_text error = told_as error error.kind
 
--- the error of an answer for that of a body: its limit, or want of memory
+-- the error of an answer for that of a body: its limit, or refused memory
 abbrev pub error_of_body : RuleError → AnswerError
 error_of_body (rule.Limit kind) = Rule (rule.Limit kind)
 error_of_body rule.Memory = Memory

@@ -18,7 +18,7 @@ abbrev pub IsLineOf : Said → Line → Asked → Type 0
 IsLineOf said l a =
     (l.task ≡ a.task) × (string_bytes l.file ≡ string_bytes a.file) × (said_by l ≡ said) × Suits a.task said
 
--- why there is no line of what is asked: want of memory, or options of another task
+-- why there is no line of what is asked: refused memory, or options of another task
 abbrev pub IsLost : Said → LineError → Asked → Type 0
 IsLost said e a = (e ≡ Memory) ⊎ ((e ≡ Usage) × (Suits a.task said → ⊥))
 

@@ -41,7 +41,7 @@ line_of_found-None name f task named given =
     let read : None ≡ first_of (codes "FILE") (rows_of f) = given ∙ first_value-rows f (codes "FILE") in
     rw (← named, ← read) refl
 
--- the answer of a line that the matches have is that line, or want of memory
+-- the answer of a line that the matches have is that line, or refused memory
 pub plain_result : (r : Result Asked LineError) (task : Task) (file : Text) {o : Option (Task × Text)}
     → Some (task, file) ≡ o
     → IfOk r (λ l. o ≡ Some (l.task, string_bytes l.file))

@@ -31,7 +31,7 @@ matches_without_line words (Err e) taken read err = elim err [
   )
 ]
 
--- words that the parser takes are refused for want of memory alone
+-- words that the parser takes are refused only where memory is refused
 is_no_plain_line : (words : List Text) (kind : ErrorKind) → (takes program words ≡ true → kind ≡ OutOfMemory)
     → kind ≢ OutOfMemory → IsNoPlainLine words
 is_no_plain_line words kind passes other task file h = other (passes (takes-plain task file words h))
@@ -66,7 +66,7 @@ words_without_matches words Usage kind among passes told = (
 )
 words_without_matches words Memory kind among passes told = tt
 
--- of an error for want of memory that alone is told
+-- of an error of refused memory that alone is told
 pub memory_told : (words : List Text) (e : LineError) → IsTold words OutOfMemory e → e ≡ Memory
 memory_told words (Help text) told = absurd (help_is_no_memory (sym told.0))
 memory_told words Usage told = absurd (told.1 refl)

@@ -64,7 +64,7 @@ AsksForHelp words = IsAmong DisplayHelp (fault_of program words)
 abbrev pub AsksForHelpAlone : List Text → Type 0
 AsksForHelpAlone words = fault_of program words ≡ DisplayHelp ∷ []
 
--- the error tells why the words are not taken; want of memory says nothing of them
+-- the error tells why the words are not taken; refused memory says nothing of them
 abbrev pub IsLineError : List Text → LineError → Type 0
 IsLineError words (Help text) =
     AsksForHelp words × IsNoPlainLine words × (string_bytes text ≡ help_for words)
@@ -73,7 +73,7 @@ IsLineError words Memory = Unit {0}
 
 -- The error tells why the words are no line. Help is told of the words without their options. Usage
 -- says that in whatever way the words can be read, the others are no plain line of a task that the
--- options suit, and the parser has more than help for them. Want of memory says nothing.
+-- options suit, and the parser has more than help for them. Refused memory says nothing.
 abbrev pub IsWordsError : List Text → LineError → Type 0
 IsWordsError words (Help text) = (others : List Text) × (said : Said) × AreRead words others said
     × IsLineError others (Help text)
@@ -81,14 +81,14 @@ IsWordsError words Usage = (others : List Text) (said : Said) → AreRead words 
     → IsNoSuitedLine others said × (AsksForHelpAlone others → ⊥)
 IsWordsError words Memory = Unit {0}
 
--- the error is the help for the words, or want of memory
+-- the error is the help for the words, or refused memory
 abbrev pub IsHelpFor : List Text → LineError → Type 0
 IsHelpFor words (Help text) = string_bytes text ≡ help_for words
 IsHelpFor words Usage = ⊥
 IsHelpFor words Memory = Unit {0}
 
--- the error is what is told of an error of this kind: help, or want of memory for its text; want
--- of memory; or that the words are refused
+-- the error is what is told of an error of this kind: help, or refused memory for its text;
+-- refused memory; or that the words are refused
 abbrev pub IsTold : List Text → ErrorKind → LineError → Type 0
 IsTold words kind (Help text) = (kind ≡ DisplayHelp) × (string_bytes text ≡ help_for words)
 IsTold words kind Usage = (kind ≢ DisplayHelp) × (kind ≢ OutOfMemory)

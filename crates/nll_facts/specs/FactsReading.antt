@@ -120,7 +120,7 @@ pub record IsTaken (s : Said) (f : Form) (r : Reader) : Type 0 where
   pub adds : Adds s f (said_by r)
   pub ready : IsReady r
 
--- a line of the form is refused after lines that say s: for want of memory, or with its first kind
+-- a line of the form is refused after lines that say s: for refused memory, or with its first kind
 -- of fault
 abbrev pub IsRefused : Said → Form → TextKind → Type 0
 IsRefused s f kind = (kind ≡ Memory) ⊎ (first_fault s f ≡ Some kind)

@@ -160,7 +160,7 @@ pub record IsAdmitted (s : Said) (i : Statement Name WrittenType) (a : Admitted)
   pub few_edges : a.edges ≤ most_edges
   pub ends : a.ends ≡ is_terminator i
 
--- a line of the form is refused after lines that say s: for want of memory, or with its first kind
+-- a line of the form is refused after lines that say s: for refused memory, or with its first kind
 -- of fault
 abbrev pub IsRefused : Said → Form → TextKind → Type 0
 IsRefused s f kind = (kind ≡ Memory) ⊎ (first_fault s f ≡ Some kind)

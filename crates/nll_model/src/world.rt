@@ -171,7 +171,7 @@ impl<'q> World<'q> {
         self.state.balance()
     }
 
-    /// Whether a step was refused for want of memory. The world takes no steps then.
+    /// Whether a step was refused memory. The world takes no steps then.
     pub fn is_broken(&self) -> bool
         ensures { result ≡ self.now.broken }
     {

@@ -77,7 +77,7 @@ fn compare_refusal<R: Abort + AllocGlobal>(rt: &R, error: AnswerError, want: &[u
     compare(rt, "a refusal", told(rt.alloc(), error), want);
 }
 
-// A want of memory has no line, wherever it was met, and a limit of a body has none.
+// Refused memory has no line, wherever it was met, and a limit of a body has none.
 #[test]
 fn prints_refusals_without_a_line(rt: HostRuntime) {
     let (line, kind) = (0, TextKind::Memory);

@@ -51,7 +51,7 @@ no_line others said read =
       λ h. no_help (subst AsksPlainlyForHelp none h),
     )
 
--- words that are lost, or want of memory, are refused as no words are
+-- words that are lost, or refused memory, are refused as no words are
 pub lost_words : (holds : Holds) (lacks : Lacks) (refusal : Refusal) → (refusal ≡ Usage) ⊎ (refusal ≡ Memory)
     → IsRefused holds lacks [] refusal
 lost_words holds lacks refusal = ⊎_elim

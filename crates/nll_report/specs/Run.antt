@@ -163,7 +163,7 @@ abbrev pub AreRefused : Words → Type 0
 AreRefused words = (others : Words) (said : Said) → AreRead words others said
     → IsNoSuitedLine others said × (AsksPlainlyForHelp others → ⊥)
 
--- the refusal tells the truth of the words and the texts; want of memory says nothing of them
+-- the refusal tells the truth of the words and the texts; refused memory says nothing of them
 abbrev pub IsRefused : Holds → Lacks → Words → Refusal → Type 0
 IsRefused holds lacks words Usage = AreRefused words
 IsRefused holds lacks words (CannotRead path) = IsLineRefused holds lacks words (CannotRead path)

@@ -33,7 +33,7 @@ abbrev pub IsScanned : List ℕ → List Token → Scanned → Type 0
 IsScanned line ts Skipped = IsSkippedLine line
 IsScanned line ts Tokens = IsTokenLine line ts
 
--- What each error says of the line; want of memory says nothing of it.
+-- What each error says of the line; refused memory says nothing of it.
 abbrev pub IsScanError : ℕ → List ℕ → ScanError → Type 0
 IsScanError most line NotUtf8 = ¬ IsUtf8 line
 IsScanError most line NoTokens = IsTokenless most line
