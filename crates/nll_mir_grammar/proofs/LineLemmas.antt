@@ -11,7 +11,7 @@ use Rattle.nll_type_grammar.specs.WrittenTypes.{Name, WrittenType, HasNames, IsF
 use Rattle.nll_types.specs.Operands.{operand_of}
 use Rattle.nll_types.specs.declared.operand.Operand.{Operand as Written}
 use Rattle.nll_type_grammar.specs.TypeTexts.{written}
-use Rattle.nll_type_grammar.specs.declared.type_text.TypeNode.{TypeNode}
+use Rattle.nll_type_grammar.specs.declared.type_text.TypePiece.{TypePiece}
 use Rattle.nll_mir_grammar.specs.Lines.{argument_of, form_of}
 use Rattle.nll_mir_grammar.specs.declared.line.Line.{Line}
 use Rattle.nll_statements.specs.Statements.{assign, borrow, make, read, live, dead, nop, goto, switch, drop, call, return, stop}
@@ -74,9 +74,9 @@ call_side ts rest mid p f args t wheres b unwind r e w s = record {
 }
 
 -- the arguments of a call in the code, in two steps
-pub arguments_same : (xs : List (Written × List TypeNode))
-    → map (λ (a : Operand × List TypeNode). (a.0, written a.1))
-    (map (λ (a : Written × List TypeNode). (operand_of a.0, a.1)) xs) ≡ map argument_of xs
+pub arguments_same : (xs : List (Written × List TypePiece))
+    → map (λ (a : Operand × List TypePiece). (a.0, written a.1))
+    (map (λ (a : Written × List TypePiece). (operand_of a.0, a.1)) xs) ≡ map argument_of xs
 arguments_same [] = refl
 arguments_same (x ∷ xs) = ap (λ l. (operand_of x.0, written x.1) ∷ l) (arguments_same xs)
 
@@ -395,12 +395,11 @@ no_form_in version ts g s other f h =
     false≢true (sym other ∙ subst (λ z. is_of_version version z ≡ true) (one_form_lem ts f g h.0 s) h.1)
 
 -- a line that is kept where it is of the version is the one that the tokens spell there
-pub line_in_version : {E : Type 0} (version : Version) (ts : List Token) (line : Line) (r : Result (Option Line) E)
+pub line_in_version : (version : Version) (ts : List Token) (line : Line) (r : Option Line)
     → IsSpelled ts (form_of line)
-    → IfOk r (λ o. MatchOption o (is_of_version version (form_of line) ≡ false)
-    (λ kept. (kept ≡ line) × (is_of_version version (form_of kept) ≡ true)))
-    → IfOk r (λ o. MatchOption o ((f : Form) → IsSpelledIn version ts f → ⊥)
-    (λ kept. IsSpelledIn version ts (form_of kept)))
-line_in_version version ts line (Ok None) s h = no_form_in version ts (form_of line) s h
-line_in_version version ts line (Ok (Some kept)) s h = (subst (λ (l : Line). IsSpelled ts (form_of l)) (sym h.0) s, h.1)
-line_in_version version ts line (Err e) s h = tt
+    → MatchOption r (is_of_version version (form_of line) ≡ false)
+    (λ kept. (kept ≡ line) × (is_of_version version (form_of kept) ≡ true))
+    → MatchOption r ((f : Form) → IsSpelledIn version ts f → ⊥)
+    (λ kept. IsSpelledIn version ts (form_of kept))
+line_in_version version ts line None s h = no_form_in version ts (form_of line) s h
+line_in_version version ts line (Some kept) s h = (subst (λ (l : Line). IsSpelled ts (form_of l)) (sym h.0) s, h.1)

@@ -10,7 +10,7 @@ use Rattle.nll_types.specs.declared.operand.Operand.{Operand as Written}
 use Rattle.nll_type_grammar.specs.Functions.{has_function, have_function}
 use Rattle.nll_type_grammar.specs.WrittenTypes.{WrittenType}
 use Rattle.nll_type_grammar.specs.TypeTexts.{written}
-use Rattle.nll_type_grammar.specs.declared.type_text.TypeNode.{TypeNode}
+use Rattle.nll_type_grammar.specs.declared.type_text.TypePiece.{TypePiece}
 use Rattle.nll_statements.specs.Kept.{arguments_of}
 use Rattle.nll_mir_grammar.specs.Tuples.{parts, IsTuple}
 
@@ -51,10 +51,10 @@ all_push p (y ∷ xs) x = ap (λ b. p y && b) (all_push p xs x) ∙ and_rest (p 
     and_rest false b c = refl
 
 -- the types of a call's parameters
-pub call_types : (args : List (Written × List TypeNode))
+pub call_types : (args : List (Written × List TypePiece))
     → map (λ (a : Operand × WrittenType). a.1)
-    (map (λ (a : Operand × List TypeNode). (a.0, written a.1)) (arguments_of args))
-    ≡ map (λ (a : Written × List TypeNode). written a.1) args
+    (map (λ (a : Operand × List TypePiece). (a.0, written a.1)) (arguments_of args))
+    ≡ map (λ (a : Written × List TypePiece). written a.1) args
 call_types [] = refl
 call_types (a ∷ args) = ap (λ ts. written a.1 ∷ ts) (call_types args)
 

@@ -7,7 +7,7 @@ use Rattle.nll_types.specs.Operands.{Operand, operand_of}
 use Rattle.nll_types.specs.declared.operand.Operand.{Operand as Written}
 use Rattle.nll_type_grammar.specs.WrittenTypes.{Name, WrittenType}
 use Rattle.nll_type_grammar.specs.TypeTexts.{written}
-use Rattle.nll_type_grammar.specs.declared.type_text.TypeNode.{TypeNode}
+use Rattle.nll_type_grammar.specs.declared.type_text.TypePiece.{TypePiece}
 use Rattle.nll_statements.specs.Statements.{map_statement}
 use Rattle.nll_statements.specs.Kept.{statement_of}
 use Rattle.nll_statements.specs.declared.statement.Statement.{Statement as Kept}
@@ -22,12 +22,12 @@ use Rattle.nll_mir_grammar.specs.declared.line.StructText.{StructText}
 use Rattle.nll_mir_grammar.specs.declared.line.ParameterText.TheVariants as parameters
 
 -- an argument of a call in the code
-abbrev pub argument_of : Written × List TypeNode → Operand × WrittenType
+abbrev pub argument_of : Written × List TypePiece → Operand × WrittenType
 argument_of a = (operand_of a.0, written a.1)
 
 -- the result of a call in the code, its bounds, and where it goes on
 abbrev pub result_of :
-    List TypeNode × (Vec (Bor (List ℕ) × Bor (List ℕ)) × (ℕ × Option ℕ))
+    List TypePiece × (Vec (Bor (List ℕ) × Bor (List ℕ)) × (ℕ × Option ℕ))
     → WrittenType × (List (Name × Name) × (ℕ × Option ℕ))
 result_of r = (written r.0, (map (λ w. (w.0.now, w.1.now)) r.1.0.items, r.1.1))
 
@@ -37,7 +37,7 @@ parameter_of (parameters.Region a p) = region_parameter a.now p
 parameter_of (parameters.Type n p) = type_parameter n.now p
 
 -- a statement of the code as the line at its point
-abbrev pub point_form : Kept (Bor (List ℕ)) (List TypeNode) → Form
+abbrev pub point_form : Kept (Bor (List ℕ)) (List TypePiece) → Form
 point_form s = at_point (map_statement (λ r. r.now) written (statement_of s))
 
 -- a struct line of the code

@@ -99,21 +99,15 @@ fn spelled_line<'a>(alloc: Global, tokens: &[Token<'a>]) -> Result<Option<Line<'
 }
 
 // The line, where it may stand in a text of the version.
-fn line_in<'a>(alloc: Global, version: Version, line: Line<'a>) -> Result<Option<Line<'a>>, Memory>
-    ensures { IfOk result
-        (λ o. MatchOption o (spec.is_of_version version (form_of line.entry) ≡ false)
-        (λ kept. (kept ≡ line.entry) × (spec.is_of_version version (form_of kept) ≡ true))) }
+fn line_in<'a>(version: Version, line: Line<'a>) -> Option<Line<'a>>
+    ensures { MatchOption result (spec.is_of_version version (form_of line.entry) ≡ false)
+        (λ kept. (kept ≡ line.entry) × (spec.is_of_version version (form_of kept) ≡ true)) }
 {
-    match is_of_version(alloc, version, &line) {
-        Ok(true) => Ok(Some(line)),
-        Ok(false) => {
-            drop(line);
-            Ok(None)
-        }
-        Err(memory) => {
-            drop(line);
-            Err(memory)
-        }
+    if is_of_version(version, &line) {
+        Some(line)
+    } else {
+        drop(line);
+        None
     }
 }
 
@@ -131,7 +125,7 @@ pub fn line_of<'a>(
         (λ line. IsSpelledIn version (views tokens.now) (form_of line))) }
 {
     match spelled_line(alloc, tokens)? {
-        Some(line) => line_in(alloc, version, line),
+        Some(line) => Ok(line_in(version, line)),
         None => Ok(None),
     }
 }

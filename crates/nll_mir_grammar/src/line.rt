@@ -27,10 +27,10 @@ pub struct TupleText<'a> {
 impl<'a> Model for TupleText<'a> {
     ghost use Rattle.std.specs.Prelude.{List};
     ghost use Rattle.nll_type_grammar.specs.TypeTexts.{written};
-    ghost use Rattle.nll_type_grammar.specs.declared.type_text.TypeNode.{TypeNode as node};
+    ghost use Rattle.nll_type_grammar.specs.declared.type_text.TypePiece.{TypePiece as piece};
     ghost use Rattle.nll_mir_grammar.specs.Tuples.{IsTuple};
 
-    ghost Value = { List node };
+    ghost Value = { List piece };
 
     ghost view = { λ text. text.tuple };
 

@@ -1,6 +1,6 @@
 //! The versions of MIR texts, and which lines each has.
 
-ghost use Rattle.std.specs.Prelude.{◌≡◌, IfOk, not, map};
+ghost use Rattle.std.specs.Prelude.{◌≡◌, not, map};
 ghost use Rattle.std.specs.List.{list_all};
 ghost use Rattle.nll_type_grammar.specs.Functions.{has_function};
 ghost use Rattle.nll_type_grammar.specs.TypeTexts.{written};
@@ -8,11 +8,9 @@ ghost use Rattle.nll_mir_grammar.specs.Lines.{form_of, parameter_of, point_form,
 ghost use Rattle.nll_mir_grammar.specs.Versions as spec;
 
 use crate::line::{Line, ParameterText, StructText};
-use nll_sets::Memory;
 use nll_statements::Statement;
 use nll_type_grammar::TypeText;
 use nll_types::{Operand, Sign};
-use std::alloc::Global;
 
 /// A version of MIR texts.
 #[derive(Clone, Copy, PartialEq, Eq)]
@@ -56,71 +54,63 @@ fn are_first_parameters(parameters: &[ParameterText<'_>]) -> bool
 }
 
 // Whether a type may stand in a text of version 1.
-fn is_first_type(alloc: Global, ty: &TypeText<'_>) -> Result<bool, Memory>
-    ensures { IfOk result (λ b. b ≡ not (has_function (written ty.now))) }
+fn is_first_type(ty: &TypeText<'_>) -> bool
+    ensures { result ≡ not (has_function (written ty.now)) }
 {
-    let has_function = ty.has_function(alloc)?;
-    Ok(!has_function)
+    !ty.has_function()
 }
 
 // Whether the types of a call's parameters may stand in a text of version 1.
-fn are_first_arguments(alloc: Global, arguments: &[(Operand, TypeText<'_>)]) -> Result<bool, Memory>
-    ensures { IfOk result (λ b. b ≡ list_all (λ t. not (has_function t))
-        (map (λ a. written a.1) arguments.now)) }
+fn are_first_arguments(arguments: &[(Operand, TypeText<'_>)]) -> bool
+    ensures { result ≡ list_all (λ t. not (has_function t))
+        (map (λ a. written a.1) arguments.now) }
 {
     for argument in arguments {
-        if !is_first_type(alloc, &argument.1)? {
-            return Ok(false);
+        if !is_first_type(&argument.1) {
+            return false;
         }
     }
-    Ok(true)
+    true
 }
 
 // Whether a struct line may stand in a text of version 1.
-fn is_first_struct(alloc: Global, text: &StructText<'_>) -> Result<bool, Memory>
-    ensures { IfOk result (λ b. b ≡ spec.is_of_first (struct_form text.now)) }
+fn is_first_struct(text: &StructText<'_>) -> bool
+    ensures { result ≡ spec.is_of_first (struct_form text.now) }
 {
     if !are_first_parameters(text.parameters.as_slice()) {
-        return Ok(false);
+        return false;
     }
-    is_first_type(alloc, text.fields.as_type())
+    is_first_type(text.fields.as_type())
 }
 
 // Whether the types that are written in a statement or terminator may stand in a text of version 1.
-fn is_first_statement<'a>(
-    alloc: Global,
-    statement: &Statement<&'a [u8], TypeText<'a>>,
-) -> Result<bool, Memory>
-    ensures { IfOk result (λ b. b ≡ spec.is_of_first (point_form statement.now)) }
+fn is_first_statement<'a>(statement: &Statement<&'a [u8], TypeText<'a>>) -> bool
+    ensures { result ≡ spec.is_of_first (point_form statement.now) }
 {
     match statement {
-        Statement::Make(make) => is_first_type(alloc, &make.ty),
+        Statement::Make(make) => is_first_type(&make.ty),
         Statement::Call(call) => {
-            if !are_first_arguments(alloc, call.arguments.as_slice())? {
-                return Ok(false);
+            if !are_first_arguments(call.arguments.as_slice()) {
+                return false;
             }
-            is_first_type(alloc, &call.result)
+            is_first_type(&call.result)
         }
-        _ => Ok(true),
+        _ => true,
     }
 }
 
 /// Whether a line may stand in a text of the version.
-pub(crate) fn is_of_version(
-    alloc: Global,
-    version: Version,
-    line: &Line<'_>,
-) -> Result<bool, Memory>
-    ensures { IfOk result (λ b. b ≡ spec.is_of_version version (form_of line.now)) }
+pub(crate) fn is_of_version(version: Version, line: &Line<'_>) -> bool
+    ensures { result ≡ spec.is_of_version version (form_of line.now) }
 {
     if version == Version::Second {
-        return Ok(true);
+        return true;
     }
     match line {
-        Line::Assert(_, _) => Ok(false),
-        Line::Struct(text) => is_first_struct(alloc, text),
-        Line::Let(_, ty) => is_first_type(alloc, ty),
-        Line::At(statement) => is_first_statement(alloc, statement),
-        _ => Ok(true),
+        Line::Assert(_, _) => false,
+        Line::Struct(text) => is_first_struct(text),
+        Line::Let(_, ty) => is_first_type(ty),
+        Line::At(statement) => is_first_statement(statement),
+        _ => true,
     }
 }

@@ -14,7 +14,7 @@ use Rattle.nll_types.specs.Views.{tree}
 use Rattle.nll_types.specs.declared.operand.Operand.{Operand as KeptOperand}
 use Rattle.nll_type_grammar.specs.WrittenTypes.{Name, WrittenType}
 use Rattle.nll_type_grammar.specs.TypeTexts.{written}
-use Rattle.nll_type_grammar.specs.declared.type_text.TypeNode.{TypeNode}
+use Rattle.nll_type_grammar.specs.declared.type_text.TypePiece.{TypePiece}
 use Rattle.nll_statements.specs.Statements.{Statement, map_statement, types_written}
 use Rattle.nll_statements.specs.Kept.{arguments_of, call_of}
 use Rattle.nll_statements.specs.declared.statement.Call.{Call}
@@ -50,7 +50,7 @@ resolved_fused : (args : List (KeptOperand × Resolved))
 resolved_fused [] = refl
 resolved_fused (a ∷ args) = ap (λ bs. argument_resolved a ∷ bs) (resolved_fused args)
 
-texts_fused : (s : Scope) (args : List (KeptOperand × List TypeNode))
+texts_fused : (s : Scope) (args : List (KeptOperand × List TypePiece))
     → map {B = Operand × TypeTree} (λ a. (a.0, meant s a.1))
     (map {B = Operand × WrittenType} (λ a. (a.0, written a.1)) (arguments_of args)) ≡ map (argument_in s) args
 texts_fused s [] = refl
@@ -77,7 +77,7 @@ names_of_bounds names (w ∷ ws) =
     ap (λ b. is_bound names w && b) (names_of_bounds names ws)
     ∙ and_assoc (is_among names w.0.now) (is_among names w.1.now) _
 
-all_of_texts : (p : WrittenType → Bool) (texts : List (KeptOperand × List TypeNode))
+all_of_texts : (p : WrittenType → Bool) (texts : List (KeptOperand × List TypePiece))
     → list_all (λ a. p (written a.1)) texts
     ≡ list_all p (map (λ (a : Operand × WrittenType). a.1)
     (map {B = Operand × WrittenType} (λ a. (a.0, written a.1)) (arguments_of texts)))
@@ -90,10 +90,10 @@ all_of_resolved p [] = refl
 all_of_resolved p (a ∷ args) = ap (λ b. p a.1 && b) (all_of_resolved p args)
 
 -- the call as its line has it
-abbrev pub call_written : Call (Bor (List ℕ)) (List TypeNode) → Statement Name WrittenType
+abbrev pub call_written : Call (Bor (List ℕ)) (List TypePiece) → Statement Name WrittenType
 call_written c = map_statement (λ r. r.now) written (call_of c)
 
-types_of_call : (p : WrittenType → Bool) (c : Call (Bor (List ℕ)) (List TypeNode))
+types_of_call : (p : WrittenType → Bool) (c : Call (Bor (List ℕ)) (List TypePiece))
     → list_all p (types_written (call_written c))
     ≡ (list_all (λ a. p (written a.1)) c.arguments.items && p (written c.result))
 types_of_call p c =
@@ -101,7 +101,7 @@ types_of_call p c =
     (map {B = Operand × WrittenType} (λ a. (a.0, written a.1)) (arguments_of c.arguments.items))) (written c.result)
     ∙ ap (λ b. b && p (written c.result)) (sym (all_of_texts p c.arguments.items))
 
-names_of_call : (s : Scope) (c : Call (Bor (List ℕ)) (List TypeNode))
+names_of_call : (s : Scope) (c : Call (Bor (List ℕ)) (List TypePiece))
     → has_names s (call_written c) ≡ (list_all (is_bound s.regions) c.wheres.items &&
     (list_all (λ a. is_known s (written a.1)) c.arguments.items && is_known s (written c.result)))
 names_of_call s c =
@@ -110,7 +110,7 @@ names_of_call s c =
     ∙ ap (λ b. list_all (is_bound s.regions) c.wheres.items && b) (types_of_call (is_known s) c)
 
 -- a call over numbers that is made of the parts of another, of which none lacked memory
-pub call_resolved : {E : Type 0} (s : Scope) (other : Call (Bor (List ℕ)) (List TypeNode))
+pub call_resolved : {E : Type 0} (s : Scope) (other : Call (Bor (List ℕ)) (List TypePiece))
     (arguments : Result (Option (Vec (KeptOperand × Resolved))) E) (type : Result (Option Resolved) E)
     (wheres : Result (Option (Vec (ℕ × ℕ))) E)
     → IfOk arguments (λ o. MatchOption o (list_all (λ a. is_known s (written a.1)) other.arguments.items ≡ false)
@@ -156,7 +156,7 @@ call_resolved s other arguments type wheres of_arguments of_type of_wheres (Some
 
 -- ---- the arguments of a call, one by one
 
-pub amid_none : (s : Scope) (all : List (KeptOperand × List TypeNode)) (args : List (KeptOperand × Resolved))
+pub amid_none : (s : Scope) (all : List (KeptOperand × List TypePiece)) (args : List (KeptOperand × Resolved))
     → args ≡ [] → AreAmid s all all args
 amid_none s all args e = record {
   front = [];
@@ -164,8 +164,8 @@ amid_none s all args e = record {
   of = record { known = refl; fits = ap (list_all (λ a. a.1.fits)) e; meant = ap (map argument_resolved) e };
 }
 
-pub amid_more : (s : Scope) (all left rest : List (KeptOperand × List TypeNode))
-    (old new : List (KeptOperand × Resolved)) (a : KeptOperand × List TypeNode) (b : KeptOperand × Resolved)
+pub amid_more : (s : Scope) (all left rest : List (KeptOperand × List TypePiece))
+    (old new : List (KeptOperand × Resolved)) (a : KeptOperand × List TypePiece) (b : KeptOperand × Resolved)
     → left ≡ a ∷ rest → new ≡ old ++ b ∷ [] → b.0 ≡ a.0 → IsResolved s (written a.1) b.1 → AreAmid s all left old
     → AreAmid s all rest new
 amid_more s all left rest old new a b is pushed operand of amid = record {
@@ -184,19 +184,19 @@ amid_more s all left rest old new a b is pushed operand of amid = record {
   };
 }
   where
-    one : (s : Scope) (a : KeptOperand × List TypeNode) (b : KeptOperand × Resolved) → b.0 ≡ a.0
+    one : (s : Scope) (a : KeptOperand × List TypePiece) (b : KeptOperand × Resolved) → b.0 ≡ a.0
         → tree_of b.1 ≡ meant s (written a.1) → argument_resolved b ≡ argument_in s a
     one s a b operand tree = rw (operand, tree) refl
 
-pub amid_all : (s : Scope) (all : List (KeptOperand × List TypeNode)) (args : List (KeptOperand × Resolved))
+pub amid_all : (s : Scope) (all : List (KeptOperand × List TypePiece)) (args : List (KeptOperand × Resolved))
     → AreAmid s all [] args → AreOfArguments s all args
 amid_all s all args amid = rw (sym amid.cut, append-nil amid.front) amid.of
 
-pub amid_unknown : (s : Scope) (all left rest : List (KeptOperand × List TypeNode))
-    (args : List (KeptOperand × Resolved)) (a : KeptOperand × List TypeNode) → left ≡ a ∷ rest
+pub amid_unknown : (s : Scope) (all left rest : List (KeptOperand × List TypePiece))
+    (args : List (KeptOperand × Resolved)) (a : KeptOperand × List TypePiece) → left ≡ a ∷ rest
     → is_known s (written a.1) ≡ false → AreAmid s all left args → list_all (λ x. is_known s (written x.1)) all ≡ false
 amid_unknown s all left rest args a is none amid =
-    let p : KeptOperand × List TypeNode → Bool = λ x. is_known s (written x.1) in
+    let p : KeptOperand × List TypePiece → Bool = λ x. is_known s (written x.1) in
     ap (list_all p) (sym amid.cut)
     ∙ (list_all-append p amid.front left
     ∙ (ap (λ xs. list_all p amid.front && list_all p xs) is

@@ -6,7 +6,7 @@ use Rattle.std.proofs.lemmas.List.{map_more}
 use Rattle.nll_format.specs.Names.{number_of}
 use Rattle.nll_types.specs.declared.place.Place.{Place}
 use Rattle.nll_type_grammar.specs.TypeTexts.{written}
-use Rattle.nll_type_grammar.specs.declared.type_text.TypeNode.{TypeNode}
+use Rattle.nll_type_grammar.specs.declared.type_text.TypePiece.{TypePiece}
 use Rattle.nll_statements.specs.Kept.{made_of, statement_of}
 use Rattle.nll_statements.specs.declared.statement.Make.{Make}
 use Rattle.nll_statements.specs.declared.statement.Statement.{Statement as Kept}
@@ -41,12 +41,12 @@ and_true true = refl
 and_true false = refl
 
 -- the names in the type of what is made are those of the statement
-pub names_of_made : (s : Scope) (m : Make (List TypeNode))
+pub names_of_made : (s : Scope) (m : Make (List TypePiece))
     → has_names s (map_statement (λ (r : Bor (List ℕ)). r.now) written (made_of m)) ≡ is_known s (written m.ty)
 names_of_made s m = and_true (is_known s (written m.ty))
 
 -- what is made over numbers
-pub made_resolved : (s : Scope) (m : Make (List TypeNode)) (n : Make Resolved) → n.place ≡ m.place
+pub made_resolved : (s : Scope) (m : Make (List TypePiece)) (n : Make Resolved) → n.place ≡ m.place
     → n.operands ≡ m.operands → IsResolved s (written m.ty) n.ty
     → IsOfStatement s (map_statement (λ (r : Bor (List ℕ)). r.now) written (made_of m)) (made_of n)
 made_resolved s m n place operands of = record {

@@ -16,7 +16,7 @@ use Rattle.nll_types.specs.declared.node.Node.{Node}
 use Rattle.nll_types.specs.declared.operand.Operand.{Operand as KeptOperand}
 use Rattle.nll_type_grammar.specs.WrittenTypes.{Name, WrittenType}
 use Rattle.nll_type_grammar.specs.TypeTexts.{written}
-use Rattle.nll_type_grammar.specs.declared.type_text.TypeNode.{TypeNode}
+use Rattle.nll_type_grammar.specs.declared.type_text.TypePiece.{TypePiece}
 use Rattle.nll_statements.specs.Statements.{Statement, is_terminator, map_statement, types_written}
 use Rattle.nll_statements.specs.Edges.{edges_from}
 use Rattle.nll_statements.specs.Written.{regions_written}
@@ -38,7 +38,7 @@ use Rattle.nll_mir_text.specs.MirReading.{scope_in}
 use Rattle.nll_mir_text.specs.MirFaults.{knows, shapes_fit}
 
 -- a statement of the code as its line has it
-abbrev pub as_written : Kept (Bor (List ℕ)) (List TypeNode) → Statement Name WrittenType
+abbrev pub as_written : Kept (Bor (List ℕ)) (List TypePiece) → Statement Name WrittenType
 as_written i = map_statement (λ r. r.now) written (statement_of i)
 
 -- a statement over numbers, with its types as trees
@@ -61,7 +61,7 @@ pub record IsOfStatement (s : Scope) (i : Statement Name WrittenType) (r : State
   pub meant : as_resolved r ≡ meant_in s i
 
 -- an argument of a call as it is meant, where names mean this
-abbrev pub argument_in : Scope → KeptOperand × List TypeNode → Operand × TypeTree
+abbrev pub argument_in : Scope → KeptOperand × List TypePiece → Operand × TypeTree
 argument_in s a = (operand_of a.0, meant s (written a.1))
 
 -- an argument of a call of the code over numbers
@@ -70,7 +70,7 @@ argument_resolved a = (operand_of a.0, tree_of a.1)
 
 -- The names in the types of arguments are declared, and the arguments over numbers are what these
 -- mean.
-pub record AreOfArguments (s : Scope) (texts : List (KeptOperand × List TypeNode))
+pub record AreOfArguments (s : Scope) (texts : List (KeptOperand × List TypePiece))
     (args : List (KeptOperand × Resolved)) : Type 0 where
   pub known : list_all (λ a. is_known s (written a.1)) texts ≡ true
   pub fits : list_all (λ a. a.1.fits) args ≡ list_all (λ a. has_arguments s (written a.1)) texts
@@ -78,9 +78,9 @@ pub record AreOfArguments (s : Scope) (texts : List (KeptOperand × List TypeNod
 
 -- Of all arguments those that are left are not gone through yet; of the others the names are
 -- declared, and the arguments over numbers are what these mean.
-pub record AreAmid (s : Scope) (all left : List (KeptOperand × List TypeNode))
+pub record AreAmid (s : Scope) (all left : List (KeptOperand × List TypePiece))
     (args : List (KeptOperand × Resolved)) : Type 0 where
-  pub front : List (KeptOperand × List TypeNode)
+  pub front : List (KeptOperand × List TypePiece)
   pub cut : front ++ left ≡ all
   pub of : AreOfArguments s front args
 

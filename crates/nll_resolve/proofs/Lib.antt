@@ -1,7 +1,6 @@
 pub mod NameLaws
-pub mod MeantLemmas
-pub mod PieceLemmas
-pub mod PushLemmas
-pub mod ResolvedLemmas
-pub mod ToldLemmas
-pub mod WrittenLemmas
+mod KindLemmas
+mod RowLemmas
+mod StateLemmas
+mod ResolvedLemmas
+mod ShapedLemmas

@@ -1,3 +1,5 @@
 pub mod Naming
 pub mod Resolution
 pub mod ToldTypes
+pub mod Resolving
+pub mod ShapedPieces

@@ -10,7 +10,8 @@ use Rattle.nll_statements.specs.Statements.{Statement, assign, borrow, make, rea
 use Rattle.nll_statements.specs.Effects.{operands_of, defined, dropped, whole_variable}
 use Rattle.nll_statement_list.specs.declared.piece.Piece.{Piece}
 use Rattle.nll_statement_list.specs.declared.piece.Piece.TheVariants.{Assign, Borrow, Make, Read, Live, Dead, Drop, Call, Of}
-use Rattle.nll_statement_list.specs.Pieces.{projection_piece, place_pieces, operand_pieces, operands_pieces, reference_piece, type_pieces, signature, pairs_pieces, exits_pieces, statement_pieces}
+use Rattle.nll_statement_list.specs.Pieces.{projection_piece, place_pieces, operand_pieces, operands_pieces, type_pieces, signature, pairs_pieces, exits_pieces, statement_pieces}
+use Rattle.nll_statement_list.specs.TypePieces.{reference_piece}
 use Rattle.nll_statement_list.specs.Reading.{first, path}
 
 -- ---- a statement is some pieces, and what stands behind them changes nothing of the first

@@ -11,7 +11,8 @@ use Rattle.nll_types.specs.declared.operand.Operand.{Operand as Written}
 use Rattle.nll_statements.specs.Effects.{operands_of}
 use Rattle.nll_statements.specs.Kept.{arguments_of}
 use Rattle.nll_statements.specs.Statements.{call, map_statement}
-use Rattle.nll_statement_list.specs.Pieces.{statement_pieces, projection_piece, steps, parts, place_pieces, operands_pieces, type_pieces, pairs_pieces, exits_pieces}
+use Rattle.nll_statement_list.specs.Pieces.{statement_pieces, projection_piece, place_pieces, operands_pieces, type_pieces, pairs_pieces, exits_pieces}
+use Rattle.nll_statement_list.specs.TypePieces.{steps, parts}
 use Rattle.nll_statement_list.specs.declared.piece.Piece.{Piece}
 use Rattle.nll_statement_list.specs.declared.piece.Piece.TheVariants.{Call, Part}
 

@@ -11,7 +11,8 @@ use Rattle.nll_statements.specs.Statements.{Statement, assign, borrow, make, rea
 use Rattle.nll_statements.specs.Effects.{operands_of}
 use Rattle.nll_statement_list.specs.declared.piece.Piece.{Piece}
 use Rattle.nll_statement_list.specs.declared.piece.Piece.TheVariants.{Assign, Borrow, Make, Read, Call, Copy, Move, Of}
-use Rattle.nll_statement_list.specs.Pieces.{projection_piece, place_pieces, operand_pieces, operands_pieces, reference_piece, type_pieces, signature, pairs_pieces, blocks_pieces, exits_pieces, statement_pieces}
+use Rattle.nll_statement_list.specs.Pieces.{projection_piece, place_pieces, operand_pieces, operands_pieces, type_pieces, signature, pairs_pieces, blocks_pieces, exits_pieces, statement_pieces}
+use Rattle.nll_statement_list.specs.TypePieces.{reference_piece}
 use Rattle.nll_statement_list.specs.Reading.{Taken, first, behind_first, projection_of, projections_behind, projections_at, operand_by, operand_at, operand_or, operands_behind, operands_from, list_of, inputs, output, paired, pairs_at, blocks_at, block_of, block_or, region_of, is_mutable, borrowed, call_at, statement_by, statement_at, type_at}
 use Rattle.nll_statement_list.proofs.TypeReadLemmas.{three, type_read}
 

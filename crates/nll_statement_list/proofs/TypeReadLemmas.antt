@@ -5,7 +5,8 @@ use Rattle.nll_types.specs.Types.{TypeTree, TypeTrees, int, parameter, reference
 use Rattle.nll_types.specs.Views.{row_of}
 use Rattle.nll_statement_list.specs.declared.piece.Piece.{Piece}
 use Rattle.nll_statement_list.specs.declared.piece.Piece.TheVariants.{End, Part, Tuple, Named, Region, Function}
-use Rattle.nll_statement_list.specs.Pieces.{reference_piece, number_pieces, steps, parts, type_pieces}
+use Rattle.nll_statement_list.specs.Pieces.{type_pieces}
+use Rattle.nll_statement_list.specs.TypePieces.{reference_piece, number_pieces, steps, parts}
 use Rattle.nll_statement_list.specs.Reading.{Made, Taken, top, made_from, type_at, list_of}
 
 -- a number of what fits a piece, and how often 2^32 is in it
@@ -85,3 +86,12 @@ pub type_read : (t : TypeTree) (rest : List Piece) → type_at (type_pieces t ++
 type_read t rest =
     ap (λ (m : Taken Made). (top m.0.0, m.1))
     (ap (made_from ([], [])) (append_assoc (steps t) (End ∷ []) rest) ∙ type_made t (End ∷ rest) [] [])
+
+-- a type is that of its pieces alone
+pub type_back : (t : TypeTree) → (type_at (steps t)).0 ≡ t
+type_back t =
+    ap (λ (m : Taken Made). top m.0.0)
+    (ap (made_from ([], [])) (sym (append-nil (steps t))) ∙ type_made t [] [] [])
+
+pub type_is : (ps : List Piece) (t : TypeTree) → ps ≡ steps t → (type_at ps).0 ≡ t
+type_is ps t e = ap (λ (qs : List Piece). (type_at qs).0) e ∙ type_back t

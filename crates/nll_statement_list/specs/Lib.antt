@@ -1,3 +1,4 @@
+pub mod TypePieces
 pub mod Pieces
 pub mod Reading
 pub mod MadeTypes

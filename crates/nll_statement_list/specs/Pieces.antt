@@ -1,9 +1,8 @@
 -- Which pieces a statement is kept as.
 -- Source: project's choice. Private contracts alone cite this file.
-use Rattle.std.specs.Prelude.{ℕ, ◌%◌, ◌/◌, ◌^◌, Bool, true, false, List, [], ◌∷◌, ◌++◌, map}
+use Rattle.std.specs.Prelude.{ℕ, List, [], ◌∷◌, ◌++◌, map}
 use Rattle.std.specs.Prelude.{Option, Some, None}
-use Rattle.nll_types.specs.Types.{TypeTree, TypeTrees, int, parameter, reference, tuple, named}
-use Rattle.nll_types.specs.Types.{function, none, more}
+use Rattle.nll_types.specs.Types.{TypeTree, function}
 use Rattle.nll_types.specs.Places.{PlacePath}
 use Rattle.nll_types.specs.Operands.{Operand, constant, copied, moved}
 use Rattle.nll_types.specs.Views.{row_of}
@@ -12,15 +11,14 @@ use Rattle.nll_types.specs.declared.place.Projection.TheVariants as taken
 use Rattle.nll_statements.specs.Statements.{Statement, assign, borrow, make, read, live, dead, nop}
 use Rattle.nll_statements.specs.Statements.{goto, switch, drop, call, return, stop}
 use Rattle.nll_statements.specs.Effects.{operands_of}
+use Rattle.nll_statement_list.specs.TypePieces.{reference_piece, steps}
 use Rattle.nll_statement_list.specs.declared.piece.Piece.{Piece}
 use Rattle.nll_statement_list.specs.declared.piece.Piece.TheVariants.{End, Deref, Field, Const}
-use Rattle.nll_statement_list.specs.declared.piece.Piece.TheVariants.{Copy, Move, Int, Parameter}
-use Rattle.nll_statement_list.specs.declared.piece.Piece.TheVariants.{Shared, Mutable, Row, Part}
-use Rattle.nll_statement_list.specs.declared.piece.Piece.TheVariants.{Tuple, Named, Region, Function}
-use Rattle.nll_statement_list.specs.declared.piece.Piece.TheVariants.{More, Assign, Borrow, Make}
-use Rattle.nll_statement_list.specs.declared.piece.Piece.TheVariants.{Read, Live, Dead, Nop, Goto}
-use Rattle.nll_statement_list.specs.declared.piece.Piece.TheVariants.{Switch, Drop, Call, Return}
-use Rattle.nll_statement_list.specs.declared.piece.Piece.TheVariants.{Stop, Of, Block, Longer, Shorter}
+use Rattle.nll_statement_list.specs.declared.piece.Piece.TheVariants.{Copy, Move, Assign, Borrow}
+use Rattle.nll_statement_list.specs.declared.piece.Piece.TheVariants.{Make, Read, Live, Dead, Nop}
+use Rattle.nll_statement_list.specs.declared.piece.Piece.TheVariants.{Goto, Switch, Drop, Call}
+use Rattle.nll_statement_list.specs.declared.piece.Piece.TheVariants.{Return, Stop, Of, Block}
+use Rattle.nll_statement_list.specs.declared.piece.Piece.TheVariants.{Longer, Shorter}
 
 -- ---- places and operands
 
@@ -42,31 +40,7 @@ abbrev pub operands_pieces : List Operand → List Piece
 operands_pieces [] = End ∷ []
 operands_pieces (op ∷ ops) = operand_pieces op ++ operands_pieces ops
 
--- ---- types: parts stand before what they are parts of
-
--- a number that may not fit a piece: what fits, and how often 2^32 is in the number
-abbrev pub number_pieces : (ℕ → Piece) → ℕ → List Piece
-number_pieces head n = head (n % 2 ^ 32) ∷ More (n / 2 ^ 32) ∷ []
-
--- a reference of a region, `mut` or not
-abbrev pub reference_piece : Bool → ℕ → Piece
-reference_piece false r = Shared r
-reference_piece true r = Mutable r
-
-abbrev mutual
-  -- the pieces that make a type
-  pub steps : TypeTree → List Piece
-  steps int = Int ∷ []
-  steps (parameter k) = number_pieces Parameter k
-  steps (reference r m t) = steps t ++ reference_piece m r ∷ []
-  steps (tuple ts) = Row ∷ parts ts ++ Tuple ∷ []
-  steps (named s rs ts) = Row ∷ parts ts ++ number_pieces Named s ++ map Region rs
-  steps (function ts t) = Row ∷ parts ts ++ steps t ++ Function ∷ []
-
-  -- the pieces that make each type of a row, and put it behind those that are in the row
-  pub parts : TypeTrees → List Piece
-  parts none = []
-  parts (more t ts) = steps t ++ Part ∷ parts ts
+-- ---- types
 
 -- a type, and the end of its pieces
 abbrev pub type_pieces : TypeTree → List Piece

@@ -1,6 +1,6 @@
 //! Statements in a row, in little memory.
-//! Read `piece` and `list`, then the modules that put pieces and those that take them;
-//! specs/Pieces.antt says which pieces a statement is.
+//! Read `piece`, `type_pieces` and `list`, then the modules that put pieces and those that take
+//! them; specs/TypePieces.antt says which pieces a type is, specs/Pieces.antt which a statement is.
 #![tactic(auto)]
 
 mod list;
@@ -13,9 +13,11 @@ mod statement;
 mod take_place;
 mod take_statement;
 mod take_type;
+mod type_pieces;
 mod uses;
 
 pub use list::StatementList;
 pub use piece::Piece;
 pub use put_type::PutType;
 pub use statement::Stmt;
+pub use type_pieces::TypePieces;

@@ -1,5 +1,9 @@
 //! The pieces in which statements are kept.
 
+ghost use Rattle.std.specs.Prelude.{◌≡◌};
+ghost use Rattle.nll_statement_list.specs.TypePieces.{reference_piece};
+
+use nll_problem::RegionId;
 use std::mem::size_of;
 
 /// A piece of a statement.
@@ -62,3 +66,16 @@ pub enum Piece {
 }
 
 const _: () = prove!(size_of::<Piece>() == 8);
+
+impl Piece {
+    /// The piece of a reference of this region, `mut` or not.
+    pub fn reference(region: RegionId, mutable: bool) -> Piece
+        ensures { result ≡ reference_piece mutable region }
+    {
+        if mutable {
+            Piece::Mutable(region.0)
+        } else {
+            Piece::Shared(region.0)
+        }
+    }
+}

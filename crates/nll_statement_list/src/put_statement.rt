@@ -7,7 +7,7 @@ ghost use Rattle.nll_types.specs.Places.{path_of};
 ghost use Rattle.nll_statements.specs.Kept.{call_of, made_of, statement_of};
 ghost use Rattle.nll_statements.specs.Statements.{assign, borrow, map_statement};
 ghost use Rattle.nll_statement_list.specs.Pieces.{blocks_pieces, exits_pieces, pairs_pieces};
-ghost use Rattle.nll_statement_list.specs.Pieces.{reference_piece, statement_pieces};
+ghost use Rattle.nll_statement_list.specs.Pieces.{statement_pieces};
 
 use crate::piece::Piece;
 use crate::put_place::{
@@ -18,17 +18,6 @@ use nll_problem::RegionId;
 use nll_sets::Memory;
 use nll_statements::{Call, Make, Statement};
 use nll_types::{Operand, Place};
-
-// A region of a reference as a piece.
-fn piece_of(region: RegionId, mutable: bool) -> Piece
-    ensures { result ≡ reference_piece mutable region }
-{
-    if mutable {
-        Piece::Mutable(region.0)
-    } else {
-        Piece::Shared(region.0)
-    }
-}
 
 // Puts pairs of regions behind the others, and their end.
 fn put_pairs(pairs: &[(RegionId, RegionId)], pieces: &mut Vec<Piece>) -> Result<(), Memory>
@@ -88,7 +77,7 @@ fn put_borrow(
     ensures begins { IsPrefix pieces.old.items pieces.new.items }
 {
     put_place(target, Piece::Borrow(variable_of(target)), pieces)?;
-    put(piece_of(region, mutable), pieces)?;
+    put(Piece::reference(region, mutable), pieces)?;
     put_place(source, Piece::Of(variable_of(source)), pieces)
 }
 

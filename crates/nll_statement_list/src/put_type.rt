@@ -4,7 +4,8 @@ ghost use Rattle.std.specs.Prelude.{◌≡◌, ◌++◌, ◌∷◌, [], map, OnO
 ghost use Rattle.nll_sets.specs.Prefix.{IsPrefix};
 ghost use Rattle.nll_types.specs.Types.{TypeTree, function};
 ghost use Rattle.nll_types.specs.Views.{row_of};
-ghost use Rattle.nll_statement_list.specs.Pieces.{parts, steps, type_pieces};
+ghost use Rattle.nll_statement_list.specs.Pieces.{type_pieces};
+ghost use Rattle.nll_statement_list.specs.TypePieces.{parts, steps};
 
 use crate::piece::Piece;
 use crate::put_place::put;

@@ -2,7 +2,7 @@
 use super::lines::OfLine;
 use super::rows::compare_text;
 use super::transcript::Transcript;
-use super::written_types::{write_flag, write_nodes};
+use super::written_types::{write_flag, write_pieces};
 use nll_mir_grammar::{Line, ParameterText, StructText, Version, line_of, one_form};
 use nll_sets::Memory;
 use nll_statements::{Call, Make, Statement};
@@ -38,7 +38,7 @@ fn write_operand(out: &mut Transcript, operand: &Operand) {
 fn write_make(out: &mut Transcript, made: &Make<TypeText<'_>>) {
     write_place(out, "_", &made.place);
     out.say(" = make ");
-    write_nodes(out, &made.ty);
+    write_pieces(out, &made.ty);
     for operand in made.operands.as_slice() {
         write_operand(out, operand);
         out.say(",");
@@ -60,11 +60,11 @@ fn write_call(out: &mut Transcript, call: &Call<&[u8], TypeText<'_>>) {
     for argument in call.arguments.as_slice() {
         write_operand(out, &argument.0);
         out.say(": ");
-        write_nodes(out, &argument.1);
+        write_pieces(out, &argument.1);
         out.say(",");
     }
     out.say(": ");
-    write_nodes(out, &call.result);
+    write_pieces(out, &call.result);
     for bound in call.wheres.as_slice() {
         out.part(" ", bound.0);
         out.part("", bound.1);
@@ -130,7 +130,7 @@ fn write_struct(out: &mut Transcript, text: &StructText<'_>) {
         out.say(marks_of(marks));
     }
     out.say(if text.has_drop { "drop " } else { "" });
-    write_nodes(out, text.fields.as_type());
+    write_pieces(out, text.fields.as_type());
 }
 
 // Writes a line.
@@ -149,7 +149,7 @@ fn write_line(out: &mut Transcript, line: &Line<'_>) {
         Line::Struct(text) => write_struct(out, text),
         Line::Let(variable, ty) => {
             out.number("let ", *variable, " ");
-            write_nodes(out, ty);
+            write_pieces(out, ty);
         }
         Line::Blocks(count) => out.number("blocks ", *count, ""),
         Line::Block(number) => out.number("block ", *number, ""),
@@ -230,15 +230,15 @@ assert 'x 'y ~ none
 assert 'x : ~ none
 assert 'x : 'y 'z ~ none
 assert x : 'y ~ none
-struct W() ~ struct W|tuple|
-struct F<'x - >(fn(&'x int) -> int) ~ struct F|'x|- int|& x| 0|int|fn 1 to 2|tuple 3|
-struct F<'x - ?, T -?, 'y +>() ~ struct F|'x|-? T|-? 'y|+ tuple|
+struct W() ~ struct W|row|tuple|
+struct F<'x - >(fn(&'x int) -> int) ~ struct F|'x|- row|row|int|& x|part|int|fn|part|tuple|
+struct F<'x - ?, T -?, 'y +>() ~ struct F|'x|-? T|-? 'y|+ row|tuple|
 struct F<'x ->() ~ none
-struct W<'x + ?, T => drop (&'x int, T) ~ struct W|'x|+? T|= drop int|& x| 0|T|tuple 1 2|
+struct W<'x + ?, T => drop (&'x int, T) ~ struct W|'x|+? T|= drop row|int|& x|part|row|T|part|tuple|
 struct W<> () ~ none
 struct W int ~ none
 struct w() ~ none
-let _3: &'p int ~ let 3 int|& p| 0|
+let _3: &'p int ~ let 3 int|& p|
 let 3: int ~ none
 blocks 3 ~ blocks 3
 blocks 03 ~ none
@@ -250,7 +250,7 @@ _3 = _1 ~ none
 _3 = &'r _1.* ~ _3 = & r|_1.*
 _3 = &'r mut _1 ~ _3 = mut r|_1
 _3 = & mut _1 ~ none
-_3 = make (T, int) (const, move _2.0) ~ _3 = make T|int|tuple 0 1|const,move _2.0,
+_3 = make (T, int) (const, move _2.0) ~ _3 = make row|row|T|part|int|part|tuple|const,move _2.0,
 _3 = make () ~ none
 read _3.* ~ read _3.*
 read _3.- ~ none
@@ -268,7 +268,7 @@ drop _1 -> bb1 ~ drop 1 to 1
 drop _1 -> bb1 unwind bb2 ~ drop 1 to 1 or 2
 drop _1 bb1 ~ none
 _2 = call call(copy _1: &'c int, const: int): &'c int -> bb1 \
-~ _2 = call copy _1: int|& c| 0|,const: int|,: int|& c| 0| to 1
+~ _2 = call copy _1: int|& c|,const: int|,: int|& c| to 1
 _2.0 = call f(): int where 'a: 'b, 'c: 'd -> bb1 unwind bb2 \
 ~ _2.0 = call : int| a|b| c|d| to 1 or 2
 _2 = call f(): int where -> bb1 ~ none

@@ -1,6 +1,5 @@
 pub mod TokenLemmas
 pub mod StepLemmas
-pub mod NodeLemmas
+pub mod PieceLemmas
 pub mod FurtherLemmas
 pub mod OneTree
-pub mod FunctionLemmas

@@ -5,7 +5,8 @@ use Rattle.std.specs.Borrow.{Bor}
 use Rattle.nll_text.specs.Tokens.{Token, word, region, arrow, sign}
 use Rattle.nll_type_grammar.specs.WrittenTypes.{Name, WrittenType, WrittenTypes, Arguments, int, reference, tuple, named, function, none, more, no_argument, region_argument, type_argument, is_capital, mutability, spelled, spelled_parts, spelled_more_parts, spelled_arguments, spelled_more_arguments, HasNames, HaveNames, ArgumentsHaveNames, IsFree, BeginsWithType}
 use Rattle.nll_type_grammar.specs.Reading.{HasNoType, IsTypeIn}
-use Rattle.nll_type_grammar.specs.OpenTypes.{Frame, behind, parts, arguments, inputs, output, joined, joined_arguments, Closes, GoesInside, Reads, GoesOn, GoesOnWithRegion, Finishes, Steps, IsStuck, IsNoFront, Begins}
+use Rattle.nll_type_grammar.specs.TypeTexts.{joined_arguments}
+use Rattle.nll_type_grammar.specs.OpenTypes.{Frame, behind, parts, arguments, inputs, output, joined, Closes, GoesInside, Reads, GoesOn, GoesOnWithRegion, Finishes, Steps, IsStuck, IsNoFront, Begins}
 use Rattle.nll_type_grammar.specs.declared.opens.State.{State}
 use Rattle.nll_type_grammar.specs.declared.opens.State.TheVariants.{Want, WantArgument, Have, Inside, WantArrow}
 use Rattle.nll_type_grammar.specs.declared.fronts.Front.TheVariants as fronts
@@ -436,7 +437,7 @@ step_behind fs q m t ts = record { there = λ whole rest f. f; back = λ whole r
 -- a function is complete
 pub step_output : (fs : List Frame) (done : WrittenTypes) (t : WrittenType) (ts : List Token)
     → Steps Have (output done ∷ fs) t ts Have fs (function done t) ts
-step_output fs done t ts = record { there = λ whole rest f. f; back = λ whole rest f. f }
+step_output fs _ t ts = record { there = λ whole rest f. f; back = λ whole rest f. f }
 
 pub step_input : (fs : List Frame) (done : WrittenTypes) (t u' : WrittenType) (ts : List Token)
     → Steps Have (inputs done ∷ fs) t ts Inside (inputs (joined done (more t none)) ∷ fs) u' ts

@@ -4,6 +4,8 @@ use Rattle.std.specs.Prelude.{Bool, true, false, ◌||◌}
 use Rattle.nll_type_grammar.specs.WrittenTypes.{WrittenType, WrittenTypes, Arguments, int, reference}
 use Rattle.nll_type_grammar.specs.WrittenTypes.{tuple, named, function, none, more, no_argument}
 use Rattle.nll_type_grammar.specs.WrittenTypes.{region_argument, type_argument}
+use Rattle.nll_type_grammar.specs.declared.type_text.TypePiece.{TypePiece}
+use Rattle.nll_type_grammar.specs.declared.type_text.TypePiece.TheVariants as pieces
 
 -- The type is a function, or a function is written in a part of it.
 abbrev mutual
@@ -22,3 +24,8 @@ abbrev mutual
   arguments_have_function no_argument = false
   arguments_have_function (region_argument r args) = arguments_have_function args
   arguments_have_function (type_argument t args) = has_function t || arguments_have_function args
+
+-- the piece makes a function
+abbrev pub is_function : TypePiece → Bool
+is_function pieces.Function = true
+is_function _ = false

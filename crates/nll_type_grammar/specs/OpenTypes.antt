@@ -1,23 +1,18 @@
 -- A type that is read in part: what is begun and not yet complete, and what may come next.
--- Source: project's choice.
+-- Source: project's choice. Only private contracts cite this file.
 use Rattle.std.specs.Prelude.{◌≡◌, ◌⊎◌, ℕ, Bool, true, false, List, [], ◌∷◌, ◌++◌, ◌<◌, ◌≤◌, ◌+◌}
-use Rattle.std.specs.Prelude.{◌*◌, ◌-◌, Some, slice_get, length, drop, reverse, map, codes, slice_index_or, All}
-use Rattle.std.specs.Global.{Vec, Box}
-use Rattle.std.specs.List.{AllByRecursion}
-use Rattle.std.specs.Borrow.{Bor}
+use Rattle.std.specs.Prelude.{◌*◌, length, drop, reverse, map, codes}
 use Rattle.nll_text.specs.Tokens.{Token, word, region, arrow, sign, views}
 use Rattle.nll_text.specs.declared.token.Token.{Token as InLine}
 use Rattle.nll_type_grammar.specs.WrittenTypes.{Name, WrittenType, WrittenTypes, Arguments}
 use Rattle.nll_type_grammar.specs.WrittenTypes.{reference, tuple, named, function, none, more}
-use Rattle.nll_type_grammar.specs.WrittenTypes.{no_argument, region_argument, type_argument}
+use Rattle.nll_type_grammar.specs.WrittenTypes.{region_argument, type_argument}
 use Rattle.nll_type_grammar.specs.WrittenTypes.{spelled, spelled_more_parts}
 use Rattle.nll_type_grammar.specs.WrittenTypes.{spelled_more_arguments, is_capital}
 use Rattle.nll_type_grammar.specs.WrittenTypes.{HasNames, HaveNames, ArgumentsHaveNames, IsFree}
-use Rattle.nll_type_grammar.specs.TypeTexts.{all_at, arguments_at, types_among, types_from, written}
-use Rattle.nll_type_grammar.specs.TypeTexts.{parts_of}
-use Rattle.nll_type_grammar.specs.declared.type_text.Argument.{Argument}
-use Rattle.nll_type_grammar.specs.declared.type_text.TypeNode.{TypeNode}
-use Rattle.nll_type_grammar.specs.declared.type_text.TypeNode.TheVariants as nodes
+use Rattle.nll_type_grammar.specs.TypeTexts.{Piece, begin_row, steps, part_steps, argument_steps}
+use Rattle.nll_type_grammar.specs.TypeTexts.{joined_arguments, plain}
+use Rattle.nll_type_grammar.specs.declared.type_text.TypePiece.{TypePiece}
 use Rattle.nll_type_grammar.specs.declared.fronts.Front.{Front}
 use Rattle.nll_type_grammar.specs.declared.fronts.Front.TheVariants as fronts
 use Rattle.nll_type_grammar.specs.declared.opens.State.{State}
@@ -25,7 +20,6 @@ use Rattle.nll_type_grammar.specs.declared.opens.State.TheVariants.{Want, WantAr
 use Rattle.nll_type_grammar.specs.declared.opens.State.TheVariants.{Inside, WantArrow}
 use Rattle.nll_type_grammar.specs.declared.opens.Open.{Open}
 use Rattle.nll_type_grammar.specs.declared.opens.Open.TheVariants as opens
-use Rattle.nll_type_grammar.specs.declared.opens.OpenName.{OpenName}
 
 -- ---- the tokens at the beginning of a type
 
@@ -79,12 +73,6 @@ pub data Frame : Type 0 where
 abbrev pub joined : WrittenTypes → WrittenTypes → WrittenTypes
 joined none us = us
 joined (more t ts) us = more t (joined ts us)
-
--- arguments, and then others
-abbrev pub joined_arguments : Arguments → Arguments → Arguments
-joined_arguments no_argument us = us
-joined_arguments (region_argument r ts) us = region_argument r (joined_arguments ts us)
-joined_arguments (type_argument t ts) us = type_argument t (joined_arguments ts us)
 
 -- the tokens begin with a type, which `<` may follow, and then come others
 pub record Reads (tokens : List Token) (t : WrittenType) (rest : List Token) : Type 0 where
@@ -170,46 +158,45 @@ abbrev pub IsStuck : State → List Frame → WrittenType → List Token → Typ
 IsStuck s frames t ts =
     (whole : WrittenType) (rest : List Token) → Finishes s frames t ts whole rest → ⊥
 
--- ---- frames that go by the numbers of nodes
+-- ---- pieces, and what is open
 
--- a frame, where the types before it are known
-abbrev pub frame_over : List WrittenType → Open → Frame
-frame_over known (opens.Behind m r) = behind r.now m
-frame_over known (opens.Tuple is) = parts (all_at known is.value.items)
-frame_over known (opens.Arguments n) =
-    arguments n.value.name.now (arguments_at known n.value.arguments.items)
-frame_over known (opens.Inputs is) = inputs (all_at known is.value.items)
-frame_over known (opens.Output is) = output (all_at known is.value.items)
+-- the pieces of what is begun, the innermost frame's last
+abbrev pub begun : List Frame → List Piece
+begun [] = []
+begun (behind r m ∷ frames) = begun frames
+begun (parts done ∷ frames) = begun frames ++ begin_row ∷ part_steps done
+begun (arguments n done ∷ frames) = begun frames ++ begin_row ∷ argument_steps done
+begun (inputs done ∷ frames) = begun frames ++ begin_row ∷ part_steps done
+begun (output done ∷ frames) = begun frames ++ begin_row ∷ part_steps done
 
--- the frames, the innermost first; it is the last of the list
-abbrev pub frames_of : List TypeNode → List Open → List Frame
-frames_of ns opened = reverse (map (frame_over (types_from [] ns)) opened)
+-- the pieces of the type that is complete, where one is
+abbrev pub complete : State → WrittenType → List Piece
+complete Have t = steps t
+complete Want t = []
+complete WantArgument t = []
+complete Inside t = []
+complete WantArrow t = []
 
--- the numbers of nodes in a frame
-abbrev pub numbers_of : Open → List ℕ
-numbers_of (opens.Behind m r) = []
-numbers_of (opens.Tuple is) = is.value.items
-numbers_of (opens.Arguments n) = types_among n.value.arguments.items
-numbers_of (opens.Inputs is) = is.value.items
-numbers_of (opens.Output is) = is.value.items
+-- The frame is what is open, with something that is read of it.
+abbrev pub IsOpen : Open → Frame → Type 0
+IsOpen (opens.Behind m r) f = f ≡ behind r.now m
+IsOpen opens.Tuple f = (done : WrittenTypes) × (f ≡ parts done)
+IsOpen (opens.Arguments n) f = (done : Arguments) × (f ≡ arguments n.now done)
+IsOpen opens.Inputs f = (done : WrittenTypes) × (f ≡ inputs done)
+IsOpen opens.Output f = (done : WrittenTypes) × (f ≡ output done)
 
--- Each of these numbers is below n.
-abbrev pub AreBelow : ℕ → List ℕ → Type 0
-AreBelow n numbers = AllByRecursion (λ k. k < n) numbers
+-- The frames are what is open, both the innermost first.
+abbrev pub AreOpen : List Open → List Frame → Type 0
+AreOpen [] [] = Unit {0}
+AreOpen (o ∷ os) (f ∷ frames) = IsOpen o f × AreOpen os frames
+AreOpen _ _ = ⊥
 
--- Each number in a frame is that of a node.
-abbrev pub AreOpen : ℕ → List Open → Type 0
-AreOpen n opened = AllByRecursion (λ o. AreBelow n (numbers_of o)) opened
-
--- The parts of each node come before it.
-abbrev pub AreParted : List TypeNode → Type 0
-AreParted ns =
-    (i : ℕ) → i < length ns → All (λ k. k < i) (parts_of (slice_index_or ns i nodes.Int))
-
--- The nodes and frames that were read fit together.
-pub record AreRead (ns : List TypeNode) (opened : List Open) : Type 0 where
-  pub parted : AreParted ns
-  pub frames : AreOpen (length ns) opened
+-- The pieces are those of the frames, and of the type where one is complete; the frames are what is
+-- open, the innermost last.
+pub record AreRead (s : State) (frames : List Frame) (t : WrittenType) (ps : List TypePiece)
+    (opened : List Open) : Type 0 where
+  pub pieces : map plain ps ≡ begun frames ++ complete s t
+  pub are_open : AreOpen (reverse opened) frames
 
 -- how many steps that take no token may come, apart from those that complete a reference or a
 -- function
@@ -220,98 +207,58 @@ pending Have = 1
 pending Inside = 0
 pending WantArrow = 0
 
--- The step takes n tokens; the nodes and frames after it fit together, and say the same.
-pub record GoesFurther (s : State) (ns : List TypeNode) (opened : List Open) (tokens : List InLine)
-    (s' : State) (ns' : List TypeNode) (opened' : List Open) (n : ℕ) : Type 0 where
+-- From these frames and this type the code came to others, and the same types come out.
+pub record ComesTo (s : State) (frames : List Frame) (t : WrittenType) (ts : List Token)
+    (s' : State) (ps' : List TypePiece) (opened' : List Open) (ts' : List Token) : Type 0 where
+  pub frames' : List Frame
+  pub t' : WrittenType
+  pub same : Steps s frames t ts s' frames' t' ts'
+  pub read : AreRead s' frames' t' ps' opened'
+
+-- The step takes n tokens, and the same types come out.
+pub record GoesFurther (s : State) (frames : List Frame) (t : WrittenType) (opened : List Open)
+    (tokens : List InLine) (s' : State) (ps' : List TypePiece) (opened' : List Open) (n : ℕ)
+    : Type 0 where
   pub within : n ≤ length tokens
   pub falls : length opened' + pending s' < length opened + pending s + 4 * n
-  pub same : Steps s (frames_of ns opened) (written ns) (views tokens)
-      s' (frames_of ns' opened') (written ns') (views (drop n tokens))
-  pub read : AreRead ns' opened'
-  pub some : s' ≡ Have → 0 < length ns'
+  pub comes : ComesTo s frames t (views tokens) s' ps' opened' (views (drop n tokens))
 
--- A type began like this: the nodes and frames fit together, and say the same.
-pub record IsBegun (front : Front) (ns : List TypeNode) (opened : List Open)
-    (s' : State) (ns' : List TypeNode) (opened' : List Open) : Type 0 where
-  pub same : (ts rest : List Token) → Begins front ts rest → Steps Want (frames_of ns opened)
-      (written ns) ts s' (frames_of ns' opened') (written ns') rest
-  pub read : AreRead ns' opened'
+-- A type began like this, and the same types come out.
+pub record IsBegun (front : Front) (frames : List Frame) (t : WrittenType) (opened : List Open)
+    (s' : State) (ps' : List TypePiece) (opened' : List Open) : Type 0 where
+  pub comes :
+      (ts rest : List Token) → Begins front ts rest
+      → ComesTo Want frames t ts s' ps' opened' rest
   pub few : length opened' + pending s' ≤ length opened + 2
-  pub some : s' ≡ Have → 0 < length ns'
 
--- A complete type became a part of the innermost thing that was open, and that says the same.
-pub record IsCompleted (ns : List TypeNode) (opened : List Open)
-    (s' : State) (ns' : List TypeNode) (opened' : List Open) : Type 0 where
-  pub same : (ts : List Token) → Steps Have (frames_of ns opened) (written ns) ts
-      s' (frames_of ns' opened') (written ns') ts
-  pub read : AreRead ns' opened'
+-- A complete type became a part of the innermost thing that was open, or completed it, and the
+-- same types come out.
+pub record IsCompleted (frames : List Frame) (t : WrittenType) (opened : List Open)
+    (s' : State) (ps' : List TypePiece) (opened' : List Open) : Type 0 where
+  pub comes : (ts : List Token) → ComesTo Have frames t ts s' ps' opened' ts
   pub few : length opened' + pending s' ≤ length opened
-  pub some : 0 < length ns'
 
--- it has parts, this sign closes it, and this may come behind a comma
-abbrev pub IsEnded : Open → ℕ → State → Type 0
-IsEnded (opens.Behind m r) c s = ⊥
-IsEnded (opens.Tuple is) c s = (c ≡ 41) × (s ≡ Want)
-IsEnded (opens.Arguments n) c s = (c ≡ 62) × (s ≡ WantArgument)
-IsEnded (opens.Inputs is) c s = (c ≡ 41) × (s ≡ Want)
-IsEnded (opens.Output is) c s = ⊥
+-- the innermost frame takes a region
+abbrev pub takes_region : List Frame → Bool
+takes_region [] = false
+takes_region (behind _ _ ∷ frames) = false
+takes_region (parts _ ∷ frames) = false
+takes_region (arguments _ _ ∷ frames) = true
+takes_region (inputs _ ∷ frames) = false
+takes_region (output _ ∷ frames) = false
 
--- the same of the innermost thing that is open
-abbrev pub EndsWith : List Open → ℕ → State → Type 0
-EndsWith opened c s =
-    (o : Open) × (slice_get opened (length opened - 1) ≡ Some o) × IsEnded o c s
+-- The sign closes what is innermost in the frames, which has parts, and this may come behind a
+-- comma.
+abbrev pub EndsWith : List Frame → ℕ → State → Type 0
+EndsWith [] c s = ⊥
+EndsWith (behind _ _ ∷ frames) c s = ⊥
+EndsWith (parts _ ∷ frames) c s = (c ≡ 41) × (s ≡ Want)
+EndsWith (arguments _ _ ∷ frames) c s = (c ≡ 62) × (s ≡ WantArgument)
+EndsWith (inputs _ ∷ frames) c s = (c ≡ 41) × (s ≡ Want)
+EndsWith (output _ ∷ frames) c s = ⊥
 
--- the node that it becomes
-abbrev pub Becomes : Open → TypeNode → Type 0
-Becomes (opens.Behind m r) n = ⊥
-Becomes (opens.Tuple is) n = n ≡ nodes.Tuple is.value
-Becomes (opens.Arguments q) n = n ≡ nodes.Named q.value.name q.value.arguments
-Becomes (opens.Inputs is) n = ⊥
-Becomes (opens.Output is) n = ⊥
-
--- The innermost thing that was open is a node, behind the others.
-pub record IsClosed (o : Open) (ns : List TypeNode) (opened : List Open)
-    (s' : State) (ns' : List TypeNode) (opened' : List Open) : Type 0 where
-  pub have : s' ≡ Have
-  pub inner : opened ≡ opened' ++ o ∷ []
-  pub put : (n : TypeNode) × (ns' ≡ ns ++ n ∷ []) × Becomes o n
-
--- The innermost thing that was open was a function, and all its arguments are read.
-pub record IsAwaiting (o : Open) (ns : List TypeNode) (opened : List Open)
-    (s' : State) (ns' : List TypeNode) (opened' : List Open) : Type 0 where
-  pub awaits : s' ≡ WantArrow
-  pub same : ns' ≡ ns
-  pub outer : List Open
-  pub arguments : Box (Vec ℕ)
-  pub was : o ≡ opens.Inputs arguments
-  pub inner : opened ≡ outer ++ o ∷ []
-  pub held : opened' ≡ outer ++ opens.Output arguments ∷ []
-
--- the innermost thing that was open has ended
-abbrev pub HasEnded : Open → List TypeNode → List Open → State → List TypeNode → List Open → Type 0
-HasEnded o ns opened s' ns' opened' =
-    IsClosed o ns opened s' ns' opened' ⊎ IsAwaiting o ns opened s' ns' opened'
-
--- A function is open, and has one argument more than these.
-pub record HasMoreInputs (opened : List Open) (inputs : List ℕ) (input : ℕ)
-    (s' : State) (opened' : List Open) : Type 0 where
-  pub inside : s' ≡ Inside
-  pub held :
-      (v : Box (Vec ℕ)) × (v.value.items ≡ inputs ++ input ∷ [])
-      × (opened' ≡ opened ++ opens.Inputs v ∷ [])
-
--- A tuple is open, and has one part more than these.
-pub record HasMoreParts (opened : List Open) (parts : List ℕ) (part : ℕ)
-    (s' : State) (opened' : List Open) : Type 0 where
-  pub inside : s' ≡ Inside
-  pub held :
-      (v : Box (Vec ℕ)) × (v.value.items ≡ parts ++ part ∷ [])
-      × (opened' ≡ opened ++ opens.Tuple v ∷ [])
-
--- A name is open, and has one argument more than these.
-pub record HasMoreArguments (opened : List Open) (name : Bor (List ℕ)) (args : List Argument)
-    (arg : Argument) (s' : State) (opened' : List Open) : Type 0 where
-  pub inside : s' ≡ Inside
-  pub held :
-      (v : Box OpenName) × (v.value.name ≡ name) × (v.value.arguments.items ≡ args ++ arg ∷ [])
-      × (opened' ≡ opened ++ opens.Arguments v ∷ [])
+-- The innermost thing that was open is closed by this sign, and the same types come out.
+pub record IsClosed (frames : List Frame) (t : WrittenType) (c : ℕ) (opened : List Open)
+    (s' : State) (ps' : List TypePiece) (opened' : List Open) : Type 0 where
+  pub comes : (ts : List Token) → ComesTo Inside frames t (sign c ∷ ts) s' ps' opened' ts
+  pub few : length opened' + pending s' ≤ length opened + 1

@@ -2,7 +2,6 @@
 #![tactic(auto)]
 
 mod fronts;
-mod functions;
 mod laws;
 mod opens;
 mod type_reader;
@@ -11,4 +10,4 @@ mod type_text;
 pub use fronts::is_capital;
 pub use laws::{a_type_has_tokens, one_type_at_most};
 pub use type_reader::type_at;
-pub use type_text::{Argument, TypeNode, TypeText};
+pub use type_text::{TypePiece, TypeText};

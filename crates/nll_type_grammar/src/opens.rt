@@ -1,52 +1,38 @@
 //! What of a type is begun and not complete, and one step through a type.
 
-ghost use Rattle.std.specs.Prelude.{◌≡◌, ◌∷◌, [], ◌++◌, ◌<◌, ◌-◌, ℕ, List, length};
-ghost use Rattle.std.specs.Prelude.{IfOk, MatchOption, Some, slice_get, drop};
+ghost use Rattle.std.specs.Prelude.{◌≡◌, ◌∷◌, [], ◌++◌, ◌<◌, ◌-◌, ℕ, List, length, take, drop};
+ghost use Rattle.std.specs.Prelude.{IfOk, IfSome, MatchOption};
 ghost use Rattle.nll_text.specs.Tokens as lex;
 ghost use Rattle.nll_text.specs.Tokens.{views};
-ghost use Rattle.nll_type_grammar.specs.TypeTexts.{written};
-ghost use Rattle.nll_type_grammar.specs.declared.type_text.TypeNode.{TypeNode as node};
-ghost use Rattle.nll_type_grammar.specs.OpenTypes.{Frame, IsStuck, AreRead, GoesFurther, IsBegun};
-ghost use Rattle.nll_type_grammar.specs.OpenTypes.{IsCompleted, HasMoreParts, HasMoreArguments};
-ghost use Rattle.nll_type_grammar.specs.OpenTypes.{HasMoreInputs, frames_of, EndsWith, HasEnded};
-ghost use Rattle.nll_type_grammar.specs.OpenTypes.{IsEnded};
+ghost use Rattle.nll_type_grammar.specs.OpenTypes.{AreRead, EndsWith, Frame, GoesFurther, IsBegun};
+ghost use Rattle.nll_type_grammar.specs.OpenTypes.{IsClosed, IsCompleted, IsStuck, takes_region};
 ghost use Rattle.nll_type_grammar.specs.WrittenTypes.{WrittenType};
-ghost use Rattle.nll_type_grammar.specs.declared.opens.Open.{Open as opening};
 ghost use Rattle.nll_type_grammar.specs.declared.opens.State.{State as stage};
+ghost use Rattle.nll_type_grammar.specs.declared.type_text.TypePiece.{TypePiece as piece};
 
 use crate::fronts::{Front, front_at, is_sign, region_at};
-use crate::type_text::{Argument, TypeNode};
+use crate::type_text::TypePiece;
 use nll_sets::Memory;
 use nll_text::Token;
 use smallvec::SmallVec;
-use std::alloc::Global;
 use std::mem::size_of;
 
-/// A name, and the arguments read so far.
-#[derive(Drop)]
-pub struct OpenName<'a> {
-    name: &'a [u8],
-    arguments: Vec<Argument<'a>>,
-}
-
-/// What is begun and not complete; parts go by the numbers of their nodes.
+/// What is begun and not complete.
 ///
 /// # Size
-/// It has the size that a reference needs: a text may have millions of them in one another. What
-/// else may be open is behind one pointer, and the `bool` stands in front of the name, beside the
-/// tag.
-#[derive(Drop)]
+/// It has the size that a reference needs: a text may have millions of them in one another.
+#[derive(Clone, Copy)]
 pub enum Open<'a> {
     /// A reference: whether it is `mut`, and its region's name.
     Behind(bool, &'a [u8]),
-    /// A tuple, with the parts read so far.
-    Tuple(Box<Vec<usize>>),
-    /// A name, and the arguments read so far.
-    Arguments(Box<OpenName<'a>>),
-    /// A function, with the arguments read so far.
-    Inputs(Box<Vec<usize>>),
-    /// A function with these arguments, whose result comes next.
-    Output(Box<Vec<usize>>),
+    /// A tuple, whose row is begun.
+    Tuple,
+    /// A name, the row of whose arguments is begun.
+    Arguments(&'a [u8]),
+    /// A function, the row of whose arguments is begun.
+    Inputs,
+    /// A function whose arguments are all in the row, and whose result comes next.
+    Output,
 }
 
 const _: () = prove!(size_of::<Open<'_>>() == 24);
@@ -58,7 +44,7 @@ pub enum State {
     Want,
     /// A type or a region.
     WantArgument,
-    /// The last node is a complete type.
+    /// A type is complete.
     Have,
     /// What follows a part or an argument of the innermost thing that is open.
     Inside,
@@ -68,20 +54,24 @@ pub enum State {
 
 impl<'a> Default for Open<'a> {
     fn default() -> Open<'a> {
-        Open::Behind(false, &[])
+        Open::Tuple
     }
 }
 
 /// What is open, the innermost last. Few types are so deep that this needs memory of its own.
 pub type Opened<'a> = SmallVec<Open<'a>, 3>;
 
-// Puts a node behind the others: a type is complete.
-fn put<'a>(nodes: &mut Vec<TypeNode<'a>>, node: TypeNode<'a>) -> Result<State, Memory>
+// Puts a piece behind the others, behind which this may come next.
+fn put<'a>(
+    pieces: &mut Vec<TypePiece<'a>>,
+    piece: TypePiece<'a>,
+    state: State,
+) -> Result<State, Memory>
     ensures { IfOk result
-        (λ s. (s ≡ State.Have) × (nodes.new.items ≡ nodes.old.items ++ node.entry ∷ [])) }
+        (λ s. (s ≡ state) × (pieces.new.items ≡ pieces.old.items ++ piece.entry ∷ [])) }
 {
-    nodes.push(node)?;
-    Ok(State::Have)
+    pieces.push(piece)?;
+    Ok(state)
 }
 
 // Opens something, in which this may come next.
@@ -93,211 +83,191 @@ fn put_open<'a>(opened: &mut Opened<'a>, inner: Open<'a>, state: State) -> Resul
     Ok(state)
 }
 
-// No parts so far.
-fn no_parts(alloc: Global) -> Result<Box<Vec<usize>>, Memory>
-    ensures { IfOk result (λ b. b.value.items ≡ []) }
+// Puts a row without arguments behind the others, and what is made of it: a type is complete.
+fn put_empty<'a>(pieces: &mut Vec<TypePiece<'a>>, piece: TypePiece<'a>) -> Result<State, Memory>
+    ensures { IfOk result (λ s. (s ≡ State.Have)
+        × (pieces.new.items ≡ pieces.old.items ++ TypePiece.Row ∷ piece.entry ∷ [])) }
 {
-    Ok(Box::new(alloc, Vec::new(alloc))?)
+    pieces.push(TypePiece::Row)?;
+    put(pieces, piece, State::Have)
 }
 
-// A name without arguments so far.
-fn no_arguments<'a>(alloc: Global, name: &'a [u8]) -> Result<Box<OpenName<'a>>, Memory>
-    ensures name { IfOk result (λ b. b.value.name ≡ name.entry) }
-    ensures arguments { IfOk result (λ b. b.value.arguments.items ≡ []) }
+// Opens something whose row begins, in which this may come next.
+fn open_row<'a>(
+    pieces: &mut Vec<TypePiece<'a>>,
+    opened: &mut Opened<'a>,
+    inner: Open<'a>,
+    state: State,
+) -> Result<State, Memory>
+    ensures { IfOk result (λ s. (s ≡ state)
+        × (pieces.new.items ≡ pieces.old.items ++ TypePiece.Row ∷ [])
+        × (opened.new.items ≡ opened.old.items ++ inner.entry ∷ [])) }
 {
-    let arguments = Vec::new(alloc);
-    Ok(Box::new(alloc, OpenName { name, arguments })?)
+    pieces.push(TypePiece::Row)?;
+    put_open(opened, inner, state)
 }
 
 /// Goes on behind the beginning of a type.
 pub fn begin<'a>(
-    alloc: Global,
     front: Front<'a>,
-    nodes: &mut Vec<TypeNode<'a>>,
+    pieces: &mut Vec<TypePiece<'a>>,
     opened: &mut Opened<'a>,
 ) -> Result<State, Memory>
-    requires { AreRead nodes.old.items opened.old.items }
-    ensures { IfOk result (λ s. IsBegun front.entry nodes.old.items opened.old.items
-        s nodes.new.items opened.new.items) }
+    ensures { IfOk result (λ s. (frames : List Frame) (t : WrittenType)
+        → AreRead State.Want frames t pieces.old.items opened.old.items
+        → IsBegun front.entry frames t opened.old.items s pieces.new.items opened.new.items) }
 {
     match front {
-        Front::Int => put(nodes, TypeNode::Int),
-        Front::Unit => put(nodes, TypeNode::Tuple(Vec::new(alloc))),
-        Front::Tuple => put_open(opened, Open::Tuple(no_parts(alloc)?), State::Want),
-        Front::Reference(region, is_mut) => put_open(
+        Front::Int => put(pieces, TypePiece::Int, State::Have),
+        Front::Unit => put_empty(pieces, TypePiece::Tuple),
+        Front::Tuple => open_row(pieces, opened, Open::Tuple, State::Want),
+        Front::Reference(region, is_mut) => {
+            put_open(opened, Open::Behind(is_mut, region), State::Want)
+        }
+        Front::Generic(name) => open_row(
+            pieces,
             opened,
-            Open::Behind(is_mut, region),
-            State::Want,
-        ),
-        Front::Generic(name) => put_open(
-            opened,
-            Open::Arguments(no_arguments(alloc, name)?),
+            Open::Arguments(name),
             State::WantArgument,
         ),
-        Front::Name(name) => put(nodes, TypeNode::Named(name, Vec::new(alloc))),
-        Front::Thunk => put_open(opened, Open::Output(no_parts(alloc)?), State::WantArrow),
-        Front::Function => put_open(opened, Open::Inputs(no_parts(alloc)?), State::Want),
+        Front::Name(name) => put_empty(pieces, TypePiece::Named(name)),
+        Front::Thunk => open_row(pieces, opened, Open::Output, State::WantArrow),
+        Front::Function => open_row(pieces, opened, Open::Inputs, State::Want),
     }
 }
 
 // One step where a type comes next: what may come then, and how many tokens it takes.
 fn want<'a>(
-    alloc: Global,
     tokens: &[Token<'a>],
-    nodes: &mut Vec<TypeNode<'a>>,
+    pieces: &mut Vec<TypePiece<'a>>,
     opened: &mut Opened<'a>,
 ) -> Result<Option<(State, usize)>, Memory>
-    requires { AreRead nodes.old.items opened.old.items }
-    ensures { IfOk result (λ o. MatchOption o
-        (IsStuck State.Want (frames_of nodes.old.items opened.old.items)
-        (written nodes.old.items) (views tokens.now))
-        (λ p. GoesFurther State.Want nodes.old.items opened.old.items tokens.now
-        p.0 nodes.new.items opened.new.items p.1)) }
+    ensures { (frames : List Frame) (t : WrittenType)
+        → AreRead State.Want frames t pieces.old.items opened.old.items
+        → IfOk result (λ o. MatchOption o (IsStuck State.Want frames t (views tokens.now))
+        (λ p. GoesFurther State.Want frames t opened.old.items tokens.now
+        p.0 pieces.new.items opened.new.items p.1)) }
 {
     match front_at(tokens) {
         Some((front, count)) => {
-            let state = begin(alloc, front, nodes, opened)?;
+            let state = begin(front, pieces, opened)?;
             Ok(Some((state, count)))
         }
         None => Ok(None),
     }
 }
 
-// Opens a tuple again, which has one more part.
-fn open_tuple<'a>(
-    opened: &mut Opened<'a>,
-    mut parts: Box<Vec<usize>>,
-    part: usize,
-) -> Result<State, Memory>
-    ensures { IfOk result (λ s. HasMoreParts opened.old.items parts.value.items part
-        s opened.new.items) }
+// Whether the arguments of a name are the innermost thing that is open.
+fn has_name(opened: &Opened<'_>) -> bool
+    ensures { (s : stage) (frames : List Frame) (t : WrittenType) (ps : List piece)
+        → AreRead s frames t ps opened.now.items → result ≡ takes_region frames }
 {
-    parts.push(part)?;
-    put_open(opened, Open::Tuple(parts), State::Inside)
-}
-
-// Opens a function again, which has one more argument.
-fn open_function<'a>(
-    opened: &mut Opened<'a>,
-    mut inputs: Box<Vec<usize>>,
-    input: usize,
-) -> Result<State, Memory>
-    ensures { IfOk result (λ s. HasMoreInputs opened.old.items inputs.value.items input
-        s opened.new.items) }
-{
-    inputs.push(input)?;
-    put_open(opened, Open::Inputs(inputs), State::Inside)
-}
-
-// Opens a name again, which has one more argument.
-fn open_name<'a>(
-    opened: &mut Opened<'a>,
-    mut name: Box<OpenName<'a>>,
-    argument: Argument<'a>,
-) -> Result<State, Memory>
-    ensures { IfOk result (λ s. HasMoreArguments opened.old.items name.entry.value.name
-        name.entry.value.arguments.items argument.entry s opened.new.items) }
-{
-    name.arguments.push(argument)?;
-    put_open(opened, Open::Arguments(name), State::Inside)
+    match opened.as_slice().last() {
+        Some(Open::Arguments(_)) => true,
+        _ => false,
+    }
 }
 
 // One step where a type or a region comes next.
 fn want_argument<'a>(
     tokens: &[Token<'a>],
-    opened: &mut Opened<'a>,
+    pieces: &mut Vec<TypePiece<'a>>,
+    opened: &Opened<'a>,
 ) -> Result<Option<(State, usize)>, Memory>
-    ensures { IfOk result (λ o. MatchOption o
-        ((ns : List node) → IsStuck State.WantArgument (frames_of ns opened.old.items)
-        (written ns) (views tokens.now))
-        (λ p. (ns : List node) → AreRead ns opened.old.items →
-        GoesFurther State.WantArgument ns opened.old.items tokens.now
-        p.0 ns opened.new.items p.1)) }
+    ensures { (frames : List Frame) (t : WrittenType)
+        → AreRead State.WantArgument frames t pieces.old.items opened.now.items
+        → IfOk result (λ o. MatchOption o (IsStuck State.WantArgument frames t (views tokens.now))
+        (λ p. GoesFurther State.WantArgument frames t opened.now.items tokens.now
+        p.0 pieces.new.items opened.now.items p.1)) }
 {
     let Some(region) = region_at(tokens) else {
         return Ok(Some((State::Want, 0)));
     };
-    match opened.pop() {
-        Some(Open::Arguments(name)) => {
-            let state = open_name(opened, name, Argument::Region(region))?;
-            Ok(Some((state, 1)))
-        }
-        Some(Open::Behind(..)) => Ok(None),
-        Some(Open::Tuple(_)) => Ok(None),
-        Some(Open::Inputs(_)) => Ok(None),
-        Some(Open::Output(_)) => Ok(None),
-        None => Ok(None),
+    if !has_name(opened) {
+        return Ok(None);
     }
+    let state = put(pieces, TypePiece::Region(region), State::Inside)?;
+    Ok(Some((state, 1)))
 }
 
-// One step behind a complete type, which becomes a part of the innermost thing that is open.
-fn complete<'a>(nodes: &mut Vec<TypeNode<'a>>, opened: &mut Opened<'a>) -> Result<State, Memory>
-    requires read { AreRead nodes.old.items opened.old.items }
-    requires some { 0 < length nodes.old.items }
-    requires inside { 0 < length opened.old.items }
-    ensures { IfOk result (λ s. IsCompleted nodes.old.items opened.old.items
-        s nodes.new.items opened.new.items) }
+// Ends the innermost thing that is open: its type is made and complete.
+fn end<'a>(
+    pieces: &mut Vec<TypePiece<'a>>,
+    opened: &mut Opened<'a>,
+    piece: TypePiece<'a>,
+) -> Result<State, Memory>
+    requires { 0 < length opened.old.items }
+    ensures { IfOk result (λ s. (s ≡ State.Have)
+        × (pieces.new.items ≡ pieces.old.items ++ piece.entry ∷ [])
+        × (opened.new.items ≡ take (length opened.old.items - 1) opened.old.items)) }
 {
-    let last = nodes.len() - 1;
-    match opened.pop() {
-        Some(Open::Behind(is_mut, region)) => put(nodes, TypeNode::Reference(region, is_mut, last)),
-        Some(Open::Tuple(parts)) => open_tuple(opened, parts, last),
-        Some(Open::Arguments(name)) => open_name(opened, name, Argument::Type(last)),
-        Some(Open::Inputs(inputs)) => open_function(opened, inputs, last),
-        Some(Open::Output(inputs)) => put(nodes, TypeNode::Function(Box::into_inner(inputs), last)),
-        None => Ok(State::Have),
+    opened.truncate(opened.len() - 1);
+    put(pieces, piece, State::Have)
+}
+
+// One step behind a complete type, which becomes a part of the innermost thing that is open, or
+// completes it.
+fn complete<'a>(pieces: &mut Vec<TypePiece<'a>>, opened: &mut Opened<'a>) -> Result<State, Memory>
+    requires { 0 < length opened.old.items }
+    ensures { IfOk result (λ s. (frames : List Frame) (t : WrittenType)
+        → AreRead State.Have frames t pieces.old.items opened.old.items
+        → IsCompleted frames t opened.old.items s pieces.new.items opened.new.items) }
+{
+    match opened.as_slice()[opened.len() - 1] {
+        Open::Behind(is_mut, region) => end(pieces, opened, TypePiece::Reference(is_mut, region)),
+        Open::Output => end(pieces, opened, TypePiece::Function),
+        Open::Tuple | Open::Arguments(_) | Open::Inputs => {
+            put(pieces, TypePiece::Part, State::Inside)
+        }
     }
 }
 
 // How the innermost thing that is open ends, where it has parts: the sign that closes it, and what
 // may come behind a comma.
 fn ends_at(opened: &Opened<'_>) -> Option<(u8, State)>
-    ensures { MatchOption result
-        ((ns : List node) (t : WrittenType) (ts : List lex.Token) →
-        IsStuck State.Inside (frames_of ns opened.now.items) t ts)
-        (λ p. EndsWith opened.now.items p.0 p.1) }
+    ensures some { IfSome result (λ _. 0 < length opened.now.items) }
+    ensures ends { (s : stage) (frames : List Frame) (t : WrittenType) (ps : List piece)
+        → AreRead s frames t ps opened.now.items → MatchOption result
+        ((u : WrittenType) (ts : List lex.Token) → IsStuck State.Inside frames u ts)
+        (λ p. EndsWith frames p.0 p.1) }
 {
     match opened.as_slice().last() {
-        Some(Open::Tuple(_)) => Some((b')', State::Want)),
+        Some(Open::Tuple) => Some((b')', State::Want)),
         Some(Open::Arguments(_)) => Some((b'>', State::WantArgument)),
-        Some(Open::Inputs(_)) => Some((b')', State::Want)),
-        Some(Open::Output(_)) => None,
-        Some(Open::Behind(..)) => None,
-        None => None,
+        Some(Open::Inputs) => Some((b')', State::Want)),
+        _ => None,
     }
 }
 
-// Ends the innermost thing that is open, where it has parts.
-fn close<'a>(nodes: &mut Vec<TypeNode<'a>>, opened: &mut Opened<'a>) -> Result<State, Memory>
-    ensures { IfOk result (λ s. (o : opening) (c : ℕ) (next : stage) →
-        slice_get opened.old.items (length opened.old.items - 1) ≡ Some o → IsEnded o c next →
-        HasEnded o nodes.old.items opened.old.items s nodes.new.items opened.new.items) }
+// Ends the row of the innermost thing that is open.
+fn close<'a>(pieces: &mut Vec<TypePiece<'a>>, opened: &mut Opened<'a>) -> Result<State, Memory>
+    requires { 0 < length opened.old.items }
+    ensures { IfOk result (λ s. (frames : List Frame) (t : WrittenType) (c : ℕ) (next : stage)
+        → AreRead State.Inside frames t pieces.old.items opened.old.items
+        → EndsWith frames c next
+        → IsClosed frames t c opened.old.items s pieces.new.items opened.new.items) }
 {
-    match opened.pop() {
-        Some(Open::Tuple(parts)) => put(nodes, TypeNode::Tuple(Box::into_inner(parts))),
-        Some(Open::Arguments(open)) => {
-            let OpenName { name, arguments } = Box::into_inner(open);
-            put(nodes, TypeNode::Named(name, arguments))
+    match opened.as_slice()[opened.len() - 1] {
+        Open::Tuple => end(pieces, opened, TypePiece::Tuple),
+        Open::Arguments(name) => end(pieces, opened, TypePiece::Named(name)),
+        Open::Behind(..) | Open::Inputs | Open::Output => {
+            opened.truncate(opened.len() - 1);
+            put_open(opened, Open::Output, State::WantArrow)
         }
-        Some(Open::Inputs(inputs)) => put_open(opened, Open::Output(inputs), State::WantArrow),
-        Some(Open::Output(_)) => Ok(State::Have),
-        Some(Open::Behind(..)) => Ok(State::Have),
-        None => Ok(State::Have),
     }
 }
 
 // One step behind a part or an argument of the innermost thing that is open.
 fn inside<'a>(
     tokens: &[Token<'a>],
-    nodes: &mut Vec<TypeNode<'a>>,
+    pieces: &mut Vec<TypePiece<'a>>,
     opened: &mut Opened<'a>,
 ) -> Result<Option<(State, usize)>, Memory>
-    requires { AreRead nodes.old.items opened.old.items }
-    ensures { IfOk result (λ o. MatchOption o
-        (IsStuck State.Inside (frames_of nodes.old.items opened.old.items)
-        (written nodes.old.items) (views tokens.now))
-        (λ p. GoesFurther State.Inside nodes.old.items opened.old.items tokens.now
-        p.0 nodes.new.items opened.new.items p.1)) }
+    ensures { (frames : List Frame) (t : WrittenType)
+        → AreRead State.Inside frames t pieces.old.items opened.old.items
+        → IfOk result (λ o. MatchOption o (IsStuck State.Inside frames t (views tokens.now))
+        (λ p. GoesFurther State.Inside frames t opened.old.items tokens.now
+        p.0 pieces.new.items opened.new.items p.1)) }
 {
     let Some((closing, next)) = ends_at(opened) else {
         return Ok(None);
@@ -308,7 +278,7 @@ fn inside<'a>(
     if !is_sign(tokens, closing) {
         return Ok(None);
     }
-    let state = close(nodes, opened)?;
+    let state = close(pieces, opened)?;
     Ok(Some((state, 1)))
 }
 
@@ -328,29 +298,26 @@ fn want_arrow(tokens: &[Token<'_>]) -> Option<(State, usize)>
 
 /// One step: what may come then, and how many tokens it takes.
 pub fn step<'a>(
-    alloc: Global,
     tokens: &[Token<'a>],
     state: State,
-    nodes: &mut Vec<TypeNode<'a>>,
+    pieces: &mut Vec<TypePiece<'a>>,
     opened: &mut Opened<'a>,
 ) -> Result<Option<(State, usize)>, Memory>
-    requires read { AreRead nodes.old.items opened.old.items }
-    requires some { state ≡ State.Have → 0 < length nodes.old.items }
-    requires inside { state ≡ State.Have → 0 < length opened.old.items }
-    ensures { IfOk result (λ o. MatchOption o
-        (IsStuck state (frames_of nodes.old.items opened.old.items)
-        (written nodes.old.items) (views tokens.now))
-        (λ p. GoesFurther state nodes.old.items opened.old.items tokens.now
-        p.0 nodes.new.items opened.new.items p.1)) }
+    requires { state ≡ State.Have → 0 < length opened.old.items }
+    ensures { (frames : List Frame) (t : WrittenType)
+        → AreRead state frames t pieces.old.items opened.old.items
+        → IfOk result (λ o. MatchOption o (IsStuck state frames t (views tokens.now))
+        (λ p. GoesFurther state frames t opened.old.items tokens.now
+        p.0 pieces.new.items opened.new.items p.1)) }
 {
     match state {
-        State::Want => want(alloc, tokens, nodes, opened),
-        State::WantArgument => want_argument(tokens, opened),
+        State::Want => want(tokens, pieces, opened),
+        State::WantArgument => want_argument(tokens, pieces, opened),
         State::Have => {
-            let next = complete(nodes, opened)?;
+            let next = complete(pieces, opened)?;
             Ok(Some((next, 0)))
         }
-        State::Inside => inside(tokens, nodes, opened),
+        State::Inside => inside(tokens, pieces, opened),
         State::WantArrow => Ok(want_arrow(tokens)),
     }
 }

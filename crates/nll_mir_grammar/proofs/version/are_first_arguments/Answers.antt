@@ -9,13 +9,13 @@ pub loop-argument-preserved : goal.loop-argument-preserved
 loop-argument-preserved c =
     all_more (λ a. written a.1) (λ t. not (has_function t)) c.args.arguments.now c.loop-argument.argument-index
     c.argument-item.result _ c.loop-argument-test.true c.argument-item.is
-    (sym c.in_ok-is_first_type.ensures ∙ c.if-not-branch.false) c.loop-argument.invariant
+    (sym c.is_first_type.ensures ∙ c.if-not-is_first_type.false) c.loop-argument.invariant
 
-pub returns-then-not-branch : goal.returns-then-not-branch
-returns-then-not-branch c =
+pub returns-then-not-is_first_type : goal.returns-then-not-is_first_type
+returns-then-not-is_first_type c =
     not_all (λ a. written a.1) (λ t. not (has_function t)) c.args.arguments.now c.loop-argument.argument-index
     c.argument-item.result _ c.loop-argument-test.true c.argument-item.is
-    (sym c.in_ok-is_first_type.ensures ∙ c.if-not-branch.true) c.loop-argument.invariant
+    (sym c.is_first_type.ensures ∙ c.if-not-is_first_type.true) c.loop-argument.invariant
 
 pub returns : goal.returns
 returns c =

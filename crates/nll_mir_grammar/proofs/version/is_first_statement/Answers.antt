@@ -1,7 +1,6 @@
 use Rattle.std.proofs.Common.{◌++◌, [], ◌∷◌, sym, ap, map, ◌∙◌}
 use Rattle.std.specs.Prelude.{not, ◌&&◌}
 use Rattle.std.specs.List.{list_all}
-use Rattle.std.proofs.lemmas.Result.{IfOk-weaker}
 use Rattle.nll_type_grammar.specs.Functions.{has_function}
 use Rattle.nll_type_grammar.specs.WrittenTypes.{WrittenType}
 use Rattle.nll_type_grammar.specs.TypeTexts.{written}
@@ -10,28 +9,27 @@ use Rattle.nll_mir_grammar.proofs.version.is_first_statement.Goals as goal
 
 pub returns-in-Make : goal.returns-in-Make
 returns-in-Make c =
-    rw c.in-Make.is (IfOk-weaker c.is_first_type.result _ _
-    (λ b told. (rw c.deref.ensures at told) ∙ sym (and_true _)) c.is_first_type.ensures)
+    rw c.in-Make.is ((rw c.deref.ensures at c.is_first_type.ensures) ∙ sym (and_true _))
 
-pub returns-then-not-branch : goal.returns-then-not-branch
-returns-then-not-branch c =
+pub returns-then-not-are_first_arguments : goal.returns-then-not-are_first_arguments
+returns-then-not-are_first_arguments c =
     let call = c.in-Call.call.value in
     let plain = λ (t : WrittenType). not (has_function t) in
     let told =
-    sym (rw c.deref-in-Call.ensures at (rw c.as_slice.ensures.value at c.in_ok-are_first_arguments-in-Call.ensures))
-    ∙ c.if-not-branch.true in
+    sym (rw c.deref-in-Call.ensures at (rw c.as_slice.ensures.value at c.are_first_arguments.ensures))
+    ∙ c.if-not-are_first_arguments.true in
     rw c.in-Call.is (sym (ap (λ ts. list_all plain (ts ++ written call.result ∷ [])) (call_types call.arguments.items)
     ∙ (all_push plain (map (λ a. written a.1) call.arguments.items) (written call.result)
     ∙ ap (λ b. b && plain (written call.result)) told)))
 
-pub returns-else-not-branch : goal.returns-else-not-branch
-returns-else-not-branch c = rw c.in-Call.is (IfOk-weaker c.is_first_type-in-Call.result _ _ (λ b said.
+pub returns-else-not-are_first_arguments : goal.returns-else-not-are_first_arguments
+returns-else-not-are_first_arguments c =
     let call = c.in-Call.call.value in
     let plain = λ (t : WrittenType). not (has_function t) in
     let told =
-    sym (rw c.deref-in-Call.ensures at (rw c.as_slice.ensures.value at c.in_ok-are_first_arguments-in-Call.ensures))
-    ∙ c.if-not-branch.false in
-    (rw c.deref-in-Call-2.ensures at said)
+    sym (rw c.deref-in-Call.ensures at (rw c.as_slice.ensures.value at c.are_first_arguments.ensures))
+    ∙ c.if-not-are_first_arguments.false in
+    rw c.in-Call.is ((rw c.deref-in-Call-2.ensures at c.is_first_type-in-Call.ensures)
     ∙ sym (ap (λ ts. list_all plain (ts ++ written call.result ∷ [])) (call_types call.arguments.items)
     ∙ (all_push plain (map (λ a. written a.1) call.arguments.items) (written call.result)
-    ∙ ap (λ b. b && plain (written call.result)) told))) c.is_first_type-in-Call.ensures)
+    ∙ ap (λ b. b && plain (written call.result)) told)))

@@ -1,6 +1,5 @@
 use Rattle.std.proofs.Common.{sym, ap, ◌∙◌}
 use Rattle.std.specs.Prelude.{not, ◌&&◌}
-use Rattle.std.proofs.lemmas.Result.{IfOk-weaker}
 use Rattle.nll_type_grammar.specs.TypeTexts.{written}
 use Rattle.nll_type_grammar.specs.Functions.{have_function}
 use Rattle.nll_mir_grammar.specs.Tuples.{parts}
@@ -14,8 +13,8 @@ returns-then-not-are_first_parameters c =
     ∙ c.if-not-are_first_parameters.true))
 
 pub returns : goal.returns
-returns c = IfOk-weaker c.is_first_type.result _ _ (λ b told.
+returns c =
     let fields = not (have_function (parts (written c.args.text.now.fields))) in
-    told ∙ (ap (λ t. not t) (rw c.as_type.ensures.value (fields_alike _ c.as_type.ensures.tuple))
+    c.is_first_type.ensures ∙ (ap (λ t. not t) (rw c.as_type.ensures.value (fields_alike _ c.as_type.ensures.tuple))
     ∙ ap (λ z. z && fields) (sym (sym (rw c.as_slice.ensures.value at c.are_first_parameters.ensures)
-    ∙ c.if-not-are_first_parameters.false)))) c.is_first_type.ensures
+    ∙ c.if-not-are_first_parameters.false)))

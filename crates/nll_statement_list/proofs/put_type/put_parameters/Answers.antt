@@ -1,7 +1,7 @@
 use Rattle.std.proofs.Common.{◌++◌, ◌∷◌, [], map, refl}
 use Rattle.nll_sets.proofs.PrefixLemmas.{prefix_further}
 use Rattle.nll_types.specs.Views.{row_of}
-use Rattle.nll_statement_list.specs.Pieces.{parts, steps}
+use Rattle.nll_statement_list.specs.TypePieces.{parts, steps}
 use Rattle.nll_statement_list.specs.declared.piece.Piece.TheVariants.{Part}
 use Rattle.nll_statement_list.proofs.PutLemmas.{put_two, put_more, put_all, parts_more}
 use Rattle.nll_statement_list.proofs.put_type.put_parameters.Goals as goal

@@ -1,7 +1,7 @@
 use Rattle.std.proofs.Common.{◌≡◌, ◌∷◌, ◌++◌, map, drop}
 use Rattle.nll_sets.specs.Prefix.{IsPrefix}
 use Rattle.nll_types.specs.Views.{row_of}
-use Rattle.nll_statement_list.specs.Pieces.{parts}
+use Rattle.nll_statement_list.specs.TypePieces.{parts}
 use Rattle.nll_statement_list.specs.declared.piece.Piece.TheVariants.{Row}
 use Rattle.nll_statement_list.proofs.put_type.put_parameters.Given as goal
 

@@ -1,14 +1,11 @@
 use Rattle.nll_text.specs.Tokens.{views}
-use Rattle.nll_type_grammar.specs.TypeTexts.{written}
-use Rattle.nll_type_grammar.specs.OpenTypes.{frames_of}
 use Rattle.nll_type_grammar.proofs.StepLemmas.{stuck_want}
 use Rattle.nll_type_grammar.proofs.FurtherLemmas.{further_begin}
 use Rattle.nll_type_grammar.proofs.opens.want.Goals as goal
 
 pub returns-in-None : goal.returns-in-None
-returns-in-None c =
-    stuck_want (frames_of c.args.nodes.now.items c.args.opened.now.items) (written c.args.nodes.now.items)
-    (views c.args.tokens.now) c.in-None.ensures
+returns-in-None c = λ frames t r. stuck_want frames t (views c.args.tokens.now) c.in-None.ensures
 
 pub returns-in_ok-state-in-Some : goal.returns-in_ok-state-in-Some
-returns-in_ok-state-in-Some c = further_begin _ _ _ _ _ _ _ _ c.in-Some.ensures c.in_ok-state-in-Some.ensures
+returns-in_ok-state-in-Some c =
+    λ frames t r. further_begin _ _ _ frames t _ _ _ _ c.in-Some.ensures (c.in_ok-state-in-Some.ensures frames t r)
