@@ -1,9 +1,10 @@
-//! Tests of sets, problems, solving, cuts, types and lines of texts, by their public calls alone.
+//! Tests of sets, problems, solving, cuts, types, lines of texts and lists of statements, by their
+//! public calls alone.
 //! Expected values are found by hand from the definitions. The plain solver, `rounds`, is a second
 //! body of `solve`'s contract.
 //!
 //! Reading order: `rounds`, `transcript`, `problem_text`, `calls`, `type_data`, `meetings`,
-//! `type_text`, `rows`, then each module of tests.
+//! `type_text`, `statement_text`, `rows`, then each module of tests.
 #![tactic(auto)]
 
 mod rounds;
@@ -41,6 +42,12 @@ mod sets;
 #[cfg(test)]
 mod solutions;
 #[cfg(test)]
+mod statement_lists;
+#[cfg(test)]
+mod statement_names;
+#[cfg(test)]
+mod statement_text;
+#[cfg(test)]
 mod tokens;
 #[cfg(test)]
 mod transcript;
@@ -48,6 +55,8 @@ mod transcript;
 mod type_data;
 #[cfg(test)]
 mod type_names;
+#[cfg(test)]
+mod type_pieces;
 #[cfg(test)]
 mod type_text;
 #[cfg(test)]

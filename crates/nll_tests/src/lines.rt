@@ -23,6 +23,12 @@ pub enum OfLine {
     Function,
     /// What the names in the type in front mean.
     Names,
+    /// The pieces of the type in front, and what is made of them.
+    Pieces,
+    /// What a list of statements tells of its statement.
+    Kept,
+    /// What a list tells of the statements in the line, as each is pushed.
+    List,
     /// Its form.
     Form,
     /// Whether its form is one of version 1.
@@ -44,6 +50,9 @@ pub fn write_line(out: &mut Transcript, line: &str, asked: OfLine) {
         }
         OfLine::Tokens(most) => tokens::write_tokens_in(out, line, most),
         OfLine::Capital => out.flag("", is_capital(line.as_bytes()), ""),
+        OfLine::Names | OfLine::Pieces | OfLine::Kept | OfLine::List => {
+            type_names::write_in_scope(out, line, asked)
+        }
         _ => write_read(out, line, asked),
     }
 }
@@ -61,7 +70,6 @@ fn write_told(out: &mut Transcript, asked: OfLine, tokens: &[Token<'_>]) {
     match asked {
         OfLine::Type => written_types::write_front(out, tokens),
         OfLine::Function => written_types::write_function_flag(out, tokens),
-        OfLine::Names => type_names::write_names(out, tokens),
         OfLine::First => mir_lines::write_version_flag(out, tokens),
         OfLine::Form => mir_lines::write_form(out, tokens, false),
         _ => mir_lines::write_form(out, tokens, true),

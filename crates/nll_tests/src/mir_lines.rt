@@ -1,110 +1,19 @@
 //! Lines of MIR texts that are read from tokens, and what their statements do.
 use super::lines::OfLine;
 use super::rows::compare_text;
+use super::statement_text::write_statement;
 use super::transcript::Transcript;
 use super::written_types::{write_flag, write_pieces};
 use nll_mir_grammar::{Line, ParameterText, StructText, Version, line_of, one_form};
 use nll_sets::Memory;
-use nll_statements::{Call, Make, Statement};
+use nll_statements::Statement;
 use nll_text::Token;
 use nll_type_grammar::TypeText;
-use nll_types::{Operand, Parameter, Place, Projection, Sign};
+use nll_types::{Parameter, Sign};
 use std::alloc::Global;
 
 // A statement as it is written.
 type Written<'a> = Statement<&'a [u8], TypeText<'a>>;
-
-// Writes words and a place.
-fn write_place(out: &mut Transcript, before: &str, place: &Place) {
-    out.number(before, place.variable(), "");
-    for projection in place.projections() {
-        match projection {
-            Projection::Deref => out.say(".*"),
-            Projection::Field(number) => out.number(".", *number, ""),
-        }
-    }
-}
-
-// Writes an operand.
-fn write_operand(out: &mut Transcript, operand: &Operand) {
-    match operand {
-        Operand::Const => out.say("const"),
-        Operand::Copy(place) => write_place(out, "copy _", place),
-        Operand::Move(place) => write_place(out, "move _", place),
-    }
-}
-
-// Writes what is made of operands, with a comma behind each of them.
-fn write_make(out: &mut Transcript, made: &Make<TypeText<'_>>) {
-    write_place(out, "_", &made.place);
-    out.say(" = make ");
-    write_pieces(out, &made.ty);
-    for operand in made.operands.as_slice() {
-        write_operand(out, operand);
-        out.say(",");
-    }
-}
-
-// Writes where a drop or a call goes on.
-fn write_exits(out: &mut Transcript, target: u32, unwind: Option<u32>) {
-    out.number(" to ", target, "");
-    if let Some(block) = unwind {
-        out.number(" or ", block, "");
-    }
-}
-
-// Writes a call: its arguments with a comma behind each, and its bounds, two regions each.
-fn write_call(out: &mut Transcript, call: &Call<&[u8], TypeText<'_>>) {
-    write_place(out, "_", &call.place);
-    out.say(" = call ");
-    for argument in call.arguments.as_slice() {
-        write_operand(out, &argument.0);
-        out.say(": ");
-        write_pieces(out, &argument.1);
-        out.say(",");
-    }
-    out.say(": ");
-    write_pieces(out, &call.result);
-    for bound in call.wheres.as_slice() {
-        out.part(" ", bound.0);
-        out.part("", bound.1);
-    }
-    write_exits(out, call.target, call.unwind);
-}
-
-// Writes a statement.
-fn write_statement(out: &mut Transcript, statement: &Written<'_>) {
-    match statement {
-        Statement::Assign(place, operand) => {
-            write_place(out, "_", place);
-            out.say(" = ");
-            write_operand(out, operand);
-        }
-        Statement::Borrow(place, region, mutable, source) => {
-            write_place(out, "_", place);
-            out.part(if *mutable { " = mut " } else { " = & " }, region);
-            write_place(out, "_", source);
-        }
-        Statement::Make(made) => write_make(out, made),
-        Statement::Call(call) => write_call(out, call),
-        Statement::Read(place) => write_place(out, "read _", place),
-        Statement::Live(variable) => out.number("live ", *variable, ""),
-        Statement::Dead(variable) => out.number("dead ", *variable, ""),
-        Statement::Nop => out.say("nop"),
-        Statement::Goto(block) => out.number("goto ", *block, ""),
-        Statement::Switch(operand, blocks) => {
-            out.say("switch ");
-            write_operand(out, operand);
-            out.numbers(" ", blocks.as_slice());
-        }
-        Statement::Drop(variable, target, unwind) => {
-            out.number("drop ", *variable, "");
-            write_exits(out, *target, *unwind);
-        }
-        Statement::Return => out.say("return"),
-        Statement::Stop => out.say("stop"),
-    }
-}
 
 // The marks of a parameter.
 fn marks_of(parameter: &Parameter) -> &'static str {

@@ -13,6 +13,7 @@ use super::schedules::write_schedule;
 use super::sets::{write_last_bit, write_runs, write_sets, write_within};
 use super::tokens::write_scanned;
 use super::transcript::Transcript;
+use super::type_pieces::{Large, write_large};
 use super::type_text::{OfType, write_typed};
 use std::alloc::Global;
 use std::process::Abort;
@@ -66,6 +67,8 @@ pub enum Asked {
     Messages,
     /// What becomes of a refused growth of memory.
     Memory,
+    /// Of a type with numbers that don't fit a piece: what it is, by itself and in a statement.
+    Large(Large),
 }
 
 /// What is looked at, what is asked, and what is told.
@@ -97,6 +100,7 @@ fn write_told(out: &mut Transcript, says: &str, asked: Asked) {
         Asked::Loop(of_loop) => write_loop(out, of_loop),
         Asked::Messages => write_messages(out),
         Asked::Memory => write_memory(out),
+        Asked::Large(large) => write_large(out, large),
     }
 }
 

@@ -3,9 +3,10 @@ use super::lines::OfLine;
 use super::rows::compare_text;
 use super::transcript::Transcript;
 use super::type_text::write_type;
+use super::{statement_lists, type_pieces};
 use nll_format::Names;
 use nll_resolve::{ResolvedType, Scope, resolve};
-use nll_text::Token;
+use nll_text::{Token, tokens_of};
 use nll_type_grammar::{TypeText, type_at};
 use nll_types::TypeTable;
 
@@ -78,8 +79,29 @@ fn kinds(out: &mut Transcript) -> Vec<Vec<bool>> {
     kinds
 }
 
-/// Writes what is told of the type in front of tokens, where there is one, and what it means.
-pub fn write_names(out: &mut Transcript, tokens: &[Token<'_>]) {
+// Writes what is told of the tokens of a line.
+fn write_read(out: &mut Transcript, scope: &Scope<'_>, line: &str, asked: OfLine) {
+    let mut tokens = Vec::new(out.alloc);
+    let _ = tokens_of(line.as_bytes(), 60, &mut tokens);
+    match asked {
+        OfLine::Names => write_front(out, scope, tokens.as_slice()),
+        OfLine::Pieces => type_pieces::write_front(out, scope, tokens.as_slice()),
+        _ => statement_lists::write_kept(out, scope, tokens.as_slice()),
+    }
+    drop(tokens);
+}
+
+// Writes what is told of a line over a scope.
+fn write_asked(out: &mut Transcript, scope: &Scope<'_>, line: &str, asked: OfLine) {
+    match asked {
+        OfLine::List => statement_lists::write_list(out, scope, line),
+        _ => write_read(out, scope, line, asked),
+    }
+}
+
+/// Writes what is told of a line over the scope of the tests: the regions 'static, 'a and 'b by the
+/// numbers 0, 1 and 2, the type parameter T by 0, and the structs W, V, U and T by 0 to 3.
+pub fn write_in_scope(out: &mut Transcript, line: &str, asked: OfLine) {
     let regions = names_of(out, &["static", "a", "b"]);
     let parameters = names_of(out, &["T"]);
     let structs = names_of(out, &["W", "V", "U", "T"]);
@@ -90,7 +112,7 @@ pub fn write_names(out: &mut Transcript, tokens: &[Token<'_>]) {
         structs: &structs,
         kinds: kinds.as_slice(),
     };
-    write_front(out, &scope, tokens);
+    write_asked(out, &scope, line, asked);
     drop(kinds);
     drop(regions);
     drop(parameters);
