@@ -116,16 +116,31 @@ impl Reader {
     // Puts a statement that is admitted at the next point.
     fn put(
         &mut self,
-        statement: Statement<RegionId, ResolvedType>,
+        statement: &Statement<RegionId, ResolvedType>,
         admitted: Admitted,
     ) -> Result<(), Memory>
         ensures { OnOk result ((i : written_statement Name WrittenType)
             → IsAdmitted (said_by self.old) i admitted self.old
-            → as_resolved (statement_of statement) ≡ statement_meant (said_by self.old) i
+            → as_resolved (statement_of statement.now) ≡ statement_meant (said_by self.old) i
             → IsTaken (said_by self.old) (forms.at_point i) self.new) }
     {
         add_point(&mut self.points, statement, admitted)?;
         self.reached = Group::Blocks;
+        Ok(())
+    }
+
+    // Adds what stands at the next point, over numbers, unless it has a fault.
+    fn add_judged(&mut self, statement: &Statement<RegionId, ResolvedType>) -> Result<(), TextKind>
+        requires { IsReady self.old }
+        ensures taken { OnOk result ((i : written_statement Name WrittenType)
+            → IsPlaced self.old i statement.now
+            → IsTaken (said_by self.old) (forms.at_point i) self.new) }
+        ensures refused { IfErr result (λ kind. (i : written_statement Name WrittenType)
+            → IsPlaced self.old i statement.now
+            → IsRefused (said_by self.old) (forms.at_point i) kind) }
+    {
+        let admitted = self.admit(statement)?;
+        self.put(statement, admitted)?;
         Ok(())
     }
 
@@ -139,16 +154,9 @@ impl Reader {
             → IsPlaced self.old i statement
             → IsRefused (said_by self.old) (forms.at_point i) kind) }
     {
-        match self.admit(&statement) {
-            Ok(admitted) => {
-                self.put(statement, admitted)?;
-                Ok(())
-            }
-            Err(kind) => {
-                drop(statement);
-                Err(kind)
-            }
-        }
+        let taken = self.add_judged(&statement);
+        drop(statement);
+        taken
     }
 
     /// Adds what stands at the next point.

@@ -73,21 +73,19 @@ pub fn judge_point(
 /// Puts a statement or terminator that is admitted at the next point.
 pub fn add_point(
     points: &mut Points,
-    statement: Statement<RegionId, ResolvedType>,
+    statement: &Statement<RegionId, ResolvedType>,
     admitted: Admitted,
 ) -> Result<(), Memory>
     ensures blocks { points.new.blocks ≡ points.old.blocks }
     ensures starts { points.new.starts ≡ points.old.starts }
     ensures statements { OnOk result
         (points.new.statements
-        ≡ points.old.statements ++ as_resolved (statement_of statement) ∷ []) }
+        ≡ points.old.statements ++ as_resolved (statement_of statement.now) ∷ []) }
     ensures count { OnOk result (points.new.count ≡ length points.new.statements) }
     ensures edges { OnOk result (points.new.edges ≡ admitted.edges) }
     ensures owes { OnOk result (points.new.owes ≡ not admitted.ends) }
 {
-    let told = points.statements.push(&statement);
-    drop(statement);
-    told?;
+    points.statements.push(statement)?;
     points.count = points.statements.len();
     points.edges = admitted.edges;
     points.owes = !admitted.ends;

@@ -60,7 +60,7 @@ impl ResolvedType {
         shape_of_pieces(alloc, table, self.ty.pieces())
     }
 
-    /// The type as a tree.
+    /// The type as a tree. A tree is dropped by recursion, to its depth.
     ///
     /// # Cost
     /// Linear in the type (not proved).

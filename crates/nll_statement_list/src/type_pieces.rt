@@ -52,7 +52,7 @@ impl TypePieces {
         self.pieces.as_slice()
     }
 
-    /// The type as a tree.
+    /// The type as a tree. A tree is dropped by recursion, to its depth.
     ///
     /// # Cost
     /// Linear in the type (not proved).
