@@ -13,7 +13,7 @@ use nll_body_problem::{RuleError, problem_of};
 use nll_core::Problem;
 use nll_facts::{Facts, read_facts};
 use nll_format::TextError;
-use nll_mir_text::{is_mir_header, read_mir, read_mir_parts};
+use nll_mir_text::{is_mir_header, read_mir};
 use nll_text::next_line;
 use std::alloc::Global;
 
@@ -84,12 +84,14 @@ fn read_mir_meaning(alloc: Global, text: Vec<u8>) -> Result<Facts, AnswerError>
     facts_of_body(alloc, body)
 }
 
-// The body of a MIR text that is let go while it is read.
+// The body of a MIR text that is let go once it is read.
 fn read_body(alloc: Global, text: Vec<u8>) -> Result<Body, AnswerError>
     ensures ok { IfOk result (IsBodyOf text.items) }
     ensures err { IfErr result (IsErrorOf (IsMirFault text.items)) }
 {
-    told(read_mir_parts(alloc, text))
+    let body = body_of(alloc, text.as_slice());
+    drop(text);
+    body
 }
 
 // The problem that a facts text means.

@@ -13,10 +13,9 @@ use Rattle.nll_text.proofs.NumberLemmas.{no_digits}
 use Rattle.nll_problem.specs.declared.at.At.{At}
 use Rattle.nll_problem.specs.declared.at.At.TheVariants.{All, Point}
 use Rattle.nll_format.specs.Parts.{Name, IsSmall, token_of}
-use Rattle.nll_format.specs.Text.{HasAtMost}
 use Rattle.nll_format.proofs.PartLemmas as lemmas
 use Rattle.nll_format.proofs.PartLemmas.{printed}
-use Rattle.nll_facts.specs.FactsForms.{Form, points, universal, outlives, further, next, return, base, constraint, end, HasForm, parts, most_tokens}
+use Rattle.nll_facts.specs.FactsForms.{Form, points, universal, outlives, further, next, return, base, constraint, end, HasForm, parts}
 use Rattle.nll_facts.specs.FactsText.{facts}
 use Rattle.nll_facts.specs.declared.version.Version.{Version}
 
@@ -89,19 +88,3 @@ one_form = lemmas.one_form Form parts unspelled unspelled_spelled
 
 pub form_or_none : (line : List ℕ) → ((f : Form) × HasForm line f) ⊎ ((f : Form) → HasForm line f → ⊥)
 form_or_none = lemmas.form_or_none Form parts unspelled unspelled_spelled
-
--- ---- no form has more tokens
-
-few_tokens_in : (f : Form) → length (map token_of (parts f)) ≤ most_tokens
-few_tokens_in (points n) = omega arith
-few_tokens_in (universal a) = omega arith
-few_tokens_in (outlives a b) = omega arith
-few_tokens_in (further x) = omega arith
-few_tokens_in (next p q) = omega arith
-few_tokens_in (return p) = omega arith
-few_tokens_in (base x p) = omega arith
-few_tokens_in (constraint a b p) = omega arith
-few_tokens_in end = omega arith
-
-pub few_tokens_lem : (version : Version) → HasAtMost (facts version) most_tokens
-few_tokens_lem version line f h = (map token_of (parts f), few_tokens_in f, h.0.made)

@@ -49,7 +49,3 @@ parts end = keyword (codes "end") ∷ []
 -- the line has the form: it is made of the form's parts
 abbrev pub HasForm : List ℕ → Form → Type 0
 HasForm line f = Spells line (parts f)
-
--- no line of a form has more tokens
-abbrev pub most_tokens : ℕ
-most_tokens = 4

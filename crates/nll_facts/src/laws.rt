@@ -3,8 +3,6 @@
 ghost use Rattle.std.specs.Prelude.{◌≡◌, ◌⊎◌, ℕ, List};
 ghost use Rattle.nll_problem.specs.Problem.{Problem, SameProblem};
 ghost use Rattle.nll_format.specs.Labels.{Labels};
-ghost use Rattle.nll_format.specs.Text.{HasAtMost};
-ghost use Rattle.nll_facts.specs.FactsForms.{most_tokens};
 ghost use Rattle.nll_facts.specs.declared.version.Version.{Version};
 ghost use Rattle.nll_facts.specs.FactsText.{facts, IsFactsFault, Means};
 ghost use Rattle.nll_format.specs.declared.error.TextKind.{TextKind};
@@ -34,9 +32,4 @@ pub fn facts_some_meaning_or_fault()
     ensures { (text : List ℕ)
         → ((problem : Problem) × (labels : Labels) × Means text problem labels)
         ⊎ ((line : ℕ) × (kind : TextKind) × IsFactsFault text line kind) }
-{}
-
-/// States how many tokens a line of a form has at most, so that a reader may stop behind as many.
-pub fn few_tokens()
-    ensures { (version : Version) → HasAtMost (facts version) most_tokens }
 {}

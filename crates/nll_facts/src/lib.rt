@@ -10,6 +10,4 @@ mod reader;
 mod version;
 
 pub use facts::{Facts, read_facts};
-pub use laws::{
-    facts_not_both, facts_one_fault, facts_one_meaning, facts_some_meaning_or_fault, few_tokens,
-};
+pub use laws::{facts_not_both, facts_one_fault, facts_one_meaning, facts_some_meaning_or_fault};

@@ -119,18 +119,6 @@ module _ (format : Format) where
       inr (subst (λ n. IsFault format text n End) last
       (no_end all done.0 headed done.1 (none done.0 done.2)))
 
-  -- more lines are read behind those that were
-  pub advances_then : (Old Mid New : List format.Form → Type 0) (these those left : List (List ℕ)) (i j k : ℕ)
-      → Advances format Old Mid these those i j → Advances format Mid New those left j k
-      → Advances format Old New these left i k
-  advances_then Old Mid New these those left i j k first next all amid = next all (first all amid)
-
-  -- what is wrong with what is left is wrong with all
-  pub refuses_then : (Old Mid : List format.Form → Type 0) (these those : List (List ℕ)) (i j : ℕ) (error : TextError)
-      → Advances format Old Mid these those i j → RefusesLeft format Mid those j error
-      → RefusesLeft format Old these i error
-  refuses_then Old Mid these those i j error first wrong all amid = wrong all (first all amid)
-
 -- ---- a reader that holds the same as what the lines say
 
 module _ (format : Format) (Same : format.Said → format.Said → Type 0) (same_fault : SameFault format Same) where

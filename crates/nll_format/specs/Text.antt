@@ -6,7 +6,6 @@ use Rattle.std.specs.Prelude.{Option, Some, None}
 use Rattle.std.specs.Str.{IsUtf8}
 use Rattle.nll_text.specs.Lines.{lines_of, is_skipped}
 use Rattle.nll_text.specs.Header as headers
-use Rattle.nll_text.specs.Tokens.{Token, IsMadeOf}
 use Rattle.nll_problem.specs.Limits.{most_bytes}
 use Rattle.nll_problem.specs.declared.error.Kind.TheVariants.{Text}
 use Rattle.nll_format.specs.declared.error.TextError.{TextError}
@@ -29,12 +28,6 @@ pub record Format : Type 1 where
   pub first_fault : Said → Form → Option TextKind
   -- the text may stop behind these lines
   pub HasEnded : List Form → Type 0
-
--- No form has more tokens: a line of a form is made of a list of at most this many.
-abbrev pub HasAtMost : Format → ℕ → Type 0
-HasAtMost format most =
-    (line : List ℕ) (f : format.Form) → format.HasForm line f
-    → (ts : List Token) × (length ts ≤ most) × IsMadeOf line ts
 
 -- the line is the header of a text of the format
 abbrev pub IsHeader : Format → List ℕ → Type 0

@@ -23,5 +23,5 @@ pub use header::{first_line, open_text};
 pub use labels::{Labels, PointName};
 pub use limits::MAX_TEXT;
 pub use line_reader::LineReader;
-pub use lines::{check_end, read_lines, read_until};
+pub use lines::read_lines;
 pub use names::Names;

@@ -1,10 +1,10 @@
 //! Reading the lines of a text behind its header, one after another.
 
-ghost use Rattle.std.specs.Prelude.{◌≡◌, ◌+◌, ◌<◌, ◌≤◌, ◌^◌, ℕ, [], List, None, length};
+ghost use Rattle.std.specs.Prelude.{◌≡◌, ◌+◌, ◌<◌, ◌≤◌, ◌^◌, [], List, length};
 ghost use Rattle.std.specs.Prelude.{OnOk, IfOk, IfErr};
 ghost use Rattle.nll_text.specs.Lines.{lines_left, lines_of};
 ghost use Rattle.nll_format.specs.Text.{Says};
-ghost use Rattle.nll_format.specs.Lines.{Advances, AreShort, IsAmidWith, RefusesBody, RefusesLeft};
+ghost use Rattle.nll_format.specs.Lines.{Advances, AreShort, RefusesBody, RefusesLeft};
 
 use crate::error::{TextError, TextKind};
 use crate::line_reader::LineReader;
@@ -31,52 +31,12 @@ pub fn read_lines<'a, F, R: LineReader<'a, F>>(
         × (R.format_of format.now).HasEnded forms × R.holds format.now forms reader.new) }
     ensures fault { IfErr result (RefusesBody (R.format_of format.now) (lines_left body.entry)) }
 {
-    let Some(text) = body else {
-        return check_end(reader, format, 1);
-    };
     let mut number = 1;
-    let _nothing = read_until(reader, format, text, 0, room, &mut number)?;
-    check_end(reader, format, number)
-}
-
-/// Takes in a line, and more until fewer than so many bytes are left: what is left. The number is
-/// that of the last line that was taken in.
-///
-/// # Errors
-/// The first faulty line, and of that line the first kind in the order of `TextKind`; or `Memory`
-/// at line 0.
-pub fn read_until<'a, F, R: LineReader<'a, F>>(
-    reader: &mut R,
-    format: &F,
-    text: &'a [u8],
-    least: usize,
-    room: &mut R::Room,
-    number: &mut u64,
-) -> Result<Option<&'a [u8]>, TextError>
-    requires ready { R.ready reader.old }
-    requires long { number.old + length (lines_of text.now) ≤ 2 ^ 32 }
-    requires short { AreShort (lines_of text.now) }
-    ensures ready { OnOk result (R.ready reader.new) }
-    ensures short { IfOk result (λ rest. AreShort (lines_left rest)) }
-    ensures counted { IfOk result (λ rest.
-        number.new + length (lines_left rest) ≡ number.old + length (lines_of text.now)) }
-    ensures fewer { IfOk result (λ rest. length (lines_left rest) < length (lines_of text.now)) }
-    ensures all { least ≡ 0 → IfOk result (λ rest. rest ≡ None) }
-    ensures read { IfOk result (λ rest. Advances (R.format_of format.now)
-        (λ forms. R.holds format.now forms reader.old)
-        (λ forms. R.holds format.now forms reader.new)
-        (lines_of text.now) (lines_left rest) number.old number.new) }
-    ensures fault { IfErr result (RefusesLeft (R.format_of format.now)
-        (λ forms. R.holds format.now forms reader.old) (lines_of text.now) number.old) }
-{
-    let mut rest = read_next(reader, format, text, room, number)?;
+    let mut rest = body;
     while let Some(text) = rest {
-        if text.len() < least {
-            return Ok(rest);
-        }
-        rest = read_next(reader, format, text, room, number)?;
+        rest = read_next(reader, format, text, room, &mut number)?;
     }
-    Ok(None)
+    check_end(reader, format, number)
 }
 
 // Takes in the next line: the text behind it. The number is that of the line before it.
@@ -110,11 +70,8 @@ fn read_next<'a, F, R: LineReader<'a, F>>(
     }
 }
 
-/// Refuses a text that stops behind the line of this number, unless it may stop there.
-///
-/// # Errors
-/// `End` at the line.
-pub fn check_end<'a, F, R: LineReader<'a, F>>(
+// Refuses a text that stops behind the line of this number, unless it may stop there.
+fn check_end<'a, F, R: LineReader<'a, F>>(
     reader: &R,
     format: &F,
     number: u64,

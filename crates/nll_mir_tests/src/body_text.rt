@@ -6,7 +6,7 @@ use super::pieces::{write_number, write_numbers, write_piece};
 use super::types::{write_places, write_variables};
 use nll_body::{Body, Stmt};
 use nll_format::{Labels, PointName, TextError};
-use nll_mir_text::{read_mir, read_mir_parts};
+use nll_mir_text::read_mir;
 use nll_problem::{Graph, RegionId};
 use nll_worked_texts::text_of;
 use std::alloc::Global;
@@ -183,12 +183,6 @@ fn told(rt: &impl Abort, alloc: Global, read: Result<Body, TextError>, asked: As
 /// What a text says, or its fault.
 pub fn read(rt: &impl Abort, alloc: Global, text: &[u8], asked: Asked) -> String {
     told(rt, alloc, read_mir(alloc, text), asked)
-}
-
-/// How much the body of a text that is freed while it is read has, and what its last point does;
-/// or the text's fault.
-pub fn read_size_in_parts(rt: &impl Abort, alloc: Global, text: Vec<u8>) -> String {
-    told(rt, alloc, read_mir_parts(alloc, text), Asked::Size)
 }
 
 /// Ends the test where something else is told of a text of lines that end with `|`.

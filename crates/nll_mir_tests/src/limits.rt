@@ -1,5 +1,5 @@
 //! Texts at the limits of the format, and past them.
-use super::body_text::{Asked, read, read_size_in_parts};
+use super::body_text::{Asked, read};
 use super::comparison::compare;
 use super::pieces::write_piece;
 use super::repetitions::{Repeated, Row, compare_each, repeated, write_often};
@@ -67,21 +67,6 @@ const BLOCKS: Repeated<'static> = (
 #[test]
 fn large_texts(rt: HostRuntime) {
     compare_each(&rt, rt.alloc(), LARGE);
-}
-
-// Ends the test unless that is told of a text of so many points that is freed while it is read.
-fn compare_in_parts(rt: &impl Abort, alloc: Global, count: u32, want: &str) {
-    let text = repeated(rt, alloc, POINTS, count);
-    let told = read_size_in_parts(rt, alloc, text.into_bytes());
-    compare(rt, "in parts", told.as_str(), want);
-}
-
-// A large text that is freed while it is read says the same, and its fault is at the same line.
-#[test]
-fn large_texts_in_parts(rt: HostRuntime) {
-    let want = "1 regions, 1 variables|bb0/1048575 returns uses 0|";
-    compare_in_parts(&rt, rt.alloc(), 1_048_575, want);
-    compare_in_parts(&rt, rt.alloc(), 1_048_576, "line 1048581: Limit(Points)");
 }
 
 // A block that goes on to many blocks.

@@ -1,7 +1,7 @@
 -- What a reader of MIR texts holds, and how a line changes it.
 -- Source: project's choice. Only private contracts cite this file.
 use Rattle.std.specs.Prelude.{◌≡◌, ◌⊎◌, ℕ, ◌+◌, ◌<◌, ◌≤◌, Bool, true, false, List, [], ◌∷◌, map}
-use Rattle.std.specs.Prelude.{length, slice_index_or, Option, Some, None}
+use Rattle.std.specs.Prelude.{length, slice_index_or, Some, None}
 use Rattle.std.specs.List.{AllByRecursion}
 use Rattle.std.specs.Str.{IsUtf8}
 use Rattle.nll_problem.specs.Limits.{most_points, most_edges, most_universals, most_regions}
@@ -15,9 +15,7 @@ use Rattle.nll_types.specs.declared.node.Node.{Node}
 use Rattle.nll_types.specs.declared.ty.Ty.{Ty}
 use Rattle.nll_statements.specs.Statements.{Statement, is_terminator}
 use Rattle.nll_statements.specs.Edges.{edges_from, edge_count}
-use Rattle.nll_text.specs.Lines.{lines_of}
-use Rattle.nll_format.specs.Text.{IsText, IsHeaded}
-use Rattle.nll_format.specs.Lines.{IsAmidWith}
+use Rattle.nll_format.specs.Text.{IsText}
 use Rattle.nll_format.specs.declared.error.TextKind.{TextKind}
 use Rattle.nll_format.specs.declared.error.TextKind.TheVariants.{Memory}
 use Rattle.nll_mir_grammar.specs.MirForms.{Form, universal, further, struct_line, at_point}
@@ -170,18 +168,6 @@ abbrev pub Adds : Said → Form → Said → Type 0
 Adds s f t = t ≡ says s f
 
 -- ---- all lines
-
--- The text has the header of the version, and of the lines behind it those that are left are not
--- taken in yet; the reader holds what the others say, and with the header they are so many.
-abbrev pub IsUnderWay : Version → List ℕ → List (List ℕ) → Reader → ℕ → Type 0
-IsUnderWay version text left r number =
-    (body : List (List ℕ)) × IsHeaded (mir version) text body
-    × IsAmidWith (mir version) (HoldsForms r) body left number
-
--- the lines of the text that is left, and none where no text is left
-abbrev pub lines_in : Option (List ℕ) → List (List ℕ)
-lines_in None = []
-lines_in (Some text) = lines_of text
 
 -- the text fits in a version, and the reader holds what its lines say
 abbrev pub Holds : List ℕ → Reader → Type 0

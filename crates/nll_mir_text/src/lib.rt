@@ -1,6 +1,6 @@
 //! The reader of MIR texts, of versions 1 and 2.
 //! Read `tables`, `groups`, `resolution`, `own_names`, `fields`, `reader`, `head`, `blocks`,
-//! `header`, `text`, `parts`, `mir`, then `laws`; the definitions are in specs/.
+//! `header`, `text`, `mir`, then `laws`; the definitions are in specs/.
 #![tactic(auto)]
 
 mod blocks;
@@ -15,7 +15,6 @@ mod mir;
 mod next_point;
 mod own_names;
 mod parameters;
-mod parts;
 mod ranges;
 mod reader;
 mod resolution;
@@ -29,4 +28,4 @@ pub use laws::{
     mir_one_meaning,
 };
 pub use limits::{MAX_STRUCTS, MAX_VARIABLES};
-pub use mir::{read_mir, read_mir_parts};
+pub use mir::read_mir;

@@ -6,7 +6,6 @@ ghost use Rattle.nll_body.specs.Sound.{IsSound};
 ghost use Rattle.nll_mir_text.specs.MirReading.{said_by, IsReady};
 ghost use Rattle.nll_mir_text.specs.MirText.{body_said, Means, IsMirFault};
 
-use crate::parts::read_text_parts;
 use crate::reader::Reader;
 use crate::text::read_text;
 use nll_body::Body;
@@ -69,21 +68,5 @@ pub fn read_mir(alloc: Global, text: &[u8]) -> Result<Body, TextError>
     ensures fault { IfErr result (IsRefusal (IsMirFault text.now)) }
 {
     let reader = read_text(alloc, text)?;
-    body(alloc, reader)
-}
-
-/// Reads a MIR text, of version 1 or 2 by its header, which is freed while it is read.
-///
-/// # Errors
-/// Those of `read_mir`.
-///
-/// # Cost
-/// That of `read_mir`, and that of copying half of the text: once two thirds of a large text are
-/// read, the rest is kept by itself and the text freed, and so with the rest (not proved).
-pub fn read_mir_parts(alloc: Global, text: Vec<u8>) -> Result<Body, TextError>
-    ensures ok { IfOk result (Means text.items) }
-    ensures fault { IfErr result (IsRefusal (IsMirFault text.items)) }
-{
-    let reader = read_text_parts(alloc, text)?;
     body(alloc, reader)
 }

@@ -2,9 +2,7 @@
 use super::comparison::compare;
 use super::problem_text::point_told;
 use super::rows::{Asked, compare_rows};
-use nll_facts::{
-    facts_not_both, facts_one_fault, facts_one_meaning, facts_some_meaning_or_fault, few_tokens,
-};
+use nll_facts::{facts_not_both, facts_one_fault, facts_one_meaning, facts_some_meaning_or_fault};
 use nll_report::{no_text_has_both, one_text_fault, one_text_meaning};
 
 // Texts, and what they say.
@@ -91,7 +89,6 @@ fn states_laws(_rt: HostRuntime) {
     facts_one_fault();
     facts_not_both();
     facts_some_meaning_or_fault();
-    few_tokens();
     one_text_fault();
     one_text_meaning();
     no_text_has_both();

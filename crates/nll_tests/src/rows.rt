@@ -3,7 +3,7 @@
 use super::builder_calls::write_new;
 use super::calls::{Call, Calls, write_behind, write_problem, write_random};
 use super::cuts::{Deal, write_cut, write_cut_file};
-use super::end_texts::{OfLoop, write_loop};
+use super::end_texts::write_loop;
 use super::frontiers::{write_frontier, write_frontier_everywhere, write_frontier_to_end};
 use super::graphs::{Then, write_graph_then};
 use super::lines::{OfLine, write_line};
@@ -61,8 +61,8 @@ pub enum Asked {
     Within(&'static [u32], &'static [u32]),
     /// Of types, structs and shapes.
     Type(OfType),
-    /// Of the loop over the lines of a text.
-    Loop(OfLoop),
+    /// Of a text: which of its lines the loop over them hands on, and what it says of them.
+    Loop(&'static [u8]),
     /// What errors print.
     Messages,
     /// What becomes of a refused growth of memory.
@@ -97,7 +97,7 @@ fn write_told(out: &mut Transcript, says: &str, asked: Asked) {
         Asked::Runs(elements) => write_runs(out, elements),
         Asked::Within(inner, outer) => write_within(out, inner, outer),
         Asked::Type(of_type) => write_typed(out, of_type),
-        Asked::Loop(of_loop) => write_loop(out, of_loop),
+        Asked::Loop(text) => write_loop(out, text),
         Asked::Messages => write_messages(out),
         Asked::Memory => write_memory(out),
         Asked::Large(large) => write_large(out, large),
