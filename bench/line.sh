@@ -4,9 +4,9 @@
 #   line.sh --nllc PATH [--size MIB] [--most MIB]
 #
 # Each text is a header and one line: of signs, of words, of regions, of one name, of blanks, or a
-# remark. None of the forms has such a line, and whatever it holds, the reader keeps no more of it than
-# the tokens that a line of some form has. Prints a Markdown table, a row for each; status 1 where a
-# refusal differs, or the peak of the process passes the size of the text by more than `--most` MiB.
+# remark. None of the forms has such a line, and whatever it holds, the reader of facts keeps nothing of
+# it. Prints a Markdown table, a row for each; status 1 where a refusal differs, or the peak of the
+# process passes the size of the text by more than `--most` MiB.
 set -eu
 here=$(cd "$(dirname "$0")" && pwd)
 usage() { echo "usage: line.sh --nllc PATH [--size MIB] [--most MIB]" >&2; exit 2; }
