@@ -10,7 +10,7 @@ proved=$root/out/world_program/crates/world_program/out/world_program
 unproved=$root/out/world_program-unproved
 below="nll_sets nll_problem nll_text nll_format nll_facts nll_core nll_cut nll_mail nll_owner nll_event \
     nll_model nll_list_text nll_cut_text nll_schedule_text nll_types nll_statements nll_statement_list \
-    nll_type_check nll_rules nll_type_grammar nll_resolve nll_mir_grammar nll_body nll_live nll_mir_text nll_body_problem"
+    nll_type_check nll_rules nll_mir_grammar nll_resolve nll_body nll_live nll_mir_text nll_body_problem"
 used="nll_problem nll_core nll_cut nll_mail nll_owner nll_event nll_model nll_text nll_format nll_facts \
     nll_body nll_mir_text nll_body_problem nll_cut_text nll_schedule_text anyhow"
 

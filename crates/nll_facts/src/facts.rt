@@ -33,7 +33,7 @@ fn read_body(alloc: Global, version: Version, body: Option<&[u8]>) -> Result<Fac
         Ok(reader) => reader,
         Err(kind) => return Err(TextError { line: 0, kind }),
     };
-    if let Err(error) = read_lines(&mut reader, &version, body, &mut ()) {
+    if let Err(error) = read_lines(&mut reader, &version, body) {
         drop(reader);
         return Err(error);
     }

@@ -303,20 +303,13 @@ impl Reader {
 }
 
 impl<'a> LineReader<'a, Version> for Reader {
-    type Room = ();
-
     ghost format_of = { facts };
 
     ghost holds = { λ _ forms reader. SameSaid (said forms) (said_by reader) };
 
     ghost ready = { IsReady };
 
-    fn read_line(
-        &mut self,
-        version: &Version,
-        line: &'a [u8],
-        _room: &mut (),
-    ) -> Result<(), TextKind> {
+    fn read_line(&mut self, version: &Version, line: &'a [u8]) -> Result<(), TextKind> {
         let Some(form) = line_of(line) else {
             return pass_over(line);
         };

@@ -11,7 +11,7 @@ use Rattle.nll_text.specs.Lines.{is_skipped}
 use Rattle.nll_text.specs.Tokens.{Token, word, region as lex_region, IsMadeOf, IsGap}
 use Rattle.nll_text.specs.Lexing.{BeginsWith, BeginsNotWith}
 use Rattle.nll_text.proofs.DecisionLemmas.{same_first, same_rest, tokens_or_not}
-use Rattle.nll_text.proofs.ScanLemmas.{kept_tokens}
+use Rattle.nll_text.proofs.SkippedLemmas.{kept_tokens}
 use Rattle.nll_text.proofs.TokenLemmas.{one_token_list_lem, made_or_not}
 use Rattle.nll_text.proofs.Utf8Lemmas.{made_is_utf8}
 use Rattle.nll_format.specs.Parts.{Name, Part, keyword, number, region, token_of, IsSmall, Spells, AreSpelled}

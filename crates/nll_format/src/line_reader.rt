@@ -10,9 +10,6 @@ use crate::error::TextKind;
 /// A reader of the lines of texts. What names their format, as its version does, comes with each
 /// line.
 pub trait LineReader<'a, F> {
-    /// Room that one line after another uses. Nothing is kept in it.
-    type Room;
-
     /// The format that is named.
     ghost format_of: { F → Format };
 
@@ -26,12 +23,7 @@ pub trait LineReader<'a, F> {
     ///
     /// # Errors
     /// What is wrong with the line behind those that were taken in; or `Memory`.
-    fn read_line(
-        &mut self,
-        format: &F,
-        line: &'a [u8],
-        room: &mut Self::Room,
-    ) -> Result<(), TextKind>
+    fn read_line(&mut self, format: &F, line: &'a [u8]) -> Result<(), TextKind>
         requires ready { ready self.old }
         requires short { length line.now ≤ most_bytes }
         ensures ready { OnOk result (ready self.new) }

@@ -19,7 +19,6 @@ pub fn read_lines<'a, F, R: LineReader<'a, F>>(
     reader: &mut R,
     format: &F,
     body: Option<&'a [u8]>,
-    room: &mut R::Room,
 ) -> Result<(), TextError>
     requires ready { R.ready reader.old }
     requires nothing { R.holds format.now [] reader.old }
@@ -34,7 +33,7 @@ pub fn read_lines<'a, F, R: LineReader<'a, F>>(
     let mut number = 1;
     let mut rest = body;
     while let Some(text) = rest {
-        rest = read_next(reader, format, text, room, &mut number)?;
+        rest = read_next(reader, format, text, &mut number)?;
     }
     check_end(reader, format, number)
 }
@@ -44,7 +43,6 @@ fn read_next<'a, F, R: LineReader<'a, F>>(
     reader: &mut R,
     format: &F,
     text: &'a [u8],
-    room: &mut R::Room,
     number: &mut u64,
 ) -> Result<Option<&'a [u8]>, TextError>
     requires ready { R.ready reader.old }
@@ -64,7 +62,7 @@ fn read_next<'a, F, R: LineReader<'a, F>>(
 {
     let (line, rest) = next_line(text);
     *number += 1;
-    match reader.read_line(format, line, room) {
+    match reader.read_line(format, line) {
         Ok(()) => Ok(rest),
         Err(kind) => Err(TextError::at(*number, kind)),
     }

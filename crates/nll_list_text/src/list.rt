@@ -48,7 +48,7 @@ fn read_body<F: ListFormat>(
     let mut items = Items::<F> {
         list: Vec::new(alloc),
     };
-    if let Err(error) = read_lines(&mut items, format, body, &mut ()) {
+    if let Err(error) = read_lines(&mut items, format, body) {
         drop(items);
         return Err(error);
     }
@@ -62,15 +62,13 @@ struct Items<F: ListFormat> {
 }
 
 impl<'a, F: ListFormat> LineReader<'a, F> for Items<F> {
-    type Room = ();
-
     ghost format_of = { λ format. format_of (F.listing format) };
 
     ghost holds = { λ format entries items. entries ≡ map (F.entry format) items.list.items };
 
     ghost ready = { λ _. Unit {0} };
 
-    fn read_line(&mut self, format: &F, line: &'a [u8], _room: &mut ()) -> Result<(), TextKind> {
+    fn read_line(&mut self, format: &F, line: &'a [u8]) -> Result<(), TextKind> {
         match format.item(line)? {
             Some(item) => Ok(self.list.push(item)?),
             None => pass_over(line),

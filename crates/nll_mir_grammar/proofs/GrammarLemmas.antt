@@ -474,10 +474,6 @@ parentheses_one g h ts (a ∷ xs) (b ∷ bs) r s x y =
     (to_enclosed g ts b bs s y) in
     (ap (λ z. z.0) same.0, same.1)
 
-pub parentheses_closed : {A : Type 0} (g : Grammar A) (ts inner rest : List Token) → ts ≡ sign 40 ∷ inner
-    → inner ≡ sign 41 ∷ rest → Begins (parentheses g) ts [] rest
-parentheses_closed g ts inner rest e f = record { joined = e ∙ ap (λ l. sign 40 ∷ l) f; allowed = tt; follows = tt }
-
 pub parentheses_unopened : {A : Type 0} (g : Grammar A) (ts : List Token) → IsNotNext (sign 40) ts
     → HasNone (parentheses g) ts
 parentheses_unopened g ts other xs r b = other _ b.joined

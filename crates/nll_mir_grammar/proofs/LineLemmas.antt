@@ -7,11 +7,11 @@ use Rattle.std.proofs.lemmas.Bool.{false≢true}
 use Rattle.nll_text.specs.Tokens.{Token, word, sign}
 use Rattle.nll_types.specs.Places.{PlacePath}
 use Rattle.nll_types.specs.Operands.{Operand, constant, copied, moved}
-use Rattle.nll_type_grammar.specs.WrittenTypes.{Name, WrittenType, HasNames, IsFree}
+use Rattle.nll_mir_grammar.specs.WrittenTypes.{Name, WrittenType, HasNames, IsFree}
 use Rattle.nll_types.specs.Operands.{operand_of}
 use Rattle.nll_types.specs.declared.operand.Operand.{Operand as Written}
-use Rattle.nll_type_grammar.specs.TypeTexts.{written}
-use Rattle.nll_type_grammar.specs.declared.type_text.TypePiece.{TypePiece}
+use Rattle.nll_mir_grammar.specs.TypeTexts.{written}
+use Rattle.nll_mir_grammar.specs.declared.type_text.TypePiece.{TypePiece}
 use Rattle.nll_mir_grammar.specs.Lines.{argument_of, form_of}
 use Rattle.nll_mir_grammar.specs.declared.line.Line.{Line}
 use Rattle.nll_statements.specs.Statements.{assign, borrow, make, read, live, dead, nop, goto, switch, drop, call, return, stop}
@@ -23,7 +23,7 @@ use Rattle.nll_mir_grammar.specs.Parts.{any_words, places, operands, arguments, 
 use Rattle.nll_mir_grammar.specs.Kinds.{borrows, makes, signatures, value, borrowed, made, called, rights, tails, keyword_name, LineParts, line_grammars, lines, parts_of, IsLine, IsRightSide, IsBehind, HasNoKeyword}
 use Rattle.nll_mir_grammar.specs.declared.keyword.Keyword.{Keyword}
 use Rattle.nll_mir_grammar.specs.declared.keyword.Keyword.TheVariants as words
-use Rattle.nll_mir_grammar.proofs.GrammarLemmas.{append_nil, behind_found, behind_none, pair_found, pair_none_behind, head_same}
+use Rattle.nll_mir_grammar.proofs.GrammarLemmas.{append_nil, behind_found, behind_none, pair_found, pair_none_behind}
 use Rattle.nll_mir_grammar.proofs.PartLemmas.{no_projection_left, places_one}
 use Rattle.nll_mir_grammar.proofs.KindLemmas.{rights_join, no_value, lines_one, line_kind, line_kind_of, line_kind_of_name}
 
@@ -175,15 +175,6 @@ pub read_assignment : {R E : Type 0} (ts : List Token) (form : R → Form) (afte
 read_assignment ts form after (Ok None) other none = no_assignment ts other none
 read_assignment ts form after (Ok (Some p)) other found = found
 read_assignment ts form after (Err x) other h = tt
-
--- a word that is no keyword
-pub no_keyword : (ts mid : List Token) (w : List ℕ) → Begins any_words ts w mid
-    → ((k : Keyword) → w ≡ keyword_name k → ⊥) → HasNoKeyword ts
-no_keyword ts mid w b other k rest f =
-    other k (let h : word w ≡ word (keyword_name k) = head_same _ _ _ _ (sym b.joined ∙ f) in cc)
-
-pub no_word : (ts : List Token) → HasNone any_words ts → HasNoKeyword ts
-no_word ts none k rest e = none (keyword_name k) rest (record { joined = e; allowed = tt; follows = tt })
 
 -- ---- forms
 

@@ -1,5 +1,5 @@
 -- The parts of a line: tokens begin with one of each at most.
-use Rattle.std.proofs.Common.{◌≡◌, ℕ, ◌<◌, ◌≤◌, ◌^◌, Bool, true, false, eqb, List, [], ◌∷◌, ◌++◌, length, refl, sym, ap, ◌∙◌, subst, append_assoc, arith, Some, None}
+use Rattle.std.proofs.Common.{◌≡◌, ℕ, ◌<◌, ◌^◌, Bool, true, false, List, [], ◌∷◌, ◌++◌, length, refl, sym, ap, ◌∙◌, subst, append_assoc, arith, Some, None}
 use Rattle.std.specs.List.{AllByRecursion}
 use Rattle.std.specs.Prelude.{codes, Option, Result, Ok, Err, IfOk, MatchOption}
 use Rattle.std.specs.Str.{bytes_eq}
@@ -8,7 +8,6 @@ use Rattle.std.proofs.lemmas.Bool.{eq-eqb, false≢true}
 use Rattle.std.proofs.lemmas.Fmt.{decimal_injective}
 use Rattle.std.proofs.lemmas.List.Concat.{flat_map_single}
 use Rattle.nll_text.specs.Tokens.{Token, word, region, sign, arrow}
-use Rattle.nll_text.specs.declared.token.Token.{Token as InLine}
 use Rattle.nll_types.specs.Places.{PlacePath}
 use Rattle.nll_types.specs.Operands.{Operand, constant, copied, moved}
 use Rattle.nll_types.specs.declared.place.Projection.{Projection}
@@ -16,15 +15,13 @@ use Rattle.nll_types.specs.declared.place.Projection.TheVariants.{Deref, Field}
 use Rattle.nll_types.specs.declared.parameter.Parameter.{Parameter}
 use Rattle.nll_types.specs.declared.parameter.Sign.{Sign}
 use Rattle.nll_types.specs.declared.parameter.Sign.TheVariants.{Covariant, Contravariant, Invariant}
-use Rattle.nll_type_grammar.specs.WrittenTypes.{Name, WrittenType, WrittenTypes, int, reference, tuple, named, function, spelled}
-use Rattle.nll_type_grammar.specs.Reading.{HasNoType, IsTypeIn}
-use Rattle.nll_mir_grammar.specs.Tuples.{parts, IsTuple}
+use Rattle.nll_mir_grammar.specs.WrittenTypes.{Name, WrittenType, WrittenTypes, tuple, spelled}
+use Rattle.nll_mir_grammar.specs.Reading.{HasNoType, IsTypeIn}
 use Rattle.nll_mir_grammar.specs.MirForms.{WrittenParameter, region_parameter, type_parameter, spelled_place, spelled_operand, dangling_mark, sign_token, block_word}
-use Rattle.nll_mir_grammar.specs.Grammars.{Grammar, Begins, HasNone, IsOne, IsNotNext, behind, empty, from, pair, many, commas}
+use Rattle.nll_mir_grammar.specs.Grammars.{Grammar, Begins, HasNone, IsOne, behind, empty, pair, many, commas}
 use Rattle.nll_mir_grammar.specs.Parts.{regions, any_words, names, prefixed, variables, block_names, projections, places, operands, types, tuples, arguments, marks, parameter_marks, parameters, parameter_lists, bounds, bound_lists, block_lists, exits, MayFollowMark}
-use Rattle.nll_mir_grammar.proofs.GrammarLemmas.{pair_found, IsSolid, fewer_left, inside_one, tail_same, head_same, signs_apart, signs_differ, behind_one, behind_none, Joins, pair_one, many_one, IsLoose, commas_one, IsBefore, IsListable, enclosed}
-use Rattle.nll_mir_grammar.proofs.TokenLemmas.{nothing_past}
-use Rattle.nll_type_grammar.proofs.OneTree.{one_tree}
+use Rattle.nll_mir_grammar.proofs.GrammarLemmas.{pair_found, IsSolid, inside_one, tail_same, head_same, signs_apart, signs_differ, behind_one, behind_none, Joins, pair_one, many_one, IsLoose, commas_one, IsBefore, IsListable, enclosed}
+use Rattle.nll_mir_grammar.proofs.OneTree.{one_tree}
 
 -- the first byte of a word, or 0
 first_byte : List ℕ → ℕ
@@ -127,9 +124,6 @@ pub no_projection_left : HasNone projections []
 no_projection_left Deref s b = let e : [] ≡ sign 46 ∷ sign 42 ∷ s = b.joined in cc
 no_projection_left (Field k) s b = let e : [] ≡ sign 46 ∷ word (decimal k) ∷ s = b.joined in cc
 
-pub places_before : (t : Token) → (sign 46 ≡ t → ⊥) → IsBefore t places
-places_before t n p r h = no_projection t r n
-
 -- operands
 pub operands_before : (t : Token) → (sign 46 ≡ t → ⊥) → IsBefore t operands
 operands_before t n constant r h = tt
@@ -152,6 +146,33 @@ copied_place ts p r b = record { joined = b.joined; allowed = b.allowed; follows
 moved_place : (ts : List Token) (p : PlacePath) (r : List Token) → Begins operands ts (moved p) r
     → Begins (behind (word (codes "move")) places) ts p r
 moved_place ts p r b = record { joined = b.joined; allowed = b.allowed; follows = b.follows }
+
+-- the operand behind its word
+pub copied_found : (ts mid rest : List Token) (p : PlacePath) → ts ≡ word (codes "copy") ∷ mid
+    → Begins places mid p rest → Begins operands ts (copied p) rest
+copied_found ts mid rest p e b =
+    record { joined = e ∙ ap (λ l. word (codes "copy") ∷ l) b.joined; allowed = b.allowed; follows = b.follows }
+
+pub moved_found : (ts mid rest : List Token) (p : PlacePath) → ts ≡ word (codes "move") ∷ mid
+    → Begins places mid p rest → Begins operands ts (moved p) rest
+moved_found ts mid rest p e b =
+    record { joined = e ∙ ap (λ l. word (codes "move") ∷ l) b.joined; allowed = b.allowed; follows = b.follows }
+
+pub constant_found : (ts rest : List Token) → ts ≡ word (codes "const") ∷ rest → Begins operands ts constant rest
+constant_found ts rest e = record { joined = e; allowed = tt; follows = tt }
+
+-- no place stands behind the word
+pub no_copied : (ts mid : List Token) → ts ≡ word (codes "copy") ∷ mid → HasNone places mid → HasNone operands ts
+no_copied ts mid e none constant r b = behind_word (codes "copy") (codes "const") ts _ _ e b.joined refl
+no_copied ts mid e none (copied p) r b =
+    behind_none places (word (codes "copy")) ts mid e none p r (copied_place ts p r b)
+no_copied ts mid e none (moved p) r b = behind_word (codes "copy") (codes "move") ts _ _ e b.joined refl
+
+pub no_moved : (ts mid : List Token) → ts ≡ word (codes "move") ∷ mid → HasNone places mid → HasNone operands ts
+no_moved ts mid e none constant r b = behind_word (codes "move") (codes "const") ts _ _ e b.joined refl
+no_moved ts mid e none (copied p) r b = behind_word (codes "move") (codes "copy") ts _ _ e b.joined refl
+no_moved ts mid e none (moved p) r b =
+    behind_none places (word (codes "move")) ts mid e none p r (moved_place ts p r b)
 
 pub operands_one : IsOne operands
 operands_one ts constant constant r s x y = (refl, tail_same _ _ _ _ (sym x.joined ∙ y.joined))
@@ -192,9 +213,6 @@ no_operand c op r s e =
 pub types_one : IsOne types
 types_one ts t u r s x y = one_tree t u r s x.allowed y.allowed x.follows y.follows (sym x.joined ∙ y.joined)
 
-pub types_before : (c : ℕ) → eqb c 60 ≡ false → IsBefore (sign c) types
-types_before c n t r h others e = signs_differ c 60 _ _ n e
-
 tuple_same : (a b : WrittenTypes) → tuple a ≡ tuple b → a ≡ b
 tuple_same a b e = cc
 
@@ -217,44 +235,12 @@ blocks_solid b = omega arith
 pub type_found : (ts : List Token) (t : WrittenType) (rest : List Token) → IsTypeIn ts t rest → Begins types ts t rest
 type_found ts t rest h = record { joined = h.found.joined; allowed = h.found.names; follows = h.found.free }
 
-pub types_solid : IsSolid types
-types_solid int = omega arith
-types_solid (reference r m t) = omega arith
-types_solid (tuple ts) = omega arith
-types_solid (named n args) = omega arith
-types_solid (function ts t) = omega arith
-
--- no type stands behind the last token
-pub no_type_past : (tokens : List InLine) (at : ℕ) → length tokens ≤ at → HasNone types (from at tokens)
-no_type_past tokens at past t rest b =
-    let e : from at tokens ≡ [] = nothing_past tokens at past in
-    let n : length rest < length (from at tokens) = fewer_left types (from at tokens) rest t (types_solid t) b in
-    let m : length (from at tokens) ≡ 0 = ap length e in
-    absurd (omega (arith, n, m))
-
 pub no_type : (ts : List Token) → HasNoType ts → HasNone types ts
 no_type ts none t rest b = none t rest (record { joined = b.joined; names = b.allowed; free = b.follows })
 
 pub no_tuple : (ts : List Token) → HasNone types ts → HasNone tuples ts
 no_tuple ts none xs rest b =
     none (tuple xs) rest (record { joined = b.joined; allowed = b.allowed; follows = b.follows })
-
-pub no_tuple_open : (ts : List Token) → IsNotNext (sign 40) ts → HasNone tuples ts
-no_tuple_open ts other xs rest b = other _ b.joined
-
-pub front_is_tuple : (ts inner : List Token) (t : WrittenType) (rest : List Token) → ts ≡ sign 40 ∷ inner
-    → Begins types ts t rest → IsTuple t
-front_is_tuple ts inner int rest e b = absurd (let f = head_same _ _ _ _ (sym e ∙ b.joined) in cc)
-front_is_tuple ts inner (reference q m t) rest e b = absurd (signs_differ 40 38 _ _ refl (sym e ∙ b.joined))
-front_is_tuple ts inner (tuple xs) rest e b = refl
-front_is_tuple ts inner (named n args) rest e b = absurd (let f = head_same _ _ _ _ (sym e ∙ b.joined) in cc)
-front_is_tuple ts inner (function xs x) rest e b = absurd (let f = head_same _ _ _ _ (sym e ∙ b.joined) in cc)
-
-pub tuple_found : (ts : List Token) (t : WrittenType) (rest : List Token) → IsTuple t → Begins types ts t rest
-    → Begins tuples ts (parts t) rest
-tuple_found ts t rest h b =
-    let c : Begins types ts (tuple (parts t)) rest = subst (λ (z : WrittenType). Begins types ts z rest) h b in
-    record { joined = c.joined; allowed = c.allowed; follows = c.follows }
 
 -- ---- marks
 
@@ -468,15 +454,6 @@ to_blocks ts bs r b =
 
 pub block_lists_one : IsOne block_lists
 block_lists_one ts bs cs r s x y = many_blocks_one ts bs cs r s (to_blocks ts bs r x) (to_blocks ts cs s y)
-
-pub blocks_found : (ts : List Token) (bs : List ℕ) (r : List Token) → 0 < length bs → Begins (many block_names) ts bs r
-    → Begins block_lists ts bs r
-blocks_found ts bs r some b =
-    record {
-      joined = b.joined ∙ ap (λ l. l ++ r) (flat_map_single block_word bs);
-      allowed = (some, b.allowed);
-      follows = b.follows;
-    }
 
 pub no_blocks : (ts : List Token) (bs : List ℕ) (r : List Token) → length bs ≡ 0 → Begins (many block_names) ts bs r
     → HasNone block_lists ts

@@ -7,10 +7,10 @@ use Rattle.std.proofs.Math.Seq.{drop-cons}
 use Rattle.std.proofs.lemmas.List.{drop_all}
 use Rattle.nll_types.specs.Operands.{Operand}
 use Rattle.nll_types.specs.declared.operand.Operand.{Operand as Written}
-use Rattle.nll_type_grammar.specs.Functions.{has_function, have_function}
-use Rattle.nll_type_grammar.specs.WrittenTypes.{WrittenType}
-use Rattle.nll_type_grammar.specs.TypeTexts.{written}
-use Rattle.nll_type_grammar.specs.declared.type_text.TypePiece.{TypePiece}
+use Rattle.nll_mir_grammar.specs.Functions.{has_function, have_function}
+use Rattle.nll_mir_grammar.specs.WrittenTypes.{WrittenType}
+use Rattle.nll_mir_grammar.specs.TypeTexts.{written}
+use Rattle.nll_mir_grammar.specs.declared.type_text.TypePiece.{TypePiece}
 use Rattle.nll_statements.specs.Kept.{arguments_of}
 use Rattle.nll_mir_grammar.specs.Tuples.{parts, IsTuple}
 

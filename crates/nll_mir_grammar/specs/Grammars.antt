@@ -1,15 +1,10 @@
 -- Grammars: how values are spelled by tokens at the front of others.
 -- Source: project's choice. Only private contracts cite this file.
-use Rattle.std.specs.Prelude.{◌≡◌, ◌<◌, ℕ, List, [], ◌∷◌, ◌++◌, drop, map, length}
+use Rattle.std.specs.Prelude.{◌≡◌, ◌<◌, List, [], ◌∷◌, ◌++◌, map, length}
 use Rattle.std.specs.Prelude.{Option, Some, None, Result, Ok, Err}
 use Rattle.std.specs.List.{AllByRecursion, flat_map}
-use Rattle.nll_text.specs.Tokens.{Token, sign, views}
-use Rattle.nll_text.specs.declared.token.Token.{Token as InLine}
+use Rattle.nll_text.specs.Tokens.{Token, sign}
 use Rattle.nll_mir_grammar.specs.MirForms.{parted, in_parentheses}
-
--- the tokens of a line from an index on
-abbrev pub from : ℕ → List InLine → List Token
-from at tokens = drop at (views tokens)
 
 -- How values are spelled, which of them are allowed, and what may stand behind each.
 pub record Grammar (A : Type 0) : Type 1 where

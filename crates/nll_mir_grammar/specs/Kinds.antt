@@ -4,7 +4,7 @@ use Rattle.std.specs.Prelude.{◌≡◌, ℕ, Bool, List, [], ◌∷◌, codes, 
 use Rattle.nll_text.specs.Tokens.{Token, word, sign}
 use Rattle.nll_types.specs.Places.{PlacePath}
 use Rattle.nll_types.specs.Operands.{Operand}
-use Rattle.nll_type_grammar.specs.WrittenTypes.{Name, WrittenType, WrittenTypes}
+use Rattle.nll_mir_grammar.specs.WrittenTypes.{Name, WrittenType, WrittenTypes}
 use Rattle.nll_mir_grammar.specs.Grammars.{Grammar, Begins, behind, empty, pair, parentheses}
 use Rattle.nll_mir_grammar.specs.Grammars.{by_kind}
 use Rattle.nll_mir_grammar.specs.Parts.{regions, any_words, names, numbers, variables, block_names}

@@ -1,3 +1,9 @@
+pub mod WrittenTypes
+pub mod Functions
+pub mod TypeTexts
+pub mod Reading
+pub mod LineTokens
+pub mod OpenTypes
 pub mod MirForms
 pub mod Versions
 pub mod Tuples

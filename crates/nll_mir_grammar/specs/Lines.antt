@@ -5,9 +5,9 @@ use Rattle.std.specs.Borrow.{Bor}
 use Rattle.std.specs.Global.{Vec}
 use Rattle.nll_types.specs.Operands.{Operand, operand_of}
 use Rattle.nll_types.specs.declared.operand.Operand.{Operand as Written}
-use Rattle.nll_type_grammar.specs.WrittenTypes.{Name, WrittenType}
-use Rattle.nll_type_grammar.specs.TypeTexts.{written}
-use Rattle.nll_type_grammar.specs.declared.type_text.TypePiece.{TypePiece}
+use Rattle.nll_mir_grammar.specs.WrittenTypes.{Name, WrittenType}
+use Rattle.nll_mir_grammar.specs.TypeTexts.{written}
+use Rattle.nll_mir_grammar.specs.declared.type_text.TypePiece.{TypePiece}
 use Rattle.nll_statements.specs.Statements.{map_statement}
 use Rattle.nll_statements.specs.Kept.{statement_of}
 use Rattle.nll_statements.specs.declared.statement.Statement.{Statement as Kept}

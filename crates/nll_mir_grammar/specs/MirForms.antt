@@ -13,8 +13,8 @@ use Rattle.nll_types.specs.declared.parameter.Parameter.{Parameter}
 use Rattle.nll_types.specs.declared.parameter.Sign.{Sign}
 use Rattle.nll_types.specs.declared.parameter.Sign.TheVariants.{Covariant, Contravariant}
 use Rattle.nll_types.specs.declared.parameter.Sign.TheVariants.{Invariant}
-use Rattle.nll_type_grammar.specs.WrittenTypes.{Name, WrittenType, WrittenTypes, tuple, spelled}
-use Rattle.nll_type_grammar.specs.WrittenTypes.{mutability, HasNames, is_capital}
+use Rattle.nll_mir_grammar.specs.WrittenTypes.{Name, WrittenType, WrittenTypes, tuple, spelled}
+use Rattle.nll_mir_grammar.specs.WrittenTypes.{mutability, HasNames, is_capital}
 use Rattle.nll_statements.specs.Statements.{Statement, assign, borrow, make, read, live, dead, nop}
 use Rattle.nll_statements.specs.Statements.{goto, switch, drop, call, return, stop}
 

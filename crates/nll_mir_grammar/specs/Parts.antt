@@ -10,8 +10,8 @@ use Rattle.nll_types.specs.Operands.{Operand, constant, copied, moved}
 use Rattle.nll_types.specs.declared.place.Projection.{Projection}
 use Rattle.nll_types.specs.declared.parameter.Parameter.{Parameter}
 use Rattle.nll_types.specs.declared.parameter.Sign.{Sign}
-use Rattle.nll_type_grammar.specs.WrittenTypes.{Name, WrittenType, WrittenTypes, tuple, spelled}
-use Rattle.nll_type_grammar.specs.WrittenTypes.{mutability, HasNames, IsFree, is_capital}
+use Rattle.nll_mir_grammar.specs.WrittenTypes.{Name, WrittenType, WrittenTypes, tuple, spelled}
+use Rattle.nll_mir_grammar.specs.WrittenTypes.{mutability, HasNames, IsFree, is_capital}
 use Rattle.nll_mir_grammar.specs.Grammars.{Grammar, HasNone, IsNotNext, behind, pair}
 use Rattle.nll_mir_grammar.specs.Grammars.{MayFollowAll}
 use Rattle.nll_mir_grammar.specs.MirForms.{block_word, spelled_projection}

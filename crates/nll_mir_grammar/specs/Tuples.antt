@@ -1,7 +1,7 @@
 -- Written types that are tuples.
 -- Source: project's choice.
 use Rattle.std.specs.Prelude.{◌≡◌}
-use Rattle.nll_type_grammar.specs.WrittenTypes.{WrittenType, WrittenTypes, tuple, none}
+use Rattle.nll_mir_grammar.specs.WrittenTypes.{WrittenType, WrittenTypes, tuple, none}
 
 -- the types of a tuple
 abbrev pub parts : WrittenType → WrittenTypes

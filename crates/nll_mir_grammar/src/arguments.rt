@@ -2,7 +2,8 @@
 
 ghost use Rattle.std.specs.Prelude.{◌≡◌, [], IfOk, MatchOption, map};
 ghost use Rattle.nll_text.specs.Tokens as lex;
-ghost use Rattle.nll_mir_grammar.specs.Grammars.{Begins, HasNone, Puts, behind, commas, from};
+ghost use Rattle.nll_mir_grammar.specs.LineTokens.{tokens_in};
+ghost use Rattle.nll_mir_grammar.specs.Grammars.{Begins, HasNone, Puts, behind, commas};
 ghost use Rattle.nll_mir_grammar.specs.Grammars.{parentheses};
 ghost use Rattle.nll_mir_grammar.specs.Lines.{argument_of};
 ghost use Rattle.nll_mir_grammar.specs.Parts as parts;
@@ -10,10 +11,9 @@ ghost use Rattle.nll_mir_grammar.specs.Parts as parts;
 use crate::pairs::{Read, with};
 use crate::place::operand_at;
 use crate::type_front::type_behind;
+use crate::type_text::TypeText;
 use crate::words::after_sign;
 use nll_sets::Memory;
-use nll_text::Token;
-use nll_type_grammar::TypeText;
 use nll_types::Operand;
 use std::alloc::Global;
 
@@ -21,28 +21,27 @@ use std::alloc::Global;
 pub type Argument<'a> = (Operand, TypeText<'a>);
 
 // The argument at the front.
-fn argument_at<'a>(alloc: Global, tokens: &[Token<'a>], at: usize) -> Read<Argument<'a>>
-    ensures { IfOk result (λ o. MatchOption o (HasNone parts.arguments (from at tokens.now))
-        (λ p. Begins parts.arguments (from at tokens.now) (argument_of p.0)
-        (from p.1 tokens.now))) }
+fn argument_at<'a>(alloc: Global, line: &'a [u8]) -> Read<'a, Argument<'a>>
+    ensures { IfOk result (λ o. MatchOption o (HasNone parts.arguments (tokens_in line.now))
+        (λ p. Begins parts.arguments (tokens_in line.now) (argument_of p.0)
+        (tokens_in p.1.now))) }
 {
-    let Some((operand, behind)) = operand_at(alloc, tokens, at)? else {
+    let Some((operand, behind)) = operand_at(alloc, line)? else {
         return Ok(None);
     };
-    with(operand, type_behind(alloc, tokens, behind))
+    with(operand, type_behind(alloc, behind))
 }
 
 // Puts the argument at the front behind the others.
 fn push_argument<'a>(
     alloc: Global,
-    tokens: &[Token<'a>],
-    at: usize,
+    line: &'a [u8],
     arguments: &mut Vec<Argument<'a>>,
-) -> Result<Option<usize>, Memory>
-    ensures { IfOk result (λ o. Puts parts.arguments argument_of (λ r. from r tokens.now)
-        (from at tokens.now) arguments.old.items arguments.new.items o) }
+) -> Result<Option<&'a [u8]>, Memory>
+    ensures { IfOk result (λ o. Puts parts.arguments argument_of (λ r. tokens_in r.now)
+        (tokens_in line.now) arguments.old.items arguments.new.items o) }
 {
-    match argument_at(alloc, tokens, at)? {
+    match argument_at(alloc, line)? {
         Some((argument, rest)) => {
             arguments.push(argument)?;
             Ok(Some(rest))
@@ -54,15 +53,14 @@ fn push_argument<'a>(
 // Puts the argument behind a comma behind the others.
 fn next_argument<'a>(
     alloc: Global,
-    tokens: &[Token<'a>],
-    at: usize,
+    line: &'a [u8],
     arguments: &mut Vec<Argument<'a>>,
-) -> Result<Option<usize>, Memory>
+) -> Result<Option<&'a [u8]>, Memory>
     ensures { IfOk result (λ o. Puts (behind (lex.sign 44) parts.arguments) argument_of
-        (λ r. from r tokens.now) (from at tokens.now) arguments.old.items arguments.new.items o) }
+        (λ r. tokens_in r.now) (tokens_in line.now) arguments.old.items arguments.new.items o) }
 {
-    match after_sign(tokens, at, b',') {
-        Some(behind) => push_argument(alloc, tokens, behind, arguments),
+    match after_sign(line, b',') {
+        Some(behind) => push_argument(alloc, behind, arguments),
         None => Ok(None),
     }
 }
@@ -70,21 +68,20 @@ fn next_argument<'a>(
 // Puts arguments parted by commas into the list, as many as there are.
 fn list_arguments<'a>(
     alloc: Global,
-    tokens: &[Token<'a>],
-    at: usize,
+    line: &'a [u8],
     arguments: &mut Vec<Argument<'a>>,
-) -> Result<Option<usize>, Memory>
+) -> Result<Option<&'a [u8]>, Memory>
     requires { arguments.old.items ≡ [] }
     ensures { IfOk result
-        (λ o. MatchOption o (HasNone (commas parts.arguments) (from at tokens.now))
-        (λ rest. Begins (commas parts.arguments) (from at tokens.now)
-        (map argument_of arguments.new.items) (from rest tokens.now))) }
+        (λ o. MatchOption o (HasNone (commas parts.arguments) (tokens_in line.now))
+        (λ rest. Begins (commas parts.arguments) (tokens_in line.now)
+        (map argument_of arguments.new.items) (tokens_in rest.now))) }
 {
-    let Some(first) = push_argument(alloc, tokens, at, arguments)? else {
+    let Some(first) = push_argument(alloc, line, arguments)? else {
         return Ok(None);
     };
     let mut rest = first;
-    while let Some(next) = next_argument(alloc, tokens, rest, arguments)? {
+    while let Some(next) = next_argument(alloc, rest, arguments)? {
         rest = next;
     }
     Ok(Some(rest))
@@ -93,37 +90,36 @@ fn list_arguments<'a>(
 // Puts the arguments between `(` and `)` into the list.
 fn enclosed_arguments<'a>(
     alloc: Global,
-    tokens: &[Token<'a>],
-    at: usize,
+    line: &'a [u8],
     arguments: &mut Vec<Argument<'a>>,
-) -> Result<Option<usize>, Memory>
+) -> Result<Option<&'a [u8]>, Memory>
     requires { arguments.old.items ≡ [] }
     ensures { IfOk result
-        (λ o. MatchOption o (HasNone (parentheses parts.arguments) (from at tokens.now))
-        (λ rest. Begins (parentheses parts.arguments) (from at tokens.now)
-        (map argument_of arguments.new.items) (from rest tokens.now))) }
+        (λ o. MatchOption o (HasNone (parentheses parts.arguments) (tokens_in line.now))
+        (λ rest. Begins (parentheses parts.arguments) (tokens_in line.now)
+        (map argument_of arguments.new.items) (tokens_in rest.now))) }
 {
-    let Some(inner) = after_sign(tokens, at, b'(') else {
+    let Some(inner) = after_sign(line, b'(') else {
         return Ok(None);
     };
-    if let Some(rest) = after_sign(tokens, inner, b')') {
+    if let Some(rest) = after_sign(inner, b')') {
         return Ok(Some(rest));
     }
-    match list_arguments(alloc, tokens, inner, arguments)? {
-        Some(behind) => Ok(after_sign(tokens, behind, b')')),
+    match list_arguments(alloc, inner, arguments)? {
+        Some(behind) => Ok(after_sign(behind, b')')),
         None => Ok(None),
     }
 }
 
 /// The arguments between `(` and `)`.
-pub fn arguments_in<'a>(alloc: Global, tokens: &[Token<'a>], at: usize) -> Read<Vec<Argument<'a>>>
+pub fn arguments_in<'a>(alloc: Global, line: &'a [u8]) -> Read<'a, Vec<Argument<'a>>>
     ensures { IfOk result
-        (λ o. MatchOption o (HasNone (parentheses parts.arguments) (from at tokens.now))
-        (λ p. Begins (parentheses parts.arguments) (from at tokens.now) (map argument_of p.0.items)
-        (from p.1 tokens.now))) }
+        (λ o. MatchOption o (HasNone (parentheses parts.arguments) (tokens_in line.now))
+        (λ p. Begins (parentheses parts.arguments) (tokens_in line.now) (map argument_of p.0.items)
+        (tokens_in p.1.now))) }
 {
     let mut arguments = Vec::new(alloc);
-    match enclosed_arguments(alloc, tokens, at, &mut arguments) {
+    match enclosed_arguments(alloc, line, &mut arguments) {
         Ok(Some(rest)) => Ok(Some((arguments, rest))),
         Ok(None) => Ok(None),
         Err(memory) => Err(memory),

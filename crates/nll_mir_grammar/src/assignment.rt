@@ -3,7 +3,8 @@
 ghost use Rattle.std.specs.Prelude.{◌≡◌, ◌∷◌, IfOk, List, MatchOption, None, codes};
 ghost use Rattle.nll_text.specs.Tokens as lex;
 ghost use Rattle.nll_types.specs.Places.{path_of};
-ghost use Rattle.nll_mir_grammar.specs.Grammars.{HasNone, behind, from};
+ghost use Rattle.nll_mir_grammar.specs.LineTokens.{tokens_in};
+ghost use Rattle.nll_mir_grammar.specs.Grammars.{HasNone, behind};
 ghost use Rattle.nll_mir_grammar.specs.Kinds.{IsLine, IsRightSide, line_grammars, rights};
 ghost use Rattle.nll_mir_grammar.specs.Lines.{form_of};
 ghost use Rattle.nll_mir_grammar.specs.Parts.{operands};
@@ -12,20 +13,19 @@ use crate::line::Line;
 use crate::pairs::Read;
 use crate::place::{operand_at, place_at};
 use crate::right::{borrow_at, make_at, signature_at};
-use crate::words::{after_sign, token_at, word_at};
+use crate::words::{after_sign, word_at};
 use nll_statements::{Call, Make, Statement};
-use nll_text::Token;
 use nll_types::Place;
 use std::alloc::Global;
 
 // The borrow that goes to the place, behind its `&`.
-fn borrowed<'a>(alloc: Global, place: Place, tokens: &[Token<'a>], at: usize) -> Read<Line<'a>>
+fn borrowed<'a>(alloc: Global, place: Place, line: &'a [u8]) -> Read<'a, Line<'a>>
     ensures { IfOk result
-        (λ o. (ts : List lex.Token) → ts ≡ lex.sign 38 ∷ from at tokens.now
+        (λ o. (ts : List lex.Token) → ts ≡ lex.sign 38 ∷ tokens_in line.now
         → MatchOption o (HasNone rights ts)
-        (λ p. IsRightSide ts (path_of place) (form_of p.0) (from p.1 tokens.now))) }
+        (λ p. IsRightSide ts (path_of place) (form_of p.0) (tokens_in p.1.now))) }
 {
-    let Some((region, mutable, source, rest)) = borrow_at(alloc, tokens, at)? else {
+    let Some((region, mutable, source, rest)) = borrow_at(alloc, line)? else {
         return Ok(None);
     };
     let borrow = Statement::Borrow(place, region, mutable, source);
@@ -33,13 +33,13 @@ fn borrowed<'a>(alloc: Global, place: Place, tokens: &[Token<'a>], at: usize) ->
 }
 
 // The value of a tuple or struct that goes to the place, behind `make`.
-fn made<'a>(alloc: Global, place: Place, tokens: &[Token<'a>], at: usize) -> Read<Line<'a>>
+fn made<'a>(alloc: Global, place: Place, line: &'a [u8]) -> Read<'a, Line<'a>>
     ensures { IfOk result
-        (λ o. (ts : List lex.Token) → ts ≡ lex.word (codes "make") ∷ from at tokens.now
+        (λ o. (ts : List lex.Token) → ts ≡ lex.word (codes "make") ∷ tokens_in line.now
         → MatchOption o (HasNone rights ts)
-        (λ p. IsRightSide ts (path_of place) (form_of p.0) (from p.1 tokens.now))) }
+        (λ p. IsRightSide ts (path_of place) (form_of p.0) (tokens_in p.1.now))) }
 {
-    let Some((made, rest)) = make_at(alloc, tokens, at)? else {
+    let Some((made, rest)) = make_at(alloc, line)? else {
         return Ok(None);
     };
     let (ty, operands) = made;
@@ -53,16 +53,16 @@ fn made<'a>(alloc: Global, place: Place, tokens: &[Token<'a>], at: usize) -> Rea
 }
 
 // The call whose result goes to the place, behind `call`.
-fn called<'a>(alloc: Global, place: Place, tokens: &[Token<'a>], at: usize) -> Read<Line<'a>>
+fn called<'a>(alloc: Global, place: Place, line: &'a [u8]) -> Read<'a, Line<'a>>
     ensures { IfOk result
-        (λ o. (ts : List lex.Token) → ts ≡ lex.word (codes "call") ∷ from at tokens.now
+        (λ o. (ts : List lex.Token) → ts ≡ lex.word (codes "call") ∷ tokens_in line.now
         → MatchOption o (HasNone rights ts)
-        (λ p. IsRightSide ts (path_of place) (form_of p.0) (from p.1 tokens.now))) }
+        (λ p. IsRightSide ts (path_of place) (form_of p.0) (tokens_in p.1.now))) }
 {
-    let Some((_, behind)) = word_at(tokens, at) else {
+    let Some((_, behind)) = word_at(line) else {
         return Ok(None);
     };
-    let Some((signature, rest)) = signature_at(alloc, tokens, behind)? else {
+    let Some((signature, rest)) = signature_at(alloc, behind)? else {
         return Ok(None);
     };
     let (arguments, answer) = signature;
@@ -81,54 +81,56 @@ fn called<'a>(alloc: Global, place: Place, tokens: &[Token<'a>], at: usize) -> R
 }
 
 // The operand that goes to the place.
-fn assigned<'a>(alloc: Global, place: Place, tokens: &[Token<'a>], at: usize) -> Read<Line<'a>>
+fn assigned<'a>(alloc: Global, place: Place, line: &'a [u8]) -> Read<'a, Line<'a>>
     ensures { IfOk result
-        (λ o. MatchOption o (HasNone operands (from at tokens.now))
-        (λ p. IsRightSide (from at tokens.now) (path_of place) (form_of p.0)
-        (from p.1 tokens.now))) }
+        (λ o. MatchOption o (HasNone operands (tokens_in line.now))
+        (λ p. IsRightSide (tokens_in line.now) (path_of place) (form_of p.0)
+        (tokens_in p.1.now))) }
 {
-    let Some((operand, rest)) = operand_at(alloc, tokens, at)? else {
+    let Some((operand, rest)) = operand_at(alloc, line)? else {
         return Ok(None);
     };
     Ok(Some((Line::At(Statement::Assign(place, operand)), rest)))
 }
 
 // What goes to the place: the right side of an assignment.
-fn right_side<'a>(alloc: Global, place: Place, tokens: &[Token<'a>], at: usize) -> Read<Line<'a>>
+fn right_side<'a>(alloc: Global, place: Place, line: &'a [u8]) -> Read<'a, Line<'a>>
     ensures { IfOk result
-        (λ o. MatchOption o (HasNone rights (from at tokens.now))
-        (λ p. IsRightSide (from at tokens.now) (path_of place) (form_of p.0)
-        (from p.1 tokens.now))) }
+        (λ o. MatchOption o (HasNone rights (tokens_in line.now))
+        (λ p. IsRightSide (tokens_in line.now) (path_of place) (form_of p.0)
+        (tokens_in p.1.now))) }
 {
-    match token_at(tokens, at) {
-        Some(Token::Sign(b'&')) => borrowed(alloc, place, tokens, at + 1),
-        Some(Token::Word(b"make")) => made(alloc, place, tokens, at + 1),
-        Some(Token::Word(b"call")) => called(alloc, place, tokens, at + 1),
-        _ => assigned(alloc, place, tokens, at),
+    if let Some(behind) = after_sign(line, b'&') {
+        return borrowed(alloc, place, behind);
+    }
+    match word_at(line) {
+        Some((b"make", behind)) => made(alloc, place, behind),
+        Some((b"call", behind)) => called(alloc, place, behind),
+        _ => assigned(alloc, place, line),
     }
 }
 
 // The `=` of an assignment to the place, and what goes there.
-fn right_behind<'a>(alloc: Global, place: Place, tokens: &[Token<'a>], at: usize) -> Read<Line<'a>>
+fn right_behind<'a>(alloc: Global, place: Place, line: &'a [u8]) -> Read<'a, Line<'a>>
     ensures { IfOk result
-        (λ o. MatchOption o (HasNone (behind (lex.sign 61) rights) (from at tokens.now))
-        (λ p. (after : List lex.Token) × (from at tokens.now ≡ lex.sign 61 ∷ after)
-        × IsRightSide after (path_of place) (form_of p.0) (from p.1 tokens.now))) }
+        (λ o. MatchOption o (HasNone (behind (lex.sign 61) rights) (tokens_in line.now))
+        (λ p. (after : List lex.Token) × (tokens_in line.now ≡ lex.sign 61 ∷ after)
+        × IsRightSide after (path_of place) (form_of p.0) (tokens_in p.1.now))) }
 {
-    match after_sign(tokens, at, b'=') {
-        Some(behind) => right_side(alloc, place, tokens, behind),
+    match after_sign(line, b'=') {
+        Some(behind) => right_side(alloc, place, behind),
         None => Ok(None),
     }
 }
 
 /// The assignment at the front.
-pub fn assignment_at<'a>(alloc: Global, tokens: &[Token<'a>], at: usize) -> Read<Line<'a>>
+pub fn assignment_at<'a>(alloc: Global, line: &'a [u8]) -> Read<'a, Line<'a>>
     ensures { IfOk result
-        (λ o. MatchOption o (HasNone (line_grammars None) (from at tokens.now))
-        (λ p. IsLine (from at tokens.now) (form_of p.0) (from p.1 tokens.now))) }
+        (λ o. MatchOption o (HasNone (line_grammars None) (tokens_in line.now))
+        (λ p. IsLine (tokens_in line.now) (form_of p.0) (tokens_in p.1.now))) }
 {
-    let Some((place, behind)) = place_at(alloc, tokens, at)? else {
+    let Some((place, behind)) = place_at(alloc, line)? else {
         return Ok(None);
     };
-    right_behind(alloc, place, tokens, behind)
+    right_behind(alloc, place, behind)
 }

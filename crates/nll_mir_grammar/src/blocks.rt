@@ -1,27 +1,23 @@
 //! The blocks of a switch.
 
 ghost use Rattle.std.specs.Prelude.{IfOk, MatchOption};
-ghost use Rattle.nll_mir_grammar.specs.Grammars.{Begins, HasNone, from, many};
+ghost use Rattle.nll_mir_grammar.specs.LineTokens.{tokens_in};
+ghost use Rattle.nll_mir_grammar.specs.Grammars.{Begins, HasNone, many};
 ghost use Rattle.nll_mir_grammar.specs.Parts as parts;
 
 use crate::words::block_at;
 use nll_sets::Memory;
-use nll_text::Token;
 use std::alloc::Global;
 
 // The blocks at the front, as many as there are.
-fn many_blocks_at(
-    alloc: Global,
-    tokens: &[Token<'_>],
-    at: usize,
-) -> Result<(Vec<u32>, usize), Memory>
+fn many_blocks_at<'a>(alloc: Global, line: &'a [u8]) -> Result<(Vec<u32>, &'a [u8]), Memory>
     ensures { IfOk result
-        (λ p. Begins (many parts.block_names) (from at tokens.now) p.0.items
-        (from p.1 tokens.now)) }
+        (λ p. Begins (many parts.block_names) (tokens_in line.now) p.0.items
+        (tokens_in p.1.now)) }
 {
     let mut targets = Vec::new(alloc);
-    let mut rest = at;
-    while let Some((block, behind)) = block_at(tokens, rest) {
+    let mut rest = line;
+    while let Some((block, behind)) = block_at(rest) {
         targets.push(block)?;
         rest = behind;
     }
@@ -29,15 +25,11 @@ fn many_blocks_at(
 }
 
 /// The blocks at the front, at least one and as many as there are.
-pub fn blocks_at(
-    alloc: Global,
-    tokens: &[Token<'_>],
-    at: usize,
-) -> Result<Option<(Vec<u32>, usize)>, Memory>
-    ensures { IfOk result (λ o. MatchOption o (HasNone parts.block_lists (from at tokens.now))
-        (λ p. Begins parts.block_lists (from at tokens.now) p.0.items (from p.1 tokens.now))) }
+pub fn blocks_at<'a>(alloc: Global, line: &'a [u8]) -> Result<Option<(Vec<u32>, &'a [u8])>, Memory>
+    ensures { IfOk result (λ o. MatchOption o (HasNone parts.block_lists (tokens_in line.now))
+        (λ p. Begins parts.block_lists (tokens_in line.now) p.0.items (tokens_in p.1.now))) }
 {
-    let (targets, rest) = many_blocks_at(alloc, tokens, at)?;
+    let (targets, rest) = many_blocks_at(alloc, line)?;
     if targets.is_empty() {
         return Ok(None);
     }

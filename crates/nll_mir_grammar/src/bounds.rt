@@ -2,40 +2,36 @@
 
 ghost use Rattle.std.specs.Prelude.{◌≡◌, [], IfOk, MatchOption, map};
 ghost use Rattle.nll_text.specs.Tokens as lex;
-ghost use Rattle.nll_mir_grammar.specs.Grammars.{Begins, HasNone, Puts, behind, commas, from};
+ghost use Rattle.nll_mir_grammar.specs.LineTokens.{tokens_in};
+ghost use Rattle.nll_mir_grammar.specs.Grammars.{Begins, HasNone, Puts, behind, commas};
 ghost use Rattle.nll_mir_grammar.specs.Parts as parts;
 
 use crate::pairs::Read;
-use crate::words::{after_sign, region_at, token_at};
+use crate::words::{after_sign, region_at, word_at};
 use nll_sets::Memory;
-use nll_text::Token;
 use std::alloc::Global;
 
 /// Of each pair the first region must outlive the second.
 pub type Bounds<'a> = Vec<(&'a [u8], &'a [u8])>;
 
 /// The bound at the front.
-pub fn bound_at<'a>(tokens: &[Token<'a>], at: usize) -> Option<((&'a [u8], &'a [u8]), usize)>
-    ensures { MatchOption result (HasNone parts.bounds (from at tokens.now))
-        (λ p. Begins parts.bounds (from at tokens.now) (p.0.0.now, p.0.1.now)
-        (from p.1 tokens.now)) }
+pub fn bound_at<'a>(line: &'a [u8]) -> Option<((&'a [u8], &'a [u8]), &'a [u8])>
+    ensures { MatchOption result (HasNone parts.bounds (tokens_in line.now))
+        (λ p. Begins parts.bounds (tokens_in line.now) (p.0.0.now, p.0.1.now)
+        (tokens_in p.1.now)) }
 {
-    let (longer, behind) = region_at(tokens, at)?;
-    let behind = after_sign(tokens, behind, b':')?;
-    let (shorter, rest) = region_at(tokens, behind)?;
+    let (longer, behind) = region_at(line)?;
+    let behind = after_sign(behind, b':')?;
+    let (shorter, rest) = region_at(behind)?;
     Some(((longer, shorter), rest))
 }
 
 // Puts the bound at the front behind the others.
-fn push_bound<'a>(
-    tokens: &[Token<'a>],
-    at: usize,
-    bounds: &mut Bounds<'a>,
-) -> Result<Option<usize>, Memory>
-    ensures { IfOk result (λ o. Puts parts.bounds (λ w. (w.0.now, w.1.now)) (λ r. from r tokens.now)
-        (from at tokens.now) bounds.old.items bounds.new.items o) }
+fn push_bound<'a>(line: &'a [u8], bounds: &mut Bounds<'a>) -> Result<Option<&'a [u8]>, Memory>
+    ensures { IfOk result (λ o. Puts parts.bounds (λ w. (w.0.now, w.1.now)) (λ r. tokens_in r.now)
+        (tokens_in line.now) bounds.old.items bounds.new.items o) }
 {
-    match bound_at(tokens, at) {
+    match bound_at(line) {
         Some((bound, rest)) => {
             bounds.push(bound)?;
             Ok(Some(rest))
@@ -45,67 +41,55 @@ fn push_bound<'a>(
 }
 
 // Puts the bound behind a comma behind the others.
-fn next_bound<'a>(
-    tokens: &[Token<'a>],
-    at: usize,
-    bounds: &mut Bounds<'a>,
-) -> Result<Option<usize>, Memory>
+fn next_bound<'a>(line: &'a [u8], bounds: &mut Bounds<'a>) -> Result<Option<&'a [u8]>, Memory>
     ensures { IfOk result (λ o. Puts (behind (lex.sign 44) parts.bounds)
-        (λ w. (w.0.now, w.1.now)) (λ r. from r tokens.now)
-        (from at tokens.now) bounds.old.items bounds.new.items o) }
+        (λ w. (w.0.now, w.1.now)) (λ r. tokens_in r.now)
+        (tokens_in line.now) bounds.old.items bounds.new.items o) }
 {
-    match after_sign(tokens, at, b',') {
-        Some(behind) => push_bound(tokens, behind, bounds),
+    match after_sign(line, b',') {
+        Some(behind) => push_bound(behind, bounds),
         None => Ok(None),
     }
 }
 
 // Puts bounds parted by commas into the list, as many as there are.
-fn list_bounds<'a>(
-    tokens: &[Token<'a>],
-    at: usize,
-    bounds: &mut Bounds<'a>,
-) -> Result<Option<usize>, Memory>
+fn list_bounds<'a>(line: &'a [u8], bounds: &mut Bounds<'a>) -> Result<Option<&'a [u8]>, Memory>
     requires { bounds.old.items ≡ [] }
-    ensures { IfOk result (λ o. MatchOption o (HasNone (commas parts.bounds) (from at tokens.now))
-        (λ rest. Begins (commas parts.bounds) (from at tokens.now)
-        (map (λ w. (w.0.now, w.1.now)) bounds.new.items) (from rest tokens.now))) }
+    ensures { IfOk result (λ o. MatchOption o (HasNone (commas parts.bounds) (tokens_in line.now))
+        (λ rest. Begins (commas parts.bounds) (tokens_in line.now)
+        (map (λ w. (w.0.now, w.1.now)) bounds.new.items) (tokens_in rest.now))) }
 {
-    let Some(first) = push_bound(tokens, at, bounds)? else {
+    let Some(first) = push_bound(line, bounds)? else {
         return Ok(None);
     };
     let mut rest = first;
-    while let Some(next) = next_bound(tokens, rest, bounds)? {
+    while let Some(next) = next_bound(rest, bounds)? {
         rest = next;
     }
     Ok(Some(rest))
 }
 
 // Puts the bounds behind `where` into the list, where there are any.
-fn bounds_behind<'a>(
-    tokens: &[Token<'a>],
-    at: usize,
-    bounds: &mut Bounds<'a>,
-) -> Result<Option<usize>, Memory>
+fn bounds_behind<'a>(line: &'a [u8], bounds: &mut Bounds<'a>) -> Result<Option<&'a [u8]>, Memory>
     requires { bounds.old.items ≡ [] }
-    ensures { IfOk result (λ o. MatchOption o (HasNone parts.bound_lists (from at tokens.now))
-        (λ rest. Begins parts.bound_lists (from at tokens.now)
-        (map (λ w. (w.0.now, w.1.now)) bounds.new.items) (from rest tokens.now))) }
+    ensures { IfOk result (λ o. MatchOption o (HasNone parts.bound_lists (tokens_in line.now))
+        (λ rest. Begins parts.bound_lists (tokens_in line.now)
+        (map (λ w. (w.0.now, w.1.now)) bounds.new.items) (tokens_in rest.now))) }
 {
-    match token_at(tokens, at) {
-        Some(Token::Word(b"where")) => list_bounds(tokens, at + 1, bounds),
-        _ => Ok(Some(at)),
+    match word_at(line) {
+        Some((b"where", behind)) => list_bounds(behind, bounds),
+        _ => Ok(Some(line)),
     }
 }
 
 /// The bounds behind `where`, or none.
-pub fn bounds_in<'a>(alloc: Global, tokens: &[Token<'a>], at: usize) -> Read<Bounds<'a>>
-    ensures { IfOk result (λ o. MatchOption o (HasNone parts.bound_lists (from at tokens.now))
-        (λ p. Begins parts.bound_lists (from at tokens.now)
-        (map (λ w. (w.0.now, w.1.now)) p.0.items) (from p.1 tokens.now))) }
+pub fn bounds_in<'a>(alloc: Global, line: &'a [u8]) -> Read<'a, Bounds<'a>>
+    ensures { IfOk result (λ o. MatchOption o (HasNone parts.bound_lists (tokens_in line.now))
+        (λ p. Begins parts.bound_lists (tokens_in line.now)
+        (map (λ w. (w.0.now, w.1.now)) p.0.items) (tokens_in p.1.now))) }
 {
     let mut bounds = Vec::new(alloc);
-    match bounds_behind(tokens, at, &mut bounds) {
+    match bounds_behind(line, &mut bounds) {
         Ok(Some(rest)) => Ok(Some((bounds, rest))),
         Ok(None) => Ok(None),
         Err(memory) => Err(memory),

@@ -1,16 +1,16 @@
-//! Reading a line from its tokens.
+//! Reading a line, by its form.
 
 ghost use Rattle.std.specs.Prelude.{◌≡◌, ◌∷◌, true, false, IfOk, MatchOption};
 ghost use Rattle.nll_text.specs.Tokens as lex;
-ghost use Rattle.nll_text.specs.Tokens.{views};
-ghost use Rattle.nll_mir_grammar.specs.Grammars.{HasNone, from};
+ghost use Rattle.nll_mir_grammar.specs.LineTokens.{tokens_in};
+ghost use Rattle.nll_mir_grammar.specs.Grammars.{HasNone};
 ghost use Rattle.nll_mir_grammar.specs.Kinds as kinds;
 ghost use Rattle.nll_mir_grammar.specs.Kinds.{HasNoKeyword, IsBehind, IsLine, keyword_name};
 ghost use Rattle.nll_mir_grammar.specs.Kinds.{tails};
 ghost use Rattle.nll_mir_grammar.specs.Lines.{form_of};
 ghost use Rattle.nll_mir_grammar.specs.MirForms.{Form, IsSpelled};
 ghost use Rattle.nll_mir_grammar.specs.Versions as spec;
-ghost use Rattle.nll_mir_grammar.specs.Versions.{IsSpelledIn};
+ghost use Rattle.nll_mir_grammar.specs.Versions.{HasFormIn};
 
 use crate::assignment::assignment_at;
 use crate::keyword::{Keyword, keyword_of};
@@ -22,80 +22,74 @@ use crate::lines::{
 use crate::pairs::Read;
 use crate::points::{dead_line, drop_line, goto_line, live_line, read_line, switch_line};
 use crate::version::{Version, is_of_version};
-use crate::words::word_at;
+use crate::words::{is_gap, word_at};
 use nll_sets::Memory;
 use nll_statements::Statement;
-use nll_text::Token;
 use std::alloc::Global;
 
-// The line that begins with the keyword, behind which are the tokens.
-fn line_behind<'a>(
-    alloc: Global,
-    keyword: Keyword,
-    tokens: &[Token<'a>],
-    at: usize,
-) -> Read<Line<'a>>
+// The line that begins with the keyword, behind which the rest stands.
+fn line_behind<'a>(alloc: Global, keyword: Keyword, line: &'a [u8]) -> Read<'a, Line<'a>>
     ensures { IfOk result
-        (λ o. MatchOption o (HasNone (tails keyword) (from at tokens.now))
-        (λ p. IsBehind keyword (from at tokens.now) (form_of p.0) (from p.1 tokens.now))) }
+        (λ o. MatchOption o (HasNone (tails keyword) (tokens_in line.now))
+        (λ p. IsBehind keyword (tokens_in line.now) (form_of p.0) (tokens_in p.1.now))) }
 {
     match keyword {
-        Keyword::Universal => Ok(universal_line(tokens, at)),
-        Keyword::Outlives => Ok(outlives_line(tokens, at)),
-        Keyword::Region => Ok(region_line(tokens, at)),
-        Keyword::Assert => Ok(assert_line(tokens, at)),
-        Keyword::Struct => struct_line(alloc, tokens, at),
-        Keyword::Let => let_line(alloc, tokens, at),
-        Keyword::Blocks => Ok(blocks_line(tokens, at)),
-        Keyword::Block => Ok(block_line(tokens, at)),
-        Keyword::Read => read_line(alloc, tokens, at),
-        Keyword::Live => Ok(live_line(tokens, at)),
-        Keyword::Dead => Ok(dead_line(tokens, at)),
-        Keyword::Nop => Ok(Some((Line::At(Statement::Nop), at))),
-        Keyword::Goto => Ok(goto_line(tokens, at)),
-        Keyword::Switch => switch_line(alloc, tokens, at),
-        Keyword::Drop => Ok(drop_line(tokens, at)),
-        Keyword::Return => Ok(Some((Line::At(Statement::Return), at))),
-        Keyword::Stop => Ok(Some((Line::At(Statement::Stop), at))),
-        Keyword::End => Ok(Some((Line::End, at))),
+        Keyword::Universal => Ok(universal_line(line)),
+        Keyword::Outlives => Ok(outlives_line(line)),
+        Keyword::Region => Ok(region_line(line)),
+        Keyword::Assert => Ok(assert_line(line)),
+        Keyword::Struct => struct_line(alloc, line),
+        Keyword::Let => let_line(alloc, line),
+        Keyword::Blocks => Ok(blocks_line(line)),
+        Keyword::Block => Ok(block_line(line)),
+        Keyword::Read => read_line(alloc, line),
+        Keyword::Live => Ok(live_line(line)),
+        Keyword::Dead => Ok(dead_line(line)),
+        Keyword::Nop => Ok(Some((Line::At(Statement::Nop), line))),
+        Keyword::Goto => Ok(goto_line(line)),
+        Keyword::Switch => switch_line(alloc, line),
+        Keyword::Drop => Ok(drop_line(line)),
+        Keyword::Return => Ok(Some((Line::At(Statement::Return), line))),
+        Keyword::Stop => Ok(Some((Line::At(Statement::Stop), line))),
+        Keyword::End => Ok(Some((Line::End, line))),
     }
 }
 
 // The keyword at the front, and what stands behind it.
-fn keyword_at(tokens: &[Token<'_>], at: usize) -> Option<(Keyword, usize)>
-    ensures { MatchOption result (HasNoKeyword (from at tokens.now))
-        (λ p. from at tokens.now ≡ lex.word (keyword_name p.0) ∷ from p.1 tokens.now) }
+fn keyword_at<'a>(line: &'a [u8]) -> Option<(Keyword, &'a [u8])>
+    ensures { MatchOption result (HasNoKeyword (tokens_in line.now))
+        (λ p. tokens_in line.now ≡ lex.word (keyword_name p.0) ∷ tokens_in p.1.now) }
 {
-    let (word, rest) = word_at(tokens, at)?;
+    let (word, rest) = word_at(line)?;
     let keyword = keyword_of(word)?;
     Some((keyword, rest))
 }
 
 // The line at the front.
-fn line_at<'a>(alloc: Global, tokens: &[Token<'a>], at: usize) -> Read<Line<'a>>
-    ensures { IfOk result (λ o. MatchOption o (HasNone kinds.lines (from at tokens.now))
-        (λ p. IsLine (from at tokens.now) (form_of p.0) (from p.1 tokens.now))) }
+fn line_at<'a>(alloc: Global, line: &'a [u8]) -> Read<'a, Line<'a>>
+    ensures { IfOk result (λ o. MatchOption o (HasNone kinds.lines (tokens_in line.now))
+        (λ p. IsLine (tokens_in line.now) (form_of p.0) (tokens_in p.1.now))) }
 {
-    match keyword_at(tokens, at) {
-        Some((keyword, rest)) => line_behind(alloc, keyword, tokens, rest),
-        None => assignment_at(alloc, tokens, at),
+    match keyword_at(line) {
+        Some((keyword, rest)) => line_behind(alloc, keyword, rest),
+        None => assignment_at(alloc, line),
     }
 }
 
-// The form of the line that is made of these tokens, where it has one.
-fn spelled_line<'a>(alloc: Global, tokens: &[Token<'a>]) -> Result<Option<Line<'a>>, Memory>
+// The form of the line, where it has one.
+fn spelled_line<'a>(alloc: Global, line: &'a [u8]) -> Result<Option<Line<'a>>, Memory>
     ensures { IfOk result
-        (λ o. MatchOption o ((f : Form) → IsSpelled (views tokens.now) f → ⊥)
-        (λ line. IsSpelled (views tokens.now) (form_of line))) }
+        (λ o. MatchOption o ((f : Form) → IsSpelled (tokens_in line.now) f → ⊥)
+        (λ form. IsSpelled (tokens_in line.now) (form_of form))) }
 {
-    let Some((line, rest)) = line_at(alloc, tokens, 0)? else {
+    let Some((form, rest)) = line_at(alloc, line)? else {
         return Ok(None);
     };
-    if rest < tokens.len() {
-        drop(line);
+    if !is_gap(rest) {
+        drop(form);
         return Ok(None);
     }
-    Ok(Some(line))
+    Ok(Some(form))
 }
 
 // The line, where it may stand in a text of the version.
@@ -111,21 +105,23 @@ fn line_in<'a>(version: Version, line: Line<'a>) -> Option<Line<'a>>
     }
 }
 
-/// The form of the line that is made of these tokens, where it has one in a text of the version.
+/// The form of the line, where it has one in a text of the version.
 ///
 /// # Errors
 /// `Memory`.
+///
+/// # Cost
+/// The length of the line (not proved).
 pub fn line_of<'a>(
     alloc: Global,
     version: Version,
-    tokens: &[Token<'a>],
+    line: &'a [u8],
 ) -> Result<Option<Line<'a>>, Memory>
-    ensures { IfOk result
-        (λ o. MatchOption o ((f : Form) → IsSpelledIn version (views tokens.now) f → ⊥)
-        (λ line. IsSpelledIn version (views tokens.now) (form_of line))) }
+    ensures { IfOk result (λ o. MatchOption o ((f : Form) → HasFormIn version line.now f → ⊥)
+        (λ form. HasFormIn version line.now (form_of form))) }
 {
-    match spelled_line(alloc, tokens)? {
-        Some(line) => Ok(line_in(version, line)),
+    match spelled_line(alloc, line)? {
+        Some(form) => Ok(line_in(version, form)),
         None => Ok(None),
     }
 }

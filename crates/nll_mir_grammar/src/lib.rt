@@ -1,17 +1,23 @@
-//! The grammar of MIR texts: from the tokens of a line to its form.
+//! The grammar of MIR texts: from the bytes of a line to its form, and of the types in it.
+//!
+//! Reading order: `bytes`, `number`, `words`; of types `type_text`, `fronts`, `opens`,
+//! `type_reader`; then the parts of lines, and `form_reader`.
 #![tactic(auto)]
 
 mod arguments;
 mod assignment;
 mod blocks;
 mod bounds;
+mod bytes;
 mod exits;
 mod form_reader;
+mod fronts;
 mod keyword;
 mod laws;
 mod line;
 mod lines;
 mod number;
+mod opens;
 mod operands;
 mod pairs;
 mod parameters;
@@ -19,10 +25,15 @@ mod place;
 mod points;
 mod right;
 mod type_front;
+mod type_reader;
+mod type_text;
 mod version;
 mod words;
 
 pub use form_reader::line_of;
-pub use laws::one_form;
+pub use laws::{a_type_has_tokens, one_form, one_type_at_most};
 pub use line::{Line, ParameterText, StructText, TupleText};
+pub use type_reader::type_at;
+pub use type_text::{TypePiece, TypeText};
 pub use version::Version;
+pub use words::is_capital;

@@ -1,11 +1,11 @@
 //! A line of a MIR text.
 
 ghost use Rattle.std.specs.Prelude.{◌≡◌};
-ghost use Rattle.nll_type_grammar.specs.TypeTexts.{written};
+ghost use Rattle.nll_mir_grammar.specs.TypeTexts.{written};
 ghost use Rattle.nll_mir_grammar.specs.Tuples.{IsTuple};
 
+use crate::type_text::TypeText;
 use nll_statements::Statement;
-use nll_type_grammar::TypeText;
 use nll_types::Parameter;
 use std::marker::Model;
 
@@ -26,8 +26,8 @@ pub struct TupleText<'a> {
 
 impl<'a> Model for TupleText<'a> {
     ghost use Rattle.std.specs.Prelude.{List};
-    ghost use Rattle.nll_type_grammar.specs.TypeTexts.{written};
-    ghost use Rattle.nll_type_grammar.specs.declared.type_text.TypePiece.{TypePiece as piece};
+    ghost use Rattle.nll_mir_grammar.specs.TypeTexts.{written};
+    ghost use Rattle.nll_mir_grammar.specs.declared.type_text.TypePiece.{TypePiece as piece};
     ghost use Rattle.nll_mir_grammar.specs.Tuples.{IsTuple};
 
     ghost Value = { List piece };

@@ -1,35 +1,56 @@
-//! Words that are numbers.
+//! Numbers at the front of bytes.
 
-ghost use Rattle.std.specs.Prelude.{◌≡◌, ℕ, ◌≤◌, length, MatchOption};
-ghost use Rattle.std.specs.Str.Parse.{AllDigits, digits_value};
-ghost use Rattle.nll_text.specs.Number.{IsNumber};
+ghost use Rattle.std.specs.Prelude.{◌≡◌, ◌≤◌, ℕ, List, length, take, MatchOption};
+ghost use Rattle.nll_text.specs.Number.{IsDigitFront, IsNumber};
+ghost use Rattle.nll_text.specs.Tokens.{is_word_byte};
+ghost use Rattle.nll_text.specs.Lexing.{SplitsWhile};
 
-// The value of a short row of digits, perhaps of none.
-fn digits_of(word: &[u8]) -> Option<u32>
-    requires { length word.now ≤ 9 }
-    ensures { MatchOption result (¬ AllDigits 10 word.now)
-        (λ n. AllDigits 10 word.now × (n ≡ digits_value 10 word.now)) }
+use crate::bytes::goes_on;
+
+// The first nine bytes, or all where there are fewer.
+fn front_nine(bytes: &[u8]) -> &[u8]
+    ensures { result.now ≡ take 9 bytes.now }
 {
-    let mut number = 0;
-    for byte in word {
-        if !byte.is_ascii_digit() {
-            return None;
-        }
-        number = number * 10 + u32::from(*byte - b'0');
+    if bytes.len() <= 9 {
+        return bytes;
     }
-    Some(number)
+    &bytes[..9]
 }
 
-/// Reads a word as a number: `0`, or one to nine digits with no zero in front.
-pub fn number_of(word: &[u8]) -> Option<u32>
-    ensures { MatchOption result ((n : ℕ) → ¬ IsNumber word.now n) (λ n. IsNumber word.now n) }
+// The value of the digits in front, and how many they are.
+fn digits_at(bytes: &[u8]) -> (u32, usize)
+    requires { length bytes.now ≤ 9 }
+    ensures { IsDigitFront bytes.now result.0 result.1 }
 {
-    if word.len() > 9 {
+    let mut number = 0;
+    let mut count = 0;
+    for byte in bytes {
+        if !byte.is_ascii_digit() {
+            return (number, count);
+        }
+        number = number * 10 + u32::from(*byte - b'0');
+        count += 1;
+    }
+    (number, count)
+}
+
+/// The number that the word bytes in front are, and what stands behind them: `0`, or one to nine
+/// digits with no zero in front.
+pub fn number_in_front(bytes: &[u8]) -> Option<(u32, &[u8])>
+    ensures { MatchOption result
+        ((word rest : List ℕ) (n : ℕ) → SplitsWhile is_word_byte bytes.now word rest
+        → ¬ IsNumber word n)
+        (λ p. (word : List ℕ) × SplitsWhile is_word_byte bytes.now word p.1.now
+        × IsNumber word p.0) }
+{
+    let (number, count) = digits_at(front_nine(bytes));
+    let (digits, rest) = bytes.split_at(count);
+    let first = digits.first()?;
+    if *first == b'0' && count > 1 {
         return None;
     }
-    let first = word.first()?;
-    if *first == b'0' && word.len() > 1 {
+    if goes_on(rest) {
         return None;
     }
-    digits_of(word)
+    Some((number, rest))
 }

@@ -3,7 +3,8 @@
 ghost use Rattle.std.specs.Prelude.{◌≡◌, ◌≤◌, [], ◌∷◌, ◌++◌, IfOk, MatchOption, OnOk, map};
 ghost use Rattle.nll_text.specs.Tokens as lex;
 ghost use Rattle.nll_types.specs.Operands.{operand_of};
-ghost use Rattle.nll_mir_grammar.specs.Grammars.{Begins, HasNone, Puts, behind, commas, from};
+ghost use Rattle.nll_mir_grammar.specs.LineTokens.{tokens_in};
+ghost use Rattle.nll_mir_grammar.specs.Grammars.{Begins, HasNone, Puts, behind, commas};
 ghost use Rattle.nll_mir_grammar.specs.Grammars.{parentheses};
 ghost use Rattle.nll_mir_grammar.specs.Parts as parts;
 
@@ -11,49 +12,42 @@ use crate::pairs::Read;
 use crate::place::operand_at;
 use crate::words::after_sign;
 use nll_sets::Memory;
-use nll_text::Token;
 use nll_types::Operand;
 use std::alloc::Global;
 
 // For how many operands room is asked for at first, with what stands behind the first one.
-fn first_room(tokens: &[Token<'_>], at: usize) -> usize
+fn first_room(line: &[u8]) -> usize
     ensures { result ≤ 2 }
 {
-    match after_sign(tokens, at, b',') {
+    match after_sign(line, b',') {
         Some(_) => 2,
         None => 1,
     }
 }
 
 // Puts an operand behind the others. The first one asks for room, by what stands behind it.
-fn put_operand(
-    operands: &mut Vec<Operand>,
-    operand: Operand,
-    tokens: &[Token<'_>],
-    at: usize,
-) -> Result<(), Memory>
+fn put_operand(operands: &mut Vec<Operand>, operand: Operand, line: &[u8]) -> Result<(), Memory>
     ensures { OnOk result (operands.new.items ≡ operands.old.items ++ operand ∷ []) }
 {
     if operands.is_empty() {
-        operands.reserve_exact(first_room(tokens, at))?;
+        operands.reserve_exact(first_room(line))?;
     }
     operands.push(operand)?;
     Ok(())
 }
 
 // Puts the operand at the front behind the others.
-fn push_operand(
+fn push_operand<'a>(
     alloc: Global,
-    tokens: &[Token<'_>],
-    at: usize,
+    line: &'a [u8],
     operands: &mut Vec<Operand>,
-) -> Result<Option<usize>, Memory>
-    ensures { IfOk result (λ o. Puts parts.operands operand_of (λ r. from r tokens.now)
-        (from at tokens.now) operands.old.items operands.new.items o) }
+) -> Result<Option<&'a [u8]>, Memory>
+    ensures { IfOk result (λ o. Puts parts.operands operand_of (λ r. tokens_in r.now)
+        (tokens_in line.now) operands.old.items operands.new.items o) }
 {
-    match operand_at(alloc, tokens, at)? {
+    match operand_at(alloc, line)? {
         Some((operand, rest)) => {
-            put_operand(operands, operand, tokens, rest)?;
+            put_operand(operands, operand, rest)?;
             Ok(Some(rest))
         }
         None => Ok(None),
@@ -61,78 +55,75 @@ fn push_operand(
 }
 
 // Puts the operand behind a comma behind the others.
-fn next_operand(
+fn next_operand<'a>(
     alloc: Global,
-    tokens: &[Token<'_>],
-    at: usize,
+    line: &'a [u8],
     operands: &mut Vec<Operand>,
-) -> Result<Option<usize>, Memory>
+) -> Result<Option<&'a [u8]>, Memory>
     ensures { IfOk result (λ o. Puts (behind (lex.sign 44) parts.operands) operand_of
-        (λ r. from r tokens.now) (from at tokens.now) operands.old.items operands.new.items o) }
+        (λ r. tokens_in r.now) (tokens_in line.now) operands.old.items operands.new.items o) }
 {
-    match after_sign(tokens, at, b',') {
-        Some(behind) => push_operand(alloc, tokens, behind, operands),
+    match after_sign(line, b',') {
+        Some(behind) => push_operand(alloc, behind, operands),
         None => Ok(None),
     }
 }
 
 // Puts operands parted by commas into the list, as many as there are.
-fn list_operands(
+fn list_operands<'a>(
     alloc: Global,
-    tokens: &[Token<'_>],
-    at: usize,
+    line: &'a [u8],
     operands: &mut Vec<Operand>,
-) -> Result<Option<usize>, Memory>
+) -> Result<Option<&'a [u8]>, Memory>
     requires { operands.old.items ≡ [] }
     ensures { IfOk result
-        (λ o. MatchOption o (HasNone (commas parts.operands) (from at tokens.now))
-        (λ rest. Begins (commas parts.operands) (from at tokens.now)
-        (map operand_of operands.new.items) (from rest tokens.now))) }
+        (λ o. MatchOption o (HasNone (commas parts.operands) (tokens_in line.now))
+        (λ rest. Begins (commas parts.operands) (tokens_in line.now)
+        (map operand_of operands.new.items) (tokens_in rest.now))) }
 {
-    let Some(first) = push_operand(alloc, tokens, at, operands)? else {
+    let Some(first) = push_operand(alloc, line, operands)? else {
         return Ok(None);
     };
     let mut rest = first;
-    while let Some(next) = next_operand(alloc, tokens, rest, operands)? {
+    while let Some(next) = next_operand(alloc, rest, operands)? {
         rest = next;
     }
     Ok(Some(rest))
 }
 
 // Puts the operands between `(` and `)` into the list.
-fn enclosed_operands(
+fn enclosed_operands<'a>(
     alloc: Global,
-    tokens: &[Token<'_>],
-    at: usize,
+    line: &'a [u8],
     operands: &mut Vec<Operand>,
-) -> Result<Option<usize>, Memory>
+) -> Result<Option<&'a [u8]>, Memory>
     requires { operands.old.items ≡ [] }
     ensures { IfOk result
-        (λ o. MatchOption o (HasNone (parentheses parts.operands) (from at tokens.now))
-        (λ rest. Begins (parentheses parts.operands) (from at tokens.now)
-        (map operand_of operands.new.items) (from rest tokens.now))) }
+        (λ o. MatchOption o (HasNone (parentheses parts.operands) (tokens_in line.now))
+        (λ rest. Begins (parentheses parts.operands) (tokens_in line.now)
+        (map operand_of operands.new.items) (tokens_in rest.now))) }
 {
-    let Some(inner) = after_sign(tokens, at, b'(') else {
+    let Some(inner) = after_sign(line, b'(') else {
         return Ok(None);
     };
-    if let Some(rest) = after_sign(tokens, inner, b')') {
+    if let Some(rest) = after_sign(inner, b')') {
         return Ok(Some(rest));
     }
-    match list_operands(alloc, tokens, inner, operands)? {
-        Some(behind) => Ok(after_sign(tokens, behind, b')')),
+    match list_operands(alloc, inner, operands)? {
+        Some(behind) => Ok(after_sign(behind, b')')),
         None => Ok(None),
     }
 }
 
 /// The operands between `(` and `)`.
-pub fn operands_in(alloc: Global, tokens: &[Token<'_>], at: usize) -> Read<Vec<Operand>>
+pub fn operands_in<'a>(alloc: Global, line: &'a [u8]) -> Read<'a, Vec<Operand>>
     ensures { IfOk result
-        (λ o. MatchOption o (HasNone (parentheses parts.operands) (from at tokens.now))
-        (λ p. Begins (parentheses parts.operands) (from at tokens.now) (map operand_of p.0.items)
-        (from p.1 tokens.now))) }
+        (λ o. MatchOption o (HasNone (parentheses parts.operands) (tokens_in line.now))
+        (λ p. Begins (parentheses parts.operands) (tokens_in line.now) (map operand_of p.0.items)
+        (tokens_in p.1.now))) }
 {
     let mut operands = Vec::new(alloc);
-    match enclosed_operands(alloc, tokens, at, &mut operands) {
+    match enclosed_operands(alloc, line, &mut operands) {
         Ok(Some(rest)) => Ok(Some((operands, rest))),
         Ok(None) => Ok(None),
         Err(memory) => Err(memory),

@@ -5,13 +5,13 @@ ghost use Rattle.nll_mir_grammar.specs.Grammars.{both};
 
 use nll_sets::Memory;
 
-/// What is read from a token on, with the number of the token behind it; or nothing, where none is
-/// there.
-pub type Read<T> = Result<Option<(T, usize)>, Memory>;
+/// What is read at the front of the rest of a line, with what stands behind it; or nothing, where
+/// none is there.
+pub type Read<'a, T> = Result<Option<(T, &'a [u8])>, Memory>;
 
 /// A value that was read, with what is read behind it.
-pub fn with<A: Drop, B>(first: A, second: Read<B>) -> Read<(A, B)>
-    ensures { result ≡ both first second }
+pub fn with<'a, A: Drop, B>(first: A, second: Read<'a, B>) -> Read<'a, (A, B)>
+    ensures { result ≡ both first second.entry }
 {
     match second {
         Ok(Some((second, rest))) => Ok(Some(((first, second), rest))),

@@ -1,7 +1,8 @@
 //! Statements and terminators that begin with a word of their own, behind that word.
 
 ghost use Rattle.std.specs.Prelude.{IfOk, MatchOption};
-ghost use Rattle.nll_mir_grammar.specs.Grammars.{HasNone, from};
+ghost use Rattle.nll_mir_grammar.specs.LineTokens.{tokens_in};
+ghost use Rattle.nll_mir_grammar.specs.Grammars.{HasNone};
 ghost use Rattle.nll_mir_grammar.specs.Kinds.{IsBehind, tails};
 ghost use Rattle.nll_mir_grammar.specs.Lines.{form_of};
 ghost use Rattle.nll_mir_grammar.specs.declared.keyword.Keyword.TheVariants as keyword;
@@ -13,57 +14,52 @@ use crate::place::{operand_at, place_at};
 use crate::words::{block_at, variable_at};
 use nll_sets::Memory;
 use nll_statements::Statement;
-use nll_text::Token;
 use std::alloc::Global;
 
 /// Behind `live`.
-pub fn live_line<'a>(tokens: &[Token<'a>], at: usize) -> Option<(Line<'a>, usize)>
-    ensures { MatchOption result (HasNone (tails keyword.Live) (from at tokens.now))
-        (λ p. IsBehind keyword.Live (from at tokens.now) (form_of p.0) (from p.1 tokens.now)) }
+pub fn live_line<'a>(line: &'a [u8]) -> Option<(Line<'a>, &'a [u8])>
+    ensures { MatchOption result (HasNone (tails keyword.Live) (tokens_in line.now))
+        (λ p. IsBehind keyword.Live (tokens_in line.now) (form_of p.0) (tokens_in p.1.now)) }
 {
-    let (variable, rest) = variable_at(tokens, at)?;
+    let (variable, rest) = variable_at(line)?;
     Some((Line::At(Statement::Live(variable)), rest))
 }
 
 /// Behind `dead`.
-pub fn dead_line<'a>(tokens: &[Token<'a>], at: usize) -> Option<(Line<'a>, usize)>
-    ensures { MatchOption result (HasNone (tails keyword.Dead) (from at tokens.now))
-        (λ p. IsBehind keyword.Dead (from at tokens.now) (form_of p.0) (from p.1 tokens.now)) }
+pub fn dead_line<'a>(line: &'a [u8]) -> Option<(Line<'a>, &'a [u8])>
+    ensures { MatchOption result (HasNone (tails keyword.Dead) (tokens_in line.now))
+        (λ p. IsBehind keyword.Dead (tokens_in line.now) (form_of p.0) (tokens_in p.1.now)) }
 {
-    let (variable, rest) = variable_at(tokens, at)?;
+    let (variable, rest) = variable_at(line)?;
     Some((Line::At(Statement::Dead(variable)), rest))
 }
 
 /// Behind `goto`.
-pub fn goto_line<'a>(tokens: &[Token<'a>], at: usize) -> Option<(Line<'a>, usize)>
-    ensures { MatchOption result (HasNone (tails keyword.Goto) (from at tokens.now))
-        (λ p. IsBehind keyword.Goto (from at tokens.now) (form_of p.0) (from p.1 tokens.now)) }
+pub fn goto_line<'a>(line: &'a [u8]) -> Option<(Line<'a>, &'a [u8])>
+    ensures { MatchOption result (HasNone (tails keyword.Goto) (tokens_in line.now))
+        (λ p. IsBehind keyword.Goto (tokens_in line.now) (form_of p.0) (tokens_in p.1.now)) }
 {
-    let (block, rest) = block_at(tokens, at)?;
+    let (block, rest) = block_at(line)?;
     Some((Line::At(Statement::Goto(block)), rest))
 }
 
 /// Behind `drop`.
-pub fn drop_line<'a>(tokens: &[Token<'a>], at: usize) -> Option<(Line<'a>, usize)>
-    ensures { MatchOption result (HasNone (tails keyword.Drop) (from at tokens.now))
-        (λ p. IsBehind keyword.Drop (from at tokens.now) (form_of p.0) (from p.1 tokens.now)) }
+pub fn drop_line<'a>(line: &'a [u8]) -> Option<(Line<'a>, &'a [u8])>
+    ensures { MatchOption result (HasNone (tails keyword.Drop) (tokens_in line.now))
+        (λ p. IsBehind keyword.Drop (tokens_in line.now) (form_of p.0) (tokens_in p.1.now)) }
 {
-    let (variable, behind) = variable_at(tokens, at)?;
-    let ((target, unwind), rest) = exits_at(tokens, behind)?;
+    let (variable, behind) = variable_at(line)?;
+    let ((target, unwind), rest) = exits_at(behind)?;
     Some((Line::At(Statement::Drop(variable, target, unwind)), rest))
 }
 
 /// Behind `read`.
-pub fn read_line<'a>(
-    alloc: Global,
-    tokens: &[Token<'a>],
-    at: usize,
-) -> Result<Option<(Line<'a>, usize)>, Memory>
+pub fn read_line<'a>(alloc: Global, line: &'a [u8]) -> Result<Option<(Line<'a>, &'a [u8])>, Memory>
     ensures { IfOk result
-        (λ o. MatchOption o (HasNone (tails keyword.Read) (from at tokens.now))
-        (λ p. IsBehind keyword.Read (from at tokens.now) (form_of p.0) (from p.1 tokens.now))) }
+        (λ o. MatchOption o (HasNone (tails keyword.Read) (tokens_in line.now))
+        (λ p. IsBehind keyword.Read (tokens_in line.now) (form_of p.0) (tokens_in p.1.now))) }
 {
-    let Some((place, rest)) = place_at(alloc, tokens, at)? else {
+    let Some((place, rest)) = place_at(alloc, line)? else {
         return Ok(None);
     };
     Ok(Some((Line::At(Statement::Read(place)), rest)))
@@ -72,17 +68,16 @@ pub fn read_line<'a>(
 /// Behind `switch`.
 pub fn switch_line<'a>(
     alloc: Global,
-    tokens: &[Token<'a>],
-    at: usize,
-) -> Result<Option<(Line<'a>, usize)>, Memory>
+    line: &'a [u8],
+) -> Result<Option<(Line<'a>, &'a [u8])>, Memory>
     ensures { IfOk result
-        (λ o. MatchOption o (HasNone (tails keyword.Switch) (from at tokens.now))
-        (λ p. IsBehind keyword.Switch (from at tokens.now) (form_of p.0) (from p.1 tokens.now))) }
+        (λ o. MatchOption o (HasNone (tails keyword.Switch) (tokens_in line.now))
+        (λ p. IsBehind keyword.Switch (tokens_in line.now) (form_of p.0) (tokens_in p.1.now))) }
 {
-    let Some((operand, behind)) = operand_at(alloc, tokens, at)? else {
+    let Some((operand, behind)) = operand_at(alloc, line)? else {
         return Ok(None);
     };
-    let Some((blocks, rest)) = blocks_at(alloc, tokens, behind)? else {
+    let Some((blocks, rest)) = blocks_at(alloc, behind)? else {
         return Ok(None);
     };
     Ok(Some((Line::At(Statement::Switch(operand, blocks)), rest)))

@@ -4,8 +4,9 @@ ghost use Rattle.std.specs.Prelude.{IfOk, MatchOption, map};
 ghost use Rattle.nll_text.specs.Tokens as lex;
 ghost use Rattle.nll_types.specs.Places.{path_of};
 ghost use Rattle.nll_types.specs.Operands.{operand_of};
-ghost use Rattle.nll_type_grammar.specs.TypeTexts.{written};
-ghost use Rattle.nll_mir_grammar.specs.Grammars.{Begins, HasNone, behind, from, pair};
+ghost use Rattle.nll_mir_grammar.specs.TypeTexts.{written};
+ghost use Rattle.nll_mir_grammar.specs.LineTokens.{tokens_in};
+ghost use Rattle.nll_mir_grammar.specs.Grammars.{Begins, HasNone, behind, pair};
 ghost use Rattle.nll_mir_grammar.specs.Kinds.{borrows, makes, results, signatures};
 ghost use Rattle.nll_mir_grammar.specs.Lines.{argument_of, result_of};
 ghost use Rattle.nll_mir_grammar.specs.Parts.{bound_lists, exits};
@@ -17,85 +18,79 @@ use crate::operands::operands_in;
 use crate::pairs::{Read, with};
 use crate::place::place_at;
 use crate::type_front::type_front;
+use crate::type_text::TypeText;
 use crate::words::{after_sign, mutability_at, region_at};
 use nll_sets::Memory;
-use nll_text::Token;
-use nll_type_grammar::TypeText;
 use nll_types::{Operand, Place};
 use std::alloc::Global;
 
 /// What stands behind the `&` of a borrow: its region, whether it is `mut`, and the place.
 pub fn borrow_at<'a>(
     alloc: Global,
-    tokens: &[Token<'a>],
-    at: usize,
-) -> Result<Option<(&'a [u8], bool, Place, usize)>, Memory>
-    ensures { IfOk result (λ o. MatchOption o (HasNone borrows (from at tokens.now))
-        (λ p. Begins borrows (from at tokens.now) (p.0.now, (p.1, path_of p.2))
-        (from p.3 tokens.now))) }
+    line: &'a [u8],
+) -> Result<Option<(&'a [u8], bool, Place, &'a [u8])>, Memory>
+    ensures { IfOk result (λ o. MatchOption o (HasNone borrows (tokens_in line.now))
+        (λ p. Begins borrows (tokens_in line.now) (p.0.now, (p.1, path_of p.2))
+        (tokens_in p.3.now))) }
 {
-    let Some((region, behind)) = region_at(tokens, at) else {
+    let Some((region, behind)) = region_at(line) else {
         return Ok(None);
     };
-    let (mutable, behind) = mutability_at(tokens, behind);
-    let Some((place, rest)) = place_at(alloc, tokens, behind)? else {
+    let (mutable, behind) = mutability_at(behind);
+    let Some((place, rest)) = place_at(alloc, behind)? else {
         return Ok(None);
     };
     Ok(Some((region, mutable, place, rest)))
 }
 
 /// What stands behind `make`: a type, and operands.
-pub fn make_at<'a>(
-    alloc: Global,
-    tokens: &[Token<'a>],
-    at: usize,
-) -> Read<(TypeText<'a>, Vec<Operand>)>
-    ensures { IfOk result (λ o. MatchOption o (HasNone makes (from at tokens.now))
-        (λ p. Begins makes (from at tokens.now) (written p.0.0, map operand_of p.0.1.items)
-        (from p.1 tokens.now))) }
+pub fn make_at<'a>(alloc: Global, line: &'a [u8]) -> Read<'a, (TypeText<'a>, Vec<Operand>)>
+    ensures { IfOk result (λ o. MatchOption o (HasNone makes (tokens_in line.now))
+        (λ p. Begins makes (tokens_in line.now) (written p.0.0, map operand_of p.0.1.items)
+        (tokens_in p.1.now))) }
 {
-    let Some((ty, behind)) = type_front(alloc, tokens, at)? else {
+    let Some((ty, behind)) = type_front(alloc, line)? else {
         return Ok(None);
     };
-    with(ty, operands_in(alloc, tokens, behind))
+    with(ty, operands_in(alloc, behind))
 }
 
 /// What a call has behind its arguments: the type of its result, bounds, and where it goes on.
 pub type CallResult<'a> = (TypeText<'a>, (Bounds<'a>, Exits));
 
 // The bounds of a call, and where it goes on.
-fn call_end_at<'a>(alloc: Global, tokens: &[Token<'a>], at: usize) -> Read<(Bounds<'a>, Exits)>
+fn call_end_at<'a>(alloc: Global, line: &'a [u8]) -> Read<'a, (Bounds<'a>, Exits)>
     ensures { IfOk result
-        (λ o. MatchOption o (HasNone (pair bound_lists exits) (from at tokens.now))
-        (λ p. Begins (pair bound_lists exits) (from at tokens.now)
-        (map (λ w. (w.0.now, w.1.now)) p.0.0.items, p.0.1) (from p.1 tokens.now))) }
+        (λ o. MatchOption o (HasNone (pair bound_lists exits) (tokens_in line.now))
+        (λ p. Begins (pair bound_lists exits) (tokens_in line.now)
+        (map (λ w. (w.0.now, w.1.now)) p.0.0.items, p.0.1) (tokens_in p.1.now))) }
 {
-    let Some((bounds, behind)) = bounds_in(alloc, tokens, at)? else {
+    let Some((bounds, behind)) = bounds_in(alloc, line)? else {
         return Ok(None);
     };
-    with(bounds, Ok(exits_at(tokens, behind)))
+    with(bounds, Ok(exits_at(behind)))
 }
 
 /// What stands behind the `:` of a call.
-pub fn result_at<'a>(alloc: Global, tokens: &[Token<'a>], at: usize) -> Read<CallResult<'a>>
-    ensures { IfOk result (λ o. MatchOption o (HasNone results (from at tokens.now))
-        (λ p. Begins results (from at tokens.now) (result_of p.0) (from p.1 tokens.now))) }
+pub fn result_at<'a>(alloc: Global, line: &'a [u8]) -> Read<'a, CallResult<'a>>
+    ensures { IfOk result (λ o. MatchOption o (HasNone results (tokens_in line.now))
+        (λ p. Begins results (tokens_in line.now) (result_of p.0) (tokens_in p.1.now))) }
 {
-    let Some((ty, behind)) = type_front(alloc, tokens, at)? else {
+    let Some((ty, behind)) = type_front(alloc, line)? else {
         return Ok(None);
     };
-    with(ty, call_end_at(alloc, tokens, behind))
+    with(ty, call_end_at(alloc, behind))
 }
 
 // The `:` of a call, and what stands behind it.
-fn result_behind<'a>(alloc: Global, tokens: &[Token<'a>], at: usize) -> Read<CallResult<'a>>
+fn result_behind<'a>(alloc: Global, line: &'a [u8]) -> Read<'a, CallResult<'a>>
     ensures { IfOk result
-        (λ o. MatchOption o (HasNone (behind (lex.sign 58) results) (from at tokens.now))
-        (λ p. Begins (behind (lex.sign 58) results) (from at tokens.now) (result_of p.0)
-        (from p.1 tokens.now))) }
+        (λ o. MatchOption o (HasNone (behind (lex.sign 58) results) (tokens_in line.now))
+        (λ p. Begins (behind (lex.sign 58) results) (tokens_in line.now) (result_of p.0)
+        (tokens_in p.1.now))) }
 {
-    match after_sign(tokens, at, b':') {
-        Some(behind) => result_at(alloc, tokens, behind),
+    match after_sign(line, b':') {
+        Some(behind) => result_at(alloc, behind),
         None => Ok(None),
     }
 }
@@ -103,15 +98,14 @@ fn result_behind<'a>(alloc: Global, tokens: &[Token<'a>], at: usize) -> Read<Cal
 /// What stands behind the name of a function that is called: arguments, and the rest of the call.
 pub fn signature_at<'a>(
     alloc: Global,
-    tokens: &[Token<'a>],
-    at: usize,
-) -> Read<(Vec<Argument<'a>>, CallResult<'a>)>
-    ensures { IfOk result (λ o. MatchOption o (HasNone signatures (from at tokens.now))
-        (λ p. Begins signatures (from at tokens.now) (map argument_of p.0.0.items, result_of p.0.1)
-        (from p.1 tokens.now))) }
+    line: &'a [u8],
+) -> Read<'a, (Vec<Argument<'a>>, CallResult<'a>)>
+    ensures { IfOk result (λ o. MatchOption o (HasNone signatures (tokens_in line.now))
+        (λ p. Begins signatures (tokens_in line.now) (map argument_of p.0.0.items, result_of p.0.1)
+        (tokens_in p.1.now))) }
 {
-    let Some((arguments, behind)) = arguments_in(alloc, tokens, at)? else {
+    let Some((arguments, behind)) = arguments_in(alloc, line)? else {
         return Ok(None);
     };
-    with(arguments, result_behind(alloc, tokens, behind))
+    with(arguments, result_behind(alloc, behind))
 }

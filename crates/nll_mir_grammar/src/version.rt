@@ -2,14 +2,14 @@
 
 ghost use Rattle.std.specs.Prelude.{◌≡◌, not, map};
 ghost use Rattle.std.specs.List.{list_all};
-ghost use Rattle.nll_type_grammar.specs.Functions.{has_function};
-ghost use Rattle.nll_type_grammar.specs.TypeTexts.{written};
+ghost use Rattle.nll_mir_grammar.specs.Functions.{has_function};
+ghost use Rattle.nll_mir_grammar.specs.TypeTexts.{written};
 ghost use Rattle.nll_mir_grammar.specs.Lines.{form_of, parameter_of, point_form, struct_form};
 ghost use Rattle.nll_mir_grammar.specs.Versions as spec;
 
 use crate::line::{Line, ParameterText, StructText};
+use crate::type_text::TypeText;
 use nll_statements::Statement;
-use nll_type_grammar::TypeText;
 use nll_types::{Operand, Sign};
 
 /// A version of MIR texts.

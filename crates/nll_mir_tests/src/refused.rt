@@ -363,11 +363,25 @@ fn texts_are_refused(rt: HostRuntime) {
     }
 }
 
-// Bytes that are no text are told before the header, and in a skipped line.
+// Bytes that are no text are told before the header, in a skipped line, and behind a form.
 #[test]
 fn no_text(rt: HostRuntime) {
     let told = read(&rt, rt.alloc(), b"\xFF", Asked::All);
     compare(&rt, "header", told.as_str(), "line 1: NotUtf8");
     let told = read(&rt, rt.alloc(), b"nll-mir 1\n# \xFF\n", Asked::All);
     compare(&rt, "comment", told.as_str(), "line 2: NotUtf8");
+    let told = read(
+        &rt,
+        rt.alloc(),
+        b"nll-mir 1\nuniversal 'a\xFF\n",
+        Asked::All,
+    );
+    compare(&rt, "form", told.as_str(), "line 2: NotUtf8");
+    let told = read(
+        &rt,
+        rt.alloc(),
+        b"nll-mir 1\nuniversal 'a # \xC3\xA9\n",
+        Asked::All,
+    );
+    compare(&rt, "remark behind a form", told.as_str(), "line 2: Syntax");
 }

@@ -12,9 +12,9 @@ use Rattle.nll_types.specs.Places.{path_of}
 use Rattle.nll_types.specs.Operands.{Operand}
 use Rattle.nll_types.specs.Views.{tree}
 use Rattle.nll_types.specs.declared.operand.Operand.{Operand as KeptOperand}
-use Rattle.nll_type_grammar.specs.WrittenTypes.{Name, WrittenType}
-use Rattle.nll_type_grammar.specs.TypeTexts.{written}
-use Rattle.nll_type_grammar.specs.declared.type_text.TypePiece.{TypePiece}
+use Rattle.nll_mir_grammar.specs.WrittenTypes.{Name, WrittenType}
+use Rattle.nll_mir_grammar.specs.TypeTexts.{written}
+use Rattle.nll_mir_grammar.specs.declared.type_text.TypePiece.{TypePiece}
 use Rattle.nll_statements.specs.Statements.{Statement, map_statement, types_written}
 use Rattle.nll_statements.specs.Kept.{arguments_of, call_of}
 use Rattle.nll_statements.specs.declared.statement.Call.{Call}

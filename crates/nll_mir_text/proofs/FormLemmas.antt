@@ -1,14 +1,61 @@
--- The names that a line declares are UTF-8, and it has few parameters.
-use Rattle.std.proofs.Common.{◌≡◌, ℕ, ◌≤◌, List, [], ◌∷◌, ◌++◌, length, map, refl, ap, subst, arith, length-append}
+-- A line of a form isn't skipped, it and the names that it declares are UTF-8, and it has few parameters.
+use Rattle.std.proofs.Common.{◌≡◌, ℕ, ◌≤◌, false, List, [], ◌∷◌, ◌++◌, length, map, refl, sym, ap, subst, arith, length-append}
 use Rattle.std.specs.List.{AllByRecursion, flat_map}
+use Rattle.std.specs.Str.{IsUtf8}
 use Rattle.nll_problem.specs.Limits.{most_bytes}
-use Rattle.nll_text.specs.Tokens.{Token, sign, AreTokens}
-use Rattle.nll_text.proofs.Utf8Lemmas.{IsUtf8-word}
+use Rattle.nll_text.specs.Lines.{is_skipped}
+use Rattle.nll_text.specs.Tokens.{Token, sign, AreTokens, IsMadeOf}
+use Rattle.nll_text.proofs.SkippedLemmas.{kept_tokens}
+use Rattle.nll_text.proofs.Utf8Lemmas.{IsUtf8-word, made_is_utf8}
 use Rattle.nll_text.proofs.TokenLemmas.{made_of_tokens}
+use Rattle.nll_statements.specs.Statements.{assign, borrow, make, read, live, dead, nop, goto, switch, drop, call, return, stop}
 use Rattle.nll_mir_grammar.specs.MirForms.{Form, universal, outlives, further, assert_line, struct_line, variable, blocks, block, at_point, end, HasForm, spelled_form, spelled_parameter, spelled_parameters, drop_mark, WrittenParameter, region_parameter, type_parameter}
-use Rattle.nll_type_grammar.specs.WrittenTypes.{tuple, spelled}
+use Rattle.nll_mir_grammar.specs.WrittenTypes.{tuple, spelled}
 use Rattle.nll_mir_text.specs.MirReading.{IsNamed, HasTexts, HasFewParameters}
 use Rattle.nll_mir_text.proofs.TextLemmas.{few_made}
+
+-- ---- it is UTF-8, and isn't skipped
+
+pub form_utf8 : (line : List ℕ) (f : Form) → HasForm line f → IsUtf8 line
+form_utf8 line f h = made_is_utf8 line h.0 h.1
+
+-- there is a token
+abbrev IsSome : List Token → Type 0
+IsSome [] = ⊥
+IsSome (t ∷ ts) = Unit {0}
+
+some_spelled : (callee : List ℕ) (f : Form) → IsSome (spelled_form callee f)
+some_spelled callee (universal a) = tt
+some_spelled callee (outlives a b) = tt
+some_spelled callee (further x) = tt
+some_spelled callee (assert_line a b) = tt
+some_spelled callee (struct_line n ps has_drop fields) = tt
+some_spelled callee (variable x t) = tt
+some_spelled callee (blocks n) = tt
+some_spelled callee (block n) = tt
+some_spelled callee (at_point (assign p op)) = tt
+some_spelled callee (at_point (borrow p r m q)) = tt
+some_spelled callee (at_point (make p t ops)) = tt
+some_spelled callee (at_point (read p)) = tt
+some_spelled callee (at_point (live x)) = tt
+some_spelled callee (at_point (dead x)) = tt
+some_spelled callee (at_point nop) = tt
+some_spelled callee (at_point (goto b)) = tt
+some_spelled callee (at_point (switch op bs)) = tt
+some_spelled callee (at_point (drop x b u)) = tt
+some_spelled callee (at_point (call p args t ws b u)) = tt
+some_spelled callee (at_point return) = tt
+some_spelled callee (at_point stop) = tt
+some_spelled callee end = tt
+
+some_kept : (line : List ℕ) (ts : List Token) → IsSome ts → IsMadeOf line ts → is_skipped line ≡ false
+some_kept line [] some h = absurd some
+some_kept line (t ∷ ts) some h = kept_tokens line t ts h
+
+pub form_kept : (line : List ℕ) (f : Form) → HasForm line f → is_skipped line ≡ false
+form_kept line f h = some_kept line h.0 (subst IsSome (sym h.2.same) (some_spelled h.2.callee f)) h.1
+
+-- ---- names
 
 first_tokens : (ts us : List Token) → AreTokens (ts ++ us) → AreTokens ts
 first_tokens [] us h = tt

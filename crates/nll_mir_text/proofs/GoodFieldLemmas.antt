@@ -7,8 +7,8 @@ use Rattle.std.proofs.lemmas.List.Elements.{All-from_recursion}
 use Rattle.nll_format.specs.Names.{number_of}
 use Rattle.nll_types.specs.Types.{parameter, named, type_count}
 use Rattle.nll_types.specs.Structs.{Struct, IsWellFormed, AreWellFormed}
-use Rattle.nll_type_grammar.specs.WrittenTypes.{Name, WrittenType, WrittenTypes, Arguments, no_argument, region_argument, type_argument}
-use Rattle.nll_type_grammar.specs.WrittenTypes as written
+use Rattle.nll_mir_grammar.specs.WrittenTypes.{Name, WrittenType, WrittenTypes, Arguments, no_argument, region_argument, type_argument}
+use Rattle.nll_mir_grammar.specs.WrittenTypes as written
 use Rattle.nll_resolve.specs.Naming.{Scope, is_among, meant, all_meant, regions_meant, types_meant, is_known, kinds_of, same_kinds, has_arguments}
 use Rattle.nll_resolve.specs.ToldTypes.{are_known, arguments_are_known, have_arguments, arguments_have_arguments}
 use Rattle.nll_mir_text.specs.MirReading.{region_count, other_count, AreKinds}

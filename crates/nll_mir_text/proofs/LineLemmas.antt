@@ -8,7 +8,7 @@ use Rattle.std.proofs.lemmas.List.{get_or_append_left, get_or_at}
 use Rattle.std.proofs.lemmas.List.Elements.{Contains-push_cases, All-cons, All-nil}
 use Rattle.std.proofs.lemmas.Option.{get_or_from_slice_get, slice_get_within, slice_get-get_or}
 use Rattle.nll_format.specs.Names.{number_of}
-use Rattle.nll_type_grammar.specs.WrittenTypes.{Name}
+use Rattle.nll_mir_grammar.specs.WrittenTypes.{Name}
 use Rattle.nll_resolve.specs.Naming.{is_among}
 
 -- ---- tests

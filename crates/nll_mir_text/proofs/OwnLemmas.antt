@@ -10,8 +10,8 @@ use Rattle.std.proofs.lemmas.Slice.Eq.{bytes_eq-Decides}
 use Rattle.nll_format.specs.Names.{number_of}
 use Rattle.nll_format.proofs.NameLemmas.{number_of_within}
 use Rattle.nll_types.specs.declared.parameter.Parameter.{Parameter}
-use Rattle.nll_type_grammar.specs.WrittenTypes.{Name, WrittenType, WrittenTypes, Arguments, no_argument, region_argument, type_argument}
-use Rattle.nll_type_grammar.specs.WrittenTypes as written
+use Rattle.nll_mir_grammar.specs.WrittenTypes.{Name, WrittenType, WrittenTypes, Arguments, no_argument, region_argument, type_argument}
+use Rattle.nll_mir_grammar.specs.WrittenTypes as written
 use Rattle.nll_mir_grammar.specs.MirForms.{WrittenParameter, region_parameter, type_parameter}
 use Rattle.nll_mir_grammar.specs.Lines.{parameter_of}
 use Rattle.nll_mir_grammar.specs.declared.line.ParameterText.{ParameterText}

@@ -17,7 +17,7 @@ use Rattle.nll_types.specs.Shapes.{shape_of}
 use Rattle.nll_types.specs.Table.{shape_in}
 use Rattle.nll_types.specs.Views.{tree}
 use Rattle.nll_types.specs.declared.judgement.Judgement.{Judgement}
-use Rattle.nll_type_grammar.specs.WrittenTypes.{Name, WrittenType}
+use Rattle.nll_mir_grammar.specs.WrittenTypes.{Name, WrittenType}
 use Rattle.nll_statements.specs.Statements.{Statement, types_written, is_terminator}
 use Rattle.nll_statements.specs.Effects.{targets}
 use Rattle.nll_statements.specs.Written.{regions_written, variables_written}

@@ -5,8 +5,8 @@ use Rattle.std.specs.Borrow.{Bor}
 use Rattle.std.proofs.lemmas.List.{map_more}
 use Rattle.nll_format.specs.Names.{number_of}
 use Rattle.nll_types.specs.declared.place.Place.{Place}
-use Rattle.nll_type_grammar.specs.TypeTexts.{written}
-use Rattle.nll_type_grammar.specs.declared.type_text.TypePiece.{TypePiece}
+use Rattle.nll_mir_grammar.specs.TypeTexts.{written}
+use Rattle.nll_mir_grammar.specs.declared.type_text.TypePiece.{TypePiece}
 use Rattle.nll_statements.specs.Kept.{made_of, statement_of}
 use Rattle.nll_statements.specs.declared.statement.Make.{Make}
 use Rattle.nll_statements.specs.declared.statement.Statement.{Statement as Kept}

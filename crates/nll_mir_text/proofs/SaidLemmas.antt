@@ -13,7 +13,7 @@ use Rattle.nll_format.specs.Text.{Fits, skipped, of_form, Says}
 use Rattle.nll_format.specs.declared.error.TextKind.TheVariants.{Syntax}
 use Rattle.nll_types.specs.Types.{TypeTree}
 use Rattle.nll_types.specs.Structs.{Struct}
-use Rattle.nll_type_grammar.specs.WrittenTypes.{Name, WrittenType, WrittenTypes}
+use Rattle.nll_mir_grammar.specs.WrittenTypes.{Name, WrittenType, WrittenTypes}
 use Rattle.nll_statements.specs.Statements.{Statement, is_terminator}
 use Rattle.nll_resolve.specs.Naming.{Scope, meant}
 use Rattle.nll_mir_grammar.specs.MirForms.{Form, WrittenParameter, universal, outlives, further, assert_line, struct_line, variable, blocks, block, at_point, end}

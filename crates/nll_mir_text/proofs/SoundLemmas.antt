@@ -11,7 +11,7 @@ use Rattle.nll_format.specs.Names.{number_of}
 use Rattle.nll_problem.specs.Limits.{most_points, most_edges, most_universals, most_regions, most_variables}
 use Rattle.nll_types.specs.Types.{TypeTree}
 use Rattle.nll_types.specs.Structs.{Struct, AreInOrder, IsWellFormed}
-use Rattle.nll_type_grammar.specs.WrittenTypes.{Name, WrittenType, WrittenTypes}
+use Rattle.nll_mir_grammar.specs.WrittenTypes.{Name, WrittenType, WrittenTypes}
 use Rattle.nll_statements.specs.Statements.{Statement, is_terminator, map_statement, types_written}
 use Rattle.nll_statements.specs.Effects.{targets}
 use Rattle.nll_statements.specs.Written.{regions_written, variables_written}

@@ -11,7 +11,7 @@ use Rattle.nll_types.specs.Views.{tree}
 use Rattle.nll_types.specs.declared.node.Node.{Node}
 use Rattle.nll_types.specs.declared.ty.Ty.{Ty}
 use Rattle.nll_types.proofs.ShapingLemmas.{below_push}
-use Rattle.nll_type_grammar.specs.WrittenTypes.{Name}
+use Rattle.nll_mir_grammar.specs.WrittenTypes.{Name}
 use Rattle.nll_resolve.specs.Naming.{is_among}
 use Rattle.nll_resolve.specs.Resolution.{Resolved, tree_of}
 use Rattle.nll_types.specs.Judging.{HaveShapes}

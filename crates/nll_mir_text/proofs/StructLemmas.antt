@@ -10,7 +10,7 @@ use Rattle.nll_format.specs.declared.error.TextKind.TheVariants.{Unknown, Duplic
 use Rattle.nll_problem.specs.declared.error.Kind.TheVariants.{Structs}
 use Rattle.nll_type_check.specs.Typing.{are_small}
 use Rattle.nll_types.specs.Structs.{Struct, no_struct, HasGoodFields, AreWellFormed, AreInOrder}
-use Rattle.nll_type_grammar.specs.WrittenTypes.{Name, WrittenTypes}
+use Rattle.nll_mir_grammar.specs.WrittenTypes.{Name, WrittenTypes}
 use Rattle.nll_mir_grammar.specs.MirForms.{WrittenParameter, region_parameter, type_parameter, struct_line}
 use Rattle.nll_resolve.specs.Naming.{is_among, all_meant}
 use Rattle.nll_resolve.specs.ToldTypes.{are_known, have_arguments}

@@ -10,8 +10,8 @@ use Rattle.nll_types.specs.Declarations.{structs_of}
 use Rattle.nll_types.specs.Declarations as kept
 use Rattle.nll_types.specs.declared.node.Node.{Node}
 use Rattle.nll_types.specs.declared.structs.Declaration.{Declaration}
-use Rattle.nll_type_grammar.specs.WrittenTypes.{Name, WrittenType, WrittenTypes}
-use Rattle.nll_type_grammar.specs.TypeTexts.{written}
+use Rattle.nll_mir_grammar.specs.WrittenTypes.{Name, WrittenType, WrittenTypes}
+use Rattle.nll_mir_grammar.specs.TypeTexts.{written}
 use Rattle.nll_mir_grammar.specs.Lines.{parameter_of}
 use Rattle.nll_mir_grammar.specs.MirForms.{WrittenParameter}
 use Rattle.nll_mir_grammar.specs.Tuples.{IsTuple, parts}

@@ -1,9 +1,6 @@
--- A line of a MIR text: its tokens and its form, and what it adds to what a reader holds.
-use Rattle.std.proofs.Common.{◌≡◌, ◌⊎◌, ℕ, ◌<◌, ◌≤◌, List, [], ◌∷◌, ◌++◌, length, subst, sym, ap, arith, ◌∙◌, length-append}
-use Rattle.nll_text.specs.Tokens.{Token, word, region, arrow, sign, IsMadeOf, IsToken, spelling, IsNotMadeWithin}
-use Rattle.nll_text.specs.Scan.{IsTokenLine}
-use Rattle.nll_mir_grammar.specs.MirForms.{Form, IsSpelled, HasForm}
-use Rattle.nll_mir_grammar.specs.Versions.{IsSpelledIn, HasFormIn}
+-- A line of a MIR text: how many tokens it has, and what it adds to what a reader holds.
+use Rattle.std.proofs.Common.{◌≡◌, ◌⊎◌, ℕ, ◌<◌, ◌≤◌, List, [], ◌∷◌, ◌++◌, length, ap, arith, length-append}
+use Rattle.nll_text.specs.Tokens.{Token, word, region, arrow, sign, IsMadeOf, IsToken, spelling}
 use Rattle.nll_format.specs.Text.{IsFaulty}
 use Rattle.nll_format.specs.Lines.{TakesIn, TurnsDown}
 use Rattle.nll_format.specs.Reading.{ReadsLine}
@@ -51,18 +48,3 @@ few_made line (t ∷ ts) h =
       length-append h.0 (spelling t ++ h.1),
       length-append (spelling t) h.1,
     )
-
--- a line that no so few tokens make has no form
-pub no_form_within : (line : List ℕ) → IsNotMadeWithin (length line) line → (f : Form) → HasForm line f → ⊥
-no_form_within line none f h = none h.0 (few_made line h.0 h.1) h.1
-
--- a line whose tokens spell no form of the version has none
-pub no_form_from : (v : Version) (line : List ℕ) (ts us : List Token) → us ≡ ts → IsTokenLine line ts
-    → ((f : Form) → IsSpelledIn v us f → ⊥) → (f : Form) → HasFormIn v line f → ⊥
-no_form_from v line ts us e scanned none f h =
-    none f (subst (λ (vs : List Token). IsSpelled vs f) (scanned.only h.0.0 h.0.1 ∙ sym e) h.0.2, h.1)
-
--- a line whose tokens spell a form of the version has it
-pub form_from : (v : Version) (line : List ℕ) (ts us : List Token) → us ≡ ts → IsTokenLine line ts → (f : Form)
-    → IsSpelledIn v us f → HasFormIn v line f
-form_from v line ts us e scanned f s = ((us, subst (IsMadeOf line) (sym e) scanned.made, s.0), s.1)

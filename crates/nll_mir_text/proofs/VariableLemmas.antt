@@ -6,7 +6,7 @@ use Rattle.nll_problem.specs.Limits.{most_variables}
 use Rattle.nll_problem.specs.declared.error.Kind.TheVariants.{Variables}
 use Rattle.nll_format.specs.declared.error.TextKind.TheVariants.{Unknown, Range, Shape, TypeSize, Limit}
 use Rattle.nll_types.specs.Shapes.{is_small}
-use Rattle.nll_type_grammar.specs.WrittenTypes.{WrittenType}
+use Rattle.nll_mir_grammar.specs.WrittenTypes.{WrittenType}
 use Rattle.nll_mir_grammar.specs.MirForms.{variable}
 use Rattle.nll_resolve.specs.Naming.{is_known, has_arguments, meant}
 use Rattle.nll_mir_text.specs.MirSaid.{Said}

@@ -13,7 +13,7 @@ use Rattle.nll_format.specs.declared.error.TextKind.{TextKind}
 use Rattle.nll_format.specs.declared.error.TextKind.TheVariants.{Syntax, Unknown, Duplicate, Range}
 use Rattle.nll_format.specs.declared.error.TextKind.TheVariants.{Shape, TypeSize, Limit}
 use Rattle.nll_types.specs.Shapes.{is_small}
-use Rattle.nll_type_grammar.specs.WrittenTypes.{Name, WrittenType, tuple}
+use Rattle.nll_mir_grammar.specs.WrittenTypes.{Name, WrittenType, tuple}
 use Rattle.nll_statements.specs.Statements.{Statement, types_written}
 use Rattle.nll_statements.specs.Effects.{targets}
 use Rattle.nll_statements.specs.Written.{regions_written, variables_written}

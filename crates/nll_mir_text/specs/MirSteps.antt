@@ -5,7 +5,7 @@ use Rattle.indexmap.specs.IndexSet.{insert_all}
 use Rattle.nll_problem.specs.Building.{same_pair}
 use Rattle.nll_types.specs.Types.{TypeTree}
 use Rattle.nll_types.specs.Structs.{Struct}
-use Rattle.nll_type_grammar.specs.WrittenTypes.{Name, WrittenType, WrittenTypes}
+use Rattle.nll_mir_grammar.specs.WrittenTypes.{Name, WrittenType, WrittenTypes}
 use Rattle.nll_statements.specs.Statements.{Statement, is_terminator}
 use Rattle.nll_mir_grammar.specs.MirForms.{WrittenParameter}
 use Rattle.nll_mir_grammar.specs.MirForms.{Form, universal, outlives, further, assert_line}

@@ -1,7 +1,7 @@
 -- What is taken for lines of variables, structs and points once their names are resolved.
 -- Source: project's choice. Only private contracts cite this file.
 use Rattle.std.specs.Prelude.{◌≡◌, ℕ, true}
-use Rattle.nll_type_grammar.specs.WrittenTypes.{Name, WrittenType}
+use Rattle.nll_mir_grammar.specs.WrittenTypes.{Name, WrittenType}
 use Rattle.nll_statements.specs.Statements.{Statement}
 use Rattle.nll_statements.specs.Kept.{statement_of}
 use Rattle.nll_statements.specs.declared.statement.Statement.{Statement as Kept}

@@ -14,9 +14,9 @@ use Rattle.nll_types.specs.Views.{tree}
 use Rattle.nll_types.specs.declared.judgement.Judgement.{Judgement}
 use Rattle.nll_types.specs.declared.node.Node.{Node}
 use Rattle.nll_types.specs.declared.operand.Operand.{Operand as KeptOperand}
-use Rattle.nll_type_grammar.specs.WrittenTypes.{Name, WrittenType}
-use Rattle.nll_type_grammar.specs.TypeTexts.{written}
-use Rattle.nll_type_grammar.specs.declared.type_text.TypePiece.{TypePiece}
+use Rattle.nll_mir_grammar.specs.WrittenTypes.{Name, WrittenType}
+use Rattle.nll_mir_grammar.specs.TypeTexts.{written}
+use Rattle.nll_mir_grammar.specs.declared.type_text.TypePiece.{TypePiece}
 use Rattle.nll_statements.specs.Statements.{Statement, is_terminator, map_statement, types_written}
 use Rattle.nll_statements.specs.Edges.{edges_from}
 use Rattle.nll_statements.specs.Written.{regions_written}

@@ -4,7 +4,7 @@ ghost use Rattle.std.specs.Prelude.{◌≡◌, Some, IfOk, IfErr, OnOk};
 ghost use Rattle.nll_mir_grammar.specs.MirForms as forms;
 ghost use Rattle.nll_mir_grammar.specs.Lines.{form_of};
 ghost use Rattle.nll_mir_text.specs.MirFaults.{first_fault};
-ghost use Rattle.nll_type_grammar.specs.WrittenTypes.{Name, WrittenType};
+ghost use Rattle.nll_mir_grammar.specs.WrittenTypes.{Name, WrittenType};
 ghost use Rattle.nll_statements.specs.Kept.{statement_of};
 ghost use Rattle.nll_statements.specs.Statements.{Statement as written_statement};
 ghost use Rattle.nll_mir_text.specs.MirReading.{said_by, IsAdmitted, IsDue, IsReady};
@@ -20,11 +20,11 @@ use crate::ranges::targets_are_blocks;
 use crate::reader::Reader;
 use crate::resolution::resolve_statement;
 use nll_format::TextKind;
+use nll_mir_grammar::TypeText;
 use nll_problem::{Kind, MAX_EDGES, MAX_POINTS, RegionId};
 use nll_resolve::ResolvedType;
 use nll_sets::Memory;
 use nll_statements::Statement;
-use nll_type_grammar::TypeText;
 
 impl Reader {
     /// Begins a block.

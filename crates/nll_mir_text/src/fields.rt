@@ -8,8 +8,8 @@ ghost use Rattle.nll_types.specs.Table.{AreBelow, shape_in};
 ghost use Rattle.nll_types.specs.Tables.{AddsShapes};
 ghost use Rattle.nll_types.specs.Types.{TypeTrees, tuple};
 ghost use Rattle.nll_types.specs.Views.{tree, trees};
-ghost use Rattle.nll_type_grammar.specs.TypeTexts.{written};
-ghost use Rattle.nll_type_grammar.specs.WrittenTypes.{WrittenType};
+ghost use Rattle.nll_mir_grammar.specs.TypeTexts.{written};
+ghost use Rattle.nll_mir_grammar.specs.WrittenTypes.{WrittenType};
 ghost use Rattle.nll_mir_grammar.specs.Lines.{parameter_of};
 ghost use Rattle.nll_mir_grammar.specs.Tuples.{IsTuple, parts};
 ghost use Rattle.nll_resolve.specs.Naming.{Scope as naming_scope, is_known};
@@ -21,10 +21,9 @@ ghost use Rattle.nll_mir_text.specs.StructLines.{AreJudged, own_scope, region_ma
 use crate::own_names::OwnNames;
 use crate::parameters::push_marks;
 use crate::tables::StructNames;
-use nll_mir_grammar::{ParameterText, StructText};
+use nll_mir_grammar::{ParameterText, StructText, TypeText};
 use nll_resolve::{ResolvedType, Scope, resolve};
 use nll_sets::Memory;
-use nll_type_grammar::TypeText;
 use nll_types::{Declaration, Node, Shapes, Ty, TypeTable};
 use std::alloc::Global;
 

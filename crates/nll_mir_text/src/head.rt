@@ -5,8 +5,8 @@ ghost use Rattle.std.specs.Prelude.{IfOk, IfErr, OnOk, OnErr};
 ghost use Rattle.nll_resolve.specs.Naming.{is_among};
 ghost use Rattle.nll_resolve.specs.Resolution.{IsResolved};
 ghost use Rattle.nll_format.specs.Names.{number_of};
-ghost use Rattle.nll_type_grammar.specs.TypeTexts.{written};
-ghost use Rattle.nll_type_grammar.specs.WrittenTypes.{WrittenType};
+ghost use Rattle.nll_mir_grammar.specs.TypeTexts.{written};
+ghost use Rattle.nll_mir_grammar.specs.WrittenTypes.{WrittenType};
 ghost use Rattle.nll_mir_grammar.specs.MirForms as forms;
 ghost use Rattle.nll_mir_grammar.specs.Lines.{parameter_of};
 ghost use Rattle.nll_mir_grammar.specs.Tuples.{IsTuple, parts};
@@ -27,11 +27,10 @@ use crate::parameters::kinds;
 use crate::reader::Reader;
 use crate::resolution::resolve_type;
 use nll_format::TextKind;
-use nll_mir_grammar::StructText;
+use nll_mir_grammar::{StructText, TypeText};
 use nll_problem::{Kind, MAX_POINTS, MAX_REGIONS, MAX_UNIVERSALS};
 use nll_resolve::ResolvedType;
 use nll_sets::Memory;
-use nll_type_grammar::TypeText;
 
 impl Reader {
     /// Adds a universal region.

@@ -2,7 +2,7 @@
 
 ghost use Rattle.std.specs.Prelude.{◌≡◌, ◌++◌, ◌∷◌, [], length, not, IfOk, OnOk};
 ghost use Rattle.nll_types.specs.Tables.{AddsShapes};
-ghost use Rattle.nll_type_grammar.specs.WrittenTypes.{Name, WrittenType};
+ghost use Rattle.nll_mir_grammar.specs.WrittenTypes.{Name, WrittenType};
 ghost use Rattle.nll_statements.specs.Kept.{statement_of};
 ghost use Rattle.nll_statements.specs.Statements.{Statement as written_statement};
 ghost use Rattle.nll_mir_text.specs.MirReading.{AreShapes, scope_in};

@@ -16,11 +16,10 @@ use crate::groups::{Group, group_of};
 use crate::tables::{Points, Regions, StructNames, Variables};
 use indexmap::IndexSet;
 use nll_body::BodyParts;
-use nll_format::{LineReader, Names, TextKind};
+use nll_format::{LineReader, Names, TextKind, pass_over};
 use nll_mir_grammar::{Line, Version, line_of};
 use nll_sets::Memory;
 use nll_statement_list::StatementList;
-use nll_text::{ScanError, Scanned, Token, scan_line};
 use nll_types::{Structs, Ty, TypeTable};
 use std::alloc::Global;
 
@@ -217,33 +216,17 @@ impl Reader {
 }
 
 impl<'a> LineReader<'a, Version> for Reader {
-    type Room = Vec<Token<'a>>;
-
     ghost format_of = { mir };
 
     ghost holds = { λ _ forms reader. HoldsForms reader forms };
 
     ghost ready = { IsReady };
 
-    fn read_line(
-        &mut self,
-        version: &Version,
-        line: &'a [u8],
-        tokens: &mut Vec<Token<'a>>,
-    ) -> Result<(), TextKind> {
-        let most = line.len();
-        match scan_line(line, most, tokens) {
-            Ok(Scanned::Skipped) => return Ok(()),
-            Ok(Scanned::Tokens) => {}
-            Err(ScanError::NotUtf8) => return Err(TextKind::NotUtf8),
-            Err(ScanError::NoTokens) => return Err(TextKind::Syntax),
-            Err(ScanError::Memory) => return Err(TextKind::Memory),
+    fn read_line(&mut self, version: &Version, line: &'a [u8]) -> Result<(), TextKind> {
+        match line_of(self.alloc, *version, line)? {
+            Some(form) => self.take(form),
+            None => pass_over(line),
         }
-        let found = line_of(self.alloc, *version, tokens.as_slice())?;
-        let Some(form) = found else {
-            return Err(TextKind::Syntax);
-        };
-        self.take(form)
     }
 
     fn has_ended(&self, version: &Version) -> bool

@@ -5,7 +5,7 @@ ghost use Rattle.std.specs.Prelude.{IfOk, IfSome, MatchOption, Ok};
 ghost use Rattle.std.specs.List.{list_all};
 ghost use Rattle.nll_problem.specs.Limits.{most_regions};
 ghost use Rattle.nll_format.specs.Names.{number_of};
-ghost use Rattle.nll_type_grammar.specs.TypeTexts.{written};
+ghost use Rattle.nll_mir_grammar.specs.TypeTexts.{written};
 ghost use Rattle.nll_statements.specs.Kept.{call_of, statement_of};
 ghost use Rattle.nll_statements.specs.Statements.{map_statement};
 ghost use Rattle.nll_resolve.specs.Naming.{is_among, is_known};
@@ -16,11 +16,11 @@ ghost use Rattle.nll_mir_text.specs.ResolvedStatements.{AreOfArguments, IsOfStat
 
 use crate::tables::{Regions, StructNames};
 use nll_format::Names;
+use nll_mir_grammar::TypeText;
 use nll_problem::RegionId;
 use nll_resolve::{ResolvedType, Scope, resolve};
 use nll_sets::Memory;
 use nll_statements::{Call, Make, Statement};
-use nll_type_grammar::TypeText;
 use nll_types::{Operand, Place};
 use std::alloc::Global;
 

@@ -26,10 +26,7 @@ fn read_body(alloc: Global, version: Version, body: Option<&[u8]>) -> Result<Rea
         Ok(reader) => reader,
         Err(kind) => return Err(TextError { line: 0, kind }),
     };
-    let mut tokens = Vec::new(alloc);
-    let read = read_lines(&mut reader, &version, body, &mut tokens);
-    drop(tokens);
-    if let Err(error) = read {
+    if let Err(error) = read_lines(&mut reader, &version, body) {
         drop(reader);
         return Err(error);
     }

@@ -1,7 +1,7 @@
 -- Whether names are known and have the arguments that they take, form by form of a type.
 use Rattle.std.proofs.Common.{◌≡◌, Bool, true, ◌&&◌, refl}
 use Rattle.std.specs.Prelude.{◌||◌}
-use Rattle.nll_type_grammar.specs.WrittenTypes.{Name, WrittenType, WrittenTypes, Arguments, int, reference, tuple, named, function, none, more, region_argument, type_argument}
+use Rattle.nll_mir_grammar.specs.WrittenTypes.{Name, WrittenType, WrittenTypes, Arguments, int, reference, tuple, named, function, none, more, region_argument, type_argument}
 use Rattle.nll_resolve.specs.Naming.{Scope, is_among, is_known, has_arguments, kinds_of, kinds_taken, same_kinds}
 use Rattle.nll_resolve.specs.ToldTypes.{arguments_are_known, arguments_have_arguments}
 

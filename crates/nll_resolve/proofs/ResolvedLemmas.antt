@@ -6,10 +6,10 @@ use Rattle.std.specs.Prelude.{take, ◌||◌, if◌then◌else◌, slice_index_o
 use Rattle.nll_format.specs.Names.{number_of}
 use Rattle.nll_types.specs.Types.{TypeTree}
 use Rattle.nll_types.specs.Types as types
-use Rattle.nll_type_grammar.specs.WrittenTypes.{Name, WrittenType, WrittenTypes, Arguments, int, reference, tuple, named, function, none, more, no_argument, region_argument, type_argument}
-use Rattle.nll_type_grammar.specs.TypeTexts as texts
-use Rattle.nll_type_grammar.specs.TypeTexts.{IsType, plain, written, make_reference, add_type, make_tuple, make_named, make_function}
-use Rattle.nll_type_grammar.specs.declared.type_text.TypePiece.{TypePiece}
+use Rattle.nll_mir_grammar.specs.WrittenTypes.{Name, WrittenType, WrittenTypes, Arguments, int, reference, tuple, named, function, none, more, no_argument, region_argument, type_argument}
+use Rattle.nll_mir_grammar.specs.TypeTexts as texts
+use Rattle.nll_mir_grammar.specs.TypeTexts.{IsType, plain, written, make_reference, add_type, make_tuple, make_named, make_function}
+use Rattle.nll_mir_grammar.specs.declared.type_text.TypePiece.{TypePiece}
 use Rattle.nll_statement_list.specs.TypePieces.{number_pieces, reference_piece, steps, parts}
 use Rattle.nll_statement_list.specs.declared.piece.Piece.{Piece}
 use Rattle.nll_statement_list.specs.declared.piece.Piece.TheVariants as pieces

@@ -2,8 +2,8 @@
 use Rattle.std.proofs.Common.{◌≡◌, ℕ, Bool, true, false, ◌&&◌, List, [], ◌++◌, map, refl, sym, ap, ◌∙◌, append_assoc}
 use Rattle.std.specs.Prelude.{◌||◌, if◌then◌else◌, take, slice_index_or}
 use Rattle.nll_format.specs.Names.{number_of}
-use Rattle.nll_type_grammar.specs.WrittenTypes.{Name}
-use Rattle.nll_type_grammar.specs.TypeTexts.{make_named}
+use Rattle.nll_mir_grammar.specs.WrittenTypes.{Name}
+use Rattle.nll_mir_grammar.specs.TypeTexts.{make_named}
 use Rattle.nll_statement_list.specs.TypePieces.{number_pieces}
 use Rattle.nll_statement_list.specs.declared.piece.Piece.{Piece}
 use Rattle.nll_statement_list.specs.declared.piece.Piece.TheVariants as pieces

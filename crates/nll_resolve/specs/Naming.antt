@@ -5,9 +5,9 @@ use Rattle.std.specs.Prelude.{◌∷◌, length, slice_index_or}
 use Rattle.nll_format.specs.Names.{number_of}
 use Rattle.nll_types.specs.Types.{TypeTree, TypeTrees, int, parameter, reference, tuple, named}
 use Rattle.nll_types.specs.Types.{function, none, more}
-use Rattle.nll_type_grammar.specs.WrittenTypes.{Name, WrittenType, WrittenTypes, Arguments}
-use Rattle.nll_type_grammar.specs.WrittenTypes.{no_argument, region_argument, type_argument}
-use Rattle.nll_type_grammar.specs.WrittenTypes as written
+use Rattle.nll_mir_grammar.specs.WrittenTypes.{Name, WrittenType, WrittenTypes, Arguments}
+use Rattle.nll_mir_grammar.specs.WrittenTypes.{no_argument, region_argument, type_argument}
+use Rattle.nll_mir_grammar.specs.WrittenTypes as written
 
 -- What names stand for where a type is written: regions, type parameters and structs by their
 -- places in these rows. Beside the structs stand the kinds of the arguments that each takes, in

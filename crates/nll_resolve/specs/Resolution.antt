@@ -2,7 +2,7 @@
 -- Source: project's choice.
 use Rattle.std.specs.Prelude.{◌≡◌, ◌<◌, ◌^◌, Bool, true, length, map}
 use Rattle.nll_types.specs.Types.{TypeTree}
-use Rattle.nll_type_grammar.specs.WrittenTypes.{WrittenType}
+use Rattle.nll_mir_grammar.specs.WrittenTypes.{WrittenType}
 use Rattle.nll_resolve.specs.Naming.{Scope, meant, is_known, has_arguments}
 use Rattle.nll_resolve.specs.declared.scope.Scope.{Scope as Kept}
 

@@ -3,10 +3,10 @@
 use Rattle.std.specs.Prelude.{ℕ, Bool, true, false, ◌&&◌, ◌||◌, if◌then◌else◌, List, [], ◌∷◌, ◌++◌}
 use Rattle.std.specs.Prelude.{length, map, reverse, take}
 use Rattle.nll_format.specs.Names.{number_of}
-use Rattle.nll_type_grammar.specs.WrittenTypes.{Name}
-use Rattle.nll_type_grammar.specs.TypeTexts as written
-use Rattle.nll_type_grammar.specs.TypeTexts.{make_int, make_reference, begin_row, add_region}
-use Rattle.nll_type_grammar.specs.TypeTexts.{add_type, make_tuple, make_named, make_function}
+use Rattle.nll_mir_grammar.specs.WrittenTypes.{Name}
+use Rattle.nll_mir_grammar.specs.TypeTexts as written
+use Rattle.nll_mir_grammar.specs.TypeTexts.{make_int, make_reference, begin_row, add_region}
+use Rattle.nll_mir_grammar.specs.TypeTexts.{add_type, make_tuple, make_named, make_function}
 use Rattle.nll_statement_list.specs.TypePieces.{number_pieces, reference_piece}
 use Rattle.nll_statement_list.specs.declared.piece.Piece.{Piece}
 use Rattle.nll_statement_list.specs.declared.piece.Piece.TheVariants as pieces

@@ -20,24 +20,18 @@ fn is_end(line: &[u8]) -> bool
 #[derive(Drop)]
 struct Ends {
     has_end: bool,
+    told: Transcript,
 }
 
 impl<'a> LineReader<'a, ()> for Ends {
-    type Room = Transcript;
-
     ghost format_of = { λ _. end_texts };
 
     ghost holds = { λ _ forms reader. Tells reader.has_end forms };
 
     ghost ready = { λ _. Unit {0} };
 
-    fn read_line(
-        &mut self,
-        _format: &(),
-        line: &'a [u8],
-        out: &mut Transcript,
-    ) -> Result<(), TextKind> {
-        out.part("", line);
+    fn read_line(&mut self, _format: &(), line: &'a [u8]) -> Result<(), TextKind> {
+        self.told.part("", line);
         if !is_end(line) {
             return pass_over(line);
         }
@@ -56,8 +50,14 @@ impl<'a> LineReader<'a, ()> for Ends {
 // Writes the lines behind the header.
 fn write_lines(out: &mut Transcript, text: &[u8]) -> Result<(), TextError> {
     let body = open_text(text, b"ends", b"1")?;
-    let mut ends = Ends { has_end: false };
-    read_lines(&mut ends, &(), body, out)
+    let mut ends = Ends {
+        has_end: false,
+        told: Transcript::new(out.alloc),
+    };
+    let read = read_lines(&mut ends, &(), body);
+    out.say(ends.told.text());
+    drop(ends);
+    read
 }
 
 /// Writes which lines of a text the loop hands on, and what it says of them.

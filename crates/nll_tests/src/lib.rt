@@ -40,6 +40,8 @@ mod schedules;
 #[cfg(test)]
 mod sets;
 #[cfg(test)]
+mod skipped;
+#[cfg(test)]
 mod solutions;
 #[cfg(test)]
 mod statement_lists;
@@ -47,8 +49,6 @@ mod statement_lists;
 mod statement_names;
 #[cfg(test)]
 mod statement_text;
-#[cfg(test)]
-mod tokens;
 #[cfg(test)]
 mod transcript;
 #[cfg(test)]

@@ -2,9 +2,9 @@
 use super::rows::Asked::Line;
 use super::rows::{Row, compare_lines, compare_rows};
 use super::transcript::Transcript;
-use super::{mir_lines, tokens, type_names, written_types};
-use nll_text::{Token, is_header, next_line, tokens_of};
-use nll_type_grammar::is_capital;
+use super::{mir_lines, type_names, written_types};
+use nll_mir_grammar::is_capital;
+use nll_text::{is_header, next_line};
 
 /// What is asked of a line.
 #[derive(Clone, Copy)]
@@ -13,8 +13,6 @@ pub enum OfLine {
     Lines,
     /// Whether it is a header of this kind and version.
     Header(&'static str, &'static str),
-    /// Its tokens, where it may have so many.
-    Tokens(usize),
     /// Whether it begins as the name of a struct does.
     Capital,
     /// The type in front.
@@ -48,31 +46,22 @@ pub fn write_line(out: &mut Transcript, line: &str, asked: OfLine) {
                 "",
             )
         }
-        OfLine::Tokens(most) => tokens::write_tokens_in(out, line, most),
         OfLine::Capital => out.flag("", is_capital(line.as_bytes()), ""),
         OfLine::Names | OfLine::Pieces | OfLine::Kept | OfLine::List => {
             type_names::write_in_scope(out, line, asked)
         }
-        _ => write_read(out, line, asked),
+        _ => write_told(out, line.as_bytes(), asked),
     }
 }
 
-// Writes what is told of a line that is read as tokens.
-fn write_read(out: &mut Transcript, line: &str, asked: OfLine) {
-    let mut tokens = Vec::new(out.alloc);
-    let _ = tokens_of(line.as_bytes(), 40, &mut tokens);
-    write_told(out, asked, tokens.as_slice());
-    drop(tokens);
-}
-
-// Writes what is told of a line's tokens.
-fn write_told(out: &mut Transcript, asked: OfLine, tokens: &[Token<'_>]) {
+// Writes what is told of a line of a MIR text, or of the type in front.
+fn write_told(out: &mut Transcript, line: &[u8], asked: OfLine) {
     match asked {
-        OfLine::Type => written_types::write_front(out, tokens),
-        OfLine::Function => written_types::write_function_flag(out, tokens),
-        OfLine::First => mir_lines::write_version_flag(out, tokens),
-        OfLine::Form => mir_lines::write_form(out, tokens, false),
-        _ => mir_lines::write_form(out, tokens, true),
+        OfLine::Type => written_types::write_front(out, line),
+        OfLine::Function => written_types::write_function_flag(out, line),
+        OfLine::First => mir_lines::write_version_flag(out, line),
+        OfLine::Form => mir_lines::write_form(out, line, false),
+        _ => mir_lines::write_form(out, line, true),
     }
 }
 

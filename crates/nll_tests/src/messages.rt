@@ -3,7 +3,7 @@ use super::rows::{Asked, Row, compare_rows};
 use super::transcript::Transcript;
 use nll_core::{BuildError, Kind, Memory};
 use nll_cut::CutError;
-use nll_text::{LexError, ScanError};
+use nll_text::NotUtf8;
 use std::alloc::{AllocError, AllocFailed};
 
 // Errors of builders.
@@ -32,8 +32,7 @@ pub fn write_messages(out: &mut Transcript) {
         out.print(error);
     }
     out.print(&Memory::from(AllocError));
-    out.print(&LexError::NoTokens);
-    out.print(&ScanError::NotUtf8);
+    out.print(&NotUtf8);
 }
 
 /// Writes what becomes of a refused growth of memory, whatever it comes from.
@@ -44,7 +43,6 @@ pub fn write_memory(out: &mut Transcript) {
     out.show("|", &BuildError::from(AllocError));
     out.show("|", &BuildError::from(AllocFailed { value: 1u8 }));
     out.show("|", &BuildError::from(memory));
-    out.show("|", &LexError::from(AllocFailed { value: 1u8 }));
     out.show("|", &CutError::from(AllocError));
     out.show("|", &CutError::from(AllocFailed { value: 1u8 }));
     out.show("|", &CutError::from(memory));
@@ -58,12 +56,12 @@ const ERRORS: &[Row] = &[
         "no such point|no such region|more points than the limit|\
          more universal regions than the limit|out of memory|\
          no owner, or too many|not an owner for each region|no such owner at 4|out of memory|\
-         a growth of memory was refused|no tokens, or too many|not UTF-8|",
+         a growth of memory was refused|not UTF-8|",
     ),
     (
         "memory",
         Asked::Memory,
-        "Memory(())|Memory(())|Memory|Memory|Memory|Memory|Memory|Memory|Memory",
+        "Memory(())|Memory(())|Memory|Memory|Memory|Memory|Memory|Memory",
     ),
 ];
 

@@ -1,14 +1,14 @@
-//! Lines of MIR texts that are read from tokens, and what their statements do.
+//! Lines of MIR texts, by their forms, and what their statements do.
 use super::lines::OfLine;
-use super::rows::compare_text;
+use super::rows::Asked::Form;
+use super::rows::{Row, compare_rows, compare_text};
 use super::statement_text::write_statement;
 use super::transcript::Transcript;
 use super::written_types::{write_flag, write_pieces};
-use nll_mir_grammar::{Line, ParameterText, StructText, Version, line_of, one_form};
+use nll_mir_grammar::{Line, ParameterText, StructText, TypeText, Version, line_of, one_form};
 use nll_sets::Memory;
 use nll_statements::Statement;
-use nll_text::Token;
-use nll_type_grammar::TypeText;
+use nll_text::one_token_list;
 use nll_types::{Parameter, Sign};
 use std::alloc::Global;
 
@@ -92,33 +92,33 @@ fn write_told(out: &mut Transcript, line: &Line<'_>, is_done: bool) {
     }
 }
 
-/// Writes the form of tokens in version 2, which has each form, or what their statement does.
-pub fn write_form(out: &mut Transcript, tokens: &[Token<'_>], is_done: bool) {
-    match line_of(out.alloc, Version::Second, tokens) {
-        Ok(Some(line)) => {
-            write_told(out, &line, is_done);
-            drop(line);
+/// Writes the form of a line in version 2, which has each form, or what its statement does.
+pub fn write_form(out: &mut Transcript, line: &[u8], is_done: bool) {
+    match line_of(out.alloc, Version::Second, line) {
+        Ok(Some(form)) => {
+            write_told(out, &form, is_done);
+            drop(form);
         }
         Ok(None) => out.say("none"),
         Err(_) => out.say("refused"),
     }
 }
 
-// Whether tokens have a form in a version.
-fn has_form(alloc: Global, version: Version, tokens: &[Token<'_>]) -> Result<bool, Memory> {
-    match line_of(alloc, version, tokens)? {
-        Some(line) => {
-            drop(line);
+// Whether a line has a form in a version.
+fn has_form(alloc: Global, version: Version, line: &[u8]) -> Result<bool, Memory> {
+    match line_of(alloc, version, line)? {
+        Some(form) => {
+            drop(form);
             Ok(true)
         }
         None => Ok(false),
     }
 }
 
-/// Writes whether tokens have a form in version 1, and in version 2.
-pub fn write_version_flag(out: &mut Transcript, tokens: &[Token<'_>]) {
-    let first = has_form(out.alloc, Version::First, tokens);
-    let second = has_form(out.alloc, Version::Second, tokens);
+/// Writes whether a line has a form in version 1, and in version 2.
+pub fn write_version_flag(out: &mut Transcript, line: &[u8]) {
+    let first = has_form(out.alloc, Version::First, line);
+    let second = has_form(out.alloc, Version::Second, line);
     write_flag(out, first);
     out.say(" ");
     write_flag(out, second);
@@ -210,7 +210,188 @@ goto bb999999999 ~ goto 999999999
 goto bb1000000000 ~ none
 goto bb ~ none
 goto bb01 ~ none
+blocks 123456789 ~ blocks 123456789
+blocks 1234567890 ~ none
+blocks 0123456789 ~ none
+blocks 000000000 ~ none
+blocks 99999999x ~ none
+blocks 999999999x ~ none
+blocks 999999999_ ~ none
+blocks 999999999'a ~ none
+blocks 999999999; ~ none
+live _0 ~ live 0
+live _007 ~ none
+live _7_ ~ none
+live _7x ~ none
+live _x7 ~ none
+live __7 ~ none
+live _ 7 ~ none
+live 7_ ~ none
+goto bb0 ~ goto 0
+goto bb00 ~ none
+goto bb1x ~ none
+goto bb_1 ~ none
+goto bb 1 ~ none
+goto bbb1 ~ none
+goto b1 ~ none
+goto BB1 ~ none
+read _1.0 ~ read _1.0
+read _1.01 ~ none
+read _1.0x ~ none
+read _1._0 ~ none
+read _1.999999999 ~ read _1.999999999
+read _1.1000000000 ~ none
+_01 = const ~ none
+_1.00 = const ~ none
+switch const bb1 bb1x ~ none
+drop _1 -> bb1 unwind bb02 ~ none
 ";
+
+// Lines with blanks of each kind between tokens, and with none. A word ends at no other word's
+// byte, a `-` and a `>` with a blank between them are no arrow, and a `->` is no `-` and `>`.
+const GAPS: &str = "
+ nop \t\r ~ nop
+\rreturn\t ~ return
+end\r ~ end
+\tuniversal\r'a ~ universal a|
+universal'a ~ universal a|
+outlives\t'a\r'b ~ outlives a|b|
+outlives'a'b ~ outlives a|b|
+outlives'ab ~ none
+region\r'x ~ region x|
+assert\t'x\r:\t'y ~ assert x|y|
+assert'x:'y ~ assert x|y|
+struct\tF\r<\t'x\r-\t?\r,\tT\r-\t>\r(\tfn\r(\t)\r->\tint\r) ~ \
+struct F|'x|-? T|- row|row|int|fn|part|tuple|
+struct F<'x-?,T- >(fn()->int) ~ struct F|'x|-? T|- row|row|int|fn|part|tuple|
+struct F<'x->(int) ~ none
+struct F<'x -\t>() ~ struct F|'x|- row|tuple|
+struct W<'a=?,T+>drop() ~ struct W|'a|=? T|+ drop row|tuple|
+struct W<T=>\tdrop\r() ~ struct W|T|= drop row|tuple|
+struct W drop() ~ struct W|drop row|tuple|
+struct Wdrop() ~ struct Wdrop|row|tuple|
+struct W dropped() ~ none
+structW() ~ none
+let\t_3\r:\t&\r'p\tint ~ let 3 int|& p|
+let _3:&'p int ~ let 3 int|& p|
+let_3: int ~ none
+blocks\t3\r ~ blocks 3
+blocks3 ~ none
+block\rbb0 ~ block 0
+blockbb0 ~ none
+_3\t.\r0\t.\r*\t=\rmove\t_1\r.\t* ~ _3.0.* = move _1.*
+_3.0.*=move _1.* ~ _3.0.* = move _1.*
+_3=copy _1.*.2 ~ _3 = copy _1.*.2
+_3=copy_1 ~ none
+_3=constant ~ none
+_3=&'r mut _1.* ~ _3 = mut r|_1.*
+_3\t=\r&\t'r\rmut\t_1 ~ _3 = mut r|_1
+_3=&'r _1 ~ _3 = & r|_1
+_3=&'r_1 ~ none
+_3=&'r mut_1 ~ none
+_3=make(T,int)(const,move _2.0) ~ _3 = make row|row|T|part|int|part|tuple|const,move _2.0,
+_3=make\t(\rT\t)\r(\tconst\r,\tmove\r_2\t.\r0\t) ~ _3 = make row|row|T|part|tuple|const,move _2.0,
+_3=make()() ~ _3 = make row|tuple|
+read\t_3\r.\t* ~ read _3.*
+read_3 ~ none
+live\t_1 ~ live 1
+live_1 ~ none
+dead\r_1 ~ dead 1
+goto\tbb2 ~ goto 2
+gotobb2 ~ none
+switch\tcopy\r_2\tbb1\rbb2 ~ switch copy _2 [1, 2]
+switch copy _2bb1 ~ none
+switch copy _2.0bb1 ~ none
+switch const bb1bb2 ~ none
+switch const\tbb1 ~ switch const [1]
+drop _1->bb1 ~ drop 1 to 1
+drop\t_1\r->\tbb1\runwind\tbb2 ~ drop 1 to 1 or 2
+drop _1->bb1unwind bb2 ~ none
+drop _1 - > bb1 ~ none
+drop _1 -\t> bb1 ~ none
+drop _1 - bb1 ~ none
+drop _1 > bb1 ~ none
+drop _1 --> bb1 ~ none
+drop _1 ->> bb1 ~ none
+_2=call f(copy _1:&'c int,const:int):&'c int->bb1 \
+~ _2 = call copy _1: int|& c|,const: int|,: int|& c| to 1
+_2\t=\rcall\tf\r(\tconst\r:\tint\r)\t:\rint\twhere\r'a\t:\r'b\t,\r'c\t:\r'd\t->\rbb1\tunwind\rbb2 \
+~ _2 = call const: int|,: int| a|b| c|d| to 1 or 2
+_2=call f():int where'a:'b,'c:'d->bb1 unwind bb2 \
+~ _2 = call : int| a|b| c|d| to 1 or 2
+_2 = call f(): int - > bb1 ~ none
+_2 = callf(): int -> bb1 ~ none
+_2 = call 'f(): int -> bb1 ~ none
+";
+
+// Lines with bytes that are no tokens: a `'` with no name behind it, signs of no form, and remarks.
+const STRAYS: &str = "
+# nop ~ none
+nop # x ~ none
+nop #x ~ none
+nop# ~ none
+end # ~ none
+nop; ~ none
+;nop ~ none
+nop; nop ~ none
+nop\0 ~ none
+nop\x0b ~ none
+nop\x0c ~ none
+\u{feff}nop ~ none
+nop\u{a0} ~ none
+nop \u{e9} ~ none
+nop ' ~ none
+nop'x ~ none
+universal ' ~ none
+universal ' a ~ none
+universal '' ~ none
+universal ''a ~ none
+universal '-a ~ none
+universal 'a' ~ none
+universal 'a; ~ none
+universal 'a - ~ none
+outlives 'a ' ~ none
+outlives 'a;'b ~ none
+region 'x # x ~ none
+assert 'x ; 'y ~ none
+assert 'x : 'y; ~ none
+struct W()# ~ none
+struct W<'a +;>() ~ none
+let _1: int; ~ none
+let _1; int ~ none
+blocks 3$ ~ none
+block bb0' ~ none
+_3 = const; ~ none
+_3 = &'r _1; ~ none
+_3 = make () () # x ~ none
+_3 = make () (const;) ~ none
+read _3. ~ none
+read _3.*; ~ none
+read _3.; ~ none
+live _1! ~ none
+goto bb2 # x ~ none
+switch const bb1; ~ none
+switch const bb1; bb2 ~ none
+drop _1 -> bb1; ~ none
+drop _1 -> bb1 unwind bb2 # x ~ none
+_2 = call f(): int -> bb1 # x ~ none
+_2 = call f;(): int -> bb1 ~ none
+return; ~ none
+";
+
+// Lines with bytes that are no text.
+const BROKEN: &[Row] = &[
+    ("behind a word", Form(b"nop\xff"), "none"),
+    ("behind a blank", Form(b"nop \xe9"), "none"),
+    ("behind a name", Form(b"universal 'a\xc3"), "none"),
+    ("in a name", Form(b"universal 'a\xe9b"), "none"),
+    ("as a name", Form(b"universal '\xe9"), "none"),
+    ("behind an operand", Form(b"_3 = const\x80"), "none"),
+    ("behind a number", Form(b"blocks 3\xff"), "none"),
+    ("behind a type", Form(b"let _1: int\xff"), "none"),
+    ("in front", Form(b"\xffnop"), "none"),
+    ("nowhere", Form(b"universal 'a\r"), "universal a|"),
+];
 
 // Lines, and whether they may stand in a text of version 1, and of version 2.
 const VERSIONS: &str = "
@@ -268,7 +449,11 @@ end ~ no statement
 fn lines_have_forms(rt: HostRuntime) {
     compare_text(&rt, rt.alloc(), OfLine::Form, LINES);
     compare_text(&rt, rt.alloc(), OfLine::Form, NUMBERS);
+    compare_text(&rt, rt.alloc(), OfLine::Form, GAPS);
+    compare_text(&rt, rt.alloc(), OfLine::Form, STRAYS);
+    compare_rows(&rt, rt.alloc(), BROKEN);
     compare_text(&rt, rt.alloc(), OfLine::First, VERSIONS);
     compare_text(&rt, rt.alloc(), OfLine::Effects, EFFECTS);
     one_form();
+    one_token_list();
 }

@@ -8,10 +8,11 @@ use super::frontiers::{write_frontier, write_frontier_everywhere, write_frontier
 use super::graphs::{Then, write_graph_then};
 use super::lines::{OfLine, write_line};
 use super::messages::{write_memory, write_messages};
+use super::mir_lines::write_form;
 use super::problem_text::OfProblem;
 use super::schedules::write_schedule;
 use super::sets::{write_last_bit, write_runs, write_sets, write_within};
-use super::tokens::write_scanned;
+use super::skipped::write_skipped;
 use super::transcript::Transcript;
 use super::type_pieces::{Large, write_large};
 use super::type_text::{OfType, write_typed};
@@ -23,8 +24,10 @@ use std::process::Abort;
 pub enum Asked {
     /// Of the line that the row looks at.
     Line(OfLine),
-    /// Of a line of bytes: how it is scanned.
-    Scanned(&'static [u8]),
+    /// Of a line of bytes: whether it is skipped.
+    Skipped(&'static [u8]),
+    /// Of a line of bytes of a MIR text: its form.
+    Form(&'static [u8]),
     /// Of a graph and of a problem of so many points and universal regions: whether they can be
     /// made.
     New(u32, u32),
@@ -78,7 +81,8 @@ pub type Row = (&'static str, Asked, &'static str);
 fn write_told(out: &mut Transcript, says: &str, asked: Asked) {
     match asked {
         Asked::Line(of_line) => write_line(out, says, of_line),
-        Asked::Scanned(line) => write_scanned(out, line),
+        Asked::Skipped(line) => write_skipped(out, line),
+        Asked::Form(line) => write_form(out, line, false),
         Asked::New(points, universals) => write_new(out, points, universals),
         Asked::Behind(numbers, first, calls) => write_behind(out, numbers, first, calls),
         Asked::Made(numbers, calls, of_problem) => {

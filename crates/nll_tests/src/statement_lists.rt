@@ -8,7 +8,6 @@ use nll_core::RegionId;
 use nll_resolve::Scope;
 use nll_statement_list::{PutType, StatementList};
 use nll_statements::Statement;
-use nll_text::{Token, tokens_of};
 use nll_types::{Place, Projection};
 
 // Writes the statement of a number, as the list makes it anew.
@@ -75,9 +74,9 @@ pub fn write_between<T: PutType>(out: &mut Transcript, statement: &Statement<Reg
     drop(list);
 }
 
-/// Writes what a list tells of the statement that is written in a line's tokens.
-pub fn write_kept(out: &mut Transcript, scope: &Scope<'_>, tokens: &[Token<'_>]) {
-    match statement_of(out, scope, tokens) {
+/// Writes what a list tells of the statement that is written in a line.
+pub fn write_kept(out: &mut Transcript, scope: &Scope<'_>, line: &[u8]) {
+    match statement_of(out, scope, line) {
         Some(statement) => {
             write_between(out, &statement);
             drop(statement);
@@ -88,13 +87,10 @@ pub fn write_kept(out: &mut Transcript, scope: &Scope<'_>, tokens: &[Token<'_>])
 
 // Pushes the statement of a line.
 fn push_line(out: &mut Transcript, scope: &Scope<'_>, line: &str, list: &mut StatementList) {
-    let mut tokens = Vec::new(out.alloc);
-    let _ = tokens_of(line.as_bytes(), 60, &mut tokens);
-    if let Some(statement) = statement_of(out, scope, tokens.as_slice()) {
+    if let Some(statement) = statement_of(out, scope, line.as_bytes()) {
         out.note(list.push(&statement));
         drop(statement);
     }
-    drop(tokens);
 }
 
 // Writes how many statements there are, and each of them.

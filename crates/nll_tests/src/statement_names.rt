@@ -1,11 +1,9 @@
 //! Statements of lines, over the numbers that the names in them stand for.
 use super::transcript::Transcript;
 use nll_core::RegionId;
-use nll_mir_grammar::{Line, Version, line_of};
+use nll_mir_grammar::{Line, TypeText, Version, line_of};
 use nll_resolve::{ResolvedType, Scope, resolve};
 use nll_statements::{Call, Make, Statement};
-use nll_text::Token;
-use nll_type_grammar::TypeText;
 use nll_types::Operand;
 
 /// A statement over numbers.
@@ -124,13 +122,9 @@ fn resolved(
     }
 }
 
-/// The statement that is written in a line's tokens, where the names in its types are known.
-pub fn statement_of(
-    out: &mut Transcript,
-    scope: &Scope<'_>,
-    tokens: &[Token<'_>],
-) -> Option<Resolved> {
-    match line_of(out.alloc, Version::Second, tokens) {
+/// The statement that is written in a line, where the names in its types are known.
+pub fn statement_of(out: &mut Transcript, scope: &Scope<'_>, line: &[u8]) -> Option<Resolved> {
+    match line_of(out.alloc, Version::Second, line) {
         Ok(Some(Line::At(statement))) => resolved(out, scope, statement),
         _ => None,
     }

@@ -3,8 +3,8 @@ use super::transcript::Transcript;
 use super::type_text::write_type;
 use super::written_types::write_pieces;
 use nll_core::RegionId;
+use nll_mir_grammar::TypeText;
 use nll_statements::{Call, Make, Statement};
-use nll_type_grammar::TypeText;
 use nll_types::{Operand, Place, Projection, Ty};
 
 /// A region or a type in a statement.

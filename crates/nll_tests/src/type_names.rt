@@ -5,9 +5,8 @@ use super::transcript::Transcript;
 use super::type_text::write_type;
 use super::{statement_lists, type_pieces};
 use nll_format::Names;
+use nll_mir_grammar::{TypeText, type_at};
 use nll_resolve::{ResolvedType, Scope, resolve};
-use nll_text::{Token, tokens_of};
-use nll_type_grammar::{TypeText, type_at};
 use nll_types::TypeTable;
 
 // A table of names.
@@ -56,9 +55,9 @@ fn write_told(out: &mut Transcript, scope: &Scope<'_>, text: &TypeText<'_>) {
     }
 }
 
-// Writes what is told of the type in front of tokens, where there is one.
-fn write_front(out: &mut Transcript, scope: &Scope<'_>, tokens: &[Token<'_>]) {
-    match type_at(out.alloc, tokens) {
+// Writes what is told of the type at the front of a line, where there is one.
+fn write_front(out: &mut Transcript, scope: &Scope<'_>, line: &[u8]) {
+    match type_at(out.alloc, line) {
         Ok(Some((text, _))) => {
             write_told(out, scope, &text);
             drop(text);
@@ -79,23 +78,13 @@ fn kinds(out: &mut Transcript) -> Vec<Vec<bool>> {
     kinds
 }
 
-// Writes what is told of the tokens of a line.
-fn write_read(out: &mut Transcript, scope: &Scope<'_>, line: &str, asked: OfLine) {
-    let mut tokens = Vec::new(out.alloc);
-    let _ = tokens_of(line.as_bytes(), 60, &mut tokens);
-    match asked {
-        OfLine::Names => write_front(out, scope, tokens.as_slice()),
-        OfLine::Pieces => type_pieces::write_front(out, scope, tokens.as_slice()),
-        _ => statement_lists::write_kept(out, scope, tokens.as_slice()),
-    }
-    drop(tokens);
-}
-
 // Writes what is told of a line over a scope.
 fn write_asked(out: &mut Transcript, scope: &Scope<'_>, line: &str, asked: OfLine) {
     match asked {
+        OfLine::Names => write_front(out, scope, line.as_bytes()),
+        OfLine::Pieces => type_pieces::write_front(out, scope, line.as_bytes()),
         OfLine::List => statement_lists::write_list(out, scope, line),
-        _ => write_read(out, scope, line, asked),
+        _ => statement_lists::write_kept(out, scope, line.as_bytes()),
     }
 }
 

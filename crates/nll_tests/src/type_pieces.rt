@@ -9,12 +9,11 @@ use super::statement_lists::write_between;
 use super::transcript::Transcript;
 use super::type_text::write_type;
 use nll_core::RegionId;
+use nll_mir_grammar::{TypeText, type_at};
 use nll_resolve::{ResolvedType, Scope, resolve};
 use nll_sets::Memory;
 use nll_statement_list::{Piece, PutType, TypePieces};
 use nll_statements::{Make, Statement};
-use nll_text::Token;
-use nll_type_grammar::{TypeText, type_at};
 use nll_types::Place;
 use std::alloc::Global;
 
@@ -88,9 +87,9 @@ fn write_told(out: &mut Transcript, scope: &Scope<'_>, text: &TypeText<'_>) {
     }
 }
 
-/// Writes the pieces of the type in front of tokens, and the type that they make.
-pub fn write_front(out: &mut Transcript, scope: &Scope<'_>, tokens: &[Token<'_>]) {
-    match type_at(out.alloc, tokens) {
+/// Writes the pieces of the type at the front of a line, and the type that they make.
+pub fn write_front(out: &mut Transcript, scope: &Scope<'_>, line: &[u8]) {
+    match type_at(out.alloc, line) {
         Ok(Some((text, _))) => {
             write_told(out, scope, &text);
             drop(text);

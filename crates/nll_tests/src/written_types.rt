@@ -1,10 +1,9 @@
-//! Types that are read from tokens.
+//! Types that are read from lines.
 use super::lines::OfLine;
 use super::rows::{compare_lines, compare_text};
 use super::transcript::Transcript;
+use nll_mir_grammar::{TypePiece, TypeText, a_type_has_tokens, one_type_at_most, type_at};
 use nll_sets::Memory;
-use nll_text::Token;
-use nll_type_grammar::{TypePiece, TypeText, a_type_has_tokens, one_type_at_most, type_at};
 
 /// Writes the pieces of a type.
 pub fn write_pieces(out: &mut Transcript, text: &TypeText<'_>) {
@@ -24,14 +23,13 @@ pub fn write_pieces(out: &mut Transcript, text: &TypeText<'_>) {
     }
 }
 
-/// Writes how many tokens the type in front has, and its pieces.
-pub fn write_front(out: &mut Transcript, tokens: &[Token<'_>]) {
-    match type_at(out.alloc, tokens) {
-        Ok(Some((text, count))) => {
-            out.size("", count);
-            out.say(": ");
+/// Writes the pieces of the type in front, and the bytes that are left behind it.
+pub fn write_front(out: &mut Transcript, line: &[u8]) {
+    match type_at(out.alloc, line) {
+        Ok(Some((text, left))) => {
             write_pieces(out, &text);
             drop(text);
+            out.part("left ", left);
         }
         Ok(None) => out.say("none"),
         Err(_) => out.say("refused"),
@@ -39,8 +37,8 @@ pub fn write_front(out: &mut Transcript, tokens: &[Token<'_>]) {
 }
 
 /// Writes whether a function is written in the type in front.
-pub fn write_function_flag(out: &mut Transcript, tokens: &[Token<'_>]) {
-    match type_at(out.alloc, tokens) {
+pub fn write_function_flag(out: &mut Transcript, line: &[u8]) {
+    match type_at(out.alloc, line) {
         Ok(Some((text, _))) => {
             out.flag("", text.has_function(), "");
             drop(text);
@@ -58,36 +56,36 @@ pub fn write_flag(out: &mut Transcript, told: Result<bool, Memory>) {
     }
 }
 
-// Lines, and the types in front of them: how many tokens each has, and its pieces.
+// Lines, and the types in front of them: the pieces of each, and the bytes that are left behind it.
 const TYPES: &str = "
  ~ none
-int ~ 1: int|
-int, int ~ 1: int|
+int ~ int|left |
+int, int ~ int|left , int|
 int< ~ none
-T ~ 1: row|T|
+T ~ row|T|left |
 t ~ none
-W<'a> ~ 4: row|'a|W|
-W<int, 'b, ()> ~ 9: row|int|part|'b|row|tuple|part|W|
+W<'a> ~ row|'a|W|left |
+W<int, 'b, ()> ~ row|int|part|'b|row|tuple|part|W|left |
 W<> ~ none
 W<'a ~ none
 W<'a,> ~ none
 W<'a> < ~ none
-&'a int = 1 ~ 3: int|& a|
-&'a mut &'b T ~ 6: row|T|& b|mut a|
+&'a int = 1 ~ int|& a|left  = 1|
+&'a mut &'b T ~ row|T|& b|mut a|left |
 & int ~ none
 &'a mut ~ none
-() ~ 2: row|tuple|
-(int) ~ 3: row|int|part|tuple|
-(int, (T), int) ~ 9: row|int|part|row|row|T|part|tuple|part|int|part|tuple|
+() ~ row|tuple|left |
+(int) ~ row|int|part|tuple|left |
+(int, (T), int) ~ row|int|part|row|row|T|part|tuple|part|int|part|tuple|left |
 (int,) ~ none
 (int ~ none
-fn() -> int ~ 5: row|int|fn|
+fn() -> int ~ row|int|fn|left |
 fn(int) -> T< ~ none
-fn(&'a int, T) -> (int) ~ 12: row|int|& a|part|row|T|part|row|int|part|tuple|fn|
-fn(fn() -> int) -> &'a mut fn() -> T, int ~ 17: row|row|int|fn|part|row|row|T|fn|mut a|fn|
-(fn(int) -> int) ~ 8: row|row|int|part|int|fn|part|tuple|
+fn(&'a int, T) -> (int) ~ row|int|& a|part|row|T|part|row|int|part|tuple|fn|left |
+fn(fn() -> int) -> &'a mut fn() -> T, int ~ row|row|int|fn|part|row|row|T|fn|mut a|fn|left , int|
+(fn(int) -> int) ~ row|row|int|part|int|fn|part|tuple|left |
 W<fn() -> 'a> ~ none
-W<'a, fn() -> int> ~ 10: row|'a|row|int|fn|part|W|
+W<'a, fn() -> int> ~ row|'a|row|int|fn|part|W|left |
 fn ~ none
 fn int ~ none
 fn( ~ none
@@ -101,7 +99,52 @@ fn('a) -> int ~ none
 fn() -> ~ none
 fn() -> 'a ~ none
 fn() -> -> int ~ none
-(&'a W<'b, &'c int>, int) ~ 14: row|row|'b|int|& c|part|W|& a|part|int|part|tuple|
+(&'a W<'b, &'c int>, int) ~ row|row|'b|int|& c|part|W|& a|part|int|part|tuple|left |
+";
+
+// Types with blanks of each kind between tokens and with none, words that are longer than those of
+// types, and bytes that are no tokens, in a type and behind one.
+const GAPS: &str = "
+\tint\r ~ int|left \r|
+int \t\r ~ int|left  \t\r|
+intx ~ none
+int_ ~ none
+int'b ~ int|left 'b|
+int- ~ int|left -|
+int-> ~ int|left ->|
+int; ~ int|left ;|
+int # x ~ int|left  # x|
+;int ~ none
+& 'a int ~ int|& a|left |
+&\t'a\rmut\t&\r'b\tT ~ row|T|& b|mut a|left |
+&'a mut&'b mut T ~ row|T|mut b|mut a|left |
+&'amut T ~ row|T|& amut|left |
+&'a mutT ~ none
+&'a mut_ T ~ none
+&' a int ~ none
+&'' int ~ none
+&'a'b int ~ none
+W<'a_1,T_0> ~ row|'a_1|row|T_0|part|W|left |
+W\t<\r'a\t,\rint\t> ~ row|'a|int|part|W|left |
+W<'a>> ~ row|'a|W|left >|
+W<'a>-> ~ row|'a|W|left ->|
+W<'a>\t< ~ none
+W<'a ; > ~ none
+W<'> ~ none
+T\r< ~ none
+T; < ~ row|T|left ; <|
+(\t) ~ row|tuple|left |
+(\rint\t,\rT\t) ~ row|int|part|row|T|part|tuple|left |
+(int#) ~ none
+fn()->int ~ row|int|fn|left |
+fn\t(\r)\t->\rint ~ row|int|fn|left |
+fn\r(\tint\r)\t->\rT ~ row|int|part|row|T|fn|left |
+fn() - > int ~ none
+fn() -\t>int ~ none
+fn() - int ~ none
+fn() --> int ~ none
+fn_() -> int ~ none
+fn'a() -> int ~ none
 ";
 
 // Types, and whether a function is written in them.
@@ -134,6 +177,7 @@ const CAPITALS: &[(&str, &str)] = &[
 #[test]
 fn types_are_read(rt: HostRuntime) {
     compare_text(&rt, rt.alloc(), OfLine::Type, TYPES);
+    compare_text(&rt, rt.alloc(), OfLine::Type, GAPS);
     compare_text(&rt, rt.alloc(), OfLine::Function, FUNCTIONS);
     compare_lines(&rt, rt.alloc(), OfLine::Capital, CAPITALS);
     one_type_at_most();

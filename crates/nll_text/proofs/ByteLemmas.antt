@@ -58,11 +58,6 @@ pub first_fails : (p : ℕ → Bool) (bytes front rest : List ℕ)
 first_fails p bytes [] rest s e = rw s.joined s.stops
 first_fails p bytes (x ∷ xs) rest s e = absurd (omega arith)
 
-pub first_passes-empty : (p : ℕ → Bool) (bytes : List ℕ)
-    → length bytes ≡ 0 → first_passes p bytes ≡ false
-first_passes-empty p [] e = refl
-first_passes-empty p (b ∷ bs) e = absurd (omega arith)
-
 pub positive : (n : ℕ) → eqb n 0 ≡ false → 0 < n
 positive n e = omega (arith, eqb-false n 0 e)
 

@@ -7,5 +7,5 @@ pub mod TokenLemmas
 pub mod Utf8Lemmas
 pub mod NumberLemmas
 pub mod HeaderLemmas
-pub mod ScanLemmas
+pub mod SkippedLemmas
 pub mod DecisionLemmas

@@ -2,5 +2,4 @@ pub mod Lines
 pub mod Header
 pub mod Tokens
 pub mod Number
-pub mod Scan
 pub mod Lexing

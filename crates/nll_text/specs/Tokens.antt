@@ -1,11 +1,9 @@
 -- Tokens, how each is written, and when a line is made of a list of tokens.
 -- Source: project's choice.
-use Rattle.std.specs.Prelude.{◌≡◌, ℕ, ◌<◌, ◌≤◌, ◌==◌, nat_le, Bool, true, false, ◌&&◌, ◌||◌, List}
-use Rattle.std.specs.Prelude.{[], ◌∷◌, ◌++◌, length, map}
+use Rattle.std.specs.Prelude.{◌≡◌, ℕ, ◌<◌, ◌==◌, nat_le, Bool, true, false, ◌&&◌, ◌||◌, List}
+use Rattle.std.specs.Prelude.{[], ◌∷◌, ◌++◌, length}
 use Rattle.std.specs.List.{AllByRecursion}
 use Rattle.nll_text.specs.Lines.{is_blank}
-use Rattle.nll_text.specs.declared.token.Token.{Token as InLine}
-use Rattle.nll_text.specs.declared.token.Token.TheVariants as in_line
 
 -- A token is a word, a region name (here without its `'`), the arrow `->` or a single sign.
 pub data Token : Type 0 where
@@ -79,18 +77,3 @@ IsMadeOf line (t ∷ ts) =
 -- No list of tokens makes the line.
 abbrev pub IsNotMade : List ℕ → Type 0
 IsNotMade line = (ts : List Token) → IsMadeOf line ts → ⊥
-
--- No list of at most this many tokens makes the line.
-abbrev pub IsNotMadeWithin : ℕ → List ℕ → Type 0
-IsNotMadeWithin most line = (ts : List Token) → length ts ≤ most → IsMadeOf line ts → ⊥
-
--- The token that a value of the program stands for, apart from where its bytes lie in memory.
-abbrev pub view : InLine → Token
-view (in_line.Word name) = word name.now
-view (in_line.Region name) = region name.now
-view in_line.Arrow = arrow
-view (in_line.Sign b) = sign b
-
--- The tokens that a list of the program stands for.
-abbrev pub views : List InLine → List Token
-views ts = map view ts

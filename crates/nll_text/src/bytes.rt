@@ -24,24 +24,6 @@ pub(crate) fn is_word_byte(byte: u8) -> bool
     WORD_BYTES[byte as usize] != b'.'
 }
 
-// Each byte that is a token by itself stands at its own place, and `_` at every other place.
-static SIGN_BYTES: [u8; 256] = *b"\
-    ________________________________\
-    ______&_()*+,-.___________:_<=>?\
-    ________________________________\
-    ________________________________\
-    ________________________________\
-    ________________________________\
-    ________________________________\
-    ________________________________";
-
-// One of the tokens of one byte.
-pub(crate) fn is_sign(byte: u8) -> bool
-    ensures { result ≡ tokens.is_sign byte }
-{
-    SIGN_BYTES[byte as usize] != b'_'
-}
-
 // A space, a tab or a carriage return.
 fn is_blank(byte: u8) -> bool
     ensures { result ≡ lines.is_blank byte }

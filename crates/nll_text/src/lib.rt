@@ -1,8 +1,7 @@
 //! Texts as lines, tokens and numbers: what the readers of all line-based formats share.
 //! It knows no format.
 //!
-//! Reading order: `lines`, `token`, `error`, `bytes`, `lexer`, `number`, `front`, `header`,
-//! `scan`, `laws`.
+//! Reading order: `lines`, `error`, `bytes`, `number`, `front`, `header`, `skipped`, `laws`.
 #![tactic(auto)]
 
 mod bytes;
@@ -10,17 +9,13 @@ mod error;
 mod front;
 mod header;
 mod laws;
-mod lexer;
 mod lines;
 mod number;
-mod scan;
-mod token;
+mod skipped;
 
-pub use error::{LexError, ScanError};
+pub use error::NotUtf8;
 pub use front::{after_word, first_number, first_region, is_gap};
 pub use header::is_header;
 pub use laws::one_token_list;
-pub use lexer::tokens_of;
 pub use lines::next_line;
-pub use scan::{Scanned, is_skipped_line, scan_line};
-pub use token::Token;
+pub use skipped::is_skipped_line;

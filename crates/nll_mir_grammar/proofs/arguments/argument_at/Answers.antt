@@ -1,7 +1,8 @@
 use Rattle.nll_text.specs.Tokens.{sign}
 use Rattle.nll_types.specs.Operands.{operand_of}
-use Rattle.nll_type_grammar.specs.TypeTexts.{written}
-use Rattle.nll_mir_grammar.specs.Grammars.{behind, from}
+use Rattle.nll_mir_grammar.specs.TypeTexts.{written}
+use Rattle.nll_mir_grammar.specs.LineTokens.{tokens_in}
+use Rattle.nll_mir_grammar.specs.Grammars.{behind}
 use Rattle.nll_mir_grammar.specs.Parts as parts
 use Rattle.nll_mir_grammar.proofs.GrammarLemmas.{read_pair}
 use Rattle.nll_mir_grammar.proofs.PartLemmas.{operands_one, operands_join_colon}
@@ -12,4 +13,4 @@ returns c =
     let found = rw c.in-Some.is at c.in_ok-operand.ensures in
     rw c.with.ensures
     (read_pair parts.operands (behind (sign 58) parts.types) operands_one operands_join_colon _ _ c.in-Some.operand
-    operand_of written (λ r. from r c.args.tokens.now) _ found c.type_behind.ensures)
+    operand_of written (λ r. tokens_in r.now) _ found c.type_behind.ensures)

@@ -1,4 +1,4 @@
-use Rattle.nll_mir_grammar.specs.Grammars.{from}
+use Rattle.nll_mir_grammar.specs.LineTokens.{tokens_in}
 use Rattle.nll_mir_grammar.specs.Parts as parts
 use Rattle.nll_mir_grammar.proofs.GrammarLemmas.{parentheses_unopened, parentheses_without, parentheses_end}
 use Rattle.nll_mir_grammar.proofs.PartLemmas.{arguments_listable}
@@ -16,5 +16,5 @@ pub returns-in-Some-2 : goal.returns-in-Some-2
 returns-in-Some-2 c =
     let found = rw c.in-Some-2.is at c.in_ok-behind.ensures in
     parentheses_end parts.arguments arguments_listable _ _ _ _
-    (λ r. from r c.args.tokens.now) _ c.in-Some.ensures c.in_default-after_sign.ensures found
+    (λ r. tokens_in r.now) _ c.in-Some.ensures c.in_default-after_sign.ensures found
     c.after_sign-in-Some-2.ensures

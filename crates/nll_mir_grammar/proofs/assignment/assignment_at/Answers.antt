@@ -1,5 +1,6 @@
 use Rattle.nll_text.specs.Tokens.{sign}
-use Rattle.nll_mir_grammar.specs.Grammars.{behind, from}
+use Rattle.nll_mir_grammar.specs.LineTokens.{tokens_in}
+use Rattle.nll_mir_grammar.specs.Grammars.{behind}
 use Rattle.nll_mir_grammar.specs.Kinds.{rights}
 use Rattle.nll_mir_grammar.specs.Lines.{form_of}
 use Rattle.nll_mir_grammar.specs.Parts as parts
@@ -16,4 +17,4 @@ returns-in_default c =
 pub returns : goal.returns
 returns c =
     let found = rw c.in-Some.is at c.in_ok-place.ensures in
-    read_behind_place _ _ _ (λ p. form_of p.0) (λ p. from p.1 c.args.tokens.now) _ found c.right_behind.ensures
+    read_behind_place _ _ _ (λ p. form_of p.0) (λ p. tokens_in p.1.now) _ found c.right_behind.ensures

@@ -1,4 +1,4 @@
-use Rattle.nll_mir_grammar.specs.Grammars.{from}
+use Rattle.nll_mir_grammar.specs.LineTokens.{tokens_in}
 use Rattle.nll_text.specs.Tokens.{sign}
 use Rattle.nll_mir_grammar.specs.Kinds.{rights}
 use Rattle.nll_mir_grammar.specs.Lines.{form_of}
@@ -8,7 +8,7 @@ use Rattle.nll_mir_grammar.proofs.assignment.right_behind.Goals as goal
 
 pub returns-in-Some : goal.returns-in-Some
 returns-in-Some c =
-    read_assigned _ _ _ (λ p. form_of p.0) (λ p. from p.1 c.args.tokens.now) _ c.in-Some.ensures c.right_side.ensures
+    read_assigned _ _ _ (λ p. form_of p.0) (λ p. tokens_in p.1.now) _ c.in-Some.ensures c.right_side.ensures
 
 pub returns-in-None : goal.returns-in-None
 returns-in-None c = behind_other rights (sign 61) _ c.in-None.ensures

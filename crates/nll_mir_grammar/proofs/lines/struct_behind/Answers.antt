@@ -1,6 +1,7 @@
 use Rattle.std.proofs.Common.{map}
-use Rattle.nll_type_grammar.specs.TypeTexts.{written}
-use Rattle.nll_mir_grammar.specs.Grammars.{from, pair}
+use Rattle.nll_mir_grammar.specs.TypeTexts.{written}
+use Rattle.nll_mir_grammar.specs.LineTokens.{tokens_in}
+use Rattle.nll_mir_grammar.specs.Grammars.{pair}
 use Rattle.nll_mir_grammar.specs.Lines.{parameter_of}
 use Rattle.nll_mir_grammar.specs.Parts.{drop_marks, parameter_lists, tuples}
 use Rattle.nll_mir_grammar.specs.Tuples.{parts}
@@ -19,4 +20,4 @@ returns c =
     rw c.with.ensures
     (read_pair parameter_lists (pair drop_marks tuples) parameter_lists_one parameters_join _ _ c.in-Some.parameters
     (λ v. map parameter_of v.items) (λ f. (f.0, parts (written f.1)))
-    (λ r. from r c.args.tokens.now) _ found c.fields_at.ensures)
+    (λ r. tokens_in r.now) _ found c.fields_at.ensures)

@@ -1,4 +1,4 @@
-use Rattle.nll_mir_grammar.specs.Grammars.{from}
+use Rattle.nll_mir_grammar.specs.LineTokens.{tokens_in}
 use Rattle.nll_text.specs.Tokens.{sign}
 use Rattle.nll_types.specs.Operands.{operand_of}
 use Rattle.nll_mir_grammar.specs.Parts as parts
@@ -8,4 +8,4 @@ use Rattle.nll_mir_grammar.proofs.operands.next_operand.Goals as goal
 pub returns-in-Some : goal.returns-in-Some
 returns-in-Some c =
     put_behind parts.operands (sign 44) operand_of
-    (λ r. from r c.args.tokens.now) _ _ _ _ _ c.in-Some.ensures c.push_operand.ensures
+    (λ r. tokens_in r.now) _ _ _ _ _ c.in-Some.ensures c.push_operand.ensures

@@ -1,4 +1,4 @@
-use Rattle.nll_mir_grammar.specs.Grammars.{from}
+use Rattle.nll_mir_grammar.specs.LineTokens.{tokens_in}
 use Rattle.nll_text.specs.Tokens.{sign}
 use Rattle.nll_mir_grammar.specs.Lines.{parameter_of}
 use Rattle.nll_mir_grammar.specs.Parts as parts
@@ -8,4 +8,4 @@ use Rattle.nll_mir_grammar.proofs.parameters.next_parameter.Goals as goal
 pub returns-in-Some : goal.returns-in-Some
 returns-in-Some c =
     put_behind parts.parameters (sign 44) parameter_of
-    (λ r. from r c.args.tokens.now) _ _ _ _ _ c.in-Some.ensures c.push_parameter.ensures
+    (λ r. tokens_in r.now) _ _ _ _ _ c.in-Some.ensures c.push_parameter.ensures

@@ -1,4 +1,4 @@
-use Rattle.nll_mir_grammar.specs.Grammars.{from}
+use Rattle.nll_mir_grammar.specs.LineTokens.{tokens_in}
 use Rattle.std.proofs.Common.{map}
 use Rattle.std.specs.Prelude.{Ok}
 use Rattle.nll_mir_grammar.specs.Parts as parts
@@ -16,5 +16,5 @@ returns c =
     let found = rw c.in-Some.is at c.in_ok-bounds.ensures in
     rw c.with.ensures
     (read_pair parts.bound_lists parts.exits bound_lists_one bounds_join _ _ c.in-Some.bounds
-    (λ v. map (λ w. (w.0.now, w.1.now)) v.items) (λ e. e) (λ r. from r c.args.tokens.now)
+    (λ v. map (λ w. (w.0.now, w.1.now)) v.items) (λ e. e) (λ r. tokens_in r.now)
     (Ok c.exits_at.result) found c.exits_at.ensures)

@@ -1,7 +1,8 @@
 use Rattle.std.proofs.Common.{map}
 use Rattle.nll_types.specs.Operands.{operand_of}
-use Rattle.nll_type_grammar.specs.TypeTexts.{written}
-use Rattle.nll_mir_grammar.specs.Grammars.{from, parentheses}
+use Rattle.nll_mir_grammar.specs.TypeTexts.{written}
+use Rattle.nll_mir_grammar.specs.LineTokens.{tokens_in}
+use Rattle.nll_mir_grammar.specs.Grammars.{parentheses}
 use Rattle.nll_mir_grammar.specs.Parts as parts
 use Rattle.nll_mir_grammar.proofs.GrammarLemmas.{pair_none, read_pair}
 use Rattle.nll_mir_grammar.proofs.PartLemmas.{types_one}
@@ -17,4 +18,4 @@ returns c =
     let found = rw c.in-Some.is at c.in_ok-ty.ensures in
     rw c.with.ensures
     (read_pair parts.types (parentheses parts.operands) types_one makes_join _ _ c.in-Some.ty written
-    (λ v. map operand_of v.items) (λ r. from r c.args.tokens.now) _ found c.operands_in.ensures)
+    (λ v. map operand_of v.items) (λ r. tokens_in r.now) _ found c.operands_in.ensures)

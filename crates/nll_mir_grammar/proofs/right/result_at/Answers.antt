@@ -1,6 +1,7 @@
 use Rattle.std.proofs.Common.{map}
-use Rattle.nll_type_grammar.specs.TypeTexts.{written}
-use Rattle.nll_mir_grammar.specs.Grammars.{from, pair}
+use Rattle.nll_mir_grammar.specs.TypeTexts.{written}
+use Rattle.nll_mir_grammar.specs.LineTokens.{tokens_in}
+use Rattle.nll_mir_grammar.specs.Grammars.{pair}
 use Rattle.nll_mir_grammar.specs.Parts as parts
 use Rattle.nll_mir_grammar.proofs.GrammarLemmas.{pair_none, read_pair}
 use Rattle.nll_mir_grammar.proofs.PartLemmas.{types_one}
@@ -17,4 +18,4 @@ returns c =
     rw c.with.ensures
     (read_pair parts.types (pair parts.bound_lists parts.exits) types_one results_join _ _ c.in-Some.ty written
     (λ e. (map (λ w. (w.0.now, w.1.now)) e.0.items, e.1))
-    (λ r. from r c.args.tokens.now) _ found c.call_end_at.ensures)
+    (λ r. tokens_in r.now) _ found c.call_end_at.ensures)

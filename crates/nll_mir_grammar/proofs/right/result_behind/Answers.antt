@@ -1,4 +1,4 @@
-use Rattle.nll_mir_grammar.specs.Grammars.{from}
+use Rattle.nll_mir_grammar.specs.LineTokens.{tokens_in}
 use Rattle.nll_text.specs.Tokens.{sign}
 use Rattle.nll_mir_grammar.specs.Kinds.{results}
 use Rattle.nll_mir_grammar.specs.Lines.{result_of}
@@ -8,4 +8,4 @@ use Rattle.nll_mir_grammar.proofs.right.result_behind.Goals as goal
 pub returns-in-Some : goal.returns-in-Some
 returns-in-Some c =
     read_behind results (sign 58) _ _ (λ p. result_of p.0)
-    (λ p. from p.1 c.args.tokens.now) _ c.in-Some.ensures c.result_at.ensures
+    (λ p. tokens_in p.1.now) _ c.in-Some.ensures c.result_at.ensures

@@ -1,6 +1,7 @@
 use Rattle.std.proofs.Common.{map}
 use Rattle.nll_text.specs.Tokens.{sign}
-use Rattle.nll_mir_grammar.specs.Grammars.{behind, from, parentheses}
+use Rattle.nll_mir_grammar.specs.LineTokens.{tokens_in}
+use Rattle.nll_mir_grammar.specs.Grammars.{behind, parentheses}
 use Rattle.nll_mir_grammar.specs.Lines.{argument_of, result_of}
 use Rattle.nll_mir_grammar.specs.Parts as parts
 use Rattle.nll_mir_grammar.specs.Kinds.{results}
@@ -20,4 +21,4 @@ returns c =
     rw c.with.ensures
     (read_pair (parentheses parts.arguments) (behind (sign 58) results)
     (parentheses_one parts.arguments arguments_listable) signatures_join _ _ c.in-Some.arguments
-    (λ v. map argument_of v.items) result_of (λ r. from r c.args.tokens.now) _ found c.result_behind.ensures)
+    (λ v. map argument_of v.items) result_of (λ r. tokens_in r.now) _ found c.result_behind.ensures)

@@ -1,7 +1,7 @@
 use Rattle.std.proofs.Common.{sym, ◌∙◌, arith}
 use Rattle.std.specs.Prelude.{not}
-use Rattle.nll_type_grammar.specs.Functions.{has_function}
-use Rattle.nll_type_grammar.specs.TypeTexts.{written}
+use Rattle.nll_mir_grammar.specs.Functions.{has_function}
+use Rattle.nll_mir_grammar.specs.TypeTexts.{written}
 use Rattle.nll_mir_grammar.proofs.VersionLemmas.{all_more, not_all, all_passed}
 use Rattle.nll_mir_grammar.proofs.version.are_first_arguments.Goals as goal
 

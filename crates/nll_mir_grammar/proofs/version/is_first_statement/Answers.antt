@@ -1,9 +1,9 @@
 use Rattle.std.proofs.Common.{◌++◌, [], ◌∷◌, sym, ap, map, ◌∙◌}
 use Rattle.std.specs.Prelude.{not, ◌&&◌}
 use Rattle.std.specs.List.{list_all}
-use Rattle.nll_type_grammar.specs.Functions.{has_function}
-use Rattle.nll_type_grammar.specs.WrittenTypes.{WrittenType}
-use Rattle.nll_type_grammar.specs.TypeTexts.{written}
+use Rattle.nll_mir_grammar.specs.Functions.{has_function}
+use Rattle.nll_mir_grammar.specs.WrittenTypes.{WrittenType}
+use Rattle.nll_mir_grammar.specs.TypeTexts.{written}
 use Rattle.nll_mir_grammar.proofs.VersionLemmas.{and_true, all_push, call_types}
 use Rattle.nll_mir_grammar.proofs.version.is_first_statement.Goals as goal
 

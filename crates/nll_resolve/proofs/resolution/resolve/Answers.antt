@@ -1,5 +1,5 @@
 use Rattle.std.proofs.Common.{ap}
-use Rattle.nll_type_grammar.specs.TypeTexts.{written}
+use Rattle.nll_mir_grammar.specs.TypeTexts.{written}
 use Rattle.nll_resolve.specs.Naming.{meant}
 use Rattle.nll_resolve.specs.Resolution.{scope_of}
 use Rattle.nll_resolve.specs.Resolving.{State, state_of}

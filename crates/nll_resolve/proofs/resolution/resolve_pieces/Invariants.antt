@@ -1,5 +1,5 @@
 use Rattle.std.proofs.Common.{◌≡◌, map, drop}
-use Rattle.nll_type_grammar.specs.TypeTexts.{plain}
+use Rattle.nll_mir_grammar.specs.TypeTexts.{plain}
 use Rattle.nll_resolve.specs.Resolution.{scope_of}
 use Rattle.nll_resolve.specs.Resolving.{run, state_of}
 use Rattle.nll_resolve.proofs.resolution.resolve_pieces.Given as goal

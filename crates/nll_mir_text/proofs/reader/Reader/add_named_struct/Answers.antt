@@ -1,5 +1,5 @@
 use Rattle.std.proofs.Common.{◌∙◌, inr, map, refl, sym, ap}
-use Rattle.nll_type_grammar.specs.TypeTexts.{written}
+use Rattle.nll_mir_grammar.specs.TypeTexts.{written}
 use Rattle.nll_resolve.specs.Naming.{is_known}
 use Rattle.nll_mir_grammar.specs.Lines.{parameter_of}
 use Rattle.nll_mir_grammar.specs.Tuples.{parts}

@@ -1,6 +1,6 @@
 use Rattle.std.proofs.Common.{inr}
 use Rattle.std.proofs.lemmas.Result.{on_ok_weaker, IfErr-weaker}
-use Rattle.nll_type_grammar.specs.TypeTexts.{written}
+use Rattle.nll_mir_grammar.specs.TypeTexts.{written}
 use Rattle.nll_mir_text.specs.MirReading.{said_by}
 use Rattle.nll_mir_text.proofs.VariableLemmas.{type_unknown}
 use Rattle.nll_mir_text.proofs.reader.Reader.add_variable.Goals as goal

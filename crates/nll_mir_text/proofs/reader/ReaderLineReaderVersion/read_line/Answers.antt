@@ -1,59 +1,48 @@
-use Rattle.std.proofs.Common.{ap, refl, inl, inr, ⊎_elim}
+use Rattle.std.proofs.Common.{refl, inl, inr, ⊎_elim}
 use Rattle.std.proofs.lemmas.Result.{on_ok_weaker, IfErr-weaker}
-use Rattle.nll_text.specs.Tokens.{views}
-use Rattle.nll_format.specs.Text.{skipped, of_form, not_utf8, no_form, at_form}
+use Rattle.nll_format.specs.Text.{of_form, at_form}
 use Rattle.nll_format.specs.Reading.{skips, reads}
-use Rattle.nll_mir_text.proofs.FormLemmas.{texts_in, few_parameters_in}
-use Rattle.nll_mir_text.proofs.TextLemmas.{takes_in, turns_down, no_form_from, form_from, no_form_within}
+use Rattle.nll_format.proofs.ListingLemmas.{passes, formless}
+use Rattle.nll_mir_text.specs.MirText.{mir}
+use Rattle.nll_mir_text.proofs.FormLemmas.{form_utf8, form_kept, texts_in, few_parameters_in}
+use Rattle.nll_mir_text.proofs.TextLemmas.{takes_in, turns_down}
 use Rattle.nll_mir_text.proofs.reader.ReaderLineReaderVersion.read_line.Goals as goal
 
-pub returns-in-Ok-Skipped-clause-taken : goal.returns-in-Ok-Skipped-clause-taken
-returns-in-Ok-Skipped-clause-taken c = let h = rw c.in-Ok-Skipped.field-0-is at c.in-Ok-Skipped.ensures.ok in
-    takes_in c.args.version.now _ _ _ (skips (skipped h.utf8 h.skipped) refl)
-
-pub returns-in-Err-NotUtf8-clause-refused : goal.returns-in-Err-NotUtf8-clause-refused
-returns-in-Err-NotUtf8-clause-refused c =
-    turns_down c.args.version.now _ _ _
-    (inr (not_utf8 (rw c.in-Err-NotUtf8.field-0-is at c.in-Err-NotUtf8.ensures.err)))
-
-pub returns-in-Err-NoTokens-clause-refused : goal.returns-in-Err-NoTokens-clause-refused
-returns-in-Err-NoTokens-clause-refused c =
-    let h = rw c.in-Err-NoTokens.field-0-is at c.in-Err-NoTokens.ensures.err in
-    turns_down c.args.version.now _ _ _ (inr (no_form h.utf8 h.kept (λ f k. no_form_within _ h.none f k.0)))
-
-pub returns-in_default-clause-refused : goal.returns-in_default-clause-refused
-returns-in_default-clause-refused c =
-    let h = rw c.in-Ok-Tokens.field-0-is at c.in-Ok-Tokens.ensures.ok in
-    turns_down c.args.version.now _ _ _
-    (inr (no_form h.utf8 h.kept (no_form_from _ _ _ _ (ap views c.as_slice.ensures.value) h
-    (rw c.in_default.is at c.in_ok-found.ensures))))
-
 pub take-requires-clause-texts : goal.take-requires-clause-texts
-take-requires-clause-texts c =
-    let h = rw c.in-Ok-Tokens.field-0-is at c.in-Ok-Tokens.ensures.ok in
-    texts_in _ _ (form_from _ _ _ _ (ap views c.as_slice.ensures.value) h _
-    (rw c.in-Some.is at c.in_ok-found.ensures)).0
+take-requires-clause-texts c = let form = rw c.in-Some.is at c.in_ok-form.ensures in texts_in _ _ form.0
 
 pub take-requires-clause-few : goal.take-requires-clause-few
 take-requires-clause-few c =
-    let h = rw c.in-Ok-Tokens.field-0-is at c.in-Ok-Tokens.ensures.ok in
-    few_parameters_in _ _ c.requires.short
-    (form_from _ _ _ _ (ap views c.as_slice.ensures.value) h _ (rw c.in-Some.is at c.in_ok-found.ensures)).0
+    let form = rw c.in-Some.is at c.in_ok-form.ensures in few_parameters_in _ _ c.requires.short form.0
 
-pub returns-clause-ready : goal.returns-clause-ready
-returns-clause-ready c = on_ok_weaker c.take.result (λ told. told.ready) c.take.ensures.taken
+pub returns-in-Some-clause-ready : goal.returns-in-Some-clause-ready
+returns-in-Some-clause-ready c = on_ok_weaker c.take.result (λ told. told.ready) c.take.ensures.taken
 
-pub returns-clause-taken : goal.returns-clause-taken
-returns-clause-taken c =
-    let h = rw c.in-Ok-Tokens.field-0-is at c.in-Ok-Tokens.ensures.ok in
-    let form = form_from _ _ _ _ (ap views c.as_slice.ensures.value) h _ (rw c.in-Some.is at c.in_ok-found.ensures) in
+pub returns-in-Some-clause-taken : goal.returns-in-Some-clause-taken
+returns-in-Some-clause-taken c =
+    let form = rw c.in-Some.is at c.in_ok-form.ensures in
     on_ok_weaker c.take.result
-    (λ told. takes_in c.args.version.now _ _ _ (reads _ (of_form _ h.utf8 h.kept form told.fine) told.says))
+    (λ told. takes_in c.args.version.now _ _ _
+    (reads _ (of_form _ (form_utf8 _ _ form.0) (form_kept _ _ form.0) form told.fine) told.says))
     c.take.ensures.taken
 
-pub returns-clause-refused : goal.returns-clause-refused
-returns-clause-refused c =
-    let h = rw c.in-Ok-Tokens.field-0-is at c.in-Ok-Tokens.ensures.ok in
-    let form = form_from _ _ _ _ (ap views c.as_slice.ensures.value) h _ (rw c.in-Some.is at c.in_ok-found.ensures) in
+pub returns-in-Some-clause-refused : goal.returns-in-Some-clause-refused
+returns-in-Some-clause-refused c =
+    let form = rw c.in-Some.is at c.in_ok-form.ensures in
     IfErr-weaker c.take.result _ _ (λ kind refused. turns_down c.args.version.now _ _ kind
-    (⊎_elim inl (λ fault. inr (at_form _ _ h.utf8 h.kept form fault)) refused)) c.take.ensures.refused
+    (⊎_elim inl (λ fault. inr (at_form _ _ (form_utf8 _ _ form.0) (form_kept _ _ form.0) form fault)) refused))
+    c.take.ensures.refused
+
+pub returns-in-None-clause-taken : goal.returns-in-None-clause-taken
+returns-in-None-clause-taken c =
+    let format = mir c.args.version.now in
+    on_ok_weaker c.pass_over.result
+    (λ h. takes_in c.args.version.now _ _ _ (skips (passes format _ _ h) refl)) c.pass_over.ensures.ok
+
+pub returns-in-None-clause-refused : goal.returns-in-None-clause-refused
+returns-in-None-clause-refused c =
+    let format = mir c.args.version.now in
+    let none = rw c.in-None.is at c.in_ok-form.ensures in
+    IfErr-weaker c.pass_over.result _ _
+    (λ kind wrong. turns_down c.args.version.now _ _ kind (inr (formless format _ _ kind none wrong)))
+    c.pass_over.ensures.fault

@@ -1,0 +1,617 @@
+-- Steps that the code takes: tokens, pieces and frames together.
+use Rattle.std.proofs.Common.{◌≡◌, ℕ, ◌+◌, ◌-◌, ◌*◌, ◌<◌, ◌≤◌, List, [], ◌∷◌, ◌++◌, map, length, take, refl, sym, ap, ◌∙◌, subst, append_assoc, arith, get_or, true, false, Bool, ⊎_elim}
+use Rattle.std.specs.Prelude.{reverse, Option, Some, None, MatchOption, is_some, ◌⊎◌, ◌==◌}
+use Rattle.std.specs.Borrow.{Bor}
+use Rattle.std.proofs.lemmas.Bool.{eqb-true, false≢true}
+use Rattle.std.proofs.lemmas.List.{append-nil, length-append, map-append, nil_from_length, reverse-append, take_more}
+use Rattle.std.proofs.Math.Seq.{take-length}
+use Rattle.nll_text.specs.Tokens.{Token, region, arrow, sign}
+use Rattle.nll_mir_grammar.specs.WrittenTypes.{Name, WrittenType, WrittenTypes, Arguments, int, reference, tuple, named, function, none, more, no_argument, region_argument, type_argument}
+use Rattle.nll_mir_grammar.specs.Reading.{HasNoType, IsTypeIn}
+use Rattle.nll_mir_grammar.specs.Grammars.{Begins as Starts, HasNone, IsNotNext}
+use Rattle.nll_mir_grammar.specs.Parts.{regions}
+use Rattle.nll_mir_grammar.specs.TypeTexts.{Piece, plain, steps, part_steps, argument_steps, add_region, add_type, make_reference, make_tuple, make_named, make_function, begin_row, joined_arguments, written, IsType}
+use Rattle.nll_mir_grammar.specs.OpenTypes.{Frame, behind, parts, arguments, inputs, output, joined, Steps, IsStuck, begun, complete, IsOpen, AreOpen, AreRead, ComesTo, GoesFurther, pending, Begins, IsBegun, IsCompleted, IsClosed, EndsWith, takes_region}
+use Rattle.nll_mir_grammar.specs.declared.opens.State.{State}
+use Rattle.nll_mir_grammar.specs.declared.opens.State.TheVariants.{Want, WantArgument, Have, Inside, WantArrow}
+use Rattle.nll_mir_grammar.specs.declared.fronts.Front.{Front}
+use Rattle.nll_mir_grammar.specs.declared.fronts.Front.TheVariants as fronts
+use Rattle.nll_mir_grammar.specs.declared.opens.Open.{Open}
+use Rattle.nll_mir_grammar.specs.declared.opens.Open.TheVariants as opens
+use Rattle.nll_mir_grammar.specs.declared.type_text.TypePiece.{TypePiece}
+use Rattle.nll_mir_grammar.specs.declared.type_text.TypePiece.TheVariants as kept
+use Rattle.nll_mir_grammar.proofs.PieceLemmas.{part_steps_more, argument_steps_more, is_type, written_is}
+use Rattle.nll_mir_grammar.proofs.StepLemmas.{step_behind, step_output, step_input, step_comma_input, step_close_input, step_arrow, stuck_input, front_thunk, front_function, step_part, step_type_argument, step_region, step_no_region, stuck_region, step_comma_part, step_close_part, stuck_part, step_comma_argument, step_close_argument, stuck_argument, front_int, front_unit, front_tuple, front_reference, front_generic, front_name, none_before, type_here}
+
+-- ---- tokens that are left
+
+-- One token less is left behind a token.
+one_less : (t : Token) (ts rest : List Token) → ts ≡ t ∷ rest → length rest + 1 ≤ length ts
+one_less t ts rest e = (let l : length ts ≡ length (t ∷ rest) = ap length e in omega (arith, l))
+
+-- two less
+two_less : (t u : Token) (ts rest : List Token) → ts ≡ t ∷ u ∷ rest → length rest + 1 ≤ length ts
+two_less t u ts rest e =
+    let l = one_less t ts (u ∷ rest) e in
+    let k = one_less u (u ∷ rest) rest refl in
+    omega (arith, l, k)
+
+-- three less
+three_less : (t u v : Token) (ts rest : List Token) → ts ≡ t ∷ u ∷ v ∷ rest → length rest + 1 ≤ length ts
+three_less t u v ts rest e =
+    let l = one_less t ts (u ∷ v ∷ rest) e in
+    let k = two_less u v (u ∷ v ∷ rest) rest refl in
+    omega (arith, l, k)
+
+-- A beginning of a type takes a token at least.
+begins_less : (front : Front) (ts rest : List Token) → Begins front ts rest → length rest + 1 ≤ length ts
+begins_less fronts.Int ts rest b = one_less _ ts rest b
+begins_less fronts.Unit ts rest b = two_less _ _ ts rest b
+begins_less fronts.Tuple ts rest b = one_less _ ts rest b.0
+begins_less (fronts.Reference r true) ts rest b = three_less _ _ _ ts rest b
+begins_less (fronts.Reference r false) ts rest b = two_less _ _ ts rest b.0
+begins_less (fronts.Generic n) ts rest b = two_less _ _ ts rest b.1
+begins_less (fronts.Name n) ts rest b = one_less _ ts rest b.1
+begins_less fronts.Thunk ts rest b = three_less _ _ _ ts rest b
+begins_less fronts.Function ts rest b = two_less _ _ ts rest b.0
+
+-- ---- pieces and what is open, one thing more or less
+
+-- one thing more is open, and one less
+opened_more : (os os' : List Open) (o : Open) (f : Frame) (frames : List Frame) → os' ≡ os ++ o ∷ []
+    → IsOpen o f → AreOpen (reverse os) frames → AreOpen (reverse os') (f ∷ frames)
+opened_more os os' o f frames e is r =
+    subst (λ (z : List Open). AreOpen z (f ∷ frames)) (sym (ap reverse e ∙ reverse-append os (o ∷ []))) (is, r)
+
+opened_less : (os outer : List Open) (o : Open) (frames : List Frame) → os ≡ outer ++ o ∷ []
+    → AreOpen (reverse os) frames → AreOpen (o ∷ reverse outer) frames
+opened_less os outer o frames e r =
+    subst (λ (z : List Open). AreOpen z frames) (ap reverse e ∙ reverse-append outer (o ∷ [])) r
+
+-- what is open, counted
+length_more : (os os' : List Open) (o : Open) → os' ≡ os ++ o ∷ [] → length os' ≡ length os + 1
+length_more os os' o e = ap length e ∙ length-append os (o ∷ [])
+
+-- a row has one type more
+row_more : (front row row' : List Piece) (t : WrittenType) → row' ≡ row ++ (steps t ++ add_type ∷ [])
+    → ((front ++ begin_row ∷ row) ++ steps t) ++ add_type ∷ [] ≡ (front ++ begin_row ∷ row') ++ []
+row_more front row row' t e =
+    append_assoc (front ++ begin_row ∷ row) (steps t) (add_type ∷ [])
+    ∙ append_assoc front (begin_row ∷ row) (steps t ++ add_type ∷ [])
+    ∙ ap (λ (ps : List Piece). front ++ begin_row ∷ ps) (sym e) ∙ sym (append-nil (front ++ begin_row ∷ row'))
+
+-- The code came to other frames and to another type: it put pieces behind the others, and the same
+-- types come out.
+comes_so : (s s' : State) (frames frames' : List Frame) (t t' : WrittenType) (ts ts' : List Token)
+    (ps ps' row : List TypePiece) (os os' : List Open) → AreRead s frames t ps os → ps' ≡ ps ++ row
+    → (begun frames ++ complete s t) ++ map plain row ≡ begun frames' ++ complete s' t'
+    → AreOpen (reverse os') frames' → Steps s frames t ts s' frames' t' ts' → ComesTo s frames t ts s' ps' os' ts'
+comes_so s s' frames frames' t t' ts ts' ps ps' row os os' r put made are step = record {
+  frames' = frames';
+  t' = t';
+  same = step;
+  read = record {
+    pieces = ap (map plain) put ∙ map-append plain ps row ∙ ap (λ (qs : List Piece). qs ++ map plain row) r.pieces
+        ∙ made;
+    are_open = are;
+  };
+}
+
+-- ---- the beginning of a type
+
+-- a type is complete
+begun_type : (front : Front) (frames : List Frame) (t u : WrittenType) (ps ps' row : List TypePiece) (os : List Open)
+    (s : State) → map plain row ≡ steps u
+    → ((ts rest : List Token) → Begins front ts rest → Steps Want frames t ts Have frames u rest)
+    → (s ≡ Have) × (ps' ≡ ps ++ row) → AreRead Want frames t ps os → IsBegun front frames t os s ps' os
+begun_type front frames t u ps ps' row os s made step h r =
+    subst (λ (z : State). IsBegun front frames t os z ps' os) (sym h.0) (record {
+      comes = λ ts rest b. comes_so Want Have frames frames t u ts rest ps ps' row os os r h.1
+          (append_assoc (begun frames) [] (map plain row) ∙ ap (λ (qs : List Piece). begun frames ++ qs) made)
+          r.are_open (step ts rest b);
+      few = omega arith;
+    })
+
+-- something is open
+begun_frame : (front : Front) (f : Frame) (frames : List Frame) (t : WrittenType) (ps ps' row : List TypePiece)
+    (os os' : List Open) (o : Open) (s s' : State) → IsOpen o f → begun (f ∷ frames) ≡ begun frames ++ map plain row
+    → complete s' t ≡ [] → pending s' ≤ 1
+    → ((ts rest : List Token) → Begins front ts rest → Steps Want frames t ts s' (f ∷ frames) t rest)
+    → (s ≡ s') × (ps' ≡ ps ++ row) × (os' ≡ os ++ o ∷ []) → AreRead Want frames t ps os
+    → IsBegun front frames t os s ps' os'
+begun_frame front f frames t ps ps' row os os' o s s' is made none_made few step h r =
+    let l = length_more os os' o h.2 in
+    subst (λ (z : State). IsBegun front frames t os z ps' os') (sym h.0) (record {
+      comes = λ ts rest b. comes_so Want s' frames (f ∷ frames) t t ts rest ps ps' row os os' r h.1
+          (append_assoc (begun frames) [] (map plain row) ∙ sym made
+          ∙ sym (ap (λ (qs : List Piece). begun (f ∷ frames) ++ qs) none_made ∙ append-nil (begun (f ∷ frames))))
+          (opened_more os os' o f frames h.2 is r.are_open) (step ts rest b);
+      few = omega arith;
+    })
+
+-- each beginning, in the order of `Front`, where those that complete a type come first
+
+pub begun_int : (front : Front) (ps ps' : List TypePiece) (os : List Open) (s : State) → front ≡ fronts.Int
+    → (s ≡ Have) × (ps' ≡ ps ++ kept.Int ∷ []) → (frames : List Frame) (t : WrittenType) → AreRead Want frames t ps os
+    → IsBegun front frames t os s ps' os
+begun_int front ps ps' os s is h frames t r =
+    begun_type front frames t int ps ps' (kept.Int ∷ []) os s refl
+    (λ ts rest b. front_int frames t ts rest (subst (λ z. Begins z ts rest) is b)) h r
+
+pub begun_unit : (front : Front) (ps ps' : List TypePiece) (os : List Open) (s : State) → front ≡ fronts.Unit
+    → (s ≡ Have) × (ps' ≡ ps ++ kept.Row ∷ kept.Tuple ∷ []) → (frames : List Frame) (t : WrittenType)
+    → AreRead Want frames t ps os → IsBegun front frames t os s ps' os
+begun_unit front ps ps' os s is h frames t r =
+    begun_type front frames t (tuple none) ps ps' (kept.Row ∷ kept.Tuple ∷ []) os s refl
+    (λ ts rest b. front_unit frames t ts rest (subst (λ z. Begins z ts rest) is b)) h r
+
+pub begun_name : (front : Front) (n : Bor (List ℕ)) (ps ps' : List TypePiece) (os : List Open) (s : State)
+    → front ≡ fronts.Name n → (s ≡ Have) × (ps' ≡ ps ++ kept.Row ∷ kept.Named n ∷ []) → (frames : List Frame)
+    (t : WrittenType) → AreRead Want frames t ps os → IsBegun front frames t os s ps' os
+begun_name front n ps ps' os s is h frames t r =
+    begun_type front frames t (named n.now no_argument) ps ps' (kept.Row ∷ kept.Named n ∷ []) os s refl
+    (λ ts rest b. front_name n frames t ts rest (subst (λ z. Begins z ts rest) is b)) h r
+
+pub begun_tuple : (front : Front) (ps ps' : List TypePiece) (os os' : List Open) (s : State) → front ≡ fronts.Tuple
+    → (s ≡ Want) × (ps' ≡ ps ++ kept.Row ∷ []) × (os' ≡ os ++ opens.Tuple ∷ []) → (frames : List Frame)
+    (t : WrittenType) → AreRead Want frames t ps os → IsBegun front frames t os s ps' os'
+begun_tuple front ps ps' os os' s is h frames t r =
+    begun_frame front (parts none) frames t ps ps' (kept.Row ∷ []) os os' opens.Tuple s Want (none, refl) refl refl
+    (omega arith) (λ ts rest b. front_tuple frames t t ts rest (subst (λ z. Begins z ts rest) is b)) h r
+
+pub begun_reference : (front : Front) (q : Bor (List ℕ)) (m : Bool) (ps : List TypePiece) (os os' : List Open)
+    (s : State) → front ≡ fronts.Reference q m → (s ≡ Want) × (os' ≡ os ++ opens.Behind m q ∷ [])
+    → (frames : List Frame) (t : WrittenType) → AreRead Want frames t ps os → IsBegun front frames t os s ps os'
+begun_reference front q m ps os os' s is h frames t r =
+    begun_frame front (behind q.now m) frames t ps ps [] os os' (opens.Behind m q) s Want refl
+    (sym (append-nil (begun frames))) refl (omega arith)
+    (λ ts rest b. front_reference q m frames t t ts rest (subst (λ z. Begins z ts rest) is b))
+    (h.0, sym (append-nil ps), h.1) r
+
+pub begun_generic : (front : Front) (n : Bor (List ℕ)) (ps ps' : List TypePiece) (os os' : List Open) (s : State)
+    → front ≡ fronts.Generic n
+    → (s ≡ WantArgument) × (ps' ≡ ps ++ kept.Row ∷ []) × (os' ≡ os ++ opens.Arguments n ∷ []) → (frames : List Frame)
+    (t : WrittenType) → AreRead Want frames t ps os → IsBegun front frames t os s ps' os'
+begun_generic front n ps ps' os os' s is h frames t r =
+    begun_frame front (arguments n.now no_argument) frames t ps ps' (kept.Row ∷ []) os os' (opens.Arguments n) s
+    WantArgument (no_argument, refl) refl refl (omega arith)
+    (λ ts rest b. front_generic n frames t t ts rest (subst (λ z. Begins z ts rest) is b)) h r
+
+pub begun_thunk : (front : Front) (ps ps' : List TypePiece) (os os' : List Open) (s : State) → front ≡ fronts.Thunk
+    → (s ≡ WantArrow) × (ps' ≡ ps ++ kept.Row ∷ []) × (os' ≡ os ++ opens.Output ∷ []) → (frames : List Frame)
+    (t : WrittenType) → AreRead Want frames t ps os → IsBegun front frames t os s ps' os'
+begun_thunk front ps ps' os os' s is h frames t r =
+    begun_frame front (output none) frames t ps ps' (kept.Row ∷ []) os os' opens.Output s WantArrow (none, refl) refl
+    refl (omega arith) (λ ts rest b. front_thunk frames t t ts rest (subst (λ z. Begins z ts rest) is b)) h r
+
+pub begun_function : (front : Front) (ps ps' : List TypePiece) (os os' : List Open) (s : State)
+    → front ≡ fronts.Function → (s ≡ Want) × (ps' ≡ ps ++ kept.Row ∷ []) × (os' ≡ os ++ opens.Inputs ∷ [])
+    → (frames : List Frame) (t : WrittenType) → AreRead Want frames t ps os → IsBegun front frames t os s ps' os'
+begun_function front ps ps' os os' s is h frames t r =
+    begun_frame front (inputs none) frames t ps ps' (kept.Row ∷ []) os os' opens.Inputs s Want (none, refl) refl refl
+    (omega arith) (λ ts rest b. front_function frames t t ts rest (subst (λ z. Begins z ts rest) is b)) h r
+
+-- the step of a beginning, with the tokens that it takes
+pub further_begin : (front : Front) (ts rest : List Token) (frames : List Frame) (t : WrittenType)
+    (os os' : List Open) (ps' : List TypePiece) (s' : State) → Begins front ts rest
+    → IsBegun front frames t os s' ps' os' → GoesFurther Want frames t os ts s' ps' os' rest
+further_begin front ts rest frames t os os' ps' s' b h =
+    let less = begins_less front ts rest b in
+    let few = h.few in
+    record { falls = omega (arith, less, few); comes = h.comes ts rest b }
+
+-- ---- what is innermost
+
+-- the last of what is open
+pub last_is : (xs os : List Open) (n : ℕ) (o p : Open) → xs ≡ os → n ≡ length os → 0 < length os
+    → get_or xs (n - 1) p ≡ o → os ≡ take (length os - 1) os ++ o ∷ []
+last_is xs os n o p e f some is =
+    let l : length os - 1 < length os = omega arith in
+    let k : (length os - 1) + 1 ≡ length os = omega arith in
+    let same : get_or os (length os - 1) p ≡ o =
+    sym (ap (λ (i : ℕ). get_or os (i - 1) p) f) ∙ sym (ap (λ (z : List Open). get_or z (n - 1) p) e) ∙ is in
+    sym (take-length os) ∙ ap (λ (i : ℕ). take i os) (sym k) ∙ take_more os (length os - 1) p l
+    ∙ ap (λ (z : Open). take (length os - 1) os ++ z ∷ []) same
+
+-- What is so wherever the innermost frame is what is open last is so of all frames that are what is open.
+by_frame : (os outer : List Open) (o : Open) (P : List Frame → Type 0) → os ≡ outer ++ o ∷ []
+    → ((f : Frame) (frames : List Frame) → IsOpen o f → AreOpen (reverse outer) frames → P (f ∷ frames))
+    → (frames : List Frame) → AreOpen (reverse os) frames → P frames
+by_frame os outer o P e each frames r = by frames (opened_less os outer o frames e r)
+  where
+    by : (frames : List Frame) → AreOpen (o ∷ reverse outer) frames → P frames
+    by [] h = absurd h
+    by (f ∷ frames) h = each f frames h.0 h.1
+
+-- ---- a complete type
+
+-- it is what a reference points to
+pub completed_behind : (ps ps' : List TypePiece) (os os' : List Open) (m : Bool) (q : Bor (List ℕ)) (s : State)
+    → os ≡ take (length os - 1) os ++ opens.Behind m q ∷ []
+    → (s ≡ Have) × (ps' ≡ ps ++ kept.Reference m q ∷ []) × (os' ≡ take (length os - 1) os) → (frames : List Frame)
+    (t : WrittenType) → AreRead Have frames t ps os → IsCompleted frames t os s ps' os'
+completed_behind ps ps' os os' m q s e h frames t r =
+    subst (λ (z : State). IsCompleted frames t os z ps' os') (sym h.0)
+    (by_frame os os' (opens.Behind m q) (λ fs. AreRead Have fs t ps os → IsCompleted fs t os Have ps' os') f
+    (λ g frames is are. subst (λ z. AreRead Have (z ∷ frames) t ps os → IsCompleted (z ∷ frames) t os Have ps' os')
+    (sym is) (λ r. record {
+      comes = λ ts. comes_so Have Have (behind q.now m ∷ frames) frames t (reference q.now m t) ts ts ps ps'
+          (kept.Reference m q ∷ []) os os' r h.1 (append_assoc (begun frames) (steps t) (make_reference m q.now ∷ []))
+          are (step_behind frames q.now m t ts);
+      few = (let l = length_more os' os (opens.Behind m q) f in omega arith);
+    })) frames r.are_open r)
+  where
+    f : os ≡ os' ++ opens.Behind m q ∷ []
+    f = e ∙ ap (λ (z : List Open). z ++ opens.Behind m q ∷ []) (sym h.2)
+
+-- it is the result of a function
+pub completed_output : (ps ps' : List TypePiece) (os os' : List Open) (s : State)
+    → os ≡ take (length os - 1) os ++ opens.Output ∷ []
+    → (s ≡ Have) × (ps' ≡ ps ++ kept.Function ∷ []) × (os' ≡ take (length os - 1) os) → (frames : List Frame)
+    (t : WrittenType) → AreRead Have frames t ps os → IsCompleted frames t os s ps' os'
+completed_output ps ps' os os' s e h frames t r =
+    subst (λ (z : State). IsCompleted frames t os z ps' os') (sym h.0)
+    (by_frame os os' opens.Output (λ fs. AreRead Have fs t ps os → IsCompleted fs t os Have ps' os') f
+    (λ g frames is are. subst (λ z. AreRead Have (z ∷ frames) t ps os → IsCompleted (z ∷ frames) t os Have ps' os')
+    (sym is.1) (λ r. record {
+      comes = λ ts. comes_so Have Have (output is.0 ∷ frames) frames t (function is.0 t) ts ts ps ps'
+          (kept.Function ∷ []) os os' r h.1
+          (ap (λ (qs : List Piece). qs ++ make_function ∷ [])
+          (append_assoc (begun frames) (begin_row ∷ part_steps is.0) (steps t))
+          ∙ append_assoc (begun frames) (begin_row ∷ (part_steps is.0 ++ steps t)) (make_function ∷ []))
+          are (step_output frames is.0 t ts);
+      few = (let l = length_more os' os opens.Output f in omega arith);
+    })) frames r.are_open r)
+  where
+    f : os ≡ os' ++ opens.Output ∷ []
+    f = e ∙ ap (λ (z : List Open). z ++ opens.Output ∷ []) (sym h.2)
+
+-- it goes to the end of the row of what is innermost
+more_in_row : (f g : Frame) (frames : List Frame) (t : WrittenType) (ps ps' : List TypePiece) (os outer : List Open)
+    (o : Open) → os ≡ outer ++ o ∷ [] → IsOpen o g → AreOpen (reverse outer) frames
+    → (begun (f ∷ frames) ++ steps t) ++ add_type ∷ [] ≡ begun (g ∷ frames) ++ []
+    → ((ts : List Token) → Steps Have (f ∷ frames) t ts Inside (g ∷ frames) t ts) → ps' ≡ ps ++ kept.Part ∷ []
+    → AreRead Have (f ∷ frames) t ps os → IsCompleted (f ∷ frames) t os Inside ps' os
+more_in_row f g frames t ps ps' os outer o e is are made step put r = record {
+  comes = λ ts. comes_so Have Inside (f ∷ frames) (g ∷ frames) t t ts ts ps ps' (kept.Part ∷ []) os os r put made
+      (opened_more outer os o g frames e is are) (step ts);
+  few = omega arith;
+}
+
+-- What has a row is a tuple, a name or a function.
+abbrev pub HasRow : Open → Type 0
+HasRow o = (o ≡ opens.Tuple) ⊎ (((n : Bor (List ℕ)) × (o ≡ opens.Arguments n)) ⊎ (o ≡ opens.Inputs))
+
+-- it is a part of a tuple, an argument of a name, or an argument of a function
+pub completed_part : (ps ps' : List TypePiece) (os : List Open) (o : Open) (s : State)
+    → os ≡ take (length os - 1) os ++ o ∷ [] → HasRow o → (s ≡ Inside) × (ps' ≡ ps ++ kept.Part ∷ [])
+    → (frames : List Frame) (t : WrittenType) → AreRead Have frames t ps os → IsCompleted frames t os s ps' os
+completed_part ps ps' os o s e row h frames t r =
+    subst (λ (z : State). IsCompleted frames t os z ps' os) (sym h.0)
+    (by_frame os (take (length os - 1) os) o Completes e
+    (λ g frames is are. ⊎_elim
+    (λ k. a_part g frames are k (subst (λ z. IsOpen z g) k is))
+    (⊎_elim (λ k. an_argument g frames are k.0 k.1 (subst (λ z. IsOpen z g) k.1 is))
+    (λ k. an_input g frames are k (subst (λ z. IsOpen z g) k is))) row) frames r.are_open r)
+  where
+    outer : List Open
+    outer = take (length os - 1) os
+
+    Completes : List Frame → Type 0
+    Completes fs = AreRead Have fs t ps os → IsCompleted fs t os Inside ps' os
+
+    a_part : (g : Frame) (frames : List Frame) → AreOpen (reverse outer) frames → o ≡ opens.Tuple
+        → (done : WrittenTypes) × (g ≡ parts done) → Completes (g ∷ frames)
+    a_part g frames are k is =
+        let done = joined is.0 (more t none) in
+        subst (λ z. Completes (z ∷ frames)) (sym is.1)
+        (more_in_row (parts is.0) (parts done) frames t ps ps' os outer o e
+        (subst (λ z. IsOpen z (parts done)) (sym k) (done, refl)) are
+        (row_more (begun frames) (part_steps is.0) (part_steps done) t (part_steps_more is.0 t))
+        (step_part frames is.0 t t) h.1)
+
+    an_argument : (g : Frame) (frames : List Frame) → AreOpen (reverse outer) frames → (n : Bor (List ℕ))
+        → o ≡ opens.Arguments n → (done : Arguments) × (g ≡ arguments n.now done) → Completes (g ∷ frames)
+    an_argument g frames are n k is =
+        let done = joined_arguments is.0 (type_argument t no_argument) in
+        subst (λ z. Completes (z ∷ frames)) (sym is.1)
+        (more_in_row (arguments n.now is.0) (arguments n.now done) frames t ps ps' os outer o e
+        (subst (λ z. IsOpen z (arguments n.now done)) (sym k) (done, refl)) are
+        (row_more (begun frames) (argument_steps is.0) (argument_steps done) t
+        (argument_steps_more is.0 (type_argument t no_argument)))
+        (step_type_argument frames n.now is.0 t t) h.1)
+
+    an_input : (g : Frame) (frames : List Frame) → AreOpen (reverse outer) frames → o ≡ opens.Inputs
+        → (done : WrittenTypes) × (g ≡ inputs done) → Completes (g ∷ frames)
+    an_input g frames are k is =
+        let done = joined is.0 (more t none) in
+        subst (λ z. Completes (z ∷ frames)) (sym is.1)
+        (more_in_row (inputs is.0) (inputs done) frames t ps ps' os outer o e
+        (subst (λ z. IsOpen z (inputs done)) (sym k) (done, refl)) are
+        (row_more (begun frames) (part_steps is.0) (part_steps done) t (part_steps_more is.0 t))
+        (step_input frames is.0 t t) h.1)
+
+-- ---- the end of a row
+
+-- a row ends, and its type is complete
+row_ends : (front row : List Piece) (last : Piece)
+    → ((front ++ begin_row ∷ row) ++ []) ++ last ∷ [] ≡ front ++ begin_row ∷ (row ++ last ∷ [])
+row_ends front row last =
+    append_assoc (front ++ begin_row ∷ row) [] (last ∷ []) ∙ append_assoc front (begin_row ∷ row) (last ∷ [])
+
+-- a tuple is complete
+pub closed_tuple : (ps ps' : List TypePiece) (os os' : List Open) (s : State)
+    → os ≡ take (length os - 1) os ++ opens.Tuple ∷ []
+    → (s ≡ Have) × (ps' ≡ ps ++ kept.Tuple ∷ []) × (os' ≡ take (length os - 1) os) → (frames : List Frame)
+    (t : WrittenType) (c : ℕ) (next : State) → AreRead Inside frames t ps os → EndsWith frames c next
+    → IsClosed frames t c os s ps' os'
+closed_tuple ps ps' os os' s e h frames t c next r ends =
+    subst (λ (z : State). IsClosed frames t c os z ps' os') (sym h.0)
+    (by_frame os os' opens.Tuple Closed f
+    (λ g frames is are. subst (λ z. Closed (z ∷ frames)) (sym is.1) (λ r ends. record {
+      comes = λ ts. subst (λ z. ComesTo Inside (parts is.0 ∷ frames) t (sign z ∷ ts) Have ps' os' ts) (sym ends.0)
+          (comes_so Inside Have (parts is.0 ∷ frames) frames t (tuple is.0) (sign 41 ∷ ts) ts ps ps'
+          (kept.Tuple ∷ []) os os' r h.1 (row_ends (begun frames) (part_steps is.0) make_tuple) are
+          (step_close_part frames is.0 t ts));
+      few = (let l = length_more os' os opens.Tuple f in omega arith);
+    })) frames r.are_open r ends)
+  where
+    f : os ≡ os' ++ opens.Tuple ∷ []
+    f = e ∙ ap (λ (z : List Open). z ++ opens.Tuple ∷ []) (sym h.2)
+
+    Closed : List Frame → Type 0
+    Closed fs = AreRead Inside fs t ps os → EndsWith fs c next → IsClosed fs t c os Have ps' os'
+
+-- a name with its arguments is complete
+pub closed_name : (n : Bor (List ℕ)) (ps ps' : List TypePiece) (os os' : List Open) (s : State)
+    → os ≡ take (length os - 1) os ++ opens.Arguments n ∷ []
+    → (s ≡ Have) × (ps' ≡ ps ++ kept.Named n ∷ []) × (os' ≡ take (length os - 1) os) → (frames : List Frame)
+    (t : WrittenType) (c : ℕ) (next : State) → AreRead Inside frames t ps os → EndsWith frames c next
+    → IsClosed frames t c os s ps' os'
+closed_name n ps ps' os os' s e h frames t c next r ends =
+    subst (λ (z : State). IsClosed frames t c os z ps' os') (sym h.0)
+    (by_frame os os' (opens.Arguments n) Closed f
+    (λ g frames is are. subst (λ z. Closed (z ∷ frames)) (sym is.1) (λ r ends. record {
+      comes = λ ts. subst (λ z. ComesTo Inside (arguments n.now is.0 ∷ frames) t (sign z ∷ ts) Have ps' os' ts)
+          (sym ends.0)
+          (comes_so Inside Have (arguments n.now is.0 ∷ frames) frames t (named n.now is.0) (sign 62 ∷ ts) ts ps ps'
+          (kept.Named n ∷ []) os os' r h.1 (row_ends (begun frames) (argument_steps is.0) (make_named n.now)) are
+          (step_close_argument frames n.now is.0 t ts));
+      few = (let l = length_more os' os (opens.Arguments n) f in omega arith);
+    })) frames r.are_open r ends)
+  where
+    f : os ≡ os' ++ opens.Arguments n ∷ []
+    f = e ∙ ap (λ (z : List Open). z ++ opens.Arguments n ∷ []) (sym h.2)
+
+    Closed : List Frame → Type 0
+    Closed fs = AreRead Inside fs t ps os → EndsWith fs c next → IsClosed fs t c os Have ps' os'
+
+-- What is no type when its row ends: a function, whose result comes next. A reference and a function's result
+-- have no row.
+abbrev pub IsNoType : Open → Type 0
+IsNoType o = ((m : Bool) × (q : Bor (List ℕ)) × (o ≡ opens.Behind m q)) ⊎ ((o ≡ opens.Inputs) ⊎ (o ≡ opens.Output))
+
+-- the arguments of a function are complete
+pub closed_inputs : (ps : List TypePiece) (os os' : List Open) (o : Open) (s : State)
+    → os ≡ take (length os - 1) os ++ o ∷ [] → IsNoType o
+    → (s ≡ WantArrow) × (os' ≡ take (length os - 1) os ++ opens.Output ∷ []) → (frames : List Frame)
+    (t : WrittenType) (c : ℕ) (next : State) → AreRead Inside frames t ps os → EndsWith frames c next
+    → IsClosed frames t c os s ps os'
+closed_inputs ps os os' o s e which h frames t c next r ends =
+    subst (λ (z : State). IsClosed frames t c os z ps os') (sym h.0)
+    (by_frame os outer o Closed e
+    (λ g frames is are. ⊎_elim
+    (λ k. subst (λ z. Closed (z ∷ frames)) (sym (subst (λ z. IsOpen z g) k.2 is)) (λ r ends. absurd ends))
+    (⊎_elim (λ k. awaited g frames are (subst (λ z. IsOpen z g) k is))
+    (λ k. let out : (done : WrittenTypes) × (g ≡ output done) = subst (λ z. IsOpen z g) k is in
+    subst (λ z. Closed (z ∷ frames)) (sym out.1) (λ r ends. absurd ends))) which)
+    frames r.are_open r ends)
+  where
+    outer : List Open
+    outer = take (length os - 1) os
+
+    Closed : List Frame → Type 0
+    Closed fs = AreRead Inside fs t ps os → EndsWith fs c next → IsClosed fs t c os WantArrow ps os'
+
+    awaited : (g : Frame) (frames : List Frame) → AreOpen (reverse outer) frames
+        → (done : WrittenTypes) × (g ≡ inputs done) → Closed (g ∷ frames)
+    awaited g frames are is = subst (λ z. Closed (z ∷ frames)) (sym is.1) (λ r ends. record {
+      comes = λ ts. subst (λ z. ComesTo Inside (inputs is.0 ∷ frames) t (sign z ∷ ts) WantArrow ps os' ts)
+          (sym ends.0)
+          (comes_so Inside WantArrow (inputs is.0 ∷ frames) (output is.0 ∷ frames) t t (sign 41 ∷ ts) ts ps ps
+          [] os os' r (sym (append-nil ps)) (append-nil (begun (inputs is.0 ∷ frames) ++ []))
+          (opened_more outer os' opens.Output (output is.0) frames h.1 (is.0, refl) are)
+          (step_close_input frames is.0 t t ts));
+      few = (let l = length_more outer os o e in let k = length_more outer os' opens.Output h.1 in omega arith);
+    })
+
+-- the closing sign comes
+pub further_end : (ts rest : List Token) (frames : List Frame) (t : WrittenType) (c : ℕ) (ps' : List TypePiece)
+    (os os' : List Open) (s' : State) → ts ≡ sign c ∷ rest
+    → IsClosed frames t c os s' ps' os' → GoesFurther Inside frames t os ts s' ps' os' rest
+further_end ts rest frames t c ps' os os' s' is h =
+    let less = one_less (sign c) ts rest is in
+    let few = h.few in
+    record {
+      falls = omega (arith, less, few);
+      comes = subst (λ z. ComesTo Inside frames t z s' ps' os' rest) (sym is) (h.comes rest);
+    }
+
+-- ---- steps that change neither the pieces nor what is open
+
+-- a comma comes, or `->`, or no region
+unchanged : (ts rest : List Token) (s s' : State) (frames : List Frame) (t : WrittenType) (ps : List TypePiece)
+    (os : List Open) → pending s' + 4 * length rest < pending s + 4 * length ts
+    → complete s t ≡ [] → complete s' t ≡ []
+    → Steps s frames t ts s' frames t rest → AreRead s frames t ps os
+    → GoesFurther s frames t os ts s' ps os rest
+unchanged ts rest s s' frames t ps os falls e f step r = record {
+  falls = omega (arith, falls);
+  comes = comes_so s s' frames frames t t ts rest ps ps [] os os r
+      (sym (append-nil ps)) (append-nil (begun frames ++ complete s t)
+      ∙ ap (λ (qs : List Piece). begun frames ++ qs) (e ∙ sym f)) r.are_open step;
+}
+
+-- behind a comma comes the next thing of the row
+comma_so : (ts rest : List Token) (s' next : State) (frames : List Frame) (t : WrittenType) (ps : List TypePiece)
+    (os : List Open) → ts ≡ sign 44 ∷ rest → pending next ≤ 1 → complete next t ≡ []
+    → Steps Inside frames t (sign 44 ∷ rest) next frames t rest
+    → s' ≡ next → AreRead Inside frames t ps os → GoesFurther Inside frames t os ts s' ps os rest
+comma_so ts rest s' next frames t ps os is few f step state r =
+    let less = one_less (sign 44) ts rest is in
+    subst (λ z. GoesFurther Inside frames t os ts z ps os rest) (sym state)
+    (unchanged ts rest Inside next frames t ps os (omega (arith, less, few)) refl f
+    (subst (λ z. Steps Inside frames t z next frames t rest) (sym is) step) r)
+
+pub further_comma : (ts rest : List Token) (frames : List Frame) (t : WrittenType) (c : ℕ) (s' : State)
+    (ps : List TypePiece) (os : List Open) → EndsWith frames c s' → ts ≡ sign 44 ∷ rest
+    → AreRead Inside frames t ps os → GoesFurther Inside frames t os ts s' ps os rest
+further_comma ts rest [] t c s' ps os ends is r = absurd ends
+further_comma ts rest (behind _ _ ∷ frames) t c s' ps os ends is r = absurd ends
+further_comma ts rest (parts done ∷ frames) t c s' ps os ends is r =
+    comma_so ts rest s' Want (parts done ∷ frames) t ps os is (omega arith) refl
+    (step_comma_part frames done t t rest) ends.1 r
+further_comma ts rest (arguments n done ∷ frames) t c s' ps os ends is r =
+    comma_so ts rest s' WantArgument (arguments n done ∷ frames) t ps os is (omega arith) refl
+    (step_comma_argument frames n done t t rest) ends.1 r
+further_comma ts rest (inputs done ∷ frames) t c s' ps os ends is r =
+    comma_so ts rest s' Want (inputs done ∷ frames) t ps os is (omega arith) refl
+    (step_comma_input frames done t t rest) ends.1 r
+further_comma ts rest (output _ ∷ frames) t c s' ps os ends is r = absurd ends
+
+-- neither a comma nor the closing sign
+pub stuck_inside : (ts : List Token) (frames : List Frame) (t : WrittenType) (c : ℕ) (s : State)
+    → EndsWith frames c s → ((rest : List Token) → ts ≡ sign 44 ∷ rest → ⊥)
+    → ((rest : List Token) → ts ≡ sign c ∷ rest → ⊥) → IsStuck Inside frames t ts
+stuck_inside ts [] t c s ends comma close = absurd ends
+stuck_inside ts (behind _ _ ∷ frames) t c s ends comma close = absurd ends
+stuck_inside ts (parts done ∷ frames) t c s ends comma close =
+    stuck_part frames done t ts comma (subst (λ (z : ℕ). (rest : List Token) → ts ≡ sign z ∷ rest → ⊥) ends.0 close)
+stuck_inside ts (arguments n done ∷ frames) t c s ends comma close =
+    stuck_argument frames n done t ts comma
+    (subst (λ (z : ℕ). (rest : List Token) → ts ≡ sign z ∷ rest → ⊥) ends.0 close)
+stuck_inside ts (inputs done ∷ frames) t c s ends comma close =
+    stuck_input frames done t ts comma (subst (λ (z : ℕ). (rest : List Token) → ts ≡ sign z ∷ rest → ⊥) ends.0 close)
+stuck_inside ts (output _ ∷ frames) t c s ends comma close = absurd ends
+
+-- `->` comes, or it doesn't
+pub further_arrow : {R : Type 0} (told : Option (State × R)) (after : R → List Token) (ts : List Token)
+    (frames : List Frame) (t : WrittenType) (ps : List TypePiece) (os : List Open)
+    → MatchOption told ((frames : List Frame) (t : WrittenType) → IsStuck WantArrow frames t ts)
+    (λ p. (p.0 ≡ Want) × (ts ≡ arrow ∷ after p.1)) → AreRead WantArrow frames t ps os
+    → MatchOption told (IsStuck WantArrow frames t ts)
+    (λ p. GoesFurther WantArrow frames t os ts p.0 ps os (after p.1))
+further_arrow None after ts frames t ps os m r = m frames t
+further_arrow (Some p) after ts frames t ps os m r =
+    let less = one_less arrow ts (after p.1) m.1 in
+    subst (λ (z : State). GoesFurther WantArrow frames t os ts z ps os (after p.1)) (sym m.0)
+    (unchanged ts (after p.1) WantArrow Want frames t ps os (omega (arith, less)) refl refl
+    (subst (λ (z : List Token). Steps WantArrow frames t z Want frames t (after p.1)) (sym m.1)
+    (step_arrow frames t t (after p.1))) r)
+
+-- ---- an argument comes
+
+pub further_no_region : (ts : List Token) (frames : List Frame) (t : WrittenType) (ps : List TypePiece)
+    (os : List Open) → HasNone regions ts → AreRead WantArgument frames t ps os
+    → GoesFurther WantArgument frames t os ts Want ps os ts
+further_no_region ts frames t ps os other r =
+    unchanged ts ts WantArgument Want frames t ps os (omega arith) refl refl
+    (step_no_region frames t t ts
+    (λ q rest e. other q rest (record { joined = e; allowed = tt; follows = tt }))) r
+
+-- no arguments are open
+pub stuck_no_name : (ts rest : List Token) (frames : List Frame) (t : WrittenType) (q : Name)
+    → takes_region frames ≡ false → Starts regions ts q rest → IsStuck WantArgument frames t ts
+stuck_no_name ts rest frames t q none_takes is =
+    subst (λ (z : List Token). IsStuck WantArgument frames t z) (sym is.joined)
+    (stuck_region frames t q rest
+    (λ n done gs e. false≢true (sym none_takes ∙ ap takes_region e)))
+
+-- a region goes to the end of the row of arguments
+pub further_region : (ts rest : List Token) (frames : List Frame) (t : WrittenType) (ps ps' : List TypePiece)
+    (os : List Open) (q : Bor (List ℕ)) (s : State) → takes_region frames ≡ true
+    → Starts regions ts q.now rest → (s ≡ Inside) × (ps' ≡ ps ++ kept.Region q ∷ [])
+    → AreRead WantArgument frames t ps os → GoesFurther WantArgument frames t os ts s ps' os rest
+further_region ts rest [] t ps ps' os q s takes is h r = absurd (false≢true takes)
+further_region ts rest (behind _ _ ∷ frames) t ps ps' os q s takes is h r = absurd (false≢true takes)
+further_region ts rest (parts _ ∷ frames) t ps ps' os q s takes is h r = absurd (false≢true takes)
+further_region ts rest (arguments n done ∷ frames) t ps ps' os q s takes is h r =
+    let more_done = joined_arguments done (region_argument q.now no_argument) in
+    let less = one_less (region q.now) ts rest is.joined in
+    subst (λ z. GoesFurther WantArgument (arguments n done ∷ frames) t os ts z ps' os rest) (sym h.0) (record {
+      falls = omega (arith, less);
+      comes = comes_so WantArgument Inside (arguments n done ∷ frames) (arguments n more_done ∷ frames) t t
+          ts rest ps ps' (kept.Region q ∷ []) os os r h.1
+          (row_ends (begun frames) (argument_steps done) (add_region q.now)
+          ∙ ap (λ (qs : List Piece). begun frames ++ begin_row ∷ qs)
+          (sym (argument_steps_more done (region_argument q.now no_argument)))
+          ∙ sym (append-nil (begun frames ++ begin_row ∷ argument_steps more_done)))
+          (same_open more_done (reverse os) r.are_open)
+          (subst (λ (z : List Token). Steps WantArgument (arguments n done ∷ frames) t z Inside
+          (arguments n more_done ∷ frames) t rest) (sym is.joined)
+          (step_region frames n done t t q.now rest));
+    })
+  where
+    same_open : (done' : Arguments) (rev : List Open) → AreOpen rev (arguments n done ∷ frames)
+        → AreOpen rev (arguments n done' ∷ frames)
+    same_open done' [] h = absurd h
+    same_open done' (opens.Behind m r ∷ rev) h = (let e = h.0 in absurd cc)
+    same_open done' (opens.Tuple ∷ rev) h = (let e = h.0.1 in absurd cc)
+    same_open done' (opens.Arguments p ∷ rev) h =
+        ((done', (let e = h.0.1 in let k : n ≡ p.now = cc in ap (λ z. arguments z done') k)), h.1)
+    same_open done' (opens.Inputs ∷ rev) h = (let e = h.0.1 in absurd cc)
+    same_open done' (opens.Output ∷ rev) h = (let e = h.0.1 in absurd cc)
+further_region ts rest (inputs _ ∷ frames) t ps ps' os q s takes is h r = absurd (false≢true takes)
+further_region ts rest (output _ ∷ frames) t ps ps' os q s takes is h r = absurd (false≢true takes)
+
+-- ---- the loop
+
+-- nothing is read yet
+pub first_comes : (t : WrittenType) (ts : List Token) (ps : List TypePiece) (os : List Open) → ps ≡ [] → os ≡ []
+    → ComesTo Want [] t ts Want ps os ts
+first_comes t ts ps os e f = rw (e, f) (record {
+  frames' = [];
+  t' = t;
+  same = record { there = λ whole rest f. f; back = λ whole rest f. f };
+  read = record { pieces = refl; are_open = tt };
+})
+
+-- A type is complete, and nothing is open.
+pub record IsWhole (ts at_ts : List Token) (ps : List TypePiece) : Type 0 where
+  pub whole : WrittenType
+  pub same : Steps Want [] int ts Have [] whole at_ts
+  pub pieces : map plain ps ≡ steps whole
+
+-- This is so where the loop ends.
+pub at_end : (s : State) (ts at_ts : List Token) (ps : List TypePiece) (os : List Open) → s ≡ Have
+    → (length os == 0) ≡ true → ComesTo Want [] int ts s ps os at_ts → IsWhole ts at_ts ps
+at_end s ts at_ts ps os e none_open c = by c.frames' c.same c.read
+  where
+    f : os ≡ []
+    f = nil_from_length os (eqb-true (length os) 0 none_open)
+
+    by : (frames : List Frame) → Steps Want [] int ts s frames c.t' at_ts → AreRead s frames c.t' ps os
+        → IsWhole ts at_ts ps
+    by [] same r = record {
+      whole = c.t';
+      same = subst (λ z. Steps Want [] int ts z [] c.t' at_ts) e same;
+      pieces = r.pieces ∙ ap (λ z. complete z c.t') e;
+    }
+    by (g ∷ frames) same r = absurd (subst (λ (z : List Open). AreOpen (reverse z) (g ∷ frames)) f r.are_open)
+
+-- Then the pieces are those of a type, which stands in front where no `<` follows; `o` has what is behind a `<`.
+pub whole_pieces : (ts at_ts : List Token) (ps : List TypePiece) → IsWhole ts at_ts ps → IsType ps
+whole_pieces ts at_ts ps w = is_type ps w.whole w.pieces
+
+pub whole_stuck : {R : Type 0} (o : Option R) (after : R → List Token) (ts at_ts : List Token) (ps : List TypePiece)
+    → IsWhole ts at_ts ps → MatchOption o (IsNotNext (sign 60) at_ts) (λ r. at_ts ≡ sign 60 ∷ after r)
+    → is_some o ≡ true → HasNoType ts
+whole_stuck None after ts at_ts ps w h some = absurd (false≢true some)
+whole_stuck (Some r) after ts at_ts ps w h some = none_before ts at_ts (after r) w.whole w.same h
+
+pub whole_read : {R : Type 0} (o : Option R) (after : R → List Token) (ts at_ts : List Token) (ps : List TypePiece)
+    → IsWhole ts at_ts ps → MatchOption o (IsNotNext (sign 60) at_ts) (λ r. at_ts ≡ sign 60 ∷ after r)
+    → is_some o ≡ false → IsTypeIn ts (written ps) at_ts
+whole_read None after ts at_ts ps w free some =
+    subst (λ z. IsTypeIn ts z at_ts) (sym (written_is ps w.whole w.pieces)) (type_here ts at_ts w.whole w.same free)
+whole_read (Some r) after ts at_ts ps w h some = absurd (false≢true (sym some))

@@ -1,0 +1,285 @@
+-- A line is made of the tokens of its bytes, where their signs are signs, as those of a form are.
+use Rattle.std.proofs.Common.{◌≡◌, ℕ, Bool, true, false, List, [], ◌∷◌, ◌++◌, take, drop, map, refl, sym, ap, ◌∙◌, subst, Option, Some, None}
+use Rattle.std.specs.Prelude.{MatchOption}
+use Rattle.std.specs.List.{AllByRecursion, flat_map, prefix_len}
+use Rattle.std.proofs.lemmas.List.{append-nil}
+use Rattle.nll_text.specs.Lines.{is_blank}
+use Rattle.nll_text.specs.Tokens.{Token, word, region, arrow, sign, spelling, is_sign, IsToken, IsWhole, IsGap, IsMadeOf}
+use Rattle.nll_text.specs.Lexing.{SplitsWhile}
+use Rattle.nll_text.proofs.ByteLemmas.{splits_while}
+use Rattle.nll_types.specs.Places.{PlacePath}
+use Rattle.nll_types.specs.Operands.{Operand, constant, copied, moved}
+use Rattle.nll_types.specs.declared.place.Projection.{Projection}
+use Rattle.nll_types.specs.declared.place.Projection.TheVariants.{Deref, Field}
+use Rattle.nll_types.specs.declared.parameter.Parameter.{Parameter}
+use Rattle.nll_types.specs.declared.parameter.Sign.{Sign}
+use Rattle.nll_types.specs.declared.parameter.Sign.TheVariants.{Covariant, Contravariant, Invariant}
+use Rattle.nll_statements.specs.Statements.{Statement, assign, borrow, make, read, live, dead, nop, goto, switch, call, return, stop}
+use Rattle.nll_statements.specs.Statements as statements
+use Rattle.nll_mir_grammar.specs.LineTokens.{tokens_in}
+use Rattle.nll_mir_grammar.specs.WrittenTypes.{Name, WrittenType, WrittenTypes, Arguments, int, reference, tuple, named, function, none, more, no_argument, region_argument, type_argument, mutability, spelled, spelled_parts, spelled_more_parts, spelled_arguments, spelled_more_arguments}
+use Rattle.nll_mir_grammar.specs.MirForms.{Form, universal, outlives, further, assert_line, struct_line, variable, blocks, block, at_point, end, WrittenParameter, region_parameter, type_parameter, block_word, spelled_projection, spelled_place, spelled_operand, parted, in_parentheses, sign_token, dangling_mark, spelled_marks, spelled_parameter, spelled_parameters, drop_mark, spelled_exits, spelled_wheres, spelled_argument, spelled_statement, spelled_form, IsSpelled, HasForm}
+use Rattle.nll_mir_grammar.specs.Versions.{IsSpelledIn, HasFormIn}
+use Rattle.nll_mir_grammar.specs.Lines.{form_of}
+use Rattle.nll_mir_grammar.specs.declared.version.Version.{Version}
+use Rattle.nll_mir_grammar.specs.declared.line.Line.{Line}
+use Rattle.nll_mir_grammar.proofs.LineTokenLemmas.{past_blanks, gap_has_none, token_in_front, IsFirst, some_token, first_token}
+
+-- tokens that make a line are those of its bytes
+pub made_are_in : (line : List ℕ) (ts : List Token) → IsMadeOf line ts → tokens_in line ≡ ts
+made_are_in line [] h = gap_has_none line h
+made_are_in line (t ∷ ts) h =
+    ap tokens_in h.2 ∙ past_blanks h.0 (spelling t ++ h.1) h.3 ∙ token_in_front t h.1 h.4 h.5
+    ∙ ap (λ (us : List Token). t ∷ us) (made_are_in h.1 ts h.6)
+
+-- ---- the tokens of bytes make them, where their signs are signs
+
+-- a sign is one of the signs
+abbrev pub IsReal : Token → Type 0
+IsReal (word name) = Unit {0}
+IsReal (region name) = Unit {0}
+IsReal arrow = Unit {0}
+IsReal (sign b) = is_sign b ≡ true
+
+abbrev pub AreReal : List Token → Type 0
+AreReal ts = AllByRecursion IsReal ts
+
+is_token : (t : Token) (rest : List ℕ) → IsReal t → IsFirst t rest → IsToken t
+is_token (word name) rest h f = f.0
+is_token (region name) rest h f = f.0
+is_token arrow rest h f = tt
+is_token (sign b) rest h f = h
+
+is_whole : (t : Token) (rest : List ℕ) → IsFirst t rest → IsWhole t rest
+is_whole (word name) rest f = f.1
+is_whole (region name) rest f = f.1
+is_whole arrow rest f = tt
+is_whole (sign b) rest f = f.1
+
+-- what stands behind the blanks has the same tokens
+behind_gap : (line gap core : List ℕ) → SplitsWhile is_blank line gap core → tokens_in core ≡ tokens_in line
+behind_gap line gap core s = sym (ap tokens_in s.joined ∙ past_blanks gap core s.each)
+
+pub in_make : (ts : List Token) (line : List ℕ) → tokens_in line ≡ ts → AreReal ts → IsMadeOf line ts
+in_make [] line e h =
+    let gap : List ℕ = take (prefix_len is_blank line) line in
+    let core : List ℕ = drop (prefix_len is_blank line) line in
+    let s = splits_while is_blank line in
+    let nothing : core ≡ [] = some_token core s.stops (behind_gap line gap core s ∙ e) in
+    subst IsGap (sym (s.joined ∙ (ap (λ (l : List ℕ). gap ++ l) nothing ∙ append-nil gap))) s.each
+in_make (t ∷ ts) line e h =
+    let gap : List ℕ = take (prefix_len is_blank line) line in
+    let core : List ℕ = drop (prefix_len is_blank line) line in
+    let s = splits_while is_blank line in
+    let b = first_token core s.stops t ts (behind_gap line gap core s ∙ e) in (
+      gap,
+      b.rest,
+      s.joined ∙ ap (λ (l : List ℕ). gap ++ l) b.joined,
+      s.each,
+      is_token t b.rest h.0 b.first,
+      is_whole t b.rest b.first,
+      in_make ts b.rest (sym b.left) h.1,
+    )
+
+-- ---- the signs in a form are signs
+
+real_append : (ts us : List Token) → AreReal ts → AreReal us → AreReal (ts ++ us)
+real_append [] us h k = k
+real_append (t ∷ ts) us h k = (h.0, real_append ts us h.1 k)
+
+real_mutability : (m : Bool) → AreReal (mutability m)
+real_mutability true = (tt, tt)
+real_mutability false = tt
+
+mutual
+  real_type : (t : WrittenType) → AreReal (spelled t)
+  real_type int = (tt, tt)
+  real_type (reference r m t) =
+      (refl, (tt, real_append (mutability m) (spelled t) (real_mutability m) (real_type t)))
+  real_type (tuple ts) = (refl, real_parts ts)
+  real_type (named n args) = (tt, real_arguments args)
+  real_type (function ts t) =
+      (tt, (refl, real_append (spelled_parts ts) (arrow ∷ spelled t) (real_parts ts) (tt, real_type t)))
+
+  real_parts : (ts : WrittenTypes) → AreReal (spelled_parts ts)
+  real_parts none = (refl, tt)
+  real_parts (more t ts) = real_append (spelled t) (spelled_more_parts ts) (real_type t) (real_more_parts ts)
+
+  real_more_parts : (ts : WrittenTypes) → AreReal (spelled_more_parts ts)
+  real_more_parts none = (refl, tt)
+  real_more_parts (more t ts) =
+      (refl, real_append (spelled t) (spelled_more_parts ts) (real_type t) (real_more_parts ts))
+
+  real_arguments : (ts : Arguments) → AreReal (spelled_arguments ts)
+  real_arguments no_argument = tt
+  real_arguments (region_argument r ts) = (refl, (tt, real_more_arguments ts))
+  real_arguments (type_argument t ts) =
+      (refl, real_append (spelled t) (spelled_more_arguments ts) (real_type t) (real_more_arguments ts))
+
+  real_more_arguments : (ts : Arguments) → AreReal (spelled_more_arguments ts)
+  real_more_arguments no_argument = (refl, tt)
+  real_more_arguments (region_argument r ts) = (refl, (tt, real_more_arguments ts))
+  real_more_arguments (type_argument t ts) =
+      (refl, real_append (spelled t) (spelled_more_arguments ts) (real_type t) (real_more_arguments ts))
+
+real_all : {A : Type 0} (f : A → List Token) (each : (a : A) → AreReal (f a)) (xs : List A) → AreReal (flat_map f xs)
+real_all f each [] = tt
+real_all f each (x ∷ xs) = real_append (f x) (flat_map f xs) (each x) (real_all f each xs)
+
+abbrev comma : List Token → List Token
+comma other = sign 44 ∷ other
+
+real_listed : {A : Type 0} (f : A → List Token) (each : (a : A) → AreReal (f a)) (xs : List A)
+    → AreReal (flat_map comma (map f xs))
+real_listed f each [] = tt
+real_listed f each (x ∷ xs) =
+    (refl, real_append (f x) (flat_map comma (map f xs)) (each x) (real_listed f each xs))
+
+real_parted : {A : Type 0} (f : A → List Token) (each : (a : A) → AreReal (f a)) (xs : List A)
+    → AreReal (parted (map f xs))
+real_parted f each [] = tt
+real_parted f each (x ∷ xs) = real_append (f x) (flat_map comma (map f xs)) (each x) (real_listed f each xs)
+
+real_parentheses : {A : Type 0} (f : A → List Token) (each : (a : A) → AreReal (f a)) (xs : List A)
+    → AreReal (in_parentheses (map f xs))
+real_parentheses f each xs =
+    (refl, real_append (parted (map f xs)) (sign 41 ∷ []) (real_parted f each xs) (refl, tt))
+
+real_projection : (p : Projection) → AreReal (spelled_projection p)
+real_projection Deref = (refl, (refl, tt))
+real_projection (Field k) = (refl, (tt, tt))
+
+real_place : (p : PlacePath) → AreReal (spelled_place p)
+real_place p = (tt, real_all spelled_projection real_projection p.projections)
+
+real_operand : (op : Operand) → AreReal (spelled_operand op)
+real_operand constant = (tt, tt)
+real_operand (copied p) = (tt, real_place p)
+real_operand (moved p) = (tt, real_place p)
+
+real_sign : (s : Sign) → IsReal (sign_token s)
+real_sign Covariant = refl
+real_sign Contravariant = refl
+real_sign Invariant = refl
+
+real_mark : (d : Bool) → AreReal (dangling_mark d)
+real_mark true = (refl, tt)
+real_mark false = tt
+
+real_marks : (p : Parameter) → AreReal (spelled_marks p)
+real_marks p = (real_sign p.sign, real_mark p.may_dangle)
+
+real_parameter : (p : WrittenParameter) → AreReal (spelled_parameter p)
+real_parameter (region_parameter a p) = (tt, real_marks p)
+real_parameter (type_parameter n p) = (tt, real_marks p)
+
+real_parameters : (ps : List WrittenParameter) → AreReal (spelled_parameters ps)
+real_parameters [] = tt
+real_parameters (p ∷ ps) = (
+  refl,
+  real_append (parted (map spelled_parameter (p ∷ ps))) (sign 62 ∷ [])
+      (real_parted spelled_parameter real_parameter (p ∷ ps)) (refl, tt),
+)
+
+real_drop : (d : Bool) → AreReal (drop_mark d)
+real_drop true = (tt, tt)
+real_drop false = tt
+
+real_exits : (b : ℕ) (u : Option ℕ) → AreReal (spelled_exits b u)
+real_exits b None = (tt, (tt, tt))
+real_exits b (Some c) = (tt, (tt, (tt, (tt, tt))))
+
+real_wheres : (ws : List (Name × Name)) → AreReal (spelled_wheres ws)
+real_wheres [] = tt
+real_wheres (w ∷ ws) = (
+  tt,
+  real_parted (λ (v : Name × Name). region v.0 ∷ sign 58 ∷ region v.1 ∷ []) (λ v. (tt, (refl, (tt, tt))))
+      (w ∷ ws),
+)
+
+real_argument : (a : Operand × WrittenType) → AreReal (spelled_argument a)
+real_argument a = real_append (spelled_operand a.0) (sign 58 ∷ spelled a.1) (real_operand a.0) (refl, real_type a.1)
+
+real_blocks : (bs : List ℕ) → AreReal (map block_word bs)
+real_blocks [] = tt
+real_blocks (b ∷ bs) = (tt, real_blocks bs)
+
+-- what stands behind the `:` of a call
+real_result : (t : WrittenType) (ws : List (Name × Name)) (b : ℕ) (u : Option ℕ)
+    → AreReal (spelled t ++ (spelled_wheres ws ++ spelled_exits b u))
+real_result t ws b u =
+    real_append (spelled t) (spelled_wheres ws ++ spelled_exits b u) (real_type t)
+    (real_append (spelled_wheres ws) (spelled_exits b u) (real_wheres ws) (real_exits b u))
+
+real_statement : (c : List ℕ) (s : Statement Name WrittenType) → AreReal (spelled_statement c s)
+real_statement c (assign p op) = real_append (spelled_place p) _ (real_place p) (refl, real_operand op)
+real_statement c (borrow p r m q) =
+    real_append (spelled_place p) _ (real_place p)
+    (refl, (refl, (tt, real_append (mutability m) (spelled_place q) (real_mutability m) (real_place q))))
+real_statement c (make p t ops) =
+    real_append (spelled_place p) _ (real_place p) (
+      refl,
+      (
+        tt,
+        real_append (spelled t) (in_parentheses (map spelled_operand ops)) (real_type t)
+            (real_parentheses spelled_operand real_operand ops),
+      ),
+    )
+real_statement c (read p) = (tt, real_place p)
+real_statement c (live x) = (tt, (tt, tt))
+real_statement c (dead x) = (tt, (tt, tt))
+real_statement c nop = (tt, tt)
+real_statement c (goto b) = (tt, (tt, tt))
+real_statement c (switch op bs) =
+    (tt, real_append (spelled_operand op) (map block_word bs) (real_operand op) (real_blocks bs))
+real_statement c (statements.drop x b u) = (tt, (tt, real_exits b u))
+real_statement c (call p args t ws b u) =
+    real_append (spelled_place p) _ (real_place p) (
+      refl,
+      (
+        tt,
+        (
+          tt,
+          real_append (in_parentheses (map spelled_argument args)) _
+              (real_parentheses spelled_argument real_argument args) (refl, real_result t ws b u),
+        ),
+      ),
+    )
+real_statement c return = (tt, tt)
+real_statement c stop = (tt, tt)
+
+pub real_form : (c : List ℕ) (f : Form) → AreReal (spelled_form c f)
+real_form c (universal a) = (tt, (tt, tt))
+real_form c (outlives a b) = (tt, (tt, (tt, tt)))
+real_form c (further x) = (tt, (tt, tt))
+real_form c (assert_line a b) = (tt, (tt, (refl, (tt, tt))))
+real_form c (struct_line n ps d ts) = (
+  tt,
+  (
+    tt,
+    real_append (spelled_parameters ps) (drop_mark d ++ spelled (tuple ts)) (real_parameters ps)
+        (real_append (drop_mark d) (spelled (tuple ts)) (real_drop d) (real_type (tuple ts))),
+  ),
+)
+real_form c (variable x t) = (tt, (tt, (refl, real_type t)))
+real_form c (blocks n) = (tt, (tt, tt))
+real_form c (block n) = (tt, (tt, tt))
+real_form c (at_point s) = real_statement c s
+real_form c end = (tt, tt)
+
+-- ---- a line has the form that the tokens in it spell
+
+pub has_form : (line : List ℕ) (f : Form) → IsSpelled (tokens_in line) f → HasForm line f
+has_form line f s =
+    (tokens_in line, in_make (tokens_in line) line refl (subst AreReal (sym s.same) (real_form s.callee f)), s)
+
+pub spells_form : (line : List ℕ) (f : Form) → HasForm line f → IsSpelled (tokens_in line) f
+spells_form line f h = subst (λ (ts : List Token). IsSpelled ts f) (sym (made_are_in line h.0 h.1)) h.2
+
+-- a form that the tokens spell in a text of the version is that of the line there
+pub form_there : (version : Version) (line : List ℕ) (r : Option Line)
+    → MatchOption r ((f : Form) → IsSpelledIn version (tokens_in line) f → ⊥)
+    (λ kept. IsSpelledIn version (tokens_in line) (form_of kept))
+    → MatchOption r ((f : Form) → HasFormIn version line f → ⊥) (λ kept. HasFormIn version line (form_of kept))
+form_there version line None h = λ f g. h f (spells_form line f g.0, g.1)
+form_there version line (Some kept) h = (has_form line (form_of kept) h.0, h.1)

@@ -1,0 +1,20 @@
+use Rattle.std.proofs.Common.{refl, arith, rules}
+use Rattle.std.specs.Prelude.{codes}
+use Rattle.nll_mir_grammar.proofs.WordLemmas.{prefixed_read, variable_there, by_first}
+use Rattle.nll_mir_grammar.proofs.words.variable_at.Goals as goal
+use Rattle.nll_mir_grammar.proofs.words.variable_at.Goals.{in_default-via-then-behind_gap-lt1, in_default-via-else-behind_gap-lt1+in_default-1}
+
+pub returns-in-95 : goal.returns-in-95
+returns-in-95 c =
+    let core = c.behind_gap.result.now in
+    prefixed_read (codes "_") _ core _ (refl, tt) (by_first core 95 (omega arith) (omega arith))
+    c.behind_gap.ensures.solid c.behind_gap.ensures.tokens _ c.number_in_front.ensures
+
+pub returns-in_default : goal.returns-in_default
+returns-in_default c n r b =
+    let h =
+    variable_there c.behind_gap.result.now c.behind_gap.ensures.solid _ c.behind_gap.ensures.tokens n r b in
+    elim c.in_default.branch [
+      | in_default-via-then-behind_gap-lt1 w ↦ search rules
+      | in_default-via-else-behind_gap-lt1+in_default-1 w ↦ search rules
+    ]

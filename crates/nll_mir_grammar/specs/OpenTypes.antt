@@ -1,0 +1,257 @@
+-- A type that is read in part: what is begun and not yet complete, and what may come next.
+-- Source: project's choice. Only private contracts cite this file.
+use Rattle.std.specs.Prelude.{◌≡◌, ◌⊎◌, ℕ, Bool, true, false, List, [], ◌∷◌, ◌++◌, ◌<◌, ◌≤◌, ◌+◌}
+use Rattle.std.specs.Prelude.{◌*◌, length, reverse, map, codes}
+use Rattle.nll_text.specs.Tokens.{Token, word, region, arrow, sign}
+use Rattle.nll_mir_grammar.specs.WrittenTypes.{Name, WrittenType, WrittenTypes, Arguments}
+use Rattle.nll_mir_grammar.specs.WrittenTypes.{reference, tuple, named, function, none, more}
+use Rattle.nll_mir_grammar.specs.WrittenTypes.{region_argument, type_argument}
+use Rattle.nll_mir_grammar.specs.WrittenTypes.{spelled, spelled_more_parts}
+use Rattle.nll_mir_grammar.specs.WrittenTypes.{spelled_more_arguments, is_capital}
+use Rattle.nll_mir_grammar.specs.WrittenTypes.{HasNames, HaveNames, ArgumentsHaveNames, IsFree}
+use Rattle.nll_mir_grammar.specs.TypeTexts.{Piece, begin_row, steps, part_steps, argument_steps}
+use Rattle.nll_mir_grammar.specs.TypeTexts.{joined_arguments, plain}
+use Rattle.nll_mir_grammar.specs.declared.type_text.TypePiece.{TypePiece}
+use Rattle.nll_mir_grammar.specs.declared.fronts.Front.{Front}
+use Rattle.nll_mir_grammar.specs.declared.fronts.Front.TheVariants as fronts
+use Rattle.nll_mir_grammar.specs.declared.opens.State.{State}
+use Rattle.nll_mir_grammar.specs.declared.opens.State.TheVariants.{Want, WantArgument, Have}
+use Rattle.nll_mir_grammar.specs.declared.opens.State.TheVariants.{Inside, WantArrow}
+use Rattle.nll_mir_grammar.specs.declared.opens.Open.{Open}
+use Rattle.nll_mir_grammar.specs.declared.opens.Open.TheVariants as opens
+
+-- ---- the tokens at the beginning of a type
+
+-- The tokens begin like this, and then come others.
+abbrev pub Begins : Front → List Token → List Token → Type 0
+Begins fronts.Int ts rest = ts ≡ word (codes "int") ∷ rest
+Begins fronts.Unit ts rest = ts ≡ sign 40 ∷ sign 41 ∷ rest
+Begins fronts.Tuple ts rest =
+    (ts ≡ sign 40 ∷ rest) × ((others : List Token) → rest ≡ sign 41 ∷ others → ⊥)
+Begins (fronts.Reference r true) ts rest =
+    ts ≡ sign 38 ∷ region r.now ∷ word (codes "mut") ∷ rest
+Begins (fronts.Reference r false) ts rest =
+    (ts ≡ sign 38 ∷ region r.now ∷ rest)
+    × ((others : List Token) → rest ≡ word (codes "mut") ∷ others → ⊥)
+Begins (fronts.Generic n) ts rest =
+    (is_capital n.now ≡ true) × (ts ≡ word n.now ∷ sign 60 ∷ rest)
+Begins (fronts.Name n) ts rest =
+    (is_capital n.now ≡ true) × (ts ≡ word n.now ∷ rest) × IsFree rest
+Begins fronts.Thunk ts rest = ts ≡ word (codes "fn") ∷ sign 40 ∷ sign 41 ∷ rest
+Begins fronts.Function ts rest =
+    (ts ≡ word (codes "fn") ∷ sign 40 ∷ rest)
+    × ((others : List Token) → rest ≡ sign 41 ∷ others → ⊥)
+
+-- No type begins like this.
+pub record IsNoFront (ts : List Token) : Type 0 where
+  pub int : (rest : List Token) → ts ≡ word (codes "int") ∷ rest → ⊥
+  pub bracket : (rest : List Token) → ts ≡ sign 40 ∷ rest → ⊥
+  pub reference : (q : Name) (rest : List Token) → ts ≡ sign 38 ∷ region q ∷ rest → ⊥
+  pub name : (s : Name) (rest : List Token) → is_capital s ≡ true → ts ≡ word s ∷ rest → ⊥
+  pub function : (rest : List Token) → ts ≡ word (codes "fn") ∷ sign 40 ∷ rest → ⊥
+
+-- ---- what is begun and not complete
+
+-- A reference, whose type comes next; a tuple, with the parts read so far; a name's arguments; a
+-- function, with the arguments read so far; a function with these arguments, whose result comes
+-- next.
+pub data Frame : Type 0 where
+  behind : Name → Bool → Frame
+  parts : WrittenTypes → Frame
+  arguments : Name → Arguments → Frame
+  inputs : WrittenTypes → Frame
+  output : WrittenTypes → Frame
+
+-- types, and then others
+abbrev pub joined : WrittenTypes → WrittenTypes → WrittenTypes
+joined none us = us
+joined (more t ts) us = more t (joined ts us)
+
+-- the tokens begin with a type, which `<` may follow, and then come others
+pub record Reads (tokens : List Token) (t : WrittenType) (rest : List Token) : Type 0 where
+  pub joins : tokens ≡ spelled t ++ rest
+  pub names : HasNames t
+
+-- A type is complete; the frames, the innermost first, go on and are closed. The whole type comes
+-- out, and behind it the rest, which begins with no `<`.
+abbrev pub Closes : List Frame → WrittenType → List Token → WrittenType → List Token → Type 0
+Closes [] t ts whole rest = (t ≡ whole) × (ts ≡ rest) × IsFree rest
+Closes (behind r m ∷ frames) t ts whole rest = Closes frames (reference r m t) ts whole rest
+Closes (parts done ∷ frames) t ts whole rest =
+    (us : WrittenTypes) × (mid : List Token) × (ts ≡ spelled_more_parts us ++ mid) × HaveNames us
+    × Closes frames (tuple (joined done (more t us))) mid whole rest
+Closes (arguments n done ∷ frames) t ts whole rest =
+    (us : Arguments) × (mid : List Token) × (ts ≡ spelled_more_arguments us ++ mid)
+    × ArgumentsHaveNames us
+    × Closes frames (named n (joined_arguments done (type_argument t us))) mid whole rest
+Closes (inputs done ∷ frames) t ts whole rest =
+    (us : WrittenTypes) × (mid : List Token) × (ts ≡ spelled_more_parts us ++ arrow ∷ mid)
+    × HaveNames us × (u : WrittenType) × (other : List Token) × Reads mid u other
+    × Closes frames (function (joined done (more t us)) u) other whole rest
+Closes (output done ∷ frames) t ts whole rest = Closes frames (function done t) ts whole rest
+
+-- A part or an argument of the innermost frame is complete, and the frames go on.
+abbrev pub GoesInside : List Frame → List Token → WrittenType → List Token → Type 0
+GoesInside [] ts whole rest = ⊥
+GoesInside (behind _ _ ∷ frames) ts whole rest = ⊥
+GoesInside (parts done ∷ frames) ts whole rest =
+    (us : WrittenTypes) × (mid : List Token) × (ts ≡ spelled_more_parts us ++ mid) × HaveNames us
+    × Closes frames (tuple (joined done us)) mid whole rest
+GoesInside (arguments n done ∷ frames) ts whole rest =
+    (us : Arguments) × (mid : List Token) × (ts ≡ spelled_more_arguments us ++ mid)
+    × ArgumentsHaveNames us × Closes frames (named n (joined_arguments done us)) mid whole rest
+GoesInside (inputs done ∷ frames) ts whole rest =
+    (us : WrittenTypes) × (mid : List Token) × (ts ≡ spelled_more_parts us ++ arrow ∷ mid)
+    × HaveNames us × (u : WrittenType) × (other : List Token) × Reads mid u other
+    × Closes frames (function (joined done us) u) other whole rest
+GoesInside (output _ ∷ frames) ts whole rest = ⊥
+
+-- A type comes, and the frames go on.
+abbrev pub GoesOn : List Frame → List Token → WrittenType → List Token → Type 0
+GoesOn frames ts whole rest =
+    (t : WrittenType) × (mid : List Token) × Reads ts t mid × Closes frames t mid whole rest
+
+-- A region comes as an argument of the innermost frame, and the frames go on.
+abbrev pub GoesOnWithRegion : List Frame → List Token → WrittenType → List Token → Type 0
+GoesOnWithRegion [] ts whole rest = ⊥
+GoesOnWithRegion (behind _ _ ∷ frames) ts whole rest = ⊥
+GoesOnWithRegion (parts _ ∷ frames) ts whole rest = ⊥
+GoesOnWithRegion (arguments n done ∷ frames) ts whole rest =
+    (q : Name) × (mid : List Token) × (ts ≡ region q ∷ mid)
+    × ((us : Arguments) × (other : List Token) × (mid ≡ spelled_more_arguments us ++ other)
+    × ArgumentsHaveNames us
+    × Closes frames (named n (joined_arguments done (region_argument q us))) other whole rest)
+GoesOnWithRegion (inputs _ ∷ frames) ts whole rest = ⊥
+GoesOnWithRegion (output _ ∷ frames) ts whole rest = ⊥
+
+-- The tokens complete what is begun: the whole type comes out, and behind it the rest. Where a
+-- type is complete, it is `t`.
+abbrev pub Finishes :
+    State → List Frame → WrittenType → List Token → WrittenType → List Token → Type 0
+Finishes Want frames t ts whole rest = GoesOn frames ts whole rest
+Finishes WantArgument frames t ts whole rest =
+    GoesOnWithRegion frames ts whole rest ⊎ GoesOn frames ts whole rest
+Finishes Have frames t ts whole rest = Closes frames t ts whole rest
+Finishes Inside frames t ts whole rest = GoesInside frames ts whole rest
+Finishes WantArrow frames t ts whole rest =
+    (mid : List Token) × (ts ≡ arrow ∷ mid) × GoesOn frames mid whole rest
+
+-- From here and from there the same types come out.
+pub record Steps (s : State) (frames : List Frame) (t : WrittenType) (ts : List Token)
+    (s' : State) (frames' : List Frame) (t' : WrittenType) (ts' : List Token) : Type 0 where
+  pub there :
+      (whole : WrittenType) (rest : List Token) →
+      Finishes s frames t ts whole rest → Finishes s' frames' t' ts' whole rest
+  pub back :
+      (whole : WrittenType) (rest : List Token) →
+      Finishes s' frames' t' ts' whole rest → Finishes s frames t ts whole rest
+
+-- No type comes out.
+abbrev pub IsStuck : State → List Frame → WrittenType → List Token → Type 0
+IsStuck s frames t ts =
+    (whole : WrittenType) (rest : List Token) → Finishes s frames t ts whole rest → ⊥
+
+-- ---- pieces, and what is open
+
+-- the pieces of what is begun, the innermost frame's last
+abbrev pub begun : List Frame → List Piece
+begun [] = []
+begun (behind r m ∷ frames) = begun frames
+begun (parts done ∷ frames) = begun frames ++ begin_row ∷ part_steps done
+begun (arguments n done ∷ frames) = begun frames ++ begin_row ∷ argument_steps done
+begun (inputs done ∷ frames) = begun frames ++ begin_row ∷ part_steps done
+begun (output done ∷ frames) = begun frames ++ begin_row ∷ part_steps done
+
+-- the pieces of the type that is complete, where one is
+abbrev pub complete : State → WrittenType → List Piece
+complete Have t = steps t
+complete Want t = []
+complete WantArgument t = []
+complete Inside t = []
+complete WantArrow t = []
+
+-- The frame is what is open, with something that is read of it.
+abbrev pub IsOpen : Open → Frame → Type 0
+IsOpen (opens.Behind m r) f = f ≡ behind r.now m
+IsOpen opens.Tuple f = (done : WrittenTypes) × (f ≡ parts done)
+IsOpen (opens.Arguments n) f = (done : Arguments) × (f ≡ arguments n.now done)
+IsOpen opens.Inputs f = (done : WrittenTypes) × (f ≡ inputs done)
+IsOpen opens.Output f = (done : WrittenTypes) × (f ≡ output done)
+
+-- The frames are what is open, both the innermost first.
+abbrev pub AreOpen : List Open → List Frame → Type 0
+AreOpen [] [] = Unit {0}
+AreOpen (o ∷ os) (f ∷ frames) = IsOpen o f × AreOpen os frames
+AreOpen _ _ = ⊥
+
+-- The pieces are those of the frames, and of the type where one is complete; the frames are what is
+-- open, the innermost last.
+pub record AreRead (s : State) (frames : List Frame) (t : WrittenType) (ps : List TypePiece)
+    (opened : List Open) : Type 0 where
+  pub pieces : map plain ps ≡ begun frames ++ complete s t
+  pub are_open : AreOpen (reverse opened) frames
+
+-- how many steps that take no token may come, apart from those that complete a reference or a
+-- function
+abbrev pub pending : State → ℕ
+pending Want = 0
+pending WantArgument = 1
+pending Have = 1
+pending Inside = 0
+pending WantArrow = 0
+
+-- From these frames and this type the code came to others, and the same types come out.
+pub record ComesTo (s : State) (frames : List Frame) (t : WrittenType) (ts : List Token)
+    (s' : State) (ps' : List TypePiece) (opened' : List Open) (ts' : List Token) : Type 0 where
+  pub frames' : List Frame
+  pub t' : WrittenType
+  pub same : Steps s frames t ts s' frames' t' ts'
+  pub read : AreRead s' frames' t' ps' opened'
+
+-- The step takes some of the tokens or none, these are left, and the same types come out.
+pub record GoesFurther (s : State) (frames : List Frame) (t : WrittenType) (opened : List Open)
+    (ts : List Token) (s' : State) (ps' : List TypePiece) (opened' : List Open)
+    (rest : List Token) : Type 0 where
+  pub falls :
+      length opened' + pending s' + 4 * length rest < length opened + pending s + 4 * length ts
+  pub comes : ComesTo s frames t ts s' ps' opened' rest
+
+-- A type began like this, and the same types come out.
+pub record IsBegun (front : Front) (frames : List Frame) (t : WrittenType) (opened : List Open)
+    (s' : State) (ps' : List TypePiece) (opened' : List Open) : Type 0 where
+  pub comes :
+      (ts rest : List Token) → Begins front ts rest
+      → ComesTo Want frames t ts s' ps' opened' rest
+  pub few : length opened' + pending s' ≤ length opened + 2
+
+-- A complete type became a part of the innermost thing that was open, or completed it, and the
+-- same types come out.
+pub record IsCompleted (frames : List Frame) (t : WrittenType) (opened : List Open)
+    (s' : State) (ps' : List TypePiece) (opened' : List Open) : Type 0 where
+  pub comes : (ts : List Token) → ComesTo Have frames t ts s' ps' opened' ts
+  pub few : length opened' + pending s' ≤ length opened
+
+-- the innermost frame takes a region
+abbrev pub takes_region : List Frame → Bool
+takes_region [] = false
+takes_region (behind _ _ ∷ frames) = false
+takes_region (parts _ ∷ frames) = false
+takes_region (arguments _ _ ∷ frames) = true
+takes_region (inputs _ ∷ frames) = false
+takes_region (output _ ∷ frames) = false
+
+-- The sign closes what is innermost in the frames, which has parts, and this may come behind a
+-- comma.
+abbrev pub EndsWith : List Frame → ℕ → State → Type 0
+EndsWith [] c s = ⊥
+EndsWith (behind _ _ ∷ frames) c s = ⊥
+EndsWith (parts _ ∷ frames) c s = (c ≡ 41) × (s ≡ Want)
+EndsWith (arguments _ _ ∷ frames) c s = (c ≡ 62) × (s ≡ WantArgument)
+EndsWith (inputs _ ∷ frames) c s = (c ≡ 41) × (s ≡ Want)
+EndsWith (output _ ∷ frames) c s = ⊥
+
+-- The innermost thing that was open is closed by this sign, and the same types come out.
+pub record IsClosed (frames : List Frame) (t : WrittenType) (c : ℕ) (opened : List Open)
+    (s' : State) (ps' : List TypePiece) (opened' : List Open) : Type 0 where
+  pub comes : (ts : List Token) → ComesTo Inside frames t (sign c ∷ ts) s' ps' opened' ts
+  pub few : length opened' + pending s' ≤ length opened + 1

@@ -1,0 +1,82 @@
+//! The classes of bytes at the front of the rest of a line: blanks, and the bytes of words.
+
+ghost use Rattle.std.specs.Prelude.{◌≡◌, false};
+ghost use Rattle.std.specs.List.{prefix_len};
+ghost use Rattle.nll_text.specs.Lines as lines;
+ghost use Rattle.nll_text.specs.Tokens as tokens;
+ghost use Rattle.nll_text.specs.Tokens.{first_passes};
+ghost use Rattle.nll_text.specs.Lexing.{SplitsWhile};
+ghost use Rattle.nll_mir_grammar.specs.LineTokens.{tokens_in};
+
+// Each byte that words are made of stands at its own place, and a dot at every other place.
+static WORD_BYTES: [u8; 256] = *b"\
+    ................................\
+    ................0123456789......\
+    .ABCDEFGHIJKLMNOPQRSTUVWXYZ...._\
+    .abcdefghijklmnopqrstuvwxyz.....\
+    ................................\
+    ................................\
+    ................................\
+    ................................";
+
+// One of the bytes that words are made of.
+fn is_word_byte(byte: u8) -> bool
+    ensures { result ≡ tokens.is_word_byte byte }
+{
+    WORD_BYTES[byte as usize] != b'.'
+}
+
+// A space, a tab or a carriage return.
+fn is_blank(byte: u8) -> bool
+    ensures { result ≡ lines.is_blank byte }
+{
+    matches!(byte, b' ' | b'\t' | b'\r')
+}
+
+/// Whether the bytes begin with one that words are made of.
+pub fn goes_on(bytes: &[u8]) -> bool
+    ensures { result ≡ first_passes tokens.is_word_byte bytes.now }
+{
+    match bytes {
+        [first, ..] => is_word_byte(*first),
+        _ => false,
+    }
+}
+
+/// Whether a byte is `-`, and these behind it begin with `>`.
+pub fn is_arrow(byte: u8, behind: &[u8]) -> bool
+    ensures { result ≡ first_passes (tokens.is_arrow byte) behind.now }
+{
+    match behind {
+        [second, ..] => byte == b'-' && *second == b'>',
+        _ => false,
+    }
+}
+
+/// What stands behind the blanks in front.
+pub fn behind_gap(line: &[u8]) -> &[u8]
+    ensures tokens { tokens_in result.now ≡ tokens_in line.now }
+    ensures solid { first_passes lines.is_blank result.now ≡ false }
+{
+    let mut rest = line;
+    while let [first, behind @ ..] = rest {
+        if !is_blank(*first) {
+            return rest;
+        }
+        rest = behind;
+    }
+    rest
+}
+
+fn word_len(bytes: &[u8]) -> usize
+    ensures { result ≡ prefix_len tokens.is_word_byte bytes.now }
+{
+    bytes.iter().take_while(|byte| is_word_byte(**byte)).count()
+}
+
+/// The word bytes in front, perhaps none, and the rest.
+pub fn split_word(bytes: &[u8]) -> (&[u8], &[u8])
+    ensures { SplitsWhile tokens.is_word_byte bytes.now result.0.now result.1.now }
+{
+    bytes.split_at(word_len(bytes))
+}

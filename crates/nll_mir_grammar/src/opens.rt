@@ -1,0 +1,322 @@
+//! What of a type is begun and not complete, and one step through a type.
+
+ghost use Rattle.std.specs.Prelude.{◌≡◌, ◌∷◌, [], ◌++◌, ◌<◌, ◌-◌, ℕ, List, length, take, true};
+ghost use Rattle.std.specs.Prelude.{IfOk, IfSome, MatchOption};
+ghost use Rattle.nll_text.specs.Tokens as lex;
+ghost use Rattle.nll_mir_grammar.specs.LineTokens.{tokens_in};
+ghost use Rattle.nll_mir_grammar.specs.OpenTypes.{AreRead, EndsWith, Frame, GoesFurther, IsBegun};
+ghost use Rattle.nll_mir_grammar.specs.OpenTypes.{IsClosed, IsCompleted, IsStuck, takes_region};
+ghost use Rattle.nll_mir_grammar.specs.WrittenTypes.{WrittenType};
+ghost use Rattle.nll_mir_grammar.specs.declared.opens.State.{State as stage};
+ghost use Rattle.nll_mir_grammar.specs.declared.type_text.TypePiece.{TypePiece as piece};
+
+use crate::fronts::{Front, front_at};
+use crate::type_text::TypePiece;
+use crate::words::{after_arrow, after_sign, region_at};
+use nll_sets::Memory;
+use smallvec::SmallVec;
+use std::mem::size_of;
+
+/// What is begun and not complete.
+///
+/// # Size
+/// It has the size that a reference needs: a text may have millions of them in one another.
+#[derive(Clone, Copy)]
+pub enum Open<'a> {
+    /// A reference: whether it is `mut`, and its region's name.
+    Behind(bool, &'a [u8]),
+    /// A tuple, whose row is begun.
+    Tuple,
+    /// A name, the row of whose arguments is begun.
+    Arguments(&'a [u8]),
+    /// A function, the row of whose arguments is begun.
+    Inputs,
+    /// A function whose arguments are all in the row, and whose result comes next.
+    Output,
+}
+
+const _: () = prove!(size_of::<Open<'_>>() == 24);
+
+/// What may come next in a type.
+#[derive(Clone, Copy, PartialEq, Eq)]
+pub enum State {
+    /// A type.
+    Want,
+    /// A type or a region.
+    WantArgument,
+    /// A type is complete.
+    Have,
+    /// What follows a part or an argument of the innermost thing that is open.
+    Inside,
+    /// The `->` in front of a function's result.
+    WantArrow,
+}
+
+impl<'a> Default for Open<'a> {
+    fn default() -> Open<'a> {
+        Open::Tuple
+    }
+}
+
+/// What is open, the innermost last. Few types are so deep that this needs memory of its own.
+pub type Opened<'a> = SmallVec<Open<'a>, 3>;
+
+// Puts a piece behind the others, behind which this may come next.
+fn put<'a>(
+    pieces: &mut Vec<TypePiece<'a>>,
+    piece: TypePiece<'a>,
+    state: State,
+) -> Result<State, Memory>
+    ensures { IfOk result
+        (λ s. (s ≡ state) × (pieces.new.items ≡ pieces.old.items ++ piece.entry ∷ [])) }
+{
+    pieces.push(piece)?;
+    Ok(state)
+}
+
+// Opens something, in which this may come next.
+fn put_open<'a>(opened: &mut Opened<'a>, inner: Open<'a>, state: State) -> Result<State, Memory>
+    ensures { IfOk result
+        (λ s. (s ≡ state) × (opened.new.items ≡ opened.old.items ++ inner.entry ∷ [])) }
+{
+    opened.push(inner)?;
+    Ok(state)
+}
+
+// Puts a row without arguments behind the others, and what is made of it: a type is complete.
+fn put_empty<'a>(pieces: &mut Vec<TypePiece<'a>>, piece: TypePiece<'a>) -> Result<State, Memory>
+    ensures { IfOk result (λ s. (s ≡ State.Have)
+        × (pieces.new.items ≡ pieces.old.items ++ TypePiece.Row ∷ piece.entry ∷ [])) }
+{
+    pieces.push(TypePiece::Row)?;
+    put(pieces, piece, State::Have)
+}
+
+// Opens something whose row begins, in which this may come next.
+fn open_row<'a>(
+    pieces: &mut Vec<TypePiece<'a>>,
+    opened: &mut Opened<'a>,
+    inner: Open<'a>,
+    state: State,
+) -> Result<State, Memory>
+    ensures { IfOk result (λ s. (s ≡ state)
+        × (pieces.new.items ≡ pieces.old.items ++ TypePiece.Row ∷ [])
+        × (opened.new.items ≡ opened.old.items ++ inner.entry ∷ [])) }
+{
+    pieces.push(TypePiece::Row)?;
+    put_open(opened, inner, state)
+}
+
+/// Goes on behind the beginning of a type.
+pub fn begin<'a>(
+    front: Front<'a>,
+    pieces: &mut Vec<TypePiece<'a>>,
+    opened: &mut Opened<'a>,
+) -> Result<State, Memory>
+    ensures { IfOk result (λ s. (frames : List Frame) (t : WrittenType)
+        → AreRead State.Want frames t pieces.old.items opened.old.items
+        → IsBegun front.entry frames t opened.old.items s pieces.new.items opened.new.items) }
+{
+    match front {
+        Front::Int => put(pieces, TypePiece::Int, State::Have),
+        Front::Unit => put_empty(pieces, TypePiece::Tuple),
+        Front::Tuple => open_row(pieces, opened, Open::Tuple, State::Want),
+        Front::Reference(region, is_mut) => {
+            put_open(opened, Open::Behind(is_mut, region), State::Want)
+        }
+        Front::Generic(name) => open_row(
+            pieces,
+            opened,
+            Open::Arguments(name),
+            State::WantArgument,
+        ),
+        Front::Name(name) => put_empty(pieces, TypePiece::Named(name)),
+        Front::Thunk => open_row(pieces, opened, Open::Output, State::WantArrow),
+        Front::Function => open_row(pieces, opened, Open::Inputs, State::Want),
+    }
+}
+
+// One step where a type comes next: what may come then, and what stands behind the tokens that it
+// takes.
+fn want<'a>(
+    line: &'a [u8],
+    pieces: &mut Vec<TypePiece<'a>>,
+    opened: &mut Opened<'a>,
+) -> Result<Option<(State, &'a [u8])>, Memory>
+    ensures { (frames : List Frame) (t : WrittenType)
+        → AreRead State.Want frames t pieces.old.items opened.old.items
+        → IfOk result (λ o. MatchOption o (IsStuck State.Want frames t (tokens_in line.now))
+        (λ p. GoesFurther State.Want frames t opened.old.items (tokens_in line.now)
+        p.0 pieces.new.items opened.new.items (tokens_in p.1.now))) }
+{
+    match front_at(line) {
+        Some((front, rest)) => {
+            let state = begin(front, pieces, opened)?;
+            Ok(Some((state, rest)))
+        }
+        None => Ok(None),
+    }
+}
+
+// Whether the arguments of a name are the innermost thing that is open.
+fn has_name(opened: &Opened<'_>) -> bool
+    ensures { (s : stage) (frames : List Frame) (t : WrittenType) (ps : List piece)
+        → AreRead s frames t ps opened.now.items → result ≡ takes_region frames }
+{
+    match opened.as_slice().last() {
+        Some(Open::Arguments(_)) => true,
+        _ => false,
+    }
+}
+
+// One step where a type or a region comes next.
+fn want_argument<'a>(
+    line: &'a [u8],
+    pieces: &mut Vec<TypePiece<'a>>,
+    opened: &Opened<'a>,
+) -> Result<Option<(State, &'a [u8])>, Memory>
+    ensures { (frames : List Frame) (t : WrittenType)
+        → AreRead State.WantArgument frames t pieces.old.items opened.now.items
+        → IfOk result (λ o. MatchOption o (IsStuck State.WantArgument frames t (tokens_in line.now))
+        (λ p. GoesFurther State.WantArgument frames t opened.now.items (tokens_in line.now)
+        p.0 pieces.new.items opened.now.items (tokens_in p.1.now))) }
+{
+    let Some((region, rest)) = region_at(line) else {
+        return Ok(Some((State::Want, line)));
+    };
+    if !has_name(opened) {
+        return Ok(None);
+    }
+    let state = put(pieces, TypePiece::Region(region), State::Inside)?;
+    Ok(Some((state, rest)))
+}
+
+// Ends the innermost thing that is open: its type is made and complete.
+fn end<'a>(
+    pieces: &mut Vec<TypePiece<'a>>,
+    opened: &mut Opened<'a>,
+    piece: TypePiece<'a>,
+) -> Result<State, Memory>
+    requires { 0 < length opened.old.items }
+    ensures { IfOk result (λ s. (s ≡ State.Have)
+        × (pieces.new.items ≡ pieces.old.items ++ piece.entry ∷ [])
+        × (opened.new.items ≡ take (length opened.old.items - 1) opened.old.items)) }
+{
+    opened.truncate(opened.len() - 1);
+    put(pieces, piece, State::Have)
+}
+
+// One step behind a complete type, which becomes a part of the innermost thing that is open, or
+// completes it.
+fn complete<'a>(pieces: &mut Vec<TypePiece<'a>>, opened: &mut Opened<'a>) -> Result<State, Memory>
+    requires { 0 < length opened.old.items }
+    ensures { IfOk result (λ s. (frames : List Frame) (t : WrittenType)
+        → AreRead State.Have frames t pieces.old.items opened.old.items
+        → IsCompleted frames t opened.old.items s pieces.new.items opened.new.items) }
+{
+    match opened.as_slice()[opened.len() - 1] {
+        Open::Behind(is_mut, region) => end(pieces, opened, TypePiece::Reference(is_mut, region)),
+        Open::Output => end(pieces, opened, TypePiece::Function),
+        Open::Tuple | Open::Arguments(_) | Open::Inputs => {
+            put(pieces, TypePiece::Part, State::Inside)
+        }
+    }
+}
+
+// How the innermost thing that is open ends, where it has parts: the sign that closes it, and what
+// may come behind a comma.
+fn ends_at(opened: &Opened<'_>) -> Option<(u8, State)>
+    ensures some { IfSome result (λ _. 0 < length opened.now.items) }
+    ensures sign { IfSome result (λ p. lex.is_sign p.0 ≡ true) }
+    ensures ends { (s : stage) (frames : List Frame) (t : WrittenType) (ps : List piece)
+        → AreRead s frames t ps opened.now.items → MatchOption result
+        ((u : WrittenType) (ts : List lex.Token) → IsStuck State.Inside frames u ts)
+        (λ p. EndsWith frames p.0 p.1) }
+{
+    match opened.as_slice().last() {
+        Some(Open::Tuple) => Some((b')', State::Want)),
+        Some(Open::Arguments(_)) => Some((b'>', State::WantArgument)),
+        Some(Open::Inputs) => Some((b')', State::Want)),
+        _ => None,
+    }
+}
+
+// Ends the row of the innermost thing that is open.
+fn close<'a>(pieces: &mut Vec<TypePiece<'a>>, opened: &mut Opened<'a>) -> Result<State, Memory>
+    requires { 0 < length opened.old.items }
+    ensures { IfOk result (λ s. (frames : List Frame) (t : WrittenType) (c : ℕ) (next : stage)
+        → AreRead State.Inside frames t pieces.old.items opened.old.items
+        → EndsWith frames c next
+        → IsClosed frames t c opened.old.items s pieces.new.items opened.new.items) }
+{
+    match opened.as_slice()[opened.len() - 1] {
+        Open::Tuple => end(pieces, opened, TypePiece::Tuple),
+        Open::Arguments(name) => end(pieces, opened, TypePiece::Named(name)),
+        Open::Behind(..) | Open::Inputs | Open::Output => {
+            opened.truncate(opened.len() - 1);
+            put_open(opened, Open::Output, State::WantArrow)
+        }
+    }
+}
+
+// One step behind a part or an argument of the innermost thing that is open.
+fn inside<'a>(
+    line: &'a [u8],
+    pieces: &mut Vec<TypePiece<'a>>,
+    opened: &mut Opened<'a>,
+) -> Result<Option<(State, &'a [u8])>, Memory>
+    ensures { (frames : List Frame) (t : WrittenType)
+        → AreRead State.Inside frames t pieces.old.items opened.old.items
+        → IfOk result (λ o. MatchOption o (IsStuck State.Inside frames t (tokens_in line.now))
+        (λ p. GoesFurther State.Inside frames t opened.old.items (tokens_in line.now)
+        p.0 pieces.new.items opened.new.items (tokens_in p.1.now))) }
+{
+    let Some((closing, next)) = ends_at(opened) else {
+        return Ok(None);
+    };
+    if let Some(rest) = after_sign(line, b',') {
+        return Ok(Some((next, rest)));
+    }
+    let Some(rest) = after_sign(line, closing) else {
+        return Ok(None);
+    };
+    let state = close(pieces, opened)?;
+    Ok(Some((state, rest)))
+}
+
+// One step where the `->` of a function comes next.
+fn want_arrow(line: &[u8]) -> Option<(State, &[u8])>
+    ensures { MatchOption result
+        ((frames : List Frame) (t : WrittenType) →
+        IsStuck State.WantArrow frames t (tokens_in line.now))
+        (λ p. (p.0 ≡ State.Want) × (tokens_in line.now ≡ lex.arrow ∷ tokens_in p.1.now)) }
+{
+    let rest = after_arrow(line)?;
+    Some((State::Want, rest))
+}
+
+/// One step: what may come then, and what stands behind the tokens that it takes.
+pub fn step<'a>(
+    line: &'a [u8],
+    state: State,
+    pieces: &mut Vec<TypePiece<'a>>,
+    opened: &mut Opened<'a>,
+) -> Result<Option<(State, &'a [u8])>, Memory>
+    requires { state ≡ State.Have → 0 < length opened.old.items }
+    ensures { (frames : List Frame) (t : WrittenType)
+        → AreRead state frames t pieces.old.items opened.old.items
+        → IfOk result (λ o. MatchOption o (IsStuck state frames t (tokens_in line.now))
+        (λ p. GoesFurther state frames t opened.old.items (tokens_in line.now)
+        p.0 pieces.new.items opened.new.items (tokens_in p.1.now))) }
+{
+    match state {
+        State::Want => want(line, pieces, opened),
+        State::WantArgument => want_argument(line, pieces, opened),
+        State::Have => {
+            let next = complete(pieces, opened)?;
+            Ok(Some((next, line)))
+        }
+        State::Inside => inside(line, pieces, opened),
+        State::WantArrow => Ok(want_arrow(line)),
+    }
+}

@@ -1,0 +1,37 @@
+//! Lines that are skipped.
+
+ghost use Rattle.std.specs.Prelude.{◌≡◌, IfOk, IfErr};
+ghost use Rattle.std.specs.Str.{IsUtf8};
+ghost use Rattle.nll_text.specs.Lines as lines;
+
+use crate::bytes::split_gap;
+use crate::error::NotUtf8;
+use std::str;
+
+// Blanks alone, or a remark behind `#`.
+fn is_skipped(line: &[u8]) -> bool
+    ensures { result ≡ lines.is_skipped line.now }
+{
+    let (_gap, core) = split_gap(line);
+    match core.first() {
+        None => true,
+        Some(first) => *first == b'#',
+    }
+}
+
+/// Whether a line is skipped: blanks alone, or a remark.
+///
+/// # Errors
+/// `NotUtf8`: the line's bytes aren't UTF-8.
+///
+/// # Cost
+/// The length of the line (not proved).
+pub fn is_skipped_line(line: &[u8]) -> Result<bool, NotUtf8>
+    ensures ok { IfOk result (λ s. IsUtf8 line.now × (s ≡ lines.is_skipped line.now)) }
+    ensures err { IfErr result (λ _. ¬ IsUtf8 line.now) }
+{
+    let Ok(_) = str::from_utf8(line) else {
+        return Err(NotUtf8);
+    };
+    Ok(is_skipped(line))
+}

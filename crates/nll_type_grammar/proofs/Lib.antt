@@ -1,5 +1,0 @@
-pub mod TokenLemmas
-pub mod StepLemmas
-pub mod PieceLemmas
-pub mod FurtherLemmas
-pub mod OneTree

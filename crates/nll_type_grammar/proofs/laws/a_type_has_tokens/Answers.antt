@@ -1,5 +1,0 @@
-use Rattle.nll_type_grammar.proofs.OneTree.{some_tokens}
-use Rattle.nll_type_grammar.proofs.laws.a_type_has_tokens.Goals as goal
-
-pub returns : goal.returns
-returns c = some_tokens
