@@ -13,7 +13,7 @@ use Rattle.nll_rules.specs.Leading.{IsInstance, IsThere}
 abbrev LeadsTo : List Struct → Projection → TypeTree → TypeTree → Type 0
 LeadsTo structs p t f = (u : TypeTree) × (behind structs p t ≡ Some u) × IsInstance f u
 
-put_at : (rs : List ℕ) (ts us : TypeTrees) (k : ℕ) (u : TypeTree) → type_at us k ≡ Some u
+pub put_at : (rs : List ℕ) (ts us : TypeTrees) (k : ℕ) (u : TypeTree) → type_at us k ≡ Some u
     → type_at (put_in_all rs ts us) k ≡ Some (put_in rs ts u)
 put_at rs ts none k u e = absurd cc
 put_at rs ts (more v us) zero u e = ap (option_map (put_in rs ts)) e

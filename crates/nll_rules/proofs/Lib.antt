@@ -5,3 +5,4 @@ pub mod ReborrowLemmas
 pub mod StatementLemmas
 pub mod RegionFreeLemmas
 pub mod LeadingLemmas
+pub mod InstanceLemmas

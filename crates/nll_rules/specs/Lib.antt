@@ -7,3 +7,4 @@ pub mod Walks
 pub mod RegionFree
 pub mod Marks
 pub mod Leading
+pub mod Instances

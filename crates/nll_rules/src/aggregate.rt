@@ -11,14 +11,16 @@ ghost use Rattle.nll_statements.specs.Statements as spec;
 ghost use Rattle.nll_rules.specs.Asking.{Asks};
 ghost use Rattle.nll_rules.specs.Pairs.{AddsPairs, AtOne, BothAsk, PartAsks};
 
-use crate::assignment::{ask_operand, ask_operand_to, is_silent};
+use crate::assignment::{ask_operand, is_silent};
+use crate::instance::{Arguments, Instance, written};
 use crate::places::ask_into;
+use crate::reference::First;
 use crate::region_marks::is_of_marked;
 use crate::variables::Variables;
 use nll_problem::RegionId;
 use nll_sets::Memory;
 use nll_statements::Make;
-use nll_types::{Operand, Place, Ty, field_type};
+use nll_types::{Operand, Place, Ty};
 use std::alloc::Global;
 
 // Puts what an operand that becomes the part at a place of a tuple, or the field of a struct, asks
@@ -41,15 +43,27 @@ fn ask_part_of(
     match ty {
         Ty::Tuple(parts) => {
             if place < parts.len() {
-                ask_operand(alloc, variables, operand, &parts[place], asked)?;
+                let part = written(&parts[place]);
+                ask_operand(alloc, variables, operand, &part, asked)?;
             }
             Ok(())
         }
         Ty::Named(number, regions, types) => {
             let (regions, types) = (regions.as_slice(), types.as_slice());
-            let made = field_type(alloc, variables.structs, *number, regions, types, place)?;
-            ask_operand_to(alloc, variables, operand, &made, asked)?;
-            Ok(())
+            match variables.structs.field(*number, place) {
+                Some(ty) => {
+                    let arguments = Some(Arguments { regions, types });
+                    ask_operand(
+                        alloc,
+                        variables,
+                        operand,
+                        &Instance { ty, arguments },
+                        asked,
+                    )?;
+                    Ok(())
+                }
+                None => Ok(()),
+            }
         }
         Ty::Int | Ty::Parameter(_) | Ty::Reference(_, _, _) | Ty::Function(_, _) => Ok(()),
     }
@@ -114,7 +128,7 @@ pub(crate) fn ask_result(
     if is_of_marked(variables.region_free, place) {
         return Ok(());
     }
-    ask_into(alloc, variables, ty, place, asked)?;
+    ask_into(alloc, variables, &First::Value(written(ty)), place, asked)?;
     Ok(())
 }
 

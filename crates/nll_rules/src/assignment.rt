@@ -1,21 +1,23 @@
 //! What an operand that goes to a place asks.
 
-ghost use Rattle.std.specs.Prelude.{IsTrue, OnOk, Some, map, option_map};
+ghost use Rattle.std.specs.Prelude.{IsTrue, OnOk, Some, map};
 ghost use Rattle.nll_types.specs.Declarations.{structs_of};
 ghost use Rattle.nll_types.specs.Operands as operands;
 ghost use Rattle.nll_types.specs.Operands.{operand_of};
 ghost use Rattle.nll_types.specs.Places.{path_of, type_of};
 ghost use Rattle.nll_types.specs.Views.{tree};
+ghost use Rattle.nll_rules.specs.Instances.{instance_tree};
 ghost use Rattle.nll_rules.specs.Pairs.{AddsPairs, BothAsk};
 ghost use Rattle.nll_rules.specs.Marks.{IsSilent};
 
-use crate::places::ask_from;
+use crate::instance::Instance;
+use crate::places::{ask_between, ask_from};
+use crate::reference::TakenAs;
 use crate::region_marks::is_of_marked;
 use crate::variables::Variables;
-use crate::written::written_type;
 use nll_problem::RegionId;
 use nll_sets::Memory;
-use nll_types::{Operand, Place, Ty, place_type};
+use nll_types::{Operand, Place};
 use std::alloc::Global;
 
 // Whether an operand is a constant or of a variable that is marked.
@@ -33,13 +35,14 @@ pub(crate) fn ask_operand(
     alloc: Global,
     variables: &Variables<'_>,
     operand: &Operand,
-    other: &Ty,
+    other: &Instance<'_>,
     asked: &mut Vec<(RegionId, RegionId)>,
 ) -> Result<(), Memory>
     ensures { OnOk result (AddsPairs
         (BothAsk (structs_of variables.now.structs.now)
         (operands.operand_type (structs_of variables.now.structs.now)
-        (map tree variables.now.types.now) (operand_of operand.now)) (Some (tree other.now)))
+        (map tree variables.now.types.now) (operand_of operand.now))
+        (Some (instance_tree other.now)))
         asked.old.items asked.new.items) }
 {
     match operand {
@@ -48,30 +51,6 @@ pub(crate) fn ask_operand(
             ask_from(alloc, variables, place, other, asked)?;
             Ok(())
         }
-    }
-}
-
-// Puts what an operand asks behind the others, where the type to which it goes is there.
-pub(crate) fn ask_operand_to(
-    alloc: Global,
-    variables: &Variables<'_>,
-    operand: &Operand,
-    other: &Option<Ty>,
-    asked: &mut Vec<(RegionId, RegionId)>,
-) -> Result<(), Memory>
-    ensures { OnOk result (AddsPairs
-        (BothAsk (structs_of variables.now.structs.now)
-        (operands.operand_type (structs_of variables.now.structs.now)
-        (map tree variables.now.types.now) (operand_of operand.now))
-        (option_map tree other.now))
-        asked.old.items asked.new.items) }
-{
-    match other {
-        Some(other) => {
-            ask_operand(alloc, variables, operand, other, asked)?;
-            Ok(())
-        }
-        None => Ok(()),
     }
 }
 
@@ -91,15 +70,11 @@ fn ask_assigned(
         (path_of place.now)))
         asked.old.items asked.new.items) }
 {
-    match written_type(variables.types, place) {
-        Some(other) => {
-            ask_operand(alloc, variables, operand, other, asked)?;
+    match operand {
+        Operand::Const => Ok(()),
+        Operand::Copy(from) | Operand::Move(from) => {
+            ask_between(alloc, variables, &TakenAs::Value, from, place, asked)?;
             Ok(())
-        }
-        None => {
-            let other = place_type(alloc, variables.structs, variables.types, place)?;
-            let told = ask_operand_to(alloc, variables, operand, &other, asked);
-            told
         }
     }
 }

@@ -7,20 +7,21 @@ ghost use Rattle.nll_types.specs.Types.{reference};
 ghost use Rattle.nll_types.specs.Views.{tree};
 ghost use Rattle.nll_statements.specs.Statements as spec;
 ghost use Rattle.nll_rules.specs.Asking.{Asks};
+ghost use Rattle.nll_rules.specs.Instances.{first_tree, instance_tree};
 ghost use Rattle.nll_rules.specs.Pairs.{AddsPairs, BothAsk, OneOutlives};
 ghost use Rattle.nll_rules.specs.Reborrows.{RestsOn};
 ghost use Rattle.nll_rules.specs.Leading.{IsThere};
 
+use crate::instance::{Instance, written};
 use crate::place_types::has_type;
-use crate::places::ask_reference_into;
+use crate::places::{ask_between, ask_into};
 use crate::reborrow::rests_on;
-use crate::reference::{Borrow, ReferenceType};
+use crate::reference::{Borrow, First, TakenAs};
 use crate::region_marks::is_of_marked;
 use crate::variables::Variables;
-use crate::written::written_type;
 use nll_problem::RegionId;
 use nll_sets::Memory;
-use nll_types::{Place, Ty, place_type};
+use nll_types::{Place, Ty};
 use std::alloc::Global;
 
 // Puts behind the others that each of these regions outlives this one.
@@ -38,57 +39,6 @@ fn ask_outlives(
     Ok(())
 }
 
-// The type of a borrow's reference, where that of the borrowed place is this one.
-fn reference_to<'a>(borrow: &Borrow<'_>, target: &'a Ty) -> ReferenceType<'a>
-    ensures region { result.region ≡ borrow.now.region }
-    ensures mutable { result.mutable ≡ borrow.now.mutable }
-    ensures target { result.target.now ≡ target.now }
-{
-    ReferenceType {
-        region: borrow.region,
-        mutable: borrow.mutable,
-        target,
-    }
-}
-
-// Puts what a borrow's reference asks where it goes to a place behind the others.
-fn ask_target(
-    alloc: Global,
-    variables: &Variables<'_>,
-    place: &Place,
-    borrow: &Borrow<'_>,
-    asked: &mut Vec<(RegionId, RegionId)>,
-) -> Result<(), Memory>
-    ensures { OnOk result (AddsPairs
-        (BothAsk (structs_of variables.now.structs.now)
-        (option_map (reference borrow.now.region borrow.now.mutable)
-        (type_of (structs_of variables.now.structs.now) (map tree variables.now.types.now)
-        (path_of borrow.now.borrowed.now)))
-        (type_of (structs_of variables.now.structs.now) (map tree variables.now.types.now)
-        (path_of place.now)))
-        asked.old.items asked.new.items) }
-{
-    match written_type(variables.types, borrow.borrowed) {
-        Some(target) => {
-            let one = reference_to(borrow, target);
-            ask_reference_into(alloc, variables, &one, place, asked)?;
-            Ok(())
-        }
-        None => {
-            let borrowed = borrow.borrowed;
-            let made = place_type(alloc, variables.structs, variables.types, borrowed)?;
-            match &made {
-                Some(target) => {
-                    let one = reference_to(borrow, target);
-                    ask_reference_into(alloc, variables, &one, place, asked)?;
-                    Ok(())
-                }
-                None => Ok(()),
-            }
-        }
-    }
-}
-
 // Whether a place has a type, and its variable is marked.
 fn is_bare_place(variables: &Variables<'_>, place: &Place) -> bool
     ensures marked { IsTrue result
@@ -102,6 +52,14 @@ fn is_bare_place(variables: &Variables<'_>, place: &Place) -> bool
     }
     let there = has_type(variables.structs, variables.types, place);
     there
+}
+
+// The type of a borrow's reference, where that of the borrowed place is this one.
+fn reference_to<'a>(borrow: &Borrow<'_>, target: &Instance<'a>) -> First<'a>
+    ensures { first_tree result
+        ≡ reference borrow.now.region borrow.now.mutable (instance_tree target.now) }
+{
+    First::Reference(borrow.region, borrow.mutable, *target)
 }
 
 // Puts what a borrow's reference asks where it goes to a place behind the others.
@@ -126,11 +84,12 @@ fn ask_reference(
     }
     if is_bare_place(variables, borrow.borrowed) {
         // An `int` stands for a type without regions.
-        let one = reference_to(borrow, &Ty::Int);
-        ask_reference_into(alloc, variables, &one, place, asked)?;
+        let one = reference_to(borrow, &written(&Ty::Int));
+        ask_into(alloc, variables, &one, place, asked)?;
         return Ok(());
     }
-    ask_target(alloc, variables, place, borrow, asked)?;
+    let taken = TakenAs::Reference(borrow.region, borrow.mutable);
+    ask_between(alloc, variables, &taken, borrow.borrowed, place, asked)?;
     Ok(())
 }
 

@@ -12,6 +12,7 @@ ghost use Rattle.nll_rules.specs.Pairs.{AddsPairs, AtOne, BothAsk, InputAsks};
 
 use crate::aggregate::ask_result;
 use crate::assignment::{ask_operand, is_silent};
+use crate::instance::written;
 use crate::variables::Variables;
 use nll_problem::RegionId;
 use nll_sets::Memory;
@@ -36,7 +37,7 @@ fn ask_input(
     if is_silent(variables.region_free, &argument.0) {
         return Ok(());
     }
-    ask_operand(alloc, variables, &argument.0, &argument.1, asked)?;
+    ask_operand(alloc, variables, &argument.0, &written(&argument.1), asked)?;
     Ok(())
 }
 

@@ -5,6 +5,7 @@ mod aggregate;
 mod assignment;
 mod borrows;
 mod call;
+mod instance;
 mod place_types;
 mod places;
 mod reborrow;
@@ -14,7 +15,7 @@ mod sign;
 mod statement;
 mod subtypes;
 mod variables;
-mod written;
+mod walk;
 
 pub use reborrow::rests_on;
 pub use region_marks::region_free;

@@ -1,39 +1,124 @@
-//! What the subtypings of types of places ask. A type that stands in that of its variable isn't
-//! copied.
+//! What the subtypings of types of places ask. A type of a field stands in the declaration of its
+//! struct, and isn't made.
 
-ghost use Rattle.std.specs.Prelude.{OnOk, Some, map, option_map};
+ghost use Rattle.std.specs.Prelude.{◌≡◌, OnOk, Some, drop, map};
 ghost use Rattle.nll_types.specs.Declarations.{structs_of};
-ghost use Rattle.nll_types.specs.Places.{path_of, type_of};
-ghost use Rattle.nll_types.specs.Types.{reference};
+ghost use Rattle.nll_types.specs.Places.{behind_all, path_of, type_of};
 ghost use Rattle.nll_types.specs.Views.{tree};
+ghost use Rattle.nll_rules.specs.Instances.{first_tree, instance_tree, taken_as};
 ghost use Rattle.nll_rules.specs.Pairs.{AddsPairs, BothAsk};
 
-use crate::reference::ReferenceType;
-use crate::subtypes::{subtyping, subtyping_of_reference};
+use crate::instance::{Instance, made, written};
+use crate::reference::{First, TakenAs};
+use crate::subtypes::subtyping_of;
 use crate::variables::Variables;
-use crate::written::written_type;
+use crate::walk::{End, variable_type, walk};
 use nll_problem::RegionId;
 use nll_sets::Memory;
-use nll_types::{Place, Structs, Ty, place_type};
+use nll_types::{Place, Projection, Structs, Ty};
 use std::alloc::Global;
 
-// Puts what a subtyping asks behind the others, where the first type is there.
-fn ask_before(
+// What is left of a place: a type, and the projections that are taken of it, from this one on.
+#[derive(Clone, Copy)]
+struct Left<'a> {
+    ty: &'a Ty,
+    projections: &'a [Projection],
+    from: usize,
+}
+
+// Puts what a value of a type that goes to what is left of a place asks behind the others.
+fn ask_into_left(
+    alloc: Global,
     structs: &Structs,
-    one: &Option<Ty>,
-    other: &Ty,
+    one: &First<'_>,
+    left: &Left<'_>,
     asked: &mut Vec<(RegionId, RegionId)>,
 ) -> Result<(), Memory>
     ensures { OnOk result (AddsPairs
-        (BothAsk (structs_of structs.now) (option_map tree one.now) (Some (tree other.now)))
+        (BothAsk (structs_of structs.now) (Some (first_tree one.now))
+        (behind_all (structs_of structs.now) (drop left.now.from left.now.projections.now)
+        (tree left.now.ty.now)))
         asked.old.items asked.new.items) }
 {
-    match one {
-        Some(one) => {
-            subtyping(structs, one, other, asked)?;
+    match walk(structs, &written(left.ty), left.projections, left.from) {
+        End::Reached(other) => {
+            subtyping_of(structs, one, &other, asked)?;
+            Ok(())
+        }
+        End::Inner(inner, taken) => {
+            let owner = made(alloc, &inner)?;
+            let rest = Left {
+                ty: &owner,
+                projections: left.projections,
+                from: taken,
+            };
+            let told = ask_into_left(alloc, structs, one, &rest, asked);
+            told
+        }
+        End::Nowhere => Ok(()),
+    }
+}
+
+/// Puts what a value of this type that goes to a place asks behind the others.
+pub(crate) fn ask_into(
+    alloc: Global,
+    variables: &Variables<'_>,
+    one: &First<'_>,
+    place: &Place,
+    asked: &mut Vec<(RegionId, RegionId)>,
+) -> Result<(), Memory>
+    ensures { OnOk result (AddsPairs
+        (BothAsk (structs_of variables.now.structs.now) (Some (first_tree one.now))
+        (type_of (structs_of variables.now.structs.now) (map tree variables.now.types.now)
+        (path_of place.now)))
+        asked.old.items asked.new.items) }
+{
+    match variable_type(variables.types, place) {
+        Some(ty) => {
+            let structs = variables.structs;
+            let left = Left {
+                ty,
+                projections: place.projections(),
+                from: 0,
+            };
+            ask_into_left(alloc, structs, one, &left, asked)?;
             Ok(())
         }
         None => Ok(()),
+    }
+}
+
+// Puts what a value of what is left of a place that goes to a type asks behind the others.
+fn ask_from_left(
+    alloc: Global,
+    structs: &Structs,
+    left: &Left<'_>,
+    other: &Instance<'_>,
+    asked: &mut Vec<(RegionId, RegionId)>,
+) -> Result<(), Memory>
+    ensures { OnOk result (AddsPairs
+        (BothAsk (structs_of structs.now)
+        (behind_all (structs_of structs.now) (drop left.now.from left.now.projections.now)
+        (tree left.now.ty.now))
+        (Some (instance_tree other.now)))
+        asked.old.items asked.new.items) }
+{
+    match walk(structs, &written(left.ty), left.projections, left.from) {
+        End::Reached(one) => {
+            subtyping_of(structs, &First::Value(one), other, asked)?;
+            Ok(())
+        }
+        End::Inner(inner, taken) => {
+            let owner = made(alloc, &inner)?;
+            let rest = Left {
+                ty: &owner,
+                projections: left.projections,
+                from: taken,
+            };
+            let told = ask_from_left(alloc, structs, &rest, other, asked);
+            told
+        }
+        End::Nowhere => Ok(()),
     }
 }
 
@@ -42,123 +127,113 @@ pub(crate) fn ask_from(
     alloc: Global,
     variables: &Variables<'_>,
     place: &Place,
-    other: &Ty,
+    other: &Instance<'_>,
     asked: &mut Vec<(RegionId, RegionId)>,
 ) -> Result<(), Memory>
     ensures { OnOk result (AddsPairs
         (BothAsk (structs_of variables.now.structs.now)
         (type_of (structs_of variables.now.structs.now) (map tree variables.now.types.now)
         (path_of place.now))
-        (Some (tree other.now)))
+        (Some (instance_tree other.now)))
         asked.old.items asked.new.items) }
 {
-    match written_type(variables.types, place) {
-        Some(one) => {
-            subtyping(variables.structs, one, other, asked)?;
-            Ok(())
-        }
-        None => {
-            let one = place_type(alloc, variables.structs, variables.types, place)?;
-            let told = ask_before(variables.structs, &one, other, asked);
-            told
-        }
-    }
-}
-
-// Puts what a subtyping asks behind the others, where the other type is there.
-fn ask_behind(
-    structs: &Structs,
-    one: &Ty,
-    other: &Option<Ty>,
-    asked: &mut Vec<(RegionId, RegionId)>,
-) -> Result<(), Memory>
-    ensures { OnOk result (AddsPairs
-        (BothAsk (structs_of structs.now) (Some (tree one.now)) (option_map tree other.now))
-        asked.old.items asked.new.items) }
-{
-    match other {
-        Some(other) => {
-            subtyping(structs, one, other, asked)?;
+    match variable_type(variables.types, place) {
+        Some(ty) => {
+            let structs = variables.structs;
+            let left = Left {
+                ty,
+                projections: place.projections(),
+                from: 0,
+            };
+            ask_from_left(alloc, structs, &left, other, asked)?;
             Ok(())
         }
         None => Ok(()),
     }
 }
 
-/// Puts what a value of this type that goes to a place asks behind the others.
-pub(crate) fn ask_into(
-    alloc: Global,
-    variables: &Variables<'_>,
-    one: &Ty,
-    place: &Place,
-    asked: &mut Vec<(RegionId, RegionId)>,
-) -> Result<(), Memory>
-    ensures { OnOk result (AddsPairs
-        (BothAsk (structs_of variables.now.structs.now) (Some (tree one.now))
-        (type_of (structs_of variables.now.structs.now) (map tree variables.now.types.now)
-        (path_of place.now)))
-        asked.old.items asked.new.items) }
+// The type of what is taken of a place of this type.
+fn first<'a>(taken: &TakenAs, instance: &Instance<'a>) -> First<'a>
+    ensures { Some (first_tree result) ≡ taken_as taken.now (Some (instance_tree instance.now)) }
 {
-    match written_type(variables.types, place) {
-        Some(other) => {
-            subtyping(variables.structs, one, other, asked)?;
-            Ok(())
-        }
-        None => {
-            let other = place_type(alloc, variables.structs, variables.types, place)?;
-            let told = ask_behind(variables.structs, one, &other, asked);
-            told
-        }
+    match taken {
+        TakenAs::Value => First::Value(*instance),
+        TakenAs::Reference(region, mutable) => First::Reference(*region, *mutable, *instance),
     }
 }
 
-// Puts what a subtyping of a type of references asks behind the others, where the other type is
-// there.
-fn ask_reference_behind(
-    structs: &Structs,
-    one: &ReferenceType<'_>,
-    other: &Option<Ty>,
-    asked: &mut Vec<(RegionId, RegionId)>,
-) -> Result<(), Memory>
-    ensures { OnOk result (AddsPairs
-        (BothAsk (structs_of structs.now)
-        (Some (reference one.now.region one.now.mutable (tree one.now.target.now)))
-        (option_map tree other.now))
-        asked.old.items asked.new.items) }
-{
-    match other {
-        Some(other) => {
-            subtyping_of_reference(structs, one, other, asked)?;
-            Ok(())
-        }
-        None => Ok(()),
-    }
-}
-
-/// Puts what a reference of this type that goes to a place asks behind the others.
-pub(crate) fn ask_reference_into(
+// Puts what a value of what is left of a place, or a reference to it, that goes to another place
+// asks behind the others.
+fn ask_between_left(
     alloc: Global,
     variables: &Variables<'_>,
-    one: &ReferenceType<'_>,
+    taken: &TakenAs,
+    left: &Left<'_>,
     place: &Place,
     asked: &mut Vec<(RegionId, RegionId)>,
 ) -> Result<(), Memory>
     ensures { OnOk result (AddsPairs
         (BothAsk (structs_of variables.now.structs.now)
-        (Some (reference one.now.region one.now.mutable (tree one.now.target.now)))
+        (taken_as taken.now
+        (behind_all (structs_of variables.now.structs.now)
+        (drop left.now.from left.now.projections.now) (tree left.now.ty.now)))
         (type_of (structs_of variables.now.structs.now) (map tree variables.now.types.now)
         (path_of place.now)))
         asked.old.items asked.new.items) }
 {
-    match written_type(variables.types, place) {
-        Some(other) => {
-            subtyping_of_reference(variables.structs, one, other, asked)?;
+    match walk(
+        variables.structs,
+        &written(left.ty),
+        left.projections,
+        left.from,
+    ) {
+        End::Reached(one) => {
+            ask_into(alloc, variables, &first(taken, &one), place, asked)?;
             Ok(())
         }
-        None => {
-            let other = place_type(alloc, variables.structs, variables.types, place)?;
-            let told = ask_reference_behind(variables.structs, one, &other, asked);
+        End::Inner(inner, next) => {
+            let owner = made(alloc, &inner)?;
+            let rest = Left {
+                ty: &owner,
+                projections: left.projections,
+                from: next,
+            };
+            let told = ask_between_left(alloc, variables, taken, &rest, place, asked);
             told
         }
+        End::Nowhere => Ok(()),
+    }
+}
+
+/// Puts what a value of a place, or a reference to it, that goes to another place asks behind the
+/// others.
+pub(crate) fn ask_between(
+    alloc: Global,
+    variables: &Variables<'_>,
+    taken: &TakenAs,
+    from: &Place,
+    to: &Place,
+    asked: &mut Vec<(RegionId, RegionId)>,
+) -> Result<(), Memory>
+    ensures { OnOk result (AddsPairs
+        (BothAsk (structs_of variables.now.structs.now)
+        (taken_as taken.now
+        (type_of (structs_of variables.now.structs.now) (map tree variables.now.types.now)
+        (path_of from.now)))
+        (type_of (structs_of variables.now.structs.now) (map tree variables.now.types.now)
+        (path_of to.now)))
+        asked.old.items asked.new.items) }
+{
+    match variable_type(variables.types, from) {
+        Some(ty) => {
+            let left = Left {
+                ty,
+                projections: from.projections(),
+                from: 0,
+            };
+            ask_between_left(alloc, variables, taken, &left, to, asked)?;
+            Ok(())
+        }
+        None => Ok(()),
     }
 }

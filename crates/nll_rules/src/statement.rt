@@ -24,8 +24,9 @@ use std::alloc::Global;
 /// the first is to outlive the second.
 ///
 /// # Cost
-/// The types of the places that aren't of variables that are marked; those of fields of structs are
-/// made (not proved).
+/// The types of the places that aren't of variables that are marked. No type of a place is made;
+/// but where a struct stands in the declaration of another and something is taken of it, the type
+/// of that struct is (not proved).
 ///
 /// # Source
 /// RFC 2094, "Subtyping" and "Reborrow constraints".

@@ -3,11 +3,14 @@
 ghost use Rattle.std.specs.Prelude.{OnOk};
 ghost use Rattle.nll_types.specs.Declarations.{structs_of};
 ghost use Rattle.nll_types.specs.Types.{reference};
-ghost use Rattle.nll_types.specs.Views.{tree, trees};
+ghost use Rattle.nll_types.specs.Views.{tree};
+ghost use Rattle.nll_rules.specs.Instances.{IsNoReference, IsSettled};
+ghost use Rattle.nll_rules.specs.Instances.{first_tree, instance_tree, row_regions, row_trees};
 ghost use Rattle.nll_rules.specs.Pairs.{AddsPairs, ArgumentAsks, AtOne, TypeAsks};
 ghost use Rattle.nll_rules.specs.Subtyping.{IsAsked, SubtypeAsks, SubtypeAsksBehind};
 
-use crate::reference::ReferenceType;
+use crate::instance::{Instance, RegionRow, TypeRow, region_in, settled, written};
+use crate::reference::{First, ReferenceType};
 use crate::sign::{region_parameters, sign_or, target_sign, times, type_parameters};
 use nll_problem::RegionId;
 use nll_sets::Memory;
@@ -45,17 +48,19 @@ struct RowSigns<'a> {
 // Puts what is asked at region arguments behind the others.
 fn ask_regions(
     parameters: &[Parameter],
-    rs: &[RegionId],
-    qs: &[RegionId],
+    rs: &RegionRow<'_>,
+    qs: &RegionRow<'_>,
     outer: Sign,
     asked: &mut Vec<(RegionId, RegionId)>,
 ) -> Result<(), Memory>
-    ensures { OnOk result (AddsPairs (AtOne (ArgumentAsks parameters.now outer rs.now qs.now))
+    ensures { OnOk result (AddsPairs
+        (AtOne (ArgumentAsks parameters.now outer (row_regions rs.now) (row_regions qs.now)))
         asked.old.items asked.new.items) }
 {
-    for place in 0..rs.len().min(qs.len()) {
+    for place in 0..rs.regions.len().min(qs.regions.len()) {
         let sign = times(outer, sign_or(parameters, place, Sign::Invariant));
-        ask_pair(sign, rs[place], qs[place], asked)?;
+        let (r, q) = (rs.get(place), qs.get(place));
+        ask_pair(sign, r, q, asked)?;
     }
     Ok(())
 }
@@ -75,30 +80,67 @@ pub fn subtyping(
         (AddsPairs (SubtypeAsks (structs_of structs.now) (tree one.now) (tree other.now))
         asked.old.items asked.new.items) }
 {
-    ask(structs, one, other, Sign::Covariant, asked)?;
+    ask(
+        structs,
+        &written(one),
+        &written(other),
+        Sign::Covariant,
+        asked,
+    )?;
     Ok(())
 }
 
-/// Puts what is asked where the type of a reference to the first type is to be a subtype of the
-/// second behind the others.
-pub(crate) fn subtyping_of_reference(
+/// The same of types that may stand in the declarations of structs. The first may be that of a
+/// reference that is made.
+pub(crate) fn subtyping_of(
+    structs: &Structs,
+    one: &First<'_>,
+    other: &Instance<'_>,
+    asked: &mut Vec<(RegionId, RegionId)>,
+) -> Result<(), Memory>
+    ensures { OnOk result (AddsPairs
+        (SubtypeAsks (structs_of structs.now) (first_tree one.now) (instance_tree other.now))
+        asked.old.items asked.new.items) }
+{
+    match one {
+        First::Value(one) => {
+            ask(structs, one, other, Sign::Covariant, asked)?;
+            Ok(())
+        }
+        First::Reference(region, mutable, target) => {
+            let one = ReferenceType {
+                region: *region,
+                mutable: *mutable,
+                target: *target,
+            };
+            subtyping_of_reference(structs, &one, other, asked)?;
+            Ok(())
+        }
+    }
+}
+
+// Puts what is asked where the type of a reference to the first type is to be a subtype of the
+// second behind the others.
+fn subtyping_of_reference(
     structs: &Structs,
     one: &ReferenceType<'_>,
-    other: &Ty,
+    other: &Instance<'_>,
     asked: &mut Vec<(RegionId, RegionId)>,
 ) -> Result<(), Memory>
     ensures { OnOk result (AddsPairs
         (SubtypeAsks (structs_of structs.now)
-        (reference one.now.region one.now.mutable (tree one.now.target.now))
-        (tree other.now))
+        (reference one.now.region one.now.mutable (instance_tree one.now.target))
+        (instance_tree other.now))
         asked.old.items asked.new.items) }
 {
-    match other {
-        Ty::Reference(other_region, other_mutable, other_target) => {
-            ask_pair(Sign::Covariant, one.region, *other_region, asked)?;
+    let other = settled(other);
+    match other.ty {
+        Ty::Reference(other_region, other_mutable, target) => {
+            let region = region_in(&other.arguments, *other_region);
+            ask_pair(Sign::Covariant, one.region, region, asked)?;
             if one.mutable == *other_mutable {
                 let sign = target_sign(one.mutable);
-                ask(structs, one.target, other_target, sign, asked)?;
+                ask(structs, &one.target, &other.part(target), sign, asked)?;
             }
             Ok(())
         }
@@ -108,26 +150,33 @@ pub(crate) fn subtyping_of_reference(
     }
 }
 
-// Puts what a subtyping at a position of this sign asks behind the others.
+// Puts what a subtyping at a position of this sign asks behind the others. Types that have rows are
+// left to another function: each call clears all that its function keeps in memory.
 #[cycle(subtypes)]
 fn ask(
     structs: &Structs,
-    one: &Ty,
-    other: &Ty,
+    one: &Instance<'_>,
+    other: &Instance<'_>,
     outer: Sign,
     asked: &mut Vec<(RegionId, RegionId)>,
 ) -> Result<(), Memory>
     ensures { OnOk result (AddsPairs
-        (SubtypeAsksBehind (structs_of structs.now) outer (tree one.now) (tree other.now))
+        (SubtypeAsksBehind (structs_of structs.now) outer (instance_tree one.now)
+        (instance_tree other.now))
         asked.old.items asked.new.items) }
 {
-    match one {
+    let (one, other) = (settled(one), settled(other));
+    match one.ty {
         Ty::Int | Ty::Parameter(_) => Ok(()),
-        Ty::Reference(a, mutable, t) => match other {
+        Ty::Reference(a, mutable, t) => match other.ty {
             Ty::Reference(b, other_mutable, u) => {
-                ask_pair(outer, *a, *b, asked)?;
+                let a = region_in(&one.arguments, *a);
+                let b = region_in(&other.arguments, *b);
+                ask_pair(outer, a, b, asked)?;
                 if *mutable == *other_mutable {
-                    ask(structs, t, u, times(outer, target_sign(*mutable)), asked)?;
+                    let t = one.part(t);
+                    let u = other.part(u);
+                    ask(structs, &t, &u, times(outer, target_sign(*mutable)), asked)?;
                 }
                 Ok(())
             }
@@ -135,15 +184,42 @@ fn ask(
                 Ok(())
             }
         },
-        Ty::Tuple(ts) => match other {
+        Ty::Tuple(_) | Ty::Named(_, _, _) | Ty::Function(_, _) => {
+            ask_rows(structs, &one, &other, outer, asked)?;
+            Ok(())
+        }
+    }
+}
+
+// The same where the first type isn't that of a reference.
+#[cycle(subtypes)]
+fn ask_rows(
+    structs: &Structs,
+    one: &Instance<'_>,
+    other: &Instance<'_>,
+    outer: Sign,
+    asked: &mut Vec<(RegionId, RegionId)>,
+) -> Result<(), Memory>
+    requires one { IsSettled one.now }
+    requires other { IsSettled other.now }
+    requires rows { IsNoReference one.now }
+    ensures { OnOk result (AddsPairs
+        (SubtypeAsksBehind (structs_of structs.now) outer (instance_tree one.now)
+        (instance_tree other.now))
+        asked.old.items asked.new.items) }
+{
+    match one.ty {
+        Ty::Int | Ty::Parameter(_) | Ty::Reference(_, _, _) => Ok(()),
+        Ty::Tuple(ts) => match other.ty {
             Ty::Tuple(us) => {
-                let (ts, us) = (ts.as_slice(), us.as_slice());
+                let ts = one.row(ts.as_slice());
+                let us = other.row(us.as_slice());
                 let signs = RowSigns {
                     outer,
                     parameters: &[],
                     other: Sign::Covariant,
                 };
-                ask_types(structs, &signs, ts, us, asked)?;
+                ask_types(structs, &signs, &ts, &us, asked)?;
                 Ok(())
             }
             Ty::Int
@@ -152,19 +228,22 @@ fn ask(
             | Ty::Named(_, _, _)
             | Ty::Function(_, _) => Ok(()),
         },
-        Ty::Named(number, rs, ts) => match other {
+        Ty::Named(number, rs, ts) => match other.ty {
             Ty::Named(other_number, qs, us) => {
                 if *number == *other_number {
                     let parameters = region_parameters(structs, *number);
-                    ask_regions(parameters, rs.as_slice(), qs.as_slice(), outer, asked)?;
+                    let rs = one.regions(rs.as_slice());
+                    let qs = other.regions(qs.as_slice());
+                    ask_regions(parameters, &rs, &qs, outer, asked)?;
                     let parameters = type_parameters(structs, *number);
-                    let (ts, us) = (ts.as_slice(), us.as_slice());
+                    let ts = one.row(ts.as_slice());
+                    let us = other.row(us.as_slice());
                     let signs = RowSigns {
                         outer,
                         parameters,
                         other: Sign::Invariant,
                     };
-                    ask_types(structs, &signs, ts, us, asked)?;
+                    ask_types(structs, &signs, &ts, &us, asked)?;
                 }
                 Ok(())
             }
@@ -174,15 +253,18 @@ fn ask(
             | Ty::Tuple(_)
             | Ty::Function(_, _) => Ok(()),
         },
-        Ty::Function(ts, t) => match other {
+        Ty::Function(ts, t) => match other.ty {
             Ty::Function(us, u) => {
-                let (ts, us) = (ts.as_slice(), us.as_slice());
+                let ts = one.row(ts.as_slice());
+                let us = other.row(us.as_slice());
                 let signs = RowSigns {
                     outer,
                     parameters: &[],
                     other: Sign::Contravariant,
                 };
-                ask_types(structs, &signs, ts, us, asked)?;
+                ask_types(structs, &signs, &ts, &us, asked)?;
+                let t = &one.part(t);
+                let u = &other.part(u);
                 ask(structs, t, u, outer, asked)?;
                 Ok(())
             }
@@ -201,18 +283,19 @@ fn ask(
 fn ask_types(
     structs: &Structs,
     signs: &RowSigns<'_>,
-    ts: &[Ty],
-    us: &[Ty],
+    ts: &TypeRow<'_>,
+    us: &TypeRow<'_>,
     asked: &mut Vec<(RegionId, RegionId)>,
 ) -> Result<(), Memory>
     ensures { OnOk result (AddsPairs
         (AtOne (TypeAsks (structs_of structs.now) signs.now.parameters.now
-        signs.now.other signs.now.outer (trees ts.now) (trees us.now)))
+        signs.now.other signs.now.outer (row_trees ts.now) (row_trees us.now)))
         asked.old.items asked.new.items) }
 {
-    for place in 0..ts.len().min(us.len()) {
+    for place in 0..ts.types.len().min(us.types.len()) {
         let sign = times(signs.outer, sign_or(signs.parameters, place, signs.other));
-        ask(structs, &ts[place], &us[place], sign, asked)?;
+        let (t, u) = (ts.get(place), us.get(place));
+        ask(structs, &t, &u, sign, asked)?;
     }
     Ok(())
 }

@@ -23,9 +23,4 @@ returns-then-is_bare_place c =
     (path_of c.args.borrow.now.borrowed.now) c.args.borrow.now.region c.args.borrow.now.mutable there.0
     (type_of structs types (path_of c.args.place.now)) x
     (c.is_bare_place.ensures.marked c.if-is_bare_place.true) there.1)
-    (rw (
-      c.reference_to-one.ensures.region,
-      c.reference_to-one.ensures.mutable,
-      c.reference_to-one.ensures.target,
-      tree_int,
-    ) at c.in_ok-ask_reference_into.ensures))
+    (rw (c.reference_to-one.ensures, c.written.ensures.tree, tree_int) at c.in_ok-ask_into.ensures))

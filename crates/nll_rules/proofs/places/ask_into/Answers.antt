@@ -1,9 +1,12 @@
-use Rattle.std.proofs.Common.{refl}
+use Rattle.std.proofs.Common.{ap, refl}
+use Rattle.std.specs.Prelude.{option_and_then}
 use Rattle.nll_types.specs.Declarations.{structs_of}
-use Rattle.nll_rules.proofs.StatementLemmas.{adds_both}
+use Rattle.nll_types.specs.Places.{behind_all, path_of}
+use Rattle.nll_rules.proofs.InstanceLemmas.{both_as}
 use Rattle.nll_rules.proofs.places.ask_into.Goals as goal
 
-pub returns-in_ok-subtyping-in-Some : goal.returns-in_ok-subtyping-in-Some
-returns-in_ok-subtyping-in-Some c =
-    adds_both _ _ _ _ _ _ _ refl (c.in-Some.ensures (structs_of c.args.variables.now.structs.now))
-    c.in_ok-subtyping-in-Some.ensures
+pub returns-in_ok-ask_into_left-in-Some : goal.returns-in_ok-ask_into_left-in-Some
+returns-in_ok-ask_into_left-in-Some c =
+    let there = ap (option_and_then (behind_all (structs_of c.args.variables.now.structs.now)
+    (path_of c.args.place.now).projections)) c.in-Some.ensures in
+    both_as _ _ _ _ _ _ _ refl there (rw c.projections.ensures at c.in_ok-ask_into_left-in-Some.ensures)

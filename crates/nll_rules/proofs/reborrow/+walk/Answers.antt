@@ -1,4 +1,4 @@
-use Rattle.std.proofs.Common.{◌<◌, ◌≤◌, ◌∙◌, length, sym, refl, ap, arith}
+use Rattle.std.proofs.Common.{◌<◌, ◌≤◌, ◌∙◌, length, sym, refl, ap, arith, None}
 use Rattle.std.specs.Prelude.{option_map}
 use Rattle.std.proofs.lemmas.Option.{slice_get_read, slice_get_past}
 use Rattle.nll_types.specs.Declarations.{structs_of}
@@ -6,7 +6,7 @@ use Rattle.nll_types.specs.Places.{behind}
 use Rattle.nll_types.specs.Views.{tree}
 use Rattle.nll_types.specs.declared.place.Projection.TheVariants.{Deref, Field}
 use Rattle.nll_types.proofs.ViewLemmas.{tree_reference, tree_tuple, tree_named, type_at_item, type_at_trees}
-use Rattle.nll_rules.proofs.FormLemmas.{no_reference, no_parts}
+use Rattle.nll_rules.proofs.FormLemmas.{alone, no_reference, no_parts}
 use Rattle.nll_rules.proofs.ReborrowLemmas.{step_none, step_on, deref_ends, no_field}
 use Rattle.nll_rules.proofs.reborrow.+walk.Goals as goal
 
@@ -34,7 +34,7 @@ returns-in_ok-reached-in-Reference-clause-walked t c =
 pub returns-in-Int-clause-walked : goal.returns-in-Int-clause-walked
 returns-in-Int-clause-walked t c =
     deref_ends (structs_of c.args.structs.now) c.args.projections.now c.args.from Deref _ _ c.if-from-projections.false
-    c.in-Deref.is (no_reference _ c.in-Int.is)
+    c.in-Deref.is (no_reference None _ (alone _) c.in-Int.is)
 
 pub returns-in_ok-reached-in-Tuple-clause-walked : goal.returns-in_ok-reached-in-Tuple-clause-walked
 returns-in_ok-reached-in-Tuple-clause-walked t c =
@@ -71,7 +71,7 @@ returns-in-None-clause-walked t c =
 pub returns-in-Int-ty-clause-walked : goal.returns-in-Int-ty-clause-walked
 returns-in-Int-ty-clause-walked t c =
     let structs = structs_of c.args.structs.now in
-    let w = no_parts _ c.in-Int-ty.is in
+    let w = no_parts None _ (alone _) c.in-Int-ty.is in
     step_none structs c.args.projections.now c.args.from Deref
     (Field c.in-Field.place) _ _ c.if-from-projections.false c.in-Field.is
     (no_field structs c.in-Field.place _ w.0 w.1)

@@ -1,7 +1,8 @@
-use Rattle.std.proofs.Common.{◌<◌, length, refl, arith}
-use Rattle.std.proofs.lemmas.Option.{slice_get_read}
+use Rattle.std.proofs.Common.{arith}
+use Rattle.nll_rules.specs.Instances.{row_regions}
 use Rattle.nll_rules.proofs.PairLemmas.{below_none, below_more, below_all}
-use Rattle.nll_rules.proofs.SubtypeLemmas.{argument_at, arguments_within}
+use Rattle.nll_rules.proofs.SubtypeLemmas.{argument_at}
+use Rattle.nll_rules.proofs.InstanceLemmas.{row_arguments_within}
 use Rattle.nll_rules.proofs.subtypes.ask_regions.Goals as goal
 
 pub loop-place-init : goal.loop-place-init
@@ -9,20 +10,13 @@ loop-place-init c = below_none _ _
 
 pub loop-place-preserved : goal.loop-place-preserved
 loop-place-preserved c =
-    let n = c.loop-place.place in
-    let rs = c.args.rs.now in
-    let qs = c.args.qs.now in
-    let a = c.index-rs-place.result in
-    let b = c.index-qs-place.result in
-    let here : n < length rs = omega (arith, c.min-place-end.ensures) in
-    let there : n < length qs = omega (arith, c.min-place-end.ensures) in
-    below_more _ _ n _ _ _ (λ x. argument_at c.args.parameters.now c.args.outer rs qs n a b x
-    (slice_get_read rs _ n a refl here c.index-rs-place.is)
-    (slice_get_read qs _ n b refl there c.index-qs-place.is))
+    below_more _ _ c.loop-place.place _ _ _ (λ x. argument_at c.args.parameters.now c.args.outer
+    (row_regions c.args.rs.now) (row_regions c.args.qs.now) c.loop-place.place c.get-r.result c.get-q.result x
+    c.get-r.ensures c.get-q.ensures)
     c.loop-place.invariant (rw (c.times-sign.ensures, c.sign_or.ensures) at c.in_ok-ask_pair.ensures)
 
 pub returns : goal.returns
 returns c =
     below_all _ c.loop-place.place _ _ (λ k x p.
-    arguments_within c.args.parameters.now c.args.outer c.args.rs.now c.args.qs.now c.loop-place.place k x
+    row_arguments_within c.args.parameters.now c.args.outer c.args.rs.now c.args.qs.now c.loop-place.place k x
     (omega (arith, c.min-place-end.ensures)) p) c.loop-place.invariant

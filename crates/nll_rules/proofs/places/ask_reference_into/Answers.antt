@@ -1,9 +1,0 @@
-use Rattle.std.proofs.Common.{refl}
-use Rattle.nll_types.specs.Declarations.{structs_of}
-use Rattle.nll_rules.proofs.StatementLemmas.{adds_both}
-use Rattle.nll_rules.proofs.places.ask_reference_into.Goals as goal
-
-pub returns-in_ok-subtyping_of_reference-in-Some : goal.returns-in_ok-subtyping_of_reference-in-Some
-returns-in_ok-subtyping_of_reference-in-Some c =
-    adds_both _ _ _ _ _ _ _ refl (c.in-Some.ensures (structs_of c.args.variables.now.structs.now))
-    c.in_ok-subtyping_of_reference-in-Some.ensures
