@@ -1,19 +1,20 @@
 -- What a mailbox on a ring tells of its ends.
 -- Source: project's choice.
-use Rattle.std.specs.Prelude.{ℕ, List, ◌++◌, take, drop}
+use Rattle.std.specs.Prelude.{ℕ, List}
 use Rattle.rtrb.specs.Ring.{sent, received, known_free, known_items, IsPair}
 use Rattle.nll_mail.specs.declared.growth.Growth.{Growth}
 use Rattle.nll_mail.specs.declared.ring_mail.RingSender.{RingSender}
 use Rattle.nll_mail.specs.declared.ring_mail.RingReceiver.{RingReceiver}
 use Rattle.nll_mail.specs.declared.ring_mail.RingClosed.{RingClosed}
+use Rattle.nll_mail.specs.declared.ring_mail.RingPost.{RingPost}
 
 -- what a sender has sent, in order
 abbrev pub sent_by : RingSender → List Growth
 sent_by sender = sent sender.producer
 
--- what a receiver has received, in order: of what it took out of the ring, as many as it counts
+-- what a receiver has received, in order
 abbrev pub received_by : RingReceiver → List Growth
-received_by receiver = take receiver.count (received receiver.consumer)
+received_by receiver = received receiver.consumer
 
 -- from whom to whom the mailbox of a receiver goes
 abbrev pub ends_of : RingReceiver → ℕ × ℕ
@@ -23,11 +24,10 @@ ends_of receiver = (receiver.from, receiver.to)
 abbrev pub room_of : RingSender → ℕ
 room_of sender = known_free sender.producer
 
--- the growths that a receiver has seen and not yet received: those that it took out of the ring
--- before their turn, and those that it knows to be in the ring; no one but the receiver takes them
+-- the growths that a receiver has seen in the ring and not yet received; no one but the receiver
+-- takes them
 abbrev pub seen_by : RingReceiver → List Growth
-seen_by receiver =
-    drop receiver.count (received receiver.consumer) ++ known_items receiver.consumer
+seen_by receiver = known_items receiver.consumer
 
 -- the two are the ends of one ring
 abbrev pub IsJoined : RingSender → RingReceiver → Type 0
@@ -36,3 +36,7 @@ IsJoined sender receiver = IsPair sender.producer receiver.consumer
 -- the closed sender and the receiver are the ends of one ring
 abbrev pub Closes : RingClosed → RingReceiver → Type 0
 Closes closed receiver = IsPair closed.producer receiver.consumer
+
+-- what is left in a settled mailbox, in order
+abbrev pub left_in : RingPost → List Growth
+left_in post = known_items post.consumer

@@ -1,19 +1,16 @@
 //! Mailboxes on rings.
 //!
-//! A ring of fixed room, with one end that pushes and one that pops. No call waits for the other
-//! end, and none asks for memory once the ring is made. The rule of the ring tells the receiver of
-//! each growth that fewer were sent before it than a mailbox may carry.
-//!
-//! The receiver takes growths out of the ring by batches, since each step that the other end sees
-//! costs far more than a step of its own. The sender tells of each growth at once.
+//! A ring of fixed room, with one end that pushes and one that pops. A push is the one step of a
+//! post, a pop the one step of a take. No call waits for the other end, and none asks for memory
+//! once the ring is made. The rule of the ring tells the receiver of each growth that fewer were
+//! sent before it than a mailbox may carry.
 //!
 //! Source: the ring of one producer and one consumer of the Rust crate `rtrb`, as the kit has it.
 
-ghost use Rattle.std.specs.Prelude.{◌≡◌, ◌+◌, ◌≤◌, length, drop};
-ghost use Rattle.rtrb.specs.Ring.{producer_capacity, received as popped};
-ghost use Rattle.nll_problem.specs.Limits.{most_places, most_posts};
+ghost use Rattle.std.specs.Prelude.{◌≡◌, length};
+ghost use Rattle.rtrb.specs.Ring.{producer_capacity, consumer_capacity, received as popped};
+ghost use Rattle.nll_problem.specs.Limits.{most_places};
 
-use crate::batch::Batch;
 use crate::growth::Growth;
 use crate::mail::{Mail, PostError};
 use nll_sets::Memory;
@@ -38,20 +35,17 @@ type Pushing = Producer<Growth, Global, Few>;
 
 type Popping = Consumer<Growth, Global, Few>;
 
-/// Mailboxes on rings of 256 places. Each of them is full where as many growths are in the ring.
-/// The receiver holds up to 128 more, which it has taken out of the ring at once and not yet given.
+/// Mailboxes on rings of 256 places in all. A growth leaves its place when it is given.
 ///
 /// # Threads
-/// No call holds a runtime, and none waits for the other end. A `take` that looks into the ring may
-/// pause first, for at most 64 of the processor's hints, below a microsecond, whatever the other
-/// end does.
+/// No call holds a runtime, and none waits.
 ///
 /// # Cost
-/// `pair` makes three allocations: the places, the words by which the ends meet, and the batch of
-/// the receiver. No other call asks for memory. `post` and `take` are a few steps each. A `post`
-/// looks at the other end's word only where no place is known to be free; a `take` looks at it, and
-/// tells of the places that it frees, once a batch. The places are freed where both ends are gone,
-/// and with them the growths that were left.
+/// `pair` makes two allocations: the places, and the words by which the ends meet. No other call
+/// asks for memory. `post` and `take` are a few steps each, of which the other end sees one. A
+/// `post` looks at the other end's word only where no place is known to be free, a `take` only
+/// where no growth is known to be there, and each of them once. The memory is given back where
+/// both ends are gone, and with it the growths that were left.
 #[derive(Clone, Copy)]
 pub struct RingMail;
 
@@ -68,10 +62,8 @@ pub struct RingReceiver {
     to: u16,
     count: u64,
     consumer: Popping,
-    batch: Batch,
-    ghost held: { drop count (popped consumer) ≡ batch },
-    ghost counted: { count + length batch ≡ length (popped consumer) },
-    ghost few: { length (popped consumer) ≤ most_posts },
+    ghost places: { consumer_capacity consumer ≡ most_places },
+    ghost counted: { count ≡ length (popped consumer) },
 }
 
 /// A sender that posts no more.
@@ -88,38 +80,17 @@ pub struct RingPost {
     count: u64,
     producer: Pushing,
     consumer: Popping,
-    ghost counted: { count ≤ length (popped consumer) },
+    ghost places: { consumer_capacity consumer ≡ most_places },
+    ghost counted: { count ≡ length (popped consumer) },
 }
 
-impl RingReceiver {
-    ghost use Rattle.std.specs.Prelude.{◌≡◌, []};
-    ghost use mathlib.Core.List.{IsPrefix};
-    ghost use Rattle.rtrb.specs.Ring.{SameConsumer};
-    ghost use Rattle.nll_mail.specs.Rings.{received_by, ends_of, seen_by};
-
-    // Takes a batch out of the ring, where nothing is left of the last one.
-    fn refill(&mut self)
-        ensures ring { SameConsumer self.old.consumer self.new.consumer }
-        ensures received { received_by self.new ≡ received_by self.old }
-        ensures ends { ends_of self.new ≡ ends_of self.old }
-        ensures seen { IsPrefix (seen_by self.old) (seen_by self.new) }
-        ensures none { self.new.batch ≡ [] → seen_by self.new ≡ [] }
-    {
-        if self.batch.is_empty() {
-            self.batch.fill(&mut self.consumer);
-        }
-    }
-}
-
-#[tactic(auto, using(crate::proofs::BatchLemmas::split_at_count))]
 impl Mail for RingMail {
-    ghost use Rattle.std.specs.Prelude.{◌≡◌, ◌+◌, ◌<◌, ◌++◌, [], ◌∷◌, true, length, take, drop};
+    ghost use Rattle.std.specs.Prelude.{◌≡◌, ◌+◌, ◌<◌, ◌++◌, [], ◌∷◌, true, length};
     ghost use Rattle.std.specs.Prelude.{IsOk, IfOk, OnOk, IfErr, IsSome, IfSome, IfNone};
-    ghost use mathlib.Core.List.{IsPrefix};
-    ghost use Rattle.rtrb.specs.Ring.{sent as pushed, received as popped, known_items};
+    ghost use Rattle.rtrb.specs.Ring.{sent as pushed, received as popped};
     ghost use Rattle.nll_mail.specs.Channel.{refusal};
     ghost use Rattle.nll_mail.specs.Rings.{sent_by, received_by, ends_of, room_of, seen_by};
-    ghost use Rattle.nll_mail.specs.Rings.{IsJoined, Closes};
+    ghost use Rattle.nll_mail.specs.Rings.{left_in, IsJoined, Closes};
     ghost use Rattle.nll_mail.specs.declared.ring_mail.RingSender.{RingSender};
     ghost use Rattle.nll_mail.specs.declared.ring_mail.RingClosed.{RingClosed};
     ghost use Rattle.nll_mail.specs.declared.ring_mail.RingReceiver.{RingReceiver};
@@ -151,10 +122,9 @@ impl Mail for RingMail {
 
     ghost post_sent = { λ post. pushed post.producer };
 
-    ghost post_received = { λ post. take post.count (popped post.consumer) };
+    ghost post_received = { λ post. popped post.consumer };
 
-    ghost post_rest = { λ post.
-        drop post.count (popped post.consumer) ++ known_items post.consumer };
+    ghost post_rest = { left_in };
 
     /// The two ends of a new ring. All its places are free, and the sender knows it.
     ///
@@ -167,7 +137,6 @@ impl Mail for RingMail {
         ensures received { IfOk result (λ both. received_by both.1 ≡ []) }
         ensures room { IfOk result (λ both. room_of both.0 ≡ most_places) }
     {
-        let batch = Batch::new(alloc)?;
         let (producer, consumer) = RingBuffer::with_protocol::<Global, Few>(alloc, PLACES)?;
         let sender = RingSender { producer };
         let receiver = RingReceiver {
@@ -175,7 +144,6 @@ impl Mail for RingMail {
             to,
             count: 0,
             consumer,
-            batch,
         };
         Ok((sender, receiver))
     }
@@ -206,7 +174,7 @@ impl Mail for RingMail {
     }
 
     /// Takes the growth at the front of the mailbox: the first of those that were seen, where any
-    /// were. It looks only where none is left of its batch, and gives none where it then sees none.
+    /// were. It looks only where none was seen, and gives none where it then sees none.
     fn take(receiver: &mut RingReceiver) -> Option<Growth>
         ensures some { IfSome result
             (λ growth. received_by receiver.new ≡ received_by receiver.old ++ growth ∷ []) }
@@ -218,12 +186,15 @@ impl Mail for RingMail {
         ensures closed { (closed : RingClosed)
             → Closes closed receiver.old → Closes closed receiver.new }
         ensures seen { 0 < length (seen_by receiver.old) → IsSome result }
-        ensures front { IfSome result
-            (λ growth. IsPrefix (seen_by receiver.old) (growth ∷ seen_by receiver.new)) }
+        ensures front { IfSome result (λ growth.
+            0 < length (seen_by receiver.old)
+            → seen_by receiver.old ≡ growth ∷ seen_by receiver.new) }
         ensures empty { IfNone result (seen_by receiver.new ≡ []) }
     {
-        receiver.refill();
-        let growth = receiver.batch.next()?;
+        if receiver.consumer.cached_slots() == 0 && receiver.consumer.slots() == 0 {
+            return None;
+        }
+        let growth = receiver.consumer.pop_known();
         receiver.count += 1;
         Some(growth)
     }
@@ -240,7 +211,6 @@ impl Mail for RingMail {
             to,
             count,
             mut consumer,
-            batch: _,
         } = receiver;
         consumer.slots_beside(&mut producer);
         RingPost {
@@ -258,9 +228,10 @@ impl Mail for RingMail {
 }
 
 impl RingMail {
-    ghost use Rattle.std.specs.Prelude.{◌≡◌, ◌≤◌};
-    ghost use Rattle.nll_mail.specs.Rings.{sent_by, room_of, IsJoined};
+    ghost use Rattle.std.specs.Prelude.{◌≡◌, ◌≤◌, length};
+    ghost use Rattle.nll_mail.specs.Rings.{sent_by, room_of, left_in, IsJoined};
     ghost use Rattle.nll_mail.specs.declared.ring_mail.RingReceiver.{RingReceiver};
+    ghost use Rattle.nll_mail.specs.declared.ring_mail.RingPost.{RingPost};
     ghost use Rattle.nll_problem.specs.Limits.{most_places};
 
     /// Mailboxes on rings. Each of them is made by `pair`, and nothing was sent through it.
@@ -270,7 +241,7 @@ impl RingMail {
 
     /// How many posts are sure to succeed: the sender looks, and knows of so many free places,
     /// which no one else fills. The receiver may free more at any time.
-    pub fn room(sender: &mut RingSender) -> u64
+    pub fn room(sender: &mut RingSender) -> usize
         ensures exact { result ≡ room_of sender.new }
         ensures least { room_of sender.old ≤ room_of sender.new }
         ensures most { result ≤ most_places }
@@ -278,6 +249,12 @@ impl RingMail {
         ensures pair { (receiver : RingReceiver)
             → IsJoined sender.old receiver → IsJoined sender.new receiver }
     {
-        sender.producer.slots() as u64
+        sender.producer.slots()
     }
+
+    /// A law: a ring has 256 places in all, so whatever its ends did, at most 256 growths were sent
+    /// and not received where they are settled.
+    pub fn few_left()
+        ensures { (post : RingPost) → length (left_in post) ≤ most_places }
+    {}
 }

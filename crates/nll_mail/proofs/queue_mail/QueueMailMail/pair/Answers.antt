@@ -1,4 +1,4 @@
-use Rattle.std.proofs.Common.{◌≡◌, length, refl, sym, ap, ◌∙◌}
+use Rattle.std.proofs.Common.{length, refl, sym, ap, ◌∙◌}
 use Rattle.std.proofs.lemmas.Result.{IfOk-from_err}
 use Rattle.nll_mail.specs.declared.queue_mail.Known.{Known}
 use Rattle.nll_mail.specs.declared.queue_mail.Kept.{Kept}
