@@ -54,15 +54,13 @@ def mailboxes(args):
         "RingMail": [args.program, "ring"],
         "QueueMail": [args.program, "queue"],
         "plain ring": [args.baseline, "ring"],
-        "plain ring, batches": [args.baseline, "ring-batches"],
         "plain ring, one order": [args.baseline, "one-order"],
-        "plain ring, one order, batches": [args.baseline, "one-order-batches"],
         "plain channel": [args.baseline, "channel"],
     }
     count = str(args.count or 10_000_000)
     rates = rates_of(args, {who: [*pinned, *words, count] for who, words in commands.items()})
     if rates is not None:
-        print_rows("2", rates, {"RingMail": "plain ring", "QueueMail": "plain channel"})
+        print_rows("2", rates, {"RingMail": "plain ring, one order", "QueueMail": "plain channel"})
     return rates is not None
 
 

@@ -1,15 +1,14 @@
 //! Growths from one thread to another in plain Rust, without any proof: the partner of
 //! `mail_program` in measurements.
 //!
-//! `mailboxes ring|ring-batches|one-order|one-order-batches|channel GROWTHS` posts so many growths in one thread and takes
-//! them in another, through a ring on std's atomics, the same ring with sequentially consistent steps alone, either of them
-//! with a receiver that takes growths by batches as `RingMail` does, or a channel of std. An end that finds the ring full,
-//! or nothing to take, leaves the processor once. Prints `delivered N micros M`; status 1 where a growth doesn't come or
-//! comes out of order.
+//! `mailboxes ring|one-order|channel GROWTHS` posts so many growths in one thread and takes them in another, through a ring
+//! on std's atomics, the same ring with sequentially consistent steps alone, as those of `RingMail` are, or a channel of std.
+//! An end that finds the ring full, or nothing to take, leaves the processor once. Prints `delivered N micros M`; status 1
+//! where a growth doesn't come or comes out of order.
 
 mod ring;
 
-use ring::{BatchReceiver, OneOrder, Order, Paired};
+use ring::{OneOrder, Order, Paired};
 use std::process::exit;
 use std::sync::mpsc;
 use std::thread;
@@ -47,12 +46,6 @@ impl<O: Order + Send> Posts for ring::Sender<Growth, O> {
 impl<O: Order + Send> Takes for ring::Receiver<Growth, O> {
     fn take(&mut self) -> Option<Growth> {
         ring::Receiver::take(self)
-    }
-}
-
-impl<O: Order + Send> Takes for BatchReceiver<Growth, O> {
-    fn take(&mut self) -> Option<Growth> {
-        BatchReceiver::take(self)
     }
 }
 
@@ -109,23 +102,15 @@ fn deliver((sender, receiver): (impl Posts, impl Takes), growths: u64) -> bool {
     in_order
 }
 
-/// The ends of a new ring whose receiver takes by batches.
-fn batches<O: Order>() -> (ring::Sender<Growth, O>, BatchReceiver<Growth, O>) {
-    let (sender, receiver) = ring::ring();
-    (sender, BatchReceiver::new(receiver))
-}
-
 fn main() {
     let words: Vec<String> = std::env::args().skip(1).collect();
     let growths = words.get(1).and_then(|word| word.parse::<u32>().ok()).map(u64::from);
     let in_order = match (words.first().map(String::as_str), growths) {
         (Some("ring"), Some(growths)) => deliver(ring::ring::<_, Paired>(), growths),
-        (Some("ring-batches"), Some(growths)) => deliver(batches::<Paired>(), growths),
         (Some("one-order"), Some(growths)) => deliver(ring::ring::<_, OneOrder>(), growths),
-        (Some("one-order-batches"), Some(growths)) => deliver(batches::<OneOrder>(), growths),
         (Some("channel"), Some(growths)) => deliver(mpsc::channel(), growths),
         _ => {
-            eprintln!("usage: mailboxes ring|ring-batches|one-order|one-order-batches|channel GROWTHS");
+            eprintln!("usage: mailboxes ring|one-order|channel GROWTHS");
             exit(2)
         }
     };

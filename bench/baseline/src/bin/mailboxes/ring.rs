@@ -9,10 +9,6 @@ use std::sync::Arc;
 /// The places of a ring.
 const PLACES: usize = 256;
 
-/// How many values a batch has at most, and how many hints to pause there are between two batches: as in `nll_mail`.
-const MOST: usize = 128;
-const MOST_PAUSES: usize = 64;
-
 /// By which steps an end tells the other one how far it is.
 pub trait Order: 'static {
     const STORE: Ordering;
@@ -69,15 +65,6 @@ pub struct Receiver<T, O> {
     order: PhantomData<O>,
 }
 
-/// The end that takes, by batches: it takes values out of the ring at once, and gives them one by one.
-pub struct BatchReceiver<T, O> {
-    receiver: Receiver<T, O>,
-    values: Box<[MaybeUninit<T>; MOST]>,
-    /// Those from `next` to `end` are left.
-    next: usize,
-    end: usize,
-}
-
 /// The ends of a new ring.
 pub fn ring<T: Copy + Send, O: Order>() -> (Sender<T, O>, Receiver<T, O>) {
     let shared = Arc::new(Shared {
@@ -125,43 +112,5 @@ impl<T: Copy + Send, O: Order> Receiver<T, O> {
         *head = head.wrapping_add(1);
         shared.head.0.store(*head, O::STORE);
         Some(value)
-    }
-}
-
-impl<T: Copy + Send, O: Order> BatchReceiver<T, O> {
-    /// A receiver with an empty batch.
-    pub fn new(receiver: Receiver<T, O>) -> Self {
-        BatchReceiver { receiver, values: Box::new([MaybeUninit::uninit(); MOST]), next: 0, end: 0 }
-    }
-
-    /// Takes the value at the front, if one is found.
-    pub fn take(&mut self) -> Option<T> {
-        if self.next == self.end && !self.fill() {
-            return None;
-        }
-        let value = unsafe { self.values[self.next].assume_init() };
-        self.next += 1;
-        Some(value)
-    }
-
-    /// Takes values out of the ring: whether there were any.
-    fn fill(&mut self) -> bool {
-        if self.end < MOST {
-            (0..self.end.min(MOST_PAUSES)).for_each(|_| std::hint::spin_loop());
-        }
-        let Receiver { shared, head, seen_tail, order: PhantomData } = &mut self.receiver;
-        if seen_tail.wrapping_sub(*head) < MOST {
-            *seen_tail = shared.tail.0.load(O::LOAD);
-        }
-        self.next = 0;
-        self.end = seen_tail.wrapping_sub(*head).min(MOST);
-        for (number, value) in self.values[..self.end].iter_mut().enumerate() {
-            *value = unsafe { *shared.places[head.wrapping_add(number) % PLACES].get() };
-        }
-        if self.end > 0 {
-            *head = head.wrapping_add(self.end);
-            shared.head.0.store(*head, O::STORE);
-        }
-        self.end > 0
     }
 }
