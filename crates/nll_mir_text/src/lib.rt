@@ -29,3 +29,7 @@ pub use laws::{
 };
 pub use limits::{MAX_STRUCTS, MAX_VARIABLES};
 pub use mir::read_mir;
+pub use nll_body::{Body, Stmt};
+pub use nll_facts::{Facts, read_facts};
+pub use nll_format::{Labels, PointName, TextError, TextKind};
+pub use nll_types::{Place, Ty};

@@ -18,6 +18,7 @@ mod world;
 pub use error::ModelError;
 pub use lane::Lane;
 pub use laws::{orderly_states_have_low_ranks, sound_states_are_lawful, steps_are_lawful};
+pub use nll_event::Event;
 pub use outcome::{Replay, Step};
 pub use schedule_replay::replay;
 pub use seat::{Item, Seat};

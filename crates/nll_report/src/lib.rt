@@ -26,7 +26,9 @@ pub use nll_answer::{
 };
 pub use nll_body_problem::RuleError;
 pub use nll_command_line::{Deal, Line, LineError, MailKind, Task, line};
+pub use nll_cut_text::read_cut;
 pub use nll_run::RunError;
+pub use nll_schedule_text::read_schedule;
 pub use program::{Texts, drive, run_in_process};
 pub use report_output::put;
 pub use sink::Sink;

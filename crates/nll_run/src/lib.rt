@@ -15,4 +15,5 @@ mod values;
 
 pub use coordinator::{run, run_with};
 pub use error::RunError;
+pub use nll_worker::{AlwaysStart, Gate, NoGate, Permit};
 pub use outcome::Outcome;
