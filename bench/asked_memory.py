@@ -9,10 +9,13 @@ each; status 1 where the counts differ or a run fails.
 
 import argparse
 import os
+import pathlib
 import sys
 import tempfile
 
-from memory import Allocator
+sys.path.append(str(pathlib.Path(__file__).resolve().parents[1] / "check" / "refuse"))
+
+from allocator import Allocator  # noqa: E402 (it stands in check/refuse/)
 
 
 def main():
@@ -26,7 +29,7 @@ def main():
         allocator = Allocator(folder)
         for words in args.runs:
             command = [os.path.abspath(args.program), *words.split()]
-            (status, out, _), growths = allocator.run(command, 0, args.seconds)
+            (status, out, _), growths, _ = allocator.run(command, 0, args.seconds)
             print(f"{words}: status {status}, {growths} growths of memory, {out.decode().strip()}")
             asked.add((status, growths))
     return 0 if len(asked) == 1 and next(iter(asked))[0] == 0 else 1

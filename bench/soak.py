@@ -16,6 +16,7 @@ anything. Prints each run that ends otherwise, and saves its text; a line each m
 import argparse
 import concurrent.futures
 import os
+import pathlib
 import random
 import resource
 import subprocess
@@ -26,7 +27,11 @@ import time
 
 import generate
 import small_mir
-from memory import REFUSED, UNSTARTED, Allocator
+
+sys.path.append(str(pathlib.Path(__file__).resolve().parents[1] / "check" / "refuse"))
+
+from allocator import Allocator  # noqa: E402 (it stands in check/refuse/)
+from memory import REFUSED, UNSTARTED  # noqa: E402
 
 KIB = 1024
 # The blocks that the C library keeps for the stack of a thread that ended.

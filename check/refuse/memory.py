@@ -24,45 +24,15 @@ import argparse
 import glob
 import os
 import shlex
-import subprocess
 import sys
 import tempfile
+
+from allocator import Allocator
 
 HERE = os.path.dirname(os.path.abspath(__file__))
 REFUSED = (3, b"", b"nllc: memory\n")
 UNSTARTED = (3, b"", b"nllc: thread\n")
 OWNERS = ("--owners", "--cut")
-
-
-class Allocator:
-    """The library that refuses, and the file of its counts.
-
-    `left` has how many blocks of memory the last run didn't give back."""
-
-    def __init__(self, folder):
-        self.left = 0
-        self.library = os.path.join(folder, "refuse.so")
-        self.counts = os.path.join(folder, "count")
-        source = os.path.join(HERE, "refuse.c")
-        subprocess.run(["cc", "-O2", "-Wall", "-Werror", "-shared", "-fPIC", "-o", self.library,
-                        source], check=True)
-
-    def run(self, command, at, seconds):
-        """Status, standard output and standard error; and how many growths were asked for."""
-        known = {"LD_PRELOAD": self.library, "REFUSE_AT": str(at), "REFUSE_COUNT": self.counts}
-        if os.path.exists(self.counts):
-            os.remove(self.counts)
-        try:
-            done = subprocess.run(command, stdin=subprocess.DEVNULL, capture_output=True,
-                                  timeout=seconds, check=False, env={**os.environ, **known})
-        except subprocess.TimeoutExpired:
-            return ("no answer in time", b"", b""), 0
-        answer = done.returncode, done.stdout, done.stderr
-        if not os.path.exists(self.counts):
-            return answer, 0
-        with open(self.counts, encoding="ascii") as file:
-            asked, self.left = map(int, file.read().split())
-        return answer, asked
 
 
 def tried(growths, most):
@@ -76,20 +46,19 @@ def refuse_each(allocator, command, seconds, most):
     """How many runs there were, how many were refused, and how many ended wrongly."""
     has_owners = any(word in OWNERS for word in command)
     refusals = (REFUSED, UNSTARTED) if has_owners else (REFUSED,)
-    usual, growths = allocator.run(command, 0, seconds)
-    left = allocator.left
+    usual, growths, left = allocator.run(command, 0, seconds)
     refused = wrong = 0
     numbers = tried(growths, most)
     for at in numbers:
-        answer, asked = allocator.run(command, at, seconds)
+        answer, asked, kept = allocator.run(command, at, seconds)
         if answer in refusals:
             refused += 1
         elif answer != usual or (asked < at and not has_owners):
             wrong += 1
             print(f"growth {at} of {' '.join(command)}: {answer!r}")
-        if allocator.left > left:
+        if kept > left:
             wrong += 1
-            print(f"growth {at} of {' '.join(command)}: {allocator.left - left} blocks left")
+            print(f"growth {at} of {' '.join(command)}: {kept - left} blocks left")
     print(f"{' '.join(command[1:])}: {growths} growths, {refused} refused, {wrong} wrong",
           flush=True)
     return len(numbers), refused, wrong
@@ -106,7 +75,7 @@ def words():
     args = parser.parse_args()
     if args.spread is not None and args.spread < 2:
         parser.error("--spread is at least 2")
-    examples = [os.path.join(HERE, "..", "examples", name) for name in ("*.facts", "*.mir")]
+    examples = [os.path.join(HERE, "..", "..", "examples", name) for name in ("*.facts", "*.mir")]
     found = [os.path.normpath(path) for pattern in examples for path in glob.glob(pattern)]
     args.files = args.files or sorted(found)
     return args

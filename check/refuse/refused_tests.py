@@ -17,7 +17,7 @@ import os
 import sys
 import tempfile
 
-from memory import Allocator
+from allocator import Allocator
 
 PASSED = "test result: ok"
 
@@ -33,10 +33,10 @@ def outcome(answer):
 
 def refuse_each(allocator, command, seconds, is_passing):
     """How many runs there were, how many said that memory was refused, how many were wrong."""
-    usual, growths = allocator.run(command, 0, seconds)
+    usual, growths, _ = allocator.run(command, 0, seconds)
     said, wrong = 0, int(outcome(usual) != "passed")
     for at in range(1, growths + 1):
-        answer, _ = allocator.run(command, at, seconds)
+        answer = allocator.run(command, at, seconds).answer
         told = outcome(answer)
         is_wrong = told == "wrong" or (is_passing and told != "passed")
         said += told == "refused"
