@@ -96,6 +96,24 @@ class Documents(unittest.TestCase):
                 self.assertTrue((path.parent / link).exists(), f"{path}: {link}")
 
 
+    def test_contents(self):
+        """A document of more than 3,000 words begins with its headings, and links to headings lead to one."""
+        for path in sorted((ROOT / "docs").glob("**/*.md")):
+            text = path.read_text()
+            headings = re.findall(r"^## (.*)$", text, re.MULTILINE)
+            listed = re.findall(r"^- \[(.*)\]\(#(.*)\)$", text.partition("\n## ")[0], re.MULTILINE)
+            with self.subTest(path=path.name):
+                if len(text.split()) > 3000:
+                    self.assertEqual(listed, [(heading, anchor(heading)) for heading in headings])
+                for link in re.findall(r"\]\(#(.*?)\)", text):
+                    self.assertIn(link, map(anchor, re.findall(r"^#+ (.*)$", text, re.MULTILINE)))
+
+
+def anchor(heading):
+    """What a link to a heading ends in."""
+    return re.sub(r"[^\w\- ]", "", heading.lower()).replace(" ", "-")
+
+
 def stands_in(lines, path):
     """Whether the lines stand in a text in this order, where `..` stands for any lines."""
     rest = iter(path.read_text().splitlines())

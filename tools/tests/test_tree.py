@@ -68,12 +68,12 @@ class Layers(unittest.TestCase):
 
 class Documents(unittest.TestCase):
     def test_each_crate_is_named(self):
-        """docs/CLAIMS.md has each crate but those of tests, docs/READING.md too."""
-        for path, apart in (("docs/CLAIMS.md", ("Tests",)), ("docs/READING.md", ("Tests",))):
-            found = named((ROOT / path).read_text())
-            for title, _, names in layers():
-                with self.subTest(path=path, layer=title):
-                    self.assertEqual([name for name in names if title not in apart and name not in found], [])
+        """The claims have each crate but those of tests."""
+        [claims] = ROOT.glob("docs/**/CLAIMS.md")
+        found = named(claims.read_text())
+        for title, _, names in layers():
+            with self.subTest(layer=title):
+                self.assertEqual([name for name in names if title != "Tests" and name not in found], [])
 
 
 class Readmes(unittest.TestCase):
@@ -111,19 +111,6 @@ class Reading(unittest.TestCase):
 
     def setUp(self):
         self.text = (ROOT / "docs" / "READING.md").read_text()
-
-    def test_files_to_open(self):
-        rows = re.findall(r"^\| (.*) \|$", self.text, re.MULTILINE)
-        for row in rows:
-            crate = re.search(r"`(nll\w*)`", row)
-            folder = ""
-            for name in re.findall(r"`([\w/]+(?:\.rt)?)`", row):
-                folder = name.partition("/")[0] if "/" in name else folder
-                if folder not in ("src", "specs") or name.startswith("nll"):
-                    continue
-                path = f"{folder}/{name.rpartition('/')[2]}" + (".antt" if folder == "specs" else "")
-                with self.subTest(crate=crate[1], path=path):
-                    self.assertTrue((ROOT / "crates" / crate[1] / path).is_file())
 
     def test_files_of_the_walks(self):
         there = {path.name for path in (ROOT / "crates").glob("*/src/*.rt")}
