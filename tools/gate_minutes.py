@@ -1,11 +1,13 @@
 #!/usr/bin/env python3
-"""What the gate takes, crate by crate: tools/gate_minutes.py [--log FILE] | --read FILE
+"""What the gate takes, crate by crate: tools/gate_minutes.py [--log FILE] | --read FILE | --budget
 
 Runs `rt ci` at the top of the repository, with the environment as it is (RT_JOBS ..), and hands on what it
 prints. Then comes a table: for each crate the seconds of processor time of its check, its tests and its
 edits, and how many these are; a crate of several edits has one more check in them, of the crate as it is.
 Below it stands what the whole run took. `--log` writes what was measured, and `--read` prints the table of
-such a file again. Ends with the status of `rt ci`; with `--read` with 0.
+such a file again; where it has units, it ends with the crates that are above their budgets. `--budget` prints these
+budgets, of each layer of crates.txt and of each crate (tools/gate_budget.csv). Ends with the status of `rt ci`; with
+`--read` and `--budget` with 0.
 
 A unit is a minute of a processor of the machine on which the first rows of docs/GATE.md were measured. How
 much slower this one is, tell the checks of three crates that hardly change, the yardstick, in the same run.
@@ -13,9 +15,11 @@ much slower this one is, tell the checks of three crates that hardly change, the
 
 import argparse
 import collections
+import csv
 import json
 import os
 import pathlib
+import re
 import resource
 import shutil
 import signal
@@ -31,6 +35,8 @@ ROOT = pathlib.Path(__file__).resolve().parents[1]
 # is how much slower the run's machine was by the checks of three other crates, which have changed since. Of the
 # others: those of a run in which nll_statements took 2.70 times as long, 75 and 47, divided by that.
 YARDSTICK = {"nll_statements": 21.1, "nll_sets": 27.8, "nll_cut": 17.4}
+BUDGET = ROOT / "tools" / "gate_budget.csv"
+LAYER = re.compile(r"# ---- ([^:\n]*)")
 # Beyond this the yardstick's crates tell of different machines, so one of them isn't what it was.
 MOST_APART = 2.0
 
@@ -85,6 +91,45 @@ def line(name, row, edits, factor):
     return f"| {name} | {units} | {seconds} | {edits} |"
 
 
+def budgets(path=BUDGET):
+    """The rows of the budget by crate, with numbers for figures."""
+    lines = [line for line in path.read_text().splitlines() if not line.startswith("#")]
+    return {row.pop("crate"): {name: float(figure or 0) for name, figure in row.items()} for row in csv.DictReader(lines)}
+
+
+def layers(root=ROOT):
+    """The headings of crates.txt, each with its crates."""
+    found = {}
+    for line in (root / "crates.txt").read_text().splitlines():
+        if heading := LAYER.match(line):
+            crates = found.setdefault(heading[1], [])
+        elif line and not line.startswith("#"):
+            crates.append(re.split("[: ]", line)[0])
+    return found
+
+
+def budget_table():
+    """The budget as two tables: by layer, and by crate."""
+    rows, figures = budgets(), ("check", "tests", "edits", "units", "budget")
+    sums = {layer: {name: sum(rows[crate][name] for crate in crates) for name in figures}
+            for layer, crates in layers().items()}
+    sums["all"] = {name: sum(row[name] for row in rows.values()) for name in figures}
+    lines = ["| Layer | units | budget |", "|---|---|---|"]
+    lines += [f"| {layer} | {row['units']:.1f} | {row['budget']:.1f} |" for layer, row in sums.items()]
+    lines += ["", f"| Crate | {' | '.join(figures)} |", "|---|" + "---|" * len(figures)]
+    lines += [f"| `{crate}` | " + " | ".join(f"{row[name]:.1f}" if row[name] else "" for name in figures) + " |"
+              for crate, row in rows.items()]
+    return "\n".join(lines)
+
+
+def above_budget(rows, factor):
+    """A line for each crate that takes more than its budget."""
+    for crate, row in budgets().items():
+        units = rows[crate].all() / 60 / factor if crate in rows else 0
+        if units > row["budget"]:
+            yield f"above its budget: `{crate}`, {units:.1f} of {row['budget']:.1f}"
+
+
 def clock(seconds):
     minutes, seconds = divmod(round(seconds), 60)
     return f"{minutes // 60}:{minutes % 60:02}:{seconds:02}" if minutes >= 60 else f"{minutes}:{seconds:02}"
@@ -109,7 +154,9 @@ def table(samples, whole):
                      f"{beside:.1f} of them beside the checks")
     else:
         lines.append(f"{taken:.1f} core-minutes in checks; what the whole run took isn't known")
-    return "\n".join([*lines, why, *([f"{taken / factor:.1f} units"] if factor else [])])
+    if not factor:
+        return "\n".join([*lines, why])
+    return "\n".join([*lines, why, *above_budget(rows, factor), f"{taken / factor:.1f} units"])
 
 
 def wait_for(gate):
@@ -152,7 +199,11 @@ def main(words, root=ROOT, pause=0.5):
     one = parser.add_mutually_exclusive_group()
     one.add_argument("--log", default=os.devnull, help="write what was measured to this file")
     one.add_argument("--read", type=pathlib.Path, help="print the table of such a file, and run nothing")
+    one.add_argument("--budget", action="store_true", help="print what each layer and each crate may take")
     asked = parser.parse_args(words)
+    if asked.budget:
+        print(budget_table())
+        return 0
     if asked.read:
         print(table(*read_log(asked.read)))
         return 0

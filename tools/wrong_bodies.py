@@ -1,7 +1,8 @@
 #!/usr/bin/env python3
-"""Tries the wrong bodies that the gate doesn't.
+"""Tries the wrong bodies that the gate doesn't, or lists all of them.
 
     tools/wrong_bodies.py [--all] [--since COMMIT] [--jobs N] [CRATE ..]
+    tools/wrong_bodies.py --list [CRATE ..]
 
 They stand in crates/*/wrong-bodies, and each is an edit as those of must-fail/ are. In a copy of the
 repository they take the place of these, and `rt must-fail` tries them, several crates side by side; the
@@ -18,6 +19,9 @@ For each edit it prints the seconds of processor time that its check took, and w
 - a missing name: a proof file names what the edit took away, which says little of the contract.
 
 Ends with 0 where the prover refused each.
+
+`--list` tries nothing. It prints what the first lines of each edit say, those of must-fail/ too: what is wrong,
+and the function and clause that refuse it.
 """
 
 import argparse
@@ -47,6 +51,9 @@ TAKEN = (" (only because a proof file names what the edit took away, so this say
 NOT_CHECKED = re.compile(r": error: \d+ declarations? that depends? on ")
 GOAL, STEP, NAME, NONE = "a clause's goal", "a step of a proof file", "a missing name", "nothing"
 
+# The two lines with which each edit begins.
+HEADER = re.compile(r"# wrong: (?P<wrong>.+)\n# refused by: (?P<by>.+)\n")
+
 Tried = collections.namedtuple("Tried", "crate edit seconds by text")
 
 
@@ -54,6 +61,21 @@ def crates_with(root, folders):
     """The names of the crates that have edits in one of these folders."""
     return sorted({folder.parent.name for name in folders for folder in root.glob(f"crates/*/{name}")
                    if edits_in(root, folder.parent.name, name)})
+
+
+def header_of(text):
+    """What an edit says is wrong, and what refuses it; or None where it doesn't begin with these two lines."""
+    found = HEADER.match(text)
+    return found and (found["wrong"], found["by"])
+
+
+def listed(root, crates):
+    """Two lines for each edit of these crates, in the order of crates.txt."""
+    for crate in uses_of(root):
+        for folder in reversed(FOLDERS) if crate in crates else ():
+            for path in edits_in(root, crate, folder):
+                wrong, by = header_of(pathlib.Path(path).read_text()) or ("(it doesn't say)", "(it doesn't say)")
+                yield f"{crate}/{folder}/{pathlib.Path(path).stem}: {wrong}\n    refused by {by}"
 
 
 def changed_since(root, commit):
@@ -179,6 +201,7 @@ def count(tried):
 def read_words(words):
     parser = argparse.ArgumentParser(description="Tries the wrong bodies that the gate doesn't.")
     parser.add_argument("--all", action="store_true", help="try those of must-fail/ too")
+    parser.add_argument("--list", action="store_true", help="print what each edit says, and try nothing")
     parser.add_argument("--since", metavar="COMMIT", help="leave out what hasn't changed since then")
     parser.add_argument("--jobs", type=int, metavar="N", help="how many checks at a time")
     parser.add_argument("crates", nargs="*", metavar="CRATE")
@@ -187,13 +210,16 @@ def read_words(words):
 
 def main(words, root=ROOT):
     asked = read_words(words)
-    folders = FOLDERS if asked.all else FOLDERS[:1]
+    folders = FOLDERS if asked.all or asked.list else FOLDERS[:1]
     known = crates_with(root, folders)
     unknown = [word for word in asked.crates if word not in known]
     if unknown:
         print(f"{unknown[0]} has no wrong bodies; these have: {' '.join(known)}", file=sys.stderr)
         return 2
     crates = set(asked.crates or known)
+    if asked.list:
+        print(*listed(root, crates), sep="\n")
+        return 0
     try:
         crates &= changed_since(root, asked.since) if asked.since else crates
     except ValueError as error:

@@ -8,7 +8,7 @@ import unittest
 from concurrent.futures import ThreadPoolExecutor
 
 ROOT = pathlib.Path(__file__).resolve().parents[2]
-DOCUMENTS = ["README.md", "docs/LEARNING.md", "docs/TUTORIAL.md"]
+DOCUMENTS = ["README.md", "docs/LEARNING.md"]
 ANSWER = re.compile(r"\./nllc\.sh (values|check) ")
 
 
@@ -50,8 +50,8 @@ class Documents(unittest.TestCase):
                     self.assertEqual(answer, lines)
 
     def test_shown_texts(self):
-        """A text that the tutorial shows in part stands line by line, in this order, in its example."""
-        text = (ROOT / "docs/TUTORIAL.md").read_text()
+        """A text that the course shows in part stands line by line, in this order, in its example."""
+        text = (ROOT / "docs/LEARNING.md").read_text()
         for block in re.findall(r"(?:^    .*\n)+", text, re.MULTILINE):
             lines = [line[4:].split("    ")[0].rstrip() for line in block.splitlines()]
             if not any(line.startswith("block ") for line in lines):
@@ -77,8 +77,9 @@ class Documents(unittest.TestCase):
                 self.assertTrue((ROOT / path).is_file())
         claims = re.findall(r"^### (\d+)\. ", text, re.MULTILINE)
         self.assertEqual(claims, [str(number) for number in range(1, len(claims) + 1)])
-        for document in ("docs/CLAIMS.md", "README.md"):
-            rows = re.findall(r"^\|.*\| ([\d, ]+) \|$", (ROOT / document).read_text(), re.MULTILINE)
+        for document in ("docs/CLAIMS.md", "docs/PROOF.md"):
+            promises = re.search(r"^\|.*\| Claim \|\n(?:\|.*\n)+", (ROOT / document).read_text(), re.MULTILINE)[0]
+            rows = re.findall(r"^\|.*\| ([\d, ]+) \|$", promises, re.MULTILINE)
             self.assertTrue(rows, document)
             for row in rows:
                 self.assertLessEqual(set(row.split(", ")), set(claims), document)
@@ -93,6 +94,24 @@ class Documents(unittest.TestCase):
                 self.assertTrue((ROOT / name).is_file(), f"{path}: {name}")
             for link in set(linked):
                 self.assertTrue((path.parent / link).exists(), f"{path}: {link}")
+
+
+    def test_contents(self):
+        """A document of more than 3,000 words begins with its headings, and links to headings lead to one."""
+        for path in sorted((ROOT / "docs").glob("**/*.md")):
+            text = path.read_text()
+            headings = re.findall(r"^## (.*)$", text, re.MULTILINE)
+            listed = re.findall(r"^- \[(.*)\]\(#(.*)\)$", text.partition("\n## ")[0], re.MULTILINE)
+            with self.subTest(path=path.name):
+                if len(text.split()) > 3000:
+                    self.assertEqual(listed, [(heading, anchor(heading)) for heading in headings])
+                for link in re.findall(r"\]\(#(.*?)\)", text):
+                    self.assertIn(link, map(anchor, re.findall(r"^#+ (.*)$", text, re.MULTILINE)))
+
+
+def anchor(heading):
+    """What a link to a heading ends in."""
+    return re.sub(r"[^\w\- ]", "", heading.lower()).replace(" ", "-")
 
 
 def stands_in(lines, path):

@@ -1,4 +1,4 @@
-"""What docs/FROM-RUST.md, docs/LEARNING.md and README.md show of commands on Rust files is what these print.
+"""What README.md and the documents on Rust and on learning show of commands on Rust files is what these print.
 
     python3 tools/tests/test_from_rust.py --write       makes what they show anew
 
@@ -18,7 +18,7 @@ from concurrent.futures import ThreadPoolExecutor
 import facts_support as support
 
 ROOT = pathlib.Path(__file__).resolve().parents[2]
-DOCUMENTS = ("docs/FROM-RUST.md", "docs/LEARNING.md", "README.md")
+DOCUMENTS = ("docs/FROM-RUST.md", "docs/FACTS-FROM-RUSTC.md", "docs/LEARNING.md", "README.md")
 COMMAND = re.compile(r"    \$ ((?:\./nllc\.sh (?:rust|page)|tools/nll-facts --crate) .*)")
 NUMBERED = re.compile(r" {3,5}(\d{1,2})  (.*)")
 SECONDS = re.compile(r" +\d+\.\d\b(?= |$)")

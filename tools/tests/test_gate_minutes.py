@@ -89,6 +89,22 @@ class Table(unittest.TestCase):
         self.assertIn("nll_statements 7.00", told)
 
 
+class Budget(unittest.TestCase):
+    def test_each_crate_has_one(self):
+        crates = [crate for names in gate_minutes.layers().values() for crate in names]
+        self.assertEqual(sorted(gate_minutes.budgets()), sorted(crates))
+
+    def test_the_gates_document_has_that_of_each_layer(self):
+        by_layer = gate_minutes.budget_table().partition("\n\n")[0]
+        [document] = ROOT.glob("docs/**/GATE.md")
+        self.assertIn(by_layer, document.read_text())
+
+    def test_a_crate_that_takes_more_is_told(self):
+        samples = yardstick(1) + [sample("nll_event", 60)]
+        self.assertIn("above its budget: `nll_event`, 1.0 of 0.2", gate_minutes.table(samples, None))
+        self.assertNotIn("above", gate_minutes.table(yardstick(1), None))
+
+
 class Running(unittest.TestCase):
     def setUp(self):
         self.folder = tempfile.TemporaryDirectory()

@@ -1,11 +1,11 @@
-"""README, LEARNING and TUTORIAL have no sentence of more than 30 words."""
+"""README, the course and the page on proofs have no sentence of more than 30 words."""
 
 import pathlib
 import re
 import unittest
 
 ROOT = pathlib.Path(__file__).resolve().parents[2]
-DOCUMENTS = ("README.md", "docs/LEARNING.md", "docs/TUTORIAL.md")
+DOCUMENTS = ("README.md", "docs/LEARNING.md", "docs/PROOF.md")
 MOST_WORDS = 30
 APART = re.compile(r"\||#|!\[|    ")     # tables, headings, pictures and what is shown as code
 ITEM = re.compile(r"^(?:[-*]|\d+\.) ")

@@ -12,6 +12,7 @@ from crates import uses_of  # noqa: E402 (the path stands above)
 
 # Of lines, imports apart, by folder: what they end in, and how many columns they may have.
 COLUMNS = {"src": (".rt", 100), "specs": (".antt", 100), "proofs": (".antt", 120)}
+MOST_WORDS = 170                                    # of a crate's README
 MOST_LONG = {"src": 0, "specs": 0, "proofs": 5}     # lines that are longer
 HEADING = re.compile(r"# ---- ([^:]*)(?:: (.*))?$")
 IMPORT = re.compile(r"\s*(?:pub |ghost )*use ")
@@ -67,12 +68,32 @@ class Layers(unittest.TestCase):
 
 class Documents(unittest.TestCase):
     def test_each_crate_is_named(self):
-        """CONTRIBUTING.md has each crate, docs/CLAIMS.md each but those of tests, docs/READING.md too."""
-        for path, apart in (("CONTRIBUTING.md", ()), ("docs/CLAIMS.md", ("Tests",)), ("docs/READING.md", ("Tests",))):
-            found = named((ROOT / path).read_text())
-            for title, _, names in layers():
-                with self.subTest(path=path, layer=title):
-                    self.assertEqual([name for name in names if title not in apart and name not in found], [])
+        """The claims have each crate but those of tests."""
+        [claims] = ROOT.glob("docs/**/CLAIMS.md")
+        found = named(claims.read_text())
+        for title, _, names in layers():
+            with self.subTest(layer=title):
+                self.assertEqual([name for name in names if title != "Tests" and name not in found], [])
+
+
+class Readmes(unittest.TestCase):
+    """A crate's README is short, and the files that it names are there."""
+
+    def setUp(self):
+        self.readmes = sorted((ROOT / "crates").glob("*/README.md"))
+
+    def test_lengths(self):
+        self.assertEqual([path.parent.name for path in self.readmes], sorted(uses_of(ROOT)))
+        long = {path.parent.name: len(path.read_text().split()) for path in self.readmes
+                if len(path.read_text().split()) > MOST_WORDS}
+        self.assertEqual(long, {})
+
+    def test_files(self):
+        for path in self.readmes:
+            for name in re.findall(r"`((?:src|specs|proofs)/\w+\.\w+)`(?! of)", path.read_text()):
+                self.assertTrue((path.parent / name).is_file(), f"{path.parent.name}: {name}")
+            for link in re.findall(r"\]\(([^)#]+)\)", path.read_text()):
+                self.assertTrue((path.parent / link).is_file(), f"{path.parent.name}: {link}")
 
 
 def long_lines(path, columns):
@@ -90,19 +111,6 @@ class Reading(unittest.TestCase):
 
     def setUp(self):
         self.text = (ROOT / "docs" / "READING.md").read_text()
-
-    def test_files_to_open(self):
-        rows = re.findall(r"^\| (.*) \|$", self.text, re.MULTILINE)
-        for row in rows:
-            crate = re.search(r"`(nll\w*)`", row)
-            folder = ""
-            for name in re.findall(r"`([\w/]+(?:\.rt)?)`", row):
-                folder = name.partition("/")[0] if "/" in name else folder
-                if folder not in ("src", "specs") or name.startswith("nll"):
-                    continue
-                path = f"{folder}/{name.rpartition('/')[2]}" + (".antt" if folder == "specs" else "")
-                with self.subTest(crate=crate[1], path=path):
-                    self.assertTrue((ROOT / "crates" / crate[1] / path).is_file())
 
     def test_files_of_the_walks(self):
         there = {path.name for path in (ROOT / "crates").glob("*/src/*.rt")}

@@ -60,10 +60,10 @@ class Edits(unittest.TestCase):
                 for old in olds:
                     self.assertEqual(text.count(old), 1, f"{edit}: {old}")
 
-    def test_each_is_told_of_in_its_folder(self):
-        for folder in FOLDERS:
-            told = re.findall(r"^\| `(\w+)` \|", (folder / "README.md").read_text(), re.M)
-            self.assertEqual(sorted(told), sorted(edit.stem for edit in folder.glob("*.edit")), folder)
+    def test_each_says_what_is_wrong_and_what_refuses_it(self):
+        silent = [str(edit.relative_to(ROOT)) for folder in FOLDERS for edit in folder.glob("*.edit")
+                  if not wrong_bodies.header_of(edit.read_text())]
+        self.assertEqual(silent, [])
 
     def test_none_has_the_name_of_another_of_its_crate(self):
         names = [(edit.parents[1].name, edit.stem) for folder in FOLDERS for edit in folder.glob("*.edit")]
@@ -121,6 +121,15 @@ class Trying(unittest.TestCase):
         self.assertIn("two.edit", said)
         self.assertNotIn("gates.edit", said)
         self.assertNotIn("other.edit", said)
+
+    def test_a_list_has_what_the_edits_say(self):
+        self.write("crates/high/must-fail/gates.edit", "# wrong: it adds\n# refused by: f, sum\nfile: a\n")
+        self.assertEqual(self.try_on(["--list", "high"]), (0, "", """\
+high/must-fail/gates: it adds
+    refused by f, sum
+high/wrong-bodies/two: (it doesn't say)
+    refused by (it doesn't say)
+"""))
 
     def test_those_of_the_gate_are_tried_where_all_are_asked_for(self):
         wanted = ["beside/other", "high/gates", "high/two", "low/one"]

@@ -93,23 +93,27 @@ pub data ArePlaced : List Given → List (List ℕ) → List (List ℕ) → Type
 
 -- ---- what options say
 
--- what an option of its kind gives, and none of another kind
+-- the number of owners that an option gives, and none of another kind
 abbrev pub owners_in : Given → Option ℕ
 owners_in (owners n) = Some n
 owners_in _ = None
 
+-- the deal that an option gives, and none of another kind
 abbrev pub deal_in : Given → Option Deal
 deal_in (deal how) = Some how
 deal_in _ = None
 
+-- the cut file that an option gives, and none of another kind
 abbrev pub cut_in : Given → Option (List ℕ)
 cut_in (cut file) = Some file
 cut_in _ = None
 
+-- the kind of mailboxes that an option gives, and none of another kind
 abbrev pub mail_in : Given → Option MailKind
 mail_in (mail kind) = Some kind
 mail_in _ = None
 
+-- the schedule's file that an option gives, and none of another kind
 abbrev pub schedule_in : Given → Option (List ℕ)
 schedule_in (schedule file) = Some file
 schedule_in _ = None

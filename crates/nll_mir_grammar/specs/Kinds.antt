@@ -115,6 +115,7 @@ tails words.End = empty
 
 -- ---- right sides of assignments
 
+-- A right side is a value, a borrow, a value that is made, or a call.
 pub data Right : Type 0 where
   value : Right
   borrowed : Right

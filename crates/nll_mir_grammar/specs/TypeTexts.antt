@@ -64,11 +64,12 @@ abbrev mutual
 abbrev pub Made : Type 0
 Made = List WrittenType × List Arguments
 
--- the newest type, and the newest row
+-- the newest type; an `int` where there is none
 abbrev pub top : List WrittenType → WrittenType
 top [] = int
 top (t ∷ ts) = t
 
+-- the newest row of arguments; no argument where there is no row
 abbrev pub top_row : List Arguments → Arguments
 top_row [] = no_argument
 top_row (row ∷ rows) = row

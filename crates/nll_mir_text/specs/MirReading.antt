@@ -69,12 +69,13 @@ pub record AreShapes (shapes : List Node) (numbers : List ℕ) (types : List Ty)
   pub below : AreBelow (length shapes) numbers
   pub same : map (shape_in shapes) numbers ≡ map (λ t. shape_of (tree t)) types
 
--- how many of the kinds are that of a region, and how many are not
+-- how many of the kinds are that of a region
 abbrev pub region_count : List Bool → ℕ
 region_count [] = 0
 region_count (true ∷ ks) = region_count ks + 1
 region_count (false ∷ ks) = region_count ks
 
+-- how many of the kinds are not that of a region
 abbrev pub other_count : List Bool → ℕ
 other_count [] = 0
 other_count (true ∷ ks) = other_count ks

@@ -17,10 +17,11 @@ use Rattle.nll_mir_text.specs.declared.tables.StructNames.{StructNames}
 use Rattle.nll_mir_text.specs.declared.own_names.OwnNames.{OwnNames}
 use Rattle.nll_mir_text.specs.declared.fields.JudgedFields.{JudgedFields}
 
--- the region parameters, and the type parameters
+-- the region parameters, by name and mark
 abbrev pub regions_in : List WrittenParameter → List (Name × Parameter)
 regions_in ps = filter_map region_in ps
 
+-- the type parameters, by name and mark
 abbrev pub types_in : List WrittenParameter → List (Name × Parameter)
 types_in ps = filter_map type_in ps
 
@@ -36,10 +37,11 @@ region_names ps = codes "static" ∷ map (λ p. p.0) (regions_in ps)
 abbrev pub type_names : List WrittenParameter → List Name
 type_names ps = map (λ p. p.0) (types_in ps)
 
--- what is marked of the region parameters, and of the type parameters
+-- what is marked of the region parameters
 abbrev pub region_marks : List WrittenParameter → List Parameter
 region_marks ps = map (λ p. p.1) (regions_in ps)
 
+-- what is marked of the type parameters
 abbrev pub type_marks : List WrittenParameter → List Parameter
 type_marks ps = map (λ p. p.1) (types_in ps)
 

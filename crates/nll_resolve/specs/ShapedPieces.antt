@@ -20,10 +20,11 @@ Made = List TypeTree × List ℕ
 abbrev pub at : List TypeTree → ℕ → TypeTree
 at ts k = slice_index_or ts k int
 
--- the newest type, and those before it
+-- the newest type
 abbrev pub newest : List TypeTree → TypeTree
 newest ts = at ts (length ts - 1)
 
+-- a list without its last item
 abbrev pub older : {X : Type 0} → List X → List X
 older xs = take (length xs - 1) xs
 

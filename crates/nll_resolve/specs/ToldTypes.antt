@@ -13,12 +13,13 @@ are_known s ts = is_known s (tuple ts)
 abbrev pub have_arguments : Scope → WrittenTypes → Bool
 have_arguments s ts = has_arguments s (tuple ts)
 
--- the same of each name among arguments
+-- each name among arguments is known
 abbrev pub arguments_are_known : Scope → Arguments → Bool
 arguments_are_known s args =
     each_name_among (is_among s.regions)
     (λ n args. is_among s.parameters n || is_among s.structs n) args
 
+-- each name among arguments has arguments of the kinds that it takes
 abbrev pub arguments_have_arguments : Scope → Arguments → Bool
 arguments_have_arguments s args =
     each_name_among (λ r. true) (λ n args. same_kinds (kinds_of args) (kinds_taken s n)) args

@@ -21,29 +21,35 @@ use Rattle.nll_rules.specs.declared.reference.TakenAs.TheVariants as ways
 use Rattle.nll_rules.specs.declared.walk.End.{End}
 use Rattle.nll_rules.specs.declared.walk.End.TheVariants.{Reached, Inner, Nowhere}
 
--- a region, regions, a type and types with the arguments put in, where there are some
+-- a region with the arguments put in, where there are some
 abbrev pub region_under : Option Arguments → ℕ → ℕ
 region_under None r = r
 region_under (Some a) r = region_in a.regions.now r
 
+-- regions with the arguments put in, where there are some
 abbrev pub regions_under : Option Arguments → List ℕ → List ℕ
 regions_under None rs = rs
 regions_under (Some a) rs = map (region_in a.regions.now) rs
 
+-- a type with the arguments put in, where there are some
 abbrev pub put_under : Option Arguments → TypeTree → TypeTree
 put_under None t = t
 put_under (Some a) t = put_in a.regions.now (trees a.types.now) t
 
+-- types with the arguments put in, where there are some
 abbrev pub put_all_under : Option Arguments → TypeTrees → TypeTrees
 put_all_under None ts = ts
 put_all_under (Some a) ts = put_in_all a.regions.now (trees a.types.now) ts
 
+-- the type that an instance stands for: its type with its arguments put in
 abbrev pub instance_tree : Instance → TypeTree
 instance_tree i = put_under i.arguments (tree i.ty.now)
 
+-- the regions that a row of them stands for
 abbrev pub row_regions : RegionRow → List ℕ
 row_regions row = regions_under row.arguments row.regions.now
 
+-- the types that a row of them stands for
 abbrev pub row_trees : TypeRow → TypeTrees
 row_trees row = put_all_under row.arguments (trees row.types.now)
 

@@ -22,6 +22,7 @@ use Rattle.nll_statement_list.specs.declared.piece.Piece.TheVariants.{Longer, Sh
 
 -- ---- places and operands
 
+-- the piece of a projection
 abbrev pub projection_piece : Projection → Piece
 projection_piece taken.Deref = Deref
 projection_piece (taken.Field k) = Field k
@@ -30,6 +31,7 @@ projection_piece (taken.Field k) = Field k
 abbrev pub place_pieces : (ℕ → Piece) → PlacePath → List Piece
 place_pieces head p = map projection_piece p.projections ++ head p.variable ∷ []
 
+-- the pieces of an operand: of a constant one, else those of its place
 abbrev pub operand_pieces : Operand → List Piece
 operand_pieces constant = Const ∷ []
 operand_pieces (copied p) = place_pieces Copy p
@@ -67,6 +69,7 @@ abbrev pub exits_pieces : ℕ → Option ℕ → List Piece
 exits_pieces b None = Block b ∷ End ∷ []
 exits_pieces b (Some u) = Block b ∷ Block u ∷ []
 
+-- the pieces of a statement
 abbrev pub statement_pieces : Statement ℕ TypeTree → List Piece
 statement_pieces (assign p op) = place_pieces Assign p ++ operand_pieces op
 statement_pieces (borrow p r m q) =

@@ -92,11 +92,12 @@ operands_from qs (p ∷ ps) =
 abbrev pub Made : Type 0
 Made = List TypeTree × List (List TypeTree)
 
--- the newest type, and the newest row
+-- the newest type; an `int` where there is none
 abbrev pub top : List TypeTree → TypeTree
 top [] = int
 top (t ∷ xs) = t
 
+-- the newest row; an empty one where there is none
 abbrev pub top_row : List (List TypeTree) → List TypeTree
 top_row [] = []
 top_row (row ∷ rows) = row
@@ -154,11 +155,12 @@ abbrev pub list_of : TypeTrees → List TypeTree
 list_of none = []
 list_of (more t ts) = t ∷ list_of ts
 
--- what a function takes, and what it gives
+-- what a function takes; nothing where it is another type
 abbrev pub inputs : TypeTree → List TypeTree
 inputs (function ts t) = list_of ts
 inputs _ = []
 
+-- what a function gives; an `int` of any other type
 abbrev pub output : TypeTree → TypeTree
 output (function ts t) = t
 output _ = int
@@ -193,21 +195,23 @@ abbrev pub operand_or : Option Operand → Operand
 operand_or (Some op) = op
 operand_or None = constant
 
--- the region of a reference, and whether it is `mut`
+-- the region of a reference
 abbrev pub region_of : Piece → ℕ
 region_of (Shared r) = r
 region_of (Mutable r) = r
 region_of _ = 0
 
+-- the piece is that of a `mut` reference
 abbrev pub is_mutable : Piece → Bool
 is_mutable (Mutable r) = true
 is_mutable _ = false
 
--- the variable of the place that is borrowed, and a block to which something goes on
+-- the variable of the place that is borrowed
 abbrev pub variable_of : Piece → ℕ
 variable_of (Of x) = x
 variable_of _ = 0
 
+-- the block that a piece is; block 0 where it is none
 abbrev pub block_or : Piece → ℕ
 block_or (Block b) = b
 block_or _ = 0

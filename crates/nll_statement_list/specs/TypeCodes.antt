@@ -35,11 +35,12 @@ abbrev mutual
   steps_all none rest = make_none ∷ rest
   steps_all (more t ts) rest = steps t (steps_all ts (make_more ∷ rest))
 
--- the newest type, and the newest row
+-- the newest type; an `int` where there is none
 abbrev pub top : List TypeTree → TypeTree
 top [] = int
 top (t ∷ xs) = t
 
+-- the newest row of types; an empty one where there is none
 abbrev pub top_row : List TypeTrees → TypeTrees
 top_row [] = none
 top_row (ts ∷ ys) = ts
@@ -78,6 +79,7 @@ mutual
       run_steps_all ts (steps t (make_function ∷ rest)) xs ys
       ∙ run_steps t (make_function ∷ rest) xs (ts ∷ ys)
 
+  -- the steps of types in a row make the row
   pub run_steps_all : (ts : TypeTrees) (rest : List Step) (xs : List TypeTree)
       (ys : List TypeTrees) → run (steps_all ts rest) (xs, ys) ≡ run rest (xs, ts ∷ ys)
   run_steps_all none rest xs ys = refl

@@ -26,5 +26,6 @@ abbrev pub is_found : Option Projection → Bool
 is_found None = false
 is_found (Some q) = true
 
+-- the piece is a projection
 abbrev pub is_projection : Piece → Bool
 is_projection p = is_found (projection_of p)

@@ -13,6 +13,7 @@ use Rattle.nll_types.specs.declared.place.Projection.{Projection}
 use Rattle.nll_types.specs.declared.place.Projection.TheVariants.{Deref, Field}
 
 mutual
+  -- A shape is a type without its regions; of a struct it keeps how many regions it has.
   pub data Shape : Type 0 where
     int_shape : Shape
     parameter_shape : ℕ → Shape

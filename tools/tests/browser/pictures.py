@@ -1,6 +1,6 @@
 #!/usr/bin/env python3
-"""Makes what docs/ shows of pages: the pictures of docs/FROM-RUST.md, and docs/LEARNING.md's pages;
-and the picture of docs/MESSAGES.md.
+"""Makes what docs/ shows of pages: the pictures of docs/FROM-RUST.md, docs/LEARNING.md's page, and the
+picture of docs/MESSAGES.md.
 
     pictures.py [--schedule] [FOLDER]
 
@@ -26,8 +26,8 @@ from nll_page.facts import read_facts  # noqa: E402
 
 SIZE = (1440, 860)
 
-# The examples of docs/LEARNING.md.
-LEARNING = ("running", "running_everywhere", "overwritten", "overwritten_everywhere")
+# The example of docs/LEARNING.md.
+LEARNING = "running.mir"
 
 # A picture's name, the function, the scheme, and what is chosen: a step, or a region by its words
 # and perhaps the last point with these words.
@@ -58,9 +58,10 @@ def last_use(facts, used):
 def main(folder):
     for part in ("pictures", "pages"):
         os.makedirs(os.path.join(folder, part), exist_ok=True)
-    for name in LEARNING:
-        subprocess.run(["tools/nll-page", f"examples/{name}.facts", "-o",
-                        os.path.join(folder, "pages", f"{name}.html")], cwd=ROOT, check=True)
+    with tempfile.TemporaryDirectory() as pages:
+        subprocess.run(["./nllc.sh", "page", "-o", pages, f"examples/{LEARNING}"], cwd=ROOT,
+                       stdout=subprocess.DEVNULL, check=True)
+        shutil.copy(os.path.join(pages, f"{LEARNING}.html"), os.path.join(folder, "pages"))
     with tempfile.TemporaryDirectory() as pages, Browser() as browser:
         subprocess.run(["./nllc.sh", "rust", "examples/three.rs", "-o", pages], cwd=ROOT,
                        stdout=subprocess.DEVNULL, stderr=subprocess.DEVNULL, check=False)
