@@ -50,17 +50,23 @@ fn post_many<M: Mail>(sender: &mut M::S, growths: u64) -> bool
 #[derive(Clone, Copy, Debug, PartialEq, Eq)]
 struct Told {
     /// The room of a new ring.
-    room: u64,
+    room: usize,
     /// Whether 256 posts were accepted.
     accepted: bool,
     /// What one more answers.
     refused: Option<PostError>,
     /// The room then.
-    left: u64,
+    left: usize,
     /// What a take gives then.
     taken: Option<Growth>,
+    /// Why the next post is refused, if it is.
+    posted: Option<PostError>,
+    /// What one more answers.
+    full: Option<PostError>,
+    /// What a take gives then.
+    next: Option<Growth>,
     /// Whether there is room for a post then, which succeeds.
-    posted: bool,
+    posted_into_room: bool,
 }
 
 fn fill_ring(alloc: Global) -> Result<Told, Memory> {
@@ -70,7 +76,10 @@ fn fill_ring(alloc: Global) -> Result<Told, Memory> {
     let refused = post_one::<RingMail>(&mut sender, numbered(256));
     let left = RingMail::room(&mut sender);
     let taken = RingMail::take(&mut receiver);
-    let posted = post_into_room(&mut sender, numbered(256));
+    let posted = post_one::<RingMail>(&mut sender, numbered(256));
+    let full = post_one::<RingMail>(&mut sender, numbered(257));
+    let next = RingMail::take(&mut receiver);
+    let posted_into_room = post_into_room(&mut sender, numbered(257));
     drop(RingMail::close(sender));
     Ok(Told {
         room,
@@ -79,10 +88,14 @@ fn fill_ring(alloc: Global) -> Result<Told, Memory> {
         left,
         taken,
         posted,
+        full,
+        next,
+        posted_into_room,
     })
 }
 
-// A ring has 256 places; the 257th growth comes back, and a take makes room for it.
+// A ring has 256 places in all: the 257th growth comes back, and each take makes room for exactly
+// one more.
 #[test]
 fn a_ring_has_256_places(rt: HostRuntime) -> Result<(), Fail> {
     let told = fill_ring(rt.alloc())?;
@@ -92,7 +105,10 @@ fn a_ring_has_256_places(rt: HostRuntime) -> Result<(), Fail> {
         refused: Some(PostError::Full(numbered(256))),
         left: 0,
         taken: Some(numbered(0)),
-        posted: true,
+        posted: None,
+        full: Some(PostError::Full(numbered(257))),
+        next: Some(numbered(1)),
+        posted_into_room: true,
     };
     assert_eq!(rt; told, wanted);
     Ok(())
