@@ -1,5 +1,5 @@
 #!/bin/sh
-# Runs the measurements of docs/BENCHMARKS.md that need no program but nllc and the partner, one after the other.
+# Runs the measurements of docs/dev/BENCHMARKS.md that need no program but nllc and the partner, one after the other.
 #
 #   all.sh --nllc PATH --into FOLDER [--inputs FOLDER] [--program PATH]
 #

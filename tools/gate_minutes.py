@@ -9,7 +9,7 @@ such a file again; where it has units, it ends with the crates that are above th
 budgets, of each layer of crates.txt and of each crate (tools/gate_budget.csv). Ends with the status of `rt ci`; with
 `--read` and `--budget` with 0.
 
-A unit is a minute of a processor of the machine on which the first rows of docs/GATE.md were measured. How
+A unit is a minute of a processor of the machine on which the first rows of docs/dev/GATE.md were measured. How
 much slower this one is, tell the checks of three crates that hardly change, the yardstick, in the same run.
 """
 

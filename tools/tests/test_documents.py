@@ -61,7 +61,7 @@ class Documents(unittest.TestCase):
 
     def test_named_wrong_bodies(self):
         """Each wrong body that the claims name stands in the folder that was named last."""
-        named = re.findall(r"`(?:(nll_\w+/[\w-]+)/)?(\w+)\.edit`", (ROOT / "docs/CLAIMS.md").read_text())
+        named = re.findall(r"`(?:(nll_\w+/[\w-]+)/)?(\w+)\.edit`", (ROOT / "docs/dev/CLAIMS.md").read_text())
         self.assertTrue(named)
         folder = None
         for of, edit in named:
@@ -71,13 +71,13 @@ class Documents(unittest.TestCase):
 
     def test_claims(self):
         """Each file that a claim names is there, and each row of the promises leads to a claim."""
-        text = (ROOT / "docs/CLAIMS.md").read_text()
+        text = (ROOT / "docs/dev/CLAIMS.md").read_text()
         for path in set(re.findall(r"`(crates/[\w/]+\.rt)`", text)):
             with self.subTest(path=path):
                 self.assertTrue((ROOT / path).is_file())
         claims = re.findall(r"^### (\d+)\. ", text, re.MULTILINE)
         self.assertEqual(claims, [str(number) for number in range(1, len(claims) + 1)])
-        for document in ("docs/CLAIMS.md", "docs/PROOF.md"):
+        for document in ("docs/dev/CLAIMS.md", "docs/PROOF.md"):
             promises = re.search(r"^\|.*\| Claim \|\n(?:\|.*\n)+", (ROOT / document).read_text(), re.MULTILINE)[0]
             rows = re.findall(r"^\|.*\| ([\d, ]+) \|$", promises, re.MULTILINE)
             self.assertTrue(rows, document)
@@ -86,9 +86,9 @@ class Documents(unittest.TestCase):
 
     def test_links(self):
         """Each document that a document names is there."""
-        for path in [ROOT / "README.md", ROOT / "CONTRIBUTING.md", *sorted((ROOT / "docs").glob("*.md"))]:
+        for path in [*sorted(ROOT.glob("*.md")), *sorted(ROOT.glob("*/README.md")), *sorted((ROOT / "docs").glob("**/*.md"))]:
             text = path.read_text()
-            named = re.findall(r"\b(docs/[\w-]+\.md)\b", text)
+            named = re.findall(r"\b(docs/(?:\w+/)?[\w-]+\.md)\b", text)
             linked = [link for link in re.findall(r"\]\(([^)#]+)\)", text) if "://" not in link]
             for name in set(named):
                 self.assertTrue((ROOT / name).is_file(), f"{path}: {name}")
