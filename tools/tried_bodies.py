@@ -15,9 +15,9 @@ come of it, with the crate of tests that shows it:
 
 That crate and those below it are copied, and the edit is made in the copy. `rt try --test` then compiles the tests and
 runs them; it proves nothing, and needs no proof of anything. Of its tests the copy has the named one alone. It must fail, or
-not end within the limit (`--seconds`, 20 unless told). Of an edit that must be refused the copy has no test, and each
-error that the compiler prints must have the message. Each takes about a minute of processor time where it's
-compiled, and a few seconds where it's refused.
+not end within the limit (`--seconds`, 20 unless told; more where the machine is busy). Where an edit must be refused, the
+crate may be any that sees it, and each error that the compiler prints must have the message. Each edit takes about a
+minute of processor time where it's compiled, and a few seconds where it's refused.
 
 Where crates or edits are named, no others are tried. Ends with 0 where each came to what it must.
 """
@@ -39,6 +39,8 @@ from rooms import SOURCES, copy, folder_of
 
 ROOT = pathlib.Path(__file__).resolve().parents[1]
 FOLDER = "tried-bodies"
+# A test without which `rt` compiles no library.
+NO_TEST = "\n#[cfg(test)]\nmod tried {\n    #[test]\n    fn tried(_rt: HostRuntime) {}\n}\n"
 # One test, as `rt fmt` lays it out.
 TEST = re.compile(r"^#\[test\]\nfn (\w+)\(.*?^\}\n", re.M | re.S)
 ERROR = re.compile(r"^\S+:\d+:\d+: error(?:\[[\w-]+\])?: (.*)$", re.M)
@@ -106,7 +108,13 @@ def leave_one(folder, test):
 
         text = path.read_text(encoding="utf-8")
         path.write_text(TEST.sub(kept, text), encoding="utf-8")
-    return found == 1 or test is None
+    return found == 1
+
+
+def add_test(folder):
+    """Gives a library a test, so that `rt` compiles it."""
+    path = pathlib.Path(folder) / "src" / "lib.rt"
+    path.write_text(path.read_text(encoding="utf-8") + NO_TEST, encoding="utf-8")
 
 
 def copied(root, room, tests):
@@ -147,7 +155,9 @@ def try_edit(root, edit, seconds):
             apply(edit, folder_of(room, edit.crate))
         except (OSError, ValueError) as error:
             return Tried(edit, 0, False, f"BAD EDIT: {error}")
-        if not leave_one(folder_of(room, edit.tests), edit.test):
+        if edit.test is None:
+            add_test(folder_of(room, edit.tests))
+        elif not leave_one(folder_of(room, edit.tests), edit.test):
             return Tried(edit, 0, False, f"BAD EDIT: {edit.tests} has no test {edit.test}")
         words = ["rt", "try", "--test", "--seconds", str(seconds)]
         with started(words, folder_of(room, edit.tests)) as running:

@@ -174,9 +174,13 @@ def read_words(words, root):
 def main(words, root=ROOT):
     asked = read_words(words, root)
     before = re.fullmatch(r"(\d+) passed, (\d+) failed", asked.before)
+    if not before:
+        print(f"--before {asked.before}: no line as `rt ci` ends with", file=sys.stderr)
+        return 2
     missing = [path for path in (asked.nllc, asked.tests) if not os.access(path, os.X_OK)]
-    if missing or not before:
-        print(f"no program at {missing[0]}: `rt ci` builds it" if missing else f"--before {asked.before}: not as rt ends")
+    if missing:
+        print(f"no program at {missing[0]}: `rt ci` builds it")
+        print(f"{before[1]} passed, {int(before[2]) + 1} failed")
         return 1
     with tempfile.TemporaryDirectory() as folder:
         jobs = jobs_of(asked.nllc, asked.tests, folder)

@@ -90,8 +90,8 @@ class Refusing(unittest.TestCase):
 
     def test_a_missing_program_fails(self):
         with contextlib.redirect_stdout(io.StringIO()) as printed:
-            self.assertEqual(rows.main(["--nllc", self.folder.name + "/none"]), 1)
-        self.assertIn("no program at", printed.getvalue())
+            self.assertEqual(rows.main(["--nllc", self.folder.name + "/none", "--before", "9 passed, 0 failed"]), 1)
+        self.assertEqual(printed.getvalue().splitlines()[-1], "9 passed, 1 failed")
 
     def test_each_beginning_is_spread(self):
         self.assertEqual(sorted(rows.spread(100)), list(range(1, 101)))

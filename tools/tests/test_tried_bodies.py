@@ -18,7 +18,7 @@ import tried_bodies  # noqa: E402 (it stands in tools/)
 # An `rt` that writes down what it sees of the crates, and prints what the edited source holds.
 RT = """#!/bin/sh
 echo "$@" in $(basename "$PWD") >> {said}
-cat ../../crates.txt src/rows.rt >> {said}
+cat ../../crates.txt src/*.rt >> {said}
 cat ../low/src/lib.rt
 """
 FAILS = "# wrong: it is two\n# fails: low_tests rows::one\nfile: src/lib.rt\nold: one\nnew: "
@@ -72,6 +72,7 @@ class Trying(unittest.TestCase):
         self.write("crates.txt", "low:\nhigh: low\nlow_tests: low\n")
         self.write("HANDLES", "Handles allowed: none.\n")
         self.write("crates/low/src/lib.rt", "one\n")
+        self.write("crates/low_tests/src/lib.rt", "mod rows;\n")
         self.write("crates/low_tests/src/rows.rt", TESTS)
 
     def write(self, path, text):
@@ -121,7 +122,7 @@ class Trying(unittest.TestCase):
         for text, ended in ((right, 0), (f"{right}\n| {right}", 0), (f"{right}\n| {other}", 1), (other, 1), ("ok", 1)):
             status, said, printed = self.try_on(REFUSED + text)
             self.assertEqual(status, ended, printed)
-            self.assertNotIn("fn one(", said)
+            self.assertIn("fn tried(", said)
             self.assertIn(f"1 tried, {1 - ended} refused by the compiler, 0 failed", printed)
 
     def test_an_edit_that_does_not_fit_is_told(self):
