@@ -1,4 +1,4 @@
-"""README, the course and the page on proofs have no sentence of more than 30 words."""
+"""README, the course and the page on proofs have no sentence of more than 30 words; documents have plain words."""
 
 import pathlib
 import re
@@ -7,6 +7,9 @@ import unittest
 ROOT = pathlib.Path(__file__).resolve().parents[2]
 DOCUMENTS = ("README.md", "docs/LEARNING.md", "docs/PROOF.md")
 MOST_WORDS = 30
+# Turns of speech for which a document has plain words: appends; live; conflicts with; returned; out of memory; for
+# readers who; round-robin.
+REFUSED = ("behind the others", "in force", "goes against", "handed out", "want of memory", "for who ", "dealt in turns")
 APART = re.compile(r"\||#|!\[|    ")     # tables, headings, pictures and what is shown as code
 ITEM = re.compile(r"^(?:[-*]|\d+\.) ")
 END = re.compile(r"(?<=[.?!])[)*\"”]*\s+(?=[A-Z`\"(*\[“'])|(?<=[.?!]\"|[.?!]\)|[.?!]\*)\s+(?=[A-Z`\"(*\[“])")
@@ -44,6 +47,14 @@ class Sentences(unittest.TestCase):
             for sentence in sentences((ROOT / document).read_text()):
                 with self.subTest(document=document, sentence=sentence[:60]):
                     self.assertLessEqual(count(sentence), MOST_WORDS, sentence)
+
+    def test_plain_words(self):
+        """In what documents say, and not in what they show of messages; claims and choices have words of their own."""
+        for path in sorted([*ROOT.glob("*.md"), *ROOT.glob("crates/**/README.md"), *ROOT.glob("docs/*.md")]):
+            if path.name in ("CLAIMS.md", "DECISIONS.md"):
+                continue
+            said = " ".join(line for line in path.read_text().splitlines() if not line.startswith("    "))
+            self.assertEqual([words for words in REFUSED if words in said], [], path)
 
     def test_counting(self):
         text = "One `two three` four. Five\nsix: seven!\n\n- Eight nine.\n- Ten (eleven.) Twelve\n\n    code\n"
