@@ -6,7 +6,6 @@ use Rattle.nll_mail.specs.declared.growth.Growth.{Growth}
 use Rattle.nll_mail.specs.declared.ring_mail.RingSender.{RingSender}
 use Rattle.nll_mail.specs.declared.ring_mail.RingReceiver.{RingReceiver}
 use Rattle.nll_mail.specs.declared.ring_mail.RingClosed.{RingClosed}
-use Rattle.nll_mail.specs.declared.ring_mail.RingPost.{RingPost}
 
 -- what a sender has sent, in order
 abbrev pub sent_by : RingSender → List Growth
@@ -36,7 +35,3 @@ IsJoined sender receiver = IsPair sender.producer receiver.consumer
 -- the closed sender and the receiver are the ends of one ring
 abbrev pub Closes : RingClosed → RingReceiver → Type 0
 Closes closed receiver = IsPair closed.producer receiver.consumer
-
--- what is left in a settled mailbox, in order
-abbrev pub left_in : RingPost → List Growth
-left_in post = known_items post.consumer

@@ -87,10 +87,10 @@ pub struct RingPost {
 impl Mail for RingMail {
     ghost use Rattle.std.specs.Prelude.{◌≡◌, ◌+◌, ◌<◌, ◌++◌, [], ◌∷◌, true, length};
     ghost use Rattle.std.specs.Prelude.{IsOk, IfOk, OnOk, IfErr, IsSome, IfSome, IfNone};
-    ghost use Rattle.rtrb.specs.Ring.{sent as pushed, received as popped};
+    ghost use Rattle.rtrb.specs.Ring.{sent as pushed, received as popped, known_items};
     ghost use Rattle.nll_mail.specs.Channel.{refusal};
     ghost use Rattle.nll_mail.specs.Rings.{sent_by, received_by, ends_of, room_of, seen_by};
-    ghost use Rattle.nll_mail.specs.Rings.{left_in, IsJoined, Closes};
+    ghost use Rattle.nll_mail.specs.Rings.{IsJoined, Closes};
     ghost use Rattle.nll_mail.specs.declared.ring_mail.RingSender.{RingSender};
     ghost use Rattle.nll_mail.specs.declared.ring_mail.RingClosed.{RingClosed};
     ghost use Rattle.nll_mail.specs.declared.ring_mail.RingReceiver.{RingReceiver};
@@ -124,7 +124,7 @@ impl Mail for RingMail {
 
     ghost post_received = { λ post. popped post.consumer };
 
-    ghost post_rest = { left_in };
+    ghost post_rest = { λ post. known_items post.consumer };
 
     /// The two ends of a new ring. All its places are free, and the sender knows it.
     ///
@@ -229,7 +229,7 @@ impl Mail for RingMail {
 
 impl RingMail {
     ghost use Rattle.std.specs.Prelude.{◌≡◌, ◌≤◌, length};
-    ghost use Rattle.nll_mail.specs.Rings.{sent_by, room_of, left_in, IsJoined};
+    ghost use Rattle.nll_mail.specs.Rings.{sent_by, room_of, IsJoined};
     ghost use Rattle.nll_mail.specs.declared.ring_mail.RingReceiver.{RingReceiver};
     ghost use Rattle.nll_mail.specs.declared.ring_mail.RingPost.{RingPost};
     ghost use Rattle.nll_problem.specs.Limits.{most_places};
@@ -255,6 +255,7 @@ impl RingMail {
     /// A law: a ring has 256 places in all, so whatever its ends did, at most 256 growths were sent
     /// and not received where they are settled.
     pub fn few_left()
-        ensures { (post : RingPost) → length (left_in post) ≤ most_places }
+        ensures { (post : RingPost)
+            → length (⟦<RingMail as Mail>⟧.post_rest post) ≤ most_places }
     {}
 }
