@@ -14,10 +14,10 @@ come of it, with the crate of tests that shows it:
     # refused: nll_mail_tests: the trait bound `Global: Wait` is not satisfied
 
 That crate and those below it are copied, and the edit is made in the copy. `rt try --test` then compiles the tests and
-runs them; it proves nothing, and needs no proof of anything. Of its tests the copy has the named one alone. It must fail, or
-not end within the limit (`--seconds`, 20 unless told; more where the machine is busy). Where an edit must be refused, the
-crate may be any that sees it, and each error that the compiler prints must have the message. Each edit takes about a
-minute of processor time where it's compiled, and a few seconds where it's refused.
+runs them; it proves nothing, and needs no proof of anything. Of its tests the copy has the named one alone. It must
+fail, or not end within the limit (`--seconds`, 20 unless told; more where the machine is busy). Where an edit must be
+refused, the crate may be any that sees it, and each error that the compiler prints must have the message. Each edit
+takes about a minute of processor time where it's compiled, and a few seconds where it's refused.
 
 Where crates or edits are named, no others are tried. Ends with 0 where each came to what it must.
 """

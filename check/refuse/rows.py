@@ -9,9 +9,9 @@ the tests are those that `rt ci` built, unless told. `refuse.c` refuses the firs
 second, and so on, until a run meets no refusal.
 
 A run of the program is to give the whole right answer, or status 3, nothing on standard output and `nllc: memory`, or
-with owners `nllc: thread`: the C library asks for memory to start a thread. It may keep no more blocks of memory to its
-end than runs that are refused nothing. A run of a test is to pass: where a run in it is refused, the test runs the same
-problem, cut, mailboxes, ledger and gate again, and compares what comes of it.
+with owners `nllc: thread`: the C library asks for memory to start a thread. It may keep no more blocks of memory to
+its end than runs that are refused nothing. A run of a test is to pass: where a run in it is refused, the test runs the
+same problem, cut, mailboxes, ledger and gate again, and compares what comes of it.
 
 Prints each run that ends otherwise, and a line for each problem and test. What isn't tried after `--seconds` (100 unless
 told) is skipped, spread over all growths, and the line says how many. Last stands a line as `rt ci` prints one,

@@ -22,7 +22,7 @@ cat ../../crates.txt src/*.rt >> {said}
 cat ../low/src/lib.rt
 """
 FAILS = "# wrong: it is two\n# fails: low_tests rows::one\nfile: src/lib.rt\nold: one\nnew: "
-REFUSED = "# wrong: it is two\n# refused: low_tests: the bound `A: B` is not satisfied\nfile: src/lib.rt\nold: one\nnew: "
+REFUSED = FAILS.replace("fails: low_tests rows::one", "refused: low_tests: the bound `A: B` is not satisfied")
 TESTS = """use a;
 
 #[test]
@@ -115,10 +115,11 @@ class Trying(unittest.TestCase):
             status, _, printed = self.try_on(FAILS + text)
             self.assertEqual(status, ended, printed)
             self.assertIn(told, printed)
-            self.assertIn(f"1 tried, 0 refused by the compiler, {1 - ended} failed by their tests, {ended} neither", printed)
+            self.assertIn(f"0 refused by the compiler, {1 - ended} failed by their tests, {ended} neither", printed)
 
     def test_each_error_must_have_the_message(self):
-        right, other = ("src/a.rt:1:2: error[b]: the bound `A: B` is not satisfied: help", "src/a.rt:1:2: error: no name")
+        right = "src/a.rt:1:2: error[b]: the bound `A: B` is not satisfied: help"
+        other = "src/a.rt:1:2: error: no name"
         for text, ended in ((right, 0), (f"{right}\n| {right}", 0), (f"{right}\n| {other}", 1), (other, 1), ("ok", 1)):
             status, said, printed = self.try_on(REFUSED + text)
             self.assertEqual(status, ended, printed)
