@@ -9,7 +9,7 @@ use indexmap::Equivalent;
 use smallvec::SmallVec;
 use std::hash::Hash;
 
-/// A name as it is kept. Most names are short: these stand in the list of names itself, so that
+/// A name as it is kept. Most names are short: these are in the list of names itself, so that
 /// nothing else is looked at where one of many is sought.
 pub(crate) type Name = SmallVec<u8, 16>;
 
