@@ -63,7 +63,7 @@ fn is_return(statement: &Stmt) -> bool
     }
 }
 
-// Adds the edges that leave a terminator. The list of blocks is for its own use.
+// Adds the edges that leave a terminator. The list of blocks is scratch space.
 fn add_edges(
     graph: &mut GraphBuilder,
     point: u32,
@@ -118,7 +118,7 @@ fn add_terminator(
     graph.ret(point)
 }
 
-// Adds what stands at a point of a list. Only a terminator is made for it.
+// Adds the edges of one point of a list. Only a terminator is decoded for it.
 fn add_next(
     alloc: Global,
     graph: &mut GraphBuilder,
@@ -145,7 +145,7 @@ fn add_next(
     add_terminator(graph, point, statement, starts, blocks)
 }
 
-// Adds what stands at each of the points to a graph that has nothing but so many points.
+// Adds the edges of every point to a graph that has only its points.
 fn add_points(
     alloc: Global,
     graph: &mut GraphBuilder,

@@ -23,8 +23,8 @@ use std::alloc::Global;
 /// - `Memory`.
 ///
 /// # Cost
-/// That of liveness, and for each point what its statement asks, once for each point that may come
-/// after (not proved).
+/// That of liveness, and for each point what its statement asks, once for each successor (not
+/// proved).
 ///
 /// # Source
 /// RFC 2094, "Liveness", "Drop", "Subtyping", "Reborrow constraints" and "Layer 4: Named

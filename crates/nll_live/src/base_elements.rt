@@ -16,7 +16,7 @@ use nll_problem::{BaseRun, RegionId};
 use nll_sets::Memory;
 use std::alloc::Global;
 
-/// The base elements of regions that come of the liveness of variables, each once, ascending by
+/// The base elements of regions that follow from the liveness of variables, each once, ascending by
 /// region, then by point.
 ///
 /// # Errors
@@ -41,7 +41,7 @@ pub fn bases(alloc: Global, body: &Body, sets: &LiveSets) -> Result<Vec<(RegionI
     pairs
 }
 
-// The base elements. The empty list is for its own use.
+// The base elements. The empty list is scratch space.
 fn pairs_asked_for(
     alloc: Global,
     body: &Body,
@@ -60,7 +60,7 @@ fn pairs_asked_for(
     Ok(pairs)
 }
 
-// Puts the runs of base elements that each variable asks for into an empty list.
+// Writes the runs of base elements that each variable asks for into an empty list.
 fn push_variables(
     alloc: Global,
     body: &Body,
@@ -80,7 +80,7 @@ fn push_variables(
     Ok(())
 }
 
-// Puts the runs of base elements that a variable asks for where it is use-live behind the others.
+// Appends the runs of base elements that a variable asks for where it is use-live.
 fn push_uses(
     alloc: Global,
     body: &Body,
@@ -100,7 +100,7 @@ fn push_uses(
     told
 }
 
-// Puts the runs of base elements that a variable asks for where it is drop-live behind the others.
+// Appends the runs of base elements that a variable asks for where it is drop-live.
 fn push_drops(
     alloc: Global,
     body: &Body,

@@ -1,5 +1,5 @@
-//! The base elements that liveness gives regions, variable by variable: the points of one are let
-//! go before the next is looked at, and a variable that asks for nothing isn't looked at.
+//! The base elements that liveness gives regions, variable by variable: the points of one are freed
+//! before the next is examined, and a variable that asks for nothing is skipped.
 
 ghost use Rattle.std.specs.Prelude.{◌≡◌, ◌↔◌, ◌+◌, ◌^◌, ◌<◌, ◌≤◌, ℕ, [], length, map, slice_index};
 ghost use Rattle.std.specs.Prelude.{Contains, IfOk, OnOk};
@@ -21,8 +21,8 @@ use nll_problem::{BaseRun, Predecessors, RegionId};
 use nll_sets::Memory;
 use std::alloc::Global;
 
-/// The base elements of regions that come of the liveness of variables, by runs: for each variable
-/// and each region that it asks for those of the points where it is live, in no order.
+/// The base elements of regions that follow from the liveness of variables, by runs: for each
+/// variable and each region that it asks for those of the points where it is live, in no order.
 ///
 /// # Errors
 /// - `Memory`.
@@ -50,7 +50,7 @@ pub fn live_runs(alloc: Global, body: &Body) -> Result<Vec<BaseRun>, Memory>
     }
 }
 
-// Puts the runs of base elements that variables ask for into an empty list.
+// Writes the runs of base elements that variables ask for into an empty list.
 fn push_live(alloc: Global, body: &Body, base_runs: &mut Vec<BaseRun>) -> Result<(), Memory>
     requires nothing { base_runs.old.items ≡ [] }
     ensures each { OnOk result
@@ -65,7 +65,7 @@ fn push_live(alloc: Global, body: &Body, base_runs: &mut Vec<BaseRun>) -> Result
     told
 }
 
-// The same, over the predecessors of the body's points.
+// Like `push_live`, given the predecessors of the body's points.
 fn push_over(
     alloc: Global,
     body: &Body,
@@ -83,7 +83,7 @@ fn push_over(
     told
 }
 
-// The same, by what searches in the body go by.
+// Like `push_live`, given what searches in the body go by.
 fn push_both(
     alloc: Global,
     body: &Body,
@@ -103,7 +103,7 @@ fn push_both(
     Ok(())
 }
 
-// Puts the runs of base elements that variables ask for where they are use-live behind the others.
+// Appends the runs of base elements that variables ask for where they are use-live.
 fn push_uses(
     alloc: Global,
     body: &Body,
@@ -123,7 +123,7 @@ fn push_uses(
     told
 }
 
-// Puts the runs of base elements that variables ask for where they are drop-live behind the others.
+// Appends the runs of base elements that variables ask for where they are drop-live.
 fn push_drops(
     alloc: Global,
     body: &Body,
@@ -143,7 +143,7 @@ fn push_drops(
     told
 }
 
-// The same of uses, by the points that use each variable.
+// Like `push_uses`, given the points that use each variable.
 fn push_each_use(
     alloc: Global,
     body: &Body,
@@ -179,7 +179,7 @@ fn push_each_use(
     Ok(())
 }
 
-// The same of drops, by the points that drop each variable.
+// Like `push_drops`, given the points that drop each variable.
 fn push_each_drop(
     alloc: Global,
     body: &Body,
@@ -215,8 +215,8 @@ fn push_each_drop(
     Ok(())
 }
 
-// Puts the runs of base elements of these regions behind the others, at the points from which a
-// walk leads to one of the list. The room's marks are of earlier variables.
+// Appends the runs of base elements of these regions at the points from which a point of the list
+// is reachable. The room's marks are of earlier variables.
 fn push_found(
     alloc: Global,
     body: &Body,

@@ -41,7 +41,7 @@ pub fn liveness(alloc: Global, body: &Body) -> Result<LiveSets, Memory>
     sets
 }
 
-// The same, over the predecessors of the body's points.
+// Like `liveness`, given the predecessors of the body's points.
 fn sets_over(alloc: Global, body: &Body, previous: &Predecessors<'_>) -> Result<LiveSets, Memory>
     requires { IsGraphOf body.now previous.now }
     ensures { IfOk result (AreLiveSets body.now) }
@@ -52,7 +52,7 @@ fn sets_over(alloc: Global, body: &Body, previous: &Predecessors<'_>) -> Result<
     sets
 }
 
-// The same, by what searches in the body go by.
+// Like `liveness`, given what searches in the body go by.
 fn both_sets(
     alloc: Global,
     body: &Body,
@@ -110,7 +110,7 @@ fn drop_live_sets(
     sets
 }
 
-// For each variable the points from which a walk leads to one of its list.
+// For each variable the points from which one of its list is reachable.
 fn live_sets(
     alloc: Global,
     body: &Body,
@@ -140,7 +140,7 @@ fn live_sets(
     }
 }
 
-// Puts the sets into an empty list. The room's marks are of no turn.
+// Writes the sets into an empty list. The room's marks are of no turn.
 fn find_sets(
     alloc: Global,
     body: &Body,
@@ -171,7 +171,7 @@ fn find_sets(
     Ok(())
 }
 
-/// The points from which a walk leads to one of the list, for a variable. The room's marks are of
+/// The points from which one of the list is reachable, for a variable. The room's marks are of
 /// earlier variables.
 pub(crate) fn find_set(
     alloc: Global,
@@ -227,7 +227,7 @@ fn set_found(alloc: Global, points: u32, room: &mut Room) -> Result<RunSet, Memo
     ensures each { IfOk result (λ set. (p : ℕ) → (flag set p ≡ true)
         ↔ IsCovered room.old.heights.items room.old.lows.items p) }
 {
-    // What is put into a set at its end costs least.
+    // Inserting at the end of a set costs least.
     room.lows.sort_unstable();
     set_of(alloc, points, room.heights.as_slice(), room.lows.as_slice())
 }

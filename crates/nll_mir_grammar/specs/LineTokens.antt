@@ -21,7 +21,7 @@ abbrev pub pointed : List Token → List Token
 pointed (sign c ∷ ts) = arrow ∷ ts
 pointed ts = ts
 
--- the tokens of a byte, which is no blank, and of the bytes behind it, whose tokens these are
+-- the tokens of a byte that is no blank and of the bytes after it, whose tokens these are
 abbrev pub with_byte : ℕ → List ℕ → List Token → List Token
 with_byte b bs ts =
     if is_word_byte b

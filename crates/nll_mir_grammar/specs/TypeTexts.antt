@@ -47,7 +47,7 @@ abbrev mutual
   steps (named n args) = begin_row ∷ argument_steps args ++ make_named n ∷ []
   steps (function ts t) = begin_row ∷ part_steps ts ++ steps t ++ make_function ∷ []
 
-  -- the pieces that make each type of a row, and put it behind those that are in the row
+  -- the pieces that make each type of a row, and append it to the row
   pub part_steps : WrittenTypes → List Piece
   part_steps none = []
   part_steps (more t ts) = steps t ++ add_type ∷ part_steps ts

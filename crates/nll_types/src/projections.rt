@@ -40,7 +40,7 @@ fn field_of(
     }
 }
 
-// The same, with the arguments handed over.
+// Like `field_of`, but takes the arguments.
 fn field_with(
     alloc: Global,
     structs: &Structs,
