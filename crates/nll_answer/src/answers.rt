@@ -42,7 +42,7 @@ pub fn answer(alloc: Global, command: Command, text: &[u8]) -> Result<(Vec<u8>, 
     Ok(answer_of(alloc, command, facts)?)
 }
 
-/// The same of a text that is handed over, which is let go as soon as it is read.
+/// Like `answer`, but takes the text, and frees it once it is read.
 ///
 /// # Errors
 /// As of `answer`.
@@ -59,7 +59,7 @@ pub fn answer_text(
     Ok(answer_of(alloc, command, facts)?)
 }
 
-/// The answer to a command on a problem and its labels. The problem is let go before its report is
+/// The answer to a command on a problem and its labels. The problem is freed before its report is
 /// made.
 ///
 /// # Errors
@@ -124,7 +124,7 @@ fn check_of(alloc: Global, problem: Problem, labels: &Labels) -> Result<(Vec<u8>
     told_faults(alloc, labels, faults)
 }
 
-/// The report of faults, and the status that tells whether there are any.
+/// The report of faults, and the status that says whether there are any.
 pub(crate) fn told_faults(
     alloc: Global,
     labels: &Labels,
