@@ -72,6 +72,7 @@ pub fn answer_of(alloc: Global, command: Command, facts: Facts) -> Result<(Vec<u
 {
     let Facts { problem, labels } = facts;
     let answer = asked(alloc, command, problem, &labels);
+    // Early drop.
     drop(labels);
     answer
 }
@@ -108,6 +109,7 @@ fn values_of(alloc: Global, problem: Problem, labels: &Labels) -> Result<Vec<u8>
     drop(problem);
     let values = values?;
     let report = region_lines(alloc, points, regions, labels, &values);
+    // Early drop.
     drop(values);
     report
 }
@@ -148,10 +150,11 @@ fn faults_of(alloc: Global, problem: &Problem) -> Result<Vec<(RegionId, RegionId
         AreFaults problem.now (Least problem.now) found.items) }
     ensures sound { IsSound problem.now }
 {
-    // No effect at run time. The proof reads from this call that the problem is sound.
+    // Clause call: the problem is sound.
     let _ = problem.universals();
     let values = solve(alloc, problem)?;
     let found = faults(alloc, problem, &values);
+    // Early drop.
     drop(values);
     found
 }

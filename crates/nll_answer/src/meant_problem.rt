@@ -49,6 +49,7 @@ pub fn read_meaning(alloc: Global, text: Vec<u8>) -> Result<Facts, AnswerError>
         read_mir_meaning(alloc, text)
     } else {
         let facts = facts_meaning(alloc, text.as_slice());
+        // Early drop.
         drop(text);
         facts
     }
@@ -90,6 +91,7 @@ fn read_body(alloc: Global, text: Vec<u8>) -> Result<Body, AnswerError>
     ensures err { IfErr result (IsErrorOf (IsMirFault text.items)) }
 {
     let body = body_of(alloc, text.as_slice());
+    // Early drop.
     drop(text);
     body
 }

@@ -152,9 +152,10 @@ fn found_faults(
         AreFaults problem.now (Least problem.now) found.items) }
     ensures sound { IsSound problem.now }
 {
-    // No effect at run time. The proof reads from this call that the problem is sound.
+    // Clause call: the problem is sound.
     let _ = problem.universals();
     let found = faults(alloc, problem, &values);
+    // Early drop.
     drop(values);
     found
 }

@@ -110,6 +110,7 @@ fn add_terminator(
 {
     let returns = is_return(&statement);
     let told = add_edges(graph, point, &statement, starts, blocks);
+    // Early drop.
     drop(statement);
     told?;
     if !returns {
@@ -193,6 +194,7 @@ pub(crate) fn graph_of(
     let mut graph = GraphBuilder::new(alloc, points.len() as u32, universals)?;
     let mut blocks = Vec::new(alloc);
     let told = add_points(alloc, &mut graph, starts, points, &mut blocks);
+    // Early drop.
     drop(blocks);
     match told {
         Ok(()) => Ok(graph.finish()),

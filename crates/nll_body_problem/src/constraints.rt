@@ -31,7 +31,7 @@ pub(crate) fn add_constraints(
     ensures ok { OnOk result (AddsConstraints (IsConstraint body.now) builder.old builder.new) }
     ensures err { IfErr result (IsRefused (IsConstraint body.now) builder.old) }
 {
-    // No effect at run time. The proof reads from this call that the body is sound.
+    // Clause call: the body is sound.
     let _ = body.points();
     add_everywhere(builder, body.asserts())?;
     add_asked(alloc, body, builder)?;
@@ -86,6 +86,7 @@ fn add_asked(alloc: Global, body: &Body, builder: &mut ProblemBuilder) -> Result
         kinds: kinds.as_slice(),
     };
     let told = add_points(alloc, &survey, &mut known, &mut asked, builder);
+    // Early drop.
     drop(known);
     drop(asked);
     told
@@ -136,6 +137,7 @@ fn add_next(
 {
     let statement = survey.body.line_at(alloc, point)?;
     let told = add_standing(alloc, survey, point, &statement, known, asked, builder);
+    // Early drop.
     drop(statement);
     told
 }
@@ -277,7 +279,7 @@ fn add_constraint(builder: &mut ProblemBuilder, constraint: Constraint) -> Resul
     ensures ok { OnOk result (AddsConstraints (λ c. constraint ≡ c) builder.old builder.new) }
     ensures err { IfErr result (IsRefused (λ c. constraint ≡ c) builder.old) }
 {
-    // No effect at run time. The proof reads from this call that no constraint is there twice.
+    // Clause call: no constraint is there twice.
     let _ = builder.constraints();
     builder.constraint(constraint)?;
     Ok(())

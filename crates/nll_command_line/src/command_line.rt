@@ -112,6 +112,7 @@ fn asked(alloc: Global, words: &[&str]) -> Result<Asked, LineError>
     match grammar(alloc)?.try_get_matches_from(words) {
         Ok(matches) => {
             let line = line_of(alloc, &matches);
+            // Early drop.
             drop(matches);
             line
         }

@@ -37,6 +37,7 @@ pub fn bases(alloc: Global, body: &Body, sets: &LiveSets) -> Result<Vec<(RegionI
 {
     let mut base_runs = Vec::new(alloc);
     let pairs = pairs_asked_for(alloc, body, sets, &mut base_runs);
+    // Early drop.
     drop(base_runs);
     pairs
 }
@@ -96,6 +97,7 @@ fn push_uses(
 {
     let regions = body.var_regions(alloc, variable)?;
     let told = push_all(base_runs, regions.as_slice(), sets.use_runs(variable));
+    // Early drop.
     drop(regions);
     told
 }
@@ -116,6 +118,7 @@ fn push_drops(
 {
     let regions = body.var_drop_regions(alloc, variable)?;
     let told = push_all(base_runs, regions.as_slice(), sets.drop_runs(variable));
+    // Early drop.
     drop(regions);
     told
 }

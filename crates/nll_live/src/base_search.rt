@@ -57,15 +57,16 @@ fn push_live(alloc: Global, body: &Body, base_runs: &mut Vec<BaseRun>) -> Result
         ((r p : ℕ) → IsInBaseRuns base_runs.new.items r p ↔ IsBaseOf body.now r p) }
     ensures sound { OnOk result (IsSound body.now) }
 {
-    // No effect at run time. The proof reads from this call that the body is sound.
+    // Clause call: the body is sound.
     let _ = body.points();
     let previous = Predecessors::of(alloc, body.graph())?;
     let told = push_over(alloc, body, &previous, base_runs);
+    // Early drop.
     drop(previous);
     told
 }
 
-// Like `push_live`, given the predecessors of the body's points.
+// Ladder: like `push_live`, given the predecessors of the body's points.
 fn push_over(
     alloc: Global,
     body: &Body,
@@ -79,11 +80,12 @@ fn push_over(
 {
     let ways = ways_of(alloc, body, previous)?;
     let told = push_both(alloc, body, previous, &ways, base_runs);
+    // Early drop.
     drop(ways);
     told
 }
 
-// Like `push_live`, given what searches in the body go by.
+// Ladder: like `push_live`, given what searches in the body go by.
 fn push_both(
     alloc: Global,
     body: &Body,
@@ -119,6 +121,7 @@ fn push_uses(
 {
     let lists = uses_by_variable(alloc, body)?;
     let told = push_each_use(alloc, body, previous, ways, lists.as_slice(), base_runs);
+    // Early drop.
     drop(lists);
     told
 }
@@ -139,11 +142,12 @@ fn push_drops(
 {
     let lists = drops_by_variable(alloc, body)?;
     let told = push_each_drop(alloc, body, previous, ways, lists.as_slice(), base_runs);
+    // Early drop.
     drop(lists);
     told
 }
 
-// Like `push_uses`, given the points that use each variable.
+// Ladder: like `push_uses`, given the points that use each variable.
 fn push_each_use(
     alloc: Global,
     body: &Body,
@@ -179,7 +183,7 @@ fn push_each_use(
     Ok(())
 }
 
-// Like `push_drops`, given the points that drop each variable.
+// Ladder: like `push_drops`, given the points that drop each variable.
 fn push_each_drop(
     alloc: Global,
     body: &Body,

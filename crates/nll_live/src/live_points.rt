@@ -37,22 +37,24 @@ pub fn liveness(alloc: Global, body: &Body) -> Result<LiveSets, Memory>
 {
     let previous = Predecessors::of(alloc, body.graph())?;
     let sets = sets_over(alloc, body, &previous);
+    // Early drop.
     drop(previous);
     sets
 }
 
-// Like `liveness`, given the predecessors of the body's points.
+// Ladder: like `liveness`, given the predecessors of the body's points.
 fn sets_over(alloc: Global, body: &Body, previous: &Predecessors<'_>) -> Result<LiveSets, Memory>
     requires { IsGraphOf body.now previous.now }
     ensures { IfOk result (AreLiveSets body.now) }
 {
     let ways = ways_of(alloc, body, previous)?;
     let sets = both_sets(alloc, body, previous, &ways);
+    // Early drop.
     drop(ways);
     sets
 }
 
-// Like `liveness`, given what searches in the body go by.
+// Ladder: like `liveness`, given what searches in the body go by.
 fn both_sets(
     alloc: Global,
     body: &Body,
@@ -88,6 +90,7 @@ fn use_live_sets(
 {
     let lists = uses_by_variable(alloc, body)?;
     let sets = live_sets(alloc, body, previous, ways, lists.as_slice());
+    // Early drop.
     drop(lists);
     sets
 }
@@ -106,6 +109,7 @@ fn drop_live_sets(
 {
     let lists = drops_by_variable(alloc, body)?;
     let sets = live_sets(alloc, body, previous, ways, lists.as_slice());
+    // Early drop.
     drop(lists);
     sets
 }
@@ -130,6 +134,7 @@ fn live_sets(
     let mut room = Room::of(alloc, body.points())?;
     let mut sets = Vec::new(alloc);
     let told = find_sets(alloc, body, previous, ways, lists, &mut room, &mut sets);
+    // Early drop.
     drop(room);
     match told {
         Ok(()) => Ok(sets),

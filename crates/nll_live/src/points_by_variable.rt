@@ -18,6 +18,7 @@ pub(crate) fn uses_by_variable(alloc: Global, body: &Body) -> Result<Vec<Vec<u32
     let mut lists = empty_lists(alloc, body.variables())?;
     let mut used = Vec::new(alloc);
     let told = list_uses(&mut lists, body, &mut used);
+    // Early drop.
     drop(used);
     match told {
         Ok(()) => Ok(lists),

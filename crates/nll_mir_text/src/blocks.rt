@@ -155,6 +155,7 @@ impl Reader {
             → IsRefused (said_by self.old) (forms.at_point i) kind) }
     {
         let taken = self.add_judged(&statement);
+        // Early drop.
         drop(statement);
         taken
     }

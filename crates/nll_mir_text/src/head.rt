@@ -159,6 +159,7 @@ impl Reader {
         match resolve_type(self.alloc, &self.regions, &self.structs, text)? {
             Some(ty) => {
                 let taken = self.add_resolved_variable(number, &ty);
+                // Early drop.
                 drop(ty);
                 taken
             }
@@ -221,6 +222,7 @@ impl Reader {
     {
         let own = gather_names(self.alloc, text.parameters.as_slice())?;
         let taken = self.add_named_struct(&own, text);
+        // Early drop.
         drop(own);
         taken
     }
@@ -236,6 +238,7 @@ impl Reader {
         match resolve_fields(self.alloc, own, &self.structs, fields)? {
             Some(fields) => {
                 let taken = self.add_resolved_struct(own, text, &fields);
+                // Early drop.
                 drop(fields);
                 taken
             }

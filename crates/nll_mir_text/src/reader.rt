@@ -138,11 +138,13 @@ impl Reader {
             Line::Assert(longer, shorter) => self.add_assert(longer, shorter),
             Line::Struct(text) => {
                 let taken = self.add_struct(&*text);
+                // Early drop.
                 drop(text);
                 taken
             }
             Line::Let(number, text) => {
                 let taken = self.add_variable(number, &text);
+                // Early drop.
                 drop(text);
                 taken
             }

@@ -126,6 +126,7 @@ fn resolve_argument(
 {
     let (operand, text) = argument;
     let ty = resolve_type(alloc, regions, structs, &text);
+    // Early drop.
     drop(text);
     match ty {
         Ok(Some(ty)) => Ok(Some((operand, ty))),
@@ -301,6 +302,7 @@ fn resolve_made(
         operands,
     } = made;
     let ty = resolve_type(alloc, regions, structs, &text);
+    // Early drop.
     drop(text);
     match ty {
         Ok(Some(ty)) => Ok(Some(Make {

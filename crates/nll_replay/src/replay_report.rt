@@ -62,6 +62,7 @@ fn report_of(
         replayed.answers.items replayed.balance replayed.values text.items) }
 {
     let text = lines_of(alloc, problem, labels, &replayed);
+    // Early drop.
     drop(replayed);
     text
 }

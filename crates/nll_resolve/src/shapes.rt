@@ -267,6 +267,7 @@ pub(crate) fn shape_of_pieces(
         rows: SmallVec::new(alloc),
     };
     let shape = put_pieces(alloc, table, pieces, &mut shaped);
+    // Early drop.
     drop(shaped);
     shape
 }

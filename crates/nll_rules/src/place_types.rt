@@ -21,6 +21,7 @@ fn leads_on(structs: &Structs, ty: &Ty, projections: &[Projection], from: usize)
     match projections[from] {
         Projection::Deref => match ty {
             Ty::Reference(_, _, target) => {
+                // Named result.
                 let leads = leads_on(structs, target, projections, from + 1);
                 leads
             }
@@ -59,6 +60,7 @@ pub(crate) fn has_type(structs: &Structs, variables: &[Ty], place: &Place) -> bo
         return false;
     }
     let projections = place.projections();
+    // Named result.
     let leads = leads_on(structs, &variables[variable], projections, 0);
     leads
 }

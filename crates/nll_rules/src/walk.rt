@@ -39,6 +39,7 @@ pub(crate) fn walk<'a>(
     match projections[from] {
         Projection::Deref => match instance.ty {
             Ty::Reference(_, _, target) => {
+                // Named result.
                 let walked = walk(structs, &instance.part(target), projections, from + 1);
                 walked
             }

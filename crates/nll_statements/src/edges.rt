@@ -96,6 +96,7 @@ fn distinct_among(alloc: Global, numbers: &[u32]) -> Result<usize, Memory>
 {
     let mut known = IndexSet::new(alloc);
     let count = insert_numbers(numbers, &mut known);
+    // Early drop.
     drop(known);
     count
 }

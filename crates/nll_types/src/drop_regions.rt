@@ -77,6 +77,7 @@ fn find(
 {
     let mut sources = IndexSet::new(alloc);
     let found = find_by(alloc, structs, ty, written, dropped, &mut sources);
+    // Early drop.
     drop(sources);
     found
 }

@@ -57,6 +57,7 @@ fn field_with(
         (shape_at (shapes_of (struct_at (structs_of structs.now) number).fields) place)) }
 {
     let made = field_of(alloc, structs, shapes, number, arguments.as_slice(), place);
+    // Early drop.
     drop(arguments);
     made
 }

@@ -48,6 +48,7 @@ pub fn is_well_formed(structs: &Structs, ty: &Ty, regions: usize, parameters: us
             if region.0 as usize >= regions {
                 return false;
             }
+            // Named result.
             let good = is_well_formed(structs, target, regions, parameters);
             good
         }
@@ -97,6 +98,7 @@ pub fn has_good_fields(structs: &Structs, declaration: &Declaration) -> bool
 {
     let regions = declaration.regions.len() + 1;
     let parameters = declaration.types.len();
+    // Named result.
     let good = are_well_formed(structs, declaration.fields.as_slice(), regions, parameters);
     good
 }
