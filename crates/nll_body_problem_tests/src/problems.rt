@@ -150,7 +150,7 @@ const SECOND: &[(&str, &str)] = &[
         let _1: F<'1>|let _2: F<'2>|blocks 1|block bb0|_2 = copy _1|return|end|",
         "3 regions|base 1 0|2: 1 @ 1|",
     ),
-    // A function for a contravariant parameter: the sign is turned round twice.
+    // A function for a contravariant parameter: the sign is reversed twice.
     (
         "nll-mir 2|region '1|region '2|struct C<T - >(fn(T) -> int)|let _0: int|\
         let _1: C<fn(&'1 int) -> int>|let _2: C<fn(&'2 int) -> int>|blocks 1|block bb0|\

@@ -6,7 +6,7 @@ use Rattle.nll_text.specs.Lines.{is_blank}
 use Rattle.nll_text.specs.Tokens.{Token, word, region, arrow, sign, is_word_byte, is_arrow}
 use Rattle.nll_text.specs.Tokens.{first_passes}
 
--- the first of the tokens is a word, and the byte is put in front of it
+-- the first of the tokens is a word, and the byte is prepended to it
 abbrev pub lengthened : ℕ → List Token → List Token
 lengthened b (word w ∷ ts) = word (b ∷ w) ∷ ts
 lengthened b ts = ts

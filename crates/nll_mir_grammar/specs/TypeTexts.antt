@@ -52,7 +52,7 @@ abbrev mutual
   part_steps none = []
   part_steps (more t ts) = steps t ++ add_type ∷ part_steps ts
 
-  -- the pieces that put arguments into a row
+  -- the pieces that append arguments to a row
   pub argument_steps : Arguments → List Piece
   argument_steps no_argument = []
   argument_steps (region_argument r args) = add_region r ∷ argument_steps args

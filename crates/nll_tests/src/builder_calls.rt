@@ -202,7 +202,7 @@ fn refuses_new_facts_past_the_limits(rt: HostRuntime) {
     compare_rows(&rt, rt.alloc(), FULL);
 }
 
-// Points, universal regions and calls, and what the problem tells.
+// Points, universal regions and calls, and what the problem reports.
 const MADE: &[Row] = &[
     (
         "'static alone",

@@ -60,7 +60,7 @@ fn write_lines(out: &mut Transcript, text: &[u8]) -> Result<(), TextError> {
     read
 }
 
-/// Writes which lines of a text the loop hands on, and what it says of them.
+/// Writes which lines of a text the loop passes on, and what it says of them.
 pub fn write_loop(out: &mut Transcript, text: &[u8]) {
     match write_lines(out, text) {
         Ok(()) => out.say("fine"),

@@ -24,11 +24,11 @@ pub enum OfProblem {
     BothSolvers,
     /// Who reads what, where its regions go round this many owners.
     ReadersAmong(u16),
-    /// What values of it that hold nothing answer where an element is put into a region's.
+    /// What values of it that hold nothing answer where an element is inserted into a region's.
     Inserted(u32, u32),
 }
 
-/// Writes what a problem tells.
+/// Writes what a problem reports.
 pub fn tell(out: &mut Transcript, problem: &Problem, asked: OfProblem) {
     match asked {
         OfProblem::Facts => write_facts(out, problem),

@@ -64,7 +64,7 @@ pub enum Asked {
     Within(&'static [u32], &'static [u32]),
     /// Of types, structs and shapes.
     Type(OfType),
-    /// Of a text: which of its lines the loop over them hands on, and what it says of them.
+    /// Of a text: which of its lines the loop over them passes on, and what it says of them.
     Loop(&'static [u8]),
     /// What errors print.
     Messages,

@@ -42,7 +42,7 @@ fn write_had<S: ElementSet>(out: &mut Transcript, set: &S, len: u32, from: &[u32
     }
 }
 
-// Writes what a set of a length tells: of each insertion, of itself, and of the next element from
+// Writes what a set of a length reports: of each insertion, of itself, and of the next element from
 // some numbers on.
 fn write_set<S: ElementSet>(out: &mut Transcript, len: u32, inserted: &[u32], from: &[u32]) {
     if let Ok(mut set) = S::empty(out.alloc, len) {
@@ -65,8 +65,8 @@ pub fn write_sets(out: &mut Transcript, len: u32, inserted: &[u32], from: &[u32]
     drop(runs);
 }
 
-// A length, elements that are inserted, numbers that the next element is sought from, and what is
-// reported.
+// A length, elements that are inserted, numbers from which the next element is searched, and what
+// is reported.
 const TOLD: &[Row] = &[
     ("no element", Asked::Sets(0, &[], &[0, 1]), "has|gives"),
     (

@@ -1,5 +1,5 @@
-//! Shapes: types with their regions forgotten, each as the tokens that it is written with, and `'`
-//! in place of each region. Where a type lacks, its shape is no token.
+//! Shapes: types with their regions erased, each as the tokens that it is written with, and `'` in
+//! place of each region. Where a type lacks, its shape is no token.
 use super::tokens::{Bytes, is, is_region, is_word};
 use std::alloc::Global;
 

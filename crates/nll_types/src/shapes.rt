@@ -1,4 +1,4 @@
-//! Types with their regions forgotten, each kept once.
+//! Types with their regions erased, each kept once.
 
 ghost use Rattle.std.specs.Prelude.{IsTrue, ◌↔◌, ◌≡◌, ◌<◌, ◌≤◌, ◌+◌, [], length, min};
 ghost use Rattle.std.specs.Prelude.{IfOk, slice_index, ℕ, sum_by};
