@@ -16,9 +16,10 @@ struct Page {
     // Whether it owed, and whether it posted or cleared, in the turn that it's in.
     has_owed: AtomicBool,
     has_acted: AtomicBool,
-    // How often a turn began that hadn't the next number or came after one in which it hadn't
-    // cleared once, it posted or cleared in a turn in which it hadn't owed, or owed where it had
-    // posted or cleared.
+    // How often a turn began that hadn't the next number, or came after one in which it hadn't
+    // cleared once or before all was posted that it had owed for; it posted or cleared in a turn in
+    // which it hadn't owed; it owed where it had owed, posted or cleared; or it cleared more or
+    // less than 1.
     wrong: AtomicU64,
 }
 
@@ -42,6 +43,8 @@ impl Page {
         let before = self.turns.fetch_add(1, Ordering::SeqCst);
         self.judge(turn == before.wrapping_add(1));
         self.judge(self.clears.load(Ordering::SeqCst) == before);
+        let posts = self.posts.load(Ordering::SeqCst);
+        self.judge(self.owed.load(Ordering::SeqCst) == posts);
         self.has_owed.store(false, Ordering::SeqCst);
         self.has_acted.store(false, Ordering::SeqCst);
     }
@@ -58,6 +61,7 @@ impl Page {
         match step {
             Step::Owe(amount) => {
                 self.owed.fetch_add(amount, Ordering::SeqCst);
+                self.judge(!self.has_owed.load(Ordering::SeqCst));
                 self.has_owed.store(true, Ordering::SeqCst);
                 self.judge(!self.has_acted.load(Ordering::SeqCst));
             }
@@ -72,6 +76,7 @@ impl Page {
                 self.clears.fetch_add(1, Ordering::SeqCst);
                 self.has_acted.store(true, Ordering::SeqCst);
                 self.judge(self.has_owed.load(Ordering::SeqCst));
+                self.judge(amount == 1);
             }
         }
     }
@@ -105,9 +110,10 @@ impl Notes {
     }
 
     /// For each of the two, whose last turn has ended: what it owed beside its load, its posts,
-    /// what it cleared, and how often it was wrong: began a turn by a number that wasn't the next,
-    /// didn't clear once in a turn, posted or cleared in a turn in which it hadn't owed, or owed
-    /// where it had posted or cleared.
+    /// what it cleared, which is the number of its turns, and how often it was wrong: began a turn
+    /// by a number that wasn't the next, or before it had posted all that it had owed for; didn't
+    /// clear 1 once in a turn; posted or cleared in a turn in which it hadn't owed; or owed where
+    /// it had owed, posted or cleared.
     pub fn written(&self, alloc: Global) -> Result<String, AllocError> {
         let mut out = String::new(alloc);
         let first = self.first.write(&mut out);

@@ -18,9 +18,8 @@ use std::thread::Threads;
 const WANT: &str = "0: 0 1 2|1: 0 1|2: 0 1|2: 0 5 1 2|2: 0-1 2 1-0 2";
 
 // Problems whose regions are dealt in turns to two owners, what their runs come to, and what each
-// owner does: it owes and posts the growths that the other reads, clears one for its load and one
-// for each growth that it receives, and does nothing wrong. How many growths it receives in a turn
-// depends on what it finds.
+// owner does: it owes and posts the growths that the other reads, has a turn for its load and one
+// for each growth that it receives, clears 1 in each, and does nothing wrong.
 const STEPS: &[(Written, &str, &str)] = &[
     (BY_TURNS, WANT, "2 2 3 0|2 2 3 0|"),
     (
@@ -84,8 +83,8 @@ fn two_owners_post_to_rings(rt: HostRuntime) {
     }
 }
 
-// The turns of an owner have the numbers 1, 2 and so on, and in each of them it clears once, and
-// owes before it posts and clears.
+// The turns of an owner have the numbers 1, 2 and so on. In each of them it owes once, before it
+// posts and clears, clears 1 once, and posts all that it owed for before the next turn begins.
 #[test]
 fn owe_first_over_queues(rt: HostRuntime) {
     for (written, want, steps) in STEPS {

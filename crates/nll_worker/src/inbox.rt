@@ -13,9 +13,6 @@ use crate::gate::Gate;
 use nll_mail::{Growth, Mail};
 use nll_owner::Owner;
 
-// How many growths are taken out of a mailbox at once, at most.
-const MOST_TAKEN: usize = 4096;
-
 /// What a look into a mailbox came to.
 #[derive(Clone, Copy, Debug, PartialEq, Eq)]
 pub enum Heard {
@@ -30,15 +27,17 @@ pub enum Heard {
 }
 
 // Takes growths out of a mailbox into an empty list that has room for them, until none is found
-// there, one can't be its sender's, or there are many: whether all can be their sender's.
+// there, one can't be its sender's, or there are so many: whether all can be their sender's.
 fn take_batch<M: Mail>(
     owner: &Owner<'_>,
     receiver: &mut M::R,
     from: u16,
     batch: &mut Vec<Growth>,
+    most: usize,
 ) -> bool
     requires empty { batch.old.items ≡ [] }
-    requires room { MOST_TAKEN ≤ vec_capacity batch.old }
+    requires room { most ≤ vec_capacity batch.old }
+    ensures most { length batch.new.items ≤ most }
     ensures taken { M.received receiver.new ≡ M.received receiver.old ++ batch.new.items }
     ensures passes { let o = owner.now in result ≡ true → (g : TheGrowth)
         → Contains batch.new.items g → Passes o.problem o.cut o.me from g }
@@ -50,7 +49,7 @@ fn take_batch<M: Mail>(
     ensures closed { (c : M.Closed) → M.closes c receiver.old → M.closes c receiver.new }
     ensures ends { M.ends receiver.new ≡ M.ends receiver.old }
 {
-    while batch.len() < MOST_TAKEN {
+    while batch.len() < most {
         match M::take(receiver) {
             None => return true,
             Some(growth) => {
@@ -80,8 +79,9 @@ fn hand_in(owner: &mut Owner<'_>, from: u16, growths: &[Growth]) -> Heard
     }
 }
 
-// Takes growths out of a mailbox, enters the gate, and hands the growths to the owner. The list has
-// what was taken then. Its room is made before, so that none is lost where memory is refused.
+// Takes so many growths out of a mailbox, at most, enters the gate, and hands the growths to the
+// owner. The list has what was taken then. Its room is made before, so that none is lost where
+// memory is refused.
 fn hear<M: Mail, G: Gate>(
     gate: &G,
     turn: u64,
@@ -89,12 +89,14 @@ fn hear<M: Mail, G: Gate>(
     receiver: &mut M::R,
     from: u16,
     batch: &mut Vec<Growth>,
+    most: usize,
 ) -> Heard
     requires sound { IsSound owner.old }
     requires whole { owner.old.broken ≡ false }
     requires loaded { owner.old.loaded ≡ true }
     ensures hears { LooksInto from owner.old owner.new
         (M.received receiver.old) (M.received receiver.new) batch.new.items result }
+    ensures most { length batch.new.items ≤ most }
     ensures few { length (M.received receiver.old) ≤ most_posts
         → length (M.received receiver.new) ≤ most_posts }
     ensures pair { (s : M.S) → M.pairs s receiver.old → M.pairs s receiver.new }
@@ -102,11 +104,11 @@ fn hear<M: Mail, G: Gate>(
     ensures ends { M.ends receiver.new ≡ M.ends receiver.old }
 {
     batch.clear();
-    match batch.reserve(MOST_TAKEN) {
+    match batch.reserve(most) {
         Ok(()) => {}
         Err(_) => return Heard::Memory,
     }
-    if !take_batch::<M>(owner, receiver, from, batch) {
+    if !take_batch::<M>(owner, receiver, from, batch, most) {
         return Heard::Stray;
     }
     if batch.is_empty() {
@@ -116,8 +118,8 @@ fn hear<M: Mail, G: Gate>(
     hand_in(owner, from, batch)
 }
 
-/// Takes growths out of one of the mailboxes, enters the gate, and hands the growths to the owner.
-/// The list has what was taken then.
+/// Takes so many growths out of one of the mailboxes, at most, enters the gate, and hands the
+/// growths to the owner. The list has what was taken then.
 pub fn hear_from<M: Mail, G: Gate>(
     gate: &G,
     turn: u64,
@@ -125,6 +127,7 @@ pub fn hear_from<M: Mail, G: Gate>(
     receivers: &mut Vec<M::R>,
     from: u16,
     batch: &mut Vec<Growth>,
+    most: usize,
 ) -> Heard
     requires sound { IsSound owner.old }
     requires whole { owner.old.broken ≡ false }
@@ -133,6 +136,7 @@ pub fn hear_from<M: Mail, G: Gate>(
     ensures hears { LooksInto from owner.old owner.new
         (log_of (map M.received receivers.old.items) from)
         (log_of (map M.received receivers.new.items) from) batch.new.items result }
+    ensures most { length batch.new.items ≤ most }
     ensures few { length (log_of (map M.received receivers.old.items) from) ≤ most_posts
         → length (log_of (map M.received receivers.new.items) from) ≤ most_posts }
     ensures others { map M.received receivers.new.items ≡ slice_set
@@ -147,5 +151,6 @@ pub fn hear_from<M: Mail, G: Gate>(
         &mut receivers[from as usize],
         from,
         batch,
+        most,
     )
 }

@@ -1,6 +1,6 @@
 //! Workers: each owner of a run at work in a thread of its own.
 //!
-//! Read `gate`, `permit`, `ending`, `inbox` and `posts` (what a worker does at its
+//! Read `gate`, `permit`, `ending`, `pace`, `inbox` and `posts` (what a worker does at its
 //! mailboxes), `tally`, `turn`, `work_loop` (one worker from its start to its end), `outbox`,
 //! `worker`, `starts` and `threads`; `laws` says what follows of all workers together.
 //! The definitions are in specs/: `Finishing` first, which has what a worker promises.
@@ -11,6 +11,7 @@ mod gate;
 mod inbox;
 mod laws;
 mod outbox;
+mod pace;
 mod permit;
 mod posts;
 mod starts;

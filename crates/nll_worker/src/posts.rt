@@ -15,20 +15,21 @@ use crate::tally::{Tally, unsent_count};
 use nll_mail::{Mail, PostError};
 use nll_owner::Owner;
 
-// How many growths are posted to an owner at once, at most. What the others post is heard before
-// more follow: so fewer of them wait in mailboxes.
-const MOST_POSTED: usize = 4096;
-
 // Posts what isn't given out yet of the part of the log that another owner reads, as long as its
 // mailbox isn't full and it isn't too much at once.
-fn post_part<M: Mail>(owner: &mut Owner<'_>, sender: &mut M::S, to: u16) -> Result<(), PostError>
+fn post_part<M: Mail>(
+    owner: &mut Owner<'_>,
+    sender: &mut M::S,
+    to: u16,
+    most: u64,
+) -> Result<(), PostError>
     requires sound { IsSound owner.old }
     requires whole { owner.old.broken ≡ false }
     requires to { to < owner.old.cut.owners }
     requires sent { M.sent sender.old ≡ take (given_to owner.old to) (part_for owner.old to) }
     ensures sent { M.sent sender.new ≡ take (given_to owner.new to) (part_for owner.old to) }
     ensures many { M.is_bounded ≡ false → OnOk result (given_to owner.new to
-        ≡ min (given_to owner.old to + MOST_POSTED) (length (part_for owner.old to))) }
+        ≡ min (given_to owner.old to + most) (length (part_for owner.old to))) }
     ensures others { owner.new ≡ record owner.old { given = owner.new.given } }
     ensures other_given { (j : ℕ) → j ≢ to → given_to owner.new j ≡ given_to owner.old j }
     ensures pair { (r : M.R) → M.pairs sender.old r → M.pairs sender.new r }
@@ -36,7 +37,7 @@ fn post_part<M: Mail>(owner: &mut Owner<'_>, sender: &mut M::S, to: u16) -> Resu
 {
     let mut posted = 0;
     while let Some(growth) = owner.next_for(to) {
-        if posted >= MOST_POSTED {
+        if posted >= most {
             return Ok(());
         }
         match M::post(sender, growth) {
@@ -54,6 +55,7 @@ fn post_to<M: Mail>(
     owner: &mut Owner<'_>,
     senders: &mut Vec<M::S>,
     to: u16,
+    most: u64,
 ) -> Result<(), PostError>
     requires sound { IsSound owner.old }
     requires whole { owner.old.broken ≡ false }
@@ -61,30 +63,34 @@ fn post_to<M: Mail>(
     requires posts { HasPosted owner.old (map M.sent senders.old.items) }
     ensures posts { HasPosted owner.new (map M.sent senders.new.items) }
     ensures many { M.is_bounded ≡ false → OnOk result (given_to owner.new to
-        ≡ min (given_to owner.old to + MOST_POSTED) (length (part_for owner.old to))) }
+        ≡ min (given_to owner.old to + most) (length (part_for owner.old to))) }
     ensures others { owner.new ≡ record owner.old { given = owner.new.given } }
     ensures other_given { (j : ℕ) → j ≢ to → given_to owner.new j ≡ given_to owner.old j }
     ensures pairs { Alike (Stays M.Mail) senders.old.items senders.new.items }
     ensures sound { IsSound owner.new }
 {
-    post_part::<M>(owner, &mut senders[to as usize], to)
+    post_part::<M>(owner, &mut senders[to as usize], to, most)
 }
 
 // Posts what isn't given out yet, to all owners that read it and whose mailboxes aren't full: to
 // each not too much at once.
-fn post_all<M: Mail>(owner: &mut Owner<'_>, senders: &mut Vec<M::S>) -> Result<(), PostError>
+fn post_all<M: Mail>(
+    owner: &mut Owner<'_>,
+    senders: &mut Vec<M::S>,
+    most: u64,
+) -> Result<(), PostError>
     requires sound { IsSound owner.old }
     requires whole { owner.old.broken ≡ false }
     requires posts { HasPosted owner.old (map M.sent senders.old.items) }
     ensures posts { HasPosted owner.new (map M.sent senders.new.items) }
     ensures many { M.is_bounded ≡ false
-        → OnOk result (HasGivenMore MOST_POSTED owner.old.cut.owners owner.old owner.new) }
+        → OnOk result (HasGivenMore most owner.old.cut.owners owner.old owner.new) }
     ensures others { owner.new ≡ record owner.old { given = owner.new.given } }
     ensures pairs { Alike (Stays M.Mail) senders.old.items senders.new.items }
     ensures sound { IsSound owner.new }
 {
     for to in 0..owner.owners() {
-        post_to::<M>(owner, senders, to)?;
+        post_to::<M>(owner, senders, to, most)?;
     }
     Ok(())
 }
@@ -94,6 +100,7 @@ fn post_waiting<M: Mail>(
     owner: &mut Owner<'_>,
     senders: &mut Vec<M::S>,
     tally: &mut Tally,
+    most: u64,
 ) -> Result<(), PostError>
     requires sound { IsSound owner.old }
     requires whole { owner.old.broken ≡ false }
@@ -104,7 +111,7 @@ fn post_waiting<M: Mail>(
     ensures same { (tally.new.turns ≡ tally.old.turns)
         × (tally.new.cleared ≡ tally.old.cleared) }
     ensures many { M.is_bounded ≡ false
-        → OnOk result (HasGivenMore MOST_POSTED owner.old.cut.owners owner.old owner.new) }
+        → OnOk result (HasGivenMore most owner.old.cut.owners owner.old owner.new) }
     ensures others { owner.new ≡ record owner.old { given = owner.new.given } }
     ensures pairs { Alike (Stays M.Mail) senders.old.items senders.new.items }
     ensures sound { IsSound owner.new }
@@ -112,7 +119,7 @@ fn post_waiting<M: Mail>(
     if tally.waiting == 0 {
         return Ok(());
     }
-    let posted = post_all::<M>(owner, senders);
+    let posted = post_all::<M>(owner, senders, most);
     tally.waiting = unsent_count(owner);
     posted
 }
@@ -123,6 +130,7 @@ pub fn share_out<M: Mail>(
     owner: &mut Owner<'_>,
     senders: &mut Vec<M::S>,
     tally: &mut Tally,
+    most: u64,
 ) -> Heard
     requires sound { IsSound owner.old }
     requires came { (taken : List (List Growth)) × (owed : ℕ) × (cleared : ℕ)
@@ -133,7 +141,7 @@ pub fn share_out<M: Mail>(
         → ComesTo owner.old taken owed cleared tally.old heard
         → ComesTo owner.new taken owed cleared tally.new result }
     ensures many { M.is_bounded ≡ false → GoesOn result
-        → HasGivenMore MOST_POSTED owner.old.cut.owners owner.old owner.new }
+        → HasGivenMore most owner.old.cut.owners owner.old owner.new }
     ensures others { owner.new ≡ record owner.old { given = owner.new.given } }
     ensures pairs { Alike (Stays M.Mail) senders.old.items senders.new.items }
     ensures sound { IsSound owner.new }
@@ -144,7 +152,7 @@ pub fn share_out<M: Mail>(
         Heard::Growths => {}
         Heard::Nothing => {}
     }
-    match post_waiting::<M>(owner, senders, tally) {
+    match post_waiting::<M>(owner, senders, tally, most) {
         Ok(()) => heard,
         Err(_) => Heard::Memory,
     }

@@ -81,8 +81,8 @@ pub fn first_turn<L: Ledger, G: Gate>(
     (tally, Heard::Growths)
 }
 
-// A turn, where one of the mailboxes has growths: the owner receives them, and the book is kept of
-// them.
+// A turn, where one of the mailboxes has growths: the owner receives so many of them, at most, and
+// the book is kept of them.
 fn turn<M: Mail, L: Ledger, G: Gate>(
     gate: &G,
     book: &L::Book,
@@ -92,6 +92,7 @@ fn turn<M: Mail, L: Ledger, G: Gate>(
     receivers: &mut Vec<M::R>,
     from: u16,
     batch: &mut Vec<Growth>,
+    most: usize,
 ) -> Heard
     requires from { from < owner.old.cut.owners }
     requires book { L.belongs book.now share.old }
@@ -103,10 +104,11 @@ fn turn<M: Mail, L: Ledger, G: Gate>(
         × (L.called share.new ≡ L.called share.old) }
     ensures comes { ComesTo owner.new (map M.received receivers.new.items)
         (L.owed share.new) (L.cleared share.new) tally.new result }
+    ensures most { L.cleared share.new ≤ L.cleared share.old + most }
     ensures keeps { Alike (Keeps M.Mail) receivers.old.items receivers.new.items }
 {
     let turn = tally.turns + 1;
-    match hear_from::<M, G>(gate, turn, owner, receivers, from, batch) {
+    match hear_from::<M, G>(gate, turn, owner, receivers, from, batch, most) {
         Heard::Nothing => Heard::Nothing,
         Heard::Stray => Heard::Stray,
         Heard::Memory => Heard::Memory,
@@ -117,7 +119,30 @@ fn turn<M: Mail, L: Ledger, G: Gate>(
     }
 }
 
-/// One look into each mailbox: whether the owner received growths, or why the worker has to end.
+// The owner whose mailbox is looked into first after so many turns: with each turn the next one.
+fn first_after(turns: u64, owners: u16) -> u16
+    requires { 0 < owners }
+    ensures { result < owners }
+{
+    (turns % owners as u64) as u16
+}
+
+// The owner that comes so many behind the first; behind the last comes owner 0.
+fn owner_behind(first: u16, step: u16, owners: u16) -> u16
+    requires first { first < owners }
+    requires step { step < owners }
+    ensures { result < owners }
+{
+    let rest = owners - first;
+    if step < rest {
+        first + step
+    } else {
+        step - rest
+    }
+}
+
+/// One look into each mailbox, or up to the first growth where a turn receives one at most: whether
+/// the owner received growths, or why the worker has to end.
 pub fn round<M: Mail, L: Ledger, G: Gate>(
     gate: &G,
     book: &L::Book,
@@ -126,6 +151,7 @@ pub fn round<M: Mail, L: Ledger, G: Gate>(
     tally: &mut Tally,
     receivers: &mut Vec<M::R>,
     batch: &mut Vec<Growth>,
+    most: usize,
 ) -> Heard
     requires book { L.belongs book.now share.old }
     requires rests { IsAtRest owner.old (map M.received receivers.old.items)
@@ -138,12 +164,22 @@ pub fn round<M: Mail, L: Ledger, G: Gate>(
         (L.owed share.new) (L.cleared share.new) tally.new result }
     ensures keeps { Alike (Keeps M.Mail) receivers.old.items receivers.new.items }
 {
+    let owners = owner.owners();
+    let first = first_after(tally.turns, owners);
     let mut any = false;
-    for from in 0..owner.owners() {
-        let heard = turn::<M, L, G>(gate, book, share, owner, tally, receivers, from, batch);
+    for step in 0..owners {
+        let from = owner_behind(first, step, owners);
+        let heard = turn::<M, L, G>(
+            gate, book, share, owner, tally, receivers, from, batch, most,
+        );
         match heard {
             Heard::Nothing => {}
-            Heard::Growths => any = true,
+            Heard::Growths => {
+                if most == 1 {
+                    return Heard::Growths;
+                }
+                any = true;
+            }
             Heard::Stray => return Heard::Stray,
             Heard::Memory => return Heard::Memory,
         }
@@ -172,6 +208,7 @@ pub fn rounds<M: Mail, L: Ledger, G: Gate>(
     tally: &mut Tally,
     receivers: &mut Vec<M::R>,
     batch: &mut Vec<Growth>,
+    most: usize,
     until: u64,
 ) -> Heard
     requires book { L.belongs book.now share.old }
@@ -185,7 +222,7 @@ pub fn rounds<M: Mail, L: Ledger, G: Gate>(
         (L.owed share.new) (L.cleared share.new) tally.new result }
     ensures keeps { Alike (Keeps M.Mail) receivers.old.items receivers.new.items }
 {
-    let mut heard = round::<M, L, G>(gate, book, share, owner, tally, receivers, batch);
+    let mut heard = round::<M, L, G>(gate, book, share, owner, tally, receivers, batch, most);
     for _ in 1..MOST_ROUNDS {
         match heard {
             Heard::Growths => {}
@@ -194,7 +231,7 @@ pub fn rounds<M: Mail, L: Ledger, G: Gate>(
         if tally.cleared >= until {
             return heard;
         }
-        let next = round::<M, L, G>(gate, book, share, owner, tally, receivers, batch);
+        let next = round::<M, L, G>(gate, book, share, owner, tally, receivers, batch, most);
         heard = behind_a_growth(next);
     }
     heard

@@ -10,6 +10,7 @@ ghost use Rattle.nll_worker.specs.Finishing.{Finishes, Leaves, IsFresh, WasStart
 use crate::ending::Ending;
 use crate::gate::Gate;
 use crate::inbox::Heard;
+use crate::pace::Pace;
 use crate::posts::share_out;
 use crate::turn::{first_turn, rounds};
 use crossbeam_utils::Backoff;
@@ -17,10 +18,6 @@ use nll_ledger::{Leave, Ledger};
 use nll_mail::{Growth, Mail};
 use nll_owner::Owner;
 use std::sync::Wait;
-
-/// How many growths a worker receives, where it can, before it tries again to post into a full
-/// mailbox.
-const PATIENCE: u64 = 16;
 
 /// Sets the stop flag, and leaves.
 pub fn halt<L: Ledger>(book: &L::Book, share: L::Share) -> L::Left
@@ -110,11 +107,12 @@ pub fn work_on<M: Mail, L: Ledger, G: Gate, R: Wait>(
     ensures pairs { Alike (Stays M.Mail) senders.old.items senders.new.items }
     ensures keeps { Alike (Keeps M.Mail) receivers.old.items receivers.new.items }
 {
+    let pace = Pace::behind(gate);
     let mut share = share;
     let (mut tally, mut heard) = first_turn::<L, G>(gate, book, &mut share, owner);
     let backoff = Backoff::new();
     for _ in rt.forever() {
-        heard = share_out::<M>(heard, owner, senders, &mut tally);
+        heard = share_out::<M>(heard, owner, senders, &mut tally, pace.posted);
         match heard {
             Heard::Stray => return (halt::<L>(book, share), Ending::Stray),
             Heard::Memory => return (halt::<L>(book, share), Ending::Memory),
@@ -127,12 +125,12 @@ pub fn work_on<M: Mail, L: Ledger, G: Gate, R: Wait>(
             Leave::Open(back) => share = back,
         }
         let until = if tally.waiting > 0 {
-            tally.cleared.saturating_add(PATIENCE)
+            tally.cleared.saturating_add(pace.patience)
         } else {
             0
         };
         heard = rounds::<M, L, G>(
-            gate, book, &mut share, owner, &mut tally, receivers, batch, until,
+            gate, book, &mut share, owner, &mut tally, receivers, batch, pace.taken, until,
         );
     }
     unreachable!()

@@ -10,6 +10,7 @@ loop-receiver-init g c =
     let before = g.M.Mail.received c.args.receiver.now in
     record {
       room = c.requires.room;
+      many = omega (arith, ap length c.requires.empty);
       taken = sym (ap (λ xs. before ++ xs) c.requires.empty ∙ append-nil before);
       passes = λ h at.
           absurd {A = Passes c.args.owner.now.problem c.args.owner.now.cut c.args.owner.now.me c.args.from h}
@@ -57,6 +58,7 @@ loop-receiver-preserved g c =
     let passes : Passes o.problem o.cut o.me c.args.from c.in-Some.growth = search rules in
     record {
       room = omega (arith, was.room, c.push_reserved.ensures.capacity);
+      many = search rules;
       taken = taken_more (g.M.Mail.received c.args.receiver.now) _ _ c.loop-receiver.batch.items _ c.in-Some.growth
           c.loop-receiver.invariant.taken c.in-Some.ensures.some c.push_reserved.ensures.items;
       passes = λ h at. ⊎_elim

@@ -7,7 +7,8 @@ use Rattle.nll_worker.proofs.inbox.take_batch.Given as goal
 -- What was taken stands in the list, and all of it can be its sender's.
 abbrev pub invariant-loop-receiver : goal.invariant-loop-receiver
 invariant-loop-receiver g l = record {
-  room : 4096 ≤ vec_capacity l.batch;
+  room : l.most ≤ vec_capacity l.batch;
+  many : length l.batch.items ≤ l.most;
   taken : g.M.Mail.received l.receiver ≡ g.M.Mail.received l.fn.receiver ++ l.batch.items;
   passes : (h : Growth) → Contains l.batch.items h → Passes l.owner.problem l.owner.cut l.owner.me l.from h;
   few : length (g.M.Mail.received l.fn.receiver) ≤ most_posts → length (g.M.Mail.received l.receiver) ≤ most_posts;
@@ -17,4 +18,4 @@ invariant-loop-receiver g l = record {
 }
 
 abbrev pub decreases-loop-receiver : goal.decreases-loop-receiver
-decreases-loop-receiver g l = 4096 - vec_len l.batch
+decreases-loop-receiver g l = l.most - vec_len l.batch

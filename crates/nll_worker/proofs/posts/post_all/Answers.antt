@@ -24,10 +24,10 @@ loop-to-preserved g c = record {
   others =
       c.post_to.ensures.others ∙ ap (λ (o : Owner). record o { given = c.post_to.new.owner.given })
       c.loop-to.invariant.others;
-  many = λ unbounded. given_more c.args.owner.now c.loop-to.owner c.post_to.new.owner c.loop-to.to 4096
+  many = λ unbounded. given_more c.args.owner.now c.loop-to.owner c.post_to.new.owner c.loop-to.to c.args.most
       c.loop-to.invariant.others c.post_to.ensures.other_given c.loop-to.invariant.rest
       (c.loop-to.invariant.many unbounded) (c.in_ok-post_to.ensures.many unbounded);
-  rest = given_behind c.args.owner.now c.loop-to.owner c.post_to.new.owner c.loop-to.to 4096
+  rest = given_behind c.args.owner.now c.loop-to.owner c.post_to.new.owner c.loop-to.to c.args.most
       c.loop-to.invariant.others c.post_to.ensures.other_given c.loop-to.invariant.rest;
   posts = c.post_to.ensures.posts;
   pairs = stays_on g.M.Mail _ _ _ c.loop-to.invariant.pairs c.post_to.ensures.pairs;

@@ -8,7 +8,7 @@ abbrev pub invariant-loop-to : goal.invariant-loop-to
 invariant-loop-to g l = record {
   sound : IsSound l.owner;
   others : l.owner ≡ record l.fn.owner { given = l.owner.given };
-  many : g.M.Mail.is_bounded ≡ false → HasGivenMore 4096 l.to l.fn.owner l.owner;
+  many : g.M.Mail.is_bounded ≡ false → HasGivenMore l.most l.to l.fn.owner l.owner;
   rest : (j : ℕ) → l.to ≤ j → given_to l.owner j ≡ given_to l.fn.owner j;
   posts : HasPosted l.owner (map g.M.Mail.sent l.senders.items);
   pairs : Alike (Stays g.M.Mail) l.fn.senders.items l.senders.items;

@@ -31,20 +31,20 @@ loop-growth-preserved g c = record {
       let one =
       one_more _ _ _ _ _ c.loop-growth.invariant.posting c.requires.to (gives g c) in
       omega (arith, one, c.loop-growth.invariant.count);
-  few = omega (arith, c.if-posted-ge-MOST_POSTED.false);
+  few = omega (arith, c.if-posted-most.false);
   pair = λ r h. c.post.ensures.pair r (c.loop-growth.invariant.pair r h);
 }
 
-pub returns-then-posted-ge-MOST_POSTED-clause-many : goal.returns-then-posted-ge-MOST_POSTED-clause-many
-returns-then-posted-ge-MOST_POSTED-clause-many g c = λ unbounded.
-    given_most c.args.owner.now c.loop-growth.owner c.args.to c.loop-growth.posted 4096 c.in-Some.growth
+pub returns-then-posted-most-clause-many : goal.returns-then-posted-most-clause-many
+returns-then-posted-most-clause-many g c = λ unbounded.
+    given_most c.args.owner.now c.loop-growth.owner c.args.to c.loop-growth.posted c.args.most c.in-Some.growth
     c.loop-growth.invariant.posting.others c.loop-growth.invariant.count c.loop-growth.invariant.few
-    c.if-posted-ge-MOST_POSTED.true c.in-Some.ensures.some.1
+    c.if-posted-most.true c.in-Some.ensures.some.1
 
 pub returns-clause-many : goal.returns-clause-many
 returns-clause-many g c = λ unbounded.
     let p = c.loop-growth.invariant.posting in
-    given_rest c.args.owner.now c.loop-growth.owner c.args.to c.loop-growth.posted 4096 p.others
+    given_rest c.args.owner.now c.loop-growth.owner c.args.to c.loop-growth.posted c.args.most p.others
     c.loop-growth.invariant.count c.loop-growth.invariant.few
     (c.in_default.ensures.none (ap (λ (o : Owner). o.broken) p.others ∙ c.requires.whole)
     (subst (λ (o : Owner). c.args.to < o.cut.owners) (sym p.others) c.requires.to))

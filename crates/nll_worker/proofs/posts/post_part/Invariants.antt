@@ -7,7 +7,7 @@ abbrev pub invariant-loop-growth : goal.invariant-loop-growth
 invariant-loop-growth g l = record {
   posting : Posting l.fn.owner l.owner l.to (g.M.Mail.sent l.sender);
   count : given_to l.owner l.to ≡ given_to l.fn.owner l.to + l.posted;
-  few : l.posted ≤ 4096;
+  few : l.posted ≤ l.most;
   pair : (r : _) → g.M.Mail.pairs l.fn.sender r → g.M.Mail.pairs l.sender r;
 }
 

@@ -8,4 +8,4 @@ returns-then-tally-eq0-clause-pairs g c = alike_refl (Stays g.M.Mail) (λ s r p.
 
 pub returns-then-tally-eq0-clause-many : goal.returns-then-tally-eq0-clause-many
 returns-then-tally-eq0-clause-many g c = λ unbounded.
-    none_more c.args.owner.now c.args.tally.now 4096 c.requires.sound c.requires.counted c.if-tally-eq0.true
+    none_more c.args.owner.now c.args.tally.now c.args.most c.requires.sound c.requires.counted c.if-tally-eq0.true

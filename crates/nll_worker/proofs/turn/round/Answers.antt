@@ -5,10 +5,10 @@ use Rattle.nll_worker.specs.Turning.{IsAtRest}
 use Rattle.nll_worker.proofs.ListLemmas.{alike_refl, keeps_on}
 use Rattle.nll_worker.proofs.TallyLemmas.{grown_self, grown_on}
 use Rattle.nll_worker.proofs.turn.round.Goals as goal
-use Rattle.nll_worker.proofs.turn.round.Goals.{in-Nothing, in-Growths}
+use Rattle.nll_worker.proofs.turn.round.Goals.{in-Nothing, in-Growths+else-most-eq1}
 
-pub loop-from-init : goal.loop-from-init
-loop-from-init g c = record {
+pub loop-step-init : goal.loop-step-init
+loop-step-init g c = record {
   grows = grown_self c.args.owner.now c.args.owner.now refl;
   book = c.requires.book;
   number = refl;
@@ -19,34 +19,44 @@ loop-from-init g c = record {
 
 pub turn-heard-requires-clause-from : goal.turn-heard-requires-clause-from
 turn-heard-requires-clause-from g c κs within =
-    let same = ap (λ (k : Cut). k.owners) c.loop-from.invariant.grows.cut in
-    omega (arith, same, c.loop-from-test.true, c.owners-from-end.ensures.value)
+    let same = ap (λ (k : Cut). k.owners) c.loop-step.invariant.grows.cut in
+    omega (arith, same, c.owner_behind-from.ensures, c.owners-owners.ensures.value)
+
+pub first_after-first-requires : goal.first_after-first-requires
+first_after-first-requires g c =
+    omega (arith, c.owners-owners.ensures.value, c.owners-owners.ensures.sound.cut.cut.some_owner)
+
+pub returns-then-most-eq1-clause-grows : goal.returns-then-most-eq1-clause-grows
+returns-then-most-eq1-clause-grows g c = grown_on _ _ _ c.loop-step.invariant.grows c.turn-heard.ensures.grows
+
+pub returns-then-most-eq1-clause-keeps : goal.returns-then-most-eq1-clause-keeps
+returns-then-most-eq1-clause-keeps g c = keeps_on g.M.Mail _ _ _ c.loop-step.invariant.keeps c.turn-heard.ensures.keeps
 
 pub returns-in-Stray-clause-grows : goal.returns-in-Stray-clause-grows
-returns-in-Stray-clause-grows g c = grown_on _ _ _ c.loop-from.invariant.grows c.turn-heard.ensures.grows
+returns-in-Stray-clause-grows g c = grown_on _ _ _ c.loop-step.invariant.grows c.turn-heard.ensures.grows
 
 pub returns-in-Memory-clause-grows : goal.returns-in-Memory-clause-grows
-returns-in-Memory-clause-grows g c = grown_on _ _ _ c.loop-from.invariant.grows c.turn-heard.ensures.grows
+returns-in-Memory-clause-grows g c = grown_on _ _ _ c.loop-step.invariant.grows c.turn-heard.ensures.grows
 
 pub returns-in-Stray-clause-keeps : goal.returns-in-Stray-clause-keeps
-returns-in-Stray-clause-keeps g c = keeps_on g.M.Mail _ _ _ c.loop-from.invariant.keeps c.turn-heard.ensures.keeps
+returns-in-Stray-clause-keeps g c = keeps_on g.M.Mail _ _ _ c.loop-step.invariant.keeps c.turn-heard.ensures.keeps
 
 pub returns-in-Memory-clause-keeps : goal.returns-in-Memory-clause-keeps
-returns-in-Memory-clause-keeps g c = keeps_on g.M.Mail _ _ _ c.loop-from.invariant.keeps c.turn-heard.ensures.keeps
+returns-in-Memory-clause-keeps g c = keeps_on g.M.Mail _ _ _ c.loop-step.invariant.keeps c.turn-heard.ensures.keeps
 
-pub loop-from-preserved : goal.loop-from-preserved
-loop-from-preserved g c =
+pub loop-step-preserved : goal.loop-step-preserved
+loop-step-preserved g c =
     let rests : IsAtRest c.turn-heard.new.owner (map g.M.Mail.received c.turn-heard.new.receivers.items)
     (g.L.Ledger.owed c.turn-heard.new.share) (g.L.Ledger.cleared c.turn-heard.new.share) c.turn-heard.new.tally =
     elim c.match-heard.branch [
       | in-Nothing w ↦ w.in-Nothing.ensures.comes
-      | in-Growths w ↦ w.in-Growths.ensures.comes
+      | in-Growths+else-most-eq1 w ↦ w.in-Growths.ensures.comes
     ] in
     record {
-      grows = grown_on _ _ _ c.loop-from.invariant.grows c.turn-heard.ensures.grows;
+      grows = grown_on _ _ _ c.loop-step.invariant.grows c.turn-heard.ensures.grows;
       book = c.turn-heard.ensures.book.0;
-      number = c.turn-heard.ensures.book.1 ∙ c.loop-from.invariant.number;
-      called = c.turn-heard.ensures.book.2 ∙ c.loop-from.invariant.called;
+      number = c.turn-heard.ensures.book.1 ∙ c.loop-step.invariant.number;
+      called = c.turn-heard.ensures.book.2 ∙ c.loop-step.invariant.called;
       rests = rests;
-      keeps = keeps_on g.M.Mail _ _ _ c.loop-from.invariant.keeps c.turn-heard.ensures.keeps;
+      keeps = keeps_on g.M.Mail _ _ _ c.loop-step.invariant.keeps c.turn-heard.ensures.keeps;
     }

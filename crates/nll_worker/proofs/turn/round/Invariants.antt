@@ -4,8 +4,8 @@ use Rattle.nll_worker.specs.Tallies.{HasGrown}
 use Rattle.nll_worker.specs.Turning.{IsAtRest}
 use Rattle.nll_worker.proofs.turn.round.Given as goal
 
-abbrev pub invariant-loop-from : goal.invariant-loop-from
-invariant-loop-from g l = record {
+abbrev pub invariant-loop-step : goal.invariant-loop-step
+invariant-loop-step g l = record {
   grows : HasGrown l.fn.owner l.owner;
   book : g.L.Ledger.belongs l.book l.share;
   number : g.L.Ledger.number l.share ≡ g.L.Ledger.number l.fn.share;

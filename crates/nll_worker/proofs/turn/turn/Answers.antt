@@ -81,6 +81,16 @@ pub returns-in-Growths-clause-grows : goal.returns-in-Growths-clause-grows
 returns-in-Growths-clause-grows g c = let h = c.in-Growths.ensures.hears in
     grown_some c.args.owner.now c.hear_from.new.owner h.1.1 h.1.4
 
+pub returns-in-Growths-clause-most : goal.returns-in-Growths-clause-most
+returns-in-Growths-clause-most g c =
+    omega (
+      arith,
+      c.keep_book.ensures.clears,
+      c.len.ensures,
+      c.hear_from.new.batch.ok.0,
+      c.hear_from.ensures.most,
+    )
+
 pub returns-in-Growths-clause-comes : goal.returns-in-Growths-clause-comes
 returns-in-Growths-clause-comes g c =
     let h = c.in-Growths.ensures.hears in

@@ -1,0 +1,64 @@
+//! Gates that say how many growths a turn may receive.
+use super::deals::Deal;
+use super::failure::Failure;
+use super::notes::Notes;
+use super::run_text::{compare, told};
+use super::watches::Watched;
+use nll_ledger::WordLedger;
+use nll_mail::QueueMail;
+use nll_worked_problems::BY_TURNS;
+use nll_worker::Gate;
+use std::alloc::AllocGlobal;
+
+// A gate that takes notes, and lets so many growths into a turn.
+#[derive(Drop)]
+struct Answer<'x> {
+    notes: &'x Notes,
+    most: usize,
+}
+
+impl<'x> Gate for Answer<'x> {
+    fn enter(&self, owner: usize, turn: u64) {
+        self.notes.enter(owner, turn);
+    }
+
+    fn most_growths(&self) -> usize {
+        self.most
+    }
+}
+
+// Where a gate lets no growth into a turn, each turn receives one all the same: all that it owes
+// and posts, and what it clears, is as where a gate doesn't say.
+#[test]
+fn none_is_read_as_one(rt: HostRuntime) {
+    let notes = Notes::new();
+    let gate = Answer {
+        notes: &notes,
+        most: 0,
+    };
+    let queues = QueueMail::new(rt);
+    let mail = Watched {
+        inner: &queues,
+        watch: &notes,
+    };
+    let ledger = Watched {
+        inner: &WordLedger,
+        watch: &notes,
+    };
+    let told = told(
+        &rt,
+        rt.alloc(),
+        BY_TURNS,
+        Deal::Round(2),
+        &mail,
+        &ledger,
+        &gate,
+    );
+    compare(
+        &rt,
+        told,
+        "0: 0 1 2|1: 0 1|2: 0 1|2: 0 5 1 2|2: 0-1 2 1-0 2",
+    );
+    let steps = notes.written(rt.alloc()).map_err(Failure::from);
+    compare(&rt, steps, "2 2 3 0|2 2 3 0|");
+}
