@@ -290,7 +290,7 @@ owners_told holds lacks file said n deal path e is_count is_deal is_path asks = 
 
 module _ (holds : Holds) (file : List ℕ) (command : Command) (said : Said) (report : List ℕ) (status : ℕ) where
   abbrev pub Answered : Problem → Labels → Cut → Type 0
-  Answered q labels cut = IsProblemAnswer command q labels report status
+  Answered q labels _ = IsProblemAnswer command q labels report status
 
   -- the owners of the cut that is asked for
   pub owners_answer : (n : ℕ) (deal : Deal) (path : Option (List ℕ))
