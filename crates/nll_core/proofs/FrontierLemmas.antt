@@ -1,11 +1,12 @@
 -- A frontier goes on from a run, and is again what walks reach.
-use Rattle.std.proofs.Common.{◌≡◌, ◌⊎◌, ◌↔◌, ℕ, ◌+◌, ◌-◌, ◌<◌, ◌≤◌, Bool, false, List, [], Contains, length, get_or, replicate, refl, sym, ap, ◌∙◌, subst, inl, inr, ⊎_elim, arith}
+use Rattle.std.proofs.Common.{◌≡◌, ◌⊎◌, ◌↔◌, ℕ, ◌+◌, ◌-◌, ◌<◌, ◌≤◌, Bool, true, false, List, [], Contains, length, get_or, replicate, refl, sym, ap, ◌∙◌, subst, inl, inr, ⊎_elim, arith}
 use Rattle.std.proofs.lemmas.Bool.{cases_eq, cases_lt, false≢true}
 use Rattle.std.proofs.lemmas.List.{get_or_default}
 use Rattle.nll_sets.specs.ElementSet.{flag}
 use Rattle.nll_sets.specs.Runs.{IsInRuns, IsWithin, Fills}
 use Rattle.nll_sets.specs.declared.run.Run.{Run}
 use Rattle.nll_problem.specs.Graph.{Graph, element_count, IsNext, IsReturn, IsStep, IsSound}
+use Rattle.nll_problem.specs.Solution.{IsAskedIn}
 use Rattle.nll_problem.specs.Walks.{Reaches}
 use Rattle.nll_problem.specs.At.{IsAmong}
 use Rattle.nll_problem.specs.declared.at.At.{At}
@@ -15,7 +16,7 @@ use Rattle.nll_problem.proofs.WalkLemmas.{reaches_first, reaches_starts, reaches
 use Rattle.nll_core.specs.Search.{IsIn}
 use Rattle.nll_core.specs.Lines.{IsJump}
 use Rattle.nll_core.specs.Walking.{Grows, IsLedTo, IsSpread, AreOfPoints, FillsFrom}
-use Rattle.nll_core.specs.Frontiers.{Frontier, ReachesFrom, WalksOn, IsAskedFrom, IsFrontierIn, IsBeside, GoesOn, ResumesPoints, ListsNew, as_places}
+use Rattle.nll_core.specs.Frontiers.{Frontier, ReachesFrom, WalksOn, IsAskedFrom, IsFrontierIn, IsBeside, HasOnlyAsked, IsThere, LacksOnlyDue, GrowsByRun, GoesOn, ResumesPoints, ListsNew, as_places}
 use Rattle.nll_core.specs.declared.landing.Landing.{Landing}
 use Rattle.nll_core.proofs.SearchLemmas.{none_in_empty, flag_within}
 use Rattle.nll_core.proofs.WalkingLemmas.{grows_none, grows_append, grows_weaker, reaches_append}
@@ -471,47 +472,126 @@ module _ (g : Graph) (set : List Bool) (run : Run) (starts : List At) where
         (within_or run y);
   }
 
-  -- ---- a frontier that lacked what a run has
+-- ---- a frontier that lacked what a run has
 
-  module _ (old : List Bool) (before : (x : ℕ) → IsIn old x ↔ IsAskedFrom g (IsBeside set run) starts x) where
-    pub beside_sound : (x : ℕ) → IsIn old x → IsAskedFrom g (IsIn set) starts x
-    beside_sound x h = let w = (before x).0 h in
-        (w.0, w.1, asked_weaker g (IsBeside set run) w.0 (IsIn set) (λ y t. t.0) x w.2)
+-- what a frontier has that has only what is asked for is inside
+pub reached_inside : (g : Graph) (inside : ℕ → Type 0) (f : Frontier) → HasOnlyAsked g inside f → (x : ℕ)
+    → IsIn f.reached x → inside x
+reached_inside g inside f sound x h = let w = sound x h in asked_inside g inside w.0 x w.2
 
-    -- a step inside the set from what is asked for leads to what is asked for, or into the run
-    old_closed : (x y : ℕ) → IsIn old x → IsStep g x y → IsIn set y → IsIn old y ⊎ IsWithin run y
-    old_closed x y h step inside =
-        let w = (before x).0 h in
-        ⊎_elim inr (λ out. inl ((before y).1
-        (w.0, w.1, asked_more g (IsBeside set run) w.0 x y w.2 step (inside, outside run y out)))) (within_or run y)
+-- nothing is due
+abbrev Nothing : ℕ → Type 0
+Nothing x = false ≡ true
 
-    old_begun : (p : ℕ) → Contains starts (Point p) → IsIn set p → IsIn old p ⊎ IsWithin run p
-    old_begun p there inside =
-        ⊎_elim inr (λ out. inl ((before p).1
-        (Point p, there, reaches_first g (IsBeside set run) p (inside, outside run p out)))) (within_or run p)
+-- one that lacks nothing has just what is asked for
+pub lacks_nothing : (g : Graph) (inside : ℕ → Type 0) (f : Frontier) → HasOnlyAsked g inside f
+    → LacksOnlyDue g inside Nothing f → IsFrontierIn g inside f
+lacks_nothing g inside f sound w x = (
+  sound x,
+  λ asks. w.asked x (
+    asks.0,
+    asks.1,
+    asked_weaker g inside asks.0 (IsThere inside Nothing f.reached)
+        (λ y t. (t, λ never. absurd (false≢true never))) x asks.2,
+  ),
+)
 
-    old_whole : Contains starts All → (x : ℕ) → IsIn set x → IsIn old x ⊎ IsWithin run x
-    old_whole every x inside =
-        ⊎_elim inr (λ out. inl ((before x).1 (All, every, (inside, outside run x out)))) (within_or run x)
+module _ (g : Graph) (set : List Bool) (run : Run) (old : Frontier)
+    (exact : IsFrontierIn g (IsBeside set run) old) where
+  abbrev there_or_run : ℕ → Type 0
+  there_or_run = IsThere (IsIn set) (λ x. Nothing x ⊎ IsWithin run x) old.reached
 
-    -- once it went on from the run, it is what is asked for
-    pub goes_on_whole : (new : List Bool) → GoesOn g set run starts old new → (x : ℕ)
-        → IsIn new x ↔ IsAskedFrom g (IsIn set) starts x
-    goes_on_whole new w x = (w.sound x, back)
-      where
-        go_on : (y z : ℕ) → IsIn new y → IsStep g y z → IsIn set z → IsIn new z
-        go_on y z h step inside = ⊎_elim
-            (λ i. i)
-            (λ o. ⊎_elim
-            (λ early. ⊎_elim (w.kept z) (λ own. absurd (o.1 own)) (old_closed y z early step inside))
-            (λ every. ⊎_elim (w.kept z) (λ own. absurd (o.1 own)) (old_whole every z inside))
-            o.0)
-            (w.closed y z h step inside)
+  -- what is there is beside the run, or reached and so beside it
+  there_beside : (x : ℕ) → there_or_run x → IsBeside set run x
+  there_beside x t = ⊎_elim
+      (λ own. reached_inside g (IsBeside set run) old (λ y. (exact y).0) x (t.1 (inr own)))
+      (λ out. (t.0, outside run x out))
+      (within_or run x)
 
-        back : IsAskedFrom g (IsIn set) starts x → IsIn new x
-        back (All, every, inside) = ⊎_elim (w.kept x) (w.whole every x) (old_whole every x inside)
-        back (Point p, there, way) = reaches_carries g (IsIn set) p (IsIn new) go_on x
-            (⊎_elim (w.kept p) (w.begun p there) (old_begun p there (reaches_starts g (IsIn set) p x way))) way
+  pub beside_sound : HasOnlyAsked g (IsIn set) old
+  beside_sound x h = let w = (exact x).0 h in
+      (w.0, w.1, asked_weaker g (IsBeside set run) w.0 (IsIn set) (λ y t. t.0) x w.2)
+
+  -- one that has just what is asked for beside the run lacks only the run
+  pub beside_lacks : LacksOnlyDue g (IsIn set) (λ x. Nothing x ⊎ IsWithin run x) old
+  beside_lacks = record {
+    asked = λ x w. (exact x).1 (w.0, w.1, asked_weaker g there_or_run w.0 (IsBeside set run) there_beside x w.2);
+    onward = λ x y h way. reaches_carries g there_or_run x (IsIn old.reached)
+        (λ a b k step t. let w = (exact a).0 k in
+        (exact b).1 (w.0, w.1, asked_more g (IsBeside set run) w.0 a b w.2 step (there_beside b t)))
+        y h way;
+  }
+
+-- once it went on from the run, a frontier that lacked only what is due and the run lacks only what is due
+module _ (g : Graph) (set : List Bool) (run : Run) (old new : Frontier) (same : new.starts ≡ old.starts)
+    (sound : HasOnlyAsked g (IsIn set) old) (goes : GoesOn g set run old.starts old.reached new.reached)
+    (due : ℕ → Bool) (before : LacksOnlyDue g (IsIn set) (λ x. (due x ≡ true) ⊎ IsWithin run x) old) where
+  abbrev there : ℕ → Type 0
+  there = IsThere (IsIn set) (λ x. due x ≡ true) new.reached
+
+  abbrev there_before : ℕ → Type 0
+  there_before = IsThere (IsIn set) (λ x. (due x ≡ true) ⊎ IsWithin run x) old.reached
+
+  -- what neither is due nor in the run was there
+  was_there : (x : ℕ) → IsIn set x → due x ≡ false → (IsWithin run x → ⊥) → there_before x
+  was_there x inside free out = (
+    inside,
+    λ d. ⊎_elim
+        (λ is. absurd (false≢true (sym free ∙ is)))
+        (λ own. absurd (out own))
+        d,
+  )
+
+  -- what is there and due is reached; else something is to be shown
+  unless_due : (x : ℕ) → there x → (due x ≡ false → IsIn new.reached x) → IsIn new.reached x
+  unless_due x t free = go (due x) refl
+    where
+      go : (b : Bool) → due x ≡ b → IsIn new.reached x
+      go true is = t.1 is
+      go false is = free is
+
+  one_step : (x y : ℕ) → IsIn old.reached x → IsStep g x y → there_before y → IsIn new.reached y
+  one_step x y h step t = goes.kept y (before.onward x y h (reaches_more g there_before x x y
+      (reaches_first g there_before x (reached_inside g (IsIn set) old sound x h, λ _. h)) step t))
+
+  step_on : (x y : ℕ) → IsIn new.reached x → IsStep g x y → there y → IsIn new.reached y
+  step_on x y h step t = unless_due y t (λ free. ⊎_elim
+      (λ i. i)
+      (λ o. let early = was_there y t.0 free o.1 in ⊎_elim
+      (λ had. one_step x y had step early)
+      (λ every. goes.kept y (before.asked y (All, every, early)))
+      o.0)
+      (goes.closed x y h step t.0))
+
+  -- what is in the run or was there at first is reached
+  begun_on : (place : At) → Contains old.starts place → (x : ℕ)
+      → ((inside : ℕ → Type 0) → inside x → IsAskedIn g inside place x) → (IsWithin run x → IsIn new.reached x)
+      → there x → IsIn new.reached x
+  begun_on place start x asks own t = unless_due x t (λ free. ⊎_elim
+      own
+      (λ out. goes.kept x (before.asked x (place, start, asks there_before (was_there x t.0 free (outside run x out)))))
+      (within_or run x))
+
+  asked_on : (x : ℕ) → IsAskedFrom g there old.starts x → IsIn new.reached x
+  asked_on x (All, every, t) = begun_on All every x (λ inside t. t) (goes.whole every x) t
+  asked_on x (Point p, start, way) = reaches_carries g there p (IsIn new.reached) step_on x
+      (begun_on (Point p) start p (λ inside t. reaches_first g inside p t) (goes.begun p start)
+      (reaches_starts g there p x way)) way
+
+  pub goes_on_lacks : LacksOnlyDue g (IsIn set) (λ x. due x ≡ true) new
+  goes_on_lacks = record {
+    asked = λ x w. asked_on x (subst (λ starts. IsAskedFrom g there starts x) same w);
+    onward = λ x y h way. reaches_carries g there x (IsIn new.reached) step_on y h way;
+  }
+
+module _ (g : Graph) (set : List Bool) (run : Run) (old new : Frontier) (same : new.starts ≡ old.starts)
+    (sound : HasOnlyAsked g (IsIn set) old) (goes : GoesOn g set run old.starts old.reached new.reached) where
+  pub goes_on_sound : HasOnlyAsked g (IsIn set) new
+  goes_on_sound x h = subst (λ starts. IsAskedFrom g (IsIn set) starts x) (sym same) (goes.sound x h)
+
+  pub goes_on_exact : IsFrontierIn g (IsBeside set run) old → IsFrontierIn g (IsIn set) new
+  goes_on_exact exact = lacks_nothing g (IsIn set) new goes_on_sound
+      (goes_on_lacks g set run old new same sound goes (λ _. false) (beside_lacks g set run old exact))
 
 -- ---- more room
 
@@ -529,6 +609,41 @@ goes_on_widened g set run starts old wide new same w = record {
       (λ o. inr (⊎_elim (λ early. inl (sym (same x) ∙ early)) inr o.0, o.1))
       (w.closed x y h step inside);
 }
+
+-- and lists the same
+pub lists_widened : (old wide new : List Bool) (before after : List Run) → ((x : ℕ) → flag wide x ≡ flag old x)
+    → ListsNew wide new before after → ListsNew old new before after
+lists_widened old wide new before after same l = record {
+  longer = l.longer;
+  front = l.front;
+  proper = l.proper;
+  listed = λ x. (
+    λ h. let w = (l.listed x).0 h in (w.0, sym (same x) ∙ w.1),
+    λ w. (l.listed x).1 (w.0, same x ∙ w.1),
+  );
+  apart = l.apart;
+}
+
+-- so a frontier that was given room grew by the run
+pub grown_by_run : (g : Graph) (set : List Bool) (run : Run) (old : Frontier) (wide new : List Bool) (refused : Bool)
+    (found : List Run)
+    → old.refused ≡ false → refused ≡ false → HasOnlyAsked g (IsIn set) old
+    → ((x : ℕ) → flag wide x ≡ flag old.reached x) → length new ≤ element_count g
+    → GoesOn g set run old.starts wide new → ListsNew wide new [] found
+    → GrowsByRun g set run old (record { starts = old.starts; reached = new; refused = refused }) found
+grown_by_run g set run old wide new refused found was is sound same fits goes lists =
+    let goes_on = goes_on_widened g set run old.starts old.reached wide new same goes in
+    let then : Frontier = record { starts = old.starts; reached = new; refused = refused } in
+    record {
+      usable = (was, is);
+      fits = fits;
+      kept = goes_on.kept;
+      sound = goes_on_sound g set run old then refl sound goes_on;
+      alone = goes_on.alone;
+      exact = goes_on_exact g set run old then refl sound goes_on;
+      whole = goes_on_lacks g set run old then refl sound goes_on;
+      listed = lists_widened old.reached wide new [] found same lists;
+    }
 
 -- ---- other words for the same set
 

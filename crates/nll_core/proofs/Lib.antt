@@ -14,3 +14,4 @@ pub mod StartLemmas
 pub mod PlaceLemmas
 pub mod ReturnLemmas
 pub mod FrontierLemmas
+pub mod ElementGrowthLemmas

@@ -1,20 +1,21 @@
--- Frontiers: reachable sets that are kept while runs of elements are added to the set in which
--- walks may go.
+-- Frontiers: reachable sets that are kept while elements, or runs of them, are added to the set in
+-- which walks may go.
 -- Source: RFC 2094, "Solving constraints" (the search from a constraint's point that stops where it
 -- leaves the region); that it is resumed when the region grows, and that a constraint may hold at
--- all points, is project's choice. The code looks at the points of one new run at a time; this
+-- all points, is project's choice. The code looks at one new element or run at a time; this
 -- speaks of whole walks.
-use Rattle.std.specs.Prelude.{◌≡◌, ◌⊎◌, ◌↔◌, ℕ, ◌<◌, ◌≤◌, Bool, true, false, List, [], length}
-use Rattle.std.specs.Prelude.{Contains, AllPairs, ◌∷◌, map}
+use Rattle.std.specs.Prelude.{◌≡◌, ◌≢◌, ◌⊎◌, ◌↔◌, ℕ, ◌<◌, ◌≤◌, Bool, true, false, List, []}
+use Rattle.std.specs.Prelude.{Contains, AllPairs, ◌∷◌, ◌++◌, length, map}
 use Rattle.nll_sets.specs.ElementSet.{flag}
 use Rattle.nll_sets.specs.Runs.{first_of, last_of, IsInRunsFrom, AreApartFrom, IsWithin}
 use Rattle.nll_sets.specs.declared.run.Run.{Run}
-use Rattle.nll_problem.specs.Graph.{Graph, IsNext, IsReturn, IsStep}
+use Rattle.nll_problem.specs.At.{IsAmong}
+use Rattle.nll_problem.specs.Graph.{Graph, element_count, IsNext, IsReturn, IsStep}
 use Rattle.nll_problem.specs.Solution.{IsAskedIn}
 use Rattle.nll_problem.specs.Walks.{Reaches}
 use Rattle.nll_problem.specs.declared.at.At.{At}
 use Rattle.nll_problem.specs.declared.at.At.TheVariants.{All, Point}
-use Rattle.nll_core.specs.Search.{IsIn}
+use Rattle.nll_core.specs.Search.{IsIn, LeadsTo}
 use Rattle.nll_core.specs.Walking.{Grows}
 
 -- A frontier: where the constraints hold for which it is kept, what they asked for, and whether a
@@ -48,6 +49,78 @@ pub record ListsNew (old new : List Bool) (before after : List Run) : Type 0 whe
       ↔ (IsIn new x × (flag old x ≡ false))
   pub apart : AreApartFrom (length before) after
 
+-- ---- elements come into the set one by one
+
+-- x is an element of the set other than e
+abbrev pub IsWithout : List Bool → ℕ → ℕ → Type 0
+IsWithout set e x = IsIn set x × (x ≢ e)
+
+-- Behind what a list held it got just the elements that are in the new set and not in the old one,
+-- each once.
+pub record AppendsNew (old new : List Bool) (before after : List ℕ) : Type 0 where
+  pub rest : List ℕ
+  pub appended : after ≡ before ++ rest
+  pub listed : (x : ℕ) → Contains rest x ↔ (IsIn new x × (flag old x ≡ false))
+  pub once : AllPairs (λ x y. x ≢ y) rest
+
+-- ---- runs of elements come, while others of the set are due later
+
+-- the frontier has only what is asked for inside the set
+abbrev pub HasOnlyAsked : Graph → (ℕ → Type 0) → Frontier → Type 0
+HasOnlyAsked g inside f = (x : ℕ) → IsIn f.reached x → IsAskedFrom g inside f.starts x
+
+-- x is an element of the set, and if it is due, it is reached
+abbrev pub IsThere : (ℕ → Type 0) → (ℕ → Type 0) → List Bool → ℕ → Type 0
+IsThere inside due reached x = inside x × (due x → IsIn reached x)
+
+-- Inside the set without what is due and not reached, the frontier lacks nothing: it has what is
+-- asked for there from where its constraints hold, and what walks reach there from what it has.
+pub record LacksOnlyDue (g : Graph) (inside due : ℕ → Type 0) (f : Frontier) : Type 0 where
+  pub asked : (x : ℕ) → IsAskedFrom g (IsThere inside due f.reached) f.starts x → IsIn f.reached x
+  pub onward : (x y : ℕ) → IsIn f.reached x → Reaches g (IsThere inside due f.reached) x y
+      → IsIn f.reached y
+
+-- A frontier is of a graph, and has only what is asked for inside a set, which has a run of
+-- elements.
+pub record MayGrowByRun (g : Graph) (set : List Bool) (run : Run) (f : Frontier) : Type 0 where
+  pub width : length set ≡ element_count g
+  pub proper : run.first ≤ run.last
+  pub inside : (x : ℕ) → IsWithin run x → IsIn set x
+  pub starts : (place : At) → Contains f.starts place → IsAmong g.points place
+  pub fits : f.refused ≡ false → length f.reached ≤ element_count g
+  pub sound : f.refused ≡ false → HasOnlyAsked g (IsIn set) f
+
+-- A frontier grew by a run of elements of a set, and listed what is new. If it had just what is
+-- asked for inside the set without the run, it has just what is asked for inside the set. Whatever
+-- else is due: if it lacked only that and the run, it lacks only that. Where a constraint holds at
+-- all points, no more than the run came.
+pub record GrowsByRun (g : Graph) (set : List Bool) (run : Run) (old new : Frontier)
+    (found : List Run) : Type 0 where
+  pub usable : (old.refused ≡ false) × (new.refused ≡ false)
+  pub fits : length new.reached ≤ element_count g
+  pub kept : (x : ℕ) → IsIn old.reached x → IsIn new.reached x
+  pub sound : HasOnlyAsked g (IsIn set) new
+  pub alone : Contains old.starts All → (x : ℕ) → IsIn new.reached x
+      → IsIn old.reached x ⊎ IsWithin run x
+  pub exact : IsFrontierIn g (IsBeside set run) old → IsFrontierIn g (IsIn set) new
+  pub whole : (due : ℕ → Bool)
+      → LacksOnlyDue g (IsIn set) (λ x. (due x ≡ true) ⊎ IsWithin run x) old
+      → LacksOnlyDue g (IsIn set) (λ x. due x ≡ true) new
+  pub listed : ListsNew old.reached new.reached [] found
+
+-- Nothing is reached, and a run leaves it so, from these places on: all points aren't among them,
+-- and no walk begins in the run.
+pub record IsIdle (starts : List At) (run : Run) (reached : List Bool) : Type 0 where
+  pub none : (x : ℕ) → IsIn reached x → ⊥
+  pub nowhere : Contains starts All → ⊥
+  pub apart : (p : ℕ) → Contains starts (Point p) → IsWithin run p → ⊥
+
+-- a frontier that has reached nothing yet
+abbrev pub first_frontier : List At → Frontier
+first_frontier places = record { starts = places; reached = []; refused = false }
+
+-- ---- how it goes on: private contracts alone cite what follows
+
 -- A frontier went on from a run of elements of a set. Where a constraint holds at all points, the
 -- run itself came, and nothing else. Else walks went on: what is newly reached is followed to its
 -- end; of what was reached before, the steps into the run.
@@ -60,15 +133,6 @@ pub record GoesOn (g : Graph) (set : List Bool) (run : Run) (starts : List At) (
   pub begun : (p : ℕ) → Contains starts (Point p) → IsWithin run p → IsIn new p
   pub closed : (x y : ℕ) → IsIn new x → IsStep g x y → IsIn set y
       → IsIn new y ⊎ ((IsIn old x ⊎ Contains starts All) × (IsWithin run y → ⊥))
-
--- Nothing is reached, and a run leaves it so, from these places on: all points aren't among them,
--- and no walk begins in the run.
-pub record IsIdle (starts : List At) (run : Run) (reached : List Bool) : Type 0 where
-  pub none : (x : ℕ) → IsIn reached x → ⊥
-  pub nowhere : Contains starts All → ⊥
-  pub apart : (p : ℕ) → Contains starts (Point p) → IsWithin run p → ⊥
-
--- ---- how it goes on: private contracts alone cite what follows
 
 -- the numbers of the list rise
 abbrev pub IsAscending : List ℕ → Type 0
@@ -111,6 +175,12 @@ pub record ResumesPoints (g : Graph) (set : List Bool) (run : Run) (starts : Lis
   pub ends_from : ended ≡ true → (x : ℕ) × IsIn new x × IsReturn g x
   pub ends : (x : ℕ) → IsIn new x → IsReturn g x → (ended ≡ true) ⊎ IsIn old x
 
--- a frontier that has reached nothing yet
-abbrev pub first_frontier : List At → Frontier
-first_frontier places = record { starts = places; reached = []; refused = false }
+-- Walks by steps of the relation went on from an element that was put into a set: what they lead to
+-- is in the set, as far as steps lead from it.
+pub record StepsOn (step : ℕ → ℕ → Type 0) (element : ℕ) (old new : List Bool) : Type 0 where
+  pub width : length new ≡ length old
+  pub kept : (x : ℕ) → IsIn old x → IsIn new x
+  pub begun : IsIn new element
+  pub cause : (x : ℕ) → IsIn new x
+      → (y : ℕ) × (IsIn old y ⊎ (y ≡ element)) × LeadsTo step y x
+  pub closed : (x y : ℕ) → IsIn new x → step x y → IsIn new y

@@ -1,24 +1,24 @@
-//! What constraints ask for, kept while runs are added to the set inside which they ask.
+//! What constraints ask for, kept while elements are added to the set inside which they ask.
 
 ghost use Rattle.std.specs.Prelude.{◌≡◌, ◌↔◌, ℕ, ◌≤◌, ◌<◌, true, false, [], ◌∷◌, ◌++◌, Contains};
-ghost use Rattle.std.specs.Prelude.{length, OnOk, OnErr};
+ghost use Rattle.std.specs.Prelude.{length, max, OnOk, OnErr};
 ghost use Rattle.nll_problem.specs.Graph.{element_count};
 ghost use Rattle.nll_core.specs.Search.{IsIn};
-ghost use Rattle.nll_core.specs.Walking.{AreIn};
-ghost use Rattle.nll_core.specs.Frontiers.{IsFrontierIn, IsBeside, GoesOn, IsAskedFrom, ListsNew};
-ghost use Rattle.nll_core.specs.Frontiers.{IsIdle, first_frontier};
-ghost use Rattle.nll_problem.specs.At.{IsAmong, at_rank};
+ghost use Rattle.nll_core.specs.Frontiers.{IsFrontierIn, IsWithout, AppendsNew};
+ghost use Rattle.nll_core.specs.Frontiers.{MayGrowByRun, GrowsByRun, IsIdle, first_frontier};
+ghost use Rattle.nll_problem.specs.At.{at_rank};
 ghost use Rattle.nll_problem.specs.declared.at.At.{At as places};
 
 use crate::continuation::{is_idle, resume};
+use crate::element_growth::go_on;
 use crate::places::Places;
 use crate::steps::Steps;
-use nll_problem::At;
-use nll_sets::{Memory, Run, RunSet};
+use nll_problem::{At, Graph};
+use nll_sets::{Element, ElementSet, Memory, Run, RunSet};
 use std::alloc::Global;
 use std::marker::Model;
 
-/// What constraints ask for inside a set, kept while runs of elements are put into the set: what
+/// What constraints ask for inside a set, kept while elements are put into the set: what
 /// walks from their points reach; all of the set, where one holds at all points. (It isn't
 /// the worklist of a breadth-first search, which has that name too.)
 ///
@@ -83,73 +83,68 @@ impl Frontier {
         is_idle(&self.starts, run, &self.reached)
     }
 
-    /// Reaches what can be reached once a run of elements is in the set: walks go on through those
-    /// at which one begins, or to which a step leads from what is reached; so they go on at a hole
-    /// that is filled later. Where a constraint holds at all points, that is the run itself. Clears
-    /// a list, and puts the runs of what is newly reached into it, each element once. The points
-    /// from which walks go are points of the graph.
+    /// Reaches what can be reached once an element is in the set: where a walk begins there, or a
+    /// step leads there from what is reached, walks go on through it; so they go on at a hole that
+    /// is filled later. Where a constraint holds at all points, that is the element itself. Puts
+    /// what is newly reached behind what a list holds, each element once.
+    ///
+    /// # Errors
+    /// - `Memory`: the list is as before; each later call answers `Memory` too.
+    ///
+    /// # Cost
+    /// Where no walk begins at the element, looks for a step there from what is reached: from the
+    /// point before it and those behind that first, then from the others; where it is an end, from
+    /// the return points. Then looks at what is newly reached alone. (Not proved; `grow_run` looks
+    /// at the steps into the run alone.)
+    pub fn grow<S: ElementSet>(
+        &mut self,
+        graph: &Graph,
+        seen: &S,
+        element: Element,
+        out: &mut Vec<Element>,
+    ) -> Result<(), Memory>
+        requires width { length (S.flags seen.now) ≡ element_count graph.now }
+        requires element { IsIn (S.flags seen.now) element }
+        requires reached { self.old.refused ≡ false
+            → IsFrontierIn graph.now (IsWithout (S.flags seen.now) element) self.old }
+        ensures starts { self.new.starts ≡ self.old.starts }
+        ensures width { OnOk result
+            (length self.new.reached ≡ max (length self.old.reached) (element_count graph.now)) }
+        ensures reached { OnOk result (IsFrontierIn graph.now (IsIn (S.flags seen.now)) self.new) }
+        ensures found { OnOk result
+            (AppendsNew self.old.reached self.new.reached out.old.items out.new.items) }
+        ensures ok { OnOk result ((self.old.refused ≡ false) × (self.new.refused ≡ false)) }
+        ensures err { OnErr result
+            ((self.new.refused ≡ true) × (out.new.items ≡ out.old.items)) }
+    {
+        if let Some(refusal) = self.refusal {
+            return Err(refusal);
+        }
+        self.reached.widen(graph.points() + graph.universals());
+        let done = go_on(graph, seen, &self.starts, element, &mut self.reached, out);
+        self.refusal = done.err();
+        done
+    }
+
+    /// Reaches what can be reached once a run of elements is in the set, of which other elements may
+    /// be due later: walks go on through those at which one begins, or to which a step leads from
+    /// what is reached; so they go on at a hole that is filled later. Where a constraint holds at
+    /// all points, that is the run itself. Clears a list, and puts the runs of what is newly reached
+    /// into it, each element once.
     ///
     /// # Errors
     /// - `Memory`: the list is of no use; each later call answers `Memory` too.
-    pub fn grow(
+    pub fn grow_run(
         &mut self,
         steps: &Steps,
         seen: &RunSet,
         run: Run,
         found: &mut Vec<Run>,
     ) -> Result<(), Memory>
-        requires width { length seen.now ≡ element_count steps.now }
-        requires fits { let old = self.old in
-            old.refused ≡ false → length old.reached ≤ element_count steps.now }
-        requires starts { (at : places)
-            → Contains self.old.starts at → IsAmong steps.now.points at }
-        requires proper { run.first ≤ run.last }
-        requires run { AreIn seen.now run }
-        requires reached { self.old.refused ≡ false
-            → IsFrontierIn steps.now (IsBeside seen.now run) self.old }
+        requires { MayGrowByRun steps.now seen.now run self.old }
         ensures starts { self.new.starts ≡ self.old.starts }
-        ensures fits { OnOk result (length self.new.reached ≤ element_count steps.now) }
-        ensures reached { OnOk result (IsFrontierIn steps.now (IsIn seen.now) self.new) }
-        ensures found { OnOk result
-            (ListsNew self.old.reached self.new.reached [] found.new.items) }
-        ensures ok { OnOk result ((self.old.refused ≡ false) × (self.new.refused ≡ false)) }
-        ensures err { OnErr result (self.new.refused ≡ true) }
-    {
-        self.go_on(steps, seen, run, found)
-    }
-
-    /// Goes on from a run of elements of the set in which walks may go, which may have grown by
-    /// other elements too: through those at which a walk begins, or to which a step leads from what
-    /// is reached, and from there through the whole set. Where a constraint holds at all points,
-    /// the run itself is reached and nothing else. Clears a list, and puts the runs of what is
-    /// newly reached into it, each element once. The points from which walks go are those of the
-    /// graph.
-    ///
-    /// # Errors
-    /// - `Memory`: the list is of no use; each later call answers `Memory` too.
-    pub fn go_on(
-        &mut self,
-        steps: &Steps,
-        inside: &RunSet,
-        run: Run,
-        found: &mut Vec<Run>,
-    ) -> Result<(), Memory>
-        requires width { length inside.now ≡ element_count steps.now }
-        requires fits { let old = self.old in
-            old.refused ≡ false → length old.reached ≤ element_count steps.now }
-        requires starts { (at : places)
-            → Contains self.old.starts at → IsAmong steps.now.points at }
-        requires proper { run.first ≤ run.last }
-        requires run { AreIn inside.now run }
-        requires sound { self.old.refused ≡ false → (x : ℕ) → IsIn self.old.reached x
-            → IsAskedFrom steps.now (IsIn inside.now) self.old.starts x }
-        ensures starts { self.new.starts ≡ self.old.starts }
-        ensures fits { OnOk result (length self.new.reached ≤ element_count steps.now) }
-        ensures reached { OnOk result (GoesOn steps.now inside.now run self.old.starts
-            self.old.reached self.new.reached) }
-        ensures found { OnOk result
-            (ListsNew self.old.reached self.new.reached [] found.new.items) }
-        ensures ok { OnOk result ((self.old.refused ≡ false) × (self.new.refused ≡ false)) }
+        ensures ok { OnOk result
+            (GrowsByRun steps.now seen.now run self.old self.new found.new.items) }
         ensures err { OnErr result (self.new.refused ≡ true) }
     {
         found.clear();
@@ -160,7 +155,7 @@ impl Frontier {
         let told = resume(
             &steps.lines,
             &steps.landings,
-            inside,
+            seen,
             &self.starts,
             run,
             &mut self.reached,

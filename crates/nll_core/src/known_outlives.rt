@@ -1,6 +1,6 @@
 //! Which universal regions are known to outlive which.
 
-ghost use Rattle.std.specs.Prelude.{◌≡◌, ◌↔◌, ℕ, ◌<◌, AllPairs, Contains, length, IfOk, OnOk};
+ghost use Rattle.std.specs.Prelude.{◌≡◌, ◌↔◌, ℕ, ◌≤◌, ◌<◌, AllPairs, Contains, length, IfOk, OnOk};
 ghost use Rattle.nll_problem.specs.Problem.{IsUniversal, IsEarlier};
 ghost use Rattle.nll_problem.specs.Faults.{IsAbove};
 ghost use Rattle.nll_core.specs.Outliving.{IsShorterOf, AreOutlived};
@@ -54,7 +54,7 @@ fn facts_of(facts: &[(RegionId, RegionId)], longer: RegionId) -> &[(RegionId, Re
 
 // Visits each element below a number.
 fn visit_below<R: ElementSet>(count: u32, search: &mut Search<R>) -> Result<(), Memory>
-    requires { length search.old.reached ≡ count }
+    requires { count ≤ length search.old.reached }
     ensures { OnOk result (Visits (λ x. x < count) search.old search.new) }
 {
     for number in 0..count {

@@ -3,12 +3,13 @@
 //!
 //! Reading order: `values`, `bases`, `lines` (with `line_ends`, `jumps`), `stretches`, `tail_copy`,
 //! `walk`, `pairs`, `inclusion`, `satisfaction`, `order`, `solver`; `points`, `starts`, `returns`,
-//! `landings`, `steps`, `places`, `continuation`, `frontier`; `search`, `reachability`,
-//! `known_outlives`, `fault_check`. The definitions are in specs/.
+//! `landings`, `steps`, `places`, `continuation`; `search`, `reachability`, `element_growth`,
+//! `frontier`; `known_outlives`, `fault_check`. The definitions are in specs/.
 #![tactic(auto)]
 
 mod bases;
 mod continuation;
+mod element_growth;
 mod fault_check;
 mod frontier;
 mod inclusion;

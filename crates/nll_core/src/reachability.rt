@@ -21,7 +21,7 @@ pub struct Inside<'a, S: ElementSet> {
 impl<'a, S: ElementSet> Inside<'a, S> {
     // Visits an element that is in the set.
     fn visit<R: ElementSet>(&self, element: Element, search: &mut Search<R>) -> Result<(), Memory>
-        requires width { length search.old.reached ≡ element_count self.now.graph.now }
+        requires width { element_count self.now.graph.now ≤ length search.old.reached }
         requires element { element < element_count self.now.graph.now }
         ensures { OnOk result
             (VisitsWithin (S.flags self.now.set.now) (λ x. x ≡ element) search.old search.new) }
@@ -38,7 +38,7 @@ impl<'a, S: ElementSet> Inside<'a, S> {
         points: &[u32],
         search: &mut Search<R>,
     ) -> Result<(), Memory>
-        requires width { length search.old.reached ≡ element_count self.now.graph.now }
+        requires width { element_count self.now.graph.now ≤ length search.old.reached }
         requires points { HoldsFrom 0 points.now (λ x. x < element_count self.now.graph.now) }
         ensures { OnOk result
             (VisitsWithin (S.flags self.now.set.now) (Contains points.now) search.old search.new) }
@@ -56,7 +56,7 @@ impl<'a, S: ElementSet> Inside<'a, S> {
         to: u32,
         search: &mut Search<R>,
     ) -> Result<(), Memory>
-        requires width { length search.old.reached ≡ element_count self.now.graph.now }
+        requires width { element_count self.now.graph.now ≤ length search.old.reached }
         requires to { to ≤ element_count self.now.graph.now }
         ensures { OnOk result
             (VisitsWithin (S.flags self.now.set.now) (IsInRange from to) search.old search.new) }

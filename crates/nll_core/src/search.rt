@@ -3,7 +3,7 @@
 //! A search keeps the elements that it has reached twice: as a set, which tells what is new, and as
 //! a list in the order in which they came, whose end is the work that is left.
 
-ghost use Rattle.std.specs.Prelude.{◌≡◌, ℕ, ◌<◌, false, [], length, replicate, slice_index};
+ghost use Rattle.std.specs.Prelude.{◌≡◌, ℕ, ◌≤◌, ◌<◌, false, [], length, replicate, slice_index};
 ghost use Rattle.std.specs.Prelude.{IfOk, OnOk};
 ghost use Rattle.nll_core.specs.Search.{Visits, IsPending, Spreads, IsFound};
 
@@ -25,7 +25,7 @@ pub trait Relation {
 
     /// Visits each element that one step from this one leads to.
     fn visit_next<R: ElementSet>(&self, from: Element, search: &mut Search<R>) -> Result<(), Memory>
-        requires { length search.old.reached ≡ count self.now }
+        requires { count self.now ≤ length search.old.reached }
         ensures { OnOk result (Visits (step self.now from) search.old search.new) };
 }
 
@@ -55,6 +55,16 @@ impl<R: ElementSet> Search<R> {
         })
     }
 
+    /// A search that has reached a set already, and has nothing left to do there.
+    pub fn over(alloc: Global, reached: R) -> Search<R>
+        ensures { result ≡ record { reached = R.flags reached; list = [] } }
+    {
+        Search {
+            reached,
+            list: Vec::new(alloc),
+        }
+    }
+
     /// Puts an element into the set and at the end of the list, where it is new.
     pub fn visit(&mut self, element: Element) -> Result<(), Memory>
         requires { element < length self.old.reached }
@@ -69,7 +79,7 @@ impl<R: ElementSet> Search<R> {
     /// Goes on from the elements of the list from a place on, until each step from the set leads
     /// into it.
     pub fn spread<P: Relation>(&mut self, relation: &P, from: usize) -> Result<(), Memory>
-        requires width { length self.old.reached ≡ P.count relation.now }
+        requires width { P.count relation.now ≤ length self.old.reached }
         requires pending { IsPending (P.step relation.now) self.old from }
         ensures { OnOk result (Spreads (P.step relation.now) self.old self.new) }
     {
@@ -102,6 +112,15 @@ impl<R: ElementSet> Search<R> {
         ensures { R.flags result ≡ self.reached }
     {
         self.reached
+    }
+
+    /// The set and the list.
+    pub fn into_parts(self) -> (R, Vec<Element>)
+        ensures set { R.flags result.0 ≡ self.reached }
+        ensures list { result.1.items ≡ self.list }
+    {
+        let Search { reached, list } = self;
+        (reached, list)
     }
 
     /// The list of the elements that were reached, each once.

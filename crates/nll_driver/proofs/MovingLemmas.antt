@@ -176,7 +176,7 @@ taken_passes q c owners channels s fronts x o g rest inside at is =
           (subst (λ d. reads o.problem d x.to g.region ≡ true) same_cut
           (subst (λ r. reads r p.cut x.to g.region ≡ true) same_problem found.1));
       element = subst (λ r. g.element < element_count r.graph) same_problem (sender.sound.elements g found.0);
-      rank = in_step_low q c owners channels s fronts x.from p g pair.0 from_at found.0;
+      rank = (let l = in_step_low q c owners channels s fronts x.from p g pair.0 from_at found.0 in omega (arith, l));
     }
 
 -- the list with another element at a place has that element

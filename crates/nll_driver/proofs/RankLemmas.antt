@@ -82,11 +82,10 @@ module _ (q : Problem) (c : Cut) (owners : List Owner) (channels : List Channel)
       (owner_at j).log g in_part).0
 
   pub in_step_low : (i : ℕ) (o : Owner) (g : Growth) → i < c.owners → slice_get owners i ≡ Some o → Contains o.log g
-      → g.rank < 2 ^ 61
+      → g.rank < 2 ^ 37
   in_step_low i o g l here h =
       let same : owner_at i ≡ o = some_is (owner_at i) o (sym (at i l) ∙ here) in
-      ranks_low c.owners owner_at (s.cut.cut.owner_limit) (λ k lk. (is k lk).sound)
-      (λ k lk. ap (λ (d : Cut). d.owners) (is k lk).cut) (λ k lk. (is k lk).me) heard i g l
+      ranks_low c owner_at (λ k lk. (is k lk).sound) (λ k lk. (is k lk).cut) (λ k lk. (is k lk).me) heard i g l
       (subst (λ (p : Owner). Contains p.log g) (sym same) h)
     where
       some_is : (x y : Owner) → Some x ≡ Some y → x ≡ y

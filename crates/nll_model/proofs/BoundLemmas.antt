@@ -124,5 +124,5 @@ module _ (q : Problem) (c : Cut) (w : State) (sound : IsSoundState q c w) where
             (subst (λ (x : Cut). reads u.owner.problem x s.owner.me g.region ≡ true) cut
             (subst (λ k. reads u.owner.problem u.owner.cut k g.region ≡ true) (sym seat.me) from.1));
         element = subst (λ (x : Problem). g.element < element_count x.graph) problem (giver.sound.elements g from.0);
-        rank = low j u g at_u from.0;
+        rank = (let l = low j u g at_u from.0 in omega (arith, l));
       }

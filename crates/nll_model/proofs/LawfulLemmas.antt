@@ -1,5 +1,5 @@
 -- What holds of every sound state: its ranks are low, and its logs say only what is least.
-use Rattle.std.proofs.Common.{ℕ, ◌<◌, length, Contains, get_or, sym, ap, ◌∙◌, subst, arith}
+use Rattle.std.proofs.Common.{ℕ, ◌<◌, Contains, get_or, subst, arith}
 use Rattle.std.proofs.lemmas.Option.{slice_get-get_or, slice_get_within}
 use Rattle.nll_problem.specs.Problem.{Problem, IsSound as IsSoundProblem}
 use Rattle.nll_cut.specs.Partition.{Cut}
@@ -15,21 +15,18 @@ module _ (q : Problem) (c : Cut) (w : State) (orderly : IsOrderly q c w) where
   abbrev seat_of : ℕ → Seat
   seat_of i = get_or w.seats i (first_seat q c i)
 
-  at : (i : ℕ) → i < length w.seats → IsAt w i (seat_of i)
-  at i l = slice_get-get_or w.seats i (first_seat q c i) l
+  at : (i : ℕ) → i < c.owners → IsAt w i (seat_of i)
+  at i l = slice_get-get_or w.seats i (first_seat q c i) (omega (arith, l, orderly.count))
 
-  is : (i : ℕ) → i < length w.seats → IsOwner q c i (seat_of i).owner
+  is : (i : ℕ) → i < c.owners → IsOwner q c i (seat_of i).owner
   is i l = orderly.owners i (seat_of i) (at i l)
 
   pub ranks_are_low : AreRanksLow w
   ranks_are_low i s g here h =
-      let l = slice_get_within w.seats i s here in
+      let within = slice_get_within w.seats i s here in
+      let l : i < c.owners = omega (arith, within, orderly.count) in
       let same = same_at w.seats i s (seat_of i) here (at i l) in
-      let few = (is i l).sound.cut.cut.owner_limit in
-      let owners = ap (λ (d : Cut). d.owners) (is i l).cut in
-      ranks_low (length w.seats) (λ k. (seat_of k).owner) (omega (arith, few, owners, orderly.count))
-      (λ k lk. (is k lk).sound) (λ k lk. ap (λ (d : Cut). d.owners) (is k lk).cut ∙ sym orderly.count)
-      (λ k lk. (is k lk).me)
+      ranks_low c (λ k. (seat_of k).owner) (λ k lk. (is k lk).sound) (λ k lk. (is k lk).cut) (λ k lk. (is k lk).me)
       (λ a b f la lb differ told. orderly.heard a b (seat_of a) (seat_of b) f differ (at a la) (at b lb) told)
       i g l (subst (λ (x : Seat). Contains x.owner.log g) same h)
 

@@ -91,10 +91,10 @@ SaysLeast q c w = (r e : ℕ) → Says c w r e ↔ Least q r e
 abbrev pub IsStill : State → Type 0
 IsStill w = (i j : ℕ) (s : Seat) → IsAt w i s → lane_to s j ≡ empty_lane
 
--- no rank of a log is 2^61 or above
+-- no rank of a log reaches 2^37
 abbrev pub AreRanksLow : State → Type 0
 AreRanksLow w =
-    (i : ℕ) (s : Seat) (g : Growth) → IsAt w i s → Contains s.owner.log g → g.rank < 2 ^ 61
+    (i : ℕ) (s : Seat) (g : Growth) → IsAt w i s → Contains s.owner.log g → g.rank < 2 ^ 37
 
 -- What holds of every state that a world of this problem and cut comes to: it is sound; its logs
 -- say only what the least values have; at a balance of 0 nothing is under way, and they say just

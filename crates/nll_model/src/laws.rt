@@ -11,7 +11,7 @@ ghost use Rattle.nll_event.specs.declared.event.Event.{Event};
 ghost use Rattle.nll_model.specs.declared.outcome.Step.{Step};
 
 /// States that in a sound state the logs say only what the least values have, that at a balance of
-/// 0 nothing is under way and they say just that, and that no rank is 2^61 or above.
+/// 0 nothing is under way and they say just that, and that no rank reaches 2^37.
 pub fn sound_states_are_lawful()
     ensures { (q : Problem) (c : Cut) (w : State)
         → IsSound q → IsCutOf q c → IsSoundState q c w → IsLawful q c w }
@@ -27,7 +27,7 @@ pub fn steps_are_lawful()
 {}
 
 /// States that in an orderly state, as each is, also once a growth of memory was refused, no rank
-/// is 2^61 or above.
+/// reaches 2^37.
 pub fn orderly_states_have_low_ranks()
     ensures { (q : Problem) (c : Cut) (w : State) → IsOrderly q c w → AreRanksLow w }
 {}

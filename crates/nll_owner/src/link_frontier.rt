@@ -1,13 +1,9 @@
 //! The frontiers of links.
 
-ghost use Rattle.std.specs.Prelude.{◌≡◌, ◌≤◌, ◌<◌, true, false, [], ◌∷◌, ◌++◌, ℕ, Contains, length};
-ghost use Rattle.std.specs.Prelude.{IfOk, OnOk};
-ghost use Rattle.nll_problem.specs.Graph.{element_count};
-ghost use Rattle.nll_problem.specs.At.{IsAmong, at_rank};
+ghost use Rattle.std.specs.Prelude.{◌≡◌, ◌<◌, true, [], ◌∷◌, ◌++◌, Contains, IfOk, OnOk};
+ghost use Rattle.nll_problem.specs.At.{at_rank};
 ghost use Rattle.nll_problem.specs.declared.at.At.{At as places};
-ghost use Rattle.nll_core.specs.Search.{IsIn};
-ghost use Rattle.nll_core.specs.Walking.{AreIn};
-ghost use Rattle.nll_core.specs.Frontiers.{IsAskedFrom, GoesOn, IsIdle, ListsNew, first_frontier};
+ghost use Rattle.nll_core.specs.Frontiers.{MayGrowByRun, GrowsByRun, IsIdle, first_frontier};
 
 use nll_core::{Frontier, Steps};
 use nll_problem::At;
@@ -77,37 +73,25 @@ impl LinkFrontier {
         }
     }
 
-    /// Goes on from a run of elements of the set in which walks may go, as `Frontier::go_on` does.
-    pub fn go_on(
+    /// Grows by a run of elements of the set in which walks may go, as `Frontier::grow_run` does.
+    pub fn grow_run(
         &mut self,
         steps: &Steps,
         inside: &RunSet,
         run: Run,
         found: &mut Vec<Run>,
     ) -> Result<(), Memory>
-        requires width { length inside.now ≡ element_count steps.now }
-        requires fits { let old = self.old in
-            old.refused ≡ false → length old.reached ≤ element_count steps.now }
-        requires starts { (at : places)
-            → Contains self.old.starts at → IsAmong steps.now.points at }
-        requires proper { run.first ≤ run.last }
-        requires run { AreIn inside.now run }
-        requires sound { self.old.refused ≡ false → (x : ℕ) → IsIn self.old.reached x
-            → IsAskedFrom steps.now (IsIn inside.now) self.old.starts x }
+        requires { MayGrowByRun steps.now inside.now run self.old }
         ensures starts { self.new.starts ≡ self.old.starts }
-        ensures fits { OnOk result (length self.new.reached ≤ element_count steps.now) }
-        ensures reached { OnOk result (GoesOn steps.now inside.now run self.old.starts
-            self.old.reached self.new.reached) }
-        ensures found { OnOk result
-            (ListsNew self.old.reached self.new.reached [] found.new.items) }
-        ensures whole { OnOk result (self.new.refused ≡ false) }
+        ensures ok { OnOk result
+            (GrowsByRun steps.now inside.now run self.old self.new found.new.items) }
     {
         if let State::Fresh(at) = &self.state {
             let alloc = *found.allocator();
             self.state = State::Kept(Box::new(alloc, Frontier::new(alloc, *at))?);
         }
         match &mut self.state {
-            State::Kept(frontier) => frontier.go_on(steps, inside, run, found),
+            State::Kept(frontier) => frontier.grow_run(steps, inside, run, found),
             State::Fresh(_) => unreachable!(),
         }
     }

@@ -1,12 +1,10 @@
 //! The program over MIR texts.
 use super::comparison::compare;
+use super::examples::OK;
 use super::limits::{repeat, say_each};
 use super::notes::say;
 use super::program::run_on;
 use super::rows::{ALONE, Asked, compare_row, compare_rows};
-use nll_worked_texts::{
-    ASSERTED, CALLED, DROPPED, FUNCTIONS, MOVED, REBORROW, RETURNED, TAKERS, TWO_BORROWS,
-};
 use std::process::Abort;
 use std::sync::Wait;
 use std::thread::Threads;
@@ -40,15 +38,6 @@ const LOOKUP: &str = "nll-mir 1|universal 'r|region 'found|region 'insert|region
     block bb4|_6 = &'get mut _1.*|_0 = call get(move _6: &'z mut Map): &'z mut Value -> bb5|\
     block bb5|return|end|";
 
-// A borrow of what is behind a `mut` reference and a shared one.
-const REBORROW_SHARED: &str = "nll-mir 1|region 'a|region 'b|region 'r|region 's|let _0: int|\
-    let _1: &'a mut &'b int|let _2: &'s int|blocks 1|block bb0|_2 = &'r _1.*.*|read _2.*|\
-    return|end|";
-
-// A struct is dropped that promises not to look behind its reference.
-const DROPPED_MARKED: &str = "nll-mir 1|region 'w|struct W<'x + ?> drop (&'x int)|let _0: int|\
-    let _1: W<'w>|blocks 2|block bb0|nop|drop _1 -> bb1|block bb1|return|end|";
-
 // Ends the test unless these are what `values` and `check` do with a text.
 fn compare_body<R: Abort + AllocGlobal + Threads + Wait + Sync>(
     rt: &R,
@@ -60,19 +49,9 @@ fn compare_body<R: Abort + AllocGlobal + Threads + Wait + Sync>(
     compare_row(rt, Asked::Run("check|sheet"), ALONE, lines, of_check);
 }
 
-// What `check` does where there is no fault.
-const OK: &str = "0>ok|>";
-
 // A MIR text is answered by the problem of its body.
 #[test]
 fn answers_mir_texts(rt: HostRuntime) {
-    compare_body(
-        &rt,
-        TWO_BORROWS,
-        "0>'static: bb0/0 bb0/1 bb1/0 bb1/1 bb1/2 bb2/0 bb2/1 end('static)|\
-            'p: bb0/1 bb1/0 bb1/2 bb2/0|'foo: bb0/1 bb1/0 bb2/0|'bar: bb1/2 bb2/0|>",
-        OK,
-    );
     compare_body(
         &rt,
         LATER_USE,
@@ -91,38 +70,11 @@ fn answers_mir_texts(rt: HostRuntime) {
             'z: bb5/0 end('r)|>",
         OK,
     );
-    compare_body(
-        &rt,
-        REBORROW,
-        "0>'static: bb0/0 bb0/1 bb0/2 end('static)|'a: bb0/0 bb0/1|'b: bb0/0 bb0/1|'r: bb0/1|\
-            's: bb0/1|>",
-        OK,
-    );
-    compare_body(
-        &rt,
-        REBORROW_SHARED,
-        "0>'static: bb0/0 bb0/1 bb0/2 end('static)|'a: bb0/0|'b: bb0/0 bb0/1|'r: bb0/1|'s: bb0/1|>",
-        OK,
-    );
 }
 
 // The same of texts of version 2.
 #[test]
 fn answers_mir_texts_of_version_2(rt: HostRuntime) {
-    compare_body(
-        &rt,
-        FUNCTIONS,
-        "0>'static: bb0/0 bb0/1 bb0/2 end('static)|'1: bb0/0|'2: bb0/0 bb0/1|'3: bb0/1|\
-            '4: bb0/1|>",
-        OK,
-    );
-    compare_body(
-        &rt,
-        TAKERS,
-        "0>'static: bb0/0 bb0/1 bb0/2 end('static)|'1: bb0/0 bb0/1|'2: bb0/0 bb0/1|'3: bb0/1|\
-            '4: bb0/1|>",
-        OK,
-    );
     compare_body(
         &rt,
         KEPT,
@@ -131,15 +83,7 @@ fn answers_mir_texts_of_version_2(rt: HostRuntime) {
             'p: bb0/2 bb1/0 end('static)|'arg: bb1/0 end('static)|>",
         OK,
     );
-    // A region holds, at all points, what another one holds.
-    compare_body(
-        &rt,
-        ASSERTED,
-        "0>'static: bb0/0 bb0/1 bb0/2 end('static)|'1: bb0/0 bb0/1|'2: bb0/0 bb0/1|\
-            '3: bb0/0 bb0/1|'4: bb0/1|>",
-        OK,
-    );
-    // A universal one holds the end of another: no path to a return point is needed.
+    // A universal region holds, at all points, the end of another one: no path is needed.
     compare_body(
         &rt,
         "nll-mir 2|universal 'a|universal 'b|assert 'a : 'b|let _0: int|blocks 1|block bb0|\
@@ -156,43 +100,6 @@ fn answers_mir_texts_of_version_2(rt: HostRuntime) {
     );
 }
 
-// The same of texts in which something is moved, called, dropped or returned.
-#[test]
-fn answers_further_mir_texts(rt: HostRuntime) {
-    compare_body(
-        &rt,
-        MOVED,
-        "0>'static: bb0/0 bb0/1 bb0/2 end('static)|'1: bb0/0 bb0/1|'2: bb0/0 bb0/1|'3: bb0/1|\
-            '4: bb0/1|>",
-        OK,
-    );
-    compare_body(
-        &rt,
-        CALLED,
-        "0>'static: bb0/0 bb1/0 bb1/1 end('static)|'a: bb0/0 bb1/0|'b: bb1/0|'c: bb1/0|>",
-        OK,
-    );
-    compare_body(
-        &rt,
-        DROPPED,
-        "0>'static: bb0/0 bb0/1 bb1/0 end('static)|'w: bb0/0 bb0/1|>",
-        OK,
-    );
-    compare_body(
-        &rt,
-        DROPPED_MARKED,
-        "0>'static: bb0/0 bb0/1 bb1/0 end('static)|'w:|>",
-        OK,
-    );
-    compare_body(
-        &rt,
-        RETURNED,
-        "0>'static: bb0/0 bb0/1 end('static)|'a: bb0/0 bb0/1 end('a)|\
-            'b: bb0/0 bb0/1 end('a) end('b)|>",
-        "1>fault 'b must outlive 'a|>",
-    );
-}
-
 // MIR texts with a fault, with the line that tells it.
 const REFUSED: &str = "
 nll-mir 3| ~ 2>>nllc: line 1: header|
@@ -200,12 +107,6 @@ nll-mir 1|assert 'static : 'static| ~ 2>>nllc: line 2: syntax|
 nll-mir 2|assert 'static : 'a| ~ 2>>nllc: line 2: unknown|
 nll-mir 1|points 1|end| ~ 2>>nllc: line 2: syntax|
 nll-facts 1|let _0: int| ~ 2>>nllc: line 2: syntax|
-nll-mir 1|region 'w|struct W<'x +> drop (&'x int)|let _0: int|let _1: W<'w>|blocks 2|block bb0|\
-    nop| ~ \
-    2>>nllc: line 8: end|
-nll-mir 1|region 'w|struct W<'x +> drop (&'x int)|let _0: int|let _1: W| ~ 2>>nllc: line 5: shape|
-nll-mir 1|region 'x|struct W<'x +> drop (&'x int)|let _0: int|let _1: W<'w>| ~ \
-    2>>nllc: line 5: unknown|
 ";
 
 // The fault of a MIR text is told, and of no other format.

@@ -1,149 +1,123 @@
-//! Texts that are cut off, changed, or at a limit of their format, by the whole program.
+//! Texts at the limits of their formats, and past them, by the whole program.
+use super::comparison::compare;
 use super::limits::repeat;
 use super::notes::{count, say};
 use super::pieces::{Piece, compare_run, text_of};
-use super::rows::{Asked, compare_rows};
+use super::program::run_at_desk;
+use super::rows::{ALONE, bytes_of};
+use nll_format::MAX_TEXT;
 use std::process::Abort;
 use std::sync::Wait;
 use std::thread::Threads;
 
-// Texts, and what `check` does with them.
-const CHECKED: &str = "
-nll-facts 1 ~ 2>>nllc: line 1: end|
-nll-facts ~ 2>>nllc: line 1: header|
-nll-facts 1|points 1048577| ~ 2>>nllc: line 2: limit points|
-nll-facts 1|points 2|universal 'a|universal 'b|universal 'c|outlives 'a 'c|outlives 'c 'b|\
-next 0 1|return 1|constraint 'a 'b 0|end| ~ 0>ok|>
-nll-facts 1|points 2|universal 'a|universal 'b|next 0 1|return 1|constraint 'a 'static 0|end| ~ \
-1>fault 'a must outlive 'static|>
-// A struct with a drop of its own, cut off in the type of a variable and in a terminator.
-nll-mir 1|region 'w|struct W<'x +> drop (&'x int)|let _0: int|let _1: W ~ 2>>nllc: line 5: shape|
-nll-mir 1|region 'w|struct W<'x +> drop (&'x int)|let _0: int|let _1: W<'w>|blocks 2|block bb0|\
-nop|drop _1 -> bb ~ 2>>nllc: line 9: syntax|
-nll-mir 1|region 'w|struct W<'x +> drop (&'x int)|let _0: int|let _1: W<'w>|blocks 2|block bb0|\
-nop|drop _1 -> bb1 ~ 2>>nllc: line 9: end|
-// One line of it is another one.
-nll-mir 1|region 'x|struct W<'x +> drop (&'x int)|let _0: int|let _1: W<'w>|blocks 2|block bb0|\
-nop|drop _1 -> bb1|block bb1|return|end| ~ 2>>nllc: line 5: unknown|
-nll-mir 1|region 'w|struct W<'x +> drop (&'x int)|let _1: int|let _1: W<'w>|blocks 2|block bb0|\
-nop|drop _1 -> bb1|block bb1|return|end| ~ 2>>nllc: line 4: range|
-nll-mir 1|region 'w|struct W<'x +> drop (&'x int)|let _0: int|let _1: W<'w>|blocks 3|block bb0|\
-nop|drop _1 -> bb1|block bb1|return|end| ~ 2>>nllc: line 12: range|
-nll-mir 1|region 'w|struct W<'x +> drop (&'x int)|let _0: int|let _1: W<'w>|blocks 1|block bb0|\
-nop|drop _1 -> bb1|block bb1|return|end| ~ 2>>nllc: line 9: range|
-nll-mir 1|region 'w|struct W<'x +> drop (&'x int)|let _0: int|let _1: W<'w>|blocks 2|block bb0|\
-nop|drop _2 -> bb1|block bb1|return|end| ~ 2>>nllc: line 9: unknown|
-nll-mir 1|region 'w|struct W<'x +> drop (&'x int)|let _0: int|let _1: W<'w>|blocks 2|block bb0|\
-nop|drop _1 -> bb1|block bb2|return|end| ~ 2>>nllc: line 10: range|
-";
+// What a text shows, the text, of which something stands as often as it may or once more, and what
+// `check` does.
+type Counted = (&'static str, &'static [Piece], &'static str);
 
-// A text without its last line feed, and its values.
-const VALUED: &str = "
-nll-mir 1|region 'w|struct W<'x +> drop (&'x int)|let _0: int|let _1: W<'w>|blocks 2|block bb0|\
-nop|drop _1 -> bb1|block bb1|return|end ~ 0>'static: bb0/0 bb0/1 bb1/0 end('static)|\
-'w: bb0/0 bb0/1|>
-";
-
-#[test]
-fn worked_texts_are_judged(rt: HostRuntime) {
-    compare_rows(&rt, Asked::Run("check|sheet"), CHECKED);
-    compare_rows(&rt, Asked::Run("values|sheet"), VALUED);
-}
-
-const OK: &[Piece] = &[("0>ok|>", 0, 1)];
-
-// Texts of which something stands as often as it may, or once more, and what `check` does.
-const COUNTED: &[(&[Piece], &[Piece])] = &[
+const COUNTED: &[Counted] = &[
     (
+        "256 universal regions",
         &[
             ("nll-facts 1|points 1|", 0, 1),
             ("universal 'u#|", 0, 255),
             ("end|", 0, 1),
         ],
-        OK,
+        "0>ok|>",
     ),
     (
+        "a universal region too many",
         &[
             ("nll-facts 1|points 1|", 0, 1),
             ("universal 'u#|", 0, 256),
             ("end|", 0, 1),
         ],
-        &[("2>>nllc: line 258: limit universals|", 0, 1)],
+        "2>>nllc: line 258: limit universals|",
     ),
     (
+        "a region of facts too many",
+        &[("nll-facts 1|points 1|", 0, 1), ("region 'r#|", 0, 65_536)],
+        "2>>nllc: line 65538: limit regions|",
+    ),
+    (
+        "a point too many",
+        &[("nll-facts 1|points 1048577|", 0, 1)],
+        "2>>nllc: line 2: limit points|",
+    ),
+    (
+        "a struct too many",
         &[("nll-mir 1|", 0, 1), ("struct S#()|", 0, 1_025)],
-        &[("2>>nllc: line 1026: limit structs|", 0, 1)],
+        "2>>nllc: line 1026: limit structs|",
     ),
     (
+        "a type of 4,096 nodes",
         &[
             ("nll-mir 1|let _0: int|let _1: (int", 0, 1),
             (", int", 0, 4_094),
             (")|blocks 1|block bb0|return|end|", 0, 1),
         ],
-        OK,
+        "0>ok|>",
     ),
     (
+        "a node too many",
         &[
             ("nll-mir 1|let _0: int|let _1: (int", 0, 1),
             (", int", 0, 4_095),
             (")|blocks 1|block bb0|return|end|", 0, 1),
         ],
-        &[("2>>nllc: line 3: type size|", 0, 1)],
+        "2>>nllc: line 3: type size|",
     ),
     (
+        "65,536 variables",
         &[
             ("nll-mir 1|", 0, 1),
             ("let _#: int|", 0, 65_536),
             ("blocks 1|block bb0|return|end|", 0, 1),
         ],
-        OK,
+        "0>ok|>",
     ),
     (
+        "a variable too many",
         &[("nll-mir 1|", 0, 1), ("let _#: int|", 0, 65_537)],
-        &[("2>>nllc: line 65538: limit variables|", 0, 1)],
+        "2>>nllc: line 65538: limit variables|",
     ),
     (
+        "a region of a body too many",
         &[("nll-mir 1|", 0, 1), ("region 'r#|", 0, 65_536)],
-        &[("2>>nllc: line 65537: limit regions|", 0, 1)],
+        "2>>nllc: line 65537: limit regions|",
     ),
 ];
 
 // The same of long texts.
-const LONG: &[(&[Piece], &[Piece])] = &[
+const LONG: &[Counted] = &[
     (
-        &[(" ", 0, 67_108_864)],
-        &[("2>>nllc: line 1: header|", 0, 1)],
-    ),
-    (
-        &[(" ", 0, 67_108_865)],
-        &[("2>>nllc: line 1: limit text|", 0, 1)],
-    ),
-    (
+        "1,048,576 constraints",
         &[
             ("nll-facts 1|points 1048576|region '1|", 0, 1),
             ("constraint '1 '1 #|", 0, 1_048_576),
             ("end|", 0, 1),
         ],
-        OK,
+        "0>ok|>",
     ),
     (
+        "a constraint too many",
         &[
             ("nll-facts 1|points 1048576|region '1|", 0, 1),
             ("constraint '1 '1 #|", 0, 1_048_576),
             ("constraint '1 'static 0|end|", 0, 1),
         ],
-        &[("2>>nllc: line 1048580: limit constraints|", 0, 1)],
+        "2>>nllc: line 1048580: limit constraints|",
     ),
-    // A constraint at all points is one more, and repeated it is none.
     (
+        "a constraint at all points is one more",
         &[
             ("nll-facts 2|points 1048576|region '1|", 0, 1),
             ("constraint '1 '1 #|", 0, 1_048_576),
             ("constraint '1 '1 all|end|", 0, 1),
         ],
-        &[("2>>nllc: line 1048580: limit constraints|", 0, 1)],
+        "2>>nllc: line 1048580: limit constraints|",
     ),
     (
+        "a repeated constraint is none",
         &[
             (
                 "nll-facts 2|points 1048576|region '1|constraint '1 '1 all|",
@@ -153,36 +127,26 @@ const LONG: &[(&[Piece], &[Piece])] = &[
             ("constraint '1 '1 #|", 0, 1_048_575),
             ("constraint '1 '1 all|constraint '1 '1 5|end|", 0, 1),
         ],
-        OK,
+        "0>ok|>",
     ),
     (
+        "a point of a body too many",
         &[
             ("nll-mir 1|let _0: int|blocks 1|block bb0|", 0, 1),
             ("nop|", 0, 1_048_576),
             ("return|end|", 0, 1),
         ],
-        &[("2>>nllc: line 1048581: limit points|", 0, 1)],
+        "2>>nllc: line 1048581: limit points|",
     ),
 ];
 
-// Ends the test unless that is what `check` does with a text, both of pieces.
-fn compare_pieces<R: Abort + AllocGlobal + Threads + Wait + Sync>(
-    rt: &R,
-    text: &[Piece],
-    want: &[Piece],
-) {
-    let text = text_of(rt.alloc(), text, "");
-    let want = text_of(rt.alloc(), want, "");
-    compare_run(rt, "check|sheet", (text.as_str(), ""), want.as_str());
-}
-
-// The same of each row.
-fn compare_each<R: Abort + AllocGlobal + Threads + Wait + Sync>(
-    rt: &R,
-    rows: &[(&[Piece], &[Piece])],
-) {
-    for (text, want) in rows {
-        compare_pieces(rt, text, want);
+// Ends the test unless that is what `check` does with each text.
+fn compare_each<R: Abort + AllocGlobal + Threads + Wait + Sync>(rt: &R, rows: &[Counted]) {
+    for (shows, text, want) in rows {
+        let text = text_of(rt.alloc(), text, "");
+        let want = bytes_of(rt, ALONE, want);
+        let told = run_at_desk(rt, "check|sheet", text.as_bytes(), b"");
+        compare(rt, shows, told, want.as_slice());
     }
 }
 
@@ -194,6 +158,24 @@ fn limits_are_kept(rt: HostRuntime) {
 #[test]
 fn limits_of_long_texts_are_kept(rt: HostRuntime) {
     compare_each(&rt, LONG);
+}
+
+// Ends the test unless that is what `check` does with a text of so many blanks.
+fn compare_blanks<R: Abort + AllocGlobal + Threads + Wait + Sync>(
+    rt: &R,
+    bytes: usize,
+    want: &[u8],
+) {
+    let text = Vec::from_elem(rt.alloc(), b' ', bytes).expect(rt, "memory");
+    let told = run_at_desk(rt, "check|sheet", text.as_slice(), b"");
+    compare(rt, "blanks", told, want);
+}
+
+// The text's length is judged before its header.
+#[test]
+fn bytes_are_counted_first(rt: HostRuntime) {
+    compare_blanks(&rt, MAX_TEXT, b"2>>nllc: line 1: header\n");
+    compare_blanks(&rt, MAX_TEXT + 1, b"2>>nllc: line 1: limit text\n");
 }
 
 // Two tuples of 2,047 references each, and as many assignments of one to the other as ask for
@@ -250,6 +232,7 @@ fn compare_edges<R: Abort + AllocGlobal + Threads + Wait + Sync>(
     compare_run(rt, "check|sheet", (text.as_str(), ""), want);
 }
 
+// One edge more than the limit, and one that stands twice.
 #[test]
 fn edges_are_counted(rt: HostRuntime) {
     let limit = "2>>nllc: line 4194307: limit edges\n";

@@ -16,13 +16,6 @@ const VALUES: &[&str] = &[
 
 // Texts, and what the program says of their values, whoever works them out.
 const VALUED: &str = "
-// All that a region holds, from wherever a path would begin.
-points 3|region '1|region '2|next 0 1|next 1 2|return 2|base '1 1|base '1 2|\
-    constraint '2 '1 all ~ 0>'static: 0 1 2 end('static)|'1: 1 2|'2: 1 2|>
-// Also behind a hole.
-points 5|region '1|region '2|next 0 1|next 1 2|next 2 3|next 3 4|return 4|base '1 0|base '1 1|\
-    base '1 3|base '1 4|constraint '2 '1 all ~ \
-    0>'static: 0 1 2 3 4 end('static)|'1: 0 1 3 4|'2: 0 1 3 4|>
 // Without an edge.
 points 2|region '1|region '2|base '1 1|constraint '2 '1 all ~ \
     0>'static: 0 1 end('static)|'1: 1|'2: 1|>
@@ -48,14 +41,9 @@ points 2|region '1|base '1 1|constraint '1 '1 all ~ 0>'static: 0 1 end('static)|
 
 // Texts, and what the program says of their faults.
 const CHECKED: &str = "
-// Round a circle of points without a return point: at a point there is no fault.
-nll-facts 2|points 2|universal 'a|universal 'b|next 0 1|next 1 0|constraint 'a 'b all|end| ~ \
-    1>fault 'a must outlive 'b|>
+// Round a circle of points without a return point there is no fault at a point.
 nll-facts 2|points 2|universal 'a|universal 'b|next 0 1|next 1 0|constraint 'a 'b 0|end| ~ 0>ok|>
 nll-facts 2|points 2|universal 'a|universal 'b|outlives 'a 'b|constraint 'a 'b all|end| ~ 0>ok|>
-// In version 1 there are no constraints at all points.
-nll-facts 1|points 3|region '1|region '2|next 0 1|next 1 2|return 2|base '1 1|base '1 2|\
-    constraint '2 '1 all|end| ~ 2>>nllc: line 10: syntax|
 ";
 
 #[test]

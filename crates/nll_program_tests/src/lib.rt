@@ -5,7 +5,7 @@
 //! contract says then what they hold.
 //!
 //! Reading order: `known`, `rows`, `notes`, `comparison`, `problem_text`, `answers`, `fakes`,
-//! `program`, then each further module of tests.
+//! `program`, `examples`, then each further module of tests.
 #![tactic(auto)]
 
 mod known;
@@ -24,6 +24,8 @@ mod borders;
 mod comparison;
 #[cfg(test)]
 mod everywhere;
+#[cfg(test)]
+mod examples;
 #[cfg(test)]
 mod failed_writes;
 #[cfg(test)]
@@ -60,3 +62,9 @@ mod rows;
 mod values;
 #[cfg(test)]
 mod words;
+#[cfg(test)]
+mod worked_bodies;
+#[cfg(test)]
+mod worked_facts;
+#[cfg(test)]
+mod worked_owners;

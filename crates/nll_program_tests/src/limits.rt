@@ -2,7 +2,6 @@
 use super::answers::answer_to;
 use super::comparison::compare;
 use super::notes::{count, say};
-use nll_format::MAX_TEXT;
 use nll_report::Command;
 use std::alloc::Global;
 use std::process::Abort;
@@ -51,38 +50,14 @@ fn compare_declaring<R: Abort + AllocGlobal + Threads + Wait + Sync>(
 #[test]
 fn refuses_declarations_past_the_limits(rt: HostRuntime) {
     let universal = ("universal 'r", 255);
-    compare_declaring(&rt, universal, "end\n", "ok\n");
     compare_declaring(&rt, universal, "region 'x\nbase 'x 0\nend\n", "ok\n");
-    let limit = "line 258: Limit(Universals)";
-    compare_declaring(&rt, universal, "universal 'x\nend\n", limit);
     let duplicate = "line 258: Duplicate";
     compare_declaring(&rt, universal, "universal 'static\nend\n", duplicate);
     compare_declaring(&rt, universal, "universal\n", "line 258: Syntax");
     let region = ("region 'r", 65_535);
     compare_declaring(&rt, region, "base 'r65534 0\nend\n", "ok\n");
-    let limit = "line 65538: Limit(Regions)";
-    compare_declaring(&rt, region, "region 'x\nend\n", limit);
     let duplicate = "line 65538: Duplicate";
     compare_declaring(&rt, region, "region 'r0\nend\n", duplicate);
-}
-
-// What is answered to a text of so many blanks.
-fn compare_blanks<R: Abort + AllocGlobal + Threads + Wait + Sync>(
-    rt: &R,
-    bytes: usize,
-    want: &[u8],
-) {
-    let text = Vec::from_elem(rt.alloc(), b' ', bytes).expect(rt, "memory");
-    let told = answer_to(rt.alloc(), Command::Check, text.as_slice());
-    drop(text);
-    compare(rt, "blanks", told, want);
-}
-
-// The text's length is judged before its header.
-#[test]
-fn refuses_a_long_text(rt: HostRuntime) {
-    compare_blanks(&rt, MAX_TEXT, b"line 1: Header");
-    compare_blanks(&rt, MAX_TEXT + 1, b"line 1: Limit(Text)");
 }
 
 // The letters of which there are a mebibyte where they stand 16,384 times.

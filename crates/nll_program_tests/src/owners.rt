@@ -1,7 +1,6 @@
 //! The program where owners are asked for.
-use super::program::NEVER;
-use super::rows::{ALONE, Asked, compare_row, compare_rows, compare_same};
-use nll_worked_texts::TWO_BORROWS;
+use super::program::{NEVER, USAGE_LINE};
+use super::rows::{ALONE, Asked, compare_rows, compare_same};
 
 // Words that ask for the values of the chain, by owners of all numbers and deals.
 const CHAIN: &str = "
@@ -43,13 +42,11 @@ check|healed|--owners|16 ~ 0>ok|>
 
 // Words whose file or cut file is refused, and what the program does with them.
 const REFUSED: &str = "
-values|chain|--owners|16|--cut|stranger ~ 2>>nllc: cut: no such owner at 1|
 check|chain|--owners|16|--cut|stranger ~ 2>>nllc: cut: no such owner at 1|
 values|chain|--owners|16|--cut|strangers ~ 2>>nllc: cut: no such owner at 0|
 values|chain|--owners|17|--cut|strangers ~ 2>>nllc: cut: no such owner at 2|
 // There is one owner where no number is given.
 values|chain|--cut|two ~ 2>>nllc: cut: no such owner at 0|
-values|chain|--owners|2|--cut|short ~ 2>>nllc: cut: length|
 values|chain|--owners|2|--cut|none ~ 2>>nllc: cut: length|
 // The length comes before an entry that names no owner.
 values|chain|--owners|2|--cut|long ~ 2>>nllc: cut: length|
@@ -70,8 +67,6 @@ values|one|--owners|2 ~ 2>>nllc: line 1: header|
 
 // Words that are no line.
 const NO_LINES: &str = "
-values|chain|--owners|65
-values|chain|--owners|0
 values|chain|--owners|02
 values|chain|--owners|two
 values|chain|--owners
@@ -80,9 +75,6 @@ values|chain|--owners|2|--deal|turns
 values|chain|--owners|3|--deal|round|--cut|one
 values|chain|--owners|2|--mail|rings
 ";
-
-const USAGE_LINE: &str = "2>>usage: nllc values!check!replay FILE \
-    [--owners N] [--deal round!blocks] [--cut FILE] [--mail queue!ring] [--schedule FILE]|";
 
 // The report of owners is that of one thread, however the regions are dealt to them.
 #[test]
@@ -98,18 +90,4 @@ fn cuts_are_refused(rt: HostRuntime) {
     let program = Asked::Program(NEVER, NEVER);
     compare_rows(&rt, program, REFUSED);
     compare_same(&rt, program, ALONE, USAGE_LINE, NO_LINES);
-}
-
-// A MIR text with owners.
-const BORROWED: &str = "0>'static: bb0/0 bb0/1 bb1/0 bb1/1 bb1/2 bb2/0 bb2/1 end('static)|\
-    'p: bb0/1 bb1/0 bb1/2 bb2/0|'foo: bb0/1 bb1/0 bb2/0|'bar: bb1/2 bb2/0|>";
-
-#[test]
-fn owners_answer_mir_texts(rt: HostRuntime) {
-    let values = Asked::Run("values|sheet|--owners|3");
-    compare_row(&rt, values, ALONE, TWO_BORROWS, BORROWED);
-    let values = Asked::Run("values|sheet|--owners|2|--deal|blocks");
-    compare_row(&rt, values, ALONE, TWO_BORROWS, BORROWED);
-    let check = Asked::Run("check|sheet|--owners|4");
-    compare_row(&rt, check, ALONE, TWO_BORROWS, "0>ok|>");
 }

@@ -127,7 +127,6 @@ check|missing ~ 2>>nllc: cannot read missing|
 values| ~ 2>>nllc: cannot read |
 values|large ~ 3>>nllc: memory|
 check|large ~ 3>>nllc: memory|
-values|empty ~ 2>>nllc: line 1: header|
 values|utf ~ 2>>nllc: line 3: not utf-8|
 values|syntax ~ 2>>nllc: line 3: syntax|
 check|unknown ~ 2>>nllc: line 3: unknown|
@@ -137,7 +136,7 @@ values|points ~ 2>>nllc: line 3: limit points|
 check|end ~ 2>>nllc: line 4: end|
 ";
 
-// Words that are none of the forms, and what the program does with them.
+// Words that are none of the forms.
 const NO_LINES: &str = "
  ~ usage
 values
@@ -145,7 +144,8 @@ replay|chain
 values|a|b
 ";
 
-const USAGE_LINE: &str = "2>>usage: nllc values!check!replay FILE \
+/// What the program does with words that are none of the forms.
+pub const USAGE_LINE: &str = "2>>usage: nllc values!check!replay FILE \
     [--owners N] [--deal round!blocks] [--cut FILE] [--mail queue!ring] [--schedule FILE]|";
 
 // Words that ask for help, and its end.

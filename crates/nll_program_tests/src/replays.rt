@@ -1,6 +1,6 @@
 //! Replays of schedules, and what is told where there is none.
 use super::notes::say;
-use super::program::NEVER;
+use super::program::{NEVER, USAGE_LINE};
 use super::rows::{ALONE, Around, Asked, compare_row, compare_rows, compare_same, compare_within};
 use nll_worked_texts::TWO_BORROWS;
 use std::process::Abort;
@@ -93,10 +93,8 @@ fn replays_event_by_event(rt: HostRuntime) {
     }
 }
 
-// Schedules of one owner of the chain. It may leave only once its load is cleared.
+// A schedule of one owner of the chain, who can do nothing before the load.
 const CHAIN: &str = "
-load 0|owe 0|leave 0|clear 0|leave 0|load 0 ~ 0>1 done|2 done|3 not now|4 done|5 quiet|6 not now|\
-balance 0|'static: 0 1 2 end('static)|'1: 1 2|'2: 1 2|>
 leave 0|take 0 0|push 0 0|clear 0|owe 0| ~ 0>1 not now|2 not now|3 not now|4 not now|5 not now|\
 balance 1|'static:|'1:|'2:|>
 ";
@@ -105,7 +103,6 @@ balance 1|'static:|'1:|'2:|>
 // one owner, and the regions are dealt in turns where nothing else is said.
 const REPLAYED: &str = "
 replay|circle|--schedule|still ~ 0>balance 1|'static:|'1:|'2:|>
-replay|circle|--schedule|still|--owners|2 ~ 0>balance 2|'static:|'1:|'2:|>
 replay|--owners=64|--schedule=still|--|circle ~ 0>balance 64|'static:|'1:|'2:|>
 replay|circle|--schedule|first ~ 0>1 done|balance 1|'static: 0 1 end('static)|'1: 0 1|'2: 0 1|>
 replay|circle|--schedule|first|--owners|2 ~ 0>1 done|balance 2|'static: 0 1 end('static)|'1:|'2: 1|>
@@ -162,9 +159,6 @@ replay|--schedule|first
 values|circle|--schedule|first
 check|circle|--schedule|first
 ";
-
-const USAGE_LINE: &str = "2>>usage: nllc values!check!replay FILE \
-    [--owners N] [--deal round!blocks] [--cut FILE] [--mail queue!ring] [--schedule FILE]|";
 
 // A MIR text is replayed as well.
 const BORROWED: &str = "0>1 done|balance 1|\

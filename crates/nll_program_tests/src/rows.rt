@@ -58,8 +58,8 @@ fn put_meant(rt: &impl Abort, out: &mut Vec<u8>, row: &str) {
     }
 }
 
-// The bytes that some of a row stands for, and what stands around it.
-fn bytes_of<R: Abort + AllocGlobal + Threads + Wait + Sync>(
+/// The bytes that some of a row stands for, and what stands around it.
+pub fn bytes_of<R: Abort + AllocGlobal + Threads + Wait + Sync>(
     rt: &R,
     (front, back): Around<'_>,
     row: &str,

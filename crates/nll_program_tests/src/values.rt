@@ -8,23 +8,12 @@ use std::thread::Threads;
 // No region but 'static: it holds every point and its end.
 const STATIC: &str = "
 points 1 ~ 'static: 0 end('static)|
-points 1|return 0 ~ 'static: 0 end('static)|
 points 3 ~ 'static: 0 1 2 end('static)|
 points 12|next 11 0 ~ 'static: 0 1 2 3 4 5 6 7 8 9 10 11 end('static)|
 ";
 
 // A constraint asks for what paths from its point reach without leaving the other region.
 const PATHS: &str = "
-// From a point of the region on.
-points 3|region '1|region '2|next 0 1|next 1 2|return 2|base '1 1|base '1 2|constraint '2 '1 1 ~ \
-    'static: 0 1 2 end('static)|'1: 1 2|'2: 1 2|
-// From a point outside it.
-points 3|region '1|region '2|next 0 1|next 1 2|return 2|base '1 1|base '1 2|constraint '2 '1 0 ~ \
-    'static: 0 1 2 end('static)|'1: 1 2|'2:|
-// Up to a hole.
-points 5|region '1|region '2|next 0 1|next 1 2|next 2 3|next 3 4|return 4|base '1 0|base '1 1|\
-    base '1 3|base '1 4|constraint '2 '1 0 ~ \
-    'static: 0 1 2 3 4 end('static)|'1: 0 1 3 4|'2: 0 1|
 // A point that is reached through another region alone.
 points 3|region '1|region '2|region '3|next 0 1|next 1 2|return 2|base '1 0|base '1 2|base '3 1|\
     constraint '2 '1 0|constraint '2 '3 0 ~ \
@@ -40,22 +29,11 @@ points 2|region '1|region '2|next 1 0|base '1 0|base '1 1|constraint '2 '1 0 ~ \
 
 // What a region gains is passed on, whatever the order of the lines, and in circles.
 const GAINS: &str = "
-// A circle of points without a return.
-points 2|region '1|region '2|next 0 1|next 1 0|base '1 1|constraint '2 '1 1|constraint '1 '1 0 ~ \
-    'static: 0 1 end('static)|'1: 1|'2: 1|
 // All of a circle of points.
 points 3|region '1|region '2|next 0 1|next 1 2|next 2 0|base '1 0|base '1 1|base '1 2|\
     constraint '2 '1 1 ~ \
     'static: 0 1 2 end('static)|'1: 0 1 2|'2: 0 1 2|
-// A circle of regions.
-points 2|region '1|region '2|next 0 1|return 1|base '1 0|base '2 1|constraint '2 '1 0|\
-    constraint '1 '2 0 ~ \
-    'static: 0 1 end('static)|'1: 0 1|'2: 0 1|
-// A hole that is filled later than it was met.
-points 3|region '1|region '2|region '3|next 0 1|next 1 2|return 2|base '1 0|base '1 2|base '3 1|\
-    constraint '1 '3 1|constraint '2 '1 0 ~ \
-    'static: 0 1 2 end('static)|'1: 0 1 2|'2: 0 1 2|'3: 1|
-// The same, with the lines of the last group in another order, and some of them twice.
+// A hole that is filled later than it was met, by lines in any order, some of them twice.
 points 3|region '1|region '2|region '3|constraint '2 '1 0|constraint '1 '3 1|base '3 1|base '1 2|\
     base '1 0|return 2|next 1 2|next 0 1|next 0 1|base '3 1|return 2|constraint '2 '1 0 ~ \
     'static: 0 1 2 end('static)|'1: 0 1 2|'2: 0 1 2|'3: 1|
@@ -70,8 +48,6 @@ const ENDS: &str = "
 // Universal regions stand first, without any line about them.
 points 2|universal 'b|universal 'a|region 'r ~ \
     'static: 0 1 end('static)|'b: 0 1 end('b)|'a: 0 1 end('a)|'r:|
-points 2|universal 'a|universal 'b|next 0 1|return 1|constraint 'a 'b 0 ~ \
-    'static: 0 1 end('static)|'a: 0 1 end('a) end('b)|'b: 0 1 end('b)|
 // Without a return.
 points 2|universal 'a|universal 'b|next 0 1|next 1 0|constraint 'a 'b 0 ~ \
     'static: 0 1 end('static)|'a: 0 1 end('a)|'b: 0 1 end('b)|

@@ -23,8 +23,8 @@ use Rattle.nll_answer.specs.declared.error.AnswerError.{AnswerError}
 use Rattle.nll_answer.specs.declared.error.AnswerError.TheVariants as answer
 use Rattle.nll_command_line.specs.Options.{Said}
 use Rattle.nll_command_line.specs.declared.options.Deal.{Deal}
-use Rattle.nll_report.specs.Owners.{AsksForOwners, IsCutFileRefused, IsCutRefused, IsCutTextRefused, IsFileMeaning, IsOwnersRefused, IsWorkRefused, count_of, deal_of}
-use Rattle.nll_report.specs.Run.{AreOwnersRefused, IsFileAnswer, IsFileRefused}
+use Rattle.nll_report.specs.Owners.{AsksForOwners, IsAskedCut, IsCutFileRefused, IsCutRefused, IsCutTextRefused, IsFileTold, IsOwnersRefused, IsWorkRefused, count_of, deal_of}
+use Rattle.nll_report.specs.Run.{AreOwnersRefused, IsAskedAnswer, IsFileAnswer, IsFileRefused}
 use Rattle.nll_report.specs.Refusal.{IsCutRefusal, cut_refusal_at, refusal_of}
 use Rattle.nll_report.specs.Texts.{Holds, Lacks}
 use Rattle.nll_report.specs.declared.messages.Refusal.{Refusal}
@@ -246,19 +246,24 @@ cut_told holds lacks q count how path (CutText line k) h = h
 cut_told holds lacks q count how path CutLength h = h
 cut_told holds lacks q count how path (NoSuchOwner index) h = h
 cut_told holds lacks q count how path (ScheduleText line k) h = h
-cut_told holds lacks q count how path Thread h = tt
+cut_told holds lacks q count how None Thread h = absurd (true≢false (sym (ap is_wanting h)))
+cut_told holds lacks q count how (Some path) Thread h = absurd (true≢false (sym (ap is_wanting h.2)))
 cut_told holds lacks q count how path Memory h = tt
 cut_told holds lacks q count how path CannotWrite h = h
 
--- and so is why a run is refused
-pub run_told : (holds : Holds) (lacks : Lacks) (q : Problem) (count : ℕ) (how : Deal) (path : Option (List ℕ))
-    (e : AnswerError)
-    → IsRunError e → IsWorkRefused holds lacks q count how path (refusal_of e)
-run_told holds lacks q count how path (answer.Text error) h = absurd h
-run_told holds lacks q count how path (answer.Rule error) h = absurd h
-run_told holds lacks q count how path (answer.Run run.Thread) h = tt
-run_told holds lacks q count how path (answer.Run run.Memory) h = absurd h
-run_told holds lacks q count how path answer.Memory h = tt
+-- and so is why a run by the cut that is asked for is refused
+module _ (holds : Holds) (lacks : Lacks) (q : Problem) (count : ℕ) (how : Deal) (path : Option (List ℕ)) (c : Cut)
+    (asked : IsAskedCut holds q.regions count how path c) where
+  told_as_run : (e : AnswerError) → IsRunError e → IsWorkRefused holds lacks q count how path (refusal_of e)
+  told_as_run (answer.Text error) h = absurd h
+  told_as_run (answer.Rule error) h = absurd h
+  told_as_run (answer.Run run.Thread) h = (c, asked)
+  told_as_run (answer.Run run.Memory) h = absurd h
+  told_as_run answer.Memory h = tt
+
+  pub run_told : (e : AnswerError) (refusal : Refusal) → refusal ≡ refusal_of e → IsRunError e
+      → IsWorkRefused holds lacks q count how path refusal
+  run_told e refusal is h = subst (IsWorkRefused holds lacks q count how path) (sym is) (told_as_run e h)
 
 -- ---- what a line asks for
 
@@ -281,12 +286,30 @@ owners_told holds lacks file said n deal path e is_count is_deal is_path asks = 
           (subst (λ p. IsOwnersRefused holds lacks file n deal p e) is_path h)),
     ))
 
-pub file_answer : (holds : Holds) (file : List ℕ) (command : Command) (q : Problem) (labels : Labels) (report : List ℕ)
-    (status : ℕ)
-    → IsFileMeaning holds file q labels → IsProblemAnswer command q labels report status
-    → IsFileAnswer holds command file report status
-file_answer holds file command q labels report status means h = record {
-  text = means.text;
-  held = means.held;
-  answer = record { problem = q; labels = labels; meaning = means.meaning; answer = h };
-}
+-- ---- what a line's owners answer
+
+module _ (holds : Holds) (file : List ℕ) (command : Command) (said : Said) (report : List ℕ) (status : ℕ) where
+  abbrev pub Answered : Problem → Labels → Cut → Type 0
+  Answered q labels _ = IsProblemAnswer command q labels report status
+
+  -- the owners of the cut that is asked for
+  pub owners_answer : (n : ℕ) (deal : Deal) (path : Option (List ℕ))
+      → n ≡ count_of said.owners → deal ≡ deal_of said.deal → path ≡ said.cut
+      → IsFileTold holds file n deal path Answered
+      → IsAskedAnswer holds command file said report status
+  owners_answer n deal path is_count is_deal is_path h = (
+    record {
+      text = h.meaning.text;
+      held = h.meaning.held;
+      answer = record { problem = h.problem; labels = h.labels; meaning = h.meaning.meaning; answer = h.by.told };
+    },
+    λ asks. subst (λ m. IsFileTold holds file m (deal_of said.deal) said.cut Answered) is_count
+        (subst (λ d. IsFileTold holds file n d said.cut Answered) is_deal
+        (subst (λ p. IsFileTold holds file n deal p Answered) is_path h)),
+  )
+
+  -- where there are none, the answer alone
+  pub one_answers : said.owners ≡ None → said.cut ≡ None
+      → IsFileAnswer holds command file report status → IsAskedAnswer holds command file said report status
+  one_answers no_count no_path h =
+      (h, λ asks. absurd (subst (AsksForOwners None) no_path (subst (λ n. AsksForOwners n said.cut) no_count asks)))

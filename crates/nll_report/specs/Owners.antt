@@ -65,6 +65,29 @@ abbrev pub IsAskedCut : Holds → ℕ → ℕ → Deal → Option (List ℕ) →
 IsAskedCut holds regions count how (Some path) c = IsListedCut holds regions count path c
 IsAskedCut holds regions count how None c = IsDealtCut regions count how c
 
+-- A text of the file means a problem.
+pub record IsFileMeaning (holds : Holds) (file : List ℕ) (problem : Problem) (labels : Labels)
+    : Type 0 where
+  pub text : List ℕ
+  pub held : holds file text
+  pub meaning : IsMeaning text problem labels
+
+-- There is the cut of so many regions that is asked for, and what is told holds of it.
+pub record HasAskedCut (holds : Holds) (regions count : ℕ) (how : Deal) (path : Option (List ℕ))
+    (Told : Cut → Type 0) : Type 0 where
+  pub cut : Cut
+  pub asked : IsAskedCut holds regions count how path cut
+  pub told : Told cut
+
+-- A text of the file means a problem, there is the cut of its regions that is asked for, and what
+-- is told holds of the problem, its labels and this cut.
+pub record IsFileTold (holds : Holds) (file : List ℕ) (count : ℕ) (how : Deal)
+    (path : Option (List ℕ)) (Told : Problem → Labels → Cut → Type 0) : Type 0 where
+  pub problem : Problem
+  pub labels : Labels
+  pub meaning : IsFileMeaning holds file problem labels
+  pub by : HasAskedCut holds problem.regions count how path (Told problem labels)
+
 -- ---- why there is no cut
 
 -- The text lists owners, and this is why its list is no cut of so many regions among so many
@@ -99,20 +122,14 @@ IsCutRefused holds lacks regions count None refusal = refusal ≡ Memory
 -- ---- why owners give no report
 
 -- the refusal tells the truth of the cut or of the owners at work; that a thread couldn't be
--- started, or that memory was refused, says nothing of the texts
+-- started says that the cut is there, and that memory was refused says nothing of the texts
 abbrev pub IsWorkRefused : Holds → Lacks → Problem → ℕ → Deal → Option (List ℕ) → Refusal
     → Type 0
-IsWorkRefused holds lacks q count how path Thread = Unit {0}
+IsWorkRefused holds lacks q count how path Thread =
+    (cut : Cut) × IsAskedCut holds q.regions count how path cut
 IsWorkRefused holds lacks q count how path Memory = Unit {0}
 IsWorkRefused holds lacks q count how path other =
     IsCutRefused holds lacks q.regions count path other
-
--- A text of the file means a problem.
-pub record IsFileMeaning (holds : Holds) (file : List ℕ) (problem : Problem) (labels : Labels)
-    : Type 0 where
-  pub text : List ℕ
-  pub held : holds file text
-  pub meaning : IsMeaning text problem labels
 
 -- A text of the file means a problem, and the refusal tells the truth of the cut of its regions or
 -- of the owners at work on it. So the file is dealt with wholly before the cut file.

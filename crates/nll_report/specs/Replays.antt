@@ -9,7 +9,7 @@ use Rattle.nll_event.specs.declared.event.Event.{Event}
 use Rattle.nll_schedule_text.specs.ScheduleText.{schedule, Means}
 use Rattle.nll_replay.specs.ReplayReport.{IsReplayReport}
 use Rattle.nll_command_line.specs.declared.options.Deal.{Deal}
-use Rattle.nll_report.specs.Owners.{IsAskedCut, IsCutRefused, IsFileMeaning}
+use Rattle.nll_report.specs.Owners.{IsAskedCut, IsCutRefused, IsFileMeaning, IsFileTold}
 use Rattle.nll_report.specs.Texts.{Holds, Lacks}
 use Rattle.nll_report.specs.declared.messages.Refusal.{Refusal}
 use Rattle.nll_report.specs.declared.messages.Refusal.TheVariants.{CannotRead, ScheduleText}
@@ -20,25 +20,20 @@ abbrev pub IsListedSchedule : Holds → List ℕ → ℕ → List Event → Type
 IsListedSchedule holds path count events =
     (text : List ℕ) × holds path text × Means count text events
 
--- The cut of the problem's regions is the one that is asked for, a text of the schedule's file
--- lists events of so many owners, and the report is that of their replay.
-pub record IsAskedReplay (holds : Holds) (problem : Problem) (labels : Labels) (count : ℕ)
-    (how : Deal) (path : Option (List ℕ)) (schedule report : List ℕ) : Type 0 where
-  pub cut : Cut
-  pub asked : IsAskedCut holds problem.regions count how path cut
-  pub events : List Event
-  pub listed : IsListedSchedule holds schedule count events
-  pub replayed : IsReplayReport problem labels cut events report
+-- a text of the schedule's file lists events of so many owners, and the report is that of their
+-- replay by the owners of this cut of the problem's regions
+abbrev pub IsListedReplay : Holds → ℕ → List ℕ → List ℕ → Problem → Labels → Cut → Type 0
+IsListedReplay holds count schedule report problem labels cut =
+    (events : List Event) × IsListedSchedule holds schedule count events
+    × IsReplayReport problem labels cut events report
 
--- A text of the file means a problem, and the report is that of the replay that is asked for; the
--- status is 0.
-pub record IsFileReplay (holds : Holds) (file : List ℕ) (count : ℕ) (how : Deal)
-    (path : Option (List ℕ)) (schedule report : List ℕ) (status : ℕ) : Type 0 where
-  pub problem : Problem
-  pub labels : Labels
-  pub meaning : IsFileMeaning holds file problem labels
-  pub replay : IsAskedReplay holds problem labels count how path schedule report
-  pub told : status ≡ 0
+-- a text of the file means a problem, and the report is that of the replay that is asked for, by
+-- the owners of the cut that is asked for; the status is 0
+abbrev pub IsFileReplay : Holds → List ℕ → ℕ → Deal → Option (List ℕ) → List ℕ → List ℕ → ℕ
+    → Type 0
+IsFileReplay holds file count how path schedule report status =
+    IsFileTold holds file count how path (IsListedReplay holds count schedule report)
+    × (status ≡ 0)
 
 -- ---- why there is no replay
 

@@ -15,7 +15,7 @@ use Rattle.nll_body_problem.specs.declared.error.RuleError.TheVariants as rule
 use Rattle.nll_answer.specs.declared.error.AnswerError.TheVariants as answer
 use Rattle.nll_command_line.specs.declared.task.Task.{Task}
 use Rattle.nll_command_line.specs.declared.task.Task.TheVariants.{Values, Check, Replay}
-use Rattle.nll_answer.specs.Answer.{IsAnswer}
+use Rattle.nll_answer.specs.Answer.{IsAnswer, IsProblemAnswer}
 use Rattle.nll_answer.specs.Texts.{IsTextFault, IsAnswerError}
 use Rattle.nll_command_line.specs.CommandLine.{AsksPlainlyForHelp, IsLine, IsNoPlainLine}
 use Rattle.nll_command_line.specs.Options.{AreRead, IsNoSuitedLine, Said, Suits}
@@ -23,7 +23,8 @@ use Rattle.nll_command_line.specs.Help.{help_for}
 use Rattle.nll_command_line.specs.declared.error.LineError.{LineError}
 use Rattle.nll_command_line.specs.declared.error.LineError.TheVariants as line
 use Rattle.nll_command_line.specs.Grammar.{AsksForHelp}
-use Rattle.nll_report.specs.Owners.{AsksForOwners, IsOwnersRefused, count_of, deal_of}
+use Rattle.nll_report.specs.Owners.{AsksForOwners, IsFileTold, IsOwnersRefused}
+use Rattle.nll_report.specs.Owners.{count_of, deal_of}
 use Rattle.nll_report.specs.Replays.{IsFileReplay, IsFileReplayRefused}
 use Rattle.nll_report.specs.Sink.{IsCut}
 use Rattle.nll_report.specs.Texts.{Holds, Lacks}
@@ -39,13 +40,22 @@ pub record IsFileAnswer (holds : Holds) (asked : Command) (file report : List �
   pub held : holds file text
   pub answer : IsAnswer asked text report status
 
+-- the report and the status answer the command on the file; and where owners are asked for, they
+-- answer it by the cut that is asked for of the regions of a problem that a text of the file means
+abbrev pub IsAskedAnswer : Holds → Command → List ℕ → Said → List ℕ → ℕ → Type 0
+IsAskedAnswer holds asked file said report status =
+    IsFileAnswer holds asked file report status
+    × (AsksForOwners said.owners said.cut → IsFileTold holds file
+    (count_of said.owners) (deal_of said.deal) said.cut
+    (λ problem labels cut. IsProblemAnswer asked problem labels report status))
+
 -- the report and the status answer the task on the file: its values or faults, or the replay of the
--- schedule that the options give, by the owners that they ask for
+-- schedule that the options give; where the options ask for owners, by the cut that they ask for
 abbrev pub IsTaskAnswer : Holds → Task → List ℕ → Said → List ℕ → ℕ → Type 0
 IsTaskAnswer holds Values file said report status =
-    IsFileAnswer holds command.Values file report status
+    IsAskedAnswer holds command.Values file said report status
 IsTaskAnswer holds Check file said report status =
-    IsFileAnswer holds command.Check file report status
+    IsAskedAnswer holds command.Check file said report status
 IsTaskAnswer holds Replay file said report status =
     (path : List ℕ) × (said.schedule ≡ Some path) × IsFileReplay holds file
     (count_of said.owners) (deal_of said.deal) said.cut path report status

@@ -5,12 +5,12 @@ ghost use Rattle.nll_cut.specs.Partition.{cut_of, list_error, may_be_count};
 ghost use Rattle.nll_cut.specs.declared.error.CutError.{CutError};
 ghost use Rattle.nll_answer.specs.Answer.{IsProblemAnswer};
 ghost use Rattle.nll_answer.specs.Running.{IsRunError};
-ghost use Rattle.nll_report.specs.Owners.{AsksForOwners, IsAskedCut, IsCutFileRefused};
-ghost use Rattle.nll_report.specs.Owners.{IsCutRefused, IsCutTextRefused, IsDealtCut};
-ghost use Rattle.nll_report.specs.Owners.{IsListedCut, IsOwnersRefused, IsTextCut};
-ghost use Rattle.nll_report.specs.Owners.{IsWorkRefused, count_of, deal_of, mail_of};
+ghost use Rattle.nll_report.specs.Owners.{AsksForOwners, HasAskedCut, IsAskedCut};
+ghost use Rattle.nll_report.specs.Owners.{IsCutFileRefused, IsCutRefused, IsCutTextRefused};
+ghost use Rattle.nll_report.specs.Owners.{IsDealtCut, IsFileTold, IsListedCut, IsOwnersRefused};
+ghost use Rattle.nll_report.specs.Owners.{IsTextCut, IsWorkRefused, count_of, deal_of, mail_of};
 ghost use Rattle.nll_report.specs.Refusal.{IsCutRefusal, cut_refusal_at};
-ghost use Rattle.nll_report.specs.Run.{IsFileAnswer, IsFileRefused};
+ghost use Rattle.nll_report.specs.Run.{IsFileRefused};
 
 use crate::file_text::{facts_of, without_text};
 use crate::messages::Refusal;
@@ -92,8 +92,9 @@ pub(crate) fn answered_by_owners<R: AllocGlobal + Threads + Wait + Sync, T: Text
     texts: &T,
 ) -> Result<(Vec<u8>, u8), Refusal>
     requires { may_be_count owners.cut.count ≡ true }
-    ensures ok { IfOk result (λ r.
-        IsFileAnswer (T.holds texts.now) command (string_bytes file) r.0.items r.1) }
+    ensures ok { IfOk result (λ r. IsFileTold (T.holds texts.now) (string_bytes file)
+        owners.cut.count owners.cut.deal (option_map string_bytes owners.cut.path)
+        (λ problem labels _. IsProblemAnswer command problem labels r.0.items r.1)) }
     ensures status { IfOk result (λ r. r.1 ≤ 1) }
     ensures err { IfErr result (λ e.
         IsFileRefused (T.holds texts.now) (T.lacks texts.now) (string_bytes file) e
@@ -106,7 +107,7 @@ pub(crate) fn answered_by_owners<R: AllocGlobal + Threads + Wait + Sync, T: Text
     told
 }
 
-// The answer to a command on a problem and its labels.
+// The answer to a command on a problem and its labels, by the owners of the cut that is asked for.
 fn told_by_owners<R: AllocGlobal + Threads + Wait + Sync, T: Texts>(
     rt: &R,
     command: Command,
@@ -116,8 +117,9 @@ fn told_by_owners<R: AllocGlobal + Threads + Wait + Sync, T: Texts>(
 ) -> Result<(Vec<u8>, u8), Refusal>
     requires named { length facts.now.labels.names ≡ facts.now.problem.regions }
     requires lawful { may_be_count owners.cut.count ≡ true }
-    ensures ok { IfOk result (λ r.
-        IsProblemAnswer command facts.now.problem facts.now.labels r.0.items r.1) }
+    ensures ok { IfOk result (λ r. HasAskedCut (T.holds texts.now) facts.now.problem.regions
+        owners.cut.count owners.cut.deal (option_map string_bytes owners.cut.path)
+        (λ _. IsProblemAnswer command facts.now.problem facts.now.labels r.0.items r.1)) }
     ensures status { IfOk result (λ r. r.1 ≤ 1) }
     ensures err { IfErr result (IsWorkRefused (T.holds texts.now) (T.lacks texts.now)
         facts.now.problem owners.cut.count owners.cut.deal

@@ -6,9 +6,9 @@ ghost use Rattle.nll_command_line.specs.Options.{Suits, said_by};
 ghost use Rattle.nll_problem.specs.Limits.{most_owners};
 ghost use Rattle.nll_report.specs.declared.messages.Refusal.{Refusal};
 ghost use Rattle.nll_report.specs.Refusal.{refusal_line, status_of};
-ghost use Rattle.nll_report.specs.Run.{AreOwnersRefused, IsBegun, IsFileAnswer, IsFileRefused};
-ghost use Rattle.nll_report.specs.Run.{IsHelpOf, IsPrinted, IsRefusalOf, IsRefused, IsRun};
-ghost use Rattle.nll_report.specs.Run.{IsTaskAnswer, IsTaskRefused, Words};
+ghost use Rattle.nll_report.specs.Run.{AreOwnersRefused, IsAskedAnswer, IsBegun, IsFileAnswer};
+ghost use Rattle.nll_report.specs.Run.{IsFileRefused, IsHelpOf, IsPrinted, IsRefusalOf};
+ghost use Rattle.nll_report.specs.Run.{IsRefused, IsRun, IsTaskAnswer, IsTaskRefused, Words};
 ghost use Rattle.nll_report.specs.Sink.{IsCut, IsPut};
 ghost use Rattle.nll_report.specs.Texts.{holds_anything, lacks_anything};
 
@@ -174,8 +174,8 @@ fn solved<R: AllocGlobal + Threads + Wait + Sync, T: Texts>(
     texts: &T,
 ) -> Result<(Vec<u8>, u8), Refusal>
     requires { IfSome line.owners (λ n. (0 < n) × (n ≤ most_owners)) }
-    ensures ok { IfOk result (λ r.
-        IsFileAnswer (T.holds texts.now) command (string_bytes line.file) r.0.items r.1) }
+    ensures ok { IfOk result (λ r. IsAskedAnswer (T.holds texts.now) command
+        (string_bytes line.file) (said_by line) r.0.items r.1) }
     ensures status { IfOk result (λ r. r.1 ≤ 1) }
     ensures err { IfErr result (λ e.
         IsFileRefused (T.holds texts.now) (T.lacks texts.now) (string_bytes line.file) e

@@ -1,15 +1,14 @@
 //! The replay of a schedule over the text of a file. No thread is started for it.
-ghost use Rattle.std.specs.Prelude.{◌≡◌, ◌≢◌, ◌⊎◌, ◌<◌, ◌≤◌, List, None, true, length, option_map};
+ghost use Rattle.std.specs.Prelude.{◌≡◌, ◌≢◌, ◌⊎◌, ◌<◌, ◌≤◌, None, true, length, option_map};
 ghost use Rattle.std.specs.Prelude.{IfErr, IfOk, IfSome, string_bytes};
 ghost use Rattle.nll_problem.specs.Limits.{most_owners};
 ghost use Rattle.nll_cut.specs.Partition.{may_be_count};
-ghost use Rattle.nll_event.specs.declared.event.Event.{Event};
 ghost use Rattle.nll_command_line.specs.Options.{said_by};
 ghost use Rattle.nll_command_line.specs.declared.task.Task.TheVariants.{Replay};
-ghost use Rattle.nll_replay.specs.ReplayReport.{IsReplayReport};
 ghost use Rattle.nll_schedule_text.specs.ScheduleText.{Means};
 ghost use Rattle.nll_report.specs.Refusal.{schedule_refusal_at};
-ghost use Rattle.nll_report.specs.Replays.{IsAskedReplay, IsFileReplay, IsFileReplayRefused};
+ghost use Rattle.nll_report.specs.Owners.{HasAskedCut};
+ghost use Rattle.nll_report.specs.Replays.{IsFileReplay, IsFileReplayRefused, IsListedReplay};
 ghost use Rattle.nll_report.specs.Replays.{IsListedSchedule, IsReplayRefused};
 ghost use Rattle.nll_report.specs.Replays.{IsScheduleRefused, IsScheduleTextRefused};
 ghost use Rattle.nll_report.specs.Run.{IsFileRefused, IsTaskAnswer, IsTaskRefused};
@@ -93,9 +92,10 @@ fn told_of_problem<T: Texts>(
 ) -> Result<Vec<u8>, Refusal>
     requires named { length facts.now.labels.names ≡ facts.now.problem.regions }
     requires lawful { may_be_count cut.count ≡ true }
-    ensures ok { IfOk result (λ report. IsAskedReplay (T.holds texts.now)
-        facts.now.problem facts.now.labels cut.count cut.deal
-        (option_map string_bytes cut.path) (string_bytes schedule) report.items) }
+    ensures ok { IfOk result (λ report. HasAskedCut (T.holds texts.now)
+        facts.now.problem.regions cut.count cut.deal (option_map string_bytes cut.path)
+        (IsListedReplay (T.holds texts.now) cut.count (string_bytes schedule) report.items
+        facts.now.problem facts.now.labels)) }
     ensures err { IfErr result (IsReplayRefused (T.holds texts.now) (T.lacks texts.now)
         facts.now.problem.regions cut.count cut.deal (option_map string_bytes cut.path)
         (string_bytes schedule)) }
@@ -118,9 +118,8 @@ fn told_by_cut<T: Texts>(
 ) -> Result<Vec<u8>, Refusal>
     requires named { length facts.now.labels.names ≡ facts.now.problem.regions }
     requires cut { length cut.now.list ≡ facts.now.problem.regions }
-    ensures ok { IfOk result (λ report. (events : List Event)
-        × IsListedSchedule (T.holds texts.now) (string_bytes schedule) owners events
-        × IsReplayReport facts.now.problem facts.now.labels cut.now events report.items) }
+    ensures ok { IfOk result (λ report. IsListedReplay (T.holds texts.now) owners
+        (string_bytes schedule) report.items facts.now.problem facts.now.labels cut.now) }
     ensures err { IfErr result (IsScheduleRefused (T.holds texts.now) (T.lacks texts.now)
         owners (string_bytes schedule)) }
 {

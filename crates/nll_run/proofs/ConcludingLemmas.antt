@@ -274,7 +274,7 @@ module _ {D M S R C P L B H E : Type 0} (m : Mail.Ghosts M S R C P) (b : Ledger.
 
         ranked : AreRanked q c logs
         ranked =
-            are_ranked q c cut owner logs (λ i l. (ends i l).sound) (λ i l. (ends i l).cut)
+            are_ranked q c owner logs (λ i l. (ends i l).sound) (λ i l. (ends i l).cut)
             (λ i l. (ends i l).me) log_is
             (λ i j li lj differ.
             let l = law.0 j i lj li (λ e. differ (sym e)) in

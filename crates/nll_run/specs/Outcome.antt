@@ -21,12 +21,13 @@ ComesNext q c grown i g =
     × (h.rank + 1 ≡ g.rank)
 
 -- No rank is left out: each growth of a rank above 1 comes next after another. So there are as many
--- growths as the highest rank says, and no rank is 2^61 or above.
+-- growths as the highest rank says: no more than pairs of a region and an element. No rank reaches
+-- 2^37.
 pub record AreRanked (q : Problem) (c : Cut) (grown : List (List Growth)) : Type 0 where
   pub next :
       (i : ℕ) (g : Growth) → i < c.owners → Contains (log_of grown i) g → 1 < g.rank
       → ComesNext q c grown i g
-  pub low : (i : ℕ) (g : Growth) → i < c.owners → Contains (log_of grown i) g → g.rank < 2 ^ 61
+  pub low : (i : ℕ) (g : Growth) → i < c.owners → Contains (log_of grown i) g → g.rank < 2 ^ 37
 
 -- Each owner received from each other just the growths of the regions that it reads, once each and
 -- in the order in which they grew, and none was left in a mailbox. The values are the least.
@@ -39,7 +40,7 @@ pub record IsOutcome {M S R C P : Type 0} (mail : Mail.Ghosts M S R C P) (q : Pr
   pub none_left : (p : P) → Contains posts p → mail.post_rest p ≡ []
   -- each owner's log is well-formed, and well-supported by it and what the owner received
   pub sound : AreSound q c grown (λ i j. part q c i (log_of grown j))
-  -- no rank is left out, and none is 2^61 or above
+  -- no rank is left out, and none reaches 2^37
   pub ranked : AreRanked q c grown
   -- the values are the least, and the log of each region's owner says the same
   pub shaped : IsShaped q values

@@ -2,8 +2,12 @@
 use super::meeting::Meeting;
 use nll_answer::{Command, answer_run, meaning};
 use nll_cut::Cut;
-use nll_ledger::WordLedger;
-use nll_mail::QueueMail;
+use nll_ledger::{Ledger, LockLedger, WordLedger};
+use nll_mail::{Mail, QueueMail, RingMail};
+use std::alloc::AllocGlobal;
+use std::process::Abort;
+use std::sync::Wait;
+use std::thread::Threads;
 
 // Two regions that reach each other, as in `BY_TURNS`.
 const TEXT: &[u8] = b"nll-facts 1
@@ -11,6 +15,7 @@ points 2
 region '1
 region '2
 next 0 1
+return 1
 base '1 0
 base '2 1
 constraint '2 '1 0
@@ -25,29 +30,32 @@ const REPORT: &[u8] = b"'static: 0 1 end('static)
 
 // The two owners of an answer are at work side by side: each begins its turns 1 and 2 only where
 // the other has.
-#[test]
-fn two_owners_meet_for_an_answer(rt: HostRuntime) {
-    let facts = meaning(rt.alloc(), TEXT).expect(&rt, "the text is right");
-    let cut = Cut::round(rt.alloc(), facts.problem.regions(), 2).expect(&rt, "two owners");
+fn meet<M: Mail, L: Ledger, R: AllocGlobal + Abort + Threads + Wait + Sync>(
+    rt: &R,
+    mail: &M,
+    ledger: &L,
+) {
+    let facts = meaning(rt.alloc(), TEXT).expect(rt, "the text is right");
+    let cut = Cut::round(rt.alloc(), facts.problem.regions(), 2).expect(rt, "two owners");
     let meeting = Meeting::new(2);
-    let mail = QueueMail::new(rt);
     let asked = Command::Values;
-    let answer = answer_run(
-        &rt,
-        rt.alloc(),
-        asked,
-        &facts,
-        &cut,
-        &mail,
-        &WordLedger,
-        &meeting,
-    );
+    let answer = answer_run(rt, rt.alloc(), asked, &facts, &cut, mail, ledger, &meeting);
     drop(cut);
     drop(facts);
-    let (report, status) = answer.expect(&rt, "the owners answer");
+    let (report, status) = answer.expect(rt, "the owners answer");
     assert!(rt;
         status == 0 && report.as_slice() == REPORT,
         "another report"
     );
     assert!(rt; meeting.met(), "the owners don't meet");
+}
+
+#[test]
+fn two_owners_meet_for_an_answer(rt: HostRuntime) {
+    let (queues, rings) = (QueueMail::new(rt), RingMail::new());
+    let lock = LockLedger::new(rt);
+    meet(&rt, &queues, &WordLedger);
+    meet(&rt, &queues, &lock);
+    meet(&rt, &rings, &WordLedger);
+    meet(&rt, &rings, &lock);
 }

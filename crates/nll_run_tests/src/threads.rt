@@ -1,13 +1,17 @@
 //! Runs whose owners are held up or watched.
+ghost use Rattle.std.specs.Prelude.{◌≡◌, length};
+
 use super::deals::Deal;
 use super::failure::Failure;
 use super::meeting::Meeting;
 use super::notes::Notes;
-use super::run_text::{compare, told};
+use super::run_text::{compare, told, told_over};
 use super::watches::Watched;
-use nll_ledger::WordLedger;
+use nll_core::Problem;
+use nll_cut::Cut;
+use nll_ledger::{Ledger, LockLedger, WordLedger};
 use nll_mail::{Mail, QueueMail, RingMail};
-use nll_worked_problems::{BY_TURNS, MANY_BOTH_WAYS, REACHED, Written};
+use nll_worked_problems::{BY_TURNS, MANY_BOTH_WAYS, REACHED, Written, worked_problem};
 use nll_worker::NoGate;
 use std::alloc::AllocGlobal;
 use std::process::Abort;
@@ -16,6 +20,78 @@ use std::thread::Threads;
 
 // What a run of the two owners of `BY_TURNS` comes to.
 const WANT: &str = "0: 0 1 2|1: 0 1|2: 0 1|2: 0 5 1 2|2: 0-1 2 1-0 2";
+
+// The two owners are at work side by side: each begins its turns 1 and 2 only where the other has.
+fn meet<M: Mail, L: Ledger, R: AllocGlobal + Abort + Threads + Wait + Sync>(
+    rt: &R,
+    mail: &M,
+    ledger: &L,
+) {
+    let meeting = Meeting::new(2);
+    let deal = Deal::Round(2);
+    let told = told(rt, rt.alloc(), BY_TURNS, deal, mail, ledger, &meeting);
+    compare(rt, told, WANT);
+    assert!(rt; meeting.met(), "the owners don't meet");
+}
+
+#[test]
+fn two_owners_meet(rt: HostRuntime) {
+    let (queues, rings) = (QueueMail::new(rt), RingMail::new());
+    let lock = LockLedger::new(rt);
+    meet(&rt, &queues, &WordLedger);
+    meet(&rt, &queues, &lock);
+    meet(&rt, &rings, &WordLedger);
+    meet(&rt, &rings, &lock);
+}
+
+// Each of the two makes its first posts, so many of them, only where the other does.
+const POSTS: &[(Written, u64)] = &[(BY_TURNS, 1), (MANY_BOTH_WAYS, 256)];
+
+// The owners of a cut post side by side, so often.
+fn post_over<M: Mail, L: Ledger, R: AllocGlobal + Abort + Threads + Wait + Sync>(
+    rt: &R,
+    problem: &Problem,
+    cut: &Cut,
+    mail: &M,
+    ledger: &L,
+    times: u64,
+)
+    requires { length cut.now.list ≡ problem.now.regions }
+{
+    let meeting = Meeting::new(times);
+    let mail = Watched {
+        inner: mail,
+        watch: &meeting,
+    };
+    let told = told_over(rt, rt.alloc(), problem, cut, &mail, ledger, &NoGate);
+    let met = told.is_ok() && meeting.met();
+    assert!(rt; met, "the owners don't post side by side");
+}
+
+// The same of the two owners of each problem.
+fn post<M: Mail, L: Ledger, R: AllocGlobal + Abort + Threads + Wait + Sync>(
+    rt: &R,
+    mail: &M,
+    ledger: &L,
+) {
+    for (written, times) in POSTS {
+        let problem = worked_problem(rt.alloc(), *written).expect(rt, "a problem");
+        let cut = Cut::round(rt.alloc(), problem.regions(), 2).expect(rt, "two owners");
+        post_over(rt, &problem, &cut, mail, ledger, *times);
+        drop(cut);
+        drop(problem);
+    }
+}
+
+#[test]
+fn two_owners_post(rt: HostRuntime) {
+    let (queues, rings) = (QueueMail::new(rt), RingMail::new());
+    let lock = LockLedger::new(rt);
+    post(&rt, &queues, &WordLedger);
+    post(&rt, &queues, &lock);
+    post(&rt, &rings, &WordLedger);
+    post(&rt, &rings, &lock);
+}
 
 // Problems whose regions are dealt in turns to two owners, what their runs come to, and what each
 // owner does: it owes and posts the growths that the other reads, has a turn for its load and one
@@ -29,98 +105,54 @@ const STEPS: &[(Written, &str, &str)] = &[
     ),
 ];
 
-// The two owners are at work side by side: each begins its turns 1 and 2 only where the other has.
-fn meet<M: Mail, R: AllocGlobal + Abort + Threads + Wait + Sync>(rt: &R, mail: &M) {
-    let meeting = Meeting::new(2);
-    let deal = Deal::Round(2);
-    let told = told(rt, rt.alloc(), BY_TURNS, deal, mail, &WordLedger, &meeting);
-    compare(rt, told, WANT);
-    assert!(rt; meeting.met(), "the owners don't meet");
-}
-
-#[test]
-fn two_owners_meet(rt: HostRuntime) {
-    meet(&rt, &QueueMail::new(rt));
-    meet(&rt, &RingMail::new());
-}
-
-// Each of the two makes its first posts, so many of them, only where the other does.
-const POSTS: &[(Written, u64)] = &[(BY_TURNS, 1), (MANY_BOTH_WAYS, 256)];
-
-#[test]
-fn two_owners_post_to_queues(rt: HostRuntime) {
-    for (written, times) in POSTS {
-        let meeting = Meeting::new(*times);
-        let queues = QueueMail::new(rt);
-        let mail = Watched {
-            inner: &queues,
-            watch: &meeting,
-        };
-        let deal = Deal::Round(2);
-        let told = told(&rt, rt.alloc(), *written, deal, &mail, &WordLedger, &NoGate);
-        assert!(rt;
-            told.is_ok() && meeting.met(),
-            "the owners don't post side by side"
-        );
-    }
-}
-
-#[test]
-fn two_owners_post_to_rings(rt: HostRuntime) {
-    for (written, times) in POSTS {
-        let meeting = Meeting::new(*times);
-        let rings = RingMail::new();
-        let mail = Watched {
-            inner: &rings,
-            watch: &meeting,
-        };
-        let deal = Deal::Round(2);
-        let told = told(&rt, rt.alloc(), *written, deal, &mail, &WordLedger, &NoGate);
-        assert!(rt;
-            told.is_ok() && meeting.met(),
-            "the owners don't post side by side"
-        );
-    }
-}
-
 // The turns of an owner have the numbers 1, 2 and so on. In each of them it owes once, before it
 // posts and clears, clears 1 once, and posts all that it owed for before the next turn begins.
-#[test]
-fn owe_first_over_queues(rt: HostRuntime) {
+fn owe_over<M: Mail, L: Ledger, R: AllocGlobal + Abort + Threads + Wait + Sync>(
+    rt: &R,
+    problem: &Problem,
+    cut: &Cut,
+    mail: &M,
+    ledger: &L,
+    want: &str,
+    steps: &str,
+)
+    requires { length cut.now.list ≡ problem.now.regions }
+{
+    let notes = Notes::new();
+    let mail = Watched {
+        inner: mail,
+        watch: &notes,
+    };
+    let ledger = Watched {
+        inner: ledger,
+        watch: &notes,
+    };
+    let told = told_over(rt, rt.alloc(), problem, cut, &mail, &ledger, &notes);
+    compare(rt, told, want);
+    compare(rt, notes.written(rt.alloc()).map_err(Failure::from), steps);
+}
+
+// The same of the two owners of each problem.
+fn owe<M: Mail, L: Ledger, R: AllocGlobal + Abort + Threads + Wait + Sync>(
+    rt: &R,
+    mail: &M,
+    ledger: &L,
+) {
     for (written, want, steps) in STEPS {
-        let notes = Notes::new();
-        let queues = QueueMail::new(rt);
-        let mail = Watched {
-            inner: &queues,
-            watch: &notes,
-        };
-        let ledger = Watched {
-            inner: &WordLedger,
-            watch: &notes,
-        };
-        let deal = Deal::Round(2);
-        let told = told(&rt, rt.alloc(), *written, deal, &mail, &ledger, &notes);
-        compare(&rt, told, want);
-        compare(&rt, notes.written(rt.alloc()).map_err(Failure::from), steps);
+        let problem = worked_problem(rt.alloc(), *written).expect(rt, "a problem");
+        let cut = Cut::round(rt.alloc(), problem.regions(), 2).expect(rt, "two owners");
+        owe_over(rt, &problem, &cut, mail, ledger, want, steps);
+        drop(cut);
+        drop(problem);
     }
 }
 
 #[test]
-fn owe_first_over_rings(rt: HostRuntime) {
-    for (written, want, steps) in STEPS {
-        let notes = Notes::new();
-        let rings = RingMail::new();
-        let mail = Watched {
-            inner: &rings,
-            watch: &notes,
-        };
-        let ledger = Watched {
-            inner: &WordLedger,
-            watch: &notes,
-        };
-        let deal = Deal::Round(2);
-        let told = told(&rt, rt.alloc(), *written, deal, &mail, &ledger, &notes);
-        compare(&rt, told, want);
-        compare(&rt, notes.written(rt.alloc()).map_err(Failure::from), steps);
-    }
+fn owe_first(rt: HostRuntime) {
+    let (queues, rings) = (QueueMail::new(rt), RingMail::new());
+    let lock = LockLedger::new(rt);
+    owe(&rt, &queues, &WordLedger);
+    owe(&rt, &queues, &lock);
+    owe(&rt, &rings, &WordLedger);
+    owe(&rt, &rings, &lock);
 }

@@ -47,7 +47,7 @@ fn grow(
         return Ok(());
     };
     seen.insert_run(gap)?;
-    frontier.grow(steps, seen, gap, found)
+    frontier.grow_run(steps, seen, gap, found)
 }
 
 // Writes the elements of runs, in the order of the first ones of these.

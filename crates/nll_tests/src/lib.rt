@@ -18,6 +18,8 @@ mod calls;
 #[cfg(test)]
 mod cuts;
 #[cfg(test)]
+mod element_frontiers;
+#[cfg(test)]
 mod end_texts;
 #[cfg(test)]
 mod frontiers;

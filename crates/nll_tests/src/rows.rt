@@ -3,6 +3,7 @@
 use super::builder_calls::write_new;
 use super::calls::{Call, Calls, write_behind, write_problem, write_random};
 use super::cuts::{Deal, write_cut, write_cut_file};
+use super::element_frontiers::write_elements;
 use super::end_texts::write_loop;
 use super::frontiers::{write_frontier, write_frontier_everywhere, write_frontier_to_end};
 use super::graphs::{Then, write_graph_then};
@@ -16,6 +17,7 @@ use super::skipped::write_skipped;
 use super::transcript::Transcript;
 use super::type_pieces::{Large, write_large};
 use super::type_text::{OfType, write_typed};
+use nll_core::At;
 use std::alloc::Global;
 use std::process::Abort;
 
@@ -47,6 +49,9 @@ pub enum Asked {
     FrontierToEnd(&'static [(u32, u32)]),
     /// Like `Frontier`, for a constraint at all points.
     FrontierEverywhere(&'static [(u32, u32)]),
+    /// Of where a constraint holds and of elements that come into a set: what a list holds to which
+    /// its frontier appends what it reaches, with a set of bits and one of runs.
+    Elements(At, &'static [u32]),
     /// Of this many regions and owners: how the regions are assigned.
     Cut(u32, u16, Deal),
     /// Of a text: which owners it lists, as a cut file.
@@ -93,6 +98,7 @@ fn write_told(out: &mut Transcript, says: &str, asked: Asked) {
         Asked::Frontier(runs) => write_frontier(out, runs),
         Asked::FrontierToEnd(runs) => write_frontier_to_end(out, runs),
         Asked::FrontierEverywhere(runs) => write_frontier_everywhere(out, runs),
+        Asked::Elements(at, elements) => write_elements(out, at, elements),
         Asked::Cut(regions, owners, deal) => write_cut(out, (regions, owners), deal),
         Asked::CutFile(text) => write_cut_file(out, text),
         Asked::Schedule(owners, text) => write_schedule(out, owners, text),

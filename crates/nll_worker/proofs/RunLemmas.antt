@@ -1,5 +1,5 @@
 -- What follows from what the workers give back.
-use Rattle.std.proofs.Common.{◌≡◌, ◌≢◌, ◌↔◌, ℕ, ◌^◌, ◌<◌, ◌≤◌, List, [], ◌++◌, length, Contains, refl, sym, ap, ◌∙◌, subst, inl, inr, ⊎_elim}
+use Rattle.std.proofs.Common.{◌≡◌, ◌≢◌, ◌↔◌, ℕ, ◌^◌, ◌<◌, List, [], ◌++◌, length, Contains, refl, sym, ap, ◌∙◌, subst, inl, inr, ⊎_elim, arith}
 use Rattle.std.proofs.lemmas.Bool.{cases_eq}
 use Rattle.std.proofs.lemmas.List.Elements.{Contains-append_left}
 use Rattle.nll_problem.specs.Graph.{element_count}
@@ -38,15 +38,11 @@ module _ (q : Problem) (c : Cut) (owner : ℕ → Owner) (sent got rest : ℕ �
       let in_part = subst (λ xs. Contains xs g) (sym f.1) (Contains-append_left (sent j i) f.0 g posted) in
       subst (λ xs. Contains xs g) (part_is j i lj) in_part
 
-  -- no rank of a log is 2 ^ 61 or above
-  low : (j : ℕ) (g : Growth) → j < c.owners → Contains (owner j).log g → g.rank < 2 ^ 61
-  low j g lj h =
-      let few : c.owners ≤ 64 =
-      subst (λ (k : Cut). k.owners ≤ 64) (ends j lj).cut (ends j lj).sound.cut.cut.owner_limit in
-      ranks_low c.owners owner few (λ i l. (ends i l).sound) (λ i l. ap (λ (k : Cut). k.owners) (ends i l).cut)
-      (λ i l. (ends i l).me)
-      (λ i k w li lk differ at. (filter_from _ (owner k).log w (logged i k w li lk ((ends i li).taken k w lk at))).0) j
-      g lj h
+  -- no rank of a log reaches 2 ^ 37
+  low : (j : ℕ) (g : Growth) → j < c.owners → Contains (owner j).log g → g.rank < 2 ^ 37
+  low =
+      ranks_low c owner (λ i l. (ends i l).sound) (λ i l. (ends i l).cut) (λ i l. (ends i l).me)
+      (λ i k w li lk differ at. (filter_from _ (owner k).log w (logged i k w li lk ((ends i li).taken k w lk at))).0)
 
   -- each growth that was taken can be its sender's
   passes : (i j : ℕ) (g : Growth) → i < c.owners → j < c.owners → Contains (got j i) g → Passes q c i j g
@@ -60,7 +56,7 @@ module _ (q : Problem) (c : Cut) (owner : ℕ → Owner) (sent got rest : ℕ �
         element =
             subst (λ (p : Problem). g.element < element_count p.graph) (ends j lj).problem
             ((ends j lj).sound.elements g x.0);
-        rank = low j g lj x.0;
+        rank = (let l = low j g lj x.0 in omega (arith, l));
       }
 
   pub not_stray : (i : ℕ) → i < c.owners → ending i ≢ Stray

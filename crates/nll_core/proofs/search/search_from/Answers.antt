@@ -13,8 +13,12 @@ pub visit-requires : goal.visit-requires
 visit-requires g c = omega (arith, width g (goal.at.visit-requires g c).In_ok-search, c.count.ensures, c.requires)
 
 pub spread-requires-clause-width : goal.spread-requires-clause-width
-spread-requires-clause-width g c = c.in_ok-visit.ensures.adds.width
-    ∙ (width g (goal.at.spread-requires-clause-width g c).In_ok-search ∙ c.count.ensures)
+spread-requires-clause-width g c = omega (
+  arith,
+  c.in_ok-visit.ensures.adds.width,
+  width g (goal.at.spread-requires-clause-width g c).In_ok-search,
+  c.count.ensures,
+)
 
 pub returns-clause-width : goal.returns-clause-width
 returns-clause-width g c = c.in_ok-spread.ensures.adds.width

@@ -1,12 +1,20 @@
 use Rattle.std.proofs.Common.{ap, inl, option_map, string_bytes}
-use Rattle.std.proofs.lemmas.Result.{IfErr-weaker}
+use Rattle.std.proofs.lemmas.Result.{IfErr-weaker, IfOk-weaker}
 use Rattle.nll_command_line.specs.Options.{said_by}
-use Rattle.nll_report.proofs.OwnerLemmas.{may_be_asked, owners_told}
+use Rattle.nll_report.proofs.OwnerLemmas.{may_be_asked, one_answers, owners_answer, owners_told}
 use Rattle.nll_report.proofs.program.solved.Goals as goal
 
 pub answered_by_owners-requires-after_bounds : goal.answered_by_owners-requires-after_bounds
 answered_by_owners-requires-after_bounds g c =
     λ κs bounds. may_be_asked c.args.line.owners _ c.requires c.in-Some.ensures.1
+
+pub returns-in-Some-clause-ok : goal.returns-in-Some-clause-ok
+returns-in-Some-clause-ok g c =
+    let asked = c.in-Some.ensures in
+    IfOk-weaker c.answered_by_owners.result _ _
+    (λ r h. owners_answer (g.T.Texts.holds c.args.texts.now) (string_bytes c.args.line.file) c.args.command
+    (said_by c.args.line) r.0.items r.1 _ _ _ asked.1 asked.2 (ap (option_map string_bytes) asked.3) h)
+    c.answered_by_owners.ensures.ok
 
 pub returns-in-Some-clause-err : goal.returns-in-Some-clause-err
 returns-in-Some-clause-err g c =
@@ -16,6 +24,14 @@ returns-in-Some-clause-err g c =
     (string_bytes c.args.line.file) (said_by c.args.line)
     _ _ _ e asked.1 asked.2 (ap (option_map string_bytes) asked.3) asked.0 h)
     c.answered_by_owners.ensures.err
+
+pub returns-in-None-clause-ok : goal.returns-in-None-clause-ok
+returns-in-None-clause-ok g c =
+    let none = c.in-None.ensures in
+    IfOk-weaker c.answered_by_one.result _ _
+    (λ r h. one_answers (g.T.Texts.holds c.args.texts.now) (string_bytes c.args.line.file) c.args.command
+    (said_by c.args.line) r.0.items r.1 none.0 (ap (option_map string_bytes) none.1) h)
+    c.answered_by_one.ensures.ok
 
 pub returns-in-None-clause-err : goal.returns-in-None-clause-err
 returns-in-None-clause-err g c = IfErr-weaker c.answered_by_one.result _ _ (λ e h. inl h) c.answered_by_one.ensures.err
