@@ -2,9 +2,8 @@
 # Runs nllc on these words: the program that `./nllc.sh --prove` proved and built, while no source is newer.
 # Until then a build of the same sources that nothing has proved, with checks at run time and not optimised: it is
 # compiled once, in about a minute, and kept in out/; each run says so in one line on standard error.
-# `nllc.sh rust FILE.rs` is another program: tools/nll-rust, which has this one answer what it makes of FILE.rs.
-# So is `nllc.sh page FILE`: tools/nll-text-page, which writes a page of a facts text or a MIR text.
-# So is `nllc.sh schedule FILE SCHEDULE`: tools/nll-schedule, which writes a page of a schedule.
+# The words `rust`, `facts`, `page` and `schedule` are those of other programs, in frontend/: they make facts texts of
+# Rust files, and pages, and have this program answer what they make.
 # Without words, and with `--help`, it names these on top of what the program says of itself.
 here=$(dirname -- "$(readlink -f -- "$0")")
 proved=$here/crates/nllc/out/nllc
@@ -26,12 +25,13 @@ needs_rt() {
 
 words() {
     cat <<END
-Words of this script; what answers them stands in tools/, and isn't proved:
+Words of this script; what answers them is in frontend/, and isn't proved:
   $0 rust FILE.rs [FUNCTION]    why the borrow checker refuses a function; makes pages
+  $0 facts FILE.rs [FUNCTION]   makes a facts text of each function; of a crate with --crate FOLDER
   $0 page FILE ..               makes a page of each facts text or MIR text
   $0 schedule FILE SCHEDULE     makes a page of a schedule, event by event
   $0 --prove                    proves nllc and builds it; until then a slow build runs
-The first three say more with --help. All other words are those of nllc itself:
+The first four say more with --help. All other words are those of nllc itself:
 
 END
 }
@@ -43,16 +43,8 @@ if [ "$#" = 0 ]; then
 elif [ "$#" = 1 ] && { [ "$1" = --help ] || [ "$1" = -h ]; }; then
     words 2>/dev/null || { say "standard output can't be written"; exit 3; }
 fi
-if [ "$1" = rust ]; then
-    shift
-    exec python3 "$here/tools/nll-rust" "$@"
-elif [ "$1" = page ]; then
-    shift
-    exec python3 "$here/tools/nll-text-page" "$@"
-elif [ "$1" = schedule ]; then
-    shift
-    exec python3 "$here/tools/nll-schedule" "$@"
-elif [ "$#" = 1 ] && [ "$1" = --prove ]; then
+case $1 in rust | facts | page | schedule) exec python3 "$here/frontend/run" "$@" ;; esac
+if [ "$#" = 1 ] && [ "$1" = --prove ]; then
     needs_rt
     say "proving the program and what it stands on takes some 35 minutes on four processors;" \
         "$here/out/prove.log has what rt prints"

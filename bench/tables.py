@@ -4,7 +4,7 @@
     bench/tables.py                                  which tables there are, of which commit and machine
     bench/tables.py COMMIT [TABLE [COLUMN,COLUMN..]] a commit's tables, or one of them, or some columns of it
     bench/tables.py --write                          puts tables into the documents that show them
-    bench/tables.py --take FOLDER COMMIT MACHINE     makes the file of a commit of what bench/all.sh wrote to FOLDER
+    bench/tables.py --take FOLDER COMMIT MACHINE     makes the file of a commit of what bench/run all wrote to FOLDER
 
 A file begins with `# commit COMMIT; MACHINE`. Each table is a line `# NAME: WHAT`, a line of columns, and rows. A
 document shows a table after a line `<!-- bench/tables.py COMMIT TABLE [COLUMNS] -->`.

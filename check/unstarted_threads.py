@@ -1,9 +1,9 @@
 #!/usr/bin/env python3
 """Runs nllc where no thread can be started, which shows where owners are at work and where none are.
 
-    unstarted_threads.py [--seconds S] [PROGRAM]
+    check/run threads [--seconds S] [--nllc PATH]
 
-PROGRAM is the program that was proved and built here, where none is given. With `--owners` or `--cut` the report is
+PATH is the program that was proved and built here, where none is given. With `--owners` or `--cut` the report is
 that of owners in threads, so there is none where no thread can be started, but `nllc: thread`; without them it comes.
 No clause of the program can say so, since the report is the same by whoever finds it. A thread gets a stack of the
 size that the limit of the process's stack says; here that is more than a processor can address.
@@ -87,9 +87,9 @@ def outcome(program, words, folder, seconds, prepare):
 def main():
     parser = argparse.ArgumentParser(description=__doc__.splitlines()[0])
     parser.add_argument("--seconds", type=float, default=20.0, help="time limit of a run")
-    parser.add_argument("program", metavar="PROGRAM", nargs="?", default=PROGRAM, type=pathlib.Path)
+    parser.add_argument("--nllc", metavar="PATH", default=PROGRAM, type=pathlib.Path)
     args = parser.parse_args()
-    program = args.program.resolve()
+    program = args.nllc.resolve()
     usual = {**BY_ONE, **BY_OWNERS, **REFUSED}
     alone = {**BY_ONE, **dict.fromkeys(BY_OWNERS, THREAD), **REFUSED}
     runs = wrong = 0

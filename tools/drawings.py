@@ -3,7 +3,7 @@
 
     tools/drawings.py [FOLDER]      writes them to FOLDER, docs/pictures otherwise
 
-What is lit is what bench/reference.py, the slow program, prints for the text.
+What is lit is what check/reference/reference.py, the slow program, prints for the text.
 """
 
 import pathlib
@@ -51,8 +51,8 @@ def blocks_of(text):
 
 def value_of(text, region):
     """The elements of a region's least value."""
-    done = subprocess.run([sys.executable, "bench/reference.py", "values", "/dev/stdin"], input=text, cwd=ROOT,
-                          capture_output=True, text=True, check=True)
+    done = subprocess.run([sys.executable, "check/reference/reference.py", "values", "/dev/stdin"], input=text,
+                          cwd=ROOT, capture_output=True, text=True, check=True)
     return dict(line.split(":", 1) for line in done.stdout.splitlines())[region].split()
 
 

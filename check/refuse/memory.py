@@ -1,8 +1,8 @@
 #!/usr/bin/env python3
 """Refuses each growth of memory of nllc in turn.
 
-    memory.py --nllc PATH [--options WORDS].. [--spread N] [FILE..]
-    memory.py --nllc PATH [--spread N] --command WORDS..
+    check/run memory [--nllc PATH] [--options WORDS].. [--count N] [FILE..]
+    check/run memory [--nllc PATH] [--count N] --command WORDS..
 
 Runs `PATH values FILE`, `PATH check FILE` and `PATH --help` again and again, on the examples
 where no FILE is given, and has `refuse.c` refuse the first growth of memory, then the second, to
@@ -11,7 +11,7 @@ the last one that the run asks for. Each run is to end by itself, either as ever
 asked for, it may be the line `nllc: thread`: the C library asks for memory to start a thread.
 
 With `--options` the words of each of them stand before FILE in place of none; with `--command`
-these words are run alone, `replay FILE --schedule FILE` say. With `--spread` so many growths are
+these words are run alone, `replay FILE --schedule FILE` say. With `--count` so many growths are
 refused, spread over the run.
 
 No run may keep more blocks of memory to its end than the one that is refused nothing.
@@ -69,12 +69,12 @@ def words():
     parser.add_argument("--nllc", required=True, help="the program to try")
     parser.add_argument("--seconds", type=float, default=10.0, help="time limit of a run")
     parser.add_argument("--options", action="append", help="words that stand before a FILE")
-    parser.add_argument("--spread", type=int, help="how many growths of a run are refused")
+    parser.add_argument("--count", type=int, help="how many growths of a run are refused")
     parser.add_argument("--command", action="append", help="words that are run alone")
     parser.add_argument("files", metavar="FILE", nargs="*")
     args = parser.parse_args()
-    if args.spread is not None and args.spread < 2:
-        parser.error("--spread is at least 2")
+    if args.count is not None and args.count < 2:
+        parser.error("--count is at least 2")
     examples = [os.path.join(HERE, "..", "..", "examples", name) for name in ("*.facts", "*.mir")]
     found = [os.path.normpath(path) for pattern in examples for path in glob.glob(pattern)]
     args.files = args.files or sorted(found)
@@ -94,7 +94,7 @@ def main():
     args = words()
     with tempfile.TemporaryDirectory() as folder:
         allocator = Allocator(folder)
-        rows = [refuse_each(allocator, [args.nllc, *command], args.seconds, args.spread)
+        rows = [refuse_each(allocator, [args.nllc, *command], args.seconds, args.count)
                 for command in commands_of(args)]
     runs, refused, wrong = (sum(column) for column in zip(*rows))
     print(f"{runs} runs, {refused} refused, {wrong} wrong")

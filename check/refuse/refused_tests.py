@@ -1,7 +1,7 @@
 #!/usr/bin/env python3
 """Refuses each growth of memory of tests in turn.
 
-    refused_tests.py --tests FILE [--passing] NAME..
+    check/run tests --tests FILE [--passing] NAME..
 
 FILE is the program of a crate's tests, as `rt test` leaves it (crates/CRATE/out/CRATE_tests), and
 each NAME the full name of one of them, as MODULE::TEST. Runs the test again and again, and has

@@ -1,7 +1,7 @@
 #!/usr/bin/env python3
 """Refuses each growth of memory of runs of five worked problems, as the last part of the gate.
 
-    check/refuse/rows.py [--seconds N] [--nllc PATH] [--tests PATH] [--before LINE]
+    check/run rows [--seconds N] [--nllc PATH] [--tests PATH] [--before LINE]
 
 Of each problem the program answers `values` on one thread, and by two owners over queues and over rings. The tests
 `repeated_runs` run each of them by one owner and by two, over both kinds of mailboxes and of ledgers. The program and

@@ -1,4 +1,4 @@
-"""What documents show below a `$` is what the definitions give, by the slow programs of bench/."""
+"""What documents show below a `$` is what the definitions give, by the slow programs of check/reference/."""
 
 import pathlib
 import re
@@ -32,7 +32,7 @@ def shown(document):
 
 def answered(command):
     """What the slow programs print for a command of a document."""
-    reference = f"{sys.executable} bench/reference.py"
+    reference = f"{sys.executable} check/reference/reference.py"
     asked = ANSWER.sub(lambda found: f"{reference} {found[1]} ", command)
     run = subprocess.run(asked, shell=True, cwd=ROOT, capture_output=True, text=True)
     return run.stdout.splitlines()

@@ -1,8 +1,0 @@
-#!/bin/sh
-# Proves and builds ledger_program.rattle, which owes and clears in threads, and prints the path of the program:
-#
-#   ledgers.sh --program "$(ledger_program.sh)"
-set -eu
-here=$(cd "$(dirname "$0")" && pwd)
-"$here/build_program.sh" ledger_program "nll_sets nll_problem nll_ledger" \
-    "nll_sets nll_problem nll_ledger anyhow thiserror" words 2 1000

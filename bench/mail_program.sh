@@ -1,9 +1,0 @@
-#!/bin/sh
-# Proves and builds mail_program.rattle, which delivers growths from thread to thread, and prints the path of the
-# program:
-#
-#   mailboxes.sh --program "$(mail_program.sh)"
-set -eu
-here=$(cd "$(dirname "$0")" && pwd)
-"$here/build_program.sh" mail_program "nll_sets nll_problem nll_mail nll_mail_tests" \
-    "nll_sets nll_problem nll_mail nll_mail_tests anyhow thiserror" ring 1000

@@ -1,0 +1,8 @@
+#!/bin/sh
+# Proves and builds ledger_program.rattle, which owes and clears in threads, and prints the path of the program:
+#
+#   bench/run ledgers --program "$(bench/programs/ledger_program.sh)"
+set -eu
+here=$(cd "$(dirname "$0")" && pwd)
+"$here/../../tools/build_program.sh" "$here/ledger_program" "nll_sets nll_problem nll_ledger" \
+    "nll_sets nll_problem nll_ledger anyhow thiserror" words 2 1000

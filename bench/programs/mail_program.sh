@@ -1,0 +1,9 @@
+#!/bin/sh
+# Proves and builds mail_program.rattle, which delivers growths from thread to thread, and prints the path of the
+# program:
+#
+#   bench/run mailboxes --program "$(bench/programs/mail_program.sh)"
+set -eu
+here=$(cd "$(dirname "$0")" && pwd)
+"$here/../../tools/build_program.sh" "$here/mail_program" "nll_sets nll_problem nll_mail nll_mail_tests" \
+    "nll_sets nll_problem nll_mail nll_mail_tests anyhow thiserror" ring 1000

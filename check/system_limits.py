@@ -1,0 +1,180 @@
+#!/usr/bin/env python3
+"""Runs nllc where the system gives it little: few processes, small or huge stacks, little memory,
+a file or a pipe that takes no more.
+
+    check/run limits [--nllc PATH] [--seconds S] [FILE..]
+
+Each run is of `PATH values FILE`, on the examples where no FILE is given. It is to end by itself:
+
+- owners, with so few processes for the user that some threads can't be started: as ever, or with
+  status 3, nothing on standard output and `nllc: thread`. It needs to be root, and takes another
+  user for these runs; else the runs are left out, and it says so.
+- owners, with so large a stack for each thread that none can be started, or with a small one: the
+  same.
+- owners, with little memory to address: the same, or `nllc: memory`. A run that the system can't
+  even load counts for nothing.
+- standard output is a file that takes so many bytes, for each number of bytes: status 3, the first
+  bytes, and `nllc: cannot write`; or as ever where it takes all. So it is with a device that takes
+  none, and with a pipe that nobody reads. That standard error takes nothing changes no status.
+
+Prints each run that ends otherwise, a line for each kind of runs, and last `N runs, W wrong`;
+status 1 where W isn't 0, or where no thread was refused that could have been.
+"""
+
+import argparse
+import glob
+import os
+import resource
+import shutil
+import subprocess
+import sys
+import tempfile
+
+HERE = os.path.dirname(os.path.abspath(__file__))
+MEMORY = (3, b"", b"nllc: memory\n")
+THREAD = (3, b"", b"nllc: thread\n")
+CANNOT_WRITE = b"nllc: cannot write\n"
+# A user that has no processes.
+USER = 54321
+OWNERS = 8
+KIB = 1024
+
+
+class Tally:
+    """How many runs there were, and how many of them were wrong."""
+
+    def __init__(self):
+        self.runs = self.wrong = 0
+
+    def judge(self, is_right, what, answer):
+        self.runs += 1
+        if not is_right:
+            self.wrong += 1
+            print(f"{what}: {answer!r}", flush=True)
+
+
+def run(command, seconds, limits=(), user=None, out=subprocess.PIPE, err=subprocess.PIPE):
+    """Status, standard output and standard error under these limits."""
+
+    def prepare():
+        for kind, amount in limits:
+            resource.setrlimit(kind, (amount, amount))
+        if user is not None:
+            os.setgroups([])
+            os.setgid(user)
+            os.setuid(user)
+
+    try:
+        done = subprocess.run(command, stdin=subprocess.DEVNULL, stdout=out, stderr=err,
+                              timeout=seconds, check=False, preexec_fn=prepare,
+                              restore_signals=False)
+    except subprocess.TimeoutExpired:
+        return "no answer in time", b"", b""
+    return done.returncode, done.stdout, done.stderr
+
+
+def few_processes(tally, command, usual, seconds):
+    """How many threads were refused to a user with ever more processes."""
+    refused = 0
+    for most in range(1, OWNERS + 3):
+        answer = run(command, seconds, [(resource.RLIMIT_NPROC, most)], USER)
+        refused += answer == THREAD
+        tally.judge(answer in (usual, THREAD), f"{most} processes", answer)
+    return refused
+
+
+def stacks(tally, command, usual, seconds):
+    """How many runs were refused a thread for want of room for its stack."""
+    refused = 0
+    for kib in (256, 512, 1024, 1 << 30, 1 << 36):
+        answer = run(command, seconds, [(resource.RLIMIT_STACK, kib * KIB)])
+        refused += answer == THREAD
+        tally.judge(answer in (usual, THREAD), f"a stack of {kib} KiB", answer)
+    return refused
+
+
+def little_memory(tally, command, usual, seconds):
+    """How many runs were refused memory, where there are so many KiB to address."""
+    refused = 0
+    for kib in [*range(2048, 16384, 512), *range(16384, 131072, 8192)]:
+        answer = run(command, seconds, [(resource.RLIMIT_AS, kib * KIB)])
+        is_loaded = answer[0] != 127
+        refused += answer in (MEMORY, THREAD)
+        if is_loaded:
+            tally.judge(answer in (usual, MEMORY, THREAD), f"{kib} KiB to address", answer)
+    return refused
+
+
+def full_files(tally, command, usual, seconds, folder):
+    """How many runs had a file that takes less than they print."""
+    report, path = usual[1], os.path.join(folder, "out")
+    cut = 0
+    for most in [*range(min(len(report), 300)), len(report) - 1, len(report), len(report) + 1]:
+        with open(path, "wb") as out:
+            status, _, err = run(command, seconds, [(resource.RLIMIT_FSIZE, most)], out=out)
+        with open(path, "rb") as out:
+            got = out.read()
+        right = (3, report[:most], CANNOT_WRITE) if most < len(report) else usual
+        cut += most < len(report)
+        tally.judge((status, got, err) == right, f"a file of {most} bytes", (status, got, err))
+    return cut
+
+
+def closed_streams(tally, command, usual, seconds):
+    """Runs whose standard streams take nothing."""
+    with open("/dev/full", "wb") as full:
+        status, _, err = run(command, seconds, out=full)
+        tally.judge((status, err) == (3, CANNOT_WRITE), "a full device", (status, err))
+        answer = run(command, seconds, out=full, err=full)
+        tally.judge(answer[0] == 3, "two full devices", answer)
+        wrong = run([command[0], "values"], seconds, err=full)
+        tally.judge(wrong[:2] == (2, b""), "usage to a full device", wrong)
+    ends = os.pipe()
+    os.close(ends[0])
+    status, _, err = run(command, seconds, out=ends[1])
+    os.close(ends[1])
+    tally.judge((status, err) == (3, CANNOT_WRITE), "a pipe that nobody reads", (status, err))
+
+
+def try_file(tally, program, path, seconds, folder):
+    """All runs of one file."""
+    plain = [program, "values", path]
+    usual = run(plain, seconds)
+    refused = 0
+    for mail in ("queue", "ring"):
+        owners = [program, "values", "--owners", str(OWNERS), "--mail", mail, path]
+        if os.geteuid() == 0:
+            refused += few_processes(tally, owners, usual, seconds)
+        refused += stacks(tally, owners, usual, seconds)
+        little_memory(tally, owners, usual, seconds)
+        full_files(tally, owners, usual, seconds, folder)
+    closed_streams(tally, plain, usual, seconds)
+    print(f"{os.path.basename(path)}: {tally.runs} runs so far, {refused} threads refused, "
+          f"{tally.wrong} wrong", flush=True)
+    return refused
+
+
+def main():
+    parser = argparse.ArgumentParser(description=__doc__.splitlines()[0])
+    parser.add_argument("--nllc", required=True, help="the program to try")
+    parser.add_argument("--seconds", type=float, default=20.0, help="time limit of a run")
+    parser.add_argument("files", metavar="FILE", nargs="*")
+    args = parser.parse_args()
+    files = args.files or sorted(glob.glob(os.path.join(HERE, "..", "examples", "*.facts")))
+    tally = Tally()
+    refused = 0
+    if os.geteuid() != 0:
+        print("not root: no runs with few processes")
+    with tempfile.TemporaryDirectory() as folder:
+        os.chmod(folder, 0o755)
+        program = shutil.copy(args.nllc, os.path.join(folder, "nllc"))
+        for file in files:
+            path = shutil.copy(file, folder)
+            os.chmod(path, 0o644)
+            refused += try_file(tally, program, path, args.seconds, folder)
+    print(f"{tally.runs} runs, {tally.wrong} wrong")
+    return 1 if tally.wrong or not refused else 0
+
+
+if __name__ == "__main__":
+    sys.exit(main())

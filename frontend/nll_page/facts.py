@@ -1,0 +1,231 @@
+"""Reads a facts text, version 1 or 2 (docs/FORMATS.md).
+
+`nllc` is the judge of texts. This reader follows those that `nllc` accepts; it stops at a line that
+it can't follow, but doesn't look for every fault that a line can have.
+"""
+
+import re
+from collections import Counter
+from dataclasses import dataclass, field
+from functools import cached_property
+from typing import NamedTuple
+
+from .refusal import Refusal
+from .remarks import Remarks, is_remark
+
+TOKEN = re.compile(r"'[A-Za-z0-9_]+|[A-Za-z0-9_]+")
+NUMBER = re.compile(r"0|[1-9][0-9]{0,8}")
+
+# What stands behind each keyword: names of regions (r), numbers (n), and a place (p): a number or `all`.
+FORMS = {"points": "n", "universal": "r", "outlives": "rr", "region": "r", "next": "nn",
+         "return": "n", "base": "rn", "constraint": "rrp", "end": ""}
+
+VERSIONS = ([b"nll-facts", b"1"], [b"nll-facts", b"2"])
+
+# Stands in place of a point where a constraint holds at all points; it is below each point.
+ALL = -1
+
+
+class Constraint(NamedTuple):
+    """`(sup: sub) @ at`: sup holds all that is reached from the point inside sub, or all of sub."""
+
+    sup: int
+    sub: int
+    at: int
+
+
+@dataclass
+class Facts:
+    """A problem. Regions are numbers in the order of their lines, `'static` is 0."""
+
+    points: int = 0
+    names: list = field(default_factory=lambda: ["static"])
+    universals: int = 1
+    outlives: set = field(default_factory=set)
+    successors: list = field(default_factory=list)
+    predecessors: list = field(default_factory=list)
+    returns: set = field(default_factory=set)
+    bases: list = field(default_factory=lambda: [set()])
+    constraints: list = field(default_factory=list)
+    remarks: Remarks = field(default_factory=Remarks)
+    point_names: dict = field(default_factory=dict)     # of points that aren't named by their numbers
+
+    @cached_property
+    def live(self):
+        """For each point with base lines their regions."""
+        return grouped((point, region) for region, points in enumerate(self.bases)
+                       for point in points)
+
+    @cached_property
+    def asked(self):
+        """For each point with constraints their pairs of regions."""
+        return grouped((c.at, (c.sup, c.sub)) for c in self.constraints)
+
+    @cached_property
+    def stated(self):
+        """The constraints as a set."""
+        return frozenset(self.constraints)
+
+    @cached_property
+    def by_sup(self):
+        """For each region the constraints at whose larger side it stands."""
+        return grouped((c.sup, c) for c in self.constraints)
+
+    @cached_property
+    def spread(self):
+        """For each pair of regions with constraints at points the number of these."""
+        return Counter((c.sup, c.sub) for c in self.constraints if c.at != ALL)
+
+    def end_of(self, universal):
+        """The element that stands for what comes after the return, as long as this region lasts."""
+        return self.points + universal
+
+    def is_universal(self, region):
+        return region < self.universals
+
+    def point_name(self, point):
+        return self.point_names.get(point, str(point))
+
+    def place_name(self, at):
+        """Where a constraint holds: the name of a point, or `all`."""
+        return "all" if at == ALL else self.point_name(at)
+
+
+def grouped(pairs):
+    table = {}
+    for key, value in pairs:
+        table.setdefault(key, []).append(value)
+    return table
+
+
+def is_facts_text(text):
+    """Whether the first line is the header of a facts text, version 1 or 2."""
+    return text.split(b"\n", 1)[0].split() in VERSIONS
+
+
+def read_facts(text, path):
+    """The problem that the bytes of a text say."""
+    if not is_facts_text(text):
+        raise Refusal(f"{path} isn't a facts text: its first line is neither `nll-facts 1` nor `nll-facts 2`; "
+                      f"nllc.sh facts FILE.rs makes such texts of Rust files")
+    reader = Reader(path, text.split(b"\n", 1)[0].split() == VERSIONS[1])
+    for number, line in enumerate(decoded(text, path).split("\n"), 1):
+        if number > 1:
+            reader.read(number, line)
+    if not reader.ended:
+        raise Refusal(f"{path} stops before its `end` line: is it cut off?")
+    return reader.facts
+
+
+def decoded(text, path):
+    try:
+        return text.decode("utf-8")
+    except UnicodeDecodeError as error:
+        line = text.count(b"\n", 0, error.start) + 1
+        raise Refusal(f"{path}, line {line}: not UTF-8") from None
+
+
+class Reader:
+    """Adds line after line to the facts."""
+
+    def __init__(self, path, may_be_everywhere):
+        self.path = path
+        self.may_be_everywhere = may_be_everywhere
+        self.facts = Facts()
+        self.numbers = {"static": 0}
+        self.seen = set()
+        self.ended = False
+
+    def read(self, number, line):
+        if is_remark(line):
+            self.facts.remarks.read(line)
+            return
+        words = TOKEN.findall(line)
+        if not words:
+            if line.strip(" \t\r"):
+                self.stop(number)
+            return
+        form = FORMS.get(words[0])
+        left = TOKEN.sub("", line).strip(" \t\r").replace(" ", "").replace("\t", "")
+        if form is None or left or len(words) != len(form) + 1 or self.ended:
+            self.stop(number)
+        arguments = [self.argument(number, kind, word) for kind, word in zip(form, words[1:])]
+        if words[0] in ("universal", "region"):
+            self.declare(number, words[0], arguments[0])
+        elif (words[0], *arguments) not in self.seen:
+            if words[0] != "points":
+                self.seen.add((words[0], *arguments))  # what is said again says nothing new
+            getattr(self, "add_" + words[0])(number, *self.resolved(number, form, arguments))
+
+    def stop(self, number):
+        raise Refusal(f"{self.path}, line {number}: no line of a facts text here; "
+                      f"`nllc check {self.path}` says what is wrong with it")
+
+    def argument(self, number, kind, word):
+        """The name of a region, or a number."""
+        if kind == "r" and word.startswith("'"):
+            return word[1:]
+        if kind == "p" and word == "all" and self.may_be_everywhere:
+            return ALL
+        if kind in "np" and NUMBER.fullmatch(word):
+            return int(word)
+        return self.stop(number)
+
+    def resolved(self, number, form, arguments):
+        """The same with regions by number."""
+        for kind, argument in zip(form, arguments):
+            if kind in "np":
+                yield argument
+            elif argument in self.numbers:
+                yield self.numbers[argument]
+            else:
+                self.stop(number)
+
+    def point(self, number, *points):
+        if any(point >= self.facts.points for point in points):
+            self.stop(number)
+
+    def declare(self, number, keyword, name):
+        facts = self.facts
+        late = keyword == "universal" and len(facts.names) > facts.universals
+        if name in self.numbers or late or not facts.points:
+            self.stop(number)
+        self.numbers[name] = len(facts.names)
+        facts.names.append(name)
+        facts.bases.append(set())
+        facts.universals += keyword == "universal"
+
+    def add_points(self, number, points):
+        if self.facts.points or not 0 < points <= 1_048_576:
+            self.stop(number)
+        self.facts.points = points
+        self.facts.successors = [[] for _ in range(points)]
+        self.facts.predecessors = [[] for _ in range(points)]
+
+    def add_outlives(self, number, long, short):
+        if max(long, short) >= self.facts.universals:
+            self.stop(number)
+        self.facts.outlives.add((long, short))
+
+    def add_next(self, number, point, successor):
+        self.point(number, point, successor)
+        self.facts.successors[point].append(successor)
+        self.facts.predecessors[successor].append(point)
+
+    def add_return(self, number, point):
+        self.point(number, point)
+        self.facts.returns.add(point)
+
+    def add_base(self, number, region, point):
+        self.point(number, point)
+        self.facts.bases[region].add(point)
+
+    def add_constraint(self, number, sup, sub, at):
+        if at != ALL:
+            self.point(number, at)
+        self.facts.constraints.append(Constraint(sup, sub, at))
+
+    def add_end(self, number):
+        if not self.facts.points:
+            self.stop(number)
+        self.ended = True

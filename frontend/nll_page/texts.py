@@ -1,0 +1,111 @@
+"""The command `nllc.sh page`: pages of facts texts and MIR texts, and an index of them."""
+
+import argparse
+import os
+import tempfile
+import webbrowser
+
+from nll_schedule import program
+from nll_schedule.problem import is_mir_text, problem_in
+
+from . import command, faults, nllc, source
+from .folder import write_index
+from .mir_text import remarks_of
+from .page import STANDINGS, Content, page
+from .refusal import Refusal
+from .source import Source
+from .values import read_values
+
+FOLDER = os.path.join("out", "pages")
+
+ABOUT = """\
+Writes a page of each text, a facts text or a MIR text (docs/FORMATS.md), and an index.html of all pages of
+the folder; prints their paths. The values are those of the nllc that is found: the program in the variable NLLC,
+nllc.sh beside the folder frontend/, or the nllc on the PATH. The problem of a MIR text is told by
+frontend/world_program.rattle, a small program over the proved reader, which is compiled for about a minute at
+the first such page."""
+
+STATUSES = """\
+status 0: the pages were written; 2: words, a file or a text was refused; 3: nllc gave no answer, or a page
+couldn't be written; each with one line on standard error"""
+
+
+def main(arguments):
+    """Runs the command on these words; its status."""
+    return command.guarded(lambda: run(words_of(arguments)))
+
+
+def words_of(arguments):
+    parser = argparse.ArgumentParser(prog="nllc.sh page", description=ABOUT, epilog=STATUSES,
+                                     allow_abbrev=False,
+                                     formatter_class=argparse.RawDescriptionHelpFormatter)
+    parser.add_argument("texts", metavar="FILE", nargs="+", help="a facts text or a MIR text")
+    parser.add_argument("-o", dest="folder", metavar="FOLDER", default=FOLDER,
+                        help=f"where the pages go; without it {FOLDER}")
+    parser.add_argument("--open", action="store_true", help="open the page in the browser")
+    return parser.parse_args(arguments)
+
+
+def run(asked):
+    make_folder(asked.folder)
+    paths = []
+    for path in asked.texts:
+        out = os.path.join(asked.folder, page_name(path))
+        if command.same_file(path, out):
+            raise Refusal(f"the page would be written over {path}; name another folder by -o FOLDER")
+        command.write(out, page(content_of(path)))
+        print(out)
+        paths.append(out)
+    paths.append(write_index(asked.folder))
+    print(paths[-1])
+    if asked.open:
+        webbrowser.open(f"file://{os.path.abspath(paths[0 if len(paths) == 2 else -1])}")
+    return 0
+
+
+def make_folder(folder):
+    try:
+        os.makedirs(folder, exist_ok=True)
+    except OSError as error:
+        raise Refusal(f"{folder} can't be made: {error.strerror}; name another by -o FOLDER", 3) from None
+
+
+def page_name(path):
+    """A facts text's page has its name, any other's the name with its ending."""
+    return os.path.basename(path).removesuffix(".facts") + ".html"
+
+
+def content_of(path):
+    text = command.read_bytes(path)
+    if is_mir_text(text):
+        return content_of_mir(path, text)
+    if path.endswith(".rs"):
+        raise Refusal(f"{path} is a Rust file: ./nllc.sh rust {path} makes its texts and pages")
+    return command.content_of(argparse.Namespace(facts=path, source=None, values=None))
+
+
+def content_of_mir(path, text):
+    """The content of a MIR text's page: its source is the text itself."""
+    report, told, origin, standing = nllc.run(text)
+    facts, problem = problem_of(path)
+    facts.remarks = remarks_of(text.decode("utf-8"), facts.point_names)
+    command.look_small(path, facts)
+    values = read_values(report, facts, origin)
+    found = faults.faults(facts, values)
+    if told != [(facts.names[a], facts.names[b]) for a, b in found]:
+        raise Refusal(f"the faults of `{origin} check` aren't those of `{origin} values`", 3)
+    lines = text.decode("utf-8").removesuffix("\n").split("\n")
+    shown = Source(path, 1, lines) if len(text) <= source.MOST_BYTES else None
+    explained = command.explained(facts, values, found, origin)
+    return Content(facts, values, explained, path, shown, origin, standing, problem=problem)
+
+
+def problem_of(path):
+    """The problem of a MIR text, and by which program, in words."""
+    with tempfile.TemporaryDirectory(prefix="nll-page.") as folder:
+        schedule = os.path.join(folder, "schedule")
+        with open(schedule, "w", encoding="utf-8") as file:
+            file.write("nll-schedule 1\n")
+        printed = program.run(["1", "round", path, schedule])
+    facts, _ = problem_in(printed.text, path)
+    return facts, f"The text’s problem from {printed.program}, {STANDINGS[printed.standing]}."

@@ -1,0 +1,50 @@
+"""Finds `world_program`, and runs it."""
+
+import os
+import subprocess
+from typing import NamedTuple
+
+from nll_page.nllc import PROVED, ROOT, UNKNOWN, UNPROVED, shown
+from nll_page.refusal import Refusal
+
+SCRIPT = os.path.join(ROOT, "frontend", "world_program.sh")
+MOST_BYTES = 64 * 1024 * 1024
+
+
+class Printed(NamedTuple):
+    """What a program printed, which one it was, and whether that is proved."""
+
+    text: str
+    program: str
+    standing: str
+
+
+def find():
+    """The program in the variable WORLD_PROGRAM, or that of frontend/world_program.sh, and its standing."""
+    named = os.environ.get("WORLD_PROGRAM")
+    if named:
+        return named, UNKNOWN
+    found = subprocess.run([SCRIPT], stdin=subprocess.DEVNULL, stdout=subprocess.PIPE, check=False)
+    path = found.stdout.decode().strip()
+    if found.returncode or not path:
+        raise Refusal("there is no world_program", 3)
+    return path, UNPROVED if path.endswith("-unproved") else PROVED
+
+
+def run(words):
+    """Runs the program on these words."""
+    path, standing = find()
+    try:
+        with subprocess.Popen([path, *words], stdin=subprocess.DEVNULL, stdout=subprocess.PIPE,
+                              stderr=subprocess.PIPE) as process:
+            out = process.stdout.read(MOST_BYTES + 1)
+            if len(out) > MOST_BYTES:
+                process.kill()
+                raise Refusal("the states take more than 64 MiB; a page of so many is no use to anybody")
+            said = process.stderr.read().decode("utf-8", "replace").strip().splitlines()
+    except OSError as error:
+        raise Refusal(f"{path} can't be run: {error.strerror}", 3) from None
+    if process.returncode:
+        raise Refusal(said[0] if said else f"{shown(path)} ended with status {process.returncode}",
+                      2 if said else 3)
+    return Printed(out.decode("utf-8", "replace"), shown(path), standing)

@@ -1,0 +1,106 @@
+#!/usr/bin/env python3
+"""Makes what docs/ shows of pages: the pictures of docs/FROM-RUST.md, docs/LEARNING.md's page, and the
+picture of docs/MESSAGES.md.
+
+    pictures.py [--schedule] [FOLDER]
+
+The pictures are of examples/three.rs in a headless Chromium, and of one of its schedules. Needs rustc,
+Chromium and an `nllc`; with `--schedule` it makes the last picture alone, for which Chromium and a
+`world_program` suffice. Run by hand where the page's look or an example has changed; FOLDER is docs/
+otherwise.
+"""
+
+import os
+import shutil
+import subprocess
+import sys
+import tempfile
+
+HERE = os.path.dirname(os.path.abspath(__file__))
+ROOT = os.path.dirname(os.path.dirname(os.path.dirname(HERE)))
+sys.path[:0] = [HERE, os.path.join(ROOT, "frontend")]
+
+from devtools import Browser  # noqa: E402 (the paths stand above)
+
+from nll_page.facts import read_facts  # noqa: E402
+
+SIZE = (1440, 860)
+
+# The example of docs/LEARNING.md.
+LEARNING = "running.mir"
+
+# A picture's name, the function, the scheme, and what is chosen: a step, or a region by its words
+# and perhaps the last point with these words.
+PICTURES = [
+    ("longer", "longer", "light", "step=2"),
+    ("news", "news", "light", "the borrow &draft"),
+    ("news-point", "news", "dark", "the borrow &draft @ (*text)"),
+    ("fixed", "fixed", "dark", "the type of text"),
+]
+
+
+def fragment(text, chosen):
+    """The part of a page's address that chooses this."""
+    if chosen.startswith("step="):
+        return f"#{chosen}"
+    words, _, used = chosen.partition(" @ ")
+    facts = read_facts(text, "text")
+    name = next(n for n in facts.names if facts.remarks.region(n).text.startswith(words))
+    point = f"&point={last_use(facts, used)}" if used else ""
+    return f"#region={name}{point}"
+
+
+def last_use(facts, used):
+    """The last point whose statement has these words."""
+    return max(p for p in range(facts.points) if used in facts.remarks.point(p).text)
+
+
+def main(folder):
+    for part in ("pictures", "pages"):
+        os.makedirs(os.path.join(folder, part), exist_ok=True)
+    with tempfile.TemporaryDirectory() as pages:
+        subprocess.run(["./nllc.sh", "page", "-o", pages, f"examples/{LEARNING}"], cwd=ROOT,
+                       stdout=subprocess.DEVNULL, check=True)
+        shutil.copy(os.path.join(pages, f"{LEARNING}.html"), os.path.join(folder, "pages"))
+    with tempfile.TemporaryDirectory() as pages, Browser() as browser:
+        subprocess.run(["./nllc.sh", "rust", "examples/three.rs", "-o", pages], cwd=ROOT,
+                       stdout=subprocess.DEVNULL, stderr=subprocess.DEVNULL, check=False)
+        for picture in PICTURES:
+            take(browser, pages, os.path.join(folder, "pictures"), *picture)
+
+
+def take_schedule(folder):
+    """The picture of a schedule."""
+    os.makedirs(os.path.join(folder, "pictures"), exist_ok=True)
+    with tempfile.TemporaryDirectory() as pages, Browser() as browser:
+        path = os.path.join(pages, "schedule.html")
+        subprocess.run(["./nllc.sh", "schedule", "examples/each_other.facts", "examples/each_other.schedule",
+                        "-o", path], cwd=ROOT, stdout=subprocess.DEVNULL, check=True)
+        page = browser.open(path, 1280, 760, "light", "#event=18")
+        save(page, os.path.join(folder, "pictures", "schedule.png"))
+
+
+def take(browser, pages, folder, name, function, scheme, chosen):
+    """One picture."""
+    with open(os.path.join(pages, f"{function}.facts"), "rb") as file:
+        text = file.read()
+    path = os.path.join(pages, f"{function}.html")
+    page = browser.open(path, *SIZE, scheme, fragment(text, chosen))
+    save(page, os.path.join(folder, f"{name}.png"))
+
+
+def save(page, picture):
+    """Its colours are made fewer where pngquant is there, for a third of the size."""
+    page.screenshot(picture)
+    if shutil.which("pngquant"):
+        subprocess.run(["pngquant", "--force", "--ext", ".png", "--quality", "80-100", picture],
+                       check=False)
+
+
+if __name__ == "__main__":
+    words = sys.argv[1:]
+    alone = words[:1] == ["--schedule"]
+    where = os.path.abspath((words[alone:] or [os.path.join(ROOT, "docs")])[0])
+    if not alone:
+        main(where)
+    take_schedule(where)

@@ -1,0 +1,87 @@
+"""What the tests of `nll_page` share: small texts, values of the slow reference, random problems.
+"""
+
+import os
+import random
+import sys
+import tempfile
+import unittest
+
+HERE = os.path.dirname(os.path.abspath(__file__))
+ROOT = os.path.dirname(os.path.dirname(HERE))
+sys.path[:0] = [os.path.join(ROOT, "frontend"), os.path.join(ROOT, "check", "reference")]
+
+import reference  # noqa: E402 (the paths stand above)
+
+from nll_page.facts import read_facts  # noqa: E402
+from nll_page.values import read_values  # noqa: E402
+
+SAMPLES = os.path.join(HERE, "page_samples")
+EXAMPLES = os.path.join(ROOT, "examples")
+
+
+def text(points, *lines, version=1):
+    return "\n".join([f"nll-facts {version}", f"points {points}", *lines, "end", ""]).encode()
+
+
+def facts_of(points, *lines):
+    return read_facts(text(points, *lines), "TEXT")
+
+
+def solved(data):
+    """Facts and values of a text, the values as the reference prints them."""
+    facts = read_facts(data, "TEXT")
+    report, status, _ = reference.answer("values", data)
+    assert status == 0
+    return facts, read_values(report.decode(), facts, "REPORT")
+
+
+def file_bytes(*path):
+    with open(os.path.join(*path), "rb") as file:
+        return file.read()
+
+
+def random_text(seed, places=()):
+    """A small problem with loops, several returns and named lifetimes; many of them have faults.
+    Beside the points, its constraints hold at these places.
+    """
+    draw = random.Random(seed)
+    points = draw.randint(1, 9)
+    universals = [f"u{n}" for n in range(draw.randint(1, 3))]
+    regions = [f"r{n}" for n in range(draw.randint(0, 4))]
+    names = ["static"] + universals + regions
+    lines = [f"universal '{name}" for name in universals]
+    lines += [f"outlives '{draw.choice(universals)} '{draw.choice(universals)}"
+              for _ in range(draw.randint(0, 1))]
+    lines += [f"region '{name}" for name in regions]
+    lines += [f"next {p} {p + 1}" for p in range(points - 1) if draw.random() < 0.85]
+    lines += [f"next {draw.randrange(points)} {draw.randrange(points)}"
+              for _ in range(draw.randint(0, 4))]
+    lines += [f"return {draw.randrange(points)}" for _ in range(draw.randint(1, 2))]
+    lines += [f"base '{name} {p}" for name in regions for p in range(points) if draw.random() < 0.6]
+    places = [*range(points), *places]
+    lines += [f"constraint '{draw.choice(names)} '{draw.choice(names)} {draw.choice(places)}"
+              for _ in range(draw.randint(1, 9))]
+    return text(points, *lines, version=2)
+
+
+class Folder(unittest.TestCase):
+    """Each test has a folder of its own; `nllc` is a script there that runs the reference."""
+
+    def setUp(self):
+        folder = tempfile.TemporaryDirectory()
+        self.addCleanup(folder.cleanup)
+        self.folder = folder.name
+        self.program("nllc", f'exec "{sys.executable}" "{ROOT}/check/reference/reference.py" "$@"')
+
+    def path(self, *name):
+        return os.path.join(self.folder, *name)
+
+    def write(self, name, data):
+        with open(self.path(name), "wb") as file:
+            file.write(data)
+        return self.path(name)
+
+    def program(self, name, body):
+        self.write(name, f"#!/bin/sh\n{body}\n".encode())
+        os.chmod(self.path(name), 0o755)

@@ -1,0 +1,299 @@
+"""The commands with a real rustc: fresh texts are the golden ones, bad inputs are one line each.
+
+Where there is no rustc, or another than the stored dumps are of, these tests are skipped.
+"""
+
+import os
+import shutil
+import subprocess
+import tempfile
+import unittest
+
+import facts_support as support
+
+FACTS = (os.path.join(support.FRONTEND, "run"), "facts")
+RUST = os.path.join(support.ROOT, "nllc.sh")
+
+
+VERSION = support.rustc_release()
+needs_rustc = unittest.skipUnless(VERSION, "no rustc")
+needs_known = unittest.skipUnless(VERSION.startswith(support.KNOWN), f"no rustc {support.KNOWN}x")
+
+
+class Room(unittest.TestCase):
+    """A folder for each test, and what a program leaves there."""
+
+    def setUp(self):
+        self.room = tempfile.mkdtemp()
+        self.addCleanup(shutil.rmtree, self.room)
+
+    def path(self, *names):
+        return os.path.join(self.room, *names)
+
+    def write(self, name, text):
+        os.makedirs(os.path.dirname(self.path(name)), exist_ok=True)
+        with open(self.path(name), "w", encoding="utf-8") as file:
+            file.write(text)
+        return self.path(name)
+
+    def left(self):
+        return sorted(os.path.relpath(os.path.join(place, name), self.room)
+                      for place, _, names in os.walk(self.room) for name in names)
+
+    def refused(self, done, words):
+        """The last line says it, the status is 2, and no text was left."""
+        self.assertEqual(done.returncode, 2, done.stderr)
+        self.assertEqual(done.stdout, "")
+        self.assertIn(words, done.stderr.strip().split("\n")[-1])
+        self.assertFalse([name for name in self.left() if not name.endswith((".rs", ".toml"))])
+
+
+@needs_known
+class Fresh(Room):
+    def test_fresh_texts_are_the_golden_ones(self):
+        for source in support.SOURCES:
+            with self.subTest(source=source):
+                out = self.path(source)
+                done = support.run(*FACTS, support.source_path(source), "-o", out, cwd=support.HERE)
+                self.assertEqual(done.returncode, 0, done.stderr)
+                golden = support.golden_texts(source)
+                self.assertEqual(sorted(os.listdir(out)), sorted(golden))
+                for name, text in golden.items():
+                    with open(os.path.join(out, name), encoding="utf-8") as file:
+                        self.assertEqual(file.read(), text, name)
+
+    def test_one_function_by_name_and_by_line(self):
+        for wanted in ("running", "15"):
+            done = support.run(*FACTS, support.source_path("rfc2094"), wanted, "-o", self.path("o"),
+                               cwd=support.HERE)
+            self.assertIn("running: 74 points", done.stdout, done.stderr)
+            self.assertEqual(os.listdir(self.path("o")), ["running.facts"])
+
+    def test_method_by_type(self):
+        done = support.run(*FACTS, support.source_path("small"), "Pair::next", "-o", self.path("o"),
+                           cwd=support.HERE)
+        self.assertIn("impl0-next.facts", done.stdout, done.stderr)
+
+    def test_rustc_refuses_borrows_alone(self):
+        done = support.run(*FACTS, support.source_path("differ"), "-o", self.path("o"),
+                           cwd=support.HERE)
+        self.assertEqual(done.returncode, 0)
+        self.assertIn("lifetime may not live long enough", done.stderr)
+
+
+@needs_rustc
+class Refused(Room):
+    def convert(self, text, *words, **options):
+        return support.run(*FACTS, self.write("a.rs", text), *words, "-o", self.path("o"), **options)
+
+    def test_no_such_file(self):
+        done = support.run(*FACTS, self.path("none.rs"), "-o", self.path("o"))
+        self.refused(done, "none.rs is no file that can be read; give the path of a Rust file")
+
+    def test_types_that_do_not_fit(self):
+        done = self.convert('fn f() -> u8 {\n    "a"\n}\n')
+        self.assertIn("mismatched types", done.stderr)
+        self.refused(done, "rustc refuses")
+
+    def test_one_function_of_several_is_wrong(self):
+        text = 'fn f() -> u8 {\n    "a"\n}\nfn g(x: &u8) -> &u8 {\n    x\n}\n'
+        self.answered_in_part(self.convert(text))
+        self.assertEqual(self.convert(text, "g").returncode, 0)
+
+    def test_a_module_of_another_file(self):
+        self.write("m.rs", 'pub fn f() -> u8 {\n    "a"\n}\n')
+        self.answered_in_part(self.convert("mod m;\nfn g(x: &u8) -> &u8 {\n    x\n}\n"))
+
+    def answered_in_part(self, done):
+        """The other function has a text; rustc's errors are shown, and the status says that they are there."""
+        self.assertEqual(done.returncode, 2)
+        self.assertEqual(os.listdir(self.path("o")), ["g.facts"])
+        self.assertIn("mismatched types", done.stderr)
+        self.assertIn("rustc refuses line 2 before it checks borrows", done.stderr)
+
+    def test_texts_of_nllc(self):
+        for text, words in (("nll-facts 1\npoints 1\nend\n", "is a facts text, not a Rust file"),
+                            ("nll-mir 1\n", "is a MIR text, not a Rust file")):
+            self.refused(self.convert(text), words)
+
+    def test_no_rust(self):
+        self.refused(self.convert("fn f("), "rustc refuses")
+
+    def test_no_function(self):
+        self.refused(self.convert("pub struct S;\n"), "has no function with a body")
+
+    def test_unknown_name(self):
+        done = self.convert("fn f() {}\ntrait T { fn g(&self); }\n", "g")
+        self.refused(done, "no function `g` has facts (one without a body has none, "
+                     "nor one whose types rustc refuses); these do: f")
+
+    def test_name_of_several(self):
+        done = self.convert("mod a { pub fn f() {} }\nmod b { pub fn f() {} }\n", "f")
+        self.refused(done, "`f` fits several functions: a::f (line 1), b::f (line 2); give one")
+
+    def test_no_rustc(self):
+        done = self.convert("fn f() {}\n", env=os.environ | {"RUSTC": self.path("rustc")})
+        self.refused(done, "there is no rustc: install one")
+
+    def test_unknown_flags(self):
+        done = self.convert("fn f() {}\n", "--", "-Znone-such")
+        self.refused(done, "doesn't take what it was given")
+
+    def test_folder_that_cannot_be_made(self):
+        done = support.run(*FACTS, self.write("a.rs", "fn f() {}\n"), "-o", self.path("a.rs", "o"))
+        self.assertEqual(done.returncode, 3)
+        self.assertIn("can't be made", done.stderr)
+
+    def test_no_crate(self):
+        done = support.run(*FACTS, "--crate", self.room, "-o", self.path("o"))
+        self.refused(done, "has no Cargo.toml; give the folder of a crate or workspace")
+
+
+@needs_known
+class Crate(Room):
+    def test_workspace_with_a_dependency(self):
+        self.write("ws/Cargo.toml", '[workspace]\nmembers = ["one", "two"]\nresolver = "2"\n')
+        self.write("ws/one/Cargo.toml", '[package]\nname = "one"\nversion = "0.1.0"\n')
+        self.write("ws/one/src/lib.rs", "pub fn f(x: &u8) -> &u8 {\n    x\n}\n")
+        self.write("ws/two/Cargo.toml", '[package]\nname = "two"\nversion = "0.1.0"\n'
+                   '[dependencies]\none = { path = "../one" }\n')
+        self.write("ws/two/src/main.rs", "fn main() {\n    one::f(&3);\n}\n"
+                   "pub fn bad<'a>(x: &'a u8) -> &'static u8 {\n    x\n}\n"
+                   "pub fn worse(mut x: u8) -> u8 {\n    let y = &x;\n    x = 3;\n    *y\n}\n")
+        program = self.write("nllc", "#!/bin/sh\nexec python3 "
+                             f"{support.ROOT}/check/reference/reference.py \"$@\"\n")
+        os.chmod(program, 0o755)
+        done = support.run(*FACTS, "--crate", self.path("ws"), "-o", self.path("o"), "--",
+                           "--workspace", "--offline", env=os.environ | {"NLLC": program})
+        self.assertEqual(done.returncode, 0, done.stderr)
+        self.assertRegex(done.stdout, r"one/src/lib\.rs +1 +2 +\d+\.\d +0 +0\n")
+        self.assertRegex(done.stdout, r"two/src/main\.rs +3 +\d+ +\d+\.\d +1 +1\n")
+        self.assertIn("two/src/main.rs:9:5: worse: E0506: `x = 3` assigns to what line 8 has borrowed",
+                      done.stdout)
+        self.assertIn("two/src/main.rs:4: bad: 'a must outlive 'static", done.stdout)
+        self.assertEqual([name for name in self.left() if name.startswith("o/")],
+                         ["o/one/f.facts", "o/two/bad.facts", "o/two/main.facts", "o/two/worse.facts"])
+
+
+@needs_known
+class OneCommand(Room):
+    """`nllc.sh rust`, with the slow reference as `nllc`."""
+
+    def setUp(self):
+        super().setUp()
+        self.program = self.write("nllc", "#!/bin/sh\nexec python3 "
+                                  f"{support.ROOT}/check/reference/reference.py \"$@\"\n")
+        os.chmod(self.program, 0o755)
+
+    def rust(self, *words):
+        return subprocess.run([RUST, "rust", *words, "-o", self.path("o")], capture_output=True,
+                              check=False, cwd=support.HERE, encoding="utf-8",
+                              env=os.environ | {"NLLC": self.program})
+
+    def line(self, source, code):
+        with open(os.path.join(support.HERE, support.source_path(source)), encoding="utf-8") as file:
+            return file.read().split("\n").index(code) + 1
+
+    def test_fault_in_two_lines(self):
+        done = self.rust(support.source_path("differ"), "longer")
+        self.assertEqual(done.returncode, 1, done.stderr)
+        into, out = self.line("differ", "        r = y;"), self.line("differ", "    r // holds: r")
+        self.assertEqual(done.stdout.splitlines(), [
+            "longer: 1 fault",
+            f"  sources/differ.rs:{out}:5: `'b` must outlive `'a`, which the signature doesn't say (returned)",
+            f"      what lives for `'b` comes to `'a` by line {into} (assigned: `r = y`) and line {out} "
+            "(returned: `r`)",
+            f"pages: {self.path('o', 'index.html')}"])
+        self.assertTrue(os.path.isfile(self.path("o", "longer.html")))
+
+    LOANS = """\
+fn show(_: &u8) {}
+pub fn wrong() {
+    let mut list = vec![1];
+    let first = &list[0];
+    list.push(2);
+    show(first);
+}
+"""
+    KEEPS = """\
+pub fn keeps<'a>(list: &mut Vec<&'a str>, text: &'a str) {
+    let mut keep = |part: &'a str| list.push(part);
+    keep(text);
+}
+"""
+
+    def test_loan_in_two_lines_and_step_by_step(self):
+        path = self.write("a.rs", self.LOANS)
+        done = self.rust(path, "wrong", "--explain")
+        self.assertEqual(done.returncode, 1, done.stderr)
+        self.assertEqual(done.stdout.splitlines()[:3], [
+            "wrong: 1 loan error",
+            f"  {path}:5:5: E0502: `list.push(2)` borrows as mutable what line 4 has borrowed",
+            "      the loan of line 4 (`list`) is in force: its region `'r2` holds line 5, since line 6 "
+            "uses it (`show(first);`)"])
+        self.assertIn("error[E0502]", done.stderr)
+        self.assertRegex(done.stdout, r"why `'r2` holds point \d+, ")
+        self.assertRegex(done.stdout, r"`'r\d+` is live at point \d+: .* \(line 6\) uses it\n")
+
+    def test_right_functions(self):
+        done = self.rust(self.write("a.rs", self.KEEPS))
+        self.assertEqual((done.returncode, done.stderr), (0, ""))
+        self.assertTrue(done.stdout.startswith("no fault: keeps\n"), done.stdout)
+
+    def test_a_fault_of_a_closure_is_one_of_the_function(self):
+        path = self.write("a.rs", "pub fn f(mut list: Vec<u8>) {\n    let mut add = || {\n"
+                          "        let one = &mut list;\n        list.push(1);\n        one.push(2);\n"
+                          "    };\n    add();\n}\npub fn g() {}\n")
+        lines = self.rust(path).stdout.splitlines()
+        self.assertEqual((lines[0], lines[3]), ("closure 1 of f: 1 loan error", "no fault: g"))
+        self.assertIn(f"{path}:4:9: E0499", lines[1])
+
+    def test_both_answers(self):
+        done = self.rust(support.source_path("differ"), "get_default")
+        self.assertEqual(done.returncode, 0, done.stderr)
+        self.assertRegex(done.stdout, r"differ.rs:55:13: rustc 1\.\d+\.\d+: E0499: .*; nllc: no fault there\n"
+                         r" +problem case 3 of RFC 2094: the loan of line 52 ")
+
+    def test_a_type_error_beside(self):
+        path = self.write("a.rs", 'fn f() -> u8 {\n    "a"\n}\nfn g(x: &u8) -> &u8 {\n    x\n}\n')
+        done = self.rust(path)
+        self.assertEqual(done.returncode, 2)
+        self.assertIn("no fault: g\n", done.stdout)
+        self.assertIn("rustc refuses line 2 before it checks borrows", done.stderr)
+
+    def test_where_output_goes(self):
+        done = subprocess.run([RUST, "rust", os.path.join(support.HERE, support.source_path("differ")),
+                               "last"], capture_output=True, check=False, cwd=self.room,
+                              encoding="utf-8", env=os.environ | {"NLLC": self.program})
+        self.assertEqual(done.stdout.splitlines()[-1], "pages: out/rust/differ/index.html", done.stderr)
+        self.assertEqual([name for name in self.left() if not name.startswith("out/rust/")], ["nllc"])
+        with open(self.path("out", "rust", ".gitignore"), encoding="utf-8") as file:
+            self.assertEqual(file.read(), "*\n")
+
+    def test_any_locale(self):
+        env = os.environ | {"NLLC": self.program, "PYTHONIOENCODING": "ascii", "LC_ALL": "C",
+                            "PYTHONUTF8": "0", "PYTHONCOERCECLOCALE": "0"}
+        done = subprocess.run([RUST, "rust", support.source_path("differ"), "longer", "--explain",
+                               "-o", self.path("o")], capture_output=True, check=False,
+                              cwd=support.HERE, encoding="ascii", env=env)
+        self.assertEqual(done.returncode, 1, done.stderr)
+        self.assertIn(" -> ", done.stdout)
+
+    def test_nowhere_to_write(self):
+        with open("/dev/full", "w", encoding="utf-8") as full:
+            done = subprocess.run([RUST, "rust", support.source_path("differ"), "last", "-o",
+                                   self.path("o")], stdout=full, stderr=subprocess.PIPE, check=False,
+                                  cwd=support.HERE, encoding="utf-8",
+                                  env=os.environ | {"NLLC": self.program})
+        self.assertEqual((done.returncode, done.stderr), (3, "nllc.sh rust: standard output can't be "
+                                                          "written: No space left on device\n"))
+
+    def test_refusal(self):
+        done = self.rust("none.rs")
+        self.assertEqual(done.returncode, 2)
+        self.assertEqual(done.stderr, "nllc.sh rust: none.rs is no file that can be read; "
+                         "give the path of a Rust file\n")
+
+
+if __name__ == "__main__":
+    unittest.main()

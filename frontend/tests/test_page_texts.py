@@ -1,0 +1,138 @@
+"""The command `nllc.sh page`: pages of both kinds of texts, by the slow programs, and their index."""
+
+import io
+import os
+import re
+import unittest
+from contextlib import redirect_stderr, redirect_stdout
+from unittest import mock
+
+from page_support import EXAMPLES, ROOT, SAMPLES, Folder, file_bytes, reference
+
+from nll_page import index
+from nll_page.folder import write_index
+from nll_page.mir_text import MirText
+from nll_page.texts import main
+from nll_page.values import read_values
+from nll_schedule.problem import problem_in
+from schedule_support import printed, schedule
+
+SLOW = os.path.join(ROOT, "check", "reference", "reference_states.py")
+
+
+class Command(Folder):
+    def run_main(self, *words, world=SLOW):
+        out, err = io.StringIO(), io.StringIO()
+        with mock.patch.dict(os.environ, {"NLLC": self.path("nllc"), "WORLD_PROGRAM": world}), \
+                redirect_stdout(out), redirect_stderr(err):
+            try:
+                status = main([*words, "-o", self.path("pages")])
+            except SystemExit as ended:
+                status = ended.code
+        return status, out.getvalue().splitlines(), err.getvalue()
+
+    def page(self, name):
+        with open(self.path("pages", name), encoding="utf-8") as file:
+            return file.read()
+
+
+class Pages(Command):
+    def test_a_mir_text(self):
+        status, out, err = self.run_main(os.path.join(EXAMPLES, "two_universals.mir"))
+        self.assertEqual((status, err), (0, ""))
+        self.assertEqual(out, [self.path("pages", "two_universals.mir.html"), self.path("pages", "index.html")])
+        page = self.page("two_universals.mir.html")
+        self.assertIn("<code>&#x27;b</code> must outlive <code>&#x27;a</code>", page)
+        self.assertIn("_0 = copy _1", page)
+        self.assertIn("bb0/1", page)
+        self.assertIn("The text’s problem from check/reference/reference_states.py", page)
+
+    def test_a_facts_text(self):
+        status, out, err = self.run_main(os.path.join(EXAMPLES, "chain.facts"))
+        self.assertEqual((status, err), (0, ""))
+        self.assertEqual(out[0], self.path("pages", "chain.html"))
+
+    def test_both_of_one_name(self):
+        _, out, _ = self.run_main(*(os.path.join(EXAMPLES, f"running.{kind}") for kind in ("facts", "mir")))
+        self.assertEqual([os.path.basename(path) for path in out],
+                         ["running.html", "running.mir.html", "index.html"])
+
+    def test_a_struct_with_a_drop(self):
+        status, _, err = self.run_main(os.path.join(EXAMPLES, "drop.mir"))
+        self.assertEqual((status, err), (0, ""))
+        self.assertIn("drop _1 -&gt; bb1", self.page("drop.mir.html"))
+
+    def test_refusals(self):
+        for name, data, said in (
+                ("wrong.mir", b"nll-mir 1\nend\n", "nllc refuses the text: nllc: line 2: syntax"),
+                ("second.mir", b"nll-mir 2\nend\n", "nllc refuses the text: nllc: line 2: syntax"),
+                ("wrong.rs", b"fn f() {}\n", r"is a Rust file: ./nllc.sh rust \S*wrong.rs makes its texts"),
+                ("other", b"hello\n", "isn't a facts text")):
+            with self.subTest(name=name):
+                status, out, err = self.run_main(self.write(name, data))
+                self.assertEqual((status, out, err.count("\n")), (2, [], 1))
+                self.assertRegex(err, said)
+
+    def test_a_program_that_is_not_there(self):
+        status, out, err = self.run_main(os.path.join(EXAMPLES, "drop.mir"), world=self.path("missing"))
+        self.assertEqual((status, out), (3, []))
+        self.assertIn("can't be run", err)
+
+
+class MirTexts(unittest.TestCase):
+    def test_statements_and_regions(self):
+        said = MirText(file_bytes(EXAMPLES, "running.mir").decode())
+        self.assertEqual(said.statements["bb1/1"], (24, "_3 = &'bar _2 (bb1[1])"))
+        self.assertEqual(said.regions["p"], (17, "the type of _3: &'p int"))
+        self.assertEqual(said.regions["bar"], (24, "the borrow _3 = &'bar _2"))
+
+    def test_each_point_has_its_statement(self):
+        """The names of points are those of the definitions, in every example."""
+        for name in sorted(os.listdir(EXAMPLES)):
+            if not name.endswith(".mir"):
+                continue
+            with self.subTest(name=name):
+                data = file_bytes(EXAMPLES, name)
+                facts, _ = problem_in(printed(data, schedule(), 1), name)
+                self.assertEqual(sorted(MirText(data.decode()).statements), sorted(facts.point_names.values()))
+                report = reference.answer("values", data)[0].decode()
+                self.assertEqual(len(read_values(report, facts, "REPORT").rows), len(facts.names))
+
+
+class Index(Command):
+    def test_a_row_a_page(self):
+        self.write("pick.facts", file_bytes(SAMPLES, "pick.facts"))
+        self.write("pick.rs", file_bytes(SAMPLES, "pick.rs"))
+        self.run_main(self.path("pick.facts"), os.path.join(EXAMPLES, "drop.mir"))
+        made = self.page("index.html")
+        self.assertEqual(re.findall(r'href="\./([^"]*)"', made), [name for name, _ in index.rows_in(
+            self.path("pages"))])
+        rows = dict(index.rows_in(self.path("pages")))
+        self.assertEqual(rows["pick.html"], ("pick", self.path("pick.rs"), 5, 9, 4, 1, None))
+        self.assertIn("1 fault<", made)
+
+    def test_text_stays_text(self):
+        nasty = '"><script>alert(1)</script>&'
+        row = index.Row(nasty, nasty, 1, 2, 3, 0, 1)
+        self.write("a b%.html", index.row_mark(row).encode())
+        self.assertEqual(index.row_in(self.path("a b%.html")), row)
+        made = index.index_page(index.rows_in(self.folder), "{{title}}{{rows}}{{verdict}}", "")
+        self.assertNotIn("<script", made)
+        self.assertIn('href="./a%20b%25.html"', made)
+        self.assertIn("1 loan error<", made)
+
+    def test_pages_that_are_named_alone(self):
+        for name in ("old.html", "new.html"):
+            self.write(name, index.row_mark(index.Row(name, "x", 1, 1, 1, 0, None)).encode())
+        write_index(self.folder, ["new.html"])
+        with open(self.path("index.html"), encoding="utf-8") as file:
+            self.assertEqual(re.findall(r'href="\./([^"]*)"', file.read()), ["new.html"])
+
+    def test_other_files(self):
+        self.write("other.html", b"<p>no page</p>")
+        self.write("index.html", index.row_mark(index.Row("x", "x", 1, 1, 1, 0, None)).encode())
+        self.assertEqual(index.rows_in(self.folder), [])
+
+
+if __name__ == "__main__":
+    unittest.main()
