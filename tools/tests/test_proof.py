@@ -41,7 +41,8 @@ class Proof(unittest.TestCase):
 
     def test_the_edits_are_counted(self):
         [said] = re.findall(r"(\d+) wrong bodies", TEXT)
-        self.assertLessEqual(abs(int(said) - len(list((ROOT / "crates").glob("*/*/*.edit")))), MOST_APART * int(said))
+        found = [path for path in (ROOT / "crates").glob("*/*/*.edit") if path.parent.name != "tried-bodies"]
+        self.assertLessEqual(abs(int(said) - len(found)), MOST_APART * int(said))
 
 
 if __name__ == "__main__":

@@ -1,4 +1,5 @@
-"""README, the course and the page on proofs have no sentence of more than 30 words; documents have plain words."""
+"""README, the course and the page on proofs have no sentence of more than 30 words; documents and comments have plain
+words."""
 
 import pathlib
 import re
@@ -10,6 +11,14 @@ MOST_WORDS = 30
 # Turns of speech for which a document has plain words: appends; live; conflicts with; returned; out of memory; for
 # readers who; round-robin.
 REFUSED = ("behind the others", "in force", "goes against", "handed out", "want of memory", "for who ", "dealt in turns")
+# Of comments also: scratch space; in prose; separated by; follows; the error says.
+REFUSED_IN_COMMENTS = (*REFUSED, "for its own use", "the same in words", "parted by", "stands behind", "error tells")
+# A comment that begins so leaves its reader to search for what it is like: "Like `f`, but ..".
+REFUSED_BEGINNING = re.compile(r"[Tt]he same(?=[,.]| (?:as|but|by|for|in|of|where|with)\b)")
+# Crates whose comments are still to be rewritten, and a file; take an entry out with its last such comment.
+UNWRITTEN = ("nll_core", "nll_cut", "nll_driver", "nll_model", "nll_owner", "nll_program_tests", "nll_report",
+             "nll_run_tests", "nll_tests/src/frontiers.rt", "nll_worker")
+COMMENT = {".rt": re.compile(r"\s*//[/!]? ?(.*)"), ".antt": re.compile(r"\s*-- ?(.*)")}
 APART = re.compile(r"\||#|!\[|    ")     # tables, headings, pictures and what is shown as code
 ITEM = re.compile(r"^(?:[-*]|\d+\.) ")
 END = re.compile(r"(?<=[.?!])[)*\"”]*\s+(?=[A-Z`\"(*\[“'])|(?<=[.?!]\"|[.?!]\)|[.?!]\*)\s+(?=[A-Z`\"(*\[“])")
@@ -41,6 +50,24 @@ def count(sentence):
     return sum(1 for word in plain.split() if WORD.search(word))
 
 
+def comments(path):
+    """The paragraphs of the comments of a file, a line each; those at the end of a line of code don't count."""
+    lines = []
+    for line in [*path.read_text().splitlines(), ""]:
+        comment = COMMENT[path.suffix].match(line)
+        if comment and comment[1].strip():
+            lines.append(comment[1].strip())
+        elif lines:
+            yield " ".join(lines)
+            lines = []
+
+
+def refused(comment):
+    """The turns of speech in a comment for which there are plain words."""
+    beginning = REFUSED_BEGINNING.match(comment)
+    return [words for words in REFUSED_IN_COMMENTS if words in comment] + ([beginning[0]] if beginning else [])
+
+
 class Sentences(unittest.TestCase):
     def test_lengths(self):
         for document in DOCUMENTS:
@@ -55,6 +82,25 @@ class Sentences(unittest.TestCase):
                 continue
             said = " ".join(line for line in path.read_text().splitlines() if not line.startswith("    "))
             self.assertEqual([words for words in REFUSED if words in said], [], path)
+
+    def test_plain_comments(self):
+        """In comments of sources and of definitions."""
+        crates = ROOT / "crates"
+        paths = sorted([*crates.glob("*/src/**/*.rt"), *crates.glob("*/specs/**/*.antt")])
+        self.assertGreater(len(paths), 500)
+        for path in paths:
+            place = path.relative_to(crates)
+            if place.parts[0] in UNWRITTEN or place.as_posix() in UNWRITTEN:
+                continue
+            found = [(comment[:60], refused(comment)) for comment in comments(path) if refused(comment)]
+            self.assertEqual(found, [], path)
+
+    def test_refused(self):
+        self.assertEqual(refused("Puts a type behind the others."), ["behind the others"])
+        self.assertEqual(refused("The same of a text."), ["The same"])
+        self.assertEqual(refused("The same where it is a text."), ["The same"])
+        self.assertEqual(refused("Like `answer`, but takes the text. The same of all."), [])
+        self.assertEqual(refused("The same type."), [])
 
     def test_counting(self):
         text = "One `two three` four. Five\nsix: seven!\n\n- Eight nine.\n- Ten (eleven.) Twelve\n\n    code\n"

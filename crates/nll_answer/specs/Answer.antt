@@ -15,8 +15,8 @@ abbrev pub status_of_faults : List (ℕ × ℕ) → ℕ
 status_of_faults [] = 0
 status_of_faults (fault ∷ faults) = 1
 
--- The report is that of the faults of the problem's least values, and the status tells whether
--- there are any.
+-- The report is that of the faults of the problem's least values, and the status says whether there
+-- are any.
 pub record IsCheckReport (q : Problem) (labels : Labels) (report : List ℕ) (status : ℕ)
     : Type 0 where
   pub faults : List (ℕ × ℕ)

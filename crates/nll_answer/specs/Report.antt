@@ -1,5 +1,5 @@
--- The report of values and of faults, as bytes.
--- Source: project's choice; docs/FORMATS.md says the same in words.
+-- The report of values and of faults, as bytes. Source: project's choice; docs/FORMATS.md says the
+-- same in prose.
 use Rattle.std.specs.Prelude.{◌≡◌, ◌↔◌, ℕ, ◌-◌, ◌<◌, nat_lt, List, [], ◌∷◌, ◌++◌, codes, Contains}
 use Rattle.std.specs.Prelude.{AllPairs, slice_index_or, if◌then◌else◌}
 use Rattle.std.specs.List.{flat_map, range_with_len}
@@ -9,11 +9,11 @@ use Rattle.nll_format.specs.Labels.{Labels, point_name}
 use Rattle.nll_format.specs.declared.labels.PointName.{PointName}
 use Rattle.nll_format.specs.declared.labels.PointName.TheVariants.{Number, Block}
 
--- a region is written as its name behind a `'` (39)
+-- a region is written as a `'` (39) and its name
 abbrev pub region_text : Labels → ℕ → List ℕ
 region_text labels r = 39 ∷ slice_index_or labels.names r []
 
--- a point is written as its number, or as bb, its block, a slash and its place there
+-- a point is written as its number, or as bb, its block, a slash and its place in the block
 abbrev pub point_text : PointName → List ℕ
 point_text (Number number) = decimal number
 point_text (Block block place) = codes "bb" ++ decimal block ++ codes "/" ++ decimal place
@@ -22,7 +22,7 @@ point_text (Block block place) = codes "bb" ++ decimal block ++ codes "/" ++ dec
 abbrev pub end_text : Labels → ℕ → List ℕ
 end_text labels r = codes "end(" ++ region_text labels r ++ codes ")"
 
--- an element is a point of so many, or behind them the end of a universal region
+-- an element is one of this many points, or, after these, the end of a universal region
 abbrev pub element_text : Labels → ℕ → ℕ → List ℕ
 element_text labels points e =
     if nat_lt e points then point_text (point_name labels.points e)
@@ -34,12 +34,12 @@ value_line labels points r elements =
     region_text labels r ++ codes ":"
     ++ flat_map (λ e. 32 ∷ element_text labels points e) elements ++ 10 ∷ []
 
--- The list has just the elements of the value, each once and ascending.
+-- The list has exactly the elements of the value, each once and ascending.
 pub record IsListed (value : ℕ → Type 0) (elements : List ℕ) : Type 0 where
   pub each : (e : ℕ) → Contains elements e ↔ value e
   pub ascending : AllPairs (λ d e. d < e) elements
 
--- the lines of so many regions, in region order, with so many points
+-- the lines of this many regions, in region order, with this many points
 abbrev pub value_lines : ℕ → ℕ → Labels → (ℕ → List ℕ) → List ℕ
 value_lines points regions labels elements =
     flat_map (λ r. value_line labels points r (elements r)) (range_with_len 0 regions)

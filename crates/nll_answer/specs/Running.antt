@@ -5,12 +5,12 @@ use Rattle.nll_run.specs.declared.error.RunError.TheVariants as run
 use Rattle.nll_answer.specs.declared.error.AnswerError.{AnswerError}
 use Rattle.nll_answer.specs.declared.error.AnswerError.TheVariants.{Text, Rule, Run, Memory}
 
--- the error of an answer for that of a run: a thread that wasn't started, or a refusal of memory
+-- the error of an answer for that of a run: a thread that wasn't started, or a failed allocation
 abbrev pub error_of_run : RunError → AnswerError
 error_of_run run.Thread = Run run.Thread
 error_of_run run.Memory = Memory
 
--- the error tells that a thread wasn't started, or that a growth of memory was refused
+-- the error says that a thread wasn't started, or that an allocation failed
 abbrev pub IsRunError : AnswerError → Type 0
 IsRunError (Run run.Thread) = Unit {0}
 IsRunError (Run run.Memory) = ⊥

@@ -1,7 +1,7 @@
--- Texts of either format: facts texts and MIR texts.
--- Source: project's choice; docs/FORMATS.md says the same in words. A text is a MIR text where its
--- first line is the header of a version of MIR texts, and is judged as a facts text where it isn't.
--- A text whose first line is no header has the same fault in each format.
+-- Texts of either format: facts texts and MIR texts. Source: project's choice; docs/FORMATS.md says
+-- the same in prose. A text is a MIR text where its first line is the header of a version of MIR
+-- texts, and is judged as a facts text where it isn't. A text whose first line is no header has the
+-- same fault in each format.
 use Rattle.std.specs.Prelude.{◌≡◌, ◌⊎◌, ℕ, List, ◌∷◌}
 use Rattle.nll_problem.specs.Problem.{Problem}
 use Rattle.nll_problem.specs.declared.error.Kind.TheVariants.{Constraints}
@@ -45,7 +45,7 @@ IsMeaning text problem labels =
 
 -- ---- why a text has no answer
 
--- the error of an answer for that of a text of this kind: refused memory has no line
+-- the error of an answer for that of a text of this kind: a failed allocation has no line
 abbrev pub told_as : TextError → TextKind → AnswerError
 told_as error kind.Memory = Memory
 told_as error other = Text error
@@ -54,26 +54,26 @@ told_as error other = Text error
 abbrev pub error_of_text : TextError → AnswerError
 error_of_text error = told_as error error.kind
 
--- the error of an answer for that of a body: its limit, or refused memory
+-- the error of an answer for that of a body: its limit, or a failed allocation
 abbrev pub error_of_body : RuleError → AnswerError
 error_of_body (rule.Limit kind) = Rule (rule.Limit kind)
 error_of_body rule.Memory = Memory
 
--- the error tells that the body has too many constraints, or that a growth of memory was refused
+-- the error says that the body has too many constraints, or that an allocation failed
 abbrev pub IsBodyError : BodyText → AnswerError → Type 0
 IsBodyError body (Rule (rule.Limit kind)) = (kind ≡ Constraints) × HasTooMany body
 IsBodyError body Memory = Unit {0}
 IsBodyError body _ = ⊥
 
--- the error tells such a fault, or that a growth of memory was refused
+-- the error reports such a fault, or that an allocation failed
 abbrev pub IsErrorOf : (ℕ → TextKind → Type 0) → AnswerError → Type 0
 IsErrorOf fault (Text error) = fault error.line error.kind
 IsErrorOf fault Memory = Unit {0}
 IsErrorOf fault (Rule error) = ⊥
 IsErrorOf fault (Run error) = ⊥
 
--- the error tells the text's fault, that it means a body with too many constraints, or that a
--- growth of memory was refused
+-- the error reports the text's fault, that it means a body with too many constraints, or that an
+-- allocation failed
 abbrev pub IsAnswerError : List ℕ → AnswerError → Type 0
 IsAnswerError text (Text error) = IsTextFault text error.line error.kind
 IsAnswerError text (Rule error) =

@@ -42,7 +42,7 @@ pub fn answer(alloc: Global, command: Command, text: &[u8]) -> Result<(Vec<u8>, 
     Ok(answer_of(alloc, command, facts)?)
 }
 
-/// The same of a text that is handed over, which is let go as soon as it is read.
+/// Like `answer`, but takes the text, and frees it once it is read.
 ///
 /// # Errors
 /// As of `answer`.
@@ -59,7 +59,7 @@ pub fn answer_text(
     Ok(answer_of(alloc, command, facts)?)
 }
 
-/// The answer to a command on a problem and its labels. The problem is let go before its report is
+/// The answer to a command on a problem and its labels. The problem is freed before its report is
 /// made.
 ///
 /// # Errors
@@ -72,6 +72,7 @@ pub fn answer_of(alloc: Global, command: Command, facts: Facts) -> Result<(Vec<u
 {
     let Facts { problem, labels } = facts;
     let answer = asked(alloc, command, problem, &labels);
+    // Early drop.
     drop(labels);
     answer
 }
@@ -108,6 +109,7 @@ fn values_of(alloc: Global, problem: Problem, labels: &Labels) -> Result<Vec<u8>
     drop(problem);
     let values = values?;
     let report = region_lines(alloc, points, regions, labels, &values);
+    // Early drop.
     drop(values);
     report
 }
@@ -124,7 +126,7 @@ fn check_of(alloc: Global, problem: Problem, labels: &Labels) -> Result<(Vec<u8>
     told_faults(alloc, labels, faults)
 }
 
-/// The report of faults, and the status that tells whether there are any.
+/// The report of faults, and the status that says whether there are any.
 pub(crate) fn told_faults(
     alloc: Global,
     labels: &Labels,
@@ -148,10 +150,11 @@ fn faults_of(alloc: Global, problem: &Problem) -> Result<Vec<(RegionId, RegionId
         AreFaults problem.now (Least problem.now) found.items) }
     ensures sound { IsSound problem.now }
 {
-    // No effect at run time. The proof reads from this call that the problem is sound.
+    // Clause call: the problem is sound.
     let _ = problem.universals();
     let values = solve(alloc, problem)?;
     let found = faults(alloc, problem, &values);
+    // Early drop.
     drop(values);
     found
 }

@@ -18,7 +18,7 @@ pub enum AnswerError {
     /// The run of owners was refused.
     #[error(transparent)]
     Run(RunError),
-    /// A growth of memory was refused.
+    /// An allocation failed.
     #[error("memory was refused")]
     Memory,
 }

@@ -29,7 +29,7 @@ pub fn faults_text(
     Ok(out.into_bytes())
 }
 
-// Puts the line of a fault at the end.
+// Appends the line of a fault.
 fn push_fault(
     out: &mut String,
     labels: &Labels,

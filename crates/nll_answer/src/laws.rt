@@ -21,7 +21,7 @@ pub fn one_text_meaning()
         → SameProblem problem other × (labels ≡ other_labels) }
 {}
 
-/// States that no text that means a problem has an error, unless memory is refused.
+/// States that no text that means a problem has an error, unless an allocation fails.
 pub fn no_text_has_both()
     ensures { (text : List ℕ) (problem : Problem) (labels : Labels) (error : AnswerError)
         → IsMeaning text problem labels → error ≢ AnswerError.Memory → IsAnswerError text error

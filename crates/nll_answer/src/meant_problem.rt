@@ -35,8 +35,8 @@ pub fn meaning(alloc: Global, text: &[u8]) -> Result<Facts, AnswerError>
     }
 }
 
-/// The same of a text that is handed over, which is let go as soon as it is read: of a MIR text,
-/// before the problem of its body is made.
+/// Like `meaning`, but takes the text, and frees it once it is read: a MIR text is freed before the
+/// problem of its body is made.
 ///
 /// # Errors
 /// As of `meaning`.
@@ -49,6 +49,7 @@ pub fn read_meaning(alloc: Global, text: Vec<u8>) -> Result<Facts, AnswerError>
         read_mir_meaning(alloc, text)
     } else {
         let facts = facts_meaning(alloc, text.as_slice());
+        // Early drop.
         drop(text);
         facts
     }
@@ -73,7 +74,7 @@ fn mir_meaning(alloc: Global, text: &[u8]) -> Result<Facts, AnswerError>
     facts_of_body(alloc, body)
 }
 
-// The same of a text that is let go before the problem of its body is made.
+// Like `mir_meaning`, but frees the text before the problem of its body is made.
 fn read_mir_meaning(alloc: Global, text: Vec<u8>) -> Result<Facts, AnswerError>
     requires { IsMir text.items }
     ensures ok { IfOk result (λ facts. IsMeaning text.items facts.problem facts.labels) }
@@ -84,12 +85,13 @@ fn read_mir_meaning(alloc: Global, text: Vec<u8>) -> Result<Facts, AnswerError>
     facts_of_body(alloc, body)
 }
 
-// The body of a MIR text that is let go once it is read.
+// The body of a MIR text that is freed once it is read.
 fn read_body(alloc: Global, text: Vec<u8>) -> Result<Body, AnswerError>
     ensures ok { IfOk result (IsBodyOf text.items) }
     ensures err { IfErr result (IsErrorOf (IsMirFault text.items)) }
 {
     let body = body_of(alloc, text.as_slice());
+    // Early drop.
     drop(text);
     body
 }

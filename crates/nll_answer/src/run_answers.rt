@@ -25,7 +25,7 @@ use std::sync::Wait;
 use std::thread::Threads;
 
 /// The answer to a command on a problem and its labels, found by the owners of a cut, each in a
-/// thread of its own. The logs and the mailboxes are let go before the report is made.
+/// thread of its own. The logs and the mailboxes are freed before the report is made.
 ///
 /// # Errors
 /// - `Run`: a thread couldn't be started.
@@ -152,9 +152,10 @@ fn found_faults(
         AreFaults problem.now (Least problem.now) found.items) }
     ensures sound { IsSound problem.now }
 {
-    // No effect at run time. The proof reads from this call that the problem is sound.
+    // Clause call: the problem is sound.
     let _ = problem.universals();
     let found = faults(alloc, problem, &values);
+    // Early drop.
     drop(values);
     found
 }

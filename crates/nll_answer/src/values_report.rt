@@ -34,7 +34,7 @@ pub fn values_text(
     region_lines(alloc, problem.points(), problem.regions(), labels, values)
 }
 
-/// The lines of the regions, in region order, with so many points.
+/// The lines of the regions, in region order, with this many points.
 pub(crate) fn region_lines(
     alloc: Global,
     points: u32,
@@ -55,7 +55,7 @@ pub(crate) fn region_lines(
     Ok(out)
 }
 
-// Puts the line of a region at the end.
+// Appends the line of a region.
 fn push_line(
     out: &mut Vec<u8>,
     labels: &Labels,
@@ -77,7 +77,7 @@ fn push_line(
     Ok(())
 }
 
-// Puts the elements of runs at the end, each after a space.
+// Appends the elements of runs, each after a space.
 fn push_runs(out: &mut Vec<u8>, labels: &Labels, points: u32, runs: &[Run]) -> Result<(), Memory>
     requires fit { (k : ℕ) → k < length runs.now → (first_of runs.now k ≤ last_of runs.now k)
         × (last_of runs.now k < points + length labels.now.names) }
@@ -91,7 +91,7 @@ fn push_runs(out: &mut Vec<u8>, labels: &Labels, points: u32, runs: &[Run]) -> R
     Ok(())
 }
 
-// Puts the elements of a run at the end, each after a space.
+// Appends the elements of a run, each after a space.
 fn push_run(out: &mut Vec<u8>, labels: &Labels, points: u32, run: Run) -> Result<(), Memory>
     requires proper { run.first ≤ run.last }
     requires within { run.last < points + length labels.now.names }
@@ -105,7 +105,7 @@ fn push_run(out: &mut Vec<u8>, labels: &Labels, points: u32, run: Run) -> Result
     Ok(())
 }
 
-// Puts an element at the end, after a space.
+// Appends a space and an element.
 fn push_element(
     out: &mut Vec<u8>,
     labels: &Labels,
@@ -123,7 +123,7 @@ fn push_element(
     }
 }
 
-// Puts the end of a universal region at the end, after a space.
+// Appends a space and the end of a universal region.
 fn push_end(out: &mut Vec<u8>, labels: &Labels, region: RegionId) -> Result<(), Memory>
     requires { region < length labels.now.names }
     ensures { OnOk result (out.new.items ≡ out.old.items ++ 32 ∷ end_text labels.now region) }
@@ -134,7 +134,7 @@ fn push_end(out: &mut Vec<u8>, labels: &Labels, region: RegionId) -> Result<(), 
     Ok(())
 }
 
-// Puts a point at the end, after a space.
+// Appends a space and a point.
 fn push_point(out: &mut Vec<u8>, point: PointName) -> Result<(), Memory>
     ensures { OnOk result (out.new.items ≡ out.old.items ++ 32 ∷ point_text point) }
 {
@@ -148,7 +148,7 @@ fn push_point(out: &mut Vec<u8>, point: PointName) -> Result<(), Memory>
     }
 }
 
-// Puts a sign and a number at the end.
+// Appends a sign and a number.
 fn push_number(out: &mut Vec<u8>, sign: u8, number: u32) -> Result<(), Memory>
     ensures { OnOk result (out.new.items ≡ out.old.items ++ sign ∷ decimal number) }
 {

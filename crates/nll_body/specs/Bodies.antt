@@ -11,8 +11,8 @@ use Rattle.nll_statements.specs.Effects.{targets}
 
 -- A body: its regions' names, 'static first and the universal ones before the others, the pairs of
 -- universal regions of which the first is known to outlive the second, the pairs of regions of
--- which the first is to hold, at all points, what the second holds, its structs, the types of its
--- variables, the first point of each block, and what stands at each point.
+-- which the first must hold, at all points, what the second holds, its structs, the types of its
+-- variables, the first point of each block, and the statement or terminator at each point.
 pub record BodyText : Type 0 where
   pub names : List (List ℕ)
   pub universals : ℕ
@@ -27,11 +27,11 @@ pub record BodyText : Type 0 where
 abbrev pub HasType : BodyText → ℕ → TypeTree → Type 0
 HasType body x t = slice_get body.variables x ≡ Some t
 
--- this statement or terminator stands at p
+-- this statement or terminator is at p
 abbrev pub StandsAt : BodyText → ℕ → Statement ℕ TypeTree → Type 0
 StandsAt body p i = slice_get body.points p ≡ Some i
 
--- q may come after p: the next point behind a statement, or the first point of a block to which a
+-- q is a successor of p: the next point after a statement, or the first point of a block to which a
 -- terminator goes on
 abbrev pub GoesOn : BodyText → ℕ → ℕ → Type 0
 GoesOn body p q =

@@ -9,7 +9,7 @@ use Rattle.nll_statements.specs.Effects.{targets}
 abbrev pub LeadsTo : List ℕ → List ℕ → ℕ → Type 0
 LeadsTo starts blocks q = (b : ℕ) × Contains blocks b × (slice_get starts b ≡ Some q)
 
--- q may come after the point p, where this stands: the next point behind a statement, or the first
+-- q is a successor of the point p, where this is: the next point after a statement, or the first
 -- point of a block to which a terminator goes on
 abbrev pub LeavesTo : {R T : Type 0} → List ℕ → ℕ → Statement R T → ℕ → Type 0
 LeavesTo starts p i q =

@@ -1,5 +1,4 @@
--- What a body of the code keeps.
--- Source: project's choice. Private contracts alone cite this file.
+-- What a body of the code keeps. Source: project's choice. Only private contracts cite this file.
 use Rattle.std.specs.Prelude.{◌≡◌, ℕ, List, [], map}
 use Rattle.nll_problem.specs.Graph.{Graph}
 use Rattle.nll_format.specs.Labels.{Labels, Points, numbers, blocks}

@@ -1,5 +1,5 @@
--- How the graph of a body comes about, one point after another.
--- Source: project's choice. Private contracts alone cite this file.
+-- How the graph of a body comes about, one point after another. Source: project's choice. Only
+-- private contracts cite this file.
 use Rattle.std.specs.Prelude.{◌≡◌, ◌⊎◌, ◌↔◌, ℕ, ◌+◌, ◌≤◌, ◌<◌, ◌==◌, List, [], length, take}
 use Rattle.std.specs.Prelude.{Some, slice_get, Contains}
 use Rattle.indexmap.specs.IndexSet.{insert_all}
@@ -16,14 +16,14 @@ pub record AddsTargets (starts : List ℕ) (p : ℕ) (blocks : List ℕ) (old ne
   pub counted :
       length new.edges ≤ length old.edges + length (insert_all (λ b c. b == c) [] blocks)
 
--- The graph got the edges that leave p, where this stands.
+-- The graph got the edges that leave p, where this is.
 pub record AddsEdges {R T : Type 0} (starts : List ℕ) (p : ℕ) (i : Statement R T) (old new : Graph)
     : Type 0 where
   pub others : new ≡ record old { edges = new.edges }
   pub next : (r q : ℕ) → IsNext new r q ↔ (IsNext old r q ⊎ ((r ≡ p) × LeavesTo starts p i q))
   pub counted : length new.edges ≤ length old.edges + edges_from i
 
--- The graph got what the point p says, where this stands: the edges that leave it, and that it is a
+-- The graph got what the point p says, where this is: the edges that leave it, and that it is a
 -- return point if it is one.
 pub record AddsPoint (starts : List ℕ) (p : ℕ) (i : Statement ℕ TypeTree) (old new : Graph)
     : Type 0 where
@@ -33,17 +33,17 @@ pub record AddsPoint (starts : List ℕ) (p : ℕ) (i : Statement ℕ TypeTree) 
   pub returns : (r : ℕ) → IsReturn new r ↔ (IsReturn old r ⊎ ((r ≡ p) × (i ≡ return)))
   pub counted : length new.edges ≤ length old.edges + edges_from i
 
--- each target of these is one of so many blocks
+-- each target of these is one of this many blocks
 abbrev pub AreBlocks : ℕ → List (Statement ℕ TypeTree) → Type 0
 AreBlocks count stand = (p b : ℕ) (i : Statement ℕ TypeTree) → slice_get stand p ≡ Some i
     → Contains (targets i) b → b < count
 
--- each edge leads to one of the points where these stand
+-- each edge leads to one of the points where these are
 abbrev pub AreEnds : List ℕ → List (Statement ℕ TypeTree) → Type 0
 AreEnds starts stand = (p q : ℕ) (i : Statement ℕ TypeTree) → slice_get stand p ≡ Some i
     → LeavesTo starts p i q → q < length stand
 
--- The graph has what the first n points say, where these stand, and so many universal regions.
+-- The graph has what the first n points say, where these are, and this many universal regions.
 pub record HasPoints
     (starts : List ℕ) (count : ℕ) (stand : List (Statement ℕ TypeTree)) (n : ℕ)
     (graph : Graph) : Type 0 where

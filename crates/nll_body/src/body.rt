@@ -125,7 +125,7 @@ impl Body {
         &self.labels
     }
 
-    /// Its labels alone. Takes no memory.
+    /// Its labels alone. Allocates nothing.
     pub fn into_labels(self) -> Labels
         ensures { result ≡ labels_of self }
     {
@@ -185,7 +185,7 @@ impl Body {
         self.outlives.as_slice()
     }
 
-    /// The pairs of regions of which the first is to hold, at all points, what the second holds.
+    /// The pairs of regions of which the first must hold, at all points, what the second holds.
     pub fn asserts(&self) -> &[(u32, u32)]
         ensures { result.now ≡ self.now.asserts }
     {
@@ -199,7 +199,7 @@ impl Body {
         &self.structs
     }
 
-    /// The statement or terminator at a point, made anew.
+    /// The statement or terminator at a point, decoded.
     ///
     /// # Errors
     /// `Memory` alone.
@@ -268,7 +268,7 @@ impl Body {
         }
     }
 
-    /// Puts the variables that are used at a point behind the others.
+    /// Appends the variables that are used at a point.
     ///
     /// # Source
     /// RFC 2094, "Liveness".

@@ -63,7 +63,7 @@ fn is_return(statement: &Stmt) -> bool
     }
 }
 
-// Adds the edges that leave a terminator. The list of blocks is for its own use.
+// Adds the edges that leave a terminator. The list of blocks is scratch space.
 fn add_edges(
     graph: &mut GraphBuilder,
     point: u32,
@@ -110,6 +110,7 @@ fn add_terminator(
 {
     let returns = is_return(&statement);
     let told = add_edges(graph, point, &statement, starts, blocks);
+    // Early drop.
     drop(statement);
     told?;
     if !returns {
@@ -118,7 +119,7 @@ fn add_terminator(
     graph.ret(point)
 }
 
-// Adds what stands at a point of a list. Only a terminator is made for it.
+// Adds the edges of one point of a list. Only a terminator is decoded for it.
 fn add_next(
     alloc: Global,
     graph: &mut GraphBuilder,
@@ -145,7 +146,7 @@ fn add_next(
     add_terminator(graph, point, statement, starts, blocks)
 }
 
-// Adds what stands at each of the points to a graph that has nothing but so many points.
+// Adds the edges of every point to a graph that has only its points.
 fn add_points(
     alloc: Global,
     graph: &mut GraphBuilder,
@@ -193,6 +194,7 @@ pub(crate) fn graph_of(
     let mut graph = GraphBuilder::new(alloc, points.len() as u32, universals)?;
     let mut blocks = Vec::new(alloc);
     let told = add_points(alloc, &mut graph, starts, points, &mut blocks);
+    // Early drop.
     drop(blocks);
     match told {
         Ok(()) => Ok(graph.finish()),

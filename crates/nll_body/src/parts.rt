@@ -13,13 +13,13 @@ pub struct BodyParts {
     pub universals: u32,
     /// Of each pair of universal regions the first is known to outlive the second.
     pub outlives: Vec<(u32, u32)>,
-    /// Of each pair of regions the first is to hold, at all points, what the second holds.
+    /// Of each pair of regions the first must hold, at all points, what the second holds.
     pub asserts: Vec<(u32, u32)>,
     pub structs: Structs,
     /// The types of its variables.
     pub variables: Vec<Ty>,
     /// The first point of each block.
     pub starts: Vec<u32>,
-    /// What stands at each point.
+    /// The statement or terminator at each point.
     pub points: StatementList,
 }

@@ -1,5 +1,5 @@
--- How the problem of a body comes about, one kind of facts after another.
--- Source: project's choice. Private contracts alone cite this file.
+-- How the problem of a body comes about, one kind of facts after another. Source: project's choice.
+-- Only private contracts cite this file.
 use Rattle.std.specs.Prelude.{◌≡◌, ◌⊎◌, ◌↔◌, ◌<◌, ℕ, List, length, Contains}
 use Rattle.nll_problem.specs.BaseRuns.{IsInBaseRuns}
 use Rattle.nll_problem.specs.Building.{bare_problem}
@@ -24,12 +24,12 @@ IsBareOf body q = (g : Graph) × IsGraphOf body g × (q ≡ bare_problem g)
 
 -- ---- facts that are all in range
 
--- The outlives facts of the list came to those of the problem.
+-- The outlives facts of the list were added to those of the problem.
 pub record AddsOutlives (facts : List (ℕ × ℕ)) (old new : Problem) : Type 0 where
   pub others : new ≡ record old { outlives = new.outlives }
   pub each : (x : ℕ × ℕ) → Contains new.outlives x ↔ (Contains old.outlives x ⊎ Contains facts x)
 
--- The base facts of the runs came to those of the problem.
+-- The base facts of the runs were added to those of the problem.
 pub record AddsBases (runs : List BaseRun) (old new : Problem) : Type 0 where
   pub others : new ≡ record old { bases = new.bases }
   pub each : (r p : ℕ)
@@ -47,22 +47,23 @@ AreOfPoints runs q =
 
 -- ---- constraints
 
--- The constraints of this kind came to those of the problem.
+-- The constraints of this kind were added to those of the problem.
 pub record AddsConstraints (kind : Constraint → Type 0) (old new : Problem) : Type 0 where
   pub others : new ≡ record old { constraints = new.constraints }
   pub each : (c : Constraint) → Contains new.constraints c ↔ (Contains old.constraints c ⊎ kind c)
 
--- There is no room for all constraints of the kind: some of them and of those that are there, none
--- listed twice, are more than the limit.
+-- The constraints of the kind don't all fit: some of them and of those that are there, none listed
+-- twice, are more than the limit.
 abbrev pub Overflows : (Constraint → Type 0) → Problem → Type 0
 Overflows kind q = (some : List Constraint) × IsOnce some × (most_constraints < length some)
     × ((c : Constraint) → Contains some c → Contains q.constraints c ⊎ kind c)
 
--- the error tells that there is no room for all constraints of the kind, or that memory was refused
+-- the error says that there is no room for all constraints of the kind, or that an allocation
+-- failed
 abbrev pub IsRefused : (Constraint → Type 0) → Problem → BuildError → Type 0
 IsRefused kind q e = (e ≡ Memory) ⊎ ((e ≡ Limit Constraints) × Overflows kind q)
 
--- the error tells that the body has too many constraints, or that memory was refused
+-- the error says that the body has too many constraints, or that an allocation failed
 abbrev pub IsRefusedFor : BodyText → BuildError → Type 0
 IsRefusedFor body e = (e ≡ Memory) ⊎ ((e ≡ Limit Constraints) × HasTooMany body)
 
@@ -86,7 +87,7 @@ IsOfPairsEverywhere pairs c = (c.at ≡ All) × Contains pairs (c.sup, c.sub)
 abbrev pub everywhere : ℕ × ℕ → Constraint
 everywhere pair = record { sub = pair.1; sup = pair.0; at = All }
 
--- what stands at one of the first n points asks the constraint
+-- the statement at one of the first n points asks the constraint
 abbrev pub IsAskedBefore : BodyText → ℕ → Constraint → Type 0
 IsAskedBefore body n c = (p : ℕ) × (p < n) × IsAskedAt body p c
 

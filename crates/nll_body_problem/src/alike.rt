@@ -300,7 +300,7 @@ fn made_goes_by_field(made: &Make<Ty>) -> bool {
     }
 }
 
-/// Whether a statement goes by the type of a field, which may have to be made.
+/// Whether a statement depends on the type of a field, which may have to be made.
 pub(crate) fn goes_by_field(statement: &Stmt) -> bool {
     match statement {
         Statement::Assign(place, operand) => is_part(place) || is_part_operand(operand),

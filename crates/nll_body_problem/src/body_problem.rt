@@ -23,8 +23,8 @@ use std::alloc::Global;
 /// - `Memory`.
 ///
 /// # Cost
-/// That of liveness, and for each point what its statement asks, once for each point that may come
-/// after (not proved).
+/// That of liveness, and for each point what its statement asks, once for each successor (not
+/// proved).
 ///
 /// # Source
 /// RFC 2094, "Liveness", "Drop", "Subtyping", "Reborrow constraints" and "Layer 4: Named
@@ -64,7 +64,7 @@ fn finished(builder: ProblemBuilder) -> Problem
 {
     match builder.finish() {
         Ok(problem) => {
-            // No effect at run time. The proof reads from this call that the problem is sound.
+            // Clause call: the problem is sound.
             let _ = problem.universals();
             problem
         }
@@ -78,7 +78,7 @@ fn fill(alloc: Global, body: &Body, builder: &mut ProblemBuilder) -> Result<(), 
     ensures ok { OnOk result (IsProblemOf body.now builder.new) }
     ensures err { IfErr result (IsRefusedFor body.now) }
 {
-    // No effect at run time. The proof reads from this call that the body is sound.
+    // Clause call: the body is sound.
     let _ = body.points();
     add_regions(builder, body.universals(), body.regions());
     add_outlives(builder, body.outlives())?;
@@ -99,6 +99,7 @@ fn add_live(alloc: Global, body: &Body, builder: &mut ProblemBuilder) -> Result<
 {
     let live = live_runs(alloc, body)?;
     let told = add_bases(builder, live.as_slice());
+    // Early drop.
     drop(live);
     told
 }

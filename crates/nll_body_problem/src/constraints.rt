@@ -1,5 +1,5 @@
-//! The constraints of a body: what stands at a point asks them at each point that may come after,
-//! and a body asserts some at all points.
+//! The constraints of a body: a statement asks them at each successor of its point, and a body
+//! asserts some at all points.
 
 ghost use Rattle.std.specs.Prelude.{◌≡◌, ◌<◌, ℕ, [], Contains, IfErr, OnOk, length};
 ghost use Rattle.nll_problem.specs.At.{IsAmong};
@@ -31,14 +31,14 @@ pub(crate) fn add_constraints(
     ensures ok { OnOk result (AddsConstraints (IsConstraint body.now) builder.old builder.new) }
     ensures err { IfErr result (IsRefused (IsConstraint body.now) builder.old) }
 {
-    // No effect at run time. The proof reads from this call that the body is sound.
+    // Clause call: the body is sound.
     let _ = body.points();
     add_everywhere(builder, body.asserts())?;
     add_asked(alloc, body, builder)?;
     Ok(())
 }
 
-// Adds these pairs of regions, the first of which is to hold what the second holds, at all points.
+// Adds these pairs of regions, the first of which must hold what the second holds, at all points.
 fn add_everywhere(builder: &mut ProblemBuilder, pairs: &[(u32, u32)]) -> Result<(), BuildError>
     requires { (x : ℕ × ℕ) → Contains pairs.now x → AreRegions x builder.old }
     ensures ok { OnOk result
@@ -68,7 +68,7 @@ fn add_one_everywhere(builder: &mut ProblemBuilder, pair: (u32, u32)) -> Result<
     )
 }
 
-// Adds what stands at each point of a body asks.
+// Adds the constraints that the statements of a body ask.
 fn add_asked(alloc: Global, body: &Body, builder: &mut ProblemBuilder) -> Result<(), BuildError>
     requires points { builder.old.graph.points ≡ length body.now.points }
     requires regions { builder.old.regions ≡ length body.now.names }
@@ -86,12 +86,13 @@ fn add_asked(alloc: Global, body: &Body, builder: &mut ProblemBuilder) -> Result
         kinds: kinds.as_slice(),
     };
     let told = add_points(alloc, &survey, &mut known, &mut asked, builder);
+    // Early drop.
     drop(known);
     drop(asked);
     told
 }
 
-// Adds what stands at each point asks. The list is for its own use.
+// Adds the constraints that the statement at each point asks. The list is scratch space.
 fn add_points(
     alloc: Global,
     survey: &Survey<'_>,
@@ -113,7 +114,8 @@ fn add_points(
     Ok(())
 }
 
-// Adds what stands at a point asks, which may be known. The list is for its own use.
+// Adds the constraints that the statement at a point asks, which may be known already. The list is
+// scratch space.
 fn add_next(
     alloc: Global,
     survey: &Survey<'_>,
@@ -135,11 +137,13 @@ fn add_next(
 {
     let statement = survey.body.line_at(alloc, point)?;
     let told = add_standing(alloc, survey, point, &statement, known, asked, builder);
+    // Early drop.
     drop(statement);
     told
 }
 
-// Adds what a statement or terminator asks that stands at a point. The list is for its own use.
+// Adds the constraints that this statement or terminator at a point asks. The list is scratch
+// space.
 fn add_standing(
     alloc: Global,
     survey: &Survey<'_>,
@@ -177,7 +181,7 @@ fn add_standing(
     Ok(())
 }
 
-// Adds these pairs, which what stands at a point asks.
+// Adds the constraints of these pairs, which the statement at a point asks.
 fn add_known(
     body: &Body,
     point: u32,
@@ -196,7 +200,8 @@ fn add_known(
     Ok(())
 }
 
-// Adds what stands at a point asks, and leaves it in the list: whether that was much.
+// Adds the constraints that the statement at a point asks, and leaves their pairs in the list.
+// Answers whether that was costly.
 fn add_point(
     alloc: Global,
     survey: &Survey<'_>,
@@ -228,7 +233,7 @@ fn add_point(
     Ok(many)
 }
 
-// Adds these pairs of regions, the first of which is to outlive the second, at these points.
+// Adds these pairs of regions, the first of which must outlive the second, at these points.
 fn add_pairs(
     builder: &mut ProblemBuilder,
     points: &[u32],
@@ -274,7 +279,7 @@ fn add_constraint(builder: &mut ProblemBuilder, constraint: Constraint) -> Resul
     ensures ok { OnOk result (AddsConstraints (λ c. constraint ≡ c) builder.old builder.new) }
     ensures err { IfErr result (IsRefused (λ c. constraint ≡ c) builder.old) }
 {
-    // No effect at run time. The proof reads from this call that no constraint is there twice.
+    // Clause call: no constraint is there twice.
     let _ = builder.constraints();
     builder.constraint(constraint)?;
     Ok(())

@@ -1,4 +1,4 @@
-//! Digests by which statements are found that may ask the same. No clause rests on them.
+//! Digests that find statements which may ask the same. No clause depends on them.
 
 use crate::kinds::kind_at;
 use nll_body::Stmt;
@@ -100,8 +100,8 @@ fn of_call(kinds: &[usize], call: &Call<RegionId, Ty>) -> u64 {
     sum
 }
 
-// Whether the variable of a place is marked: it has no regions, so that what it goes to or comes
-// from asks nothing.
+// Whether the variable of a place is marked: it has no regions, so a flow into it or out of it asks
+// nothing.
 fn is_marked(region_free: &[bool], place: &Place) -> bool {
     match region_free.get(place.variable() as usize).copied() {
         Some(marked) => marked,
@@ -135,9 +135,9 @@ fn of_make(kinds: &[usize], region_free: &[bool], make: &Make<Ty>) -> Option<u64
     Some(with_make(kinds, make))
 }
 
-/// A number that is the same for statements that are alike: of assignments of places and of tuples
-/// and structs that are made, where no variable is marked, of borrows and of calls. It serves to
-/// find them, and no clause rests on it.
+/// A number that is the same for statements that are alike: assignments of places and of new tuples
+/// and structs, where no variable is marked, borrows and calls. It serves to find them, and no
+/// clause depends on it.
 pub(crate) fn digest_of(kinds: &[usize], region_free: &[bool], statement: &Stmt) -> Option<u64> {
     match statement {
         Statement::Assign(place, operand) => of_assign(kinds, region_free, place, operand),

@@ -12,7 +12,7 @@ pub enum RuleError {
     /// The body has more of these than the limit.
     #[error("more {0} than the limit")]
     Limit(Kind),
-    /// A growth of memory was refused.
+    /// An allocation failed.
     #[error("out of memory")]
     Memory,
 }

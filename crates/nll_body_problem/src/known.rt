@@ -1,4 +1,4 @@
-//! What statements were found to ask, so that it isn't worked out again where others ask the same.
+//! What statements were found to ask, so that it isn't computed again where others ask the same.
 
 ghost use Rattle.std.specs.Prelude.{◌≡◌, ◌<◌, ◌++◌, ◌∷◌, [], IfOk, MatchOption, OnOk, length};
 ghost use Rattle.nll_problem.specs.Problem.{SameSet};
@@ -16,10 +16,10 @@ use nll_problem::RegionId;
 use nll_sets::Memory;
 use std::alloc::Global;
 
-// So many pairs may be repeats.
+// This many pairs may be repeats.
 const FEW: usize = 8;
 
-/// A point, and the pairs of regions that what stands there asks, each once.
+/// A point, and the pairs of regions that its statement asks, each once.
 #[derive(Drop)]
 pub(crate) struct Entry {
     pub(crate) point: u32,
@@ -34,8 +34,8 @@ pub(crate) struct Entry {
 #[derive(Drop)]
 pub(crate) struct Known {
     pub(crate) entries: Vec<Entry>,
-    // By the digest of a statement, where its entry may stand: a hint, behind which the statements
-    // are compared.
+    // By the digest of a statement, where its entry may be: a hint, after which the statements are
+    // compared.
     pub(crate) places: IndexMap<u64, usize>,
 }
 
@@ -68,7 +68,7 @@ fn sort_once(pairs: &mut Vec<(RegionId, RegionId)>)
     pairs.dedup();
 }
 
-// Where the entry of a statement may stand.
+// Where the entry of a statement may be.
 fn hint(known: &Known, survey: &Survey<'_>, statement: &Stmt) -> usize {
     match digest_of(survey.kinds, survey.region_free, statement) {
         Some(digest) => match known.places.get(&digest).copied() {
@@ -79,8 +79,8 @@ fn hint(known: &Known, survey: &Survey<'_>, statement: &Stmt) -> usize {
     }
 }
 
-/// The pairs that a statement or terminator asks that stands at a point, where they are known of a
-/// point with one like it.
+/// The pairs that this statement or terminator at a point asks, where they are known from an equal
+/// one at another point.
 pub(crate) fn find<'a>(
     alloc: Global,
     known: &'a Known,
@@ -112,7 +112,7 @@ pub(crate) fn find<'a>(
     }
 }
 
-// Puts an entry behind the others, and remembers where it stands.
+// Appends an entry, and remembers where it is.
 fn push(
     alloc: Global,
     known: &mut Known,
@@ -130,8 +130,8 @@ fn push(
     Ok(())
 }
 
-/// Adds the pairs that a statement or terminator at a point asks, where they may be asked again and
-/// it is costly to work them out.
+/// Adds the pairs that a statement or terminator at a point asks, if they may be asked again and
+/// are costly to compute.
 pub(crate) fn remember(
     alloc: Global,
     known: &mut Known,

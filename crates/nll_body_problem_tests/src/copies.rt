@@ -1,9 +1,9 @@
-//! A body that copies a large type without regions again and again: a copy asks nothing, and isn't
-//! to go through the type.
+//! A body that copies a large type without regions again and again: a copy asks nothing, and must
+//! not go through the type.
 use super::problem_text::constraints_told;
 use std::alloc::{AllocError, Global};
 
-// How many parts the large type has beside its first.
+// How many parts the large type has besides its first.
 const PARTS: u32 = 3_998;
 
 // How many copies there are.

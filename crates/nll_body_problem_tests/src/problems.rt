@@ -5,8 +5,8 @@ use nll_worked_texts::{
     ASSERTED, CALLED, DROPPED, FUNCTIONS, MOVED, REBORROW, RETURNED, TAKERS, TWO_BORROWS,
 };
 
-// Texts, and the problems of their bodies. Regions and points go by their numbers; constraints
-// stand by the region that is outlived, the one that outlives it and the point.
+// Texts, and the problems of their bodies. Regions and points go by their numbers; constraints are
+// sorted by the region that is outlived, the one that outlives it and the point.
 const WORKED: &[(&str, &str)] = &[
     (
         TWO_BORROWS,
@@ -150,7 +150,7 @@ const SECOND: &[(&str, &str)] = &[
         let _1: F<'1>|let _2: F<'2>|blocks 1|block bb0|_2 = copy _1|return|end|",
         "3 regions|base 1 0|2: 1 @ 1|",
     ),
-    // A function for a contravariant parameter: the sign is turned round twice.
+    // A function for a contravariant parameter: the sign is reversed twice.
     (
         "nll-mir 2|region '1|region '2|struct C<T - >(fn(T) -> int)|let _0: int|\
         let _1: C<fn(&'1 int) -> int>|let _2: C<fn(&'2 int) -> int>|blocks 1|block bb0|\
@@ -196,7 +196,7 @@ const SECOND: &[(&str, &str)] = &[
         end|",
         "3 regions|base 1 0|base 1 1|base 2 0|base 2 1|",
     ),
-    // What a body asserts stands beside what its statements ask of the same regions, and is there
+    // What a body asserts is added to what its statements ask of the same regions, and is there
     // once; between universal regions too, and of one region by itself.
     (
         "nll-mir 2|universal 'u|universal 'v|region 'a|region 'b|assert 'a : 'b|assert 'u : 'v|\

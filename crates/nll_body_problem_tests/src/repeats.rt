@@ -1,11 +1,11 @@
 //! A body that copies fields with many references of one region again and again, and makes structs
-//! of them, between variables of two types: were what each line asks worked out anew, the test
-//! would take more time than it has.
+//! of them, between variables of two types. If what each line asks were computed anew, the test
+//! would run out of time.
 
 use super::problem_text::constraints_told;
 use std::alloc::{AllocError, Global};
 
-// How many references the field has beside its first.
+// How many references the field has besides its first.
 const FURTHER: u32 = 2_046;
 
 // How many variables there are of each type.
@@ -50,7 +50,7 @@ fn write_lines(out: &mut String, number: u32) -> Result<(), AllocError> {
     Ok(())
 }
 
-// Writes a text of so many such lines.
+// Writes a text of this many such lines.
 fn write_text(out: &mut String) -> Result<(), AllocError> {
     write_head(out)?;
     out.push_str("blocks 1\nblock bb0\n")?;

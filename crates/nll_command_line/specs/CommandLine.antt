@@ -1,18 +1,17 @@
--- Which words make a command line.
--- Source: this project's own.
+-- Which arguments make a command line. Source: this project's own.
 use Rattle.std.specs.Prelude.{◌≡◌, ◌⊎◌, ◌==◌, ℕ, Bool, false, List, [], ◌∷◌, ◌++◌, codes}
 use Rattle.std.specs.Prelude.{Option, None, Some, if◌then◌else◌}
 use Rattle.std.specs.Str.{bytes_eq}
 use Rattle.nll_command_line.specs.declared.task.Task.{Task}
 use Rattle.nll_command_line.specs.declared.task.Task.TheVariants.{Values, Check, Replay}
 
--- the word that names a task
+-- the name of a task
 abbrev pub name_of : Task → List ℕ
 name_of Values = codes "values"
 name_of Check = codes "check"
 name_of Replay = codes "replay"
 
--- the task that a word names
+-- the task with this name
 abbrev pub task_named : List ℕ → Option Task
 task_named word =
     if bytes_eq word (codes "values") then Some Values
@@ -25,34 +24,34 @@ begins_as_option [] = false
 begins_as_option (b ∷ []) = false
 begins_as_option (b ∷ c ∷ rest) = b == 45
 
--- the words are the name of the task and those others
+-- the arguments are the name of the task and those others
 abbrev pub AsksFor : Task → List (List ℕ) → List (List ℕ) → Type 0
 AsksFor task rest words = words ≡ name_of task ∷ rest
 
--- the words after a command name the file: it stands alone, or with `--` before it or behind it
+-- the arguments after a command name the file: it is alone, or has `--` before or after it
 abbrev pub NamesFile : List ℕ → List (List ℕ) → Type 0
 NamesFile file words = (words ≡ file ∷ [])
     ⊎ ((words ≡ codes "--" ∷ file ∷ []) ⊎ (words ≡ file ∷ codes "--" ∷ []))
 
--- the words name the task and then the file
+-- the arguments name the task and then the file
 abbrev pub IsLine : Task → List ℕ → List (List ℕ) → Type 0
 IsLine task file words = (rest : List (List ℕ)) × AsksFor task rest words × NamesFile file rest
 
--- the same, of a file that does not begin as an option unless `--` stands before it
+-- like `IsLine`, but the file does not begin as an option unless `--` comes before it
 abbrev pub IsPlainLine : Task → List ℕ → List (List ℕ) → Type 0
 IsPlainLine task file words = (AsksFor task (file ∷ []) words × (begins_as_option file ≡ false))
     ⊎ (AsksFor task (codes "--" ∷ file ∷ []) words
     ⊎ (AsksFor task (file ∷ codes "--" ∷ []) words × (begins_as_option file ≡ false)))
 
--- no task and file make a plain line of the words
+-- no task and file make a plain line of the arguments
 abbrev pub IsNoPlainLine : List (List ℕ) → Type 0
 IsNoPlainLine words = (task : Task) (file : List ℕ) → IsPlainLine task file words → ⊥
 
--- a word that asks for help
+-- an argument that asks for help
 abbrev pub IsHelpWord : List ℕ → Type 0
 IsHelpWord word = (word ≡ codes "--help") ⊎ (word ≡ codes "-h")
 
--- what stands before a word that asks for help: nothing, a task, or a task and a file that does
+-- what comes before an argument that asks for help: nothing, a task, or a task and a file that does
 -- not begin as an option
 abbrev pub MayStandBeforeHelp : List (List ℕ) → Type 0
 MayStandBeforeHelp [] = Unit {0}
@@ -61,7 +60,7 @@ MayStandBeforeHelp (name ∷ file ∷ []) =
     ((task : Task) × (name ≡ name_of task)) × (begins_as_option file ≡ false)
 MayStandBeforeHelp (name ∷ file ∷ other ∷ rest) = ⊥
 
--- A word asks for help, behind nothing but a task and its file; whatever follows it.
+-- An argument asks for help, after at most a task and its file; anything may follow it.
 pub record AsksPlainlyForHelp (words : List (List ℕ)) : Type 0 where
   pub front : List (List ℕ)
   pub word : List ℕ

@@ -1,6 +1,6 @@
--- The commands as the parser of the words reads them, the line that its matches come to, and the
--- error where it has none.
--- Source: this project's own, over the words of the crate `clap`.
+-- The commands as the parser of the arguments reads them, the command line that its matches make,
+-- and the error where it has none. Source: this project's own, in the vocabulary of the crate
+-- `clap`.
 use Rattle.std.specs.Prelude.{◌≡◌, ◌≢◌, ◌⊎◌, List, [], ◌∷◌, Option, Some, true, codes}
 use Rattle.std.specs.Prelude.{option_and_then, option_map, string_bytes}
 use Rattle.clap.specs.Words.{App, IsAmong, Row, Rule, Text, fault_of, first_of, new_app, new_rule}
@@ -16,7 +16,7 @@ use Rattle.nll_command_line.specs.CommandLine.{IsNoPlainLine, name_of, task_name
 use Rattle.nll_command_line.specs.Help.{help_for}
 use Rattle.nll_command_line.specs.Options.{AreRead, IsNoSuitedLine, Said}
 
--- the place of the file among the words of a command
+-- the place of the file among the arguments of a command
 abbrev pub file_rule : Rule
 file_rule = record (new_rule (codes "FILE")) { action = Some Set; required = true }
 
@@ -52,28 +52,29 @@ line_of_found found = option_and_then (λ task. option_map (λ file. (task, file
 abbrev pub line_of_matches : Option (Text × List Row) → Option (Task × Text)
 line_of_matches = option_and_then line_of_found
 
--- the line that the words come to, where the parser takes them
+-- the command line that the arguments make, where the parser takes them
 abbrev pub line_by_grammar : List Text → Option (Task × Text)
 line_by_grammar words = line_of_matches (subcommand_of program words)
 
--- the parser answers the words with help
+-- the parser answers the arguments with help
 abbrev pub AsksForHelp : List Text → Type 0
 AsksForHelp words = IsAmong DisplayHelp (fault_of program words)
 
--- the parser answers the words with nothing but help
+-- the parser answers the arguments with nothing but help
 abbrev pub AsksForHelpAlone : List Text → Type 0
 AsksForHelpAlone words = fault_of program words ≡ DisplayHelp ∷ []
 
--- the error tells why the words are not taken; refused memory says nothing of them
+-- the error says why the arguments are not taken; a failed allocation says nothing of them
 abbrev pub IsLineError : List Text → LineError → Type 0
 IsLineError words (Help text) =
     AsksForHelp words × IsNoPlainLine words × (string_bytes text ≡ help_for words)
 IsLineError words Usage = IsNoPlainLine words × (AsksForHelpAlone words → ⊥)
 IsLineError words Memory = Unit {0}
 
--- The error tells why the words are no line. Help is told of the words without their options. Usage
--- says that in whatever way the words can be read, the others are no plain line of a task that the
--- options suit, and the parser has more than help for them. Refused memory says nothing.
+-- The error says why the arguments are no command line. Help depends on the arguments without their
+-- options. Usage says that, however the arguments are read, those without options are no plain line
+-- of a task that the options suit, and the parser has more than help for them. A failed allocation
+-- says nothing.
 abbrev pub IsWordsError : List Text → LineError → Type 0
 IsWordsError words (Help text) = (others : List Text) × (said : Said) × AreRead words others said
     × IsLineError others (Help text)
@@ -81,14 +82,14 @@ IsWordsError words Usage = (others : List Text) (said : Said) → AreRead words 
     → IsNoSuitedLine others said × (AsksForHelpAlone others → ⊥)
 IsWordsError words Memory = Unit {0}
 
--- the error is the help for the words, or refused memory
+-- the error is the help for the arguments, or a failed allocation
 abbrev pub IsHelpFor : List Text → LineError → Type 0
 IsHelpFor words (Help text) = string_bytes text ≡ help_for words
 IsHelpFor words Usage = ⊥
 IsHelpFor words Memory = Unit {0}
 
--- the error is what is told of an error of this kind: help, or refused memory for its text;
--- refused memory; or that the words are refused
+-- the error is what is reported for an error of this kind: help, or a failed allocation for its
+-- text; a failed allocation; or that the arguments are refused
 abbrev pub IsTold : List Text → ErrorKind → LineError → Type 0
 IsTold words kind (Help text) = (kind ≡ DisplayHelp) × (string_bytes text ≡ help_for words)
 IsTold words kind Usage = (kind ≢ DisplayHelp) × (kind ≢ OutOfMemory)

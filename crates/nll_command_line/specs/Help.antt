@@ -43,7 +43,7 @@ help_begin Replay =
     codes "Replays a schedule of messages between owners of the regions of FILE\n\n"
     ++ codes "Usage: nllc replay [OPTIONS] --schedule <SCHEDULE> <FILE>\n"
 
--- the lines of the options that say how the regions are dealt
+-- the lines of the options that say how the regions are assigned
 abbrev pub deal_help : List ℕ
 deal_help =
     codes "      --deal <round|blocks>  Deals the regions to the owners in "
@@ -89,7 +89,7 @@ abbrev pub help_of : Option Task → List ℕ
 help_of None = program_help
 help_of (Some task) = task_help task
 
--- the help that words ask for: of the task that the first one names, else of the program
+-- the help that arguments ask for: of the task that the first one names, else of the program
 abbrev pub help_for : List (List ℕ) → List ℕ
 help_for [] = program_help
 help_for (word ∷ rest) = help_of (task_named word)

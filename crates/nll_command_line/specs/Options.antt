@@ -1,5 +1,5 @@
--- The options among the words behind a command, and what they say.
--- Source: project's choice; docs/FORMATS.md says the same in words.
+-- The options among the arguments after a command, and what they say. Source: project's choice;
+-- docs/FORMATS.md says the same in prose.
 use Rattle.std.specs.Prelude.{◌≡◌, ◌≢◌, ◌⊎◌, ℕ, ◌<◌, ◌≤◌, true, false, List, [], ◌∷◌, ◌++◌, codes}
 use Rattle.std.specs.Prelude.{Option, None, Some, option_map, string_bytes}
 use Rattle.std.specs.List.{filter_map}
@@ -17,7 +17,7 @@ use Rattle.nll_command_line.specs.declared.task.Line.{Line}
 use Rattle.nll_command_line.specs.declared.task.Task.{Task}
 use Rattle.nll_command_line.specs.declared.task.Task.TheVariants.{Replay}
 
--- An option: a number of owners, how regions are dealt, a cut file, the kind of mailboxes, or a
+-- An option: a number of owners, how regions are assigned, a cut file, the kind of mailboxes, or a
 -- schedule.
 pub data Given : Type 0 where
   owners : ℕ → Given
@@ -34,7 +34,7 @@ key_of (cut file) = key.Cut
 key_of (mail kind) = key.Mail
 key_of (schedule file) = key.Schedule
 
--- the word of an option
+-- the name of an option
 abbrev pub word_of : Key → List ℕ
 word_of key.Owners = codes "--owners"
 word_of key.Deal = codes "--deal"
@@ -57,19 +57,21 @@ abbrev pub IsLawful : Given → Type 0
 IsLawful (owners n) = (0 < n) × (n ≤ most_owners)
 IsLawful _ = Unit {0}
 
--- the words write an option: its word and then its value, or both as one word with a `=` (61)
+-- the arguments write an option: its name and then its value, or both as one argument with a `=`
+-- (61)
 abbrev pub IsWritten : Given → List (List ℕ) → Type 0
 IsWritten g words =
     ((words ≡ word_of (key_of g) ∷ value_of g ∷ []) × (begins_as_option (value_of g) ≡ false))
     ⊎ (words ≡ (word_of (key_of g) ++ 61 ∷ value_of g) ∷ [])
 
--- The options end at this word: it begins as an option, and is that of none, alone or with a value.
+-- The options end at this argument: it begins as an option, but is the name of none, alone or with
+-- a value.
 pub record EndsOptions (word : List ℕ) : Type 0 where
   pub begins : begins_as_option word ≡ true
   pub alone : (k : Key) → word ≢ word_of k
   pub joined : (k : Key) (value : List ℕ) → word ≢ word_of k ++ 61 ∷ value
 
--- The words are those others, with the options among them, each in its order.
+-- The arguments are those others, with the options among them, each in its order.
 pub data HasOptions : List Given → List (List ℕ) → List (List ℕ) → Type 0 where
   none : HasOptions [] [] []
   ends : (word : List ℕ) (rest : List (List ℕ)) → EndsOptions word
@@ -81,8 +83,8 @@ pub data HasOptions : List Given → List (List ℕ) → List (List ℕ) → Typ
       → IsWritten g front → IsLawful g → HasOptions given others words
       → HasOptions (g ∷ given) others (front ++ words)
 
--- The words are those others, with the options among those behind the first; where the first begins
--- as an option there are none.
+-- The arguments are those others, with the options among those after the first; where the first
+-- begins as an option there are none.
 pub data ArePlaced : List Given → List (List ℕ) → List (List ℕ) → Type 0 where
   no_words : ArePlaced [] [] []
   unread : (first : List ℕ) (rest : List (List ℕ)) → begins_as_option first ≡ true
@@ -138,7 +140,7 @@ pub record Says (given : List Given) (said : Said) : Type 0 where
   pub mail : filter_map mail_in given ≡ option_to_list said.mail
   pub schedule : filter_map schedule_in given ≡ option_to_list said.schedule
 
--- The words are those others, with options among them that give this. The regions are not both
+-- The arguments are those others, with options among them that give this. The regions are not both
 -- dealt and cut by a file.
 pub record AreRead (words others : List (List ℕ)) (said : Said) : Type 0 where
   pub given : List Given
@@ -158,12 +160,12 @@ said_by line = record {
 
 -- ---- which options suit a task
 
--- a schedule is given just for a replay, which has no mailboxes
+-- a schedule is given only for a replay, which has no mailboxes
 abbrev pub Suits : Task → Said → Type 0
 Suits Replay said = (said.schedule ≢ None) × (said.mail ≡ None)
 Suits _ said = said.schedule ≡ None
 
--- no task that the options suit, and no file, make a plain line of the words
+-- no task that the options suit, and no file, make a plain line of the arguments
 abbrev pub IsNoSuitedLine : List (List ℕ) → Said → Type 0
 IsNoSuitedLine words said = (task : Task) (file : List ℕ) → IsPlainLine task file words
     → Suits task said → ⊥

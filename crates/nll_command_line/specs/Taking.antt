@@ -1,5 +1,5 @@
--- What words are to the reader of options, and what it holds.
--- Source: project's choice. Only private contracts cite this file.
+-- What arguments are to the reader of options, and what it holds. Source: project's choice. Only
+-- private contracts cite this file.
 use Rattle.std.specs.Prelude.{◌≡◌, ℕ, false, List, ◌∷◌, ◌++◌, option_map}
 use Rattle.nll_command_line.specs.CommandLine.{begins_as_option}
 use Rattle.nll_command_line.specs.Options.{AreRead, EndsOptions, Given, HasOptions, IsLawful}
@@ -9,7 +9,7 @@ use Rattle.nll_command_line.specs.declared.options.Kind.{Kind}
 use Rattle.nll_command_line.specs.declared.options.Kind.TheVariants as kind
 use Rattle.nll_command_line.specs.declared.options.Options.{Options}
 
--- what a word is
+-- what an argument is
 abbrev pub IsKind : List ℕ → Kind → Type 0
 IsKind word (kind.Alone k) = word ≡ word_of k
 IsKind word (kind.Joined k value) = word ≡ word_of k ++ 61 ∷ value.now
@@ -30,32 +30,32 @@ said_of o = record {
 abbrev pub SaysBy : List Given → Options → Type 0
 SaysBy given o = Says given (said_of o)
 
--- no option of this word and value, and others behind it, can come behind those
+-- no option of this name and value, followed by others, can come after those
 abbrev pub IsUnfit : List Given → Key → List ℕ → Type 0
 IsUnfit given key value = (g : Given) (later : List Given) (said : Said) → key_of g ≡ key
     → value_of g ≡ value → IsLawful g → Says (given ++ g ∷ later) said → ⊥
 
--- the same, of an option whose value is the first of these words
+-- like `IsUnfit`, but the option's value is the first of these arguments
 abbrev pub IsUnfitBefore : List Given → Key → List (List ℕ) → Type 0
 IsUnfitBefore given key words = (g : Given) (later : List Given) (said : Said)
     (rest : List (List ℕ)) → key_of g ≡ key → words ≡ value_of g ∷ rest
     → begins_as_option (value_of g) ≡ false → IsLawful g → Says (given ++ g ∷ later) said → ⊥
 
--- the words have no options among them but those, behind those others
+-- the arguments have no options among them but those, after those others
 abbrev pub HasJust : List Given → List (List ℕ) → List (List ℕ) → Type 0
 HasJust given others words = (gs : List Given) (os : List (List ℕ)) → HasOptions gs os words
     → (gs ≡ given) × (os ≡ others)
 
--- the words have no options among them that give something
+-- the arguments have no options among them that give something
 abbrev pub HasNone : List (List ℕ) → Type 0
 HasNone words = (gs : List Given) (os : List (List ℕ)) (said : Said) → HasOptions gs os words
     → Says gs said → ⊥
 
--- the words can be read in this way alone
+-- the arguments can be read only in this way
 abbrev pub AreReadJust : List (List ℕ) → List (List ℕ) → Said → Type 0
 AreReadJust words others said = (os : List (List ℕ)) (s : Said) → AreRead words os s
     → (os ≡ others) × (s ≡ said)
 
--- the words can't be read
+-- the arguments can't be read
 abbrev pub AreUnreadable : List (List ℕ) → Type 0
 AreUnreadable words = (os : List (List ℕ)) (s : Said) → AreRead words os s → ⊥

@@ -1,4 +1,4 @@
-//! What the words of the command line ask for.
+//! What the arguments of the command line ask for.
 ghost use Rattle.std.specs.Prelude.{◌≡◌, ◌≢◌, ◌⊎◌, ℕ, List, None, Some, false, map, string_bytes};
 ghost use Rattle.std.specs.Prelude.{Err, IfErr, IfOk, IsOk, IsOkAnd, MatchResult, OnErr};
 ghost use Rattle.std.specs.Prelude.{option_map};
@@ -24,7 +24,7 @@ use std::alloc::{AllocError, Global};
 
 const FILE: &str = "FILE";
 
-/// Reads the program's words, without its name.
+/// Reads the program's arguments, without its name.
 ///
 /// # Errors
 /// - `Help`: `-h` or `--help` stands before the first word that is refused. The text is that of the
@@ -96,7 +96,7 @@ fn copy_of(alloc: Global, file: Option<&str>) -> Result<Option<String>, AllocErr
     }
 }
 
-// What words without options ask for.
+// What arguments without options ask for.
 fn asked(alloc: Global, words: &[&str]) -> Result<Asked, LineError>
     ensures ok { IfOk result (λ l.
         IsLine l.task (string_bytes l.file) (map (λ word. word.now) words.now)) }
@@ -112,6 +112,7 @@ fn asked(alloc: Global, words: &[&str]) -> Result<Asked, LineError>
     match grammar(alloc)?.try_get_matches_from(words) {
         Ok(matches) => {
             let line = line_of(alloc, &matches);
+            // Early drop.
             drop(matches);
             line
         }
@@ -123,7 +124,7 @@ fn asked(alloc: Global, words: &[&str]) -> Result<Asked, LineError>
     }
 }
 
-// The program, with the words that each of its commands takes.
+// The program, with the arguments that each of its commands takes.
 fn grammar<'a>(alloc: Global) -> Result<Command<'a>, AllocError>
     ensures { IfOk result (λ c. app_of c ≡ program) }
 {
@@ -177,7 +178,7 @@ fn file_word<'a>(alloc: Global) -> Arg<'a>
     Arg::new(alloc, FILE).action(ArgAction::Set).required(true)
 }
 
-// The line that the words came to.
+// The command line that the arguments make.
 fn line_of(alloc: Global, matches: &ArgMatches<'_>) -> Result<Asked, LineError>
     ensures ok { IfOk result (λ l. line_of_matches (subcommand_rows_of matches.now)
         ≡ Some (l.task, string_bytes l.file)) }
@@ -211,7 +212,7 @@ fn line_of_command(alloc: Global, name: &str, found: &ArgMatches<'_>) -> Result<
     Ok(Asked { task, file })
 }
 
-// What the program makes of words for which the parser has an error of this kind.
+// What the program answers to arguments for which the parser has an error of this kind.
 fn refusal(alloc: Global, words: &[&str], kind: ErrorKind) -> LineError
     ensures { IsTold (map (λ word. word.now) words.now) kind result }
 {

@@ -1,4 +1,4 @@
-//! Why words are no command line.
+//! Why arguments are no command line.
 
 use nll_sets::OutOfMemory;
 use thiserror::Error;
@@ -6,10 +6,10 @@ use thiserror::Error;
 /// Why a command line is not taken.
 #[derive(Debug, PartialEq, Eq, Drop, Error)]
 pub enum LineError {
-    /// Help is asked for; the text is for standard output.
+    /// Help is requested; the text is for standard output.
     #[error("help is asked for")]
     Help(String),
-    /// The words are none of the forms.
+    /// The arguments are invalid.
     #[error("the words are none of the forms")]
     Usage,
     /// An allocation was refused.

@@ -77,7 +77,7 @@ Options:
   -h, --help                 Print help
 ";
 
-/// The help that words ask for: of the command that the first one names, else of the program.
+/// The help that arguments ask for: of the command that the first one names, else of the program.
 pub(crate) fn help_for(words: &[&str]) -> &'static str
     ensures { result.now ≡ help_for (map (λ word. word.now) words.now) }
 {

@@ -1,11 +1,11 @@
-//! Laws of the definitions, which hold of all words.
+//! Laws of the definitions, which hold of all arguments.
 
 ghost use Rattle.std.specs.Prelude.{◌≡◌, ℕ, List};
 ghost use Rattle.nll_command_line.specs.CommandLine.{AsksPlainlyForHelp, IsPlainLine};
 ghost use Rattle.nll_command_line.specs.Options.{AreRead, Said, no_options};
 ghost use Rattle.nll_command_line.specs.declared.task.Task.{Task};
 
-/// States that words can be read in one way at most.
+/// States that arguments can be read in one way at most.
 pub fn one_reading()
     ensures { (words others more : List (List ℕ)) (said other : Said)
         → AreRead words others said → AreRead words more other
@@ -18,7 +18,7 @@ pub fn plain_line_is_read()
         → IsPlainLine task file words → AreRead words words no_options }
 {}
 
-/// States that words which plainly ask for help are read as they are, without options.
+/// States that arguments which plainly ask for help are read as they are, without options.
 pub fn help_is_read()
     ensures { (words : List (List ℕ)) → AsksPlainlyForHelp words → AreRead words words no_options }
 {}

@@ -1,7 +1,7 @@
-//! The command line of `nllc`: which words are a line, and what they ask for.
+//! The command line of `nllc`: which arguments are valid, and what they ask for.
 //!
-//! Read `task` first (what a line asks for), then `options`, `command_line` (how words become one),
-//! `help` and `laws`.
+//! Read `task` first (what a command line asks for), then `options`, `command_line` (how arguments
+//! become one), `help` and `laws`.
 #![tactic(auto)]
 
 mod command_line;

@@ -1,4 +1,4 @@
-//! The options among the words behind a command.
+//! The options among the arguments after a command.
 ghost use Rattle.std.specs.Prelude.{◌≡◌, ◌≢◌, ◌⊎◌, ◌++◌, ◌∷◌, [], ℕ, List, map, string_bytes};
 ghost use Rattle.std.specs.Prelude.{◌<◌, ◌≤◌, MatchOption, OnOk, IfOk, IfErr, None, true, false};
 ghost use Rattle.std.specs.Fmt.{decimal};
@@ -13,7 +13,7 @@ ghost use Rattle.nll_command_line.specs.Taking.{IsKind, IsUnfit, IsUnfitBefore, 
 use crate::error::LineError;
 use crate::task::Task;
 
-/// How regions are dealt to owners.
+/// How regions are assigned to owners.
 #[derive(Clone, Copy, Debug, PartialEq, Eq)]
 pub enum Deal {
     /// In turns.
@@ -22,7 +22,7 @@ pub enum Deal {
     Blocks,
 }
 
-/// What carries what owners tell each other.
+/// What carries messages between owners.
 #[derive(Clone, Copy, Debug, PartialEq, Eq)]
 pub enum MailKind {
     /// Queues without a bound.
@@ -51,10 +51,10 @@ pub(crate) struct Options<'a> {
     pub(crate) schedule: Option<&'a str>,
 }
 
-/// What a word is.
+/// What an argument is.
 #[derive(Clone, Copy)]
 pub(crate) enum Kind<'a> {
-    /// The word of an option.
+    /// The name of an option.
     Alone(Key),
     /// That of an option and its value.
     Joined(Key, &'a str),
@@ -200,7 +200,7 @@ fn owners_of(value: &str) -> Option<u16>
     ensures { MatchOption result ((n : ℕ) → 0 < n → n ≤ most_owners → value.now ≢ decimal n)
         (λ n. (0 < n) × (n ≤ most_owners) × (value.now ≡ decimal n)) }
 {
-    // `parse` takes a `+` and zeros in front as well.
+    // `parse` takes a `+` and leading zeros as well.
     let [b'1'..=b'9', ..] = value.as_bytes() else {
         return None;
     };
@@ -217,7 +217,7 @@ fn begins_as_option(word: &str) -> bool
     bytes.len() > 1 && bytes[0] == b'-'
 }
 
-// The option whose word this is.
+// The option with this name.
 fn key_named(word: &str) -> Option<Key>
     ensures { MatchOption result ((k : Key) → word.now ≢ word_of k) (λ k. word.now ≡ word_of k) }
 {
@@ -231,7 +231,7 @@ fn key_named(word: &str) -> Option<Key>
     }
 }
 
-// What a word is.
+// What an argument is.
 fn kind_of(word: &str) -> Kind<'_>
     ensures { IsKind word.now result }
 {
@@ -250,8 +250,8 @@ fn kind_of(word: &str) -> Kind<'_>
     }
 }
 
-/// Takes the options out of the words behind the first, unless that begins as an option; the others
-/// are put into an empty list.
+/// Takes the options out of the arguments after the first, unless that begins as an option; the
+/// others go into an empty list.
 pub(crate) fn part_words<'a>(
     words: &'a [String],
     options: &mut Options<'a>,
@@ -280,8 +280,7 @@ pub(crate) fn part_words<'a>(
     Ok(())
 }
 
-// Takes the options out of the words behind a command; the others are put behind those that are
-// there.
+// Takes the options out of the arguments after a command, and appends the others.
 fn take_options<'a>(
     words: &'a [String],
     options: &mut Options<'a>,
@@ -314,7 +313,7 @@ fn take_options<'a>(
     Ok(())
 }
 
-// Takes in an option whose value is the next word, and gives the words behind it.
+// Takes an option whose value is the next argument, and returns the arguments after it.
 fn give_next<'a>(
     key: Key,
     words: &'a [String],
@@ -338,7 +337,7 @@ fn give_next<'a>(
     Ok(behind)
 }
 
-// Puts words behind those that are there.
+// Appends arguments.
 fn push_all<'a>(words: &'a [String], others: &mut Vec<&'a str>) -> Result<(), LineError>
     ensures ok { OnOk result (map (λ word. word.now) others.new.items
         ≡ map (λ word. word.now) others.old.items ++ map string_bytes words.now) }

@@ -17,7 +17,7 @@ pub enum Task {
     Values,
     /// The faults of the universal regions.
     Check,
-    /// What a schedule of messages between owners comes to.
+    /// The outcome of a schedule of messages between owners.
     Replay,
 }
 
@@ -28,24 +28,24 @@ pub struct Line {
     pub file: String,
     /// How many owners there are, where that is said: 1 to 64.
     pub owners: Option<u16>,
-    /// How regions are dealt to them, where that is said.
+    /// How regions are assigned to them, where that is said.
     pub deal: Option<Deal>,
     /// The file that says who owns which region; then `deal` says nothing.
     pub cut: Option<String>,
-    /// What carries what owners tell each other, where that is said.
+    /// What carries messages between owners, where that is given.
     pub mail: Option<MailKind>,
     /// The file of the schedule, of a replay alone.
     pub schedule: Option<String>,
 }
 
-/// What the words ask for that are no options.
+/// What the arguments ask for that are no options.
 #[derive(Drop)]
 pub(crate) struct Asked {
     pub(crate) task: Task,
     pub(crate) file: String,
 }
 
-/// The task that a word names.
+/// The task with this name.
 pub(crate) fn task_of(name: &str) -> Option<Task>
     ensures { result ≡ task_named name.now }
 {

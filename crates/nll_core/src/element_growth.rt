@@ -65,7 +65,8 @@ fn is_asked(graph: &Graph, starts: &Points<'_>, element: Element, reached: &RunS
     requires element { element < element_count graph.now }
     requires room { element_count graph.now ≤ length reached.now }
     ensures yes { result ≡ true
-        → Contains starts.now element ⊎ ((x : ℕ) × IsIn reached.now x × IsStep graph.now x element) }
+        → Contains starts.now element
+        ⊎ ((x : ℕ) × IsIn reached.now x × IsStep graph.now x element) }
     ensures start { Contains starts.now element → result ≡ true }
     ensures step { (x : ℕ) → IsIn reached.now x → IsStep graph.now x element → result ≡ true }
 {

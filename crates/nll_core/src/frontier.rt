@@ -126,11 +126,11 @@ impl Frontier {
         done
     }
 
-    /// Reaches what can be reached once a run of elements is in the set, of which other elements may
-    /// be due later: walks go on through those at which one begins, or to which a step leads from
-    /// what is reached; so they go on at a hole that is filled later. Where a constraint holds at
-    /// all points, that is the run itself. Clears a list, and puts the runs of what is newly reached
-    /// into it, each element once.
+    /// Reaches what can be reached once a run of elements is in the set, of which other elements
+    /// may be due later: walks go on through those at which one begins, or to which a step leads
+    /// from what is reached; so they go on at a hole that is filled later. Where a constraint holds
+    /// at all points, that is the run itself. Clears a list, and puts the runs of what is newly
+    /// reached into it, each element once.
     ///
     /// # Errors
     /// - `Memory`: the list is of no use; each later call answers `Memory` too.

@@ -1,5 +1,5 @@
 -- Cut files as a format, and what a cut file means: the owner of region 0, of region 1, and so on.
--- Source: project's choice; docs/FORMATS.md says the same in words.
+-- Source: project's choice; docs/FORMATS.md says the same in prose.
 use Rattle.std.specs.Prelude.{ℕ, nat_lt, List, codes, Option, None, Some, if◌then◌else◌}
 use Rattle.nll_format.specs.Parts.{one_number}
 use Rattle.nll_format.specs.Text.{Format, IsText}

@@ -13,7 +13,7 @@ use std::alloc::Global;
 ///
 /// # Errors
 /// The text's one fault: its first faulty line, and of that line the first kind in the order of
-/// `TextKind`; or `Memory` at line 0, where a growth of memory was refused.
+/// `TextKind`; or `Memory` at line 0, where an allocation failed.
 ///
 /// # Cost
 /// Time linear in the text, and memory for what it lists; the text isn't copied (not proved).

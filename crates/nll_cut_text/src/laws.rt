@@ -23,13 +23,14 @@ pub fn cut_one_meaning()
     ensures { (text list other : List ℕ) → Means text list → Means text other → list ≡ other }
 {}
 
-/// States that each text means a list or has a fault. With the laws above it has just one of them.
+/// States that each text means a list or has a fault. With the laws above it has exactly one of
+/// them.
 pub fn cut_some_meaning_or_fault()
     ensures { (text : List ℕ) → ((list : List ℕ) × Means text list)
         ⊎ ((line : ℕ) × (kind : TextKind) × IsFault cut text line kind) }
 {}
 
-/// States that a text may stop behind any line: no fault is told at its end.
+/// States that a text may stop after any line: no fault is reported at its end.
 pub fn cut_never_at_end()
     ensures { (text : List ℕ) (line : ℕ) (kind : TextKind)
         → IsFault cut text line kind → kind ≢ TextKind.End }

@@ -1,5 +1,5 @@
--- The forms of the lines of a facts text, and how they are spelled.
--- Source: project's choice; docs/FORMATS.md says the same in words.
+-- The forms of the lines of a facts text, and how they are spelled. Source: project's choice;
+-- docs/FORMATS.md says the same in prose.
 use Rattle.std.specs.Prelude.{ℕ, List, [], ◌∷◌, codes}
 use Rattle.nll_problem.specs.declared.at.At.{At}
 use Rattle.nll_problem.specs.declared.at.At.TheVariants.{All, Point}

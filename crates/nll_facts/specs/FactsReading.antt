@@ -33,7 +33,7 @@ said_by r = record {
 }
 
 -- The reader's tables agree, ready for lines of the group n: there is a region for each name, there
--- are numbers for a builder that is still to be made, and the builder is there just behind the
+-- are numbers for a builder that is still to be made, and the builder is there exactly after the
 -- lines of the universal regions.
 pub record IsKept (n : ℕ) (r : Reader) : Type 0 where
   pub some_name : 0 < length r.names
@@ -59,7 +59,7 @@ with_edges g h = record g { edges = h.edges }
 abbrev pub with_returns : Graph → Graph → Graph
 with_returns g h = record g { returns = h.returns }
 
--- t is what is said after a line of the form, but for the group that is reached
+-- t is what is said after a line of the form, except for the group that is reached
 abbrev pub Takes : Said → Form → Said → Type 0
 Takes s (points n) t = (t.names ≡ s.names) × (t.problem ≡ bare n (length s.names))
 Takes s (universal a) t =
@@ -106,7 +106,7 @@ IsText (region x) = IsUtf8 x
 abbrev pub HasTexts : Form → Type 0
 HasTexts f = AllByRecursion IsText (parts f)
 
--- The reader is prepared for a line of the form: it stands in order, its names are texts, and the
+-- The reader is prepared for a line of the form: it is in order, its names are texts, and the
 -- tables agree for its group.
 pub record IsDue (r : Reader) (f : Form) : Type 0 where
   pub kept : IsKept (group f) r
@@ -120,8 +120,8 @@ pub record IsTaken (s : Said) (f : Form) (r : Reader) : Type 0 where
   pub adds : Adds s f (said_by r)
   pub ready : IsReady r
 
--- a line of the form is refused after lines that say s: for refused memory, or with its first kind
--- of fault
+-- a line of the form is refused after lines that say s: for a failed allocation, or with its first
+-- kind of fault
 abbrev pub IsRefused : Said → Form → TextKind → Type 0
 IsRefused s f kind = (kind ≡ Memory) ⊎ (first_fault s f ≡ Some kind)
 

@@ -1,6 +1,6 @@
--- What the lines of a facts text say together, and what is wrong with a further line.
--- Source: project's choice; docs/FORMATS.md says the same in words. The code keeps tables; this
--- speaks of whole lists of lines.
+-- What the lines of a facts text say together, and what is wrong with a further line. Source:
+-- project's choice; docs/FORMATS.md says the same in prose. The code keeps tables; this speaks of
+-- whole lists of lines.
 use Rattle.std.specs.Prelude.{ℕ, max, Bool, false, ◌==◌, nat_lt, nat_le, ◌&&◌, ◌||◌, not, List, []}
 use Rattle.std.specs.Prelude.{◌∷◌, ◌++◌, length, codes, find, Option, Some, None}
 use Rattle.std.specs.List.{filter_map}
@@ -149,8 +149,8 @@ abbrev pub is_full_of_constraints : Said → Constraint → Bool
 is_full_of_constraints s c =
     not (has_constraint s.problem c) && nat_le most_constraints (length s.problem.constraints)
 
--- The line stands in order: no line of a later group is there, nor one of its own where the group
--- has one line, and `points` is the first.
+-- The line is in order: no line of a later group is there, nor one of its own where the group has
+-- one line, and `points` is the first.
 abbrev pub is_in_order : Said → Form → Bool
 is_in_order s f =
     (nat_lt s.reached (group f) || (s.reached == group f && is_repeated f))

@@ -1,5 +1,5 @@
--- Facts texts as a format, and what a facts text means.
--- Source: project's choice; docs/FORMATS.md says the same in words.
+-- Facts texts as a format, and what a facts text means. Source: project's choice; docs/FORMATS.md
+-- says the same in prose.
 use Rattle.std.specs.Prelude.{◌≡◌, ℕ, List, codes, Contains}
 use Rattle.nll_problem.specs.Problem.{Problem, SameProblem}
 use Rattle.nll_format.specs.Labels.{Labels, numbers}

@@ -1,6 +1,6 @@
 -- Which lines a facts text of each version has: version 2 has all forms, and version 1 those
--- without a constraint at all points.
--- Source: project's choice; docs/FORMATS.md says the same in words.
+-- without a constraint at all points. Source: project's choice; docs/FORMATS.md says the same in
+-- prose.
 use Rattle.std.specs.Prelude.{◌≡◌, ℕ, Bool, true, false, List, codes}
 use Rattle.nll_problem.specs.declared.at.At.{At}
 use Rattle.nll_problem.specs.declared.at.At.TheVariants.{All, Point}
@@ -18,12 +18,12 @@ abbrev pub is_one_point : At → Bool
 is_one_point All = false
 is_one_point (Point p) = true
 
--- a line of the form may stand in a text of version 1: it is no constraint at all points
+-- a line of the form may be in a text of version 1: it is no constraint at all points
 abbrev pub is_of_first : Form → Bool
 is_of_first (constraint a b place) = is_one_point place
 is_of_first _ = true
 
--- a line of the form may stand in a text of the version
+-- a line of the form may be in a text of the version
 abbrev pub is_of_version : Version → Form → Bool
 is_of_version First f = is_of_first f
 is_of_version Second f = true

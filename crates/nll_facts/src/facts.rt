@@ -20,7 +20,7 @@ pub struct Facts {
     pub labels: Labels,
 }
 
-// Reads the lines behind the header of a text of the version.
+// Reads the lines after the header of a text of the version.
 fn read_body(alloc: Global, version: Version, body: Option<&[u8]>) -> Result<Facts, TextError>
     requires long { length (lines_left body) < 2 ^ 32 }
     requires short { AreShort (lines_left body) }
@@ -48,7 +48,7 @@ fn read_body(alloc: Global, version: Version, body: Option<&[u8]>) -> Result<Fac
 ///
 /// # Errors
 /// The text's one fault: its first faulty line, and of that line the first kind in the order of
-/// `TextKind`; or `Memory` at line 0, where a growth of memory was refused.
+/// `TextKind`; or `Memory` at line 0, where an allocation failed.
 ///
 /// # Cost
 /// Time linear in the text, and memory for what it says; the text isn't copied (not proved).

@@ -24,7 +24,7 @@ fn header_version(line: &[u8]) -> Option<Version>
     None
 }
 
-/// Cuts the header off a text: its version, and the text of the lines behind it, if any.
+/// Cuts the header off a text: its version, and the text of the lines after it, if any.
 pub fn open_header<'a>(text: &'a [u8]) -> Result<(Version, Option<&'a [u8]>), TextError>
     ensures ok { IfOk result (λ r. IsHeaded (facts r.0) text.now (lines_left r.1)) }
     ensures few { IfOk result (λ r. length (lines_left r.1) < 2 ^ 32) }

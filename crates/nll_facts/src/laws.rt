@@ -27,7 +27,8 @@ pub fn facts_one_meaning()
         → SameProblem problem other × (labels ≡ other_labels) }
 {}
 
-/// States that a text means a problem or has a fault. With the laws above it has just one of them.
+/// States that a text means a problem or has a fault. With the laws above it has exactly one of
+/// them.
 pub fn facts_some_meaning_or_fault()
     ensures { (text : List ℕ)
         → ((problem : Problem) × (labels : Labels) × Means text problem labels)

@@ -27,7 +27,7 @@ pub enum Line<'a> {
     End,
 }
 
-// Where a constraint holds: `all`, where no number stands there.
+// Where a constraint holds: `all`, where no number is there.
 fn all_points(rest: &[u8]) -> Option<At>
     requires { (p : ℕ) → Spells rest.now (shapes.one_number p) → ⊥ }
     ensures { Reads forms.one_place (λ place. place) rest.now result }
@@ -87,7 +87,8 @@ pub fn line_of(line: &[u8]) -> Option<Line<'_>>
     rare_line_of(line)
 }
 
-// The same, where the line begins with none of the words that most lines begin with.
+// Like `line_of`, for a line that begins with none of the words that most lines begin with: the
+// frequent words are tried first, for speed.
 fn rare_line_of(line: &[u8]) -> Option<Line<'_>>
     requires base { BeginsNotWith line.now (lex.word (codes "base")) }
     requires next { BeginsNotWith line.now (lex.word (codes "next")) }

@@ -1,7 +1,7 @@
 //! The reader of the lines of a facts text: what they say so far.
 //!
-//! The problem's builder wants the number of universal regions, so it is made at the first line
-//! that stands behind them.
+//! The problem's builder needs the number of universal regions, so it is made at the first line
+//! after them.
 
 ghost use Rattle.std.specs.Prelude.{◌≡◌, ◌⊎◌, ◌↔◌, ◌<◌, ◌≤◌, ℕ, [], length, Some, true, false};
 ghost use Rattle.std.specs.Prelude.{IfOk, IfErr, OnOk, OnErr};
@@ -67,7 +67,7 @@ impl Reader {
         })
     }
 
-    // Whether a line stands in order.
+    // Whether a line is in order.
     fn may_follow(&self, line: &Line<'_>) -> bool
         ensures { result ≡ is_in_order (said_by self.now) (view line.now) }
     {
@@ -108,8 +108,8 @@ impl Reader {
         }
     }
 
-    // Makes the builder. It is a call of its own so that a line which finds one doesn't pay for the
-    // room that making one takes.
+    // Makes the builder. It is a function of its own, so that a line which finds one doesn't pay
+    // for the stack space that making one takes.
     fn begin(&mut self) -> Result<(), BuildError>
         requires ready { IsReady self.old }
         requires begun { 0 < self.old.reached }
@@ -287,7 +287,7 @@ impl Reader {
         }
     }
 
-    /// The problem and the names that the lines say. Takes no memory.
+    /// The problem and the names that the lines say. Allocates nothing.
     pub fn finish(self) -> (Problem, Names)
         requires ready { IsReady self }
         requires ended { self.reached ≡ 6 }

@@ -25,7 +25,7 @@ fn is_one_point(at: At) -> bool
     }
 }
 
-// Whether a line may stand in a text of version 1.
+// Whether a line may be in a text of version 1.
 fn is_of_first(line: &Line<'_>) -> bool
     ensures { result ≡ spec.is_of_first (view line.now) }
 {
@@ -35,7 +35,7 @@ fn is_of_first(line: &Line<'_>) -> bool
     }
 }
 
-/// Whether a line may stand in a text of the version.
+/// Whether a line may be in a text of the version.
 pub fn is_of_version(version: Version, line: &Line<'_>) -> bool
     ensures { result ≡ spec.is_of_version version (view line.now) }
 {

@@ -1,5 +1,5 @@
--- The kinds of fault of a text, in the order in which one is told before another.
--- Source: project's choice; docs/FORMATS.md has the table.
+-- The kinds of fault of a text, in the order in which they are reported. Source: project's choice;
+-- docs/FORMATS.md has the table.
 use Rattle.std.specs.Prelude.{List, [], ◌∷◌}
 use Rattle.nll_problem.specs.declared.error.Kind.TheVariants.{Text, Points, Edges, Universals}
 use Rattle.nll_problem.specs.declared.error.Kind.TheVariants.{Regions, Constraints, Variables}
@@ -11,14 +11,14 @@ use Rattle.nll_format.specs.declared.error.TextKind.TheVariants.{NotUtf8, Header
 use Rattle.nll_format.specs.declared.error.TextKind.TheVariants.{Duplicate, Range, Shape, TypeSize}
 use Rattle.nll_format.specs.declared.error.TextKind.TheVariants.{Limit, End, Memory}
 
--- all kinds that a text can have, the first to be told in front
+-- all kinds that a text can have, in the order in which they are reported
 abbrev pub kinds : List TextKind
 kinds =
     NotUtf8 ∷ Header ∷ Syntax ∷ Unknown ∷ Duplicate ∷ Range ∷ Shape ∷ TypeSize
     ∷ Limit Text ∷ Limit Points ∷ Limit Edges ∷ Limit Universals ∷ Limit Regions
     ∷ Limit Constraints ∷ Limit Variables ∷ Limit Structs ∷ End ∷ []
 
--- the kind that tells an error of the builder, whose regions come from names
+-- the kind for an error of the builder, whose regions come from names
 abbrev pub kind_of : BuildError → TextKind
 kind_of build.PointRange = Range
 kind_of build.RegionRange = Unknown

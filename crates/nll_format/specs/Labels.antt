@@ -1,5 +1,5 @@
--- How a text names regions and points.
--- Source: project's choice; docs/FORMATS.md says the same in words.
+-- How a text names regions and points. Source: project's choice; docs/FORMATS.md says the same in
+-- prose.
 use Rattle.std.specs.Prelude.{◌≡◌, ℕ, ◌-◌, nat_le, List, length, filter, slice_get, slice_index}
 use Rattle.std.specs.Prelude.{Some}
 use Rattle.std.specs.List.Sorted.{IsStrictlyIncreasing}
@@ -13,12 +13,13 @@ pub data Points : Type 0 where
   numbers : Points
   blocks : List ℕ → Points
 
--- The names of a text: one a region, in region order and without the `'`, and how it names points.
+-- The names of a text: one per region, in region order and without the `'`, and how it names
+-- points.
 pub record Labels : Type 0 where
   pub names : List (List ℕ)
   pub points : Points
 
--- The first points of blocks: they rise, and the first block begins at point 0.
+-- The first points of blocks: they ascend, and the first block begins at point 0.
 pub record AreFirstPoints (starts : List ℕ) : Type 0 where
   pub rise : IsStrictlyIncreasing starts
   pub at_zero : slice_get starts 0 ≡ Some 0

@@ -1,6 +1,5 @@
--- How lines of a text behind its header are read, one after another.
--- Source: project's choice. What a reader holds is given as a relation to the forms of the lines
--- that it has read.
+-- How lines of a text after its header are read, one after another. Source: project's choice. What
+-- a reader holds is given as a relation to the forms of the lines that it has read.
 use Rattle.std.specs.Prelude.{◌≡◌, ◌⊎◌, ℕ, ◌+◌, ◌≤◌, List, [], ◌++◌, length}
 use Rattle.std.specs.List.{AllByRecursion}
 use Rattle.nll_problem.specs.Limits.{most_bytes}
@@ -15,7 +14,7 @@ AreShort lines = AllByRecursion (λ line. length line ≤ most_bytes) lines
 
 -- ---- one line
 
--- behind lines of the forms that were held the line has no fault, and with what it adds the forms
+-- after lines of the forms that were held the line has no fault, and with what it adds the forms
 -- are held now
 abbrev pub TakesIn : (format : Format) → (List format.Form → Type 0)
     → (List format.Form → Type 0) → List ℕ → Type 0
@@ -24,7 +23,7 @@ TakesIn format Old New line =
     → (added : List format.Form) × Fits format (format.said forms) line added
     × New (forms ++ added)
 
--- memory was refused, or behind lines of the forms that were held this is the line's first kind of
+-- an allocation failed, or after lines of the forms that were held this is the line's first kind of
 -- fault
 abbrev pub TurnsDown : (format : Format) → (List format.Form → Type 0) → List ℕ → TextKind → Type 0
 TurnsDown format Old line kind =
@@ -34,7 +33,7 @@ TurnsDown format Old line kind =
 -- ---- all lines
 
 -- Of all lines those that are left are not read yet. The others have no fault and are of these
--- forms; with the header they are so many.
+-- forms; with the header they are this many.
 pub record IsAmid (format : Format) (all left : List (List ℕ)) (forms : List format.Form)
     (number : ℕ) : Type 0 where
   pub front : List (List ℕ)
@@ -42,7 +41,7 @@ pub record IsAmid (format : Format) (all left : List (List ℕ)) (forms : List f
   pub place : number ≡ 1 + length front
   pub fine : Says format [] front forms
 
--- the same of forms that are held
+-- like `IsAmid`, but for forms that are held
 abbrev pub IsAmidWith : (format : Format) → (List format.Form → Type 0) → List (List ℕ)
     → List (List ℕ) → ℕ → Type 0
 IsAmidWith format Held all left number =
@@ -55,12 +54,12 @@ Advances format Old New these those before number =
     (all : List (List ℕ)) → IsAmidWith format Old all these before
     → IsAmidWith format New all those number
 
--- the error refuses each text of the format that has these lines behind its header
+-- the error refuses each text of the format that has these lines after its header
 abbrev pub RefusesBody : Format → List (List ℕ) → TextError → Type 0
 RefusesBody format body error =
     (text : List ℕ) → IsHeaded format text body → IsRefusal (IsFault format text) error
 
--- the same of all lines of which these are left
+-- like `RefusesBody`, but for all lines of which these are left
 abbrev pub RefusesLeft : (format : Format) → (List format.Form → Type 0) → List (List ℕ) → ℕ
     → TextError → Type 0
 RefusesLeft format Old these before error =

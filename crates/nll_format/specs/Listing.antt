@@ -1,6 +1,5 @@
--- Texts of which each line behind the header is one entry, whatever the other lines are, and which
--- may stop behind any line.
--- Source: project's choice; docs/FORMATS.md says the same in words.
+-- Texts of which each line after the header is one entry, whatever the other lines are, and which
+-- may stop after any line. Source: project's choice; docs/FORMATS.md says the same in prose.
 use Rattle.std.specs.Prelude.{◌≡◌, ℕ, List, [], ◌∷◌, ◌++◌, Option}
 use Rattle.nll_format.specs.Parts.{Part, Spells}
 use Rattle.nll_format.specs.Text.{Format}

@@ -1,12 +1,12 @@
--- Lines of parts, one token each: words that a format knows, numbers, and names of regions.
--- Source: project's choice; docs/FORMATS.md says the same in words.
+-- Lines of parts, one token each: words that a format knows, numbers, and names of regions. Source:
+-- project's choice; docs/FORMATS.md says the same in prose.
 use Rattle.std.specs.Prelude.{◌≡◌, ℕ, ◌<◌, ◌^◌, List, [], ◌∷◌, Option, Some, None, map}
 use Rattle.std.specs.List.{AllByRecursion}
 use Rattle.std.specs.Fmt.{decimal}
 use Rattle.nll_text.specs.Tokens as lex
 use Rattle.nll_text.specs.Tokens.{IsMadeOf}
 
--- a region's name, without the `'` in front
+-- a region's name, without its leading `'`
 abbrev pub Name : Type 0
 Name = List ℕ
 
@@ -16,7 +16,7 @@ pub data Part : Type 0 where
   number : ℕ → Part
   region : Name → Part
 
--- how a part is written: a number as it is printed, a name behind its `'`
+-- how a part is written: a number as it is printed, a name after its `'`
 abbrev pub token_of : Part → lex.Token
 token_of (keyword w) = lex.word w
 token_of (number n) = lex.word (decimal n)
@@ -36,7 +36,7 @@ pub record Spells (line : List ℕ) (these : List Part) : Type 0 where
 -- ---- what reading a line answers
 
 -- The answer is what the bytes spell, by the parts of a value; there is none only where the bytes
--- spell no value. `meant` tells the value that an answer stands for.
+-- spell no value. `meant` gives the value that an answer stands for.
 abbrev pub Reads : {A B : Type 0} → (B → List Part) → (A → B) → List ℕ → Option A → Type 0
 Reads {A} {B} parts meant bytes None = (b : B) → Spells bytes (parts b) → ⊥
 Reads {A} {B} parts meant bytes (Some a) = Spells bytes (parts (meant a))

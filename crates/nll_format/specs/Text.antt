@@ -1,6 +1,6 @@
--- A text of any format: that it fits, or its one fault.
--- Source: project's choice; docs/FORMATS.md says the same in words. A format is given as a record.
--- The words speak of whole lists of lines, and know nothing of how a text is read.
+-- A text of any format: that it fits, or its one fault. Source: project's choice; docs/FORMATS.md
+-- says the same in prose. A format is given as a record. The words speak of whole lists of lines,
+-- and know nothing of how a text is read.
 use Rattle.std.specs.Prelude.{◌≡◌, ◌⊎◌, ℕ, ◌+◌, ◌<◌, ◌≤◌, true, false, List, [], ◌∷◌, ◌++◌, length}
 use Rattle.std.specs.Prelude.{Option, Some, None}
 use Rattle.std.specs.Str.{IsUtf8}
@@ -26,7 +26,7 @@ pub record Format : Type 1 where
   pub said : List Form → Said
   -- what is wrong with a further line of the form, first kind first
   pub first_fault : Said → Form → Option TextKind
-  -- the text may stop behind these lines
+  -- the text may stop after these lines
   pub HasEnded : List Form → Type 0
 
 -- the line is the header of a text of the format
@@ -50,7 +50,7 @@ pub data IsFaulty (format : Format) (s : format.Said) (line : List ℕ) : TextKi
   at_form : (f : format.Form) (kind : TextKind) → IsUtf8 line → is_skipped line ≡ false
       → format.HasForm line f → format.first_fault s f ≡ Some kind → IsFaulty format s line kind
 
--- ---- the lines behind the header
+-- ---- the lines after the header
 
 -- After lines of the forms `before` these lines have no fault, and `forms` are the forms of all.
 abbrev pub Says : (format : Format) → List format.Form → List (List ℕ) → List format.Form → Type 0
@@ -59,7 +59,7 @@ Says format before (line ∷ lines) forms =
     (added : List format.Form) × Fits format (format.said before) line added
     × Says format (before ++ added) lines forms
 
--- The first of the lines that has a fault stands behind n others, and this is its first kind.
+-- The first line with a fault comes after n others, and this is its first kind.
 pub record HasFault (format : Format) (lines : List (List ℕ)) (n : ℕ) (kind : TextKind)
     : Type 0 where
   pub front : List (List ℕ)
@@ -89,7 +89,7 @@ pub record HasHeader (kind version text : List ℕ) (body : List (List ℕ)) : T
 abbrev pub IsHeaded : Format → List ℕ → List (List ℕ) → Type 0
 IsHeaded format = HasHeader format.kind format.version
 
--- The text fits: a header, and lines without a fault of these forms, behind which it may stop.
+-- The text fits: a header, and lines without a fault of these forms, after which it may stop.
 pub record IsText (format : Format) (text : List ℕ) (forms : List format.Form) : Type 0 where
   pub body : List (List ℕ)
   pub headed : IsHeaded format text body
@@ -111,19 +111,19 @@ pub data IsFault (format : Format) (text : List ℕ) : ℕ → TextKind → Type
 
 -- ---- how a reader refuses a text
 
--- The error tells a fault by its line and kind, or that a growth of memory was refused, at line 0.
+-- The error reports a fault by its line and kind, or a failed allocation at line 0.
 abbrev pub IsRefusal : (ℕ → TextKind → Type 0) → TextError → Type 0
 IsRefusal fault error =
     (error ≡ record { line = 0; kind = Memory }) ⊎ fault error.line error.kind
 
--- The error tells that the text is too long, or else that its first line isn't UTF-8.
+-- The error says that the text is too long, or else that its first line isn't UTF-8.
 abbrev pub IsUncut : List ℕ → TextError → Type 0
 IsUncut text error =
     ((error ≡ record { line = 1; kind = Limit Text }) × (most_bytes < length text))
     ⊎ ((error ≡ record { line = 1; kind = NotUtf8 }) × (line : List ℕ) × (body : List (List ℕ))
     × IsCut text line body × (IsUtf8 line → ⊥))
 
--- The error tells the same, or else that the first line isn't a header of these two runs.
+-- The error says one of these, or else that the first line isn't a header of these two runs.
 abbrev pub IsUnopened : List ℕ → List ℕ → List ℕ → TextError → Type 0
 IsUnopened kind version text error =
     IsUncut text error
@@ -136,7 +136,7 @@ IsUnopened kind version text error =
 abbrev pub IsPassedOver : List ℕ → Type 0
 IsPassedOver line = IsUtf8 line × (is_skipped line ≡ true)
 
--- the kind tells what is wrong with a line that has no form
+-- this kind is reported for a line that has no form
 abbrev pub IsFormless : List ℕ → TextKind → Type 0
 IsFormless line kind = ((kind ≡ NotUtf8) × (IsUtf8 line → ⊥))
     ⊎ ((kind ≡ Syntax) × IsUtf8 line × (is_skipped line ≡ false))

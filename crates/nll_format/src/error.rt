@@ -7,7 +7,7 @@ use nll_problem::{BuildError, Kind};
 use nll_sets::OutOfMemory;
 use thiserror::Error;
 
-/// What is wrong with a line, in the order in which one kind is told before another.
+/// What is wrong with a line, in the order in which kinds are reported.
 #[derive(Clone, Copy, Debug, PartialEq, Eq, Error)]
 pub enum TextKind {
     /// The line's bytes aren't UTF-8.
@@ -16,7 +16,7 @@ pub enum TextKind {
     /// The first line isn't the header.
     #[error("the first line isn't the header")]
     Header,
-    /// The line has none of the forms, or stands out of order.
+    /// The line is invalid: it has none of the forms, or is out of order.
     #[error("the line has none of the forms, or stands out of order")]
     Syntax,
     /// A name that no earlier line declares.
@@ -40,13 +40,13 @@ pub enum TextKind {
     /// The text stops before its last line.
     #[error("the text stops before its last line")]
     End,
-    /// A growth of memory was refused; the text may be right.
+    /// An allocation failed; the text may be right.
     #[error("out of memory")]
     Memory,
 }
 
 impl TextKind {
-    /// The kind that tells an error of the builder, whose regions come from names.
+    /// The kind for an error of the builder, whose regions come from names.
     pub fn of(error: BuildError) -> TextKind
         ensures { result ≡ kind_of error }
     {
@@ -71,7 +71,7 @@ pub struct TextError {
 }
 
 impl TextError {
-    /// The error of a line. Out of memory is no line's: it is told at line 0.
+    /// The error of a line. Out of memory is no line's: it is reported at line 0.
     pub fn at(line: u64, kind: TextKind) -> TextError
         ensures memory { kind ≡ TextKind.Memory
             → result ≡ record { line = 0; kind = TextKind.Memory } }

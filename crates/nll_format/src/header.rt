@@ -1,4 +1,4 @@
-//! Opening a text: its first line is cut off, and is to be the header.
+//! Opening a text: its first line is cut off, and must be the header.
 
 ghost use Rattle.std.specs.Prelude.{◌<◌, ◌^◌, IfOk, IfErr, length};
 ghost use Rattle.std.specs.Str.{IsUtf8};
@@ -11,7 +11,7 @@ use nll_problem::Kind;
 use nll_text::{is_header, next_line};
 use std::str;
 
-/// Cuts the first line off a text, and leaves the text of the lines behind it, if any.
+/// Cuts the first line off a text, and leaves the text of the lines after it, if any.
 ///
 /// # Errors
 /// - `Limit(Text)` at line 1: the text is too long.
@@ -41,7 +41,7 @@ pub fn first_line<'a>(text: &'a [u8]) -> Result<(&'a [u8], Option<&'a [u8]>), Te
     }
 }
 
-/// Cuts the header off a text: what is left is the text of the lines behind it, if any.
+/// Cuts the header off a text: what is left is the text of the lines after it, if any.
 ///
 /// # Errors
 /// - `Limit(Text)` at line 1: the text is too long.

@@ -26,7 +26,7 @@ enum Points {
 /// The names of a text's regions and points.
 ///
 /// # Shape
-/// One name a region, `static` first, without the `'` in front.
+/// One name per region, `static` first, without its leading `'`.
 pub struct Labels {
     names: Names,
     points: Points,
@@ -83,7 +83,7 @@ impl Labels {
         self.names.len()
     }
 
-    /// The name of a region, without the `'` in front.
+    /// The name of a region, without its leading `'`.
     pub fn region(&self, region: RegionId) -> &str
         requires { region < length self.now.names }
         ensures { result.now ≡ slice_index_or self.now.names region [] }

@@ -1,4 +1,4 @@
-//! What takes in the lines of a text behind its header, one after another.
+//! A reader of the lines of a text after its header, one after another.
 
 ghost use Rattle.std.specs.Prelude.{◌≤◌, ◌↔◌, List, length, IsTrue, OnOk, IfErr};
 ghost use Rattle.nll_problem.specs.Limits.{most_bytes};
@@ -22,7 +22,7 @@ pub trait LineReader<'a, F> {
     /// Takes in a line.
     ///
     /// # Errors
-    /// What is wrong with the line behind those that were taken in; or `Memory`.
+    /// What is wrong with the line after those that were taken in; or `Memory`.
     fn read_line(&mut self, format: &F, line: &'a [u8]) -> Result<(), TextKind>
         requires ready { ready self.old }
         requires short { length line.now ≤ most_bytes }
@@ -33,7 +33,7 @@ pub trait LineReader<'a, F> {
         ensures refused { IfErr result (TurnsDown (format_of format.now)
             (λ forms. holds format.now forms self.old) line.now) };
 
-    /// Whether a text may stop behind the lines that were taken in.
+    /// Whether a text may stop after the lines that were taken in.
     fn has_ended(&self, format: &F) -> bool
         ensures { (forms : List (format_of format.now).Form) → holds format.now forms self.now
             → IsTrue result ↔ (format_of format.now).HasEnded forms };

@@ -1,4 +1,4 @@
-//! Reading the lines of a text behind its header, one after another.
+//! Reading the lines of a text after its header, one after another.
 
 ghost use Rattle.std.specs.Prelude.{◌≡◌, ◌+◌, ◌<◌, ◌≤◌, ◌^◌, [], List, length};
 ghost use Rattle.std.specs.Prelude.{OnOk, IfOk, IfErr};
@@ -10,7 +10,7 @@ use crate::error::{TextError, TextKind};
 use crate::line_reader::LineReader;
 use nll_text::next_line;
 
-/// Takes in the lines behind the header, to the end.
+/// Takes in the lines after the header, to the end.
 ///
 /// # Errors
 /// The first faulty line, and of that line the first kind in the order of `TextKind`; or `End` at
@@ -38,7 +38,7 @@ pub fn read_lines<'a, F, R: LineReader<'a, F>>(
     check_end(reader, format, number)
 }
 
-// Takes in the next line: the text behind it. The number is that of the line before it.
+// Takes in the next line: the text after it. The number is that of the line before it.
 fn read_next<'a, F, R: LineReader<'a, F>>(
     reader: &mut R,
     format: &F,
@@ -68,7 +68,7 @@ fn read_next<'a, F, R: LineReader<'a, F>>(
     }
 }
 
-// Refuses a text that stops behind the line of this number, unless it may stop there.
+// Refuses a text that stops after the line of this number, unless it may stop there.
 fn check_end<'a, F, R: LineReader<'a, F>>(
     reader: &R,
     format: &F,

@@ -1,4 +1,4 @@
-//! A name as it is kept among others, and as it is sought there.
+//! A name as it is kept among others, and as it is searched for there.
 
 ghost use Rattle.std.proofs.Common.{ap};
 ghost use Rattle.std.specs.Cmp.Lexicographic.{bytes_decides, nat_list_eq_equiv};
@@ -9,8 +9,8 @@ use indexmap::Equivalent;
 use smallvec::SmallVec;
 use std::hash::Hash;
 
-/// A name as it is kept. Most names are short: these stand in the list of names itself, so that
-/// nothing else is looked at where one of many is sought.
+/// A name as it is kept. Most names are short: these are in the list of names itself, so that a
+/// search among many looks at nothing else.
 pub(crate) type Name = SmallVec<u8, 16>;
 
 /// A name that is sought.

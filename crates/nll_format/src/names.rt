@@ -70,7 +70,7 @@ impl Names {
         self.set.get_index_of(Sought(name))
     }
 
-    /// Whether a name is the one at a place: then that is its number, and nothing is hashed.
+    /// Whether a name is the one at an index: then that is its number, and nothing is hashed.
     pub fn is_at(&self, number: usize, name: &[u8]) -> bool
         ensures { IsTrue result ↔
             ((number_of self.now name.now ≡ number) × (number < length self.now)) }

@@ -1,5 +1,5 @@
--- What a reader of a text that lists items makes of a line.
--- Source: project's choice. What a listing is stands in nll_format (`Listing`).
+-- What a reader of a text that lists items makes of a line. Source: project's choice. What a
+-- listing is, nll_format defines (`Listing`).
 use Rattle.std.specs.Prelude.{◌≡◌, ℕ, List, ◌∷◌, Option, None, Some, Result, Ok, Err}
 use Rattle.nll_format.specs.Listing.{Listing}
 use Rattle.nll_format.specs.Parts.{Part, Spells}

@@ -6,7 +6,7 @@ ghost use Rattle.nll_list_text.specs.Lists.{HasSomePart, IsItemOf};
 
 use nll_format::TextKind;
 
-/// A kind of texts that list items, one a line behind the header.
+/// A kind of texts that list items, one a line after the header.
 pub trait ListFormat {
     /// What a line lists.
     type Item: Drop;

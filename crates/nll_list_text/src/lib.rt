@@ -1,5 +1,5 @@
-//! The reader of texts that list items, one a line.
-//! Read `format`, then `list`; the definitions are in specs/.
+//! The reader of texts that list items, one per line. Read `format`, then `list`; the definitions
+//! are in specs/.
 #![tactic(auto)]
 
 mod format;

@@ -14,7 +14,7 @@ use std::alloc::Global;
 ///
 /// # Errors
 /// The text's one fault: its first faulty line, and of that line the first kind in the order of
-/// `TextKind`; or `Memory` at line 0, where a growth of memory was refused.
+/// `TextKind`; or `Memory` at line 0, where an allocation failed.
 ///
 /// # Cost
 /// Time linear in the text, and memory for what it lists; the text isn't copied (not proved).
@@ -32,7 +32,7 @@ pub fn read_list<F: ListFormat>(
     read_body(alloc, format, body)
 }
 
-// Reads the lines behind the header.
+// Reads the lines after the header.
 fn read_body<F: ListFormat>(
     alloc: Global,
     format: &F,

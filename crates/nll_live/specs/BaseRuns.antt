@@ -1,12 +1,12 @@
--- Runs of base elements that variables ask for, and the pairs that they stand for.
--- Source: project's choice. Private contracts alone cite this file.
+-- Runs of base elements that variables ask for, and the pairs that they stand for. Source:
+-- project's choice. Only private contracts cite this file.
 use Rattle.std.specs.Prelude.{◌≡◌, ◌⊎◌, ◌↔◌, ℕ, ◌-◌, ◌^◌, ◌<◌, ◌≤◌, List, Contains}
 use Rattle.std.specs.Ordering.{nat_cmp, ordering_then}
 use Rattle.std.specs.declared.cmp.Ordering.{Ordering}
 use Rattle.nll_problem.specs.BaseRuns.{IsInBaseRun, IsInBaseRuns}
 use Rattle.nll_problem.specs.declared.base_run.BaseRun.{BaseRun}
 
--- the runs got just what this says
+-- the runs got exactly what this says
 abbrev pub Gains : (ℕ → ℕ → Type 0) → List BaseRun → List BaseRun → Type 0
 Gains kind old new = (r p : ℕ) → IsInBaseRuns new r p ↔ (IsInBaseRuns old r p ⊎ kind r p)
 

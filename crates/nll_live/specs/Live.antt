@@ -9,7 +9,7 @@ use Rattle.nll_statements.specs.Statements.{Statement}
 use Rattle.nll_statements.specs.Effects.{Uses, Defines, DropsVariable}
 use Rattle.nll_body.specs.Bodies.{BodyText, HasType, StandsAt, GoesOn}
 
--- ---- what stands at a point
+-- ---- what is at a point
 
 -- the point p uses x
 abbrev pub UsesAt : BodyText → ℕ → ℕ → Type 0
@@ -45,7 +45,7 @@ IsDropLive body x p = IsLive body (DropsAt body x) x p
 
 -- ---- regions
 
--- x is use-live at p, and r stands in its type
+-- x is use-live at p, and r occurs in its type
 abbrev pub AsksForUse : BodyText → ℕ → ℕ → ℕ → Type 0
 AsksForUse body x r p =
     (t : TypeTree) × HasType body x t × IsUseLive body x p × HasRegion t r

@@ -1,12 +1,12 @@
--- How far a walk backwards goes by itself, and what tells it.
--- Source: project's choice. Private contracts alone cite this file.
+-- How far a backward search goes by itself, and what decides it. Source: project's choice. Only
+-- private contracts cite this file.
 use Rattle.std.specs.Prelude.{◌≡◌, ◌↔◌, ℕ, ◌<◌, ◌≤◌, List, length, AllPairs, Contains}
 use Rattle.nll_problem.specs.Rows.{row_at}
 use Rattle.nll_body.specs.Bodies.{BodyText, GoesOn}
 use Rattle.nll_live.specs.Live.{DefinesAt}
 use Rattle.nll_live.specs.Chains.{AreStarts}
 
--- The list has just the points that define x, ascending.
+-- The list has exactly the points that define x, ascending.
 pub record AreDefinitions (body : BodyText) (x : ℕ) (definitions : List ℕ) : Type 0 where
   pub each : (p : ℕ) → Contains definitions p ↔ DefinesAt body x p
   pub ascending : AllPairs ◌<◌ definitions
@@ -21,7 +21,7 @@ pub record AreWays (body : BodyText) (starts : List ℕ) (lists : List (List ℕ
   pub chains : AreStarts (GoesOn body) (length body.points) starts
   pub defined : AreDefined body lists
 
--- The number isn't before the start, nor behind p, and no definition stands from it up to p.
+-- The number isn't before the start, nor after p, and no point from it up to p is a definition.
 pub record IsLow (start : ℕ) (definitions : List ℕ) (p low : ℕ) : Type 0 where
   pub above : start ≤ low
   pub before : low ≤ p

@@ -1,5 +1,5 @@
 -- What a search backwards has reached: stretches of points, each from a marked one to a height.
--- Source: project's choice. Private contracts alone cite this file.
+-- Source: project's choice. Only private contracts cite this file.
 use Rattle.std.specs.Prelude.{◌≡◌, ◌⊎◌, ℕ, ◌+◌, ◌<◌, ◌≤◌, ◌==◌, List, length, Contains}
 use Rattle.std.specs.Prelude.{if◌then◌else◌, slice_index, sum_by}
 
@@ -28,8 +28,8 @@ pub record AreFound (marks heights : List ℕ) (turn : ℕ) (lows : List ℕ) : 
   pub listed : (p : ℕ) → IsMarked marks turn p
       → (k : ℕ) × (k < length lows) × (slice_index lows k ≡ p)
 
--- Points were marked and put at the end of the list, and heights were raised, each of a point
--- `low` to one of this kind; nothing else changed.
+-- Points were marked and appended to the list, and heights were raised, each of a point `low` to
+-- one of this kind; nothing else changed.
 pub record ReachesMore (kind : ℕ → ℕ → Type 0) (turn : ℕ)
     (old tops before new raised after : List ℕ) : Type 0 where
   pub width : length new ≡ length old

@@ -1,5 +1,4 @@
--- What a search has in its room.
--- Source: project's choice. Private contracts alone cite this file.
+-- What a search has in its room. Source: project's choice. Only private contracts cite this file.
 use Rattle.std.specs.Prelude.{ℕ}
 use Rattle.nll_live.specs.Marks.{AreFound, IsReached, ReachesMore}
 use Rattle.nll_live.specs.declared.search.Room.{Room}

@@ -16,7 +16,7 @@ use nll_problem::{BaseRun, RegionId};
 use nll_sets::Memory;
 use std::alloc::Global;
 
-/// The base elements of regions that come of the liveness of variables, each once, ascending by
+/// The base elements of regions that follow from the liveness of variables, each once, ascending by
 /// region, then by point.
 ///
 /// # Errors
@@ -37,11 +37,12 @@ pub fn bases(alloc: Global, body: &Body, sets: &LiveSets) -> Result<Vec<(RegionI
 {
     let mut base_runs = Vec::new(alloc);
     let pairs = pairs_asked_for(alloc, body, sets, &mut base_runs);
+    // Early drop.
     drop(base_runs);
     pairs
 }
 
-// The base elements. The empty list is for its own use.
+// The base elements. The empty list is scratch space.
 fn pairs_asked_for(
     alloc: Global,
     body: &Body,
@@ -60,7 +61,7 @@ fn pairs_asked_for(
     Ok(pairs)
 }
 
-// Puts the runs of base elements that each variable asks for into an empty list.
+// Writes the runs of base elements that each variable asks for into an empty list.
 fn push_variables(
     alloc: Global,
     body: &Body,
@@ -80,7 +81,7 @@ fn push_variables(
     Ok(())
 }
 
-// Puts the runs of base elements that a variable asks for where it is use-live behind the others.
+// Appends the runs of base elements that a variable asks for where it is use-live.
 fn push_uses(
     alloc: Global,
     body: &Body,
@@ -96,11 +97,12 @@ fn push_uses(
 {
     let regions = body.var_regions(alloc, variable)?;
     let told = push_all(base_runs, regions.as_slice(), sets.use_runs(variable));
+    // Early drop.
     drop(regions);
     told
 }
 
-// Puts the runs of base elements that a variable asks for where it is drop-live behind the others.
+// Appends the runs of base elements that a variable asks for where it is drop-live.
 fn push_drops(
     alloc: Global,
     body: &Body,
@@ -116,6 +118,7 @@ fn push_drops(
 {
     let regions = body.var_drop_regions(alloc, variable)?;
     let told = push_all(base_runs, regions.as_slice(), sets.drop_runs(variable));
+    // Early drop.
     drop(regions);
     told
 }

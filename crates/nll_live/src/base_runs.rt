@@ -1,5 +1,5 @@
-//! Runs of base elements that are put behind others, and the pairs of a region and a point that
-//! they stand for.
+//! Runs of base elements in a list that grows, and the pairs of a region and a point that they
+//! stand for.
 
 ghost use Rattle.std.specs.Prelude.{◌≡◌, ◌↔◌, ◌-◌, ◌^◌, ◌<◌, ◌≤◌, ℕ, [], length};
 ghost use Rattle.std.specs.Prelude.{AllPairs, Contains, IfOk, OnOk};
@@ -14,7 +14,7 @@ use nll_problem::{BaseRun, RegionId};
 use nll_sets::{Memory, Run};
 use std::alloc::Global;
 
-/// Puts a run of base elements of each of the regions, for each of these runs, behind the others.
+/// Appends, for each of these runs, a run of base elements of each of the regions.
 pub(crate) fn push_all(
     base_runs: &mut Vec<BaseRun>,
     regions: &[RegionId],
@@ -30,7 +30,7 @@ pub(crate) fn push_all(
     Ok(())
 }
 
-// The same of one region.
+// Like `push_all`, for one region.
 fn push_runs(base_runs: &mut Vec<BaseRun>, region: RegionId, runs: &[Run]) -> Result<(), Memory>
     requires { (k : ℕ) → k < length runs.now → last_of runs.now k < 2 ^ 32 - 1 }
     ensures { OnOk result (Gains (λ r p. (region ≡ r) × IsInRuns runs.now p)
@@ -66,7 +66,7 @@ pub(crate) fn pairs_of(
     }
 }
 
-// Puts the pairs of runs, which are sorted, into an empty list.
+// Writes the pairs of runs, which are sorted, into an empty list.
 fn push_pairs(pairs: &mut Vec<(RegionId, u32)>, base_runs: &[BaseRun]) -> Result<(), Memory>
     requires nothing { pairs.old.items ≡ [] }
     requires sorted { IsSorted base_run_cmp base_runs.now }
@@ -80,7 +80,7 @@ fn push_pairs(pairs: &mut Vec<(RegionId, u32)>, base_runs: &[BaseRun]) -> Result
     Ok(())
 }
 
-// Puts those pairs of a run behind the others that aren't among them.
+// Appends those pairs of a run that aren't in the list.
 fn push_base_run(pairs: &mut Vec<(RegionId, u32)>, base_run: BaseRun) -> Result<(), Memory>
     requires ascending { AllPairs IsEarlier pairs.old.items }
     requires small { AreSmall pairs.old.items }
@@ -99,7 +99,8 @@ fn push_base_run(pairs: &mut Vec<(RegionId, u32)>, base_run: BaseRun) -> Result<
     Ok(())
 }
 
-// The number behind the points that the pairs have of a region which none of them is behind.
+// The number after the last point that the pairs have of a region, which is the last region in
+// them.
 fn next_point(pairs: &[(RegionId, u32)], region: RegionId) -> u32
     requires ascending { AllPairs IsEarlier pairs.now }
     requires small { AreSmall pairs.now }
@@ -115,8 +116,8 @@ fn next_point(pairs: &[(RegionId, u32)], region: RegionId) -> u32
     if last == region { point + 1 } else { 0 }
 }
 
-// Puts the pairs of a region and the points from one up to another behind the others, which they
-// come after.
+// Appends the pairs of a region and the points from one up to another, which come after those in
+// the list.
 fn push_points(
     pairs: &mut Vec<(RegionId, u32)>,
     region: RegionId,

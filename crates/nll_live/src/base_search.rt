@@ -1,5 +1,5 @@
-//! The base elements that liveness gives regions, variable by variable: the points of one are let
-//! go before the next is looked at, and a variable that asks for nothing isn't looked at.
+//! The base elements that liveness gives regions, variable by variable: the points of one are freed
+//! before the next is examined, and a variable that asks for nothing is skipped.
 
 ghost use Rattle.std.specs.Prelude.{◌≡◌, ◌↔◌, ◌+◌, ◌^◌, ◌<◌, ◌≤◌, ℕ, [], length, map, slice_index};
 ghost use Rattle.std.specs.Prelude.{Contains, IfOk, OnOk};
@@ -21,8 +21,8 @@ use nll_problem::{BaseRun, Predecessors, RegionId};
 use nll_sets::Memory;
 use std::alloc::Global;
 
-/// The base elements of regions that come of the liveness of variables, by runs: for each variable
-/// and each region that it asks for those of the points where it is live, in no order.
+/// The base elements of regions that follow from the liveness of variables, by runs: for each
+/// variable and each region that it asks for those of the points where it is live, in no order.
 ///
 /// # Errors
 /// - `Memory`.
@@ -50,22 +50,23 @@ pub fn live_runs(alloc: Global, body: &Body) -> Result<Vec<BaseRun>, Memory>
     }
 }
 
-// Puts the runs of base elements that variables ask for into an empty list.
+// Writes the runs of base elements that variables ask for into an empty list.
 fn push_live(alloc: Global, body: &Body, base_runs: &mut Vec<BaseRun>) -> Result<(), Memory>
     requires nothing { base_runs.old.items ≡ [] }
     ensures each { OnOk result
         ((r p : ℕ) → IsInBaseRuns base_runs.new.items r p ↔ IsBaseOf body.now r p) }
     ensures sound { OnOk result (IsSound body.now) }
 {
-    // No effect at run time. The proof reads from this call that the body is sound.
+    // Clause call: the body is sound.
     let _ = body.points();
     let previous = Predecessors::of(alloc, body.graph())?;
     let told = push_over(alloc, body, &previous, base_runs);
+    // Early drop.
     drop(previous);
     told
 }
 
-// The same, over the predecessors of the body's points.
+// Ladder: like `push_live`, given the predecessors of the body's points.
 fn push_over(
     alloc: Global,
     body: &Body,
@@ -79,11 +80,12 @@ fn push_over(
 {
     let ways = ways_of(alloc, body, previous)?;
     let told = push_both(alloc, body, previous, &ways, base_runs);
+    // Early drop.
     drop(ways);
     told
 }
 
-// The same, by what searches in the body go by.
+// Ladder: like `push_live`, given what searches in the body go by.
 fn push_both(
     alloc: Global,
     body: &Body,
@@ -103,7 +105,7 @@ fn push_both(
     Ok(())
 }
 
-// Puts the runs of base elements that variables ask for where they are use-live behind the others.
+// Appends the runs of base elements that variables ask for where they are use-live.
 fn push_uses(
     alloc: Global,
     body: &Body,
@@ -119,11 +121,12 @@ fn push_uses(
 {
     let lists = uses_by_variable(alloc, body)?;
     let told = push_each_use(alloc, body, previous, ways, lists.as_slice(), base_runs);
+    // Early drop.
     drop(lists);
     told
 }
 
-// Puts the runs of base elements that variables ask for where they are drop-live behind the others.
+// Appends the runs of base elements that variables ask for where they are drop-live.
 fn push_drops(
     alloc: Global,
     body: &Body,
@@ -139,11 +142,12 @@ fn push_drops(
 {
     let lists = drops_by_variable(alloc, body)?;
     let told = push_each_drop(alloc, body, previous, ways, lists.as_slice(), base_runs);
+    // Early drop.
     drop(lists);
     told
 }
 
-// The same of uses, by the points that use each variable.
+// Ladder: like `push_uses`, given the points that use each variable.
 fn push_each_use(
     alloc: Global,
     body: &Body,
@@ -179,7 +183,7 @@ fn push_each_use(
     Ok(())
 }
 
-// The same of drops, by the points that drop each variable.
+// Ladder: like `push_drops`, given the points that drop each variable.
 fn push_each_drop(
     alloc: Global,
     body: &Body,
@@ -215,8 +219,8 @@ fn push_each_drop(
     Ok(())
 }
 
-// Puts the runs of base elements of these regions behind the others, at the points from which a
-// walk leads to one of the list. The room's marks are of earlier variables.
+// Appends the runs of base elements of these regions at the points from which a point of the list
+// is reachable. The room's marks are of earlier variables.
 fn push_found(
     alloc: Global,
     body: &Body,

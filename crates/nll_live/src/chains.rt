@@ -1,5 +1,5 @@
-//! The chains of a body's points: a point is of one chain with the point before it where that one
-//! alone goes on to it.
+//! The chains of a body's points: a point is in one chain with the point before it where that is
+//! its only predecessor.
 
 ghost use Rattle.std.specs.Prelude.{◌≡◌, ◌<◌, ◌≤◌, ℕ, true, length, IfOk};
 ghost use Rattle.nll_problem.specs.Graph.{IsNext};
@@ -9,7 +9,7 @@ use nll_problem::Predecessors;
 use nll_sets::Memory;
 use std::alloc::Global;
 
-/// For each of so many points, all that there are, the first one of its chain.
+/// For each of this many points, all that there are, the first one of its chain.
 ///
 /// # Cost
 /// A step for each point (not proved).

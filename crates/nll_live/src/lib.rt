@@ -1,5 +1,5 @@
 //! Liveness: where the value of a variable may still be used or dropped, and the base elements of
-//! regions that come of it. It knows no text.
+//! regions that follow from it. It knows no text.
 //!
 //! Reading order: `live_sets`, `live_points`, `base_elements`, `base_search`; `ways`,
 //! `points_by_variable`, `chains`, `lows`, `search`, `base_runs`. The definitions are in specs/.

@@ -37,22 +37,24 @@ pub fn liveness(alloc: Global, body: &Body) -> Result<LiveSets, Memory>
 {
     let previous = Predecessors::of(alloc, body.graph())?;
     let sets = sets_over(alloc, body, &previous);
+    // Early drop.
     drop(previous);
     sets
 }
 
-// The same, over the predecessors of the body's points.
+// Ladder: like `liveness`, given the predecessors of the body's points.
 fn sets_over(alloc: Global, body: &Body, previous: &Predecessors<'_>) -> Result<LiveSets, Memory>
     requires { IsGraphOf body.now previous.now }
     ensures { IfOk result (AreLiveSets body.now) }
 {
     let ways = ways_of(alloc, body, previous)?;
     let sets = both_sets(alloc, body, previous, &ways);
+    // Early drop.
     drop(ways);
     sets
 }
 
-// The same, by what searches in the body go by.
+// Ladder: like `liveness`, given what searches in the body go by.
 fn both_sets(
     alloc: Global,
     body: &Body,
@@ -88,6 +90,7 @@ fn use_live_sets(
 {
     let lists = uses_by_variable(alloc, body)?;
     let sets = live_sets(alloc, body, previous, ways, lists.as_slice());
+    // Early drop.
     drop(lists);
     sets
 }
@@ -106,11 +109,12 @@ fn drop_live_sets(
 {
     let lists = drops_by_variable(alloc, body)?;
     let sets = live_sets(alloc, body, previous, ways, lists.as_slice());
+    // Early drop.
     drop(lists);
     sets
 }
 
-// For each variable the points from which a walk leads to one of its list.
+// For each variable the points from which one of its list is reachable.
 fn live_sets(
     alloc: Global,
     body: &Body,
@@ -130,6 +134,7 @@ fn live_sets(
     let mut room = Room::of(alloc, body.points())?;
     let mut sets = Vec::new(alloc);
     let told = find_sets(alloc, body, previous, ways, lists, &mut room, &mut sets);
+    // Early drop.
     drop(room);
     match told {
         Ok(()) => Ok(sets),
@@ -140,7 +145,7 @@ fn live_sets(
     }
 }
 
-// Puts the sets into an empty list. The room's marks are of no turn.
+// Writes the sets into an empty list. The room's marks are of no turn.
 fn find_sets(
     alloc: Global,
     body: &Body,
@@ -171,7 +176,7 @@ fn find_sets(
     Ok(())
 }
 
-/// The points from which a walk leads to one of the list, for a variable. The room's marks are of
+/// The points from which one of the list is reachable, for a variable. The room's marks are of
 /// earlier variables.
 pub(crate) fn find_set(
     alloc: Global,
@@ -227,7 +232,7 @@ fn set_found(alloc: Global, points: u32, room: &mut Room) -> Result<RunSet, Memo
     ensures each { IfOk result (λ set. (p : ℕ) → (flag set p ≡ true)
         ↔ IsCovered room.old.heights.items room.old.lows.items p) }
 {
-    // What is put into a set at its end costs least.
+    // Inserting at the end of a set costs least.
     room.lows.sort_unstable();
     set_of(alloc, points, room.heights.as_slice(), room.lows.as_slice())
 }

@@ -1,9 +1,9 @@
-//! How far a walk backwards goes by itself: along a chain, up to a definition.
+//! How far a backward search goes by itself: along a chain, up to a definition.
 
 ghost use Rattle.std.specs.Prelude.{◌≡◌, ◌<◌, ◌≤◌, ℕ, length, slice_index, AllPairs};
 ghost use Rattle.nll_live.specs.Lows.{IsLow};
 
-/// From a point backwards, the first one of its chain, or the one behind the last definition before
+/// From a point backwards, the first one of its chain, or the one after the last definition before
 /// it, whichever comes later.
 ///
 /// # Cost
@@ -21,7 +21,7 @@ pub(crate) fn low_of(start: u32, definitions: &[u32], point: u32) -> u32
     }
 }
 
-// How many of the points, which ascend, stand before one.
+// How many of the points, which ascend, come before one.
 fn count_before(points: &[u32], point: u32) -> usize
     requires { AllPairs ◌<◌ points.now }
     ensures bound { result ≤ length points.now }

@@ -18,6 +18,7 @@ pub(crate) fn uses_by_variable(alloc: Global, body: &Body) -> Result<Vec<Vec<u32
     let mut lists = empty_lists(alloc, body.variables())?;
     let mut used = Vec::new(alloc);
     let told = list_uses(&mut lists, body, &mut used);
+    // Early drop.
     drop(used);
     match told {
         Ok(()) => Ok(lists),
@@ -57,7 +58,7 @@ pub(crate) fn definitions_by_variable(alloc: Global, body: &Body) -> Result<Vec<
     }
 }
 
-// So many empty lists.
+// This many empty lists.
 fn empty_lists(alloc: Global, count: usize) -> Result<Vec<Vec<u32>>, Memory>
     ensures { IfOk result (λ lists. map (λ list. list.items) lists.items ≡ replicate count []) }
 {
@@ -68,7 +69,7 @@ fn empty_lists(alloc: Global, count: usize) -> Result<Vec<Vec<u32>>, Memory>
     Ok(lists)
 }
 
-// Puts each point into the lists of the variables that it uses. The second list is for its own use.
+// Adds each point to the lists of the variables that it uses. The second list is scratch space.
 fn list_uses(lists: &mut Vec<Vec<u32>>, body: &Body, used: &mut Vec<u32>) -> Result<(), Memory>
     requires { map (λ list. list.items) lists.old.items ≡ replicate (length body.now.variables) [] }
     ensures { OnOk result (AreListed (length body.now.variables) (UsesAt body.now)
@@ -80,7 +81,7 @@ fn list_uses(lists: &mut Vec<Vec<u32>>, body: &Body, used: &mut Vec<u32>) -> Res
     Ok(())
 }
 
-// Puts each point into the list of the variable that it drops.
+// Adds each point to the list of the variable that it drops.
 fn list_drops(lists: &mut Vec<Vec<u32>>, body: &Body) -> Result<(), Memory>
     requires { map (λ list. list.items) lists.old.items ≡ replicate (length body.now.variables) [] }
     ensures { OnOk result (AreListed (length body.now.variables) (DropsAt body.now)
@@ -92,7 +93,7 @@ fn list_drops(lists: &mut Vec<Vec<u32>>, body: &Body) -> Result<(), Memory>
     Ok(())
 }
 
-// Puts each point into the list of the variable that it defines.
+// Adds each point to the list of the variable that it defines.
 fn list_definitions(lists: &mut Vec<Vec<u32>>, body: &Body) -> Result<(), Memory>
     requires { map (λ list. list.items) lists.old.items ≡ replicate (length body.now.variables) [] }
     ensures { OnOk result (AreDefined body.now (map (λ list. list.items) lists.new.items)) }
@@ -103,7 +104,7 @@ fn list_definitions(lists: &mut Vec<Vec<u32>>, body: &Body) -> Result<(), Memory
     Ok(())
 }
 
-// Puts a point into the lists of the variables that it uses.
+// Adds a point to the lists of the variables that it uses.
 fn list_uses_of(
     lists: &mut Vec<Vec<u32>>,
     body: &Body,
@@ -120,7 +121,7 @@ fn list_uses_of(
     Ok(())
 }
 
-// Puts a point into the list of the variable that it drops.
+// Adds a point to the list of the variable that it drops.
 fn list_drop_of(lists: &mut Vec<Vec<u32>>, body: &Body, point: u32) -> Result<(), Memory>
     requires { point < length body.now.points }
     ensures { OnOk result (Lists (λ x. DropsAt body.now x point) point
@@ -132,7 +133,7 @@ fn list_drop_of(lists: &mut Vec<Vec<u32>>, body: &Body, point: u32) -> Result<()
     Ok(())
 }
 
-// Puts a point into the list of the variable that it defines.
+// Adds a point to the list of the variable that it defines.
 fn list_definition_of(lists: &mut Vec<Vec<u32>>, body: &Body, point: u32) -> Result<(), Memory>
     requires { point < length body.now.points }
     ensures lists { OnOk result (Lists (λ x. DefinesAt body.now x point) point
@@ -146,7 +147,7 @@ fn list_definition_of(lists: &mut Vec<Vec<u32>>, body: &Body, point: u32) -> Res
     Ok(())
 }
 
-// Puts a point into the lists of these variables.
+// Adds a point to the lists of these variables.
 fn list_at_all(lists: &mut Vec<Vec<u32>>, variables: &[u32], point: u32) -> Result<(), Memory>
     ensures { OnOk result (Lists (Contains variables.now) point
         (map (λ list. list.items) lists.old.items) (map (λ list. list.items) lists.new.items)) }
@@ -157,7 +158,7 @@ fn list_at_all(lists: &mut Vec<Vec<u32>>, variables: &[u32], point: u32) -> Resu
     Ok(())
 }
 
-// Puts a point into the list of a variable, where there is one.
+// Adds a point to the list of a variable, where there is one.
 fn list_at(lists: &mut Vec<Vec<u32>>, variable: u32, point: u32) -> Result<(), Memory>
     ensures lists { OnOk result (Lists (λ x. x ≡ variable) point
         (map (λ list. list.items) lists.old.items) (map (λ list. list.items) lists.new.items)) }

@@ -1,9 +1,9 @@
 //! The points where a variable is live, by a search backwards from its uses or drops, in stretches.
 //!
-//! A search that comes to a point goes on by itself to a lower one: along a chain, up to a
-//! definition. That one is marked, and its height is the highest point that a search came from; all
-//! points between are reached. One room serves all searches: what a search has marked bears its
-//! turn, a number of its own.
+//! A search that reaches a point goes on by itself to a lower one: along a chain, up to a
+//! definition. That one is marked, and its height is the highest point from which a search came;
+//! all points between are reached. One room serves all searches: a mark is the turn of its search,
+//! a number of its own.
 
 ghost use Rattle.std.specs.Prelude.{◌≡◌, ◌≢◌, ◌↔◌, ◌<◌, ◌≤◌, ℕ, [], length, slice_index, AllPairs};
 ghost use Rattle.std.specs.Prelude.{Contains, IfOk, IsTrue, OnOk, max, replicate, slice_set};
@@ -20,8 +20,8 @@ use nll_problem::Predecessors;
 use nll_sets::Memory;
 use std::alloc::Global;
 
-/// What searches have for their own use: for each point the turn in which it was last marked, and
-/// its height; and the points that are marked in this turn.
+/// Scratch space of searches: for each point the turn in which it was last marked, and its height;
+/// and the points that are marked in this turn.
 #[derive(Drop)]
 pub(crate) struct Room {
     pub(crate) marks: Vec<u32>,
@@ -30,7 +30,7 @@ pub(crate) struct Room {
 }
 
 impl Room {
-    /// Room for searches among so many points, with the marks of none.
+    /// Room for searches among this many points, with the marks of none.
     pub(crate) fn of(alloc: Global, points: u32) -> Result<Room, Memory>
         ensures marks { IfOk result (λ room. room.marks.items ≡ replicate points 0) }
         ensures heights { IfOk result (λ room. length room.heights.items ≡ points) }
@@ -45,13 +45,13 @@ impl Room {
     }
 }
 
-/// Puts points and their heights into the room, between which lie those from which a walk leads to
-/// one of these ends, on which no point before the last defines the variable. The marks are all of
-/// earlier turns.
+/// Writes points and their heights into the room. Between them lie exactly the points from which
+/// one of these ends is reachable by a path on which no point before the last defines the variable.
+/// The marks are all of earlier turns.
 ///
 /// # Cost
-/// For each end, and for each point that goes on to one of these points, a search by halves among
-/// the definitions of the variable (not proved).
+/// For each end, and for each predecessor of one of these points, a binary search among the
+/// definitions of the variable (not proved).
 pub(crate) fn search_back(
     room: &mut Room,
     turn: u32,
@@ -237,7 +237,7 @@ fn raise(heights: &mut Vec<u32>, low: u32, point: u32)
     heights[low as usize] = height.max(point);
 }
 
-// Marks a point, gives it a height and puts it into the list.
+// Marks a point, sets its height and adds it to the list.
 fn mark(room: &mut Room, turn: u32, low: u32, point: u32) -> Result<(), Memory>
     requires found { HasFound room.old turn }
     requires low { low < length room.old.marks.items }

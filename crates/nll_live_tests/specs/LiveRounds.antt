@@ -1,5 +1,5 @@
--- What a round over all points flags.
--- Source: project's choice. Private contracts alone cite this file.
+-- What a round over all points flags. Source: project's choice. Only private contracts cite this
+-- file.
 use Rattle.std.specs.Prelude.{◌≡◌, ℕ, Bool, true, false, not, List, length, count_by}
 use Rattle.nll_sets.specs.ElementSet.{flag}
 use Rattle.nll_body.specs.Bodies.{BodyText}
@@ -17,7 +17,8 @@ GoesOnToFlagged body x flags p = (q : ℕ) × (flag flags q ≡ true) × GoesOnU
 abbrev pub IsNew : BodyText → ℕ → List Bool → ℕ → Type 0
 IsNew body x flags p = (flag flags p ≡ false) × GoesOnToFlagged body x flags p
 
--- Points were flagged from which a walk leads to one that was flagged before, past no definition.
+-- Points were flagged from which one that was flagged before is reachable without passing a
+-- definition.
 pub record Flags (body : BodyText) (x : ℕ) (old new : List Bool) : Type 0 where
   pub width : length new ≡ length old
   pub kept : (p : ℕ) → flag old p ≡ true → flag new p ≡ true

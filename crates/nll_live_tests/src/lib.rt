@@ -1,5 +1,5 @@
 //! Tests of liveness, by its public calls alone. Expected values are found by hand from the
-//! definitions. The plain program, `live_by_rounds`, has a contract of the words of `liveness`.
+//! definitions. The plain program, `live_by_rounds`, has a contract in the terms of `liveness`.
 //!
 //! Reading order: `live_rounds`, `live_text`, then each module of tests.
 #![tactic(auto)]

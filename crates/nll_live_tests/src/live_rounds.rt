@@ -1,6 +1,6 @@
 //! Where one variable is live, by rounds over all points until one changes nothing.
 //!
-//! This is the plain program, beside which tests set `nll_live`'s: it knows no predecessors, no
+//! This is the plain program with which tests compare `nll_live`'s: it knows no predecessors, no
 //! marks and no runs.
 
 ghost use Rattle.std.specs.Prelude.{◌≡◌, ◌↔◌, ◌<◌, ℕ, true, false, length, IsTrue};
@@ -13,8 +13,8 @@ use nll_body::Body;
 use nll_sets::Memory;
 use std::alloc::Global;
 
-/// From which points a walk leads to one of those that are flagged, on which no point before the
-/// last defines the variable.
+/// The points from which a flagged one is reachable by a path on which no point before the last
+/// defines the variable.
 ///
 /// # Errors
 /// `Memory` alone.

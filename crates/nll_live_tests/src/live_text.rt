@@ -74,7 +74,7 @@ fn write_variables(out: &mut String, body: &Body, sets: &LiveSets) -> Result<(),
     Ok(())
 }
 
-// Puts the base elements of a run behind others.
+// Appends the base elements of a run.
 fn push_run(pairs: &mut Vec<(RegionId, u32)>, run: &BaseRun) -> Result<(), AllocError> {
     for point in run.first..run.end {
         pairs.push((run.region, point))?;
@@ -136,7 +136,7 @@ fn told_over(alloc: Global, body: &Body, sets: &LiveSets) -> Result<String, Memo
     bases.and(Ok(out))
 }
 
-// The same, by `nll_live`'s calls.
+// Like `told_over`, by `nll_live`'s calls.
 fn told(alloc: Global, body: &Body) -> Result<String, Memory> {
     let sets = liveness(alloc, body)?;
     let told = told_over(alloc, body, &sets);
@@ -208,7 +208,7 @@ fn write_flagged(out: &mut String, points: u32, flags: &[bool]) -> Result<(), Al
     Ok(())
 }
 
-// Puts the pairs of a region and the flagged points behind the others.
+// Appends the pairs of a region and the flagged points.
 fn push_points(
     pairs: &mut Vec<(RegionId, u32)>,
     region: RegionId,
@@ -223,7 +223,7 @@ fn push_points(
     Ok(())
 }
 
-// The same for some regions.
+// Like `push_points`, for some regions.
 fn push_pairs(
     pairs: &mut Vec<(RegionId, u32)>,
     regions: &[RegionId],
@@ -236,8 +236,7 @@ fn push_pairs(
     Ok(())
 }
 
-// Writes where a variable is live, and puts the pairs of these regions and those points behind the
-// others.
+// Writes where a variable is live, and appends the pairs of these regions and those points.
 fn add_kept(
     alloc: Global,
     out: &mut String,
@@ -255,7 +254,7 @@ fn add_kept(
     Ok(())
 }
 
-// The same for all that a variable is kept for.
+// Like `add_kept`, for all that a variable is kept for.
 fn add_variable(
     alloc: Global,
     out: &mut String,
@@ -281,7 +280,7 @@ fn add_variable(
     Ok(())
 }
 
-// The same for each variable.
+// Like `add_variable`, for each variable.
 fn add_variables(
     alloc: Global,
     out: &mut String,
@@ -310,7 +309,7 @@ fn told_by_rounds(alloc: Global, body: &Body) -> Result<String, Memory> {
 
 // ---- by both
 
-// What each program tells of a body.
+// What each program reports of a body.
 fn told_by_both(alloc: Global, body: &Body) -> Result<(String, String), Memory> {
     let told = told(alloc, body)?;
     match told_by_rounds(alloc, body) {
@@ -322,8 +321,8 @@ fn told_by_both(alloc: Global, body: &Body) -> Result<(String, String), Memory> 
     }
 }
 
-/// What each program tells of a text's body, the plain one last: for each variable the points where
-/// it is use-live, and those where it is drop-live; and then the base elements.
+/// What each program reports of a text's body, the plain one last: for each variable the points
+/// where it is use-live, and those where it is drop-live; and then the base elements.
 pub fn live_by_both(alloc: Global, text: &[u8]) -> Result<(String, String), TextError> {
     let body = read_mir(alloc, text)?;
     let told = told_by_both(alloc, &body);

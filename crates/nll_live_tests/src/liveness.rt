@@ -4,7 +4,7 @@ use nll_worked_texts::{CALLED, DROPPED, MOVED, REBORROW, RETURNED, TWO_BORROWS, 
 use std::alloc::Global;
 use std::process::Abort;
 
-// Texts; then for each variable the points where it is use-live, and behind `;` those where it is
+// Texts; then for each variable the points where it is use-live, and after `;` those where it is
 // drop-live; and the pairs of a region and a point that is one of its base elements. Points are
 // numbered in the order of their lines.
 const ROWS: &[(&str, &str)] = &[
@@ -94,7 +94,7 @@ const ROWS: &[(&str, &str)] = &[
         _1.0 = const|return|end|",
         "_0: 0 1 2;|_1: 0 1;|(1, 0)(1, 1)",
     ),
-    // A use behind a definition isn't seen in front of it.
+    // A use after a definition has no effect before it.
     (
         "nll-mir 1|region 'a|let _0: int|let _1: &'a int|blocks 1|block bb0|nop|dead _1|read _1|\
         return|end|",
@@ -113,12 +113,12 @@ const ROWS: &[(&str, &str)] = &[
         read _1|read _2|return|end|",
         "_0: 0 1 2;|_1: 0;|_2: 0 1;|(1, 0)(1, 1)",
     ),
-    // 'static stands in types as other regions do.
+    // 'static occurs in types as other regions do.
     (
         "nll-mir 1|let _0: int|let _1: &'static int|blocks 1|block bb0|read _1.*|return|end|",
         "_0: 0 1;|_1: 0;|(0, 0)",
     ),
-    // No walk leads out of a loop without an end, nor on from a stop.
+    // No path leads out of an endless loop, nor on from a stop.
     (
         "nll-mir 1|region 'a|let _0: &'a int|blocks 3|block bb0|goto bb0|block bb1|stop|block bb2|\
         return|end|",
@@ -126,7 +126,7 @@ const ROWS: &[(&str, &str)] = &[
     ),
 ];
 
-// Both programs tell what is wanted of a text.
+// Both programs report what is expected of a text.
 fn assert_told(rt: &impl Abort, alloc: Global, lines: &str, want: &str) {
     let Ok(text) = text_of(alloc, lines) else {
         assert!(rt; false, "{lines}: memory");

@@ -24,7 +24,7 @@ fn number_at(seed: u32, block: u32, place: u32) -> u32 {
     mixed(seed, block.wrapping_mul(16).wrapping_add(place))
 }
 
-// Statements, and terminators behind them: `#` stands for a variable, `^` and `$` for blocks.
+// Statements, and terminators after them: `#` stands for a variable, `^` and `$` for blocks.
 const STATEMENTS: [&str; 12] = [
     "live _#",
     "live _#",
@@ -81,7 +81,7 @@ fn write_statements(out: &mut String, seed: u32, block: u32) -> Result<(), Alloc
     Ok(())
 }
 
-// Writes one of so many blocks.
+// Writes one of this many blocks.
 fn write_block(out: &mut String, seed: u32, blocks: u32, block: u32) -> Result<(), AllocError>
     requires { block < blocks }
 {
@@ -93,7 +93,7 @@ fn write_block(out: &mut String, seed: u32, blocks: u32, block: u32) -> Result<(
     write_form(out, form, number / 16 % 6, targets)
 }
 
-// Writes a text of so many blocks.
+// Writes a text of this many blocks.
 fn write_body(out: &mut String, seed: u32, blocks: u32) -> Result<(), AllocError> {
     out.push_str(DECLARED)?;
     write!(out, "blocks {blocks}\n")?;
@@ -103,7 +103,8 @@ fn write_body(out: &mut String, seed: u32, blocks: u32) -> Result<(), AllocError
     out.push_str("end\n")
 }
 
-// Both programs tell the same of a random body. Where memory is refused its text lacks the end.
+// Both programs report the same about a random body. If an allocation fails, its text lacks the
+// end.
 fn assert_alike(rt: &impl Abort, alloc: Global, seed: u32, blocks: u32) {
     let mut text = String::new(alloc);
     let _written = write_body(&mut text, seed, blocks);

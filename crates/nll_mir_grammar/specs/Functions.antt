@@ -1,5 +1,5 @@
--- Whether a function is written in a type: version 1 of MIR texts knows none.
--- Source: project's choice; docs/FORMATS.md says the same in words.
+-- Whether a function is written in a type: version 1 of MIR texts knows none. Source: project's
+-- choice; docs/FORMATS.md says the same in prose.
 use Rattle.std.specs.Prelude.{Bool, true, false, ◌||◌}
 use Rattle.nll_mir_grammar.specs.WrittenTypes.{WrittenType, WrittenTypes, Arguments, int, reference}
 use Rattle.nll_mir_grammar.specs.WrittenTypes.{tuple, named, function, none, more, no_argument}

@@ -6,13 +6,13 @@ use Rattle.std.specs.List.{AllByRecursion, flat_map}
 use Rattle.nll_text.specs.Tokens.{Token, sign}
 use Rattle.nll_mir_grammar.specs.MirForms.{parted, in_parentheses}
 
--- How values are spelled, which of them are allowed, and what may stand behind each.
+-- How values are spelled, which of them are allowed, and what may follow each.
 pub record Grammar (A : Type 0) : Type 1 where
   pub spells : A → List Token
   pub IsAllowed : A → Type 0
   pub MayFollow : A → List Token → Type 0
 
--- The tokens begin with the value, and behind it come others.
+-- The tokens begin with the value, and after it come others.
 pub record Begins {A : Type 0} (g : Grammar A) (ts : List Token) (a : A) (rest : List Token) :
     Type 0 where
   pub joined : ts ≡ g.spells a ++ rest
@@ -63,17 +63,17 @@ many g = record {
   MayFollow = λ xs r. HasNone g r;
 }
 
--- these may stand behind the last of the values
+-- these may follow the last of the values
 abbrev pub MayFollowLast : {A : Type 0} → Grammar A → A → List A → List Token → Type 0
 MayFollowLast g a [] r = g.MayFollow a r
 MayFollowLast g a (b ∷ bs) r = MayFollowLast g b bs r
 
--- these may stand behind values that are parted by commas
+-- these may follow values that are separated by commas
 abbrev pub MayFollowAll : {A : Type 0} → Grammar A → List A → List Token → Type 0
 MayFollowAll g [] r = Unit {0}
 MayFollowAll g (a ∷ xs) r = MayFollowLast g a xs r × HasNone (behind (sign 44) g) r
 
--- values parted by commas, at least one and as many as there are
+-- values separated by commas, at least one and as many as there are
 abbrev pub commas : {A : Type 0} → Grammar A → Grammar (List A)
 commas g = record {
   spells = λ xs. parted (map g.spells xs);
@@ -81,7 +81,7 @@ commas g = record {
   MayFollow = MayFollowAll g;
 }
 
--- values parted by commas, between `(` and `)`
+-- values separated by commas, between `(` and `)`
 abbrev pub parentheses : {A : Type 0} → Grammar A → Grammar (List A)
 parentheses g = record {
   spells = λ xs. in_parentheses (map g.spells xs);
@@ -101,14 +101,14 @@ by_kind Payload g = record {
 
 -- ---- what readers answer
 
--- what was read, with a value that stands before it
+-- what was read, with a value that comes before it
 abbrev pub both :
     {A B R E : Type 0} → A → Result (Option (B × R)) E → Result (Option ((A × B) × R)) E
 both a (Ok (Some (b, r))) = Ok (Some ((a, b), r))
 both a (Ok None) = Ok None
 both a (Err e) = Err e
 
--- what was read at the front, where anything was, stands behind the other values of a list
+-- what was read at the front, where anything was, comes after the other values of a list
 abbrev pub Puts :
     {A V R : Type 0} → Grammar A → (V → A) → (R → List Token) → List Token → List V → List V
     → Option R → Type 0

@@ -67,7 +67,7 @@ pub record IsNoPointKeyword (w : List ℕ) : Type 0 where
   pub returns : w ≡ codes "return" → ⊥
   pub stop : w ≡ codes "stop" → ⊥
 
--- what stands behind the word
+-- what follows the word
 abbrev pub Behind : Keyword → Type 0
 Behind words.Universal = Name
 Behind words.Outlives = Name × Name
@@ -88,7 +88,7 @@ Behind words.Return = Unit {0}
 Behind words.Stop = Unit {0}
 Behind words.End = Unit {0}
 
--- what stands behind `struct`
+-- what follows `struct`
 abbrev pub structs : Grammar (Name × (List WrittenParameter × (Bool × WrittenTypes)))
 structs = pair names (pair parameter_lists (pair drop_marks tuples))
 
@@ -131,19 +131,19 @@ RightParts called =
     List ℕ × (List (Operand × WrittenType)
     × (WrittenType × (List (Name × Name) × (ℕ × Option ℕ))))
 
--- what stands behind the `&` of a borrow
+-- what follows the `&` of a borrow
 abbrev pub borrows : Grammar (Name × (Bool × PlacePath))
 borrows = pair regions (pair mutabilities places)
 
--- what stands behind `make`
+-- what follows `make`
 abbrev pub makes : Grammar (WrittenType × List Operand)
 makes = pair types (parentheses operands)
 
--- what stands behind the `:` of a call
+-- what follows the `:` of a call
 abbrev pub results : Grammar (WrittenType × (List (Name × Name) × (ℕ × Option ℕ)))
 results = pair types (pair bound_lists exits)
 
--- what stands behind the name of a function that is called
+-- what follows the name of a function that is called
 abbrev pub signatures :
     Grammar (List (Operand × WrittenType) × (WrittenType × (List (Name × Name) × (ℕ × Option ℕ))))
 signatures = pair (parentheses arguments) (behind (sign 58) results)
@@ -161,7 +161,7 @@ rights = by_kind RightParts right_sides
 
 -- ---- lines
 
--- what a line has, behind its keyword or where it has none
+-- what a line has, after its keyword or where it has none
 abbrev pub LineParts : Option Keyword → Type 0
 LineParts None = PlacePath × ((k : Right) × RightParts k)
 LineParts (Some k) = Behind k
@@ -175,7 +175,7 @@ line_grammars (Some k) = behind (word (keyword_name k)) (tails k)
 abbrev pub lines : Grammar ((k : Option Keyword) × LineParts k)
 lines = by_kind LineParts line_grammars
 
--- the parts of a form, with the word behind `call`
+-- the parts of a form, with the word after `call`
 abbrev pub parts_of : List ℕ → Form → (k : Option Keyword) × LineParts k
 parts_of f (universal a) = (Some words.Universal, a)
 parts_of f (outlives a b) = (Some words.Outlives, (a, b))
@@ -201,7 +201,7 @@ parts_of f (at_point return) = (Some words.Return, tt)
 parts_of f (at_point stop) = (Some words.Stop, tt)
 parts_of f end = (Some words.End, tt)
 
--- a form at the front: `f` is the word behind `call`
+-- a form at the front: `f` is the word after `call`
 pub record IsLine (ts : List Token) (f : Form) (rest : List Token) : Type 0 where
   pub callee : List ℕ
   pub begins : Begins lines ts (parts_of callee f) rest
@@ -214,7 +214,7 @@ pub record IsRightSide (ts : List Token) (p : PlacePath) (f : Form) (rest : List
   pub begins : Begins rights ts right rest
   pub same : parts_of callee f ≡ (None, (p, right))
 
--- what stands behind the keyword, of a line that is of this form
+-- what follows the keyword, of a line that is of this form
 abbrev pub IsBehind : Keyword → List Token → Form → List Token → Type 0
 IsBehind k ts f rest = Begins lines (word (keyword_name k) ∷ ts) (parts_of [] f) rest
 

@@ -6,7 +6,7 @@ use Rattle.nll_text.specs.Lines.{is_blank}
 use Rattle.nll_text.specs.Tokens.{Token, word, region, arrow, sign, is_word_byte, is_arrow}
 use Rattle.nll_text.specs.Tokens.{first_passes}
 
--- the first of the tokens is a word, and the byte is put in front of it
+-- the first of the tokens is a word, and the byte is prepended to it
 abbrev pub lengthened : ℕ → List Token → List Token
 lengthened b (word w ∷ ts) = word (b ∷ w) ∷ ts
 lengthened b ts = ts
@@ -21,7 +21,7 @@ abbrev pub pointed : List Token → List Token
 pointed (sign c ∷ ts) = arrow ∷ ts
 pointed ts = ts
 
--- the tokens of a byte, which is no blank, and of the bytes behind it, whose tokens these are
+-- the tokens of a byte that is no blank and of the bytes after it, whose tokens these are
 abbrev pub with_byte : ℕ → List ℕ → List Token → List Token
 with_byte b bs ts =
     if is_word_byte b

@@ -1,5 +1,5 @@
--- The forms of the lines of a MIR text, and how they are spelled.
--- Source: project's choice; docs/FORMATS.md says the same in words.
+-- The forms of the lines of a MIR text, and how they are spelled. Source: project's choice;
+-- docs/FORMATS.md says the same in prose.
 use Rattle.std.specs.Prelude.{◌≡◌, ℕ, ◌<◌, ◌^◌, Bool, true, false, List, [], ◌∷◌, ◌++◌, codes, map}
 use Rattle.std.specs.Prelude.{length, Option, Some, None}
 use Rattle.std.specs.List.{AllByRecursion, flat_map}
@@ -63,12 +63,12 @@ spelled_operand constant = word (codes "const") ∷ []
 spelled_operand (copied p) = word (codes "copy") ∷ spelled_place p
 spelled_operand (moved p) = word (codes "move") ∷ spelled_place p
 
--- items parted by commas
+-- items separated by commas
 abbrev pub parted : List (List Token) → List Token
 parted [] = []
 parted (item ∷ items) = item ++ flat_map (λ other. sign 44 ∷ other) items
 
--- items parted by commas, between `(` and `)`
+-- items separated by commas, between `(` and `)`
 abbrev pub in_parentheses : List (List Token) → List Token
 in_parentheses items = sign 40 ∷ (parted items ++ sign 41 ∷ [])
 
@@ -83,7 +83,7 @@ abbrev pub dangling_mark : Bool → List Token
 dangling_mark true = sign 63 ∷ []
 dangling_mark false = []
 
--- `+`, `-` or `=`, and `?` behind it or not
+-- `+`, `-` or `=`, and `?` after it or not
 abbrev pub spelled_marks : Parameter → List Token
 spelled_marks p = sign_token p.sign ∷ dangling_mark p.may_dangle
 
@@ -92,7 +92,7 @@ abbrev pub spelled_parameter : WrittenParameter → List Token
 spelled_parameter (region_parameter a p) = region a ∷ spelled_marks p
 spelled_parameter (type_parameter n p) = word n ∷ spelled_marks p
 
--- nothing, or `<`, the parameters, parted by commas, and `>`
+-- nothing, or `<`, the parameters, separated by commas, and `>`
 abbrev pub spelled_parameters : List WrittenParameter → List Token
 spelled_parameters [] = []
 spelled_parameters (p ∷ ps) =
@@ -118,7 +118,7 @@ spelled_wheres (w ∷ ws) =
 abbrev pub spelled_argument : Operand × WrittenType → List Token
 spelled_argument a = spelled_operand a.0 ++ sign 58 ∷ spelled a.1
 
--- The tokens of a statement or terminator. The word behind `call` may be any.
+-- The tokens of a statement or terminator. The word after `call` may be any.
 abbrev pub spelled_statement : List ℕ → Statement Name WrittenType → List Token
 spelled_statement f (assign p op) = spelled_place p ++ sign 61 ∷ spelled_operand op
 spelled_statement f (borrow p r m q) =
@@ -142,7 +142,7 @@ spelled_statement f (call p args t wheres b unwind) =
 spelled_statement f return = word (codes "return") ∷ []
 spelled_statement f stop = word (codes "stop") ∷ []
 
--- The tokens of a line of the form. The word behind `call` may be any.
+-- The tokens of a line of the form. The word after `call` may be any.
 abbrev pub spelled_form : List ℕ → Form → List Token
 spelled_form f (universal a) = word (codes "universal") ∷ region a ∷ []
 spelled_form f (outlives a b) = word (codes "outlives") ∷ region a ∷ region b ∷ []
@@ -210,7 +210,7 @@ IsWritableStatement (call p args t wheres b unwind) =
 IsWritableStatement return = Unit {0}
 IsWritableStatement stop = Unit {0}
 
--- the same of a form, and a struct's name begins with a capital letter
+-- like `IsWritableStatement`, but for a form; a struct's name begins with a capital letter
 abbrev pub IsWritable : Form → Type 0
 IsWritable (struct_line n ps has_drop fields) =
     (is_capital n ≡ true) × AllByRecursion IsWritableParameter ps × HasNames (tuple fields)
@@ -220,7 +220,7 @@ IsWritable (block n) = IsSmall n
 IsWritable (at_point s) = IsWritableStatement s
 IsWritable _ = Unit {0}
 
--- The tokens are those of the form, with some word behind `call`.
+-- The tokens are those of the form, with some word after `call`.
 pub record IsSpelled (tokens : List Token) (f : Form) : Type 0 where
   pub callee : List ℕ
   pub same : tokens ≡ spelled_form callee f

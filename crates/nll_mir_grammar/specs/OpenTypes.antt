@@ -73,7 +73,7 @@ pub record Reads (tokens : List Token) (t : WrittenType) (rest : List Token) : T
   pub names : HasNames t
 
 -- A type is complete; the frames, the innermost first, go on and are closed. The whole type comes
--- out, and behind it the rest, which begins with no `<`.
+-- out, and after it the rest, which begins with no `<`.
 abbrev pub Closes : List Frame → WrittenType → List Token → WrittenType → List Token → Type 0
 Closes [] t ts whole rest = (t ≡ whole) × (ts ≡ rest) × IsFree rest
 Closes (behind r m ∷ frames) t ts whole rest = Closes frames (reference r m t) ts whole rest
@@ -124,8 +124,8 @@ GoesOnWithRegion (arguments n done ∷ frames) ts whole rest =
 GoesOnWithRegion (inputs _ ∷ frames) ts whole rest = ⊥
 GoesOnWithRegion (output _ ∷ frames) ts whole rest = ⊥
 
--- The tokens complete what is begun: the whole type comes out, and behind it the rest. Where a
--- type is complete, it is `t`.
+-- The tokens complete what is begun: the whole type comes out, and after it the rest. Where a type
+-- is complete, it is `t`.
 abbrev pub Finishes :
     State → List Frame → WrittenType → List Token → WrittenType → List Token → Type 0
 Finishes Want frames t ts whole rest = GoesOn frames ts whole rest
@@ -200,7 +200,7 @@ pending Have = 1
 pending Inside = 0
 pending WantArrow = 0
 
--- From these frames and this type the code came to others, and the same types come out.
+-- From these frames and this type the code reached others, and the same types come out.
 pub record ComesTo (s : State) (frames : List Frame) (t : WrittenType) (ts : List Token)
     (s' : State) (ps' : List TypePiece) (opened' : List Open) (ts' : List Token) : Type 0 where
   pub frames' : List Frame
@@ -240,7 +240,7 @@ takes_region (arguments _ _ ∷ frames) = true
 takes_region (inputs _ ∷ frames) = false
 takes_region (output _ ∷ frames) = false
 
--- The sign closes what is innermost in the frames, which has parts, and this may come behind a
+-- The sign closes what is innermost in the frames, which has parts, and this may come after a
 -- comma.
 abbrev pub EndsWith : List Frame → ℕ → State → Type 0
 EndsWith [] c s = ⊥

@@ -48,7 +48,7 @@ names = record {
   MayFollow = λ n r. Unit {0};
 }
 
--- numbers of at most nine digits, behind these bytes in one word
+-- numbers of at most nine digits, after these bytes in one word
 abbrev pub prefixed : List ℕ → Grammar ℕ
 prefixed front = record {
   spells = λ n. word (front ++ decimal n) ∷ [];
@@ -86,7 +86,7 @@ places = record {
   MayFollow = λ p r. HasNone projections r;
 }
 
--- these may stand behind the operand
+-- these may follow the operand
 abbrev pub MayFollowOperand : Operand → List Token → Type 0
 MayFollowOperand constant r = Unit {0}
 MayFollowOperand (copied p) r = HasNone projections r
@@ -120,7 +120,7 @@ arguments = pair operands (behind (sign 58) types)
 
 -- ---- marks
 
--- these may stand behind a mark, or behind none
+-- these may follow a mark, or come where there is none
 abbrev pub MayFollowMark : Token → Bool → List Token → Type 0
 MayFollowMark t true r = Unit {0}
 MayFollowMark t false r = IsNotNext t r
@@ -141,7 +141,7 @@ mutabilities = marks mutability (word (codes "mut"))
 abbrev pub drop_marks : Grammar Bool
 drop_marks = marks drop_mark (word (codes "drop"))
 
--- these may stand behind the parameter
+-- these may follow the parameter
 abbrev pub MayFollowParameter : WrittenParameter → List Token → Type 0
 MayFollowParameter (region_parameter a p) r = MayFollowMark (sign 63) p.may_dangle r
 MayFollowParameter (type_parameter n p) r = MayFollowMark (sign 63) p.may_dangle r
@@ -172,7 +172,7 @@ parameters = record {
 
 -- ---- lists
 
--- these may stand behind the parameters
+-- these may follow the parameters
 abbrev pub MayFollowParameters : List WrittenParameter → List Token → Type 0
 MayFollowParameters [] r = IsNotNext (sign 60) r
 MayFollowParameters (p ∷ ps) r = Unit {0}
@@ -189,7 +189,7 @@ parameter_lists = record {
 abbrev pub bounds : Grammar (Name × Name)
 bounds = pair regions (behind (sign 58) regions)
 
--- these may stand behind the bounds of a call
+-- these may follow the bounds of a call
 abbrev pub MayFollowBounds : List (Name × Name) → List Token → Type 0
 MayFollowBounds [] r = IsNotNext (word (codes "where")) r
 MayFollowBounds (w ∷ ws) r = MayFollowAll bounds (w ∷ ws) r
@@ -212,7 +212,7 @@ block_lists = record {
 
 -- ---- where a terminator goes on
 
--- these may stand behind the exits
+-- these may follow the exits
 abbrev pub MayFollowUnwind : Option ℕ → List Token → Type 0
 MayFollowUnwind None r = IsNotNext (word (codes "unwind")) r
 MayFollowUnwind (Some b) r = Unit {0}

@@ -1,5 +1,4 @@
--- What it means that a type stands in front of tokens.
--- Source: project's choice.
+-- What it means that tokens begin with a type. Source: project's choice.
 use Rattle.std.specs.Prelude.{◌≡◌, List}
 use Rattle.nll_text.specs.Tokens.{Token}
 use Rattle.nll_mir_grammar.specs.WrittenTypes.{WrittenType, BeginsWithType}
@@ -8,8 +7,8 @@ use Rattle.nll_mir_grammar.specs.WrittenTypes.{WrittenType, BeginsWithType}
 abbrev pub HasNoType : List Token → Type 0
 HasNoType ts = (t : WrittenType) (rest : List Token) → BeginsWithType ts t rest → ⊥
 
--- The tokens begin with this type, these tokens come behind it, and there is no other way to read
--- a type there that no `<` follows.
+-- The tokens begin with this type, these tokens follow it, and there is no other way to read a type
+-- there that no `<` follows.
 pub record IsTypeIn (ts : List Token) (t : WrittenType) (rest : List Token) : Type 0 where
   pub found : BeginsWithType ts t rest
   pub only :

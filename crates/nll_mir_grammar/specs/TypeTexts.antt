@@ -47,12 +47,12 @@ abbrev mutual
   steps (named n args) = begin_row ∷ argument_steps args ++ make_named n ∷ []
   steps (function ts t) = begin_row ∷ part_steps ts ++ steps t ++ make_function ∷ []
 
-  -- the pieces that make each type of a row, and put it behind those that are in the row
+  -- the pieces that make each type of a row, and append it to the row
   pub part_steps : WrittenTypes → List Piece
   part_steps none = []
   part_steps (more t ts) = steps t ++ add_type ∷ part_steps ts
 
-  -- the pieces that put arguments into a row
+  -- the pieces that append arguments to a row
   pub argument_steps : Arguments → List Piece
   argument_steps no_argument = []
   argument_steps (region_argument r args) = add_region r ∷ argument_steps args

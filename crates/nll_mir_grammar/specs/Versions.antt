@@ -1,6 +1,6 @@
 -- Which lines a MIR text of each version has: version 2 has all forms, and version 1 those without
 -- a function type, without a contravariant parameter and without a constraint at all points.
--- Source: project's choice; docs/FORMATS.md says the same in words.
+-- Source: project's choice; docs/FORMATS.md says the same in prose.
 use Rattle.std.specs.Prelude.{◌≡◌, ℕ, Bool, true, false, not, ◌&&◌, List, codes}
 use Rattle.std.specs.List.{list_all}
 use Rattle.nll_text.specs.Tokens.{Token}
@@ -41,12 +41,12 @@ is_of_first (variable x t) = not (has_function t)
 is_of_first (at_point i) = list_all (λ t. not (has_function t)) (types_written i)
 is_of_first _ = true
 
--- a line of the form may stand in a text of the version
+-- a line of the form may be in a text of the version
 abbrev pub is_of_version : Version → Form → Bool
 is_of_version First f = is_of_first f
 is_of_version Second f = true
 
--- the tokens are those of the form, which may stand in a text of the version
+-- the tokens are those of the form, which may be in a text of the version
 abbrev pub IsSpelledIn : Version → List Token → Form → Type 0
 IsSpelledIn version tokens f = IsSpelled tokens f × (is_of_version version f ≡ true)
 

@@ -1,5 +1,5 @@
--- Types as they are written, with names in place of numbers.
--- Source: project's choice; docs/FORMATS.md says the same in words.
+-- Types as they are written, with names in place of numbers. Source: project's choice;
+-- docs/FORMATS.md says the same in prose.
 use Rattle.std.specs.Prelude.{◌≡◌, ℕ, Bool, true, false, List, [], ◌∷◌, ◌++◌, codes, nat_le, ◌&&◌}
 use Rattle.nll_text.specs.Tokens.{Token, word, region, arrow, sign, first_passes}
 
@@ -46,23 +46,23 @@ abbrev mutual
   spelled (function ts t) =
       word (codes "fn") ∷ sign 40 ∷ (spelled_parts ts ++ arrow ∷ spelled t)
 
-  -- what stands behind the `(` of a row of types: the types, parted by commas, and `)`
+  -- what follows the `(` of a row of types: the types, separated by commas, and `)`
   pub spelled_parts : WrittenTypes → List Token
   spelled_parts none = sign 41 ∷ []
   spelled_parts (more t ts) = spelled t ++ spelled_more_parts ts
 
-  -- what stands behind a type of the row
+  -- what follows a type of the row
   pub spelled_more_parts : WrittenTypes → List Token
   spelled_more_parts none = sign 41 ∷ []
   spelled_more_parts (more t ts) = sign 44 ∷ (spelled t ++ spelled_more_parts ts)
 
-  -- nothing, or `<`, the arguments, parted by commas, and `>`
+  -- nothing, or `<`, the arguments, separated by commas, and `>`
   pub spelled_arguments : Arguments → List Token
   spelled_arguments no_argument = []
   spelled_arguments (region_argument r args) = sign 60 ∷ region r ∷ spelled_more_arguments args
   spelled_arguments (type_argument t args) = sign 60 ∷ (spelled t ++ spelled_more_arguments args)
 
-  -- what stands behind an argument
+  -- what follows an argument
   pub spelled_more_arguments : Arguments → List Token
   spelled_more_arguments no_argument = sign 62 ∷ []
   spelled_more_arguments (region_argument r args) =

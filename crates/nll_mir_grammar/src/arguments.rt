@@ -32,7 +32,7 @@ fn argument_at<'a>(alloc: Global, line: &'a [u8]) -> Read<'a, Argument<'a>>
     with(operand, type_behind(alloc, behind))
 }
 
-// Puts the argument at the front behind the others.
+// Appends the argument at the front.
 fn push_argument<'a>(
     alloc: Global,
     line: &'a [u8],
@@ -50,7 +50,7 @@ fn push_argument<'a>(
     }
 }
 
-// Puts the argument behind a comma behind the others.
+// Appends the argument after a comma.
 fn next_argument<'a>(
     alloc: Global,
     line: &'a [u8],
@@ -65,7 +65,7 @@ fn next_argument<'a>(
     }
 }
 
-// Puts arguments parted by commas into the list, as many as there are.
+// Adds arguments separated by commas to the list, as many as there are.
 fn list_arguments<'a>(
     alloc: Global,
     line: &'a [u8],
@@ -87,7 +87,7 @@ fn list_arguments<'a>(
     Ok(Some(rest))
 }
 
-// Puts the arguments between `(` and `)` into the list.
+// Adds the arguments between `(` and `)` to the list.
 fn enclosed_arguments<'a>(
     alloc: Global,
     line: &'a [u8],

@@ -18,7 +18,7 @@ use nll_statements::{Call, Make, Statement};
 use nll_types::Place;
 use std::alloc::Global;
 
-// The borrow that goes to the place, behind its `&`.
+// The borrow that goes to the place, after its `&`.
 fn borrowed<'a>(alloc: Global, place: Place, line: &'a [u8]) -> Read<'a, Line<'a>>
     ensures { IfOk result
         (λ o. (ts : List lex.Token) → ts ≡ lex.sign 38 ∷ tokens_in line.now
@@ -32,7 +32,7 @@ fn borrowed<'a>(alloc: Global, place: Place, line: &'a [u8]) -> Read<'a, Line<'a
     Ok(Some((Line::At(borrow), rest)))
 }
 
-// The value of a tuple or struct that goes to the place, behind `make`.
+// The value of a tuple or struct that goes to the place, after `make`.
 fn made<'a>(alloc: Global, place: Place, line: &'a [u8]) -> Read<'a, Line<'a>>
     ensures { IfOk result
         (λ o. (ts : List lex.Token) → ts ≡ lex.word (codes "make") ∷ tokens_in line.now
@@ -52,7 +52,7 @@ fn made<'a>(alloc: Global, place: Place, line: &'a [u8]) -> Read<'a, Line<'a>>
     Ok(Some((Line::At(make), rest)))
 }
 
-// The call whose result goes to the place, behind `call`.
+// The call whose result goes to the place, after `call`.
 fn called<'a>(alloc: Global, place: Place, line: &'a [u8]) -> Read<'a, Line<'a>>
     ensures { IfOk result
         (λ o. (ts : List lex.Token) → ts ≡ lex.word (codes "call") ∷ tokens_in line.now

@@ -26,7 +26,7 @@ pub fn bound_at<'a>(line: &'a [u8]) -> Option<((&'a [u8], &'a [u8]), &'a [u8])>
     Some(((longer, shorter), rest))
 }
 
-// Puts the bound at the front behind the others.
+// Appends the bound at the front.
 fn push_bound<'a>(line: &'a [u8], bounds: &mut Bounds<'a>) -> Result<Option<&'a [u8]>, Memory>
     ensures { IfOk result (λ o. Puts parts.bounds (λ w. (w.0.now, w.1.now)) (λ r. tokens_in r.now)
         (tokens_in line.now) bounds.old.items bounds.new.items o) }
@@ -40,7 +40,7 @@ fn push_bound<'a>(line: &'a [u8], bounds: &mut Bounds<'a>) -> Result<Option<&'a 
     }
 }
 
-// Puts the bound behind a comma behind the others.
+// Appends the bound after a comma.
 fn next_bound<'a>(line: &'a [u8], bounds: &mut Bounds<'a>) -> Result<Option<&'a [u8]>, Memory>
     ensures { IfOk result (λ o. Puts (behind (lex.sign 44) parts.bounds)
         (λ w. (w.0.now, w.1.now)) (λ r. tokens_in r.now)
@@ -52,7 +52,7 @@ fn next_bound<'a>(line: &'a [u8], bounds: &mut Bounds<'a>) -> Result<Option<&'a 
     }
 }
 
-// Puts bounds parted by commas into the list, as many as there are.
+// Adds bounds separated by commas to the list, as many as there are.
 fn list_bounds<'a>(line: &'a [u8], bounds: &mut Bounds<'a>) -> Result<Option<&'a [u8]>, Memory>
     requires { bounds.old.items ≡ [] }
     ensures { IfOk result (λ o. MatchOption o (HasNone (commas parts.bounds) (tokens_in line.now))
@@ -69,7 +69,7 @@ fn list_bounds<'a>(line: &'a [u8], bounds: &mut Bounds<'a>) -> Result<Option<&'a
     Ok(Some(rest))
 }
 
-// Puts the bounds behind `where` into the list, where there are any.
+// Adds the bounds after `where` to the list, where there are any.
 fn bounds_behind<'a>(line: &'a [u8], bounds: &mut Bounds<'a>) -> Result<Option<&'a [u8]>, Memory>
     requires { bounds.old.items ≡ [] }
     ensures { IfOk result (λ o. MatchOption o (HasNone parts.bound_lists (tokens_in line.now))
@@ -82,7 +82,7 @@ fn bounds_behind<'a>(line: &'a [u8], bounds: &mut Bounds<'a>) -> Result<Option<&
     }
 }
 
-/// The bounds behind `where`, or none.
+/// The bounds after `where`, or none.
 pub fn bounds_in<'a>(alloc: Global, line: &'a [u8]) -> Read<'a, Bounds<'a>>
     ensures { IfOk result (λ o. MatchOption o (HasNone parts.bound_lists (tokens_in line.now))
         (λ p. Begins parts.bound_lists (tokens_in line.now)

@@ -8,7 +8,8 @@ ghost use Rattle.nll_text.specs.Tokens.{first_passes};
 ghost use Rattle.nll_text.specs.Lexing.{SplitsWhile};
 ghost use Rattle.nll_mir_grammar.specs.LineTokens.{tokens_in};
 
-// Each byte that words are made of stands at its own place, and a dot at every other place.
+// Each byte that words are made of is at the index of its own value, and a dot at every other
+// index.
 static WORD_BYTES: [u8; 256] = *b"\
     ................................\
     ................0123456789......\
@@ -43,7 +44,7 @@ pub fn goes_on(bytes: &[u8]) -> bool
     }
 }
 
-/// Whether a byte is `-`, and these behind it begin with `>`.
+/// Whether a byte is `-`, and these after it begin with `>`.
 pub fn is_arrow(byte: u8, behind: &[u8]) -> bool
     ensures { result ≡ first_passes (tokens.is_arrow byte) behind.now }
 {
@@ -53,7 +54,7 @@ pub fn is_arrow(byte: u8, behind: &[u8]) -> bool
     }
 }
 
-/// What stands behind the blanks in front.
+/// What follows the blanks at the front.
 pub fn behind_gap(line: &[u8]) -> &[u8]
     ensures tokens { tokens_in result.now ≡ tokens_in line.now }
     ensures solid { first_passes lines.is_blank result.now ≡ false }
@@ -74,7 +75,7 @@ fn word_len(bytes: &[u8]) -> usize
     bytes.iter().take_while(|byte| is_word_byte(**byte)).count()
 }
 
-/// The word bytes in front, perhaps none, and the rest.
+/// The word bytes at the front, possibly none, and the rest.
 pub fn split_word(bytes: &[u8]) -> (&[u8], &[u8])
     ensures { SplitsWhile tokens.is_word_byte bytes.now result.0.now result.1.now }
 {

@@ -8,10 +8,10 @@ ghost use Rattle.nll_mir_grammar.specs.Parts as parts;
 
 use crate::words::{after_arrow, block_at, word_at};
 
-/// Where a terminator goes on: a block, and perhaps another where it unwinds.
+/// Where a terminator goes on: a block, and possibly another where it unwinds.
 pub type Exits = (u32, Option<u32>);
 
-// What stands behind `unwind`, where it comes next.
+// What follows `unwind`, where it comes next.
 fn behind_unwind<'a>(line: &'a [u8]) -> Option<&'a [u8]>
     ensures { MatchOption result (IsNotNext (lex.word (codes "unwind")) (tokens_in line.now))
         (λ rest. tokens_in line.now ≡ lex.word (codes "unwind") ∷ tokens_in rest.now) }

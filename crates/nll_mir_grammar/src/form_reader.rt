@@ -27,7 +27,7 @@ use nll_sets::Memory;
 use nll_statements::Statement;
 use std::alloc::Global;
 
-// The line that begins with the keyword, behind which the rest stands.
+// The line that begins with the keyword, after which the rest follows.
 fn line_behind<'a>(alloc: Global, keyword: Keyword, line: &'a [u8]) -> Read<'a, Line<'a>>
     ensures { IfOk result
         (λ o. MatchOption o (HasNone (tails keyword) (tokens_in line.now))
@@ -55,7 +55,7 @@ fn line_behind<'a>(alloc: Global, keyword: Keyword, line: &'a [u8]) -> Read<'a, 
     }
 }
 
-// The keyword at the front, and what stands behind it.
+// The keyword at the front, and what follows it.
 fn keyword_at<'a>(line: &'a [u8]) -> Option<(Keyword, &'a [u8])>
     ensures { MatchOption result (HasNoKeyword (tokens_in line.now))
         (λ p. tokens_in line.now ≡ lex.word (keyword_name p.0) ∷ tokens_in p.1.now) }
@@ -92,7 +92,7 @@ fn spelled_line<'a>(alloc: Global, line: &'a [u8]) -> Result<Option<Line<'a>>, M
     Ok(Some(form))
 }
 
-// The line, where it may stand in a text of the version.
+// The line, where it may be in a text of the version.
 fn line_in<'a>(version: Version, line: Line<'a>) -> Option<Line<'a>>
     ensures { MatchOption result (spec.is_of_version version (form_of line.entry) ≡ false)
         (λ kept. (kept ≡ line.entry) × (spec.is_of_version version (form_of kept) ≡ true)) }

@@ -21,7 +21,7 @@ pub enum Front<'a> {
     Reference(&'a [u8], bool),
     /// A name and `<`.
     Generic(&'a [u8]),
-    /// A name behind which no `<` stands.
+    /// A name that no `<` follows.
     Name(&'a [u8]),
     /// The `fn ()` of a function without arguments.
     Thunk,
@@ -87,7 +87,7 @@ fn word_front<'a>(word: &'a [u8], behind: &'a [u8]) -> Option<(Front<'a>, &'a [u
     }
 }
 
-/// How a type begins here, and what stands behind that.
+/// How a type begins here, and what follows.
 pub fn front_at(line: &[u8]) -> Option<(Front<'_>, &[u8])>
     ensures { MatchOption result (IsNoFront (tokens_in line.now))
         (λ p. Begins p.0 (tokens_in line.now) (tokens_in p.1.now)) }

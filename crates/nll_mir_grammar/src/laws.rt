@@ -10,7 +10,7 @@ pub fn one_form()
     ensures { (ts : List lex.Token) (f g : Form) → IsSpelled ts f → IsSpelled ts g → f ≡ g }
 {}
 
-/// States that tokens begin with one type at most behind which no `<` stands.
+/// States that tokens begin with at most one type that no `<` follows.
 pub fn one_type_at_most()
     ensures { (ts : List lex.Token) (t u : WrittenType) (a b : List lex.Token)
         → BeginsWithType ts t a → BeginsWithType ts u b → (t ≡ u) × (a ≡ b) }

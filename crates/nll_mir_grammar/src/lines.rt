@@ -1,4 +1,4 @@
-//! Lines that begin with a word of their own, behind that word.
+//! Lines that begin with a word of their own, after that word.
 
 ghost use Rattle.std.specs.Prelude.{IfOk, MatchOption, map};
 ghost use Rattle.nll_mir_grammar.specs.TypeTexts.{written};
@@ -19,7 +19,7 @@ use crate::words::{block_at, drop_mark_at, name_at, number_at, region_at, variab
 use nll_sets::Memory;
 use std::alloc::Global;
 
-/// Behind `universal`.
+/// After `universal`.
 pub fn universal_line<'a>(line: &'a [u8]) -> Option<(Line<'a>, &'a [u8])>
     ensures { MatchOption result (HasNone (tails keyword.Universal) (tokens_in line.now))
         (λ p. IsBehind keyword.Universal (tokens_in line.now) (form_of p.0) (tokens_in p.1.now)) }
@@ -28,7 +28,7 @@ pub fn universal_line<'a>(line: &'a [u8]) -> Option<(Line<'a>, &'a [u8])>
     Some((Line::Universal(name), rest))
 }
 
-/// Behind `outlives`.
+/// After `outlives`.
 pub fn outlives_line<'a>(line: &'a [u8]) -> Option<(Line<'a>, &'a [u8])>
     ensures { MatchOption result (HasNone (tails keyword.Outlives) (tokens_in line.now))
         (λ p. IsBehind keyword.Outlives (tokens_in line.now) (form_of p.0) (tokens_in p.1.now)) }
@@ -38,7 +38,7 @@ pub fn outlives_line<'a>(line: &'a [u8]) -> Option<(Line<'a>, &'a [u8])>
     Some((Line::Outlives(longer, shorter), rest))
 }
 
-/// Behind `region`.
+/// After `region`.
 pub fn region_line<'a>(line: &'a [u8]) -> Option<(Line<'a>, &'a [u8])>
     ensures { MatchOption result (HasNone (tails keyword.Region) (tokens_in line.now))
         (λ p. IsBehind keyword.Region (tokens_in line.now) (form_of p.0) (tokens_in p.1.now)) }
@@ -47,7 +47,7 @@ pub fn region_line<'a>(line: &'a [u8]) -> Option<(Line<'a>, &'a [u8])>
     Some((Line::Region(name), rest))
 }
 
-/// Behind `assert`.
+/// After `assert`.
 pub fn assert_line<'a>(line: &'a [u8]) -> Option<(Line<'a>, &'a [u8])>
     ensures { MatchOption result (HasNone (tails keyword.Assert) (tokens_in line.now))
         (λ p. IsBehind keyword.Assert (tokens_in line.now) (form_of p.0) (tokens_in p.1.now)) }
@@ -56,7 +56,7 @@ pub fn assert_line<'a>(line: &'a [u8]) -> Option<(Line<'a>, &'a [u8])>
     Some((Line::Assert(longer, shorter), rest))
 }
 
-/// Behind `blocks`.
+/// After `blocks`.
 pub fn blocks_line<'a>(line: &'a [u8]) -> Option<(Line<'a>, &'a [u8])>
     ensures { MatchOption result (HasNone (tails keyword.Blocks) (tokens_in line.now))
         (λ p. IsBehind keyword.Blocks (tokens_in line.now) (form_of p.0) (tokens_in p.1.now)) }
@@ -65,7 +65,7 @@ pub fn blocks_line<'a>(line: &'a [u8]) -> Option<(Line<'a>, &'a [u8])>
     Some((Line::Blocks(number), rest))
 }
 
-/// Behind `block`.
+/// After `block`.
 pub fn block_line<'a>(line: &'a [u8]) -> Option<(Line<'a>, &'a [u8])>
     ensures { MatchOption result (HasNone (tails keyword.Block) (tokens_in line.now))
         (λ p. IsBehind keyword.Block (tokens_in line.now) (form_of p.0) (tokens_in p.1.now)) }
@@ -74,7 +74,7 @@ pub fn block_line<'a>(line: &'a [u8]) -> Option<(Line<'a>, &'a [u8])>
     Some((Line::Block(number), rest))
 }
 
-/// Behind `let`.
+/// After `let`.
 pub fn let_line<'a>(alloc: Global, line: &'a [u8]) -> Result<Option<(Line<'a>, &'a [u8])>, Memory>
     ensures { IfOk result
         (λ o. MatchOption o (HasNone (tails keyword.Let) (tokens_in line.now))
@@ -100,8 +100,8 @@ fn fields_at<'a>(alloc: Global, line: &'a [u8]) -> Read<'a, (bool, TupleText<'a>
     with(has_drop, tuple_front(alloc, behind))
 }
 
-// What stands behind the name of a struct: its parameters, whether it has a drop of its own, and
-// its fields.
+// What follows the name of a struct: its parameters, whether it has a drop of its own, and its
+// fields.
 fn struct_behind<'a>(
     alloc: Global,
     line: &'a [u8],
@@ -118,7 +118,7 @@ fn struct_behind<'a>(
     with(parameters, fields_at(alloc, behind))
 }
 
-/// Behind `struct`.
+/// After `struct`.
 pub fn struct_line<'a>(
     alloc: Global,
     line: &'a [u8],

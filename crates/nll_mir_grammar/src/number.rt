@@ -17,7 +17,7 @@ fn front_nine(bytes: &[u8]) -> &[u8]
     &bytes[..9]
 }
 
-// The value of the digits in front, and how many they are.
+// The value of the digits at the front, and how many they are.
 fn digits_at(bytes: &[u8]) -> (u32, usize)
     requires { length bytes.now ≤ 9 }
     ensures { IsDigitFront bytes.now result.0 result.1 }
@@ -34,8 +34,8 @@ fn digits_at(bytes: &[u8]) -> (u32, usize)
     (number, count)
 }
 
-/// The number that the word bytes in front are, and what stands behind them: `0`, or one to nine
-/// digits with no zero in front.
+/// The number that the word bytes at the front spell, and what follows them: `0`, or one to nine
+/// digits without a leading zero.
 pub fn number_in_front(bytes: &[u8]) -> Option<(u32, &[u8])>
     ensures { MatchOption result
         ((word rest : List ℕ) (n : ℕ) → SplitsWhile is_word_byte bytes.now word rest

@@ -20,7 +20,7 @@ use std::mem::size_of;
 /// What is begun and not complete.
 ///
 /// # Size
-/// It has the size that a reference needs: a text may have millions of them in one another.
+/// It has the size that a reference needs: a text may nest millions of them.
 #[derive(Clone, Copy)]
 pub enum Open<'a> {
     /// A reference: whether it is `mut`, and its region's name.
@@ -58,10 +58,10 @@ impl<'a> Default for Open<'a> {
     }
 }
 
-/// What is open, the innermost last. Few types are so deep that this needs memory of its own.
+/// What is open, the innermost last. Few types are so deep that this allocates.
 pub type Opened<'a> = SmallVec<Open<'a>, 3>;
 
-// Puts a piece behind the others, behind which this may come next.
+// Appends a piece, after which this may come next.
 fn put<'a>(
     pieces: &mut Vec<TypePiece<'a>>,
     piece: TypePiece<'a>,
@@ -83,7 +83,7 @@ fn put_open<'a>(opened: &mut Opened<'a>, inner: Open<'a>, state: State) -> Resul
     Ok(state)
 }
 
-// Puts a row without arguments behind the others, and what is made of it: a type is complete.
+// Appends a row without arguments, and what is made of it: a type is complete.
 fn put_empty<'a>(pieces: &mut Vec<TypePiece<'a>>, piece: TypePiece<'a>) -> Result<State, Memory>
     ensures { IfOk result (λ s. (s ≡ State.Have)
         × (pieces.new.items ≡ pieces.old.items ++ TypePiece.Row ∷ piece.entry ∷ [])) }
@@ -107,7 +107,7 @@ fn open_row<'a>(
     put_open(opened, inner, state)
 }
 
-/// Goes on behind the beginning of a type.
+/// Goes on after the beginning of a type.
 pub fn begin<'a>(
     front: Front<'a>,
     pieces: &mut Vec<TypePiece<'a>>,
@@ -136,8 +136,7 @@ pub fn begin<'a>(
     }
 }
 
-// One step where a type comes next: what may come then, and what stands behind the tokens that it
-// takes.
+// One step where a type comes next: what may come then, and what follows the tokens that it takes.
 fn want<'a>(
     line: &'a [u8],
     pieces: &mut Vec<TypePiece<'a>>,
@@ -206,7 +205,7 @@ fn end<'a>(
     put(pieces, piece, State::Have)
 }
 
-// One step behind a complete type, which becomes a part of the innermost thing that is open, or
+// One step after a complete type, which becomes a part of the innermost thing that is open, or
 // completes it.
 fn complete<'a>(pieces: &mut Vec<TypePiece<'a>>, opened: &mut Opened<'a>) -> Result<State, Memory>
     requires { 0 < length opened.old.items }
@@ -224,7 +223,7 @@ fn complete<'a>(pieces: &mut Vec<TypePiece<'a>>, opened: &mut Opened<'a>) -> Res
 }
 
 // How the innermost thing that is open ends, where it has parts: the sign that closes it, and what
-// may come behind a comma.
+// may come after a comma.
 fn ends_at(opened: &Opened<'_>) -> Option<(u8, State)>
     ensures some { IfSome result (λ _. 0 < length opened.now.items) }
     ensures sign { IfSome result (λ p. lex.is_sign p.0 ≡ true) }
@@ -259,7 +258,7 @@ fn close<'a>(pieces: &mut Vec<TypePiece<'a>>, opened: &mut Opened<'a>) -> Result
     }
 }
 
-// One step behind a part or an argument of the innermost thing that is open.
+// One step after a part or an argument of the innermost thing that is open.
 fn inside<'a>(
     line: &'a [u8],
     pieces: &mut Vec<TypePiece<'a>>,
@@ -295,7 +294,7 @@ fn want_arrow(line: &[u8]) -> Option<(State, &[u8])>
     Some((State::Want, rest))
 }
 
-/// One step: what may come then, and what stands behind the tokens that it takes.
+/// One step: what may come then, and what follows the tokens that it takes.
 pub fn step<'a>(
     line: &'a [u8],
     state: State,

@@ -15,7 +15,7 @@ use nll_sets::Memory;
 use nll_types::Operand;
 use std::alloc::Global;
 
-// For how many operands room is asked for at first, with what stands behind the first one.
+// For how many operands room is reserved at first, given what follows the first one.
 fn first_room(line: &[u8]) -> usize
     ensures { result ≤ 2 }
 {
@@ -25,7 +25,7 @@ fn first_room(line: &[u8]) -> usize
     }
 }
 
-// Puts an operand behind the others. The first one asks for room, by what stands behind it.
+// Appends an operand. The first one reserves room, by what follows it.
 fn put_operand(operands: &mut Vec<Operand>, operand: Operand, line: &[u8]) -> Result<(), Memory>
     ensures { OnOk result (operands.new.items ≡ operands.old.items ++ operand ∷ []) }
 {
@@ -36,7 +36,7 @@ fn put_operand(operands: &mut Vec<Operand>, operand: Operand, line: &[u8]) -> Re
     Ok(())
 }
 
-// Puts the operand at the front behind the others.
+// Appends the operand at the front.
 fn push_operand<'a>(
     alloc: Global,
     line: &'a [u8],
@@ -54,7 +54,7 @@ fn push_operand<'a>(
     }
 }
 
-// Puts the operand behind a comma behind the others.
+// Appends the operand after a comma.
 fn next_operand<'a>(
     alloc: Global,
     line: &'a [u8],
@@ -69,7 +69,7 @@ fn next_operand<'a>(
     }
 }
 
-// Puts operands parted by commas into the list, as many as there are.
+// Adds operands separated by commas to the list, as many as there are.
 fn list_operands<'a>(
     alloc: Global,
     line: &'a [u8],
@@ -91,7 +91,7 @@ fn list_operands<'a>(
     Ok(Some(rest))
 }
 
-// Puts the operands between `(` and `)` into the list.
+// Adds the operands between `(` and `)` to the list.
 fn enclosed_operands<'a>(
     alloc: Global,
     line: &'a [u8],

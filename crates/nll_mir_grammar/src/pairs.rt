@@ -5,11 +5,11 @@ ghost use Rattle.nll_mir_grammar.specs.Grammars.{both};
 
 use nll_sets::Memory;
 
-/// What is read at the front of the rest of a line, with what stands behind it; or nothing, where
-/// none is there.
+/// What is read at the front of the rest of a line, with what follows it; or nothing, where none is
+/// there.
 pub type Read<'a, T> = Result<Option<(T, &'a [u8])>, Memory>;
 
-/// A value that was read, with what is read behind it.
+/// A value that was read, with what is read after it.
 pub fn with<'a, A: Drop, B>(first: A, second: Read<'a, B>) -> Read<'a, (A, B)>
     ensures { result ≡ both first second.entry }
 {

@@ -15,7 +15,7 @@ use nll_sets::Memory;
 use nll_types::{Parameter, Sign};
 use std::alloc::Global;
 
-// Whether `?` comes next, and what stands behind it or else here.
+// Whether `?` comes next, and what follows it, or the line itself.
 fn dangle_mark_at<'a>(line: &'a [u8]) -> (bool, &'a [u8])
     ensures { Begins (parts.marks dangling_mark (lex.sign 63)) (tokens_in line.now) result.0
         (tokens_in result.1.now) }
@@ -66,7 +66,7 @@ fn parameter_at<'a>(line: &'a [u8]) -> Option<(ParameterText<'a>, &'a [u8])>
     Some((ParameterText::Type(name, parameter), rest))
 }
 
-// Puts the parameter at the front behind the others.
+// Appends the parameter at the front.
 fn push_parameter<'a>(
     line: &'a [u8],
     parameters: &mut Vec<ParameterText<'a>>,
@@ -83,7 +83,7 @@ fn push_parameter<'a>(
     }
 }
 
-// Puts the parameter behind a comma behind the others.
+// Appends the parameter after a comma.
 fn next_parameter<'a>(
     line: &'a [u8],
     parameters: &mut Vec<ParameterText<'a>>,
@@ -97,7 +97,7 @@ fn next_parameter<'a>(
     }
 }
 
-// Puts parameters parted by commas into the list, as many as there are.
+// Adds parameters separated by commas to the list, as many as there are.
 fn list_parameters<'a>(
     line: &'a [u8],
     parameters: &mut Vec<ParameterText<'a>>,
@@ -118,7 +118,7 @@ fn list_parameters<'a>(
     Ok(Some(rest))
 }
 
-// Puts the parameters between `<` and `>` into the list, where there are any.
+// Adds the parameters between `<` and `>` to the list, where there are any.
 fn enclosed_parameters<'a>(
     line: &'a [u8],
     parameters: &mut Vec<ParameterText<'a>>,

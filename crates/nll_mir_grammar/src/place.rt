@@ -28,7 +28,7 @@ fn projection_at<'a>(line: &'a [u8]) -> Option<(Projection, &'a [u8])>
     }
 }
 
-// Puts a projection behind the others.
+// Appends a projection.
 fn push_projection(
     projections: &mut SmallVec<Projection, 3>,
     projection: Projection,
@@ -39,7 +39,7 @@ fn push_projection(
     Ok(())
 }
 
-// The projections at the front, as many as there are. Up to three need no memory of their own.
+// The projections at the front, as many as there are. Up to three allocate nothing.
 fn projections_at<'a>(
     alloc: Global,
     line: &'a [u8],
@@ -57,7 +57,7 @@ fn projections_at<'a>(
     Ok((projections, rest))
 }
 
-// The place of the variable, of which is taken what stands at the front, in a list.
+// The place of the variable with the projections at the front, in a list.
 fn listed_place<'a>(
     alloc: Global,
     variable: u32,
@@ -72,8 +72,8 @@ fn listed_place<'a>(
     Ok((place, rest))
 }
 
-// The place of the variable, of which is taken what stands at the front. Most places take nothing
-// or one projection, and these need no list.
+// The place of the variable with the projections at the front. Most places have none or one, and
+// these need no list.
 fn place_behind<'a>(
     alloc: Global,
     variable: u32,

@@ -1,4 +1,4 @@
-//! Statements and terminators that begin with a word of their own, behind that word.
+//! Statements and terminators that begin with a word of their own, after that word.
 
 ghost use Rattle.std.specs.Prelude.{IfOk, MatchOption};
 ghost use Rattle.nll_mir_grammar.specs.LineTokens.{tokens_in};
@@ -16,7 +16,7 @@ use nll_sets::Memory;
 use nll_statements::Statement;
 use std::alloc::Global;
 
-/// Behind `live`.
+/// After `live`.
 pub fn live_line<'a>(line: &'a [u8]) -> Option<(Line<'a>, &'a [u8])>
     ensures { MatchOption result (HasNone (tails keyword.Live) (tokens_in line.now))
         (λ p. IsBehind keyword.Live (tokens_in line.now) (form_of p.0) (tokens_in p.1.now)) }
@@ -25,7 +25,7 @@ pub fn live_line<'a>(line: &'a [u8]) -> Option<(Line<'a>, &'a [u8])>
     Some((Line::At(Statement::Live(variable)), rest))
 }
 
-/// Behind `dead`.
+/// After `dead`.
 pub fn dead_line<'a>(line: &'a [u8]) -> Option<(Line<'a>, &'a [u8])>
     ensures { MatchOption result (HasNone (tails keyword.Dead) (tokens_in line.now))
         (λ p. IsBehind keyword.Dead (tokens_in line.now) (form_of p.0) (tokens_in p.1.now)) }
@@ -34,7 +34,7 @@ pub fn dead_line<'a>(line: &'a [u8]) -> Option<(Line<'a>, &'a [u8])>
     Some((Line::At(Statement::Dead(variable)), rest))
 }
 
-/// Behind `goto`.
+/// After `goto`.
 pub fn goto_line<'a>(line: &'a [u8]) -> Option<(Line<'a>, &'a [u8])>
     ensures { MatchOption result (HasNone (tails keyword.Goto) (tokens_in line.now))
         (λ p. IsBehind keyword.Goto (tokens_in line.now) (form_of p.0) (tokens_in p.1.now)) }
@@ -43,7 +43,7 @@ pub fn goto_line<'a>(line: &'a [u8]) -> Option<(Line<'a>, &'a [u8])>
     Some((Line::At(Statement::Goto(block)), rest))
 }
 
-/// Behind `drop`.
+/// After `drop`.
 pub fn drop_line<'a>(line: &'a [u8]) -> Option<(Line<'a>, &'a [u8])>
     ensures { MatchOption result (HasNone (tails keyword.Drop) (tokens_in line.now))
         (λ p. IsBehind keyword.Drop (tokens_in line.now) (form_of p.0) (tokens_in p.1.now)) }
@@ -53,7 +53,7 @@ pub fn drop_line<'a>(line: &'a [u8]) -> Option<(Line<'a>, &'a [u8])>
     Some((Line::At(Statement::Drop(variable, target, unwind)), rest))
 }
 
-/// Behind `read`.
+/// After `read`.
 pub fn read_line<'a>(alloc: Global, line: &'a [u8]) -> Result<Option<(Line<'a>, &'a [u8])>, Memory>
     ensures { IfOk result
         (λ o. MatchOption o (HasNone (tails keyword.Read) (tokens_in line.now))
@@ -65,7 +65,7 @@ pub fn read_line<'a>(alloc: Global, line: &'a [u8]) -> Result<Option<(Line<'a>, 
     Ok(Some((Line::At(Statement::Read(place)), rest)))
 }
 
-/// Behind `switch`.
+/// After `switch`.
 pub fn switch_line<'a>(
     alloc: Global,
     line: &'a [u8],

@@ -24,7 +24,7 @@ use nll_sets::Memory;
 use nll_types::{Operand, Place};
 use std::alloc::Global;
 
-/// What stands behind the `&` of a borrow: its region, whether it is `mut`, and the place.
+/// What follows the `&` of a borrow: its region, whether it is `mut`, and the place.
 pub fn borrow_at<'a>(
     alloc: Global,
     line: &'a [u8],
@@ -43,7 +43,7 @@ pub fn borrow_at<'a>(
     Ok(Some((region, mutable, place, rest)))
 }
 
-/// What stands behind `make`: a type, and operands.
+/// What follows `make`: a type, and operands.
 pub fn make_at<'a>(alloc: Global, line: &'a [u8]) -> Read<'a, (TypeText<'a>, Vec<Operand>)>
     ensures { IfOk result (λ o. MatchOption o (HasNone makes (tokens_in line.now))
         (λ p. Begins makes (tokens_in line.now) (written p.0.0, map operand_of p.0.1.items)
@@ -55,7 +55,7 @@ pub fn make_at<'a>(alloc: Global, line: &'a [u8]) -> Read<'a, (TypeText<'a>, Vec
     with(ty, operands_in(alloc, behind))
 }
 
-/// What a call has behind its arguments: the type of its result, bounds, and where it goes on.
+/// What a call has after its arguments: the type of its result, bounds, and where it goes on.
 pub type CallResult<'a> = (TypeText<'a>, (Bounds<'a>, Exits));
 
 // The bounds of a call, and where it goes on.
@@ -71,7 +71,7 @@ fn call_end_at<'a>(alloc: Global, line: &'a [u8]) -> Read<'a, (Bounds<'a>, Exits
     with(bounds, Ok(exits_at(behind)))
 }
 
-/// What stands behind the `:` of a call.
+/// What follows the `:` of a call.
 pub fn result_at<'a>(alloc: Global, line: &'a [u8]) -> Read<'a, CallResult<'a>>
     ensures { IfOk result (λ o. MatchOption o (HasNone results (tokens_in line.now))
         (λ p. Begins results (tokens_in line.now) (result_of p.0) (tokens_in p.1.now))) }
@@ -82,7 +82,7 @@ pub fn result_at<'a>(alloc: Global, line: &'a [u8]) -> Read<'a, CallResult<'a>>
     with(ty, call_end_at(alloc, behind))
 }
 
-// The `:` of a call, and what stands behind it.
+// The `:` of a call, and what follows it.
 fn result_behind<'a>(alloc: Global, line: &'a [u8]) -> Read<'a, CallResult<'a>>
     ensures { IfOk result
         (λ o. MatchOption o (HasNone (behind (lex.sign 58) results) (tokens_in line.now))
@@ -95,7 +95,7 @@ fn result_behind<'a>(alloc: Global, line: &'a [u8]) -> Read<'a, CallResult<'a>>
     }
 }
 
-/// What stands behind the name of a function that is called: arguments, and the rest of the call.
+/// What follows the name of a function that is called: arguments, and the rest of the call.
 pub fn signature_at<'a>(
     alloc: Global,
     line: &'a [u8],

@@ -27,7 +27,7 @@ pub fn type_front<'a>(
     type_at(alloc, line)
 }
 
-/// The type behind a `:`.
+/// The type after a `:`.
 pub fn type_behind<'a>(alloc: Global, line: &'a [u8]) -> Read<'a, TypeText<'a>>
     ensures { IfOk result
         (λ o. MatchOption o (HasNone (behind (lex.sign 58) parts.types) (tokens_in line.now))

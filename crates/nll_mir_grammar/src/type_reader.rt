@@ -12,7 +12,7 @@ use nll_sets::Memory;
 use smallvec::SmallVec;
 use std::alloc::Global;
 
-// Reads the pieces of the type in front, with a list of what is open.
+// Reads the pieces of the type at the front, with a list of what is open.
 fn read_pieces<'a>(
     line: &'a [u8],
     pieces: &mut Vec<TypePiece<'a>>,
@@ -40,7 +40,7 @@ fn read_pieces<'a>(
     Ok(Some(rest))
 }
 
-// Reads the pieces of the type in front.
+// Reads the pieces of the type at the front.
 fn pieces_at<'a>(
     alloc: Global,
     line: &'a [u8],
@@ -56,7 +56,7 @@ fn pieces_at<'a>(
     read_pieces(line, pieces, &mut opened)
 }
 
-/// The type in front behind which no `<` stands, and what stands behind it.
+/// The type at the front that no `<` follows, and what follows it.
 pub fn type_at<'a>(
     alloc: Global,
     line: &'a [u8],

@@ -20,7 +20,7 @@ pub enum Version {
     Second,
 }
 
-// Whether a sign may stand in a text of version 1.
+// Whether a sign may be in a text of version 1.
 fn is_first_sign(sign: Sign) -> bool
     ensures { result ≡ spec.is_first_sign sign }
 {
@@ -30,7 +30,7 @@ fn is_first_sign(sign: Sign) -> bool
     }
 }
 
-// Whether a parameter may stand in a text of version 1.
+// Whether a parameter may be in a text of version 1.
 fn is_first_parameter(parameter: &ParameterText<'_>) -> bool
     ensures { result ≡ spec.is_first_parameter (parameter_of parameter.now) }
 {
@@ -41,7 +41,7 @@ fn is_first_parameter(parameter: &ParameterText<'_>) -> bool
     }
 }
 
-// Whether parameters may stand in a text of version 1.
+// Whether parameters may be in a text of version 1.
 fn are_first_parameters(parameters: &[ParameterText<'_>]) -> bool
     ensures { result ≡ list_all spec.is_first_parameter (map parameter_of parameters.now) }
 {
@@ -53,14 +53,14 @@ fn are_first_parameters(parameters: &[ParameterText<'_>]) -> bool
     true
 }
 
-// Whether a type may stand in a text of version 1.
+// Whether a type may be in a text of version 1.
 fn is_first_type(ty: &TypeText<'_>) -> bool
     ensures { result ≡ not (has_function (written ty.now)) }
 {
     !ty.has_function()
 }
 
-// Whether the types of a call's parameters may stand in a text of version 1.
+// Whether the types of a call's parameters may be in a text of version 1.
 fn are_first_arguments(arguments: &[(Operand, TypeText<'_>)]) -> bool
     ensures { result ≡ list_all (λ t. not (has_function t))
         (map (λ a. written a.1) arguments.now) }
@@ -73,7 +73,7 @@ fn are_first_arguments(arguments: &[(Operand, TypeText<'_>)]) -> bool
     true
 }
 
-// Whether a struct line may stand in a text of version 1.
+// Whether a struct line may be in a text of version 1.
 fn is_first_struct(text: &StructText<'_>) -> bool
     ensures { result ≡ spec.is_of_first (struct_form text.now) }
 {
@@ -83,7 +83,7 @@ fn is_first_struct(text: &StructText<'_>) -> bool
     is_first_type(text.fields.as_type())
 }
 
-// Whether the types that are written in a statement or terminator may stand in a text of version 1.
+// Whether the types that are written in a statement or terminator may be in a text of version 1.
 fn is_first_statement<'a>(statement: &Statement<&'a [u8], TypeText<'a>>) -> bool
     ensures { result ≡ spec.is_of_first (point_form statement.now) }
 {
@@ -99,7 +99,7 @@ fn is_first_statement<'a>(statement: &Statement<&'a [u8], TypeText<'a>>) -> bool
     }
 }
 
-/// Whether a line may stand in a text of the version.
+/// Whether a line may be in a text of the version.
 pub(crate) fn is_of_version(version: Version, line: &Line<'_>) -> bool
     ensures { result ≡ spec.is_of_version version (form_of line.now) }
 {

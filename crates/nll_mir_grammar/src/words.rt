@@ -10,7 +10,7 @@ ghost use Rattle.nll_mir_grammar.specs.WrittenTypes as types;
 use crate::bytes::{behind_gap, is_arrow, split_word};
 use crate::number::number_in_front;
 
-/// What stands behind the sign, where it comes next.
+/// What follows the sign, where it comes next.
 pub fn after_sign<'a>(line: &'a [u8], sign: u8) -> Option<&'a [u8]>
     requires { lex.is_sign sign ≡ true }
     ensures { MatchOption result (IsNotNext (lex.sign sign) (tokens_in line.now))
@@ -22,7 +22,7 @@ pub fn after_sign<'a>(line: &'a [u8], sign: u8) -> Option<&'a [u8]>
     }
 }
 
-/// What stands behind the arrow, where it comes next.
+/// What follows the arrow, where it comes next.
 pub fn after_arrow<'a>(line: &'a [u8]) -> Option<&'a [u8]>
     ensures { MatchOption result (IsNotNext lex.arrow (tokens_in line.now))
         (λ rest. tokens_in line.now ≡ lex.arrow ∷ tokens_in rest.now) }
@@ -112,7 +112,7 @@ pub fn block_at<'a>(line: &'a [u8]) -> Option<(u32, &'a [u8])>
     }
 }
 
-/// Whether `mut` comes next, and what stands behind it or else here.
+/// Whether `mut` comes next, and what follows it, or the line itself.
 pub fn mutability_at<'a>(line: &'a [u8]) -> (bool, &'a [u8])
     ensures { Begins parts.mutabilities (tokens_in line.now) result.0 (tokens_in result.1.now) }
 {
@@ -122,7 +122,7 @@ pub fn mutability_at<'a>(line: &'a [u8]) -> (bool, &'a [u8])
     }
 }
 
-/// Whether `drop` comes next, and what stands behind it or else here.
+/// Whether `drop` comes next, and what follows it, or the line itself.
 pub fn drop_mark_at<'a>(line: &'a [u8]) -> (bool, &'a [u8])
     ensures { Begins parts.drop_marks (tokens_in line.now) result.0 (tokens_in result.1.now) }
 {

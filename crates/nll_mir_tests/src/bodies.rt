@@ -35,7 +35,7 @@ const BODIES: &[(&str, &str)] = &[
         "universal 'static|region 'a|region 'b|region 'c|3 variables|\
         bb0/0 to 1 uses 1 defines 2|bb1/0 to 2 uses 2|bb1/1 returns uses 0|",
     ),
-    // Blanks may stand between any two tokens, and are needed between words alone.
+    // Blanks may be between any two tokens, and are needed only between words.
     (
         SPACED,
         "universal 'static|region 'w|2 variables|\

@@ -1,4 +1,4 @@
-//! What a MIR text says, or its fault, as text. Where memory is refused, the test ends.
+//! What a MIR text says, or its fault, as text. If an allocation fails, the test ends.
 ghost use Rattle.std.specs.Prelude.{◌<◌, length};
 
 use super::comparison::compare;
@@ -49,8 +49,8 @@ fn write_regions(rt: &impl Abort, out: &mut String, body: &Body) {
     }
 }
 
-// Writes pairs of regions behind a word: which universal region is known to outlive which, or which
-// region is to hold all that another one holds.
+// Writes pairs of regions after a word: which universal region is known to outlive which, or which
+// region must hold all that another one holds.
 fn write_pairs(rt: &impl Abort, out: &mut String, word: &str, pairs: &[(u32, u32)]) {
     for (longer, shorter) in pairs {
         write_number(rt, out, word, u64::from(*longer), " ");
@@ -69,7 +69,7 @@ fn write_point(rt: &impl Abort, out: &mut String, labels: &Labels, point: u32) {
     }
 }
 
-// Writes a number behind a word, where there is one.
+// Writes a number after a word, where there is one.
 fn write_found(rt: &impl Abort, out: &mut String, word: &str, number: Option<u32>) {
     if let Some(number) = number {
         write_number(rt, out, word, u64::from(number), "");
@@ -143,7 +143,7 @@ fn write_statement(rt: &impl Abort, alloc: Global, out: &mut String, statement: 
     write_numbers(rt, out, " written", written.as_slice());
 }
 
-// The same of the first point of a body.
+// Like `write_statement`, for the first point of a body.
 fn write_first(rt: &impl Abort, alloc: Global, out: &mut String, body: &Body) {
     if body.points() != 0 {
         let statement = body.line_at(alloc, 0).expect(rt, "memory");
@@ -170,7 +170,7 @@ fn write_fault(rt: &impl Abort, out: &mut String, fault: TextError) {
 
 // ---- of texts
 
-// What the body that was read says of what is asked, or the text's fault.
+// What the body that was read answers, or the text's fault.
 fn told(rt: &impl Abort, alloc: Global, read: Result<Body, TextError>, asked: Asked) -> String {
     let mut out = String::new(alloc);
     match read {
@@ -185,7 +185,7 @@ pub fn read(rt: &impl Abort, alloc: Global, text: &[u8], asked: Asked) -> String
     told(rt, alloc, read_mir(alloc, text), asked)
 }
 
-/// Ends the test where something else is told of a text of lines that end with `|`.
+/// Ends the test if something else is reported of a text of lines that end with `|`.
 pub fn compare_lines(rt: &impl Abort, alloc: Global, asked: Asked, lines: &str, want: &str) {
     let text = text_of(alloc, lines).expect(rt, "memory");
     let told = read(rt, alloc, text.as_slice(), asked);

@@ -1,7 +1,7 @@
-//! Comparing what calls tell with what was found by hand.
+//! Comparing what calls report with what was found by hand.
 use std::process::Abort;
 
-/// Ends the test where something else was told.
+/// Ends the test if something else was reported.
 pub fn compare(rt: &impl Abort, says: &str, told: &str, want: &str) {
     let right = told == want;
     assert!(rt; right, "{says}: {told}");

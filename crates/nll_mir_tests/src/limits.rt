@@ -11,7 +11,7 @@ const REST: &str = "let _0: int\nblocks 1\nblock bb0\nstop\nend\n";
 
 const BLOCK: &str = "blocks 1\nblock bb0\nstop\nend\n";
 
-// Declarations, how many, and what is told. `'static` counts as a universal region.
+// Declarations, how many, and what is reported. `'static` counts as a universal region.
 const DECLARATIONS: &[Row] = &[
     (UNIVERSALS, 255, "256 regions, 1 variables|bb0/0|"),
     (UNIVERSALS, 256, "line 257: Limit(Universals)"),
@@ -72,8 +72,8 @@ fn large_texts(rt: HostRuntime) {
 // A block that goes on to many blocks.
 const SWITCH: Repeated<'static> = ("block bb#\nswitch const", " bb#", "\n");
 
-// Ends the test unless that is told of a text of 2,048 blocks each of which goes on to all of
-// them, and of a block more.
+// Ends the test unless this is reported about a text of 2,048 blocks each of which goes on to all
+// of them, and about one of a block more.
 fn compare_edges(rt: &impl Abort, alloc: Global, back: &str, want: &str) {
     let switch = repeated(rt, alloc, SWITCH, 2_048);
     let mut text = String::new(alloc);

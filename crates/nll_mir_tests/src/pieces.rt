@@ -1,4 +1,4 @@
-//! Pieces and numbers in what is told. Where memory is refused for them, the test ends.
+//! Pieces and numbers in what is reported. If an allocation fails for them, the test ends.
 use std::process::Abort;
 
 /// Writes a piece of text.
@@ -11,7 +11,7 @@ pub fn write_number(rt: &impl Abort, out: &mut String, before: &str, number: u64
     write!(out, "{before}{number}{behind}").expect(rt, "memory");
 }
 
-/// Writes numbers behind a word, where there are any.
+/// Writes numbers after a word, where there are any.
 pub fn write_numbers(rt: &impl Abort, out: &mut String, word: &str, numbers: &[u32]) {
     if !numbers.is_empty() {
         write_piece(rt, out, word);

@@ -34,7 +34,7 @@ nll-mir 1|let _0: int|blocks 1|block bb0|stop|end|end| ~ line 7: Syntax
 nll-mir 1|let _0: int|blocks 1|block bb0|stop| ~ line 5: End
 ";
 
-// Declarations behind the header, and their faults.
+// Declarations after the header, and their faults.
 const DECLARATIONS: &str = "
 universal 'static| ~ line 2: Duplicate
 universal 'a|universal 'a| ~ line 3: Duplicate
@@ -196,8 +196,8 @@ nll-mir 1|region 'w|struct W<'x +> drop (&'x int)|let _0: int|let _1: W<'w>|bloc
 nop|drop _1 -> bb1|block bb2|return|end| ~ line 10: Range
 ";
 
-// The same text, cut off: behind a `let` line without arguments, behind the `nop` line, and behind
-// `drop _1 -> bb1`. It lacks its end, unless what is left is wrong.
+// That text, cut off: after a `let` line without arguments, after the `nop` line, and after `drop
+// _1 -> bb1`. It lacks its end, unless what is left is wrong.
 const CUT: &str = "
 nll-mir 1|region 'w|struct W<'x +> drop (&'x int)|let _0: int|let _1: W| ~ line 5: Shape
 nll-mir 1|region 'w|struct W<'x +> drop (&'x int)|let _0: int|let _1: W<'w>|blocks 2|block bb0|\
@@ -212,7 +212,7 @@ nop|drop _1 -> bb1|block bb1|return|end ~ universal 'static|region 'w|2 variable
 bb0/1 to 2 drops 1|bb1/0 returns uses 0|
 ";
 
-// Lines that version 2 has, behind the header and two declarations, and whether version 1 has them.
+// Lines that version 2 has, after the header and two declarations, and whether version 1 has them.
 const OF_SECOND: &str = "
 let _0: fn() -> int ~ line 4: Syntax
 let _0: (int, &'r fn(int) -> int) ~ line 4: Syntax
@@ -228,7 +228,7 @@ assert 'r : 'static ~ line 4: Syntax
 assert 'r : 'q ~ line 4: Syntax
 ";
 
-// Lines that assert something, behind the header and a region, in version 2.
+// Lines that assert something, after the header and a region, in version 2.
 const ASSERTS: &str = "
 assert 'r : 'static ~ line 3: End
 assert 'static : 'r ~ line 3: End
@@ -253,7 +253,7 @@ assert 'r : 'r : 'r ~ line 3: Syntax
 Assert 'r : 'r ~ line 3: Syntax
 ";
 
-// The same in version 2. A function is known where its parts are, and a function type isn't made.
+// The rows for version 2. A function is known where its parts are, and a function type isn't made.
 const IN_SECOND: &str = "
 let _0: fn() -> int ~ line 4: End
 let _0: (int, &'r fn(int) -> int) ~ line 4: End
@@ -292,7 +292,7 @@ _1 = call f(): fn(&'q int) -> int -> bb0 ~ line 10: Unknown
 _1 = call f(): fn() -> int -> bb0 ~ line 10: Shape
 ";
 
-// In version 1 the word behind `call` may be `fn` too, and no type of a call or of what is made may
+// In version 1 the word after `call` may be `fn` too, and no type of a call or of what is made may
 // have a function.
 const CALLS: &str = "
 _0 = call fn(const: int): int -> bb0 ~ line 5: End
@@ -348,7 +348,7 @@ const HEADERS: &[(&str, bool)] = &[
     ("", false),
 ];
 
-// Ends the test unless that is told of a line.
+// Ends the test unless this is reported about a line.
 fn compare_header(rt: &impl Abort, line: &str, is_header: bool) {
     let right = is_mir_header(line.as_bytes()) == is_header;
     assert!(rt; right, "header {line}");
@@ -363,7 +363,7 @@ fn texts_are_refused(rt: HostRuntime) {
     }
 }
 
-// Bytes that are no text are told before the header, in a skipped line, and behind a form.
+// Bytes that are no text are reported before the header, in a skipped line, and after a form.
 #[test]
 fn no_text(rt: HostRuntime) {
     let told = read(&rt, rt.alloc(), b"\xFF", Asked::All);

@@ -1,15 +1,15 @@
-//! Texts in which something stands very often.
+//! Texts in which something is repeated very often.
 use super::body_text::{Asked, read};
 use super::comparison::compare;
 use super::pieces::{write_number, write_piece};
 use std::alloc::Global;
 use std::process::Abort;
 
-/// What stands in front, what stands often, and what stands behind. A `#` in what stands often is
-/// the number of those in front of it.
+/// What comes first, what is repeated, and what comes last. A `#` in what is repeated is the number
+/// of the repetition, from 0.
 pub type Repeated<'a> = (&'a str, &'a str, &'a str);
 
-/// Such a text, how often, and how much is told of it.
+/// Such a text, how often, and how much is reported about it.
 pub type Row = (Repeated<'static>, u32, &'static str);
 
 // Writes something often.
@@ -34,7 +34,7 @@ pub fn write_often(rt: &impl Abort, out: &mut String, piece: &str, count: u32) {
     }
 }
 
-/// A text in which something stands so often.
+/// A text in which something is repeated this often.
 pub fn repeated(
     rt: &impl Abort,
     alloc: Global,
@@ -48,7 +48,7 @@ pub fn repeated(
     text
 }
 
-/// Ends the test where something else is told of such a text.
+/// Ends the test if something else is reported of such a text.
 pub fn compare_repeated(
     rt: &impl Abort,
     alloc: Global,
@@ -61,7 +61,7 @@ pub fn compare_repeated(
     compare(rt, parts.1, told.as_str(), want);
 }
 
-/// The same of each row.
+/// Like `compare_repeated`, for each row.
 pub fn compare_each(rt: &impl Abort, alloc: Global, rows: &[Row]) {
     for (parts, count, want) in rows {
         compare_repeated(rt, alloc, *parts, *count, want);

@@ -6,7 +6,7 @@ use super::repetitions::{Repeated, Row, compare_each, compare_repeated};
 use std::alloc::Global;
 use std::process::Abort;
 
-// Types, how many parts more than an `int` they have, and what is told: tuples, wherever a type
+// Types, how many parts more than an `int` they have, and what is reported: tuples, wherever a type
 // may be written, and references. A tuple of 4,095 parts has 4,096 nodes, which is the most.
 const TYPES: &[Row] = &[
     (VARIABLE, 4_094, "1 regions, 2 variables|bb0/0|"),
@@ -16,7 +16,7 @@ const TYPES: &[Row] = &[
     // With the struct there is a node more.
     (ARGUMENT, 4_093, "1 regions, 2 variables|bb0/0|"),
     (ARGUMENT, 4_094, "line 4: TypeSize"),
-    // That the types differ is told first.
+    // That the types differ is reported first.
     (RESULT, 4_095, "line 5: Shape"),
     // References are refused however deep they are: the last ones are a line of a mebibyte.
     (DEEP, 4_096, "line 4: TypeSize"),
@@ -67,16 +67,16 @@ fn deep_types(rt: HostRuntime) {
     compare_repeated(&rt, rt.alloc(), DEEP, 4_095, want);
 }
 
-// Projections of a variable whose type is the last of structs that double one another. So many
+// Projections of a variable whose type is the last of structs that double one another. This many
 // fields inwards its type has three times two to the power of their number of nodes.
 const DOUBLED: &[(&str, &str)] = &[
     (".0.0.0.0.0.0.0.0.0.0", "2 regions, 2 variables|bb0/1|"),
     (".0.0.0.0.0.0.0.0.0.0.0", "line 1007: TypeSize"),
-    // That there is no such field is told first.
+    // That there is no such field is reported first.
     (".0.0.0.0.0.0.0.0.0.0.0.1", "line 1007: Shape"),
 ];
 
-// Writes a struct and so many more, each of which has the one before it of a pair of its
+// Writes a struct and this many more, each of which has the one before it of a pair of its
 // parameter.
 fn write_structs(rt: &impl Abort, out: &mut String, more: u32) {
     write_piece(rt, out, "nll-mir 1\nregion 'r\nstruct S0<T +>(T)\n");
@@ -86,8 +86,8 @@ fn write_structs(rt: &impl Abort, out: &mut String, more: u32) {
     }
 }
 
-// Ends the test unless that is told of a text of a thousand such structs, and of a place in a
-// variable of the last one's type.
+// Ends the test unless this is reported about a text of a thousand such structs, and about a place
+// in a variable of the last one's type.
 fn compare_doubling(rt: &impl Abort, alloc: Global, projections: &str, want: &str) {
     let mut text = String::new(alloc);
     write_structs(rt, &mut text, 999);
@@ -100,7 +100,7 @@ fn compare_doubling(rt: &impl Abort, alloc: Global, projections: &str, want: &st
 }
 
 // Structs that double one another are declared quickly, and the first type that is too large is
-// told.
+// reported.
 #[test]
 fn doubling_structs(rt: HostRuntime) {
     for (projections, want) in DOUBLED {

@@ -3,13 +3,13 @@
 use super::body_text::Asked;
 use super::rows::{Table, compare_tables};
 
-// The lines in front of the first point of a body, and what is told in front of that point.
+// The lines before the first point of a body, and what is reported before that point.
 const DECLARED: &str = "nll-mir 1|region 'r|struct S(int)|let _0: int|let _1: int|\
     let _2: &'r int|let _3: (int, int)|let _4: S|blocks 2|block bb0|";
 
 const TOLD: &str = "universal 'static|region 'r|5 variables|";
 
-// What each form of statement uses, defines and drops. Each stands before a `stop`.
+// What each form of statement uses, defines and drops. Each comes before a `stop`.
 const STATEMENTS: &str = "
 _1 = const ~ bb0/0 to 1 defines 1
 _1 = copy _0 ~ bb0/0 to 1 uses 0 defines 1
@@ -25,7 +25,7 @@ dead _4 ~ bb0/0 to 1 defines 4
 nop ~ bb0/0 to 1
 ";
 
-// The same of terminators. The body has one block more, at point 1.
+// What each form of terminator uses, defines and drops. The body has one block more, at point 1.
 const TERMINATORS: &str = "
 goto bb1 ~ bb0/0 to 1
 goto bb0 ~ bb0/0 to 0
@@ -63,8 +63,8 @@ return| ~ 0 ends written 0
 stop| ~ 0 ends
 ";
 
-// Each variable is written as often as a place of it stands in the line, and each block to which
-// it goes on is one edge.
+// Each variable is written as often as a place of it occurs in the line, and each block to which it
+// goes on is one edge.
 const TABLES: &[Table<'static>] = &[
     (
         Asked::All,

@@ -92,7 +92,7 @@ fn write_one(
     write_place(rt, alloc, out, body, &place).expect(rt, "memory");
 }
 
-/// Writes the regions of the types of the places below, each behind a bar.
+/// Writes the regions of the types of the places below, each after a bar.
 pub fn write_places(rt: &impl Abort, alloc: Global, out: &mut String, body: &Body) {
     for place in PLACES {
         write_piece(rt, out, "|");
@@ -130,8 +130,8 @@ const PLACES: &[(u32, &[Projection])] = &[
     (3, &[]),
 ];
 
-// The type of a place in a variable is that of what is taken of it. What is told has the regions
-// of each place's type.
+// The type of a place in a variable is that of what is taken of it. The report has the regions of
+// each place's type.
 #[test]
 fn places_have_types(rt: HostRuntime) {
     let want = "|| 1 2| 2|| 3|| 3| 3|| none| none| none";

@@ -1,5 +1,5 @@
--- What is wrong with a further line of a MIR text.
--- Source: project's choice; docs/FORMATS.md says the same in words.
+-- What is wrong with a further line of a MIR text. Source: project's choice; docs/FORMATS.md says
+-- the same in prose.
 use Rattle.std.specs.Prelude.{ℕ, ◌+◌, Bool, false, not, ◌&&◌, ◌||◌, ◌==◌, nat_lt, nat_le}
 use Rattle.std.specs.Prelude.{List, [], ◌∷◌, length, find, Option}
 use Rattle.std.specs.List.{list_all, list_any}
@@ -31,8 +31,8 @@ use Rattle.nll_mir_text.specs.MirSaid.{Said, group, scope_inside, meant_in}
 abbrev pub is_in_body : Said → Bool
 is_in_body s = nat_le (group (blocks 0)) s.reached && not (nat_le (group end) s.reached)
 
--- The line stands in order: no line of a later group is there, a text has a `let` line before the
--- one `blocks` line, then blocks, each a `block` line, statements and one terminator, then `end`.
+-- The line is in order: no line of a later group is there, a text has a `let` line before the one
+-- `blocks` line, then blocks, each a `block` line, statements and one terminator, then `end`.
 abbrev pub is_in_order : Said → Form → Bool
 is_in_order s (blocks n) = s.reached + 1 == group (blocks n)
 is_in_order s (block n) = is_in_body s && not s.owes
@@ -46,12 +46,12 @@ is_in_order s f = nat_le s.reached (group f)
 abbrev pub is_universal : Said → Name → Bool
 is_universal s a = nat_lt (number_of s.scope.regions a) s.universals
 
--- a name stands in the row twice
+-- a name occurs in the row twice
 abbrev pub has_repeats : List Name → Bool
 has_repeats [] = false
 has_repeats (x ∷ xs) = is_among xs x || has_repeats xs
 
--- A name of the struct's own is declared already: the struct's, a parameter's that stands twice or
+-- A name of the struct's own is declared already: the struct's, a parameter's that occurs twice or
 -- is 'static, or a type parameter's that is a struct's.
 abbrev pub redeclares : Scope → Name → List WrittenParameter → Bool
 redeclares s n ps =

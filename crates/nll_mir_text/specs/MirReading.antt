@@ -130,7 +130,7 @@ abbrev pub HasFewParameters : Form → Type 0
 HasFewParameters (struct_line n ps has_drop fields) = length ps ≤ most_bytes
 HasFewParameters _ = Unit {0}
 
--- The reader is prepared for a line of the form: it stands in order, the names that it declares are
+-- The reader is prepared for a line of the form: it is in order, the names that it declares are
 -- texts, it has few enough parameters, and the tables agree.
 pub record IsDue (r : Reader) (f : Form) : Type 0 where
   pub ready : IsReady r
@@ -146,9 +146,9 @@ pub record IsTaken (s : Said) (f : Form) (r : Reader) : Type 0 where
   pub says : said_by r ≡ says s f
   pub ready : IsReady r
 
--- A statement is admitted after lines that say s, and with it there are so many edges: its line has
--- no fault, the reader holds what they say, and there is room for a point. It is told whether the
--- block ends with it.
+-- A statement is admitted after lines that say s, and with it there are this many edges: its line
+-- has no fault, the reader holds what they say, and there is room for a point. The result says
+-- whether the block ends with it.
 pub record IsAdmitted (s : Said) (i : Statement Name WrittenType) (a : Admitted) (r : Reader)
     : Type 0 where
   pub fine : first_fault s (at_point i) ≡ None
@@ -159,8 +159,8 @@ pub record IsAdmitted (s : Said) (i : Statement Name WrittenType) (a : Admitted)
   pub few_edges : a.edges ≤ most_edges
   pub ends : a.ends ≡ is_terminator i
 
--- a line of the form is refused after lines that say s: for refused memory, or with its first kind
--- of fault
+-- a line of the form is refused after lines that say s: for a failed allocation, or with its first
+-- kind of fault
 abbrev pub IsRefused : Said → Form → TextKind → Type 0
 IsRefused s f kind = (kind ≡ Memory) ⊎ (first_fault s f ≡ Some kind)
 

@@ -1,6 +1,5 @@
--- What the lines of a MIR text say together.
--- Source: project's choice; docs/FORMATS.md says the same in words. The code keeps tables; this
--- speaks of whole lists of lines.
+-- What the lines of a MIR text say together. Source: project's choice; docs/FORMATS.md says the
+-- same in prose. The code keeps tables; this speaks of whole lists of lines.
 use Rattle.std.specs.Prelude.{ℕ, max, Bool, true, false, not, List, [], ◌∷◌, ◌++◌, length, map}
 use Rattle.std.specs.Prelude.{codes, get_or, Option, Some, None, is_some, unwrap_or}
 use Rattle.std.specs.List.{filter_map, last_or}
@@ -44,7 +43,7 @@ group_of (block n) = codes "block"
 group_of (at_point i) = codes "block"
 group_of end = codes "end"
 
--- the groups in the order in which they stand, that of the header in front
+-- the groups in their order in a text, that of the header first
 abbrev pub groups : List Name
 groups =
     codes "nll-mir" ∷ codes "universal" ∷ codes "outlives" ∷ codes "region" ∷ codes "assert"
@@ -101,7 +100,7 @@ abbrev pub statement_in : Form → Option (Statement Name WrittenType)
 statement_in (at_point i) = Some i
 statement_in _ = None
 
--- whether the block still lacks its terminator, behind a line of it
+-- whether the block still lacks its terminator, after a line of it
 abbrev pub owes_in : Form → Option Bool
 owes_in (block n) = Some true
 owes_in (at_point i) = Some (not (is_terminator i))
@@ -151,9 +150,9 @@ struct_meant s ps has_drop fields = record {
 abbrev pub meant_in : Scope → Statement Name WrittenType → Statement ℕ TypeTree
 meant_in s i = map_statement (number_of s.regions) (meant s) i
 
--- ---- what a line says behind others
+-- ---- what a line says after others
 
--- each line, with the lines that stand before it
+-- each line, with the lines that come before it
 abbrev pub with_fronts : List Form → List (List Form × Form)
 with_fronts [] = []
 with_fronts (f ∷ forms) = ([], f) ∷ map (λ p. (f ∷ p.0, p.1)) (with_fronts forms)
@@ -164,7 +163,7 @@ declared_in (front, struct_line n ps has_drop fields) =
     Some (struct_meant (scope_inside (scope_said front) ps) ps has_drop fields)
 declared_in _ = None
 
--- the first point of the block that begins with a line: as many statements stand before it
+-- the first point of the block that begins with a line: as many statements come before it
 abbrev pub start_in : List Form × Form → Option ℕ
 start_in (front, block n) = Some (length (filter_map statement_in front))
 start_in _ = None
@@ -181,17 +180,17 @@ pub record Said : Type 0 where
   pub universals : ℕ
   -- of each pair of regions the first is known to outlive the second; each pair once
   pub outlives : List (ℕ × ℕ)
-  -- of each pair of regions the first is to hold, at all points, what the second holds; each pair
+  -- of each pair of regions the first must hold, at all points, what the second holds; each pair
   -- once
   pub asserts : List (ℕ × ℕ)
   -- what the structs declare
   pub structs : List Struct
   -- the types of the variables
   pub variables : List TypeTree
-  -- how many blocks there are to be, and the first point of each that is there
+  -- how many blocks there must be, and the first point of each that is there
   pub blocks : ℕ
   pub starts : List ℕ
-  -- what stands at each point
+  -- the statement or terminator at each point
   pub points : List (Statement ℕ TypeTree)
   -- the last block still lacks its terminator
   pub owes : Bool

@@ -48,7 +48,7 @@ declared s ps has_drop fields = struct_meant (scope_inside s.scope ps) ps has_dr
 abbrev pub statement_meant : Said → Statement Name WrittenType → Statement ℕ TypeTree
 statement_meant s i = meant_in s.scope i
 
--- What is said after a further line of the form, which stands in order.
+-- What is said after a further line of the form, which is in order.
 abbrev pub says : Said → Form → Said
 says s (universal a) = record s {
   reached = group (universal a);

@@ -1,5 +1,5 @@
--- MIR texts as a format, and what a MIR text means.
--- Source: project's choice; docs/FORMATS.md says the same in words.
+-- MIR texts as a format, and what a MIR text means. Source: project's choice; docs/FORMATS.md says
+-- the same in prose.
 use Rattle.std.specs.Prelude.{◌≡◌, ◌≤◌, ℕ, true, List, codes, Contains, All, length}
 use Rattle.nll_problem.specs.Limits.{most_structs}
 use Rattle.nll_format.specs.Text.{Format, IsText, IsHeaded, IsHeader, IsFault}
@@ -50,9 +50,9 @@ pub record Means (text : List ℕ) (body : BodyText) : Type 0 where
   pub fits : IsText (mir version) text forms
   pub same : body ≡ body_said (said forms)
 
--- The body is well typed: at each point each place has a type, the types that are to be equal when
--- regions are forgotten are, and none of the types there has more nodes than a type may have. Nor
--- has that of a variable or of a struct's field; and there are no more structs than there may be.
+-- The body is well typed: at each point each place has a type, the types that must be equal when
+-- regions are erased are, and none of the types there has more nodes than a type may have. Nor has
+-- that of a variable or of a struct's field; and there are no more structs than there may be.
 pub record IsWellTyped (body : BodyText) : Type 0 where
   pub struct_limit : length body.structs ≤ most_structs
   pub fields : All (λ d. are_small d.fields ≡ true) body.structs

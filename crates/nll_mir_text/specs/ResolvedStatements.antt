@@ -45,14 +45,13 @@ as_written i = map_statement (λ r. r.now) written (statement_of i)
 abbrev pub as_resolved : Statement ℕ Resolved → Statement ℕ TypeTree
 as_resolved r = map_statement (λ q. q) tree_of r
 
--- each name in the statement is declared: those of regions that stand outside types, and those in
--- types
+-- each name in the statement is declared: those of regions outside types, and those in types
 abbrev pub has_names : Scope → Statement Name WrittenType → Bool
 has_names s i =
     list_all (is_among s.regions) (regions_written i) && list_all (is_known s) (types_written i)
 
 -- The names in the written statement are declared. The statement over numbers is what it means, and
--- its types tell whether the names in those that are written have the arguments that they take.
+-- its types say whether the names in those that are written have the arguments that they take.
 pub record IsOfStatement (s : Scope) (i : Statement Name WrittenType) (r : Statement ℕ Resolved)
     : Type 0 where
   pub known : has_names s i ≡ true
@@ -108,27 +107,27 @@ declared_by regions structs variables = record {
   owes = false;
 }
 
--- It tells of the type whether it has no more nodes than a type may have, and the number of its
--- shape.
+-- It says of the type whether it has at most as many nodes as a type may have, and the number of
+-- its shape.
 pub record IsOfType (shapes : List Node) (t : Resolved) (j : JudgedType) : Type 0 where
   pub small : j.small ≡ is_small (tree_of t)
   pub within : j.shape < length shapes
   pub shape : shape_in shapes j.shape ≡ shape_of (tree_of t)
 
--- It tells of the types whether the names in each have the arguments that they take, and the
--- numbers of their shapes.
+-- It says of the types whether the names in each have the arguments that they take, and the numbers
+-- of their shapes.
 pub record AreOfTypes (shapes : List Node) (ts : List Resolved) (j : ShapedTypes) : Type 0 where
   pub fit : j.fit ≡ list_all (λ t. t.fits) ts
   pub within : AreBelow (length shapes) j.shapes.items
   pub same : HaveShapes shapes j.shapes.items (map tree_of ts)
 
--- What was told of others is told of these types too.
+-- What was known of others is known of these types too.
 pub record AddsTypes (ts : List Resolved) (before : List Node) (old : ShapedTypes)
     (after : List Node) (new : ShapedTypes) : Type 0 where
   pub beside : (others : List Resolved) → AreOfTypes before others old
       → AreOfTypes after (others ++ ts) new
 
--- It tells whether each name and variable in the statement is declared, whether its types fit, and,
+-- It says whether each name and variable in the statement is declared, whether its types fit, and,
 -- where they do, whether none is too large.
 pub record IsOfPoint (s : Said) (i : Statement Name WrittenType) (j : Judgement) : Type 0 where
   pub known : j.declared ≡ knows s i
@@ -136,8 +135,8 @@ pub record IsOfPoint (s : Said) (i : Statement Name WrittenType) (j : Judgement)
   pub fits_small : j.fits ≡ true
       → j.small ≡ types_are_small s.structs s.variables (statement_meant s i)
 
--- It tells whether the block ends with the statement, and how many edges leave the point where it
--- stands.
+-- It says whether the block ends with the statement, and how many edges leave the point where it
+-- is.
 pub record AreExits {R T : Type 0} (e : Exits) (i : Statement R T) : Type 0 where
   pub ends : e.ends ≡ is_terminator i
   pub edges : e.edges ≡ edges_from i

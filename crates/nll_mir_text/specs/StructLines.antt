@@ -50,8 +50,8 @@ pub record AreNamesOf (row names : List Name) : Type 0 where
   pub same : has_repeats row ≡ false → names ≡ row
   pub members : (x : Name) → is_among names x ≡ is_among row x
 
--- The names are the own ones of a struct with these parameters, and it is told whether one of them
--- stands twice.
+-- The names are the own ones of a struct with these parameters, and the result says whether one of
+-- them occurs twice.
 pub record AreOwn (ps : List WrittenParameter) (own : OwnNames) : Type 0 where
   pub regions : AreNamesOf (region_names ps) own.regions
   pub types : AreNamesOf (type_names ps) own.types
@@ -72,7 +72,7 @@ own_scope own structs = record {
   kinds = map (λ ks. ks.items) structs.kinds.items;
 }
 
--- The names in the fields are known; it tells whether they have arguments of the kinds that they
+-- The names in the fields are known; it says whether they have arguments of the kinds that they
 -- take, and whether none has more nodes than a type may have.
 pub record AreJudged (s : Scope) (fields : WrittenTypes) (j : JudgedFields) : Type 0 where
   pub known : are_known s fields ≡ true

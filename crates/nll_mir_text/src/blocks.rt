@@ -1,4 +1,4 @@
-//! Lines of the blocks, and what stands at points.
+//! Lines of the blocks, and the statements at points.
 
 ghost use Rattle.std.specs.Prelude.{◌≡◌, Some, IfOk, IfErr, OnOk};
 ghost use Rattle.nll_mir_grammar.specs.MirForms as forms;
@@ -99,7 +99,7 @@ impl Reader {
         })
     }
 
-    // Judges what is to stand at the next point: what there is with it.
+    // Judges what is to be at the next point: what there is with it.
     fn admit(&mut self, statement: &Statement<RegionId, ResolvedType>) -> Result<Admitted, TextKind>
         requires { IsReady self.old }
         ensures admitted { IfOk result (λ a. (i : written_statement Name WrittenType)
@@ -113,7 +113,7 @@ impl Reader {
         self.admit_judged(judged, statement)
     }
 
-    // Puts a statement that is admitted at the next point.
+    // Writes an admitted statement at the next point.
     fn put(
         &mut self,
         statement: &Statement<RegionId, ResolvedType>,
@@ -129,7 +129,7 @@ impl Reader {
         Ok(())
     }
 
-    // Adds what stands at the next point, over numbers, unless it has a fault.
+    // Adds the statement at the next point, over numbers, unless it has a fault.
     fn add_judged(&mut self, statement: &Statement<RegionId, ResolvedType>) -> Result<(), TextKind>
         requires { IsReady self.old }
         ensures taken { OnOk result ((i : written_statement Name WrittenType)
@@ -144,7 +144,7 @@ impl Reader {
         Ok(())
     }
 
-    // Adds what stands at the next point, over numbers.
+    // Adds the statement at the next point, over numbers.
     fn add_resolved(&mut self, statement: Statement<RegionId, ResolvedType>) -> Result<(), TextKind>
         requires { IsReady self.old }
         ensures taken { OnOk result ((i : written_statement Name WrittenType)
@@ -155,11 +155,12 @@ impl Reader {
             → IsRefused (said_by self.old) (forms.at_point i) kind) }
     {
         let taken = self.add_judged(&statement);
+        // Early drop.
         drop(statement);
         taken
     }
 
-    /// Adds what stands at the next point.
+    /// Adds the statement at the next point.
     pub(crate) fn add_statement(
         &mut self,
         statement: Statement<&[u8], TypeText<'_>>,

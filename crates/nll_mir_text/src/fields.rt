@@ -82,7 +82,7 @@ pub fn resolve_fields(
     resolve(alloc, &scope, fields)
 }
 
-/// Judges the fields of a struct, and puts their shapes into the table.
+/// Judges the fields of a struct, and adds their shapes to the table.
 pub fn judge_fields(
     alloc: Global,
     table: &mut TypeTable,

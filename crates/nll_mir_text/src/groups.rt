@@ -1,4 +1,4 @@
-//! The groups of lines, in the order in which they stand.
+//! The groups of lines, in their order in a text.
 
 ghost use Rattle.std.specs.Prelude.{◌≡◌, ◌+◌, ◌≤◌, ◌==◌, nat_lt};
 ghost use Rattle.nll_mir_grammar.specs.Lines.{form_of};
@@ -7,7 +7,7 @@ ghost use Rattle.nll_mir_text.specs.MirSteps as steps;
 
 use nll_mir_grammar::Line;
 
-/// A group of lines. That of the header stands in front of all others.
+/// A group of lines. That of the header comes first.
 #[derive(Clone, Copy)]
 pub enum Group {
     Header,
@@ -42,14 +42,14 @@ impl Group {
         }
     }
 
-    /// Whether it stands before another group.
+    /// Whether it comes before another group.
     pub fn is_before(self, other: Group) -> bool
         ensures { result ≡ nat_lt (steps.rank self) (steps.rank other) }
     {
         self.rank() < other.rank()
     }
 
-    /// Whether it stands right before another group.
+    /// Whether it is right before another group.
     pub fn precedes(self, other: Group) -> bool
         ensures { result ≡ (steps.rank self + 1 == steps.rank other) }
     {

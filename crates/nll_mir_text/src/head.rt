@@ -1,4 +1,4 @@
-//! Lines of the head: regions, structs, variables, and how many blocks there are to be.
+//! Lines of the head: regions, structs, variables, and how many blocks there must be.
 
 ghost use Rattle.std.specs.Prelude.{◌≡◌, map, Some, None, true, false};
 ghost use Rattle.std.specs.Prelude.{IfOk, IfErr, OnOk, OnErr};
@@ -115,7 +115,7 @@ impl Reader {
         }
     }
 
-    /// Adds that one region is to hold, at all points, what another one holds.
+    /// Adds that one region must hold, at all points, what another one holds.
     pub(crate) fn add_assert(&mut self, longer: &[u8], shorter: &[u8]) -> Result<(), TextKind>
         requires { IsDue self.old (forms.assert_line longer.now shorter.now) }
         ensures taken { OnOk result
@@ -159,6 +159,7 @@ impl Reader {
         match resolve_type(self.alloc, &self.regions, &self.structs, text)? {
             Some(ty) => {
                 let taken = self.add_resolved_variable(number, &ty);
+                // Early drop.
                 drop(ty);
                 taken
             }
@@ -221,6 +222,7 @@ impl Reader {
     {
         let own = gather_names(self.alloc, text.parameters.as_slice())?;
         let taken = self.add_named_struct(&own, text);
+        // Early drop.
         drop(own);
         taken
     }
@@ -236,6 +238,7 @@ impl Reader {
         match resolve_fields(self.alloc, own, &self.structs, fields)? {
             Some(fields) => {
                 let taken = self.add_resolved_struct(own, text, &fields);
+                // Early drop.
                 drop(fields);
                 taken
             }

@@ -18,7 +18,7 @@ pub struct JudgedType {
     pub shape: usize,
 }
 
-/// Judges a type, and puts its shape into the table.
+/// Judges a type, and adds its shape to the table.
 pub fn judge_type(
     alloc: Global,
     table: &mut TypeTable,

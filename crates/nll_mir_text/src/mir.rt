@@ -58,7 +58,7 @@ fn body(alloc: Global, reader: Reader) -> Result<Body, TextError>
 ///
 /// # Errors
 /// The text's one fault: its first faulty line, and of that line the first kind in the order of
-/// `TextKind`; or `Memory` at line 0, where a growth of memory was refused.
+/// `TextKind`; or `Memory` at line 0, where an allocation failed.
 ///
 /// # Cost
 /// Time linear in the text, save for hashing, and memory for what it says; the text isn't copied

@@ -37,7 +37,7 @@ pub struct JudgedPoint {
     pub exits: Exits,
 }
 
-/// Judges a statement over numbers, puts the shapes of its types into the table, and tells how the
+/// Judges a statement over numbers, adds the shapes of its types to the table, and answers how the
 /// statement goes on.
 pub fn judge_point(
     alloc: Global,
@@ -70,7 +70,7 @@ pub fn judge_point(
     Ok(JudgedPoint { judgement, exits })
 }
 
-/// Puts a statement or terminator that is admitted at the next point.
+/// Writes an admitted statement or terminator at the next point.
 pub fn add_point(
     points: &mut Points,
     statement: &Statement<RegionId, ResolvedType>,

@@ -25,7 +25,7 @@ pub struct OwnNames {
     pub regions: Names,
     /// The type parameters, each once.
     pub types: Names,
-    /// Whether one of them stands twice.
+    /// Whether one of them occurs twice.
     pub repeats: bool,
 }
 

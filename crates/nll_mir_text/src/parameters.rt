@@ -10,7 +10,7 @@ use nll_sets::Memory;
 use nll_types::Declaration;
 use std::alloc::Global;
 
-// Puts what is marked of a parameter behind the others: of a region, or of a type.
+// Appends what is marked of a parameter: of a region, or of a type.
 fn push_mark(parameter: &ParameterText<'_>, declaration: &mut Declaration) -> Result<(), Memory>
     ensures regions { OnOk result (declaration.new.regions.items
         ≡ declaration.old.regions.items ++ region_marks (parameter_of parameter.now ∷ [])) }
@@ -26,7 +26,7 @@ fn push_mark(parameter: &ParameterText<'_>, declaration: &mut Declaration) -> Re
     Ok(())
 }
 
-/// Puts what is marked of parameters behind what is there: of regions, and of types.
+/// Appends what is marked of parameters: of regions, and of types.
 pub fn push_marks(
     parameters: &[ParameterText<'_>],
     declaration: &mut Declaration,
@@ -54,7 +54,7 @@ fn is_region(parameter: &ParameterText<'_>) -> bool
     }
 }
 
-// Puts behind the others for each parameter whether it is a region.
+// Appends, for each parameter, whether it is a region.
 fn push_kinds(parameters: &[ParameterText<'_>], kinds: &mut Vec<bool>) -> Result<(), Memory>
     ensures { OnOk result (kinds.new.items
         ≡ kinds.old.items ++ map specs.is_region (map parameter_of parameters.now)) }

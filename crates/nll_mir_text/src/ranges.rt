@@ -28,7 +28,7 @@ fn all_below(numbers: &[u32], end: usize) -> bool
     true
 }
 
-// Whether a block, and the other one where there is one, are among the first so many.
+// Whether a block, and the other one where there is one, are among the first this many.
 fn exits_are_blocks(count: usize, block: u32, unwind: Option<u32>) -> bool
     ensures { result ≡ list_all (λ x. nat_lt x count) (block ∷ other_block unwind) }
 {
@@ -38,7 +38,7 @@ fn exits_are_blocks(count: usize, block: u32, unwind: Option<u32>) -> bool
     }
 }
 
-/// Whether the blocks to which a statement goes on are among the first so many.
+/// Whether the blocks to which a statement goes on are among the first this many.
 pub fn targets_are_blocks(count: u32, statement: &Statement<RegionId, ResolvedType>) -> bool
     ensures { result ≡ list_all (λ x. nat_lt x count) (targets (statement_of statement.now)) }
 {

@@ -113,7 +113,7 @@ impl Reader {
         self.has_reached(Group::BlockCount) & !self.has_reached(Group::End)
     }
 
-    // Whether a line stands in order.
+    // Whether a line is in order.
     fn may_follow(&self, line: &Line<'_>) -> bool
         ensures { result ≡ is_in_order (said_by self.now) (form_of line.now) }
     {
@@ -125,7 +125,7 @@ impl Reader {
         }
     }
 
-    // Takes in a line of a form that stands in order, unless something else is wrong with it.
+    // Takes in a line of a form that is in order, unless something else is wrong with it.
     fn accept(&mut self, line: Line<'_>) -> Result<(), TextKind>
         requires { IsDue self.old (form_of line) }
         ensures taken { OnOk result (IsTaken (said_by self.old) (form_of line.entry) self.new) }
@@ -138,11 +138,13 @@ impl Reader {
             Line::Assert(longer, shorter) => self.add_assert(longer, shorter),
             Line::Struct(text) => {
                 let taken = self.add_struct(&*text);
+                // Early drop.
                 drop(text);
                 taken
             }
             Line::Let(number, text) => {
                 let taken = self.add_variable(number, &text);
+                // Early drop.
                 drop(text);
                 taken
             }
@@ -176,7 +178,7 @@ impl Reader {
         Ok(outlives)
     }
 
-    /// The pairs of regions of which the first is to hold, at all points, what the second holds.
+    /// The pairs of regions of which the first must hold, at all points, what the second holds.
     pub fn asserts(&self, alloc: Global) -> Result<Vec<(u32, u32)>, Memory>
         ensures { IfOk result (λ v. v.items ≡ (said_by self.now).asserts) }
     {

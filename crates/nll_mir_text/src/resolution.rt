@@ -73,7 +73,7 @@ fn resolve_bound(names: &Names, bound: &(&[u8], &[u8])) -> Option<(RegionId, Reg
     Some((longer, shorter))
 }
 
-// Puts the numbers of bounds' regions behind the others: whether all names are declared.
+// Appends the numbers of bounds' regions. Answers whether all names are declared.
 fn push_bounds(
     names: &Names,
     bounds: &[(&[u8], &[u8])],
@@ -110,7 +110,7 @@ fn resolve_bounds(
     if known { Ok(Some(made)) } else { Ok(None) }
 }
 
-// An argument of a call, where each name in its type is declared. Only its type is made anew.
+// An argument of a call, where each name in its type is declared. Only its type is made again.
 fn resolve_argument(
     alloc: Global,
     regions: &Regions,
@@ -126,6 +126,7 @@ fn resolve_argument(
 {
     let (operand, text) = argument;
     let ty = resolve_type(alloc, regions, structs, &text);
+    // Early drop.
     drop(text);
     match ty {
         Ok(Some(ty)) => Ok(Some((operand, ty))),
@@ -140,7 +141,7 @@ fn resolve_argument(
     }
 }
 
-// Puts the arguments of a call behind the others: whether all names in their types are declared.
+// Appends the arguments of a call. Answers whether all names in their types are declared.
 fn push_arguments(
     alloc: Global,
     regions: &Regions,
@@ -301,6 +302,7 @@ fn resolve_made(
         operands,
     } = made;
     let ty = resolve_type(alloc, regions, structs, &text);
+    // Early drop.
     drop(text);
     match ty {
         Ok(Some(ty)) => Ok(Some(Make {

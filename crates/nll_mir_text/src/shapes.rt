@@ -14,7 +14,7 @@ use nll_types::{Operand, TypeTable};
 use smallvec::SmallVec;
 use std::alloc::Global;
 
-/// What is told of types.
+/// What is known of types.
 #[derive(Drop)]
 pub struct ShapedTypes {
     /// Each name in each of them has arguments of the kinds that it takes.
@@ -23,7 +23,7 @@ pub struct ShapedTypes {
     pub shapes: SmallVec<usize, 4>,
 }
 
-// Puts the shape of a further type into the table.
+// Adds the shape of a further type to the table.
 fn shape_further(
     alloc: Global,
     table: &mut TypeTable,
@@ -40,7 +40,7 @@ fn shape_further(
     Ok(())
 }
 
-// Puts the shapes of the types of a call's arguments into the table.
+// Adds the shapes of the types of a call's arguments to the table.
 fn shape_arguments(
     alloc: Global,
     table: &mut TypeTable,
@@ -57,7 +57,7 @@ fn shape_arguments(
     Ok(())
 }
 
-// Puts the shapes of the types in a call into the table.
+// Adds the shapes of the types in a call to the table.
 fn shape_call(
     alloc: Global,
     table: &mut TypeTable,
@@ -72,7 +72,7 @@ fn shape_call(
     shape_further(alloc, table, &call.result, shaped)
 }
 
-// Puts the shapes of the types in a statement into the table.
+// Adds the shapes of the types in a statement to the table.
 fn shape_written(
     alloc: Global,
     table: &mut TypeTable,
@@ -90,7 +90,7 @@ fn shape_written(
     }
 }
 
-/// Puts the shapes of the types that are written in a statement into the table.
+/// Adds the shapes of the types that are written in a statement to the table.
 pub fn shape_types(
     alloc: Global,
     table: &mut TypeTable,

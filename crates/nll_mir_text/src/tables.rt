@@ -12,7 +12,7 @@ use nll_types::{Ty, TypeTable};
 use std::alloc::Global;
 
 /// The regions: their names, `'static` first, how many of them are universal, which of those are
-/// known to outlive which, and which regions are to hold, at all points, what others hold.
+/// known to outlive which, and which regions must hold, at all points, what others hold.
 #[derive(Drop)]
 pub struct Regions {
     pub names: Names,
@@ -27,7 +27,7 @@ pub struct Regions {
 pub struct StructNames {
     pub names: Names,
     pub kinds: Vec<Vec<bool>>,
-    /// No name at all: the type parameters that may stand in the types of a body.
+    /// No name at all: the type parameters that may be in the types of a body.
     pub none: Names,
 }
 
@@ -55,10 +55,10 @@ pub struct Variables {
     pub shapes: Vec<usize>,
 }
 
-/// The blocks, and what stands at each point.
+/// The blocks, and the statement or terminator at each point.
 #[derive(Drop)]
 pub struct Points {
-    /// How many blocks there are to be.
+    /// How many blocks there must be.
     pub blocks: u32,
     /// The first point of each block that is there.
     pub starts: Vec<u32>,

@@ -13,7 +13,7 @@ use nll_format::{TextError, read_lines};
 use nll_mir_grammar::Version;
 use std::alloc::Global;
 
-// Reads the lines behind the header.
+// Reads the lines after the header.
 fn read_body(alloc: Global, version: Version, body: Option<&[u8]>) -> Result<Reader, TextError>
     requires long { length (lines_left body) < 2 ^ 32 }
     requires short { AreShort (lines_left body) }
@@ -37,7 +37,7 @@ fn read_body(alloc: Global, version: Version, body: Option<&[u8]>) -> Result<Rea
 ///
 /// # Errors
 /// The text's one fault: its first faulty line, and of that line the first kind in the order of
-/// `TextKind`; or `Memory` at line 0, where a growth of memory was refused.
+/// `TextKind`; or `Memory` at line 0, where an allocation failed.
 pub(crate) fn read_text(alloc: Global, text: &[u8]) -> Result<Reader, TextError>
     ensures ok { IfOk result (Holds text.now) }
     ensures ready { IfOk result IsReady }

@@ -1,10 +1,10 @@
-//! Why what a test asks for couldn't be had.
+//! Why a test didn't get what it requested.
 use nll_core::{BuildError, Memory};
 use nll_cut::CutError;
 use nll_model::ModelError;
 use std::alloc::{AllocError, AllocFailed};
 
-/// Why what a test asks for couldn't be had.
+/// Why a test didn't get what it requested.
 #[derive(Clone, Copy, Debug, PartialEq, Eq)]
 pub enum Failure {
     Problem(BuildError),

@@ -8,8 +8,9 @@ use std::alloc::Global;
 // An event of two owners, what it answers, and what each region has then, after the balance.
 type Line = (Event, &'static str, &'static str);
 
-// Two owners go by turns, and leave in the end. The first has the regions 0 and 2, the second the
-// region 1. In the fourth event the box is empty; in the sixteenth a growth is still owed for.
+// Two owners alternate, and leave in the end. The first has the regions 0 and 2, the second the
+// region 1. In the fourth event the mailbox is empty; in the sixteenth a growth is still
+// outstanding.
 const BY_TURNS_TO_QUIET: &[Line] = &[
     (Load(0), "done|", "balance 2|0: 0 1 2|1:|2: 1|"),
     (Owe(0), "done|", "balance 3|0: 0 1 2|1:|2: 1|"),
@@ -39,7 +40,7 @@ const BY_TURNS_TO_QUIET: &[Line] = &[
     (Leave(1), "quiet|", "balance 0|0: 0 1 2|1: 0 1|2: 0 1|"),
 ];
 
-// A problem, how many owners there are, a schedule, and what it comes to.
+// A problem, how many owners there are, a schedule, and its outcome.
 type Row = (Written, u16, &'static [Event], &'static str);
 
 const ROWS: &[Row] = &[
@@ -56,7 +57,7 @@ const ROWS: &[Row] = &[
         &[Load(0), Owe(0), Clear(0), Leave(0)],
         "done|done|done|quiet|balance 0|0: 0 1 2 3 4 5|1: 0 1 3 4|2: 0 1 3 4|",
     ),
-    // Of what an owner holds at all points another one gets what it is told, one after another.
+    // Of what an owner holds at all points another one gets what it is sent, one after another.
     (
         EVERYWHERE,
         2,
@@ -100,7 +101,7 @@ const ROWS: &[Row] = &[
     ),
 ];
 
-// The balance and the values after so many lines of the schedule.
+// The balance and the values after this many lines of the schedule.
 fn values_after(count: usize) -> &'static str {
     if count == 0 {
         return "balance 2|0:|1:|2:|";
@@ -111,7 +112,7 @@ fn values_after(count: usize) -> &'static str {
     }
 }
 
-// What the first so many lines of the schedule come to, and what they are to come to.
+// What the first this many lines of the schedule come to, and what they are to come to.
 fn first_lines(alloc: Global, count: usize) -> Result<(String, String), Failure> {
     let mut events = Vec::new(alloc);
     let mut want = String::new(alloc);

@@ -1,4 +1,4 @@
-//! What a schedule comes to, and the states of a world, written.
+//! The outcome of a schedule, and the states of a world, as text.
 ghost use Rattle.std.specs.Prelude.{◌≡◌, ◌<◌, length};
 ghost use Rattle.nll_core.specs.Values.{IsShaped};
 
@@ -55,7 +55,7 @@ fn write_replay(out: &mut String, problem: &Problem, told: &Replay) -> Result<()
     write_values(out, problem, &told.values)
 }
 
-// What a schedule of the owners of a cut comes to.
+// The outcome of a schedule of the owners of a cut.
 fn replayed_over(
     alloc: Global,
     problem: &Problem,
@@ -72,7 +72,7 @@ fn replayed_over(
     Ok(out)
 }
 
-// The same, where the regions of a problem are dealt in turns.
+// Like the call above, with the regions of a problem assigned round-robin.
 fn replayed_round(
     alloc: Global,
     problem: &Problem,
@@ -85,7 +85,7 @@ fn replayed_round(
     told
 }
 
-/// What a schedule of a written problem comes to, whose regions are dealt to owners in turns: what
+/// The outcome of a schedule of a written problem, whose regions are assigned round-robin: what
 /// each event answers, the balance, and the value of each region.
 pub fn replayed(
     alloc: Global,
@@ -187,7 +187,7 @@ fn stepped_over(
     Ok(out)
 }
 
-// The same, where the regions of a problem are dealt in turns.
+// Like the call above, with the regions of a problem assigned round-robin.
 fn stepped_round(
     alloc: Global,
     problem: &Problem,
@@ -215,7 +215,7 @@ pub fn stepped(
     told
 }
 
-/// Compares what was told.
+/// Compares what was reported.
 pub fn compare(rt: &impl Abort, told: Result<String, Failure>, want: &str) {
     match told {
         Ok(text) => assert!(rt; text.as_str() == want, "{text} for {want}"),

@@ -41,7 +41,8 @@ pair_cases {X} R xs x y pairs (i, li, hi) (j, lj, hj) = ⊎_elim
 
 module _ (o : Owner) (s : IsSound o) (g : Growth) (at : Contains o.log g) where
   region_low : g.region < 65536
-  region_low = (let own = own_region o s g.region (s.well_formed.own g at) in omega (arith, own, s.problem.region_limit))
+  region_low =
+      (let own = own_region o s g.region (s.well_formed.own g at) in omega (arith, own, s.problem.region_limit))
 
   element_low : g.element < 1048832
   element_low = omega (arith, s.elements g at, s.problem.graph.point_limit, s.problem.graph.universal_limit)

@@ -1,11 +1,11 @@
-//! Why what a test asks for couldn't be had.
+//! Why a test didn't get what it requested.
 use nll_core::{BuildError, Memory};
 use nll_cut::CutError;
 use nll_driver::Stop;
 use nll_owner::OwnerError;
 use std::alloc::{AllocError, AllocFailed};
 
-/// Why what a test asks for couldn't be had.
+/// Why a test didn't get what it requested.
 #[derive(Clone, Copy, Debug, PartialEq, Eq)]
 pub enum Failure {
     Problem(BuildError),

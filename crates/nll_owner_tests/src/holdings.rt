@@ -1,4 +1,4 @@
-//! The values that an owner has of its own regions, and what it hands out: each set once.
+//! The values that an owner has of its own regions, and what it gives out: each set once.
 ghost use Rattle.std.specs.Prelude.{◌≡◌, ◌<◌, ℕ, List, Bool, false, length};
 ghost use Rattle.nll_cut.specs.Partition.{owner_of};
 ghost use Rattle.nll_owner.specs.Holding.{HasSet};
@@ -12,9 +12,9 @@ use nll_owner::{Holding, Owner, OwnerError};
 use nll_worked_problems::{BY_TURNS, FILLED_HOLE, REACHED, Written, worked_problem};
 use std::alloc::{AllocError, Global};
 
-// An owner of a problem: how many owners there are, its number, another owner, and what it is told
-// by that one, as regions and elements. Then its own regions with what `set` tells, with the sets
-// that are taken out, and with those that are taken out after that.
+// An owner of a problem: how many owners there are, its number, another owner, and the growths that
+// this one sends it, as regions and elements. Then its own regions with what `set` reports, with
+// the sets that are taken out, and with those that are taken out after that.
 type Row = (Written, u16, u16, u16, &'static [(u32, u32)], &'static str);
 
 const ROWS: &[Row] = &[
@@ -163,7 +163,7 @@ fn write_twice(
     write_all_taken(alloc, out, holding, cut, me, regions)
 }
 
-// Loads an owner, and tells it growths of another one. One that can't take them counts as broken.
+// Loads an owner, and sends it growths of another one. One that can't take them counts as broken.
 fn prepare(owner: &mut Owner<'_>, from: u16, growths: &[Growth]) -> Result<(), OwnerError>
     requires { owner.old.broken ≡ false → owner.old.loaded ≡ false }
     ensures cut { owner.new.cut ≡ owner.old.cut }
@@ -181,7 +181,7 @@ fn prepare(owner: &mut Owner<'_>, from: u16, growths: &[Growth]) -> Result<(), O
     }
 }
 
-// What an owner of a cut tells and hands out, once it was told growths.
+// What an owner of a cut reports and gives out, once it got growths.
 fn handed_over(
     alloc: Global,
     problem: &Problem,
@@ -207,7 +207,7 @@ fn handed_over(
     Ok(out)
 }
 
-// The same, where the regions of a problem are dealt in turns.
+// Like `handed_over`, with the regions of a problem assigned round-robin.
 fn handed_round(
     alloc: Global,
     problem: &Problem,
@@ -226,7 +226,7 @@ fn handed_round(
     handed
 }
 
-// The same of a written problem.
+// Like `handed_round`, for a written problem.
 fn handed(
     alloc: Global,
     written: Written,

@@ -1,5 +1,5 @@
-//! Owners on lent tables, which are told growths together, come to what owners with tables of their
-//! own come to, which are told one growth at a time.
+//! Owners on lent tables, which get growths together, reach what owners with tables of their own
+//! reach, which get one growth at a time.
 ghost use Rattle.std.specs.Prelude.{◌≡◌, length};
 ghost use Rattle.nll_owner.specs.Tables.{AreTables};
 
@@ -53,7 +53,7 @@ fn give(
     }
 }
 
-// What an owner has to tell another one, which it gives out.
+// What an owner has to send to another one, which it gives out.
 fn told_to(alloc: Global, owner: &mut Owner<'_>, to: u16) -> Result<Vec<Growth>, OwnerError> {
     let mut growths = Vec::new(alloc);
     for _ in 0..owner.unsent(to) {
@@ -64,7 +64,7 @@ fn told_to(alloc: Global, owner: &mut Owner<'_>, to: u16) -> Result<Vec<Growth>,
     Ok(growths)
 }
 
-// Hands what an owner has to tell another one to it, all together. Answers whether there was
+// Passes what an owner has to send to another one to it, all together. Answers whether there was
 // anything.
 fn hand(
     alloc: Global,
@@ -83,7 +83,7 @@ fn hand(
     Ok(true)
 }
 
-// Hands what an owner has to tell each other one. Answers whether there was anything.
+// Passes on what an owner has to send to each other one. Answers whether there was anything.
 fn hand_each(
     alloc: Global,
     owners: &mut Vec<Owner<'_>>,
@@ -98,7 +98,7 @@ fn hand_each(
     Ok(moved)
 }
 
-// Hands what each owner has to tell each other one. Answers whether there was anything.
+// Passes on what each owner has to send to each other one. Answers whether there was anything.
 fn round(alloc: Global, owners: &mut Vec<Owner<'_>>, count: u16) -> Result<bool, OwnerError> {
     let mut moved = false;
     for from in 0..count {
@@ -116,7 +116,7 @@ fn load_all(owners: &mut Vec<Owner<'_>>, count: u16) -> Result<(), OwnerError> {
     Ok(())
 }
 
-// Loads the owners, and hands over growths until none is left.
+// Loads the owners, and passes on growths until none is left.
 fn exchange(alloc: Global, owners: &mut Vec<Owner<'_>>, count: u16) -> Result<(), OwnerError> {
     load_all(owners, count)?;
     for _ in 0..100 {
@@ -144,7 +144,7 @@ fn told_on(alloc: Global, problem: &Problem, cut: &Cut, tables: &Tables) -> Resu
     Ok(out)
 }
 
-// The same, where the tables are made once.
+// Like `told_on`, with the tables made once.
 fn told_over(alloc: Global, problem: &Problem, cut: &Cut) -> Result<String, Failure>
     requires { length cut.now.list ≡ problem.now.regions }
 {
@@ -154,7 +154,7 @@ fn told_over(alloc: Global, problem: &Problem, cut: &Cut) -> Result<String, Fail
     told
 }
 
-// The same, where the regions of a problem are dealt in turns.
+// Like `told_over`, with the regions of a problem assigned round-robin.
 fn told_round(alloc: Global, problem: &Problem, owners: u16) -> Result<String, Failure> {
     let cut = Cut::round(alloc, problem.regions(), owners)?;
     let told = told_over(alloc, problem, &cut);
@@ -162,7 +162,7 @@ fn told_round(alloc: Global, problem: &Problem, owners: u16) -> Result<String, F
     told
 }
 
-// The same of a written problem.
+// Like `told_round`, for a written problem.
 fn told(alloc: Global, written: Written, owners: u16) -> Result<String, Failure> {
     let problem = worked_problem(alloc, written)?;
     let told = told_round(alloc, &problem, owners);

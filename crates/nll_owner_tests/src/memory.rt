@@ -1,5 +1,5 @@
-//! Owners whose memory is refused: an answer or `Memory`, then `Broken`, and the log only grows.
-//! Each allocation is refused in turn from outside; with none refused the owners come to their
+//! Owners that run out of memory: an answer or `Memory`, then `Broken`, and the log only grows.
+//! Each allocation is refused in turn from outside; with none refused the owners reach their
 //! values.
 ghost use Rattle.std.specs.Prelude.{◌≡◌, false, length};
 ghost use Rattle.nll_owner.specs.Owner.{IsReady, Passes};
@@ -11,8 +11,8 @@ use nll_owner::{Owner, OwnerError};
 use nll_worked_problems::{BY_TURNS, FILLED_HOLE, REACHED, Written, worked_problem};
 use std::alloc::Global;
 
-// How it ends: with so many growths of each owner; with memory refused, and each owner as it is
-// to be then; or otherwise.
+// How it ends: with this many growths of each owner; with memory refused, and each owner as it must
+// be then; or otherwise.
 #[derive(Clone, Copy, Debug, PartialEq, Eq)]
 enum Ending {
     Grown(usize, usize),
@@ -20,7 +20,7 @@ enum Ending {
     Wrong,
 }
 
-// Whether a log has the growths that it had, so many of which this is the last.
+// Whether a log has the growths that it had, this many of which this is the last.
 fn has_still(log: &[Growth], count: usize, last: Option<Growth>) -> bool {
     log.len() >= count && (count == 0 || log.get(count - 1) == last.as_ref())
 }
@@ -78,7 +78,7 @@ fn hand(one: &mut Owner<'_>, from: u16, other: &mut Owner<'_>, to: u16) -> Optio
     Some(Ending::Wrong)
 }
 
-// Loads two owners, and hands over growths until none is left.
+// Loads two owners, and passes on growths until none is left.
 fn exchange(first: &mut Owner<'_>, second: &mut Owner<'_>) -> Option<Ending> {
     if first.is_loaded() || second.is_loaded() {
         return Some(Ending::Wrong);
@@ -108,7 +108,7 @@ fn with_both(first: &mut Owner<'_>, second: &mut Owner<'_>) -> Ending {
     }
 }
 
-// The same, where the second is made here.
+// Like `with_both`, but makes the second owner.
 fn with_first(alloc: Global, problem: &Problem, cut: &Cut, first: &mut Owner<'_>) -> Ending
     requires cut { length cut.now.list ≡ problem.now.regions }
     requires two { cut.now.owners ≡ 2 }
@@ -123,7 +123,7 @@ fn with_first(alloc: Global, problem: &Problem, cut: &Cut, first: &mut Owner<'_>
     }
 }
 
-// The same of the two owners of a cut.
+// Like `with_first`, for the two owners of a cut.
 fn over(alloc: Global, problem: &Problem, cut: &Cut) -> Ending
     requires { length cut.now.list ≡ problem.now.regions }
 {
@@ -140,7 +140,7 @@ fn over(alloc: Global, problem: &Problem, cut: &Cut) -> Ending
     }
 }
 
-// The same, where the regions of a problem are dealt in turns.
+// Like `over`, with the regions of a problem assigned round-robin.
 fn dealt(alloc: Global, problem: &Problem) -> Ending {
     match Cut::round(alloc, problem.regions(), 2) {
         Ok(cut) => over(alloc, problem, &cut),
@@ -149,7 +149,7 @@ fn dealt(alloc: Global, problem: &Problem) -> Ending {
     }
 }
 
-// The same of a written problem.
+// Like `dealt`, for a written problem.
 fn of_written(alloc: Global, written: Written) -> Ending {
     match worked_problem(alloc, written) {
         Ok(problem) => dealt(alloc, &problem),

@@ -78,8 +78,8 @@ pub fn driven_over<M: Mail>(
     Ok(out)
 }
 
-/// What the owners of a problem have once they are driven, where the regions are dealt to them in
-/// turns: the value of each region, and how many growths each owner has grown, given and received.
+/// What the owners of a problem have once they are driven, with the regions assigned round-robin:
+/// the value of each region, and how many growths each owner has grown, given and received.
 pub fn driven<M: Mail>(
     alloc: Global,
     mail: &M,
@@ -93,7 +93,7 @@ pub fn driven<M: Mail>(
     told
 }
 
-// The same of a problem.
+// Like `driven_over`, for a problem whose regions are assigned round-robin.
 fn driven_round<M: Mail>(
     alloc: Global,
     mail: &M,
@@ -136,7 +136,7 @@ fn logs_over<M: Mail>(
     Ok(out)
 }
 
-// The same, where the regions of a problem are dealt in turns.
+// Like the call above, with the regions of a problem assigned round-robin.
 fn logs_round<M: Mail>(
     alloc: Global,
     mail: &M,
@@ -150,8 +150,8 @@ fn logs_round<M: Mail>(
     told
 }
 
-/// The logs of the owners of a problem once they are driven, where the regions are dealt to them in
-/// turns: the region and the element of each growth.
+/// The logs of the owners of a problem once they are driven, with the regions assigned round-robin:
+/// the region and the element of each growth.
 pub fn logs_of<M: Mail>(
     alloc: Global,
     mail: &M,
@@ -202,7 +202,7 @@ fn answers_over<M: Mail>(
     Ok(out)
 }
 
-// The same, where the regions of a problem are dealt in turns.
+// Like the call above, with the regions of a problem assigned round-robin.
 fn answers_round<M: Mail>(
     alloc: Global,
     mail: &M,
@@ -216,8 +216,8 @@ fn answers_round<M: Mail>(
     told
 }
 
-/// What each turn answers of the owners of a problem, to whom the regions are dealt in turns, and
-/// how many growths each owner has grown, given and received then.
+/// What each turn answers of the owners of a problem, to whom the regions are assigned round-robin,
+/// and how many growths each owner has grown, given and received then.
 pub fn answers_of<M: Mail>(
     alloc: Global,
     mail: &M,
@@ -280,7 +280,7 @@ fn last_answers_over(alloc: Global, problem: &Problem, cut: &Cut) -> Result<Stri
     Ok(out)
 }
 
-// The same, where the regions of a problem are dealt in turns.
+// Like the call above, with the regions of a problem assigned round-robin.
 fn last_answers_round(alloc: Global, problem: &Problem) -> Result<String, Failure> {
     let cut = Cut::round(alloc, problem.regions(), 2)?;
     let told = last_answers_over(alloc, problem, &cut);

@@ -17,7 +17,7 @@ fn mixed(seed: u32, place: u32) -> u32 {
     (once ^ (once >> 13)).wrapping_mul(668_265_263) >> 4
 }
 
-// Puts a random fact of nine points and nine regions into a builder.
+// Adds a random fact of nine points and nine regions to a builder.
 fn enter_one(builder: &mut ProblemBuilder, number: u32) -> Result<(), BuildError> {
     let (first, second, third) = (number / 8 % 9, number / 72 % 9, number / 648 % 9);
     match number % 8 {
@@ -38,7 +38,7 @@ fn enter_one(builder: &mut ProblemBuilder, number: u32) -> Result<(), BuildError
     }
 }
 
-// Puts random facts into a builder of two universal regions, and seven regions before them.
+// Adds random facts to a builder of two universal regions, and seven regions before them.
 fn enter_all(builder: &mut ProblemBuilder, seed: u32) -> Result<(), BuildError> {
     for _ in 0..7 {
         builder.region()?;
@@ -138,7 +138,7 @@ fn agree_over<M: Mail>(
     Ok(told.as_str().starts_with(want.as_str()))
 }
 
-// The same for a random cut and random turns.
+// Like `agree_over`, for a random cut and random turns.
 fn agree_on<M: Mail>(
     alloc: Global,
     mail: &M,
@@ -157,7 +157,7 @@ fn agree_on<M: Mail>(
     told
 }
 
-// The same for a random problem.
+// Like `agree_on`, for a random problem.
 fn agree<M: Mail>(alloc: Global, mail: &M, seed: u32) -> Result<bool, Failure> {
     let problem = problem_of(alloc, seed)?;
     let told = agree_on(alloc, mail, &problem, seed);

@@ -7,7 +7,7 @@ use nll_mail::QueueMail;
 use nll_worked_problems::{BY_TURNS, EVERYWHERE, FILLED_HOLE, REACHED, TWO_SOURCES, Written};
 use std::process::Abort;
 
-// Each owner of two is loaded, and then each tells the other.
+// Each of two owners is loaded, and then each sends to the other.
 const TWO: &[Turn] = &[
     Load(0),
     Load(1),
@@ -254,7 +254,7 @@ const WRONG: &[Turn] = &[
     Take(1, 1),
 ];
 
-/// Compares what was told.
+/// Compares what was reported.
 pub fn compare(rt: &impl Abort, told: Result<String, Failure>, want: &str) {
     match told {
         Ok(text) => assert!(rt; text.as_str() == want, "{text} for {want}"),

@@ -1,5 +1,5 @@
--- The report of a replay, as bytes: what each event answered, the balance, and the values.
--- Source: project's choice; docs/FORMATS.md says the same in words.
+-- The report of a replay, as bytes: what each event answered, the balance, and the values. Source:
+-- project's choice; docs/FORMATS.md says the same in prose.
 use Rattle.std.specs.Prelude.{◌≡◌, ℕ, ◌+◌, Bool, List, [], ◌∷◌, ◌++◌, codes, length}
 use Rattle.std.specs.Prelude.{slice_index_or, Option, None, Some}
 use Rattle.std.specs.Fmt.{decimal}

@@ -20,7 +20,7 @@ use nll_problem::Problem;
 use nll_sets::Memory;
 use std::alloc::Global;
 
-/// Replays a schedule by the owners of a cut, and prints what it comes to.
+/// Replays a schedule by the owners of a cut, and prints the outcome.
 ///
 /// # Shape
 /// A line for each event, in order: its number from 1, one space, and `done`, `quiet`, `open` or
@@ -49,7 +49,7 @@ pub fn replay_text(
     Ok(report_of(alloc, problem, labels, replayed)?)
 }
 
-// The report of what a schedule came to.
+// The report of the outcome of a schedule.
 fn report_of(
     alloc: Global,
     problem: &Problem,
@@ -62,11 +62,12 @@ fn report_of(
         replayed.answers.items replayed.balance replayed.values text.items) }
 {
     let text = lines_of(alloc, problem, labels, &replayed);
+    // Early drop.
     drop(replayed);
     text
 }
 
-// The lines of what a schedule came to.
+// The lines of the outcome of a schedule.
 fn lines_of(
     alloc: Global,
     problem: &Problem,
@@ -86,7 +87,7 @@ fn lines_of(
     Ok(out)
 }
 
-// Puts the lines of the events at the end.
+// Appends the lines of the events.
 fn push_answers(out: &mut Vec<u8>, answers: &[Option<Step>]) -> Result<(), Memory>
     ensures { OnOk result (out.new.items ≡ out.old.items ++ answer_lines answers.now) }
 {
@@ -96,7 +97,7 @@ fn push_answers(out: &mut Vec<u8>, answers: &[Option<Step>]) -> Result<(), Memor
     Ok(())
 }
 
-// Puts the line of the event of this number at the end.
+// Appends the line of the event of this number.
 fn push_answer(out: &mut Vec<u8>, number: u64, answer: Option<Step>) -> Result<(), Memory>
     ensures { OnOk result (out.new.items ≡ out.old.items ++ answer_line number answer) }
 {
@@ -120,7 +121,7 @@ fn words_of(answer: Option<Step>) -> &'static str
     }
 }
 
-// Puts the line of the balance at the end.
+// Appends the line of the balance.
 fn push_balance(out: &mut Vec<u8>, balance: u64) -> Result<(), Memory>
     ensures { OnOk result (out.new.items ≡ out.old.items ++ balance_line balance) }
 {

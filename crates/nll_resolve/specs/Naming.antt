@@ -1,5 +1,5 @@
--- What the names in written types mean, and whether they and the arguments are right.
--- Source: project's choice; docs/FORMATS.md says the same in words.
+-- What the names in written types mean, and whether they and the arguments are right. Source:
+-- project's choice; docs/FORMATS.md says the same in prose.
 use Rattle.std.specs.Prelude.{ℕ, Bool, true, false, ◌&&◌, ◌||◌, nat_lt, if◌then◌else◌, List, []}
 use Rattle.std.specs.Prelude.{◌∷◌, length, slice_index_or}
 use Rattle.nll_format.specs.Names.{number_of}
@@ -10,8 +10,8 @@ use Rattle.nll_mir_grammar.specs.WrittenTypes.{no_argument, region_argument, typ
 use Rattle.nll_mir_grammar.specs.WrittenTypes as written
 
 -- What names stand for where a type is written: regions, type parameters and structs by their
--- places in these rows. Beside the structs stand the kinds of the arguments that each takes, in
--- order: whether one is a region.
+-- places in these rows. With each struct go the kinds of its arguments, in order: whether one is a
+-- region.
 pub record Scope : Type 0 where
   pub regions : List Name
   pub parameters : List Name
@@ -51,7 +51,7 @@ abbrev mutual
   types_meant s (type_argument t args) = more (meant s t) (types_meant s args)
 
 -- Whether each region's name in the type passes one test, and each other name, with the arguments
--- behind it, another test.
+-- after it, another test.
 abbrev mutual
   pub each_name : (Name → Bool) → (Name → Arguments → Bool) → WrittenType → Bool
   each_name p q written.int = true

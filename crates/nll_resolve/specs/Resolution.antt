@@ -28,7 +28,7 @@ pub record Resolved : Type 0 where
 abbrev pub tree_of : Resolved → TypeTree
 tree_of r = r.tree
 
--- Each name in the written type is known; the resolved type is the one that it means, and tells
+-- Each name in the written type is known; the resolved type is the one that it means, and says
 -- whether each of its names has arguments of the kinds that it takes.
 pub record IsResolved (s : Scope) (t : WrittenType) (r : Resolved) : Type 0 where
   pub known : is_known s t ≡ true

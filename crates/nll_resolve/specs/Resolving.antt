@@ -15,23 +15,23 @@ use Rattle.nll_resolve.specs.declared.rows.Mark.{Mark}
 use Rattle.nll_resolve.specs.declared.rows.Mark.TheVariants as marks
 use Rattle.nll_resolve.specs.declared.resolution.Resolving.{Resolving}
 
--- ---- what stands in rows, the newest first
+-- ---- what is in rows, the newest first
 
--- what stands in the newest row
+-- the entries of the newest row
 abbrev pub newest : List Mark → List Mark
 newest [] = []
 newest (marks.Row k ∷ ms) = []
 newest (marks.Region r ∷ ms) = marks.Region r ∷ newest ms
 newest (marks.Part ∷ ms) = marks.Part ∷ newest ms
 
--- what stands in the other rows
+-- the entries of the other rows
 abbrev pub others : List Mark → List Mark
 others [] = []
 others (marks.Row k ∷ ms) = ms
 others (marks.Region r ∷ ms) = others ms
 others (marks.Part ∷ ms) = others ms
 
--- how many pieces stand before the newest row
+-- how many pieces come before the newest row
 abbrev pub start : List Mark → ℕ
 start [] = 0
 start (marks.Row k ∷ ms) = k
@@ -59,7 +59,8 @@ regions_in (marks.Part ∷ ms) = regions_in ms
 
 -- ---- what is resolved
 
--- the pieces so far, what stands in rows, the newest first, and what is told of the names so far
+-- the pieces so far, the entries of the rows, the newest first, and what is known of the names so
+-- far
 pub record State : Type 0 where
   pub pieces : List Piece
   pub rows : List Mark
@@ -83,8 +84,8 @@ nothing = record { pieces = []; rows = []; known = true; fits = true }
 abbrev pub arguments : State → List Mark
 arguments st = reverse (newest st.rows)
 
--- the pieces with those of a name behind them, which has the newest row as its arguments; where it
--- is a type parameter's, the row goes
+-- the pieces followed by those of a name that has the newest row as its arguments; where it is a
+-- type parameter's, the row goes
 abbrev pub name_pieces : Scope → Name → State → List Piece
 name_pieces s n st =
     if is_among s.parameters n

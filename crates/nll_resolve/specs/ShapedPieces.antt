@@ -1,5 +1,5 @@
--- What the pieces of a type make, one after another, where what is made stands in one row.
--- Source: project's choice. Only private contracts cite this file.
+-- What the pieces of a type make, one after another, where what is made is in one row. Source:
+-- project's choice. Only private contracts cite this file.
 use Rattle.std.specs.Prelude.{◌≡◌, ℕ, ◌<◌, ◌-◌, ◌+◌, ◌*◌, ◌%◌, ◌^◌, true, false, List, []}
 use Rattle.std.specs.Prelude.{◌∷◌, ◌++◌, length, take, drop, slice_index, slice_index_or}
 use Rattle.nll_types.specs.Shapes.{shape_of}
@@ -44,18 +44,17 @@ instead t m = (older m.0 ++ t ∷ [], m.1)
 abbrev pub close : TypeTree → Made → Made
 close t m = (take (start m.1) m.0 ++ t ∷ [], older m.1)
 
--- the number that has these last 32 bits; how often 2^32 is in it says the piece behind, if any
--- does
+-- the number that has these last 32 bits; how often 2^32 is in it says the piece after, if any does
 abbrev pub number_at : ℕ → List Piece → ℕ
 number_at low (pieces.More n ∷ ps) = low % 2 ^ 32 + n * 2 ^ 32
 number_at low _ = low
 
--- the regions in front
+-- the regions at the front
 abbrev pub regions_at : List Piece → List ℕ
 regions_at (pieces.Region r ∷ ps) = r ∷ regions_at ps
 regions_at _ = []
 
--- the regions of a name, behind the piece that says how large its number is
+-- the regions of a name, after the piece that says how large its number is
 abbrev pub regions_behind : List Piece → List ℕ
 regions_behind [] = []
 regions_behind (p ∷ ps) = regions_at ps

@@ -1,5 +1,5 @@
--- What is told of the names in types and arguments in a row.
--- Source: project's choice. Only private contracts cite this file.
+-- What is known of the names in types and arguments in a row. Source: project's choice. Only
+-- private contracts cite this file.
 use Rattle.std.specs.Prelude.{Bool, true, ◌||◌}
 use Rattle.nll_mir_grammar.specs.WrittenTypes.{WrittenTypes, Arguments, tuple}
 use Rattle.nll_resolve.specs.Naming.{Scope, is_among, is_known, has_arguments, each_name_among}

@@ -40,7 +40,7 @@ fn low(number: usize) -> u32
     (number & 0xffff_ffff) as u32
 }
 
-// Puts a number behind the others, whose part that fits a piece is in this piece.
+// Appends a number, of which this piece has the part that fits a piece.
 fn put_number(head: Piece, number: usize, pieces: &mut Vec<Piece>) -> Result<(), Memory>
     ensures { OnOk result ((f : ℕ → piece) → f (number % 2 ^ 32) ≡ head
         → pieces.new.items ≡ pieces.old.items ++ number_pieces f number) }
@@ -50,7 +50,7 @@ fn put_number(head: Piece, number: usize, pieces: &mut Vec<Piece>) -> Result<(),
     Ok(())
 }
 
-// Puts the regions among arguments behind the others.
+// Appends the regions among arguments.
 fn put_regions(arguments: &[Mark], pieces: &mut Vec<Piece>) -> Result<(), Memory>
     ensures { OnOk result (pieces.new.items
         ≡ pieces.old.items ++ map Piece.Region (spec.regions_in arguments.now)) }
@@ -63,7 +63,7 @@ fn put_regions(arguments: &[Mark], pieces: &mut Vec<Piece>) -> Result<(), Memory
     Ok(())
 }
 
-// Puts a piece behind the others, and a mark into the rows.
+// Appends a piece, and pushes a mark onto the rows.
 fn put_marked(piece: Piece, mark: Mark, made: &mut Resolving) -> Result<(), Memory>
     ensures { OnOk result (state_of made.new ≡ record (state_of made.old) {
       pieces = made.old.pieces.items ++ piece ∷ [];
@@ -75,7 +75,7 @@ fn put_marked(piece: Piece, mark: Mark, made: &mut Resolving) -> Result<(), Memo
     Ok(())
 }
 
-// The newest row is complete, and what is made of it is put behind the others.
+// The newest row is complete, and what is made of it is appended.
 fn put_whole(piece: Piece, made: &mut Resolving) -> Result<(), Memory>
     ensures { OnOk result (state_of made.new ≡ record (state_of made.old) {
       pieces = made.old.pieces.items ++ piece ∷ [];
@@ -88,7 +88,7 @@ fn put_whole(piece: Piece, made: &mut Resolving) -> Result<(), Memory>
     Ok(())
 }
 
-// Puts a reference behind the others.
+// Appends a reference.
 fn put_reference(
     scope: &Scope<'_>,
     mutable: bool,
@@ -106,7 +106,7 @@ fn put_reference(
     Ok(())
 }
 
-// Puts a region into the newest row.
+// Pushes a region onto the newest row.
 fn put_region(scope: &Scope<'_>, region: &[u8], made: &mut Resolving) -> Result<(), Memory>
     requires { HasRoom scope.now }
     ensures { OnOk result (state_of made.new
@@ -118,7 +118,7 @@ fn put_region(scope: &Scope<'_>, region: &[u8], made: &mut Resolving) -> Result<
     Ok(())
 }
 
-// Puts the pieces of a name behind the others, whose arguments begin at this place in the rows.
+// Appends the pieces of a name, whose arguments begin at this index in the rows.
 fn put_name(
     scope: &Scope<'_>,
     name: &[u8],
@@ -148,7 +148,7 @@ fn put_name(
     put_regions(arguments, &mut made.pieces)
 }
 
-// Puts a name behind the others, with the newest row as its arguments.
+// Appends a name, with the newest row as its arguments.
 fn put_named(scope: &Scope<'_>, name: &[u8], made: &mut Resolving) -> Result<(), Memory>
     ensures { OnOk result (state_of made.new
         ≡ spec.after (scope_of scope.now) (make_named name.now) (state_of made.old)) }

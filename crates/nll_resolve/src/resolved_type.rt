@@ -47,7 +47,7 @@ impl ResolvedType {
         self.fits
     }
 
-    /// Puts the shapes of its parts into the table: the number of its own shape.
+    /// Adds the shapes of its parts to the table. Answers the number of its own shape.
     ///
     /// # Cost
     /// Linear in the type (not proved).
@@ -70,7 +70,7 @@ impl ResolvedType {
         self.ty.ty(alloc)
     }
 
-    // A type, of which this is told.
+    // A type, and what is known of it.
     pub(crate) fn of(ty: TypePieces, fits: bool) -> ResolvedType
         ensures { result ≡ record { tree = ty; fits = fits } }
     {
@@ -81,7 +81,7 @@ impl ResolvedType {
 impl PutType for ResolvedType {
     ghost tree_of = { resolution.tree_of };
 
-    /// Puts the pieces of the type behind the others.
+    /// Appends the pieces of the type.
     fn put_type(&self, pieces: &mut Vec<Piece>) -> Result<(), Memory> {
         self.ty.put_type(pieces)
     }

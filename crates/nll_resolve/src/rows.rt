@@ -1,4 +1,4 @@
-//! What stands in rows of arguments that aren't complete.
+//! The entries of rows of arguments that aren't complete.
 
 ghost use Rattle.std.specs.Prelude.{◌≡◌, ◌-◌, ◌≤◌, length, map, reverse, drop, take, slice_index_or};
 ghost use Rattle.std.specs.Prelude.{[]};
@@ -10,10 +10,10 @@ use crate::scope::Scope;
 use nll_problem::RegionId;
 use smallvec::SmallVec;
 
-/// What stands in a row, or begins one.
+/// An entry of a row, or the beginning of one.
 #[derive(Clone, Copy)]
 pub enum Mark {
-    /// A row begins, behind so many pieces.
+    /// A row begins, after this many pieces.
     Row(usize),
     /// A region.
     Region(RegionId),
@@ -50,7 +50,7 @@ pub(crate) fn row_place(rows: &[Mark]) -> usize
     place
 }
 
-/// How many pieces stand before the newest row, which begins at this place.
+/// How many pieces come before the newest row, which begins at this place.
 pub(crate) fn row_start(rows: &[Mark], place: usize) -> usize
     requires within { place ≤ length rows.now }
     requires newest { reverse (drop place rows.now) ≡ spec.newest (reverse rows.now) }

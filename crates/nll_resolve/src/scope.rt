@@ -1,4 +1,4 @@
-//! The names that may stand in a type.
+//! The names that may be in a type.
 
 ghost use Rattle.std.specs.Prelude.{◌≡◌, ◌≤◌, length};
 ghost use Rattle.nll_format.specs.Names.{number_of as number_among};

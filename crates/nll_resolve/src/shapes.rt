@@ -18,7 +18,7 @@ use nll_types::{Node, Shapes, TypeTable};
 use smallvec::SmallVec;
 use std::alloc::Global;
 
-// How far behind its target a reference is looked for.
+// How far after its target a reference is looked for.
 const NEAR: usize = 8;
 
 /// The shapes that are made so far, and where among them the rows begin that aren't complete, the
@@ -45,7 +45,7 @@ fn is_reference(shapes: &Shapes, shape: usize, mutable: bool, target: usize) -> 
     }
 }
 
-// The number of the shape of a reference. Most stand soon behind their targets, and are found there
+// The number of the shape of a reference. Most come soon after their targets, and are found there
 // without hashing.
 fn reference_to(table: &mut TypeTable, mutable: bool, target: usize) -> Result<usize, Memory>
     requires { target < length table.old.shapes }
@@ -64,7 +64,7 @@ fn reference_to(table: &mut TypeTable, mutable: bool, target: usize) -> Result<u
     table.add(Node::Reference(mutable, target))
 }
 
-// The newest shape, which is gone then; that of `int` where there is none.
+// Takes the newest shape off; that of `int` where there is none.
 fn pop(table: &mut TypeTable, done: &mut SmallVec<usize, 8>) -> Result<usize, Memory>
     requires { AreBelow (length table.old.shapes) done.old.items }
     ensures grows { AddsShapes table.old table.new }
@@ -94,7 +94,7 @@ fn pop_row(alloc: Global, shaped: &mut Shaped) -> Result<Vec<usize>, Memory>
     Ok(parts)
 }
 
-// The shape of a node is made, and stands behind the others.
+// The shape of a node was made and appended.
 fn push(table: &mut TypeTable, node: Node, shaped: &mut Shaped) -> Result<(), Memory>
     requires node { IsOver (length table.old.shapes) node }
     requires below { AreBelow (length table.old.shapes) shaped.old.done.items }
@@ -135,7 +135,8 @@ fn put_tuple(alloc: Global, table: &mut TypeTable, shaped: &mut Shaped) -> Resul
     push(table, Node::Tuple(parts), shaped)
 }
 
-// A struct of this number with so many regions is made, with the newest row as its type arguments.
+// A struct of this number with this many regions is made, with the newest row as its type
+// arguments.
 fn put_named(
     alloc: Global,
     table: &mut TypeTable,
@@ -180,7 +181,7 @@ fn number_from(low: u32, pieces: &[Piece], at: usize) -> usize
     }
 }
 
-// How many regions stand at this place.
+// How many regions are at this place.
 fn count_regions(pieces: &[Piece], at: usize) -> usize
     ensures { result ≡ length (regions_at (drop at pieces.now)) }
 {
@@ -250,7 +251,7 @@ fn put_pieces(
     pop(table, &mut shaped.done)
 }
 
-/// Puts the shapes of what pieces make into the table: the number of the shape of their type.
+/// Adds the shapes of what pieces make to the table. Answers the number of the shape of their type.
 pub(crate) fn shape_of_pieces(
     alloc: Global,
     table: &mut TypeTable,
@@ -266,6 +267,7 @@ pub(crate) fn shape_of_pieces(
         rows: SmallVec::new(alloc),
     };
     let shape = put_pieces(alloc, table, pieces, &mut shaped);
+    // Early drop.
     drop(shaped);
     shape
 }

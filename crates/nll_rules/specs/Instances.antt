@@ -1,4 +1,4 @@
--- How the code has types as they stand in the declaration of a struct, with the struct's arguments.
+-- How the code has types as they occur in the declaration of a struct, with the struct's arguments.
 -- Source: project's choice. Only private contracts cite this file.
 use Rattle.std.specs.Prelude.{◌≡◌, ◌⊎◌, ◌<◌, ◌≤◌, ℕ, List, Option, None, Some, drop, length, map}
 use Rattle.std.specs.Prelude.{option_map, Bool}
@@ -21,27 +21,27 @@ use Rattle.nll_rules.specs.declared.reference.TakenAs.TheVariants as ways
 use Rattle.nll_rules.specs.declared.walk.End.{End}
 use Rattle.nll_rules.specs.declared.walk.End.TheVariants.{Reached, Inner, Nowhere}
 
--- a region with the arguments put in, where there are some
+-- a region with the arguments substituted, where there are some
 abbrev pub region_under : Option Arguments → ℕ → ℕ
 region_under None r = r
 region_under (Some a) r = region_in a.regions.now r
 
--- regions with the arguments put in, where there are some
+-- regions with the arguments substituted, where there are some
 abbrev pub regions_under : Option Arguments → List ℕ → List ℕ
 regions_under None rs = rs
 regions_under (Some a) rs = map (region_in a.regions.now) rs
 
--- a type with the arguments put in, where there are some
+-- a type with the arguments substituted, where there are some
 abbrev pub put_under : Option Arguments → TypeTree → TypeTree
 put_under None t = t
 put_under (Some a) t = put_in a.regions.now (trees a.types.now) t
 
--- types with the arguments put in, where there are some
+-- types with the arguments substituted, where there are some
 abbrev pub put_all_under : Option Arguments → TypeTrees → TypeTrees
 put_all_under None ts = ts
 put_all_under (Some a) ts = put_in_all a.regions.now (trees a.types.now) ts
 
--- the type that an instance stands for: its type with its arguments put in
+-- the type that an instance stands for: its type with its arguments substituted
 abbrev pub instance_tree : Instance → TypeTree
 instance_tree i = put_under i.arguments (tree i.ty.now)
 
@@ -80,8 +80,8 @@ LeadsTo structs ps from t (Inner u to) =
     behind_all structs (drop from ps) t ≡ behind_all structs (drop to ps) (instance_tree u)
 LeadsTo structs ps from t Nowhere = behind_all structs (drop from ps) t ≡ None
 
--- where the walk comes to a struct in a declaration, there is a next projection, and it took some
--- if it didn't start in a declaration
+-- where the walk reaches a struct in a declaration, there is a next projection, and it took some if
+-- it didn't start in a declaration
 abbrev pub GoesOn : List Projection → ℕ → Instance → End → Type 0
 GoesOn ps from i (Reached u) = Unit {0}
 GoesOn ps from i (Inner u to) =

@@ -12,7 +12,7 @@ IsSilent marks constant = Unit {0}
 IsSilent marks (copied p) = slice_get marks p.variable ≡ Some true
 IsSilent marks (moved p) = slice_get marks p.variable ≡ Some true
 
--- no region stands in the type, and the structs that it names are marked
+-- no region occurs in the type, and the structs that it names are marked
 abbrev mutual
   pub IsBare : List Bool → TypeTree → Type 0
   IsBare marks int = Unit {0}

@@ -1,5 +1,5 @@
--- Where regions stand in types, and with which signs.
--- Source: RFC 2094, "Subtyping" (variance); the forms are project's choice.
+-- Where regions occur in types, and with which signs. Source: RFC 2094, "Subtyping" (variance); the
+-- forms are project's choice.
 use Rattle.std.specs.Prelude.{◌≡◌, ℕ, Bool, true, false, List, [], ◌∷◌, slice_get, Some}
 use Rattle.std.specs.Prelude.{option_map, unwrap_or}
 use Rattle.nll_types.specs.Types.{TypeTree, reference, tuple, named, function, type_at}
@@ -9,8 +9,8 @@ use Rattle.nll_types.specs.declared.parameter.Sign.{Sign}
 use Rattle.nll_types.specs.declared.parameter.Sign.TheVariants.{Covariant, Contravariant}
 use Rattle.nll_types.specs.declared.parameter.Sign.TheVariants.{Invariant}
 
--- The product of two signs: that of a position behind another. Behind a covariant position each
--- sign stays, behind a contravariant one it is turned round, and behind an invariant one all are
+-- The product of two signs: that of a position inside another. Inside a covariant position each
+-- sign stays, inside a contravariant one it is reversed, and inside an invariant one all are
 -- invariant.
 abbrev pub times : Sign → Sign → Sign
 times Covariant s = s
@@ -31,7 +31,7 @@ pub data Turn : Type 0 where
   input : ℕ → Turn
   output : Turn
 
--- The region stands in the type at the end of the way.
+-- The region occurs in the type at the end of the path.
 abbrev pub HasRegionAt : TypeTree → List Turn → ℕ → Type 0
 HasRegionAt t [] r = ⊥
 HasRegionAt (reference q m t) (own ∷ way) r = (way ≡ []) × (q ≡ r)

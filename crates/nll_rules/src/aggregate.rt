@@ -23,8 +23,8 @@ use nll_statements::Make;
 use nll_types::{Operand, Place, Ty};
 use std::alloc::Global;
 
-// Puts what an operand that becomes the part at a place of a tuple, or the field of a struct, asks
-// behind the others.
+// Appends what an operand asks that becomes the part at a place of a tuple, or the field of a
+// struct.
 fn ask_part_of(
     alloc: Global,
     variables: &Variables<'_>,
@@ -69,7 +69,7 @@ fn ask_part_of(
     }
 }
 
-// Puts what the operand at a place, of which a type is made, asks behind the others.
+// Appends what the operand at a place asks, of which a type is made.
 fn ask_part(
     alloc: Global,
     variables: &Variables<'_>,
@@ -92,7 +92,7 @@ fn ask_part(
     Ok(())
 }
 
-// Puts what the operands of which a type is made ask behind the others.
+// Appends what the operands ask of which a type is made.
 fn ask_parts(
     alloc: Global,
     variables: &Variables<'_>,
@@ -111,7 +111,7 @@ fn ask_parts(
     Ok(())
 }
 
-// Puts behind the others what a value of a type that goes to a place asks.
+// Appends what a value of a type asks that flows into a place.
 pub(crate) fn ask_result(
     alloc: Global,
     variables: &Variables<'_>,
@@ -132,7 +132,7 @@ pub(crate) fn ask_result(
     Ok(())
 }
 
-// Puts what a tuple or struct that is made of operands and goes to a place asks behind the others.
+// Appends what making a tuple or struct of operands, for a place, asks.
 pub(crate) fn ask_make(
     alloc: Global,
     variables: &Variables<'_>,

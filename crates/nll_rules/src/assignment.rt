@@ -1,4 +1,4 @@
-//! What an operand that goes to a place asks.
+//! What an operand asks that flows into a place.
 
 ghost use Rattle.std.specs.Prelude.{IsTrue, OnOk, Some, map};
 ghost use Rattle.nll_types.specs.Declarations.{structs_of};
@@ -30,7 +30,7 @@ pub(crate) fn is_silent(region_free: &[bool], operand: &Operand) -> bool
     }
 }
 
-// Puts what an operand that goes to a value of this type asks behind the others.
+// Appends what an operand asks that flows into a value of this type.
 pub(crate) fn ask_operand(
     alloc: Global,
     variables: &Variables<'_>,
@@ -54,7 +54,7 @@ pub(crate) fn ask_operand(
     }
 }
 
-// Puts what an operand that goes to a place asks behind the others.
+// Appends what an operand asks that flows into a place.
 fn ask_assigned(
     alloc: Global,
     variables: &Variables<'_>,
@@ -79,7 +79,7 @@ fn ask_assigned(
     }
 }
 
-// Puts what an operand that goes to a place asks behind the others.
+// Appends what an operand asks that flows into a place.
 pub(crate) fn ask_assign(
     alloc: Global,
     variables: &Variables<'_>,

@@ -24,7 +24,7 @@ use nll_sets::Memory;
 use nll_types::{Place, Ty};
 use std::alloc::Global;
 
-// Puts behind the others that each of these regions outlives this one.
+// Appends, for each of these regions, that it outlives this one.
 fn ask_outlives(
     regions: &[RegionId],
     region: RegionId,
@@ -62,7 +62,7 @@ fn reference_to<'a>(borrow: &Borrow<'_>, target: &Instance<'a>) -> First<'a>
     First::Reference(borrow.region, borrow.mutable, *target)
 }
 
-// Puts what a borrow's reference asks where it goes to a place behind the others.
+// Appends what a borrow's reference asks when it flows into a place.
 fn ask_reference(
     alloc: Global,
     variables: &Variables<'_>,
@@ -93,7 +93,7 @@ fn ask_reference(
     Ok(())
 }
 
-// Puts behind the others that the regions on which a borrow rests outlive its own.
+// Appends that the regions on which a borrow rests outlive its own.
 fn ask_rests(
     alloc: Global,
     variables: &Variables<'_>,
@@ -113,7 +113,7 @@ fn ask_rests(
     Ok(())
 }
 
-// Puts what a borrow whose reference goes to a place asks behind the others.
+// Appends what a borrow asks whose reference flows into a place.
 pub(crate) fn ask_borrow(
     alloc: Global,
     variables: &Variables<'_>,

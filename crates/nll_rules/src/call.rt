@@ -20,7 +20,7 @@ use nll_statements::Call;
 use nll_types::{Operand, Ty};
 use std::alloc::Global;
 
-// Puts what an operand for a parameter of a type asks behind the others.
+// Appends what an operand for a parameter of a type asks.
 fn ask_input(
     alloc: Global,
     variables: &Variables<'_>,
@@ -41,7 +41,7 @@ fn ask_input(
     Ok(())
 }
 
-// Puts what the operands of a call ask behind the others.
+// Appends what the operands of a call ask.
 fn ask_inputs(
     alloc: Global,
     variables: &Variables<'_>,
@@ -59,7 +59,7 @@ fn ask_inputs(
     Ok(())
 }
 
-// Puts what a call asks behind the others.
+// Appends what a call asks.
 pub(crate) fn ask_call(
     alloc: Global,
     variables: &Variables<'_>,

@@ -1,4 +1,4 @@
-//! Types as they stand in the declaration of a struct, with the struct's arguments.
+//! Types as they occur in the declaration of a struct, with the struct's arguments.
 
 ghost use Rattle.std.specs.Prelude.{◌≡◌, ◌<◌, IfOk, None, Some, length, slice_get};
 ghost use Rattle.nll_types.specs.Types.{type_at};
@@ -18,22 +18,22 @@ pub(crate) struct Arguments<'a> {
     pub(crate) types: &'a [Ty],
 }
 
-/// A type and, where it stands in the declaration of a struct, the arguments that are put in for
-/// its parameters.
+/// A type and, where it occurs in the declaration of a struct, the arguments that replace its
+/// parameters.
 #[derive(Clone, Copy)]
 pub(crate) struct Instance<'a> {
     pub(crate) ty: &'a Ty,
     pub(crate) arguments: Option<Arguments<'a>>,
 }
 
-/// The region arguments of a struct, which may stand in the declaration of another.
+/// The region arguments of a struct, which may occur in the declaration of another.
 #[derive(Clone, Copy)]
 pub(crate) struct RegionRow<'a> {
     pub(crate) regions: &'a [RegionId],
     pub(crate) arguments: Option<Arguments<'a>>,
 }
 
-/// Types in a row, which may stand in the declaration of a struct.
+/// Types in a row, which may occur in the declaration of a struct.
 #[derive(Clone, Copy)]
 pub(crate) struct TypeRow<'a> {
     pub(crate) types: &'a [Ty],
@@ -41,7 +41,7 @@ pub(crate) struct TypeRow<'a> {
 }
 
 impl<'a> Instance<'a> {
-    /// A type that stands in the same place.
+    /// A type that occurs in the same place.
     pub(crate) fn part(&self, ty: &'a Ty) -> Instance<'a>
         ensures { instance_tree result ≡ put_under self.now.arguments (tree ty.now) }
     {
@@ -51,7 +51,7 @@ impl<'a> Instance<'a> {
         }
     }
 
-    /// Regions that stand in the same place.
+    /// Regions that occur in the same place.
     pub(crate) fn regions(&self, regions: &'a [RegionId]) -> RegionRow<'a>
         ensures { row_regions result ≡ regions_under self.now.arguments regions.now }
     {
@@ -61,7 +61,7 @@ impl<'a> Instance<'a> {
         }
     }
 
-    /// Types that stand in the same place.
+    /// Types that occur in the same place.
     pub(crate) fn row(&self, types: &'a [Ty]) -> TypeRow<'a>
         ensures { row_trees result ≡ put_all_under self.now.arguments (trees types.now) }
     {
@@ -92,7 +92,7 @@ pub(crate) fn region_in(arguments: &Option<Arguments<'_>>, region: RegionId) -> 
     }
 }
 
-/// A type that stands in no declaration.
+/// A type that occurs in no declaration.
 pub(crate) fn written<'a>(ty: &'a Ty) -> Instance<'a>
     ensures tree { instance_tree result ≡ tree ty.now }
     ensures alone { result.arguments ≡ None }
@@ -126,7 +126,7 @@ impl<'a> TypeRow<'a> {
     }
 }
 
-/// The same type, but where it is a parameter for which there is an argument, that argument.
+/// The type itself, or the argument where it is a parameter that has one.
 pub(crate) fn settled<'a>(instance: &Instance<'a>) -> Instance<'a>
     ensures same { instance_tree result ≡ instance_tree instance.now }
     ensures settled { IsSettled result }
@@ -151,7 +151,7 @@ pub(crate) fn settled<'a>(instance: &Instance<'a>) -> Instance<'a>
     }
 }
 
-/// The type with the arguments put in.
+/// The type with the arguments substituted.
 pub(crate) fn made(alloc: Global, instance: &Instance<'_>) -> Result<Ty, Memory>
     ensures { IfOk result (λ t. tree t ≡ instance_tree instance.now) }
 {

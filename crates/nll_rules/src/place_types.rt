@@ -1,4 +1,4 @@
-//! Whether places have types, told without making them.
+//! Whether places have types, found without making the types.
 
 ghost use Rattle.std.specs.Prelude.{IsTrue, drop, map};
 ghost use Rattle.nll_types.specs.Declarations.{structs_of};
@@ -9,8 +9,8 @@ ghost use Rattle.nll_rules.specs.Leading.{IsInstance, IsThere};
 
 use nll_types::{Place, Projection, Structs, Ty};
 
-// Whether the projections from this one on lead to a type, whatever is put in for the parameters of
-// the type. Where they lead through a parameter, it answers no.
+// Whether the projections from this one on lead to a type, whatever is substituted for the
+// parameters of the type. Where they lead through a parameter, it answers no.
 fn leads_on(structs: &Structs, ty: &Ty, projections: &[Projection], from: usize) -> bool
     ensures { IsTrue result → (t : TypeTree) → IsInstance (tree ty.now) t
         → IsThere (behind_all (structs_of structs.now) (drop from projections.now) t) }
@@ -21,6 +21,7 @@ fn leads_on(structs: &Structs, ty: &Ty, projections: &[Projection], from: usize)
     match projections[from] {
         Projection::Deref => match ty {
             Ty::Reference(_, _, target) => {
+                // Named result.
                 let leads = leads_on(structs, target, projections, from + 1);
                 leads
             }
@@ -59,6 +60,7 @@ pub(crate) fn has_type(structs: &Structs, variables: &[Ty], place: &Place) -> bo
         return false;
     }
     let projections = place.projections();
+    // Named result.
     let leads = leads_on(structs, &variables[variable], projections, 0);
     leads
 }

@@ -1,4 +1,4 @@
-//! What the subtypings of types of places ask. A type of a field stands in the declaration of its
+//! What the subtypings of types of places ask. A type of a field is in the declaration of its
 //! struct, and isn't made.
 
 ghost use Rattle.std.specs.Prelude.{◌≡◌, OnOk, Some, drop, map};
@@ -26,7 +26,7 @@ struct Left<'a> {
     from: usize,
 }
 
-// Puts what a value of a type that goes to what is left of a place asks behind the others.
+// Appends what a value of a type asks that flows into the rest of a place.
 fn ask_into_left(
     alloc: Global,
     structs: &Structs,
@@ -59,7 +59,7 @@ fn ask_into_left(
     }
 }
 
-/// Puts what a value of this type that goes to a place asks behind the others.
+/// Appends what a value of this type asks that flows into a place.
 pub(crate) fn ask_into(
     alloc: Global,
     variables: &Variables<'_>,
@@ -88,7 +88,7 @@ pub(crate) fn ask_into(
     }
 }
 
-// Puts what a value of what is left of a place that goes to a type asks behind the others.
+// Appends what a value of the rest of a place asks that flows into a type.
 fn ask_from_left(
     alloc: Global,
     structs: &Structs,
@@ -122,7 +122,7 @@ fn ask_from_left(
     }
 }
 
-/// Puts what a value of a place that goes to one of this type asks behind the others.
+/// Appends what a value of a place asks that flows into a value of this type.
 pub(crate) fn ask_from(
     alloc: Global,
     variables: &Variables<'_>,
@@ -162,8 +162,8 @@ fn first<'a>(taken: &TakenAs, instance: &Instance<'a>) -> First<'a>
     }
 }
 
-// Puts what a value of what is left of a place, or a reference to it, that goes to another place
-// asks behind the others.
+// Appends what a value of the rest of a place, or a reference to it, asks that flows into another
+// place.
 fn ask_between_left(
     alloc: Global,
     variables: &Variables<'_>,
@@ -205,8 +205,7 @@ fn ask_between_left(
     }
 }
 
-/// Puts what a value of a place, or a reference to it, that goes to another place asks behind the
-/// others.
+/// Appends what a value of a place, or a reference to it, asks that flows into another place.
 pub(crate) fn ask_between(
     alloc: Global,
     variables: &Variables<'_>,

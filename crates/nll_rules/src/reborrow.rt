@@ -24,9 +24,9 @@ fn cross(region: RegionId, mutable: bool, regions: &mut Vec<RegionId>) -> Result
     Ok(())
 }
 
-// Takes projections as far as the type is written, and then the field of a struct, if one is next:
-// the type that was come to, and how many projections are taken. Where all are taken, or where
-// there is no such type, it answers none.
+// Takes projections as far as the type is written, and then the field of a struct, if one is next.
+// Answers the type that was reached, and how many projections are taken; or none, where all are
+// taken or there is no such type.
 fn walk(
     alloc: Global,
     structs: &Structs,
@@ -82,8 +82,8 @@ fn walk(
     }
 }
 
-// Puts the regions on which a reborrow of what is behind the projections rests behind the others,
-// or in place of them.
+// Appends the regions on which a reborrow of what is behind the projections rests, or replaces the
+// regions so far by them.
 fn walk_all(
     alloc: Global,
     structs: &Structs,

@@ -30,7 +30,7 @@ pub(crate) fn is_of_marked(marks: &[bool], place: &Place) -> bool
     is_marked(marks, place.variable() as usize)
 }
 
-// Whether no region stands in a type, and the structs that it names are marked.
+// Whether no region occurs in a type, and the structs that it names are marked.
 #[cycle(bare)]
 fn is_bare(marks: &[bool], ty: &Ty) -> bool
     ensures { IsTrue result → IsBare marks.now (tree ty.now) }
@@ -59,7 +59,7 @@ fn is_bare(marks: &[bool], ty: &Ty) -> bool
     }
 }
 
-// Whether no region stands in types, and the structs that they name are marked.
+// Whether no region occurs in types, and the structs that they name are marked.
 #[cycle(bare)]
 fn are_bare(marks: &[bool], types: &[Ty]) -> bool
     ensures { IsTrue result → AreBare marks.now (trees types.now) }
@@ -95,7 +95,7 @@ fn bare_structs(alloc: Global, structs: &Structs) -> Result<Vec<bool>, Memory>
     Ok(marks)
 }
 
-// Marks the types in which no region stands and that name only structs that are marked.
+// Marks the types in which no region occurs and that name only marked structs.
 fn bare_types(alloc: Global, marks: &[bool], types: &[Ty]) -> Result<Vec<bool>, Memory>
     ensures { IfOk result (λ v. (k : ℕ) (t : TypeTree) → slice_get v.items k ≡ Some true
         → slice_get (map tree types.now) k ≡ Some t → IsBare marks.now t) }

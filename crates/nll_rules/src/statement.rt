@@ -20,13 +20,12 @@ use nll_statements::Statement;
 use nll_types::Ty;
 use std::alloc::Global;
 
-/// Puts the pairs of regions that a statement or terminator asks behind the others: of each pair
-/// the first is to outlive the second.
+/// Appends the pairs of regions that a statement or terminator asks: the first of each pair must
+/// outlive the second.
 ///
 /// # Cost
-/// The types of the places that aren't of variables that are marked. No type of a place is made;
-/// but where a struct stands in the declaration of another and something is taken of it, the type
-/// of that struct is (not proved).
+/// The types of the places of unmarked variables. No type of a place is made, except that of a
+/// struct that occurs in the declaration of another and of which something is taken (not proved).
 ///
 /// # Source
 /// RFC 2094, "Subtyping" and "Reborrow constraints".
@@ -64,7 +63,7 @@ pub fn asks(
             ask_call(alloc, variables, call, asked)?;
             Ok(())
         }
-        // What is switched on meets an `int`, in which no region stands.
+        // What is switched on meets an `int`, in which no region occurs.
         Statement::Switch(_, _) => Ok(()),
         Statement::Read(_)
         | Statement::Live(_)

@@ -16,7 +16,7 @@ use nll_problem::RegionId;
 use nll_sets::Memory;
 use nll_types::{Parameter, Sign, Structs, Ty};
 
-// Puts what is asked of two regions at a position of this sign behind the others.
+// Appends what a position of this sign asks of two regions.
 fn ask_pair(
     sign: Sign,
     a: RegionId,
@@ -36,8 +36,8 @@ fn ask_pair(
     Ok(())
 }
 
-// The signs of types in a row: that of where the row stands, those of the parameters for which the
-// types are, and that of a type for which there is no parameter.
+// The signs of types in a row: that of the row's own position, those of the parameters for which
+// the types are, and that of a type for which there is no parameter.
 #[derive(Clone, Copy)]
 struct RowSigns<'a> {
     outer: Sign,
@@ -45,7 +45,7 @@ struct RowSigns<'a> {
     other: Sign,
 }
 
-// Puts what is asked at region arguments behind the others.
+// Appends what region arguments ask.
 fn ask_regions(
     parameters: &[Parameter],
     rs: &RegionRow<'_>,
@@ -65,8 +65,8 @@ fn ask_regions(
     Ok(())
 }
 
-/// Puts the pairs of regions that are asked where the first type is to be a subtype of the second
-/// behind the others: of each pair the first is to outlive the second.
+/// Appends the pairs of regions that `first <: second` asks: the first of each pair must outlive
+/// the second.
 ///
 /// # Source
 /// RFC 2094, "Subtyping".
@@ -90,8 +90,8 @@ pub fn subtyping(
     Ok(())
 }
 
-/// The same of types that may stand in the declarations of structs. The first may be that of a
-/// reference that is made.
+/// Like `subtyping`, for types that may occur in the declarations of structs. The first may be the
+/// type of a reference that is made.
 pub(crate) fn subtyping_of(
     structs: &Structs,
     one: &First<'_>,
@@ -119,8 +119,8 @@ pub(crate) fn subtyping_of(
     }
 }
 
-// Puts what is asked where the type of a reference to the first type is to be a subtype of the
-// second behind the others.
+// Appends what is asked if the type of a reference to the first type must be a subtype of the
+// second.
 fn subtyping_of_reference(
     structs: &Structs,
     one: &ReferenceType<'_>,
@@ -150,8 +150,8 @@ fn subtyping_of_reference(
     }
 }
 
-// Puts what a subtyping at a position of this sign asks behind the others. Types that have rows are
-// left to another function: each call clears all that its function keeps in memory.
+// Appends what a subtyping at a position of this sign asks. Types that have rows are left to
+// another function: each call clears all that its function keeps on the stack.
 #[cycle(subtypes)]
 fn ask(
     structs: &Structs,
@@ -191,7 +191,7 @@ fn ask(
     }
 }
 
-// The same where the first type isn't that of a reference.
+// Like `ask`, where the first type isn't that of a reference.
 #[cycle(subtypes)]
 fn ask_rows(
     structs: &Structs,
@@ -277,8 +277,8 @@ fn ask_rows(
     }
 }
 
-// Puts what the subtypings of types in turn ask behind the others: of parts or of a function's
-// arguments, whose sign is the other one, or of a struct's arguments for parameters.
+// Appends what the subtypings of types ask, one after another: of parts, of a function's arguments,
+// which are contravariant, or of a struct's arguments for parameters.
 #[cycle(subtypes)]
 fn ask_types(
     structs: &Structs,

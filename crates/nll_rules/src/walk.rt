@@ -14,8 +14,8 @@ use nll_types::{Place, Projection, Structs, Ty};
 pub(crate) enum End<'a> {
     /// To this type.
     Reached(Instance<'a>),
-    /// To this struct, when so many of them are taken. It stands in the declaration of another, so
-    /// its own arguments have to be made for what is taken of it.
+    /// Ends at this struct, once this many projections are taken. It is in the declaration of
+    /// another struct, so its own arguments have to be made for what is taken of it.
     Inner(Instance<'a>, usize),
     /// To no type.
     Nowhere,
@@ -39,6 +39,7 @@ pub(crate) fn walk<'a>(
     match projections[from] {
         Projection::Deref => match instance.ty {
             Ty::Reference(_, _, target) => {
+                // Named result.
                 let walked = walk(structs, &instance.part(target), projections, from + 1);
                 walked
             }

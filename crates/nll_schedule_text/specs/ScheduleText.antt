@@ -1,5 +1,5 @@
--- Schedules as a format, and what a schedule means: events of owners, one after another.
--- Source: project's choice; docs/FORMATS.md says the same in words.
+-- Schedules as a format, and what a schedule means: events of owners, one after another. Source:
+-- project's choice; docs/FORMATS.md says the same in prose.
 use Rattle.std.specs.Prelude.{ℕ, Bool, nat_lt, ◌&&◌, List, [], ◌∷◌, codes, Option, None, Some}
 use Rattle.std.specs.Prelude.{if◌then◌else◌}
 use Rattle.nll_event.specs.declared.event.Event.{Event}
@@ -32,7 +32,7 @@ names_owners owners (Leave i) = nat_lt i owners
 abbrev pub event_fault : ℕ → Event → Option TextKind
 event_fault owners event = if names_owners owners event then None else Some Range
 
--- the lists of events of so many owners: a line is one event
+-- the lists of events of this many owners: a line is one event
 abbrev pub events : ℕ → Listing
 events owners = record {
   kind = codes "nll-schedule";
@@ -42,7 +42,7 @@ events owners = record {
   fault = event_fault owners;
 }
 
--- schedules of so many owners, version 1
+-- schedules of this many owners, version 1
 abbrev pub schedule : ℕ → Format
 schedule owners = format_of (events owners)
 

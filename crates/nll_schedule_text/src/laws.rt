@@ -26,13 +26,14 @@ pub fn schedule_one_meaning()
         → Means owners text list → Means owners text other → list ≡ other }
 {}
 
-/// States that each text means a list or has a fault. With the laws above it has just one of them.
+/// States that each text means a list or has a fault. With the laws above it has exactly one of
+/// them.
 pub fn schedule_some_meaning_or_fault()
     ensures { (owners : ℕ) (text : List ℕ) → ((list : List Event) × Means owners text list)
         ⊎ ((line : ℕ) × (kind : TextKind) × IsFault (schedule owners) text line kind) }
 {}
 
-/// States that a text may stop behind any line: no fault is told at its end.
+/// States that a text may stop after any line: no fault is reported at its end.
 pub fn schedule_never_at_end()
     ensures { (owners : ℕ) (text : List ℕ) (line : ℕ) (kind : TextKind)
         → IsFault (schedule owners) text line kind → kind ≢ TextKind.End }

@@ -12,11 +12,11 @@ use nll_format::{TextError, TextKind};
 use nll_list_text::{ListFormat, read_list};
 use std::alloc::Global;
 
-/// Reads a schedule of so many owners, version 1: its events, in order.
+/// Reads a schedule of this many owners, version 1: its events, in order.
 ///
 /// # Errors
 /// The text's one fault: its first faulty line, and of that line the first kind in the order of
-/// `TextKind`; or `Memory` at line 0, where a growth of memory was refused.
+/// `TextKind`; or `Memory` at line 0, where an allocation failed.
 ///
 /// # Cost
 /// Time linear in the text, and memory for what it lists; the text isn't copied (not proved).
@@ -27,7 +27,7 @@ pub fn read_schedule(alloc: Global, text: &[u8], owners: u16) -> Result<Vec<Even
     read_list(alloc, &Schedule { owners }, text)
 }
 
-// Schedules of so many owners, version 1.
+// Schedules of this many owners, version 1.
 #[derive(Clone, Copy)]
 struct Schedule {
     owners: u16,

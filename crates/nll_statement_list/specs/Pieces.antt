@@ -1,5 +1,5 @@
--- Which pieces a statement is kept as.
--- Source: project's choice. Private contracts alone cite this file.
+-- Which pieces a statement is kept as. Source: project's choice. Only private contracts cite this
+-- file.
 use Rattle.std.specs.Prelude.{ℕ, List, [], ◌∷◌, ◌++◌, map}
 use Rattle.std.specs.Prelude.{Option, Some, None}
 use Rattle.nll_types.specs.Types.{TypeTree, function}

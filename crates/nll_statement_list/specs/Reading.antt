@@ -1,5 +1,5 @@
--- What pieces say: the statement that is read from their front.
--- Source: project's choice. Private contracts alone cite this file.
+-- What pieces say: the statement that is read from their front. Source: project's choice. Only
+-- private contracts cite this file.
 use Rattle.std.specs.Prelude.{ℕ, ◌+◌, ◌*◌, ◌%◌, ◌^◌, Bool, true, false}
 use Rattle.std.specs.Prelude.{List, [], ◌∷◌, ◌++◌, Option, Some, None}
 use Rattle.nll_types.specs.Types.{TypeTree, TypeTrees, int, parameter, reference, tuple, named}
@@ -21,7 +21,7 @@ use Rattle.nll_statement_list.specs.declared.piece.Piece.TheVariants.{Read, Live
 use Rattle.nll_statement_list.specs.declared.piece.Piece.TheVariants.{Switch, Drop, Call, Return}
 use Rattle.nll_statement_list.specs.declared.piece.Piece.TheVariants.{Of, Block, Longer, Shorter}
 
--- what is read, and the pieces behind it
+-- what is read, and the pieces after it
 abbrev pub Taken : Type 0 → Type 0
 Taken X = X × List Piece
 
@@ -30,7 +30,7 @@ abbrev pub first : List Piece → Piece
 first [] = End
 first (p ∷ ps) = p
 
--- the pieces behind the first
+-- the pieces after the first
 abbrev pub behind_first : List Piece → List Piece
 behind_first [] = []
 behind_first (p ∷ ps) = ps
@@ -43,13 +43,13 @@ projection_of Deref = Some taken.Deref
 projection_of (Field k) = Some (taken.Field k)
 projection_of _ = None
 
--- the projections in front, where the first piece is this one and these are in the others
+-- the projections at the front, where the first piece is this one and these are in the others
 abbrev pub projections_behind :
     Piece → Option Projection → List Piece → Taken (List Projection) → Taken (List Projection)
 projections_behind p None ps others = ([], p ∷ ps)
 projections_behind p (Some q) ps others = (q ∷ others.0, others.1)
 
--- the projections in front
+-- the projections at the front
 abbrev pub projections_at : List Piece → Taken (List Projection)
 projections_at [] = ([], [])
 projections_at (p ∷ ps) = projections_behind p (projection_of p) ps (projections_at ps)
@@ -65,21 +65,21 @@ operand_by qs (Copy x) = Some (copied (path x qs))
 operand_by qs (Move x) = Some (moved (path x qs))
 operand_by qs _ = None
 
--- the operand in front, if there is one, or else what stands there is passed over
+-- the operand at the front, if there is one; else what is there is skipped
 abbrev pub operand_at : List Piece → Taken (Option Operand)
 operand_at ps = (
   operand_by (projections_at ps).0 (first (projections_at ps).1),
   behind_first (projections_at ps).1,
 )
 
--- the operands in front, by what the first piece is and what the others are
+-- the operands at the front, by what the first piece is and what the others are
 abbrev pub operands_behind : List Projection → Option Projection → Option Operand → List Piece
     → (List Projection → Taken (List Operand)) → Taken (List Operand)
 operands_behind qs (Some q) op ps others = others (qs ++ q ∷ [])
 operands_behind qs None (Some op) ps others = (op ∷ (others []).0, (others []).1)
 operands_behind qs None None ps others = ([], ps)
 
--- the operands in front, up to a piece that belongs to none, which is passed over; these
+-- the operands at the front, up to a piece that belongs to none, which is passed over; these
 -- projections are of the first operand
 abbrev pub operands_from : List Projection → List Piece → Taken (List Operand)
 operands_from qs [] = ([], [])
@@ -107,7 +107,7 @@ abbrev pub below : {X : Type 0} → List X → List X
 below [] = []
 below (x ∷ xs) = xs
 
--- a struct or a parameter whose number has 2^32 in it so many times
+-- a struct or a parameter whose number has 2^32 in it this many times
 abbrev pub larger : ℕ → TypeTree → TypeTree
 larger n (parameter k) = parameter (k % 2 ^ 32 + n * 2 ^ 32)
 larger n (named s rs ts) = named (s % 2 ^ 32 + n * 2 ^ 32) rs ts
@@ -134,17 +134,17 @@ after Function m =
 after (More n) m = Some (larger n (top m.0) ∷ below m.0, m.1)
 after _ m = None
 
--- what the pieces in front make, by what the first makes and what the others do
+-- what the pieces at the front make, by what the first makes and what the others do
 abbrev pub made_behind : Made → Option Made → List Piece → (Made → Taken Made) → Taken Made
 made_behind m (Some next) ps others = others next
 made_behind m None ps others = (m, ps)
 
--- what the pieces in front make, up to one that is of no type, which is passed over
+-- what the pieces at the front make, up to one that is of no type, which is passed over
 abbrev pub made_from : Made → List Piece → Taken Made
 made_from m [] = (m, [])
 made_from m (p ∷ ps) = made_behind m (after p m) ps (λ next. made_from next ps)
 
--- the type in front
+-- the type at the front
 abbrev pub type_at : List Piece → Taken TypeTree
 type_at ps = (top (made_from ([], []) ps).0.0, (made_from ([], []) ps).1)
 
@@ -170,7 +170,7 @@ abbrev pub paired : List Operand → List TypeTree → List (Operand × TypeTree
 paired [] ts = []
 paired (op ∷ ops) ts = (op, top ts) ∷ paired ops (below ts)
 
--- the pairs of regions in front, up to a piece that is of none, which is passed over
+-- the pairs of regions at the front, up to a piece that is of none, which is passed over
 abbrev pub pairs_at : List Piece → Taken (List (ℕ × ℕ))
 pairs_at (Longer a ∷ Shorter b ∷ ps) = ((a, b) ∷ (pairs_at ps).0, (pairs_at ps).1)
 pairs_at ps = ([], behind_first ps)
@@ -180,12 +180,12 @@ abbrev pub block_of : Piece → Option ℕ
 block_of (Block b) = Some b
 block_of _ = None
 
--- the blocks in front, by what the first piece is and what the others are
+-- the blocks at the front, by what the first piece is and what the others are
 abbrev pub blocks_behind : Option ℕ → List ℕ → List ℕ
 blocks_behind (Some b) others = b ∷ others
 blocks_behind None others = []
 
--- the blocks in front, up to a piece that is none
+-- the blocks at the front, up to a piece that is none
 abbrev pub blocks_at : List Piece → List ℕ
 blocks_at [] = []
 blocks_at (p ∷ ps) = blocks_behind (block_of p) (blocks_at ps)
@@ -248,7 +248,7 @@ statement_by qs (Call x) ps = call_at (path x qs) (operands_from [] ps)
 statement_by qs Return ps = return
 statement_by qs _ ps = stop
 
--- the statement in front
+-- the statement at the front
 abbrev pub statement_at : List Piece → Statement ℕ TypeTree
 statement_at ps =
     statement_by (projections_at ps).0 (first (projections_at ps).1)

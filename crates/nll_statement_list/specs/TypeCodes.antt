@@ -1,5 +1,5 @@
--- Types as lists of steps that build them, by which antt tells two types apart.
--- Source: project's choice. Only what contracts see of a body cites this file.
+-- Types as lists of steps that build them, by which antt distinguishes two types. Source: project's
+-- choice. Only what contracts see of a body cites this file.
 use Rattle.std.specs.Prelude.{◌≡◌, ℕ, Bool, List, [], ◌∷◌}
 use Rattle.std.proofs.Common.{refl, ap, ◌∙◌}
 use Rattle.std.specs.Coded.{Coded, code_by, coded_list}

@@ -1,6 +1,5 @@
 -- Which pieces a type is kept as: each makes a type or a row out of what was made last, so that
--- parts stand before what they are parts of.
--- Source: project's choice.
+-- parts come before what they are parts of. Source: project's choice.
 use Rattle.std.specs.Prelude.{ℕ, ◌%◌, ◌/◌, ◌^◌, Bool, true, false, List, [], ◌∷◌, ◌++◌, map}
 use Rattle.nll_types.specs.Types.{TypeTree, TypeTrees, int, parameter, reference, tuple, named}
 use Rattle.nll_types.specs.Types.{function, none, more}
@@ -28,7 +27,7 @@ abbrev mutual
   steps (named s rs ts) = Row ∷ parts ts ++ number_pieces Named s ++ map Region rs
   steps (function ts t) = Row ∷ parts ts ++ steps t ++ Function ∷ []
 
-  -- the pieces that make each type of a row, and put it behind those that are in the row
+  -- the pieces that make each type of a row, and append it to the row
   pub parts : TypeTrees → List Piece
   parts none = []
   parts (more t ts) = steps t ++ Part ∷ parts ts

@@ -1,5 +1,5 @@
--- Which variables the operands and the statement in front use.
--- Source: project's choice. Private contracts alone cite this file.
+-- Which variables the operands and the statement at the front use. Source: project's choice. Only
+-- private contracts cite this file.
 use Rattle.std.specs.Prelude.{ℕ, Bool, true, false, List, [], map, Option, Some, None}
 use Rattle.nll_types.specs.Operands.{Operand, place_in}
 use Rattle.nll_types.specs.Places.{PlacePath}

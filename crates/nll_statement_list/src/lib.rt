@@ -1,6 +1,6 @@
-//! Statements in a row, in little memory.
-//! Read `piece`, `type_pieces` and `list`, then the modules that put pieces and those that take
-//! them; specs/TypePieces.antt says which pieces a type is, specs/Pieces.antt which a statement is.
+//! Statements in a row, in little memory. Read `piece`, `type_pieces` and `list`, then the modules
+//! that append pieces and those that take them; specs/TypePieces.antt says which pieces a type is,
+//! specs/Pieces.antt which a statement is.
 #![tactic(auto)]
 
 mod list;

@@ -28,8 +28,8 @@ use std::marker::Model;
 /// Statements and terminators in a row, in little memory: some 50 bytes for each.
 ///
 /// # Shape
-/// Each statement is a few pieces of 8 bytes, and the place where they begin. Their meaning is read
-/// anew each time; what `defines` and `drops` answer stands in the first piece.
+/// Each statement is a few pieces of 8 bytes, and the index where they begin. Their meaning is
+/// decoded each time; what `defines` and `drops` answer is in the first piece.
 pub struct StatementList {
     pieces: Vec<Piece>,
     starts: Vec<usize>,
@@ -81,7 +81,7 @@ impl StatementList {
         self.starts.len()
     }
 
-    /// Puts a statement behind the others.
+    /// Appends a statement.
     ///
     /// # Cost
     /// Linear in the statement (not proved).
@@ -96,7 +96,7 @@ impl StatementList {
         Ok(())
     }
 
-    /// Puts the variables that a statement uses behind the others.
+    /// Appends the variables that a statement uses.
     ///
     /// # Source
     /// RFC 2094, "Liveness".
@@ -110,7 +110,7 @@ impl StatementList {
         use_statement(self.pieces.as_slice(), &mut at, used)
     }
 
-    /// Whether a block ends with a statement. Takes no memory.
+    /// Whether a block ends with a statement. Allocates nothing.
     pub fn is_terminator(&self, number: usize) -> bool
         requires { number < length self.now }
         ensures { (i : standing ℕ TypeTree) → slice_get self.now number ≡ Some i
@@ -119,7 +119,7 @@ impl StatementList {
         is_terminator(self.pieces.as_slice(), self.starts[number])
     }
 
-    /// The statement of a number, made anew.
+    /// The statement of a number, decoded.
     ///
     /// # Cost
     /// Linear in the statement (not proved).
@@ -140,7 +140,7 @@ impl StatementList {
         piece_at(self.pieces.as_slice(), self.starts[number])
     }
 
-    /// The variable that a statement defines. Takes no memory.
+    /// The variable that a statement defines. Allocates nothing.
     ///
     /// # Source
     /// RFC 2094, "Liveness".
@@ -160,7 +160,7 @@ impl StatementList {
         }
     }
 
-    /// The variable that a statement drops. Takes no memory.
+    /// The variable that a statement drops. Allocates nothing.
     pub fn drops(&self, number: usize) -> Option<u32>
         requires { number < length self.now }
         ensures { (i : standing ℕ TypeTree) → slice_get self.now number ≡ Some i

@@ -9,10 +9,10 @@ use std::mem::size_of;
 /// A piece of a statement.
 ///
 /// # Shape
-/// `specs/Pieces.antt` says which pieces a statement is, and in which order they stand.
+/// `specs/Pieces.antt` says which pieces a statement is, and in which order.
 #[derive(Clone, Copy)]
 pub enum Piece {
-    /// Nothing more of what stands before it follows.
+    /// It ends what comes before it.
     End,
     // ---- of places: what is taken of the variable that follows
     Deref,
@@ -36,11 +36,11 @@ pub enum Piece {
     Tuple,
     /// The row is the type arguments of this struct.
     Named(u32),
-    /// The struct made last has this region behind the others.
+    /// The struct made last has this region as its next argument.
     Region(u32),
     /// The row is the arguments of a function, the type made last its result.
     Function,
-    /// The number of the struct or parameter made last is larger, by so many times 2^32.
+    /// The number of the struct or parameter made last is larger, by this many times 2^32.
     More(u32),
     // ---- of statements: which it is, with the variable of its place where it has one
     Assign(u32),

@@ -11,7 +11,7 @@ use crate::piece::Piece;
 use nll_sets::Memory;
 use nll_types::{Operand, Place, Projection};
 
-/// Puts a piece behind the others.
+/// Appends a piece.
 pub(crate) fn put(piece: Piece, pieces: &mut Vec<Piece>) -> Result<(), Memory>
     ensures ok { OnOk result (pieces.new.items ≡ pieces.old.items ++ piece ∷ []) }
     ensures begins { IsPrefix pieces.old.items pieces.new.items }
@@ -30,7 +30,7 @@ fn piece_of(projection: Projection) -> Piece
     }
 }
 
-// Puts projections behind the others.
+// Appends projections.
 fn put_each(projections: &[Projection], pieces: &mut Vec<Piece>) -> Result<(), Memory>
     ensures ok { OnOk result
         (pieces.new.items ≡ pieces.old.items ++ map projection_piece projections.now) }
@@ -42,7 +42,7 @@ fn put_each(projections: &[Projection], pieces: &mut Vec<Piece>) -> Result<(), M
     Ok(())
 }
 
-// Puts what is taken of a place's variable behind the others.
+// Appends what is taken of a place's variable.
 fn put_projections(place: &Place, pieces: &mut Vec<Piece>) -> Result<(), Memory>
     ensures ok { OnOk result (pieces.new.items
         ≡ pieces.old.items ++ map projection_piece (path_of place.now).projections) }
@@ -64,7 +64,7 @@ pub(crate) fn variable_of(place: &Place) -> u32
     }
 }
 
-/// Puts what is taken of a place's variable behind the others, and then this piece.
+/// Appends what is taken of a place's variable, and then this piece.
 pub(crate) fn put_place(place: &Place, head: Piece, pieces: &mut Vec<Piece>) -> Result<(), Memory>
     ensures ok { OnOk result (pieces.new.items ≡ pieces.old.items
         ++ (map projection_piece (path_of place.now).projections ++ head ∷ [])) }
@@ -74,7 +74,7 @@ pub(crate) fn put_place(place: &Place, head: Piece, pieces: &mut Vec<Piece>) -> 
     put(head, pieces)
 }
 
-/// Puts an operand behind the others.
+/// Appends an operand.
 pub(crate) fn put_operand(operand: &Operand, pieces: &mut Vec<Piece>) -> Result<(), Memory>
     ensures ok { OnOk result
         (pieces.new.items ≡ pieces.old.items ++ operand_pieces (operand_of operand.now)) }
@@ -87,7 +87,7 @@ pub(crate) fn put_operand(operand: &Operand, pieces: &mut Vec<Piece>) -> Result<
     }
 }
 
-/// Puts operands behind the others, and their end.
+/// Appends operands and their end.
 pub(crate) fn put_operands(operands: &[Operand], pieces: &mut Vec<Piece>) -> Result<(), Memory>
     ensures ok { OnOk result (pieces.new.items
         ≡ pieces.old.items ++ operands_pieces (map operand_of operands.now)) }
@@ -99,7 +99,7 @@ pub(crate) fn put_operands(operands: &[Operand], pieces: &mut Vec<Piece>) -> Res
     put(Piece::End, pieces)
 }
 
-/// Puts the operands of a call behind the others, and their end.
+/// Appends the operands of a call, and their end.
 pub(crate) fn put_argument_operands<T>(
     arguments: &[(Operand, T)],
     pieces: &mut Vec<Piece>,

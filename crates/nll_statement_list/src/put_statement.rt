@@ -19,7 +19,7 @@ use nll_sets::Memory;
 use nll_statements::{Call, Make, Statement};
 use nll_types::{Operand, Place};
 
-// Puts pairs of regions behind the others, and their end.
+// Appends pairs of regions, and their end.
 fn put_pairs(pairs: &[(RegionId, RegionId)], pieces: &mut Vec<Piece>) -> Result<(), Memory>
     ensures ok { OnOk result (pieces.new.items ≡ pieces.old.items ++ pairs_pieces pairs.now) }
     ensures begins { IsPrefix pieces.old.items pieces.new.items }
@@ -31,7 +31,7 @@ fn put_pairs(pairs: &[(RegionId, RegionId)], pieces: &mut Vec<Piece>) -> Result<
     put(Piece::End, pieces)
 }
 
-// Puts blocks behind the others, and their end.
+// Appends blocks, and their end.
 fn put_blocks(blocks: &[u32], pieces: &mut Vec<Piece>) -> Result<(), Memory>
     ensures ok { OnOk result (pieces.new.items ≡ pieces.old.items ++ blocks_pieces blocks.now) }
     ensures begins { IsPrefix pieces.old.items pieces.new.items }
@@ -42,7 +42,7 @@ fn put_blocks(blocks: &[u32], pieces: &mut Vec<Piece>) -> Result<(), Memory>
     put(Piece::End, pieces)
 }
 
-// Puts a block behind the others, and the other one or an end.
+// Appends a block, and the other one or an end.
 fn put_exits(block: u32, unwind: Option<u32>, pieces: &mut Vec<Piece>) -> Result<(), Memory>
     ensures ok { OnOk result (pieces.new.items ≡ pieces.old.items ++ exits_pieces block unwind) }
     ensures begins { IsPrefix pieces.old.items pieces.new.items }
@@ -54,7 +54,7 @@ fn put_exits(block: u32, unwind: Option<u32>, pieces: &mut Vec<Piece>) -> Result
     }
 }
 
-// Puts an assignment behind the others.
+// Appends an assignment.
 fn put_assign(target: &Place, operand: &Operand, pieces: &mut Vec<Piece>) -> Result<(), Memory>
     ensures ok { OnOk result (pieces.new.items ≡ pieces.old.items
         ++ statement_pieces (assign (path_of target.now) (operand_of operand.now))) }
@@ -64,7 +64,7 @@ fn put_assign(target: &Place, operand: &Operand, pieces: &mut Vec<Piece>) -> Res
     put_operand(operand, pieces)
 }
 
-// Puts a borrow behind the others.
+// Appends a borrow.
 fn put_borrow(
     target: &Place,
     region: RegionId,
@@ -81,7 +81,7 @@ fn put_borrow(
     put_place(source, Piece::Of(variable_of(source)), pieces)
 }
 
-// Puts a tuple or struct that is made behind the others.
+// Appends a tuple or struct that is made.
 fn put_make<T: PutType>(made: &Make<T>, pieces: &mut Vec<Piece>) -> Result<(), Memory>
     ensures ok { OnOk result (pieces.new.items ≡ pieces.old.items
         ++ statement_pieces (map_statement (λ r. r) T.tree_of (made_of made.now))) }
@@ -92,7 +92,7 @@ fn put_make<T: PutType>(made: &Make<T>, pieces: &mut Vec<Piece>) -> Result<(), M
     put_whole(&made.ty, pieces)
 }
 
-// Puts a call behind the others.
+// Appends a call.
 fn put_call<T: PutType>(call: &Call<RegionId, T>, pieces: &mut Vec<Piece>) -> Result<(), Memory>
     ensures ok { OnOk result (pieces.new.items ≡ pieces.old.items
         ++ statement_pieces (map_statement (λ r. r) T.tree_of (call_of call.now))) }
@@ -105,7 +105,7 @@ fn put_call<T: PutType>(call: &Call<RegionId, T>, pieces: &mut Vec<Piece>) -> Re
     put_exits(call.target, call.unwind, pieces)
 }
 
-/// Puts a statement behind the others.
+/// Appends a statement.
 pub(crate) fn put_statement<T: PutType>(
     statement: &Statement<RegionId, T>,
     pieces: &mut Vec<Piece>,

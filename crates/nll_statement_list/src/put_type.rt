@@ -12,18 +12,18 @@ use crate::put_place::put;
 use nll_sets::Memory;
 use nll_types::Operand;
 
-/// A type in a statement that is put into a list.
+/// A type in a statement that is appended to a list.
 pub trait PutType {
     /// The type as a tree.
     ghost tree_of: { Self → TypeTree };
 
-    /// Puts the pieces that make the type behind the others.
+    /// Appends the pieces that make the type.
     fn put_type(&self, pieces: &mut Vec<Piece>) -> Result<(), Memory>
         ensures ok { OnOk result (pieces.new.items ≡ pieces.old.items ++ steps (tree_of self.now)) }
         ensures begins { IsPrefix pieces.old.items pieces.new.items };
 }
 
-/// Puts a type behind the others, and its end.
+/// Appends a type, and its end.
 pub(crate) fn put_whole<T: PutType>(ty: &T, pieces: &mut Vec<Piece>) -> Result<(), Memory>
     ensures ok { OnOk result
         (pieces.new.items ≡ pieces.old.items ++ type_pieces (T.tree_of ty.now)) }
@@ -33,7 +33,7 @@ pub(crate) fn put_whole<T: PutType>(ty: &T, pieces: &mut Vec<Piece>) -> Result<(
     put(Piece::End, pieces)
 }
 
-// Puts the types of a call's parameters behind the others, as a row.
+// Appends the types of a call's parameters, as a row.
 fn put_parameters<T: PutType>(
     arguments: &[(Operand, T)],
     pieces: &mut Vec<Piece>,
@@ -50,7 +50,7 @@ fn put_parameters<T: PutType>(
     Ok(())
 }
 
-/// Puts the types of a call behind the others, as those of a function, and their end.
+/// Appends the types of a call, as those of a function, and their end.
 pub(crate) fn put_signature<T: PutType>(
     arguments: &[(Operand, T)],
     output: &T,

@@ -1,4 +1,4 @@
-//! What stands at the points of a body.
+//! The statements and terminators at the points of a body.
 
 use nll_problem::RegionId;
 use nll_statements::Statement;

@@ -24,7 +24,7 @@ fn projection_of(piece: Piece) -> Option<Projection>
     }
 }
 
-/// Takes the projections in front, and puts them behind the others.
+/// Takes the projections at the front, and appends them.
 pub(crate) fn take_projections(
     pieces: &[Piece],
     at: &mut usize,
@@ -59,7 +59,7 @@ fn operand_by(
     }
 }
 
-/// The operand in front, if there is one, or else what stands there is passed over.
+/// The operand at the front, if there is one; else what is there is skipped.
 pub(crate) fn take_operand(
     alloc: Global,
     pieces: &[Piece],
@@ -75,7 +75,7 @@ pub(crate) fn take_operand(
     operand_by(alloc, taken, next(pieces, at))
 }
 
-// Takes the operands in front, and puts them behind the others.
+// Takes the operands at the front, and appends them.
 fn push_operands(
     alloc: Global,
     pieces: &[Piece],
@@ -93,7 +93,7 @@ fn push_operands(
     Ok(())
 }
 
-/// The operands in front.
+/// The operands at the front.
 pub(crate) fn take_operands(
     alloc: Global,
     pieces: &[Piece],
@@ -114,7 +114,7 @@ pub(crate) fn take_operands(
     }
 }
 
-/// The place in front: what is taken of a variable, and the variable.
+/// The place at the front: what is taken of a variable, and the variable.
 pub(crate) fn take_borrowed(
     alloc: Global,
     pieces: &[Piece],

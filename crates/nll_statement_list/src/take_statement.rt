@@ -47,7 +47,7 @@ fn some_block(piece: Piece) -> u32
     }
 }
 
-// The blocks to which something goes on: one, and perhaps another.
+// The blocks to which something goes on: one, and possibly another.
 fn take_exits(pieces: &[Piece], at: &mut usize) -> (u32, Option<u32>)
     ensures one { result.0 ≡ block_or (first (drop at.old pieces.now)) }
     ensures other { result.1
@@ -57,7 +57,7 @@ fn take_exits(pieces: &[Piece], at: &mut usize) -> (u32, Option<u32>)
     (target, block_of(next(pieces, at)))
 }
 
-// Takes the blocks in front, and puts them behind the others.
+// Takes the blocks at the front, and appends them.
 fn take_blocks(alloc: Global, pieces: &[Piece], at: &mut usize) -> Result<Vec<u32>, Memory>
     ensures { IfOk result (λ v. v.items ≡ blocks_at (drop at.old pieces.now)) }
 {
@@ -68,7 +68,7 @@ fn take_blocks(alloc: Global, pieces: &[Piece], at: &mut usize) -> Result<Vec<u3
     Ok(blocks)
 }
 
-// The pair of regions in front, if there is one, or else what stands there is passed over.
+// The pair of regions at the front, if there is one; else what is there is skipped.
 fn take_pair(pieces: &[Piece], at: &mut usize) -> Option<(RegionId, RegionId)>
     ensures pair { MatchOption result
         (pairs_at (drop at.old pieces.now) ≡ ([], drop at.new pieces.now))
@@ -89,7 +89,7 @@ fn take_pair(pieces: &[Piece], at: &mut usize) -> Option<(RegionId, RegionId)>
     Some((RegionId(longer), RegionId(shorter)))
 }
 
-// The pairs of regions in front.
+// The pairs of regions at the front.
 fn take_pairs(
     alloc: Global,
     pieces: &[Piece],
@@ -199,7 +199,7 @@ fn take_drop(variable: u32, pieces: &[Piece], at: &mut usize) -> Stmt
     Statement::Drop(variable, block, unwind)
 }
 
-// Puts each operand, with its type, behind the others: an `int` where there is none.
+// Appends each operand with its type; the type is an `int` where there is none.
 fn push_paired(
     operands: Vec<Operand>,
     types: Vec<Ty>,
@@ -325,7 +325,7 @@ fn take_by(
     }
 }
 
-/// The statement in front.
+/// The statement at the front.
 pub(crate) fn take_statement(
     alloc: Global,
     pieces: &[Piece],

@@ -154,14 +154,14 @@ fn put_region(made: &mut Made, region: u32) -> Result<(), Memory>
     push(made, ty)
 }
 
-// The number that has these last 32 bits, and 2^32 in it so many times.
+// The number that has these last 32 bits, and 2^32 in it this many times.
 fn number_of(last: usize, times: u32) -> usize
     ensures { result ≡ last % 2 ^ 32 + times * 2 ^ 32 }
 {
     (last & 0xffff_ffff) | ((times as usize) << 32)
 }
 
-// A struct or a parameter whose number has 2^32 in it so many times.
+// A struct or a parameter whose number has 2^32 in it this many times.
 fn larger(ty: Ty, times: u32) -> Ty
     ensures { tree result ≡ reading.larger times (tree ty) }
 {
@@ -172,7 +172,7 @@ fn larger(ty: Ty, times: u32) -> Ty
     }
 }
 
-// The number of the newest type has 2^32 in it so many times.
+// The number of the newest type has 2^32 in it this many times.
 fn enlarge(made: &mut Made, times: u32) -> Result<(), Memory>
     ensures { let m = made_of made.old.types.items made.old.rows.items in
         OnOk result (made_of made.new.types.items made.new.rows.items
@@ -205,7 +205,7 @@ fn step(alloc: Global, piece: Piece, made: &mut Made) -> Option<Result<(), Memor
     }
 }
 
-// Makes what the pieces in front make.
+// Makes what the pieces at the front make.
 fn make(alloc: Global, pieces: &[Piece], at: &mut usize, made: &mut Made) -> Result<(), Memory>
     ensures made { let m = made_of made.old.types.items made.old.rows.items in
         OnOk result (made_of made.new.types.items made.new.rows.items
@@ -219,7 +219,7 @@ fn make(alloc: Global, pieces: &[Piece], at: &mut usize, made: &mut Made) -> Res
     Ok(())
 }
 
-/// The type in front.
+/// The type at the front.
 pub(crate) fn take_type(alloc: Global, pieces: &[Piece], at: &mut usize) -> Result<Ty, Memory>
     ensures ty { IfOk result (λ t. tree t ≡ (type_at (drop at.old pieces.now)).0) }
     ensures rest { IfOk result (λ _. drop at.new pieces.now

@@ -67,7 +67,7 @@ impl TypePieces {
 impl PutType for TypePieces {
     ghost tree_of = { λ t. t };
 
-    /// Puts the pieces of the type behind the others.
+    /// Appends the pieces of the type.
     fn put_type(&self, pieces: &mut Vec<Piece>) -> Result<(), Memory> {
         pieces.extend_from_slice(self.pieces.as_slice())?;
         Ok(())

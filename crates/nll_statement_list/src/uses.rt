@@ -1,5 +1,5 @@
-//! What pieces tell of a statement that isn't made: which variables it uses, and whether it ends
-//! its block.
+//! What pieces say of a statement that isn't made: which variables it uses, and whether it ends its
+//! block.
 
 ghost use Rattle.std.specs.Prelude.{◌≡◌, ◌++◌, ◌∷◌, [], drop, IfOk, OnOk, if◌then◌else◌};
 ghost use Rattle.std.specs.List.{flat_map};
@@ -23,7 +23,7 @@ fn is_projection(piece: Piece) -> bool
     matches!(piece, Piece::Deref | Piece::Field(_))
 }
 
-// Passes over the projections in front: whether there are any.
+// Passes over the projections at the front: whether there are any.
 fn skip_projections(pieces: &[Piece], at: &mut usize) -> bool
     ensures any { result ≡ using.is_projection (first (drop at.old pieces.now)) }
     ensures rest { drop at.new pieces.now ≡ (projections_at (drop at.old pieces.now)).1 }
@@ -35,7 +35,7 @@ fn skip_projections(pieces: &[Piece], at: &mut usize) -> bool
     any
 }
 
-// Puts a variable behind the others.
+// Appends a variable.
 fn push(variable: u32, used: &mut Vec<u32>) -> Result<(), Memory>
     ensures ok { OnOk result (used.new.items ≡ used.old.items ++ variable ∷ []) }
     ensures begins { IsPrefix used.old.items used.new.items }
@@ -44,7 +44,7 @@ fn push(variable: u32, used: &mut Vec<u32>) -> Result<(), Memory>
     Ok(())
 }
 
-// Puts the variable of an operand's place behind the others: whether there is an operand.
+// Appends the variable of an operand's place. Answers whether there is an operand.
 fn use_operand(pieces: &[Piece], at: &mut usize, used: &mut Vec<u32>) -> Result<bool, Memory>
     ensures some { IfOk result
         (λ some. some ≡ using.is_some (operand_at (drop at.old pieces.now)).0) }
@@ -65,7 +65,7 @@ fn use_operand(pieces: &[Piece], at: &mut usize, used: &mut Vec<u32>) -> Result<
     }
 }
 
-// Puts the variables of operands' places behind the others.
+// Appends the variables of operands' places.
 fn use_operands(pieces: &[Piece], at: &mut usize, used: &mut Vec<u32>) -> Result<(), Memory>
     ensures used { OnOk result (used.new.items ≡ used.old.items
         ++ variables_of (flat_map place_in (operands_from [] (drop at.old pieces.now)).0)) }
@@ -75,7 +75,7 @@ fn use_operands(pieces: &[Piece], at: &mut usize, used: &mut Vec<u32>) -> Result
     Ok(())
 }
 
-// Puts the variable of a place that is borrowed behind the others.
+// Appends the variable of a place that is borrowed.
 fn use_borrowed(pieces: &[Piece], at: &mut usize, used: &mut Vec<u32>) -> Result<(), Memory>
     ensures used { OnOk result (used.new.items ≡ used.old.items
         ++ (borrowed (projections_at (drop at.old pieces.now))).variable ∷ []) }
@@ -88,8 +88,7 @@ fn use_borrowed(pieces: &[Piece], at: &mut usize, used: &mut Vec<u32>) -> Result
     }
 }
 
-// Puts the variable of a place that is written behind the others, where that isn't the whole
-// variable.
+// Appends the variable of a place that is written, where that isn't the whole variable.
 fn use_target(projected: bool, variable: u32, used: &mut Vec<u32>) -> Result<(), Memory>
     ensures used { OnOk result (used.new.items
         ≡ used.old.items ++ (if projected then variable ∷ [] else [])) }
@@ -101,7 +100,7 @@ fn use_target(projected: bool, variable: u32, used: &mut Vec<u32>) -> Result<(),
     Ok(())
 }
 
-/// Puts the variables that the statement in front uses behind the others.
+/// Appends the variables that the statement at the front uses.
 pub(crate) fn use_statement(
     pieces: &[Piece],
     at: &mut usize,
@@ -136,7 +135,7 @@ pub(crate) fn use_statement(
     }
 }
 
-/// Whether the statement in front ends its block.
+/// Whether the statement at the front ends its block.
 pub(crate) fn is_terminator(pieces: &[Piece], at: usize) -> bool
     ensures { result ≡ statements.is_terminator (statement_at (drop at pieces.now)) }
 {

@@ -5,7 +5,7 @@ use Rattle.indexmap.specs.IndexSet.{insert_all}
 use Rattle.nll_statements.specs.Statements.{Statement, is_terminator}
 use Rattle.nll_statements.specs.Effects.{targets}
 
--- how many edges leave the point where the statement or terminator stands
+-- how many edges leave the point of the statement or terminator
 abbrev pub edges_from : {R T : Type 0} → Statement R T → ℕ
 edges_from i =
     if is_terminator i then length (insert_all (λ b c. b == c) [] (targets i)) else 1

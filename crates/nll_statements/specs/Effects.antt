@@ -1,6 +1,5 @@
--- What a statement or terminator uses, defines and drops, and where it goes on.
--- Source: RFC 2094, "Liveness" and "Drop"; the table is project's choice, and docs/FORMATS.md says
--- the same in words.
+-- What a statement or terminator uses, defines and drops, and where it goes on. Source: RFC 2094,
+-- "Liveness" and "Drop"; the table is project's choice, and docs/FORMATS.md says the same in prose.
 use Rattle.std.specs.Prelude.{◌≡◌, ℕ, Bool, not, ◌==◌, List, [], ◌∷◌, ◌++◌, length, map}
 use Rattle.std.specs.Prelude.{if◌then◌else◌, filter, Option, Some, None, Contains}
 use Rattle.std.specs.List.{flat_map}

@@ -1,6 +1,5 @@
--- What stands at a point of a body: a statement or a terminator.
--- Source: RFC 2094 speaks of MIR; the forms are project's choice, and docs/FORMATS.md says the same
--- in words.
+-- Statements and terminators, one of which is at each point of a body. Source: RFC 2094 speaks of
+-- MIR; the forms are project's choice, and docs/FORMATS.md says the same in prose.
 use Rattle.std.specs.Prelude.{ℕ, Bool, true, false, List, [], ◌∷◌, ◌++◌, Option, map}
 use Rattle.nll_types.specs.Places.{PlacePath}
 use Rattle.nll_types.specs.Operands.{Operand}
@@ -46,7 +45,7 @@ is_terminator return = true
 is_terminator stop = true
 is_terminator _ = false
 
--- the same, where regions and types become others
+-- a statement or terminator with other regions and types
 abbrev pub map_statement :
     {R R' T T' : Type 0} → (R → R') → (T → T') → Statement R T → Statement R' T'
 map_statement f g (assign p op) = assign p op

@@ -1,6 +1,6 @@
 -- The types that meet in a statement or terminator: of what goes somewhere, and of where it goes.
 -- Source: RFC 2094, "Subtyping" and "Reborrow constraints" (the types that are related); the table
--- is project's choice, and docs/FORMATS.md says the same in words.
+-- is project's choice, and docs/FORMATS.md says the same in prose.
 use Rattle.std.specs.Prelude.{ℕ, List, [], ◌∷◌, ◌++◌, Option, Some, None, map}
 use Rattle.nll_types.specs.Types.{TypeTree, TypeTrees, int, tuple, named, none, more}
 use Rattle.nll_types.specs.Structs.{Struct, struct_at, put_in_all}
@@ -13,21 +13,21 @@ use Rattle.nll_statements.specs.Statements.{Statement, assign, borrow, make, swi
 abbrev pub operand_types : List Struct → List TypeTree → List Operand → List (Option TypeTree)
 operand_types structs variables ops = map (operand_type structs variables) ops
 
--- the types of the parts of a tuple, or of the fields of a struct with its arguments put in
+-- the types of the parts of a tuple, or of the fields of a struct with its arguments substituted
 abbrev pub parts_of_type : List Struct → TypeTree → Option TypeTrees
 parts_of_type structs (tuple ts) = Some ts
 parts_of_type structs (named n rs ts) = Some (put_in_all rs ts (struct_at structs n).fields)
 parts_of_type structs _ = None
 
--- the types of operands, each beside that of the part at its place; where there is no such operand
--- or no such part, none stands for it
+-- the types of operands, each paired with that of the part at its place; a missing operand or part
+-- is `None`
 abbrev pub beside : List (Option TypeTree) → TypeTrees → List (Option TypeTree × Option TypeTree)
 beside [] none = []
 beside [] (more t ts) = (None, Some t) ∷ beside [] ts
 beside (o ∷ os) none = (o, None) ∷ beside os none
 beside (o ∷ os) (more t ts) = (o, Some t) ∷ beside os ts
 
--- the same, where the type may have no parts: then neither of one pair is there
+-- like `beside`, but the type may have no parts: then each of its pairs is empty
 abbrev pub beside_parts : List (Option TypeTree) → Option TypeTrees
     → List (Option TypeTree × Option TypeTree)
 beside_parts os None = (None, None) ∷ []
@@ -35,7 +35,7 @@ beside_parts os (Some ts) = beside os ts
 
 -- The types that meet, pair by pair: that of what goes somewhere, and that of where it goes; none
 -- stands for one that isn't there. An operand goes to the place, part or parameter for which it is,
--- or is switched on and is to be an `int`. A reference to the borrowed place, and what is made or
+-- or is switched on and must be an `int`. A reference to the borrowed place, and what is made or
 -- returned, goes to the place that is written.
 abbrev pub type_pairs : List Struct → List TypeTree → Statement ℕ TypeTree
     → List (Option TypeTree × Option TypeTree)

@@ -17,13 +17,12 @@ use std::alloc::Global;
 pub struct Exits {
     /// Whether the block ends with it.
     pub ends: bool,
-    /// How many edges leave the point where it stands: one, or one for each block to which a
-    /// terminator goes on.
+    /// How many edges leave its point: one, or one for each block to which a terminator goes on.
     pub edges: usize,
 }
 
 impl<R, T> Statement<R, T> {
-    /// How it goes on. Memory is asked for only where a `switch` has more than two blocks.
+    /// How it goes on. It allocates only where a `switch` has more than two blocks.
     ///
     /// # Cost
     /// Linear in the targets (not proved).
@@ -46,7 +45,7 @@ impl<R, T> Statement<R, T> {
     }
 }
 
-// A terminator that so many edges leave.
+// A terminator that this many edges leave.
 fn ending(edges: usize) -> Exits
     ensures ends { result.ends ≡ true }
     ensures edges { result.edges ≡ edges }
@@ -89,7 +88,7 @@ fn distinct(alloc: Global, numbers: &[u32]) -> Result<usize, Memory>
     }
 }
 
-// How many numbers these are, each counted once, found with a set of them.
+// How many different numbers these are, counted with a set.
 fn distinct_among(alloc: Global, numbers: &[u32]) -> Result<usize, Memory>
     ensures distinct { IfOk result
         (λ n. n ≡ length (insert_all (λ b c. b == c) [] numbers.now)) }
@@ -97,11 +96,12 @@ fn distinct_among(alloc: Global, numbers: &[u32]) -> Result<usize, Memory>
 {
     let mut known = IndexSet::new(alloc);
     let count = insert_numbers(numbers, &mut known);
+    // Early drop.
     drop(known);
     count
 }
 
-// Puts numbers into a set that has none, and tells how many it has then.
+// Inserts numbers into an empty set, and answers how many it has then.
 fn insert_numbers(numbers: &[u32], known: &mut IndexSet<u32>) -> Result<usize, Memory>
     requires { known.old.keys ≡ [] }
     ensures distinct { IfOk result

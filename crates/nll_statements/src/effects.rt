@@ -73,8 +73,8 @@ impl<R, T> Statement<R, T> {
         }
     }
 
-    /// Puts the variables that it uses behind the others, one for each place that it reads or
-    /// borrows, and that of the place that it writes where that isn't the whole variable.
+    /// Appends the variables that it uses, one for each place that it reads or borrows, and that of
+    /// the place that it writes where that isn't the whole variable.
     ///
     /// # Source
     /// RFC 2094, "Liveness".
@@ -87,7 +87,7 @@ impl<R, T> Statement<R, T> {
         push_projected(self.target(), used)
     }
 
-    // Puts the variables of the places that it reads or borrows behind the others.
+    // Appends the variables of the places that it reads or borrows.
     pub(crate) fn reads(&self, used: &mut Vec<u32>) -> Result<(), Memory>
         ensures ok { OnOk result (used.new.items ≡ used.old.items
             ++ map (λ p. p.variable) (spec.sources_of (statement_of self.now))) }
@@ -107,7 +107,7 @@ impl<R, T> Statement<R, T> {
         }
     }
 
-    /// Puts the blocks to which it goes on behind the others.
+    /// Appends the blocks to which it goes on.
     pub fn targets(&self, blocks: &mut Vec<u32>) -> Result<(), Memory>
         ensures ok { OnOk result
             (blocks.new.items ≡ blocks.old.items ++ spec.targets (statement_of self.now)) }
@@ -134,7 +134,7 @@ fn whole_variable(place: &Place) -> Option<u32>
     }
 }
 
-// Puts a number behind the others.
+// Appends a number.
 pub(crate) fn push_number(number: u32, numbers: &mut Vec<u32>) -> Result<(), Memory>
     ensures ok { OnOk result (numbers.new.items ≡ numbers.old.items ++ number ∷ []) }
     ensures begins { IsPrefix numbers.old.items numbers.new.items }
@@ -143,7 +143,7 @@ pub(crate) fn push_number(number: u32, numbers: &mut Vec<u32>) -> Result<(), Mem
     Ok(())
 }
 
-// Puts a number behind the others, where there is one.
+// Appends a number, where there is one.
 pub(crate) fn push_some(number: Option<u32>, numbers: &mut Vec<u32>) -> Result<(), Memory>
     ensures ok { OnOk result (numbers.new.items ≡ numbers.old.items ++ other_block number) }
     ensures begins { IsPrefix numbers.old.items numbers.new.items }
@@ -154,7 +154,7 @@ pub(crate) fn push_some(number: Option<u32>, numbers: &mut Vec<u32>) -> Result<(
     }
 }
 
-// Puts numbers behind the others.
+// Appends numbers.
 fn push_numbers(more: &[u32], numbers: &mut Vec<u32>) -> Result<(), Memory>
     ensures ok { OnOk result (numbers.new.items ≡ numbers.old.items ++ more.now) }
     ensures begins { IsPrefix numbers.old.items numbers.new.items }
@@ -163,7 +163,7 @@ fn push_numbers(more: &[u32], numbers: &mut Vec<u32>) -> Result<(), Memory>
     Ok(())
 }
 
-// Puts the variable of an operand's place behind the others.
+// Appends the variable of an operand's place.
 fn push_operand(operand: &Operand, used: &mut Vec<u32>) -> Result<(), Memory>
     ensures ok { OnOk result (used.new.items
         ≡ used.old.items ++ map (λ p. p.variable) (place_in (operand_of operand.now))) }
@@ -175,7 +175,7 @@ fn push_operand(operand: &Operand, used: &mut Vec<u32>) -> Result<(), Memory>
     }
 }
 
-// Puts the variables of operands' places behind the others.
+// Appends the variables of operands' places.
 fn push_operands(operands: &[Operand], used: &mut Vec<u32>) -> Result<(), Memory>
     ensures ok { OnOk result (used.new.items ≡ used.old.items
         ++ map (λ p. p.variable) (flat_map place_in (map operand_of operands.now))) }
@@ -187,7 +187,7 @@ fn push_operands(operands: &[Operand], used: &mut Vec<u32>) -> Result<(), Memory
     Ok(())
 }
 
-// Puts the variables of the places of a call's operands behind the others.
+// Appends the variables of the places of a call's operands.
 fn push_arguments<T>(arguments: &[(Operand, T)], used: &mut Vec<u32>) -> Result<(), Memory>
     ensures ok { OnOk result (used.new.items ≡ used.old.items
         ++ map (λ p. p.variable) (flat_map place_in (map (λ a. operand_of a.0) arguments.now))) }
@@ -199,7 +199,7 @@ fn push_arguments<T>(arguments: &[(Operand, T)], used: &mut Vec<u32>) -> Result<
     Ok(())
 }
 
-// Puts the variable of a place that isn't a whole variable behind the others.
+// Appends the variable of a place that isn't a whole variable.
 fn push_projected(place: Option<&Place>, used: &mut Vec<u32>) -> Result<(), Memory>
     ensures ok { OnOk result (MatchOption place.entry (used.new.items ≡ used.old.items)
         (λ p. used.new.items ≡ used.old.items
@@ -212,7 +212,7 @@ fn push_projected(place: Option<&Place>, used: &mut Vec<u32>) -> Result<(), Memo
     }
 }
 
-// Puts a block, and the other one where there is one, behind the others.
+// Appends a block, and the other one where there is one.
 fn push_exits(block: u32, unwind: Option<u32>, blocks: &mut Vec<u32>) -> Result<(), Memory>
     ensures ok { OnOk result (blocks.new.items ≡ blocks.old.items ++ block ∷ other_block unwind) }
     ensures begins { IsPrefix blocks.old.items blocks.new.items }

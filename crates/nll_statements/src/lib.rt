@@ -1,5 +1,5 @@
-//! What stands at the points of a body: statements and terminators, what is written in each, what
-//! it uses, defines and drops, and where it goes on. It knows no text and no graph.
+//! The statements and terminators at the points of a body: what is written in each, what it uses,
+//! defines and drops, and where it goes on. It knows no text and no graph.
 #![tactic(auto)]
 
 mod edges;

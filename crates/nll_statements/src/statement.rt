@@ -1,4 +1,4 @@
-//! What stands at a point of a body.
+//! A statement or terminator at a point of a body.
 
 use nll_types::{Operand, Place};
 
@@ -47,9 +47,9 @@ pub enum Statement<R, T> {
     Goto(u32),
     /// `switch OP BB ..`
     Switch(Operand, Vec<u32>),
-    /// `drop VAR -> BB`, perhaps with `unwind BB`.
+    /// `drop VAR -> BB`, possibly with `unwind BB`.
     Drop(u32, u32, Option<u32>),
-    /// `PLACE = call WORD (OP: TYPE, ..): TYPE where 'a: 'b, .. -> BB`, perhaps with `unwind BB`.
+    /// `PLACE = call WORD (OP: TYPE, ..): TYPE where 'a: 'b, .. -> BB`, possibly with `unwind BB`.
     Call(Box<Call<R, T>>),
     /// `return`
     Return,

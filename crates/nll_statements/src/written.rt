@@ -14,7 +14,7 @@ use nll_sets::Memory;
 use nll_types::Place;
 
 impl<R, T> Statement<R, T> {
-    // The variable that stands by itself, and not in a place.
+    // The variable that occurs by itself, and not in a place.
     fn variable_alone(&self) -> Option<u32>
         ensures { other_block result ≡ spec.variable_alone (statement_of self.now) }
     {
@@ -25,8 +25,8 @@ impl<R, T> Statement<R, T> {
         }
     }
 
-    /// Puts the variables that are written in it behind the others, one for each place in it too;
-    /// for a `return` that is the return place.
+    /// Appends the variables that are written in it, one for each place in it too; for a `return`
+    /// that is the return place.
     pub fn variables(&self, written: &mut Vec<u32>) -> Result<(), Memory>
         ensures ok { OnOk result (written.new.items
             ≡ written.old.items ++ variables_written (statement_of self.now)) }
@@ -38,7 +38,7 @@ impl<R, T> Statement<R, T> {
     }
 }
 
-// Puts the variable of a place behind the others.
+// Appends the variable of a place.
 fn push_place(place: Option<&Place>, written: &mut Vec<u32>) -> Result<(), Memory>
     ensures ok { OnOk result (MatchOption place.entry (written.new.items ≡ written.old.items)
         (λ p. written.new.items ≡ written.old.items ++ (path_of p.now).variable ∷ [])) }

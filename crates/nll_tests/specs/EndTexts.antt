@@ -1,5 +1,5 @@
 -- The smallest texts that may stop too early: of one line `end`, and of lines that are skipped.
--- Source: project's choice. Private contracts alone cite this file.
+-- Source: project's choice. Only private contracts cite this file.
 use Rattle.std.specs.Prelude.{◌≡◌, ℕ, Bool, true, false, List, [], ◌∷◌, Option, Some, None}
 use Rattle.nll_format.specs.Text.{Format}
 use Rattle.nll_format.specs.declared.error.TextKind.{TextKind}
@@ -9,7 +9,7 @@ use Rattle.nll_format.specs.declared.error.TextKind.TheVariants.{Duplicate}
 abbrev pub end_word : List ℕ
 end_word = 101 ∷ 110 ∷ 100 ∷ []
 
--- what is wrong with one more line `end` behind these
+-- what is wrong with one more line `end` after these
 abbrev pub fault_behind : List (Unit {0}) → Option TextKind
 fault_behind [] = None
 fault_behind (_ ∷ _) = Some Duplicate
@@ -32,7 +32,7 @@ end_texts = record {
   HasEnded = HasEnd;
 }
 
--- the flag tells whether a line `end` is among the lines
+-- the flag says whether a line `end` is among the lines
 abbrev pub Tells : Bool → List (Unit {0}) → Type 0
 Tells has_end [] = has_end ≡ false
 Tells has_end (_ ∷ _) = has_end ≡ true

@@ -58,7 +58,7 @@ const NEW: &[Row] = &[
 // The calls that make the region 2.
 const REGION: (Calls, u32) = (Calls::Regions, 1);
 
-// Calls behind two points, two universal regions and the region 2, and what they answer.
+// Calls after two points, two universal regions and the region 2, and what they answer.
 const CALLS: &[Row] = &[
     (
         "universal regions",
@@ -202,7 +202,7 @@ fn refuses_new_facts_past_the_limits(rt: HostRuntime) {
     compare_rows(&rt, rt.alloc(), FULL);
 }
 
-// Points, universal regions and calls, and what the problem tells.
+// Points, universal regions and calls, and what the problem reports.
 const MADE: &[Row] = &[
     (
         "'static alone",
@@ -354,7 +354,7 @@ const READ: &[Row] = &[
     ),
 ];
 
-// A problem tells the facts that were said of it, and an index of it gives the constraints that
+// A problem reports the facts that were said of it, and an index of it gives the constraints that
 // read a region.
 #[test]
 fn makes_problems(rt: HostRuntime) {

@@ -1,4 +1,4 @@
-//! Calls of a problem's builder, what they answer, and what the problems that they make tell.
+//! Calls of a problem's builder, what they answer, and what the problems report that they make.
 use super::problem_text::{OfProblem, tell};
 use super::transcript::Transcript;
 use nll_core::{At, BuildError, Constraint, ProblemBuilder, RegionId};
@@ -33,11 +33,11 @@ pub enum Calls {
     Random(u32),
     /// Constraints of the region 0 on 'static at each point below 4096, then of the region 1.
     Constraints,
-    /// The same, but the first of each region holds at all points.
+    /// Like `Constraints`, but the first of each region holds at all points.
     ConstraintsEverywhere,
 }
 
-// The call that stands behind so many.
+// The call that comes after this many.
 fn call_at(calls: Calls, place: u32) -> Option<Call> {
     match calls {
         Calls::Listed(calls) => calls.get(place as usize).copied(),
@@ -98,7 +98,7 @@ fn make(builder: &mut ProblemBuilder, call: Call) -> Result<(), BuildError> {
     }
 }
 
-// Makes the first calls, so many of them.
+// Makes the first calls, this many of them.
 fn make_first(out: &mut Transcript, builder: &mut ProblemBuilder, calls: Calls, count: u32) {
     for place in 0..count {
         if let Some(call) = call_at(calls, place) {
@@ -108,7 +108,7 @@ fn make_first(out: &mut Transcript, builder: &mut ProblemBuilder, calls: Calls, 
     }
 }
 
-// Makes calls, and writes what they answer, each with a bar behind it.
+// Makes calls, and writes what they answer, each followed by a bar.
 fn write_answers(out: &mut Transcript, builder: &mut ProblemBuilder, calls: &[Call]) {
     for call in calls {
         let made = make(builder, *call);
@@ -117,7 +117,7 @@ fn write_answers(out: &mut Transcript, builder: &mut ProblemBuilder, calls: &[Ca
     }
 }
 
-/// Writes what calls answer behind so many others.
+/// Writes what calls answer after this many others.
 pub fn write_behind(
     out: &mut Transcript,
     numbers: (u32, u32),
@@ -131,7 +131,7 @@ pub fn write_behind(
     }
 }
 
-/// Writes what the problem tells that the first calls make, so many of them.
+/// Writes what the problem reports that this many of the first calls make.
 pub fn write_problem(
     out: &mut Transcript,
     numbers: (u32, u32),

@@ -1,4 +1,4 @@
-//! Cuts of regions among owners, and who reads what.
+//! Partitions of regions among owners, and which owner reads what.
 
 use super::calls::Call;
 use super::calls::Call::{Holds, Next, Region, Ret};
@@ -12,7 +12,7 @@ use nll_cut::CutError;
 use nll_cut_text::read_cut;
 use std::alloc::Global;
 
-/// How regions are dealt.
+/// How regions are assigned.
 #[derive(Clone, Copy)]
 pub enum Deal {
     Round,
@@ -20,7 +20,7 @@ pub enum Deal {
     Listed(&'static [u16]),
 }
 
-// The cut of so many regions among so many owners.
+// The cut of this many regions among this many owners.
 fn cut_of(
     alloc: Global,
     (regions, owners): (u32, u16),
@@ -33,7 +33,7 @@ fn cut_of(
     }
 }
 
-/// Writes what a cut tells: each region's owner, or why it is refused.
+/// Writes what a partition reports: each region's owner, or why it is refused.
 pub fn write_cut(out: &mut Transcript, numbers: (u32, u16), deal: Deal) {
     match cut_of(out.alloc, numbers, deal) {
         Ok(cut) => {
@@ -63,8 +63,8 @@ pub fn write_cut_file(out: &mut Transcript, text: &[u8]) {
     }
 }
 
-// Regions, owners and how they are dealt, and what the cut tells: each region's owner, or why it is
-// refused.
+// Regions, owners and how regions are assigned, and what the partition reports: each region's
+// owner, or why it is refused.
 const ROWS: &[Row] = &[
     ("regions go round", Cut(3, 2, Round), "of 2: 0 1 0"),
     ("one owner has all regions", Cut(3, 1, Round), "of 1: 0 0 0"),
@@ -149,7 +149,7 @@ const THREE_REGIONS: &[Call] = &[
 ];
 
 // Calls that make a problem of two points, and which regions each owner reads where its regions go
-// round so many.
+// round this many.
 const READERS: &[Row] = &[
     (
         "two regions of one owner",
@@ -272,7 +272,7 @@ fn owners_are_listed_in_files(rt: HostRuntime) {
     compare_rows(&rt, rt.alloc(), FILES);
 }
 
-// Each region has the owner that the rule gives it, and of several faults the first is told. An
+// Each region has the owner that the rule gives it, and of several faults the first is reported. An
 // owner reads the regions of others that its constraints read, and none of its own; a number past
 // the owners reads nothing.
 #[test]

@@ -16,7 +16,7 @@ fn is_end(line: &[u8]) -> bool
     line == b"end".as_slice()
 }
 
-// A reader that writes each line that it is handed, and knows whether a line `end` came.
+// A reader that writes each line that it gets, and knows whether a line `end` came.
 #[derive(Drop)]
 struct Ends {
     has_end: bool,
@@ -47,7 +47,7 @@ impl<'a> LineReader<'a, ()> for Ends {
     }
 }
 
-// Writes the lines behind the header.
+// Writes the lines after the header.
 fn write_lines(out: &mut Transcript, text: &[u8]) -> Result<(), TextError> {
     let body = open_text(text, b"ends", b"1")?;
     let mut ends = Ends {
@@ -60,7 +60,7 @@ fn write_lines(out: &mut Transcript, text: &[u8]) -> Result<(), TextError> {
     read
 }
 
-/// Writes which lines of a text the loop hands on, and what it says of them.
+/// Writes which lines of a text the loop passes on, and what it says of them.
 pub fn write_loop(out: &mut Transcript, text: &[u8]) {
     match write_lines(out, text) {
         Ok(()) => out.say("fine"),
@@ -71,7 +71,7 @@ pub fn write_loop(out: &mut Transcript, text: &[u8]) {
     }
 }
 
-// All lines behind a header.
+// All lines after a header.
 const LINES: &[Row] = &[
     ("a header alone", Loop(b"ends 1"), "line 1: End"),
     ("a header and a line feed", Loop(b"ends 1\n"), "line 1: End"),
@@ -99,7 +99,7 @@ const LINES: &[Row] = &[
     ),
 ];
 
-// A reader is handed the lines behind the header, up to the first faulty one.
+// A reader gets the lines after the header, up to the first faulty one.
 #[test]
 fn lines_are_handed_to_a_reader(rt: HostRuntime) {
     compare_rows(&rt, rt.alloc(), LINES);

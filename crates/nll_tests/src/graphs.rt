@@ -1,4 +1,4 @@
-//! Graphs: what their builder answers, and what they, their copies and their continuations tell.
+//! Graphs: what their builder answers, and what they, their copies and their continuations report.
 use super::calls::Call;
 use super::calls::Call::{Next, Ret};
 use super::problem_text::{OfProblem, tell, write_graph};
@@ -30,13 +30,13 @@ fn write_refused(out: &mut Transcript, builder: &mut GraphBuilder, calls: &[Call
 #[derive(Clone, Copy)]
 pub enum Then {
     Copied,
-    // Further calls are made, behind those that made it.
+    // Further calls are made, after those that made it.
     Continued(&'static [Call]),
     // A problem is made of it.
     OfProblem,
 }
 
-// Writes what is told of a graph with further calls.
+// Writes what is reported about a graph with further calls.
 fn write_continued(out: &mut Transcript, graph: &Graph, calls: &[Call]) {
     if let Ok(mut builder) = GraphBuilder::of(out.alloc, graph) {
         let (points, universals) = (builder.points(), builder.universals());
@@ -48,7 +48,7 @@ fn write_continued(out: &mut Transcript, graph: &Graph, calls: &[Call]) {
     }
 }
 
-// Writes what is told of the problem of a graph.
+// Writes what is reported about the problem of a graph.
 fn write_problem(out: &mut Transcript, graph: &Graph) {
     if let Ok(builder) = ProblemBuilder::of_graph(out.alloc, graph) {
         if let Ok(problem) = builder.finish() {
@@ -58,7 +58,7 @@ fn write_problem(out: &mut Transcript, graph: &Graph) {
     }
 }
 
-// Writes what is told of what becomes of a graph.
+// Writes what is reported about what becomes of a graph.
 fn write_then(out: &mut Transcript, graph: &Graph, then: Then) {
     match then {
         Then::Copied => {
@@ -72,7 +72,7 @@ fn write_then(out: &mut Transcript, graph: &Graph, then: Then) {
     }
 }
 
-/// Writes what is told of what becomes of the graph that calls make.
+/// Writes what is reported about what becomes of the graph that calls make.
 pub fn write_graph_then(out: &mut Transcript, numbers: (u32, u32), calls: &[Call], then: Then) {
     if let Ok(mut builder) = GraphBuilder::new(out.alloc, numbers.0, numbers.1) {
         write_refused(out, &mut builder, calls);
@@ -82,7 +82,7 @@ pub fn write_graph_then(out: &mut Transcript, numbers: (u32, u32), calls: &[Call
     }
 }
 
-// Points, universal regions and calls, what becomes of the graph, and what it tells then.
+// Points, universal regions and calls, what becomes of the graph, and what it reports then.
 const GRAPHS: &[Row] = &[
     (
         "one point alone",
@@ -151,7 +151,7 @@ const GRAPHS: &[Row] = &[
     ),
 ];
 
-// A graph tells its edges both ways and its return points, and so does what becomes of it.
+// A graph reports its edges both ways and its return points, and so does what becomes of it.
 #[test]
 fn graphs_tell_their_edges(rt: HostRuntime) {
     compare_rows(&rt, rt.alloc(), GRAPHS);

@@ -15,17 +15,17 @@ pub enum OfLine {
     Header(&'static str, &'static str),
     /// Whether it begins as the name of a struct does.
     Capital,
-    /// The type in front.
+    /// The type at the front.
     Type,
-    /// Whether a function is written in the type in front.
+    /// Whether a function is written in the type at the front.
     Function,
-    /// What the names in the type in front mean.
+    /// What the names in the type at the front mean.
     Names,
-    /// The pieces of the type in front, and what is made of them.
+    /// The pieces of the type at the front, and what is made of them.
     Pieces,
-    /// What a list of statements tells of its statement.
+    /// What a list of statements reports of its statement.
     Kept,
-    /// What a list tells of the statements in the line, as each is pushed.
+    /// What a list reports of the statements in the line, as each is pushed.
     List,
     /// Its form.
     Form,
@@ -35,7 +35,7 @@ pub enum OfLine {
     Effects,
 }
 
-/// Writes what is told of a line.
+/// Writes what is reported about a line.
 pub fn write_line(out: &mut Transcript, line: &str, asked: OfLine) {
     match asked {
         OfLine::Lines => write_lines(out, line),
@@ -54,7 +54,7 @@ pub fn write_line(out: &mut Transcript, line: &str, asked: OfLine) {
     }
 }
 
-// Writes what is told of a line of a MIR text, or of the type in front.
+// Writes what is reported about a line of a MIR text, or of the type at the front.
 fn write_told(out: &mut Transcript, line: &[u8], asked: OfLine) {
     match asked {
         OfLine::Type => written_types::write_front(out, line),
@@ -65,7 +65,7 @@ fn write_told(out: &mut Transcript, line: &[u8], asked: OfLine) {
     }
 }
 
-// Writes the lines of a text, each with a bar behind it.
+// Writes the lines of a text, each with a bar after it.
 fn write_lines(out: &mut Transcript, text: &str) {
     let mut left = Some(text.as_bytes());
     for _ in 0..=text.len() {
@@ -77,7 +77,7 @@ fn write_lines(out: &mut Transcript, text: &str) {
     }
 }
 
-// Texts, and their lines with a bar behind each.
+// Texts, and their lines with a bar after each.
 const LINES: &[(&str, &str)] = &[
     ("", "|"),
     ("\n", "|"),
@@ -111,8 +111,8 @@ const OTHERS: &[Row] = &[
     ("a b 1", Line(OfLine::Header("a b", "1")), "false"),
 ];
 
-// A line ends at a line feed, and nothing stands behind the last one. A header is two runs of bytes
-// that aren't blanks.
+// A line ends at a line feed, and nothing follows the last one. A header is two runs of bytes that
+// aren't blanks.
 #[test]
 fn texts_are_cut_into_lines(rt: HostRuntime) {
     compare_lines(&rt, rt.alloc(), OfLine::Lines, LINES);

@@ -17,7 +17,7 @@ pub enum Meeting {
     Borrowed(bool),
     /// A value of the type of `_0` goes to the place.
     Given,
-    /// What the place has stands where a value of the type of `_0` is wanted.
+    /// The place's value is used where the type of `_0` is required.
     Wanted,
     /// Nothing: the place is read.
     Read,
@@ -56,7 +56,7 @@ fn judged(
     }
 }
 
-// Writes what is judged, with a bar behind it.
+// Writes what is judged, with a bar after it.
 fn write_judgement(out: &mut Transcript, judgement: Judgement) {
     out.flag("declared ", judgement.declared, "");
     out.flag(" fits ", judgement.fits, "");

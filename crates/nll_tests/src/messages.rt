@@ -23,7 +23,7 @@ const CUT_ERRORS: &[CutError] = &[
     CutError::Memory,
 ];
 
-/// Writes what errors print, each with a bar behind it.
+/// Writes what errors print, each with a bar after it.
 pub fn write_messages(out: &mut Transcript) {
     for error in BUILD_ERRORS {
         out.print(error);
@@ -35,7 +35,7 @@ pub fn write_messages(out: &mut Transcript) {
     out.print(&NotUtf8);
 }
 
-/// Writes what becomes of a refused growth of memory, whatever it comes from.
+/// Writes what becomes of a failed allocation, whatever it comes from.
 pub fn write_memory(out: &mut Transcript) {
     let memory = Memory::from(AllocError);
     out.show("", &memory);
@@ -48,7 +48,7 @@ pub fn write_memory(out: &mut Transcript) {
     out.show("|", &CutError::from(memory));
 }
 
-// What errors print, and what becomes of a refused growth of memory.
+// What errors print, and what becomes of a failed allocation.
 const ERRORS: &[Row] = &[
     (
         "errors",
@@ -65,7 +65,7 @@ const ERRORS: &[Row] = &[
     ),
 ];
 
-// An error prints what was wrong, and a refused growth of memory is told as such, whatever it comes
+// An error prints what was wrong, and a failed allocation is reported as such, whatever it comes
 // from.
 #[test]
 fn errors_are_told(rt: HostRuntime) {

@@ -324,7 +324,7 @@ _2 = callf(): int -> bb1 ~ none
 _2 = call 'f(): int -> bb1 ~ none
 ";
 
-// Lines with bytes that are no tokens: a `'` with no name behind it, signs of no form, and remarks.
+// Lines with bytes that are no tokens: a `'` with no name after it, signs of no form, and remarks.
 const STRAYS: &str = "
 # nop ~ none
 nop # x ~ none
@@ -393,7 +393,7 @@ const BROKEN: &[Row] = &[
     ("nowhere", Form(b"universal 'a\r"), "universal a|"),
 ];
 
-// Lines, and whether they may stand in a text of version 1, and of version 2.
+// Lines, and whether they may be in a text of version 1, and of version 2.
 const VERSIONS: &str = "
 universal 'a ~ true true
 assert 'x : 'y ~ false true

@@ -1,4 +1,4 @@
-//! What graphs, problems, values and sets tell, as text.
+//! What graphs, problems, values and sets report, as text.
 ghost use Rattle.std.specs.Prelude.{◌≡◌, IfOk};
 ghost use Rattle.nll_core.specs.Values.{IsShaped};
 
@@ -22,13 +22,13 @@ pub enum OfProblem {
     Values,
     /// Whether both solvers give it the same values.
     BothSolvers,
-    /// Who reads what, where its regions go round so many owners.
+    /// Who reads what, where its regions go round this many owners.
     ReadersAmong(u16),
-    /// What values of it that hold nothing answer where an element is put into a region's.
+    /// What values of it that hold nothing answer where an element is inserted into a region's.
     Inserted(u32, u32),
 }
 
-/// Writes what a problem tells.
+/// Writes what a problem reports.
 pub fn tell(out: &mut Transcript, problem: &Problem, asked: OfProblem) {
     match asked {
         OfProblem::Facts => write_facts(out, problem),
@@ -63,7 +63,7 @@ fn write_run(out: &mut Transcript, run: &BaseRun) {
     }
 }
 
-// Writes where a constraint holds, and what stands behind that.
+// Writes where a constraint holds, and what follows.
 fn write_at(out: &mut Transcript, at: At, after: &str) {
     match at {
         At::All => {
@@ -118,8 +118,8 @@ fn write_readers(out: &mut Transcript, problem: &Problem) {
     }
 }
 
-// Writes which regions each owner reads where the regions of a problem go round so many owners: of
-// those that there are, and one more; and those of an owner that there isn't.
+// Writes which regions each owner reads where the regions of a problem go round this many owners:
+// of those that there are, and one more; and those of an owner that there isn't.
 fn write_readers_among(out: &mut Transcript, problem: &Problem, owners: u16) {
     if let Ok(cut) = Cut::round(out.alloc, problem.regions(), owners) {
         if let Ok(readers) = cut.readers(out.alloc, problem) {
@@ -213,7 +213,7 @@ fn write_solved(out: &mut Transcript, problem: &Problem) {
 }
 
 // Writes whether values that hold nothing have an element of a region, and what they answer where
-// it is put in.
+// it is inserted.
 fn write_inserted(out: &mut Transcript, problem: &Problem, region: u32, element: u32) {
     if let Ok(mut values) = Values::empty(out.alloc, problem) {
         let (region, element) = (RegionId(region), Element(element));

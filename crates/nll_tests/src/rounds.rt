@@ -1,7 +1,7 @@
 //! The least solution of a problem, by rounds over all constraints until one changes nothing.
 //!
-//! This is the plain solver, beside which the tests set `nll_core`'s: it has the same contract, and
-//! forgets after each constraint what it has reached.
+//! This is the plain solver with which the tests compare `nll_core`'s: it has the same contract,
+//! and forgets after each constraint what it has reached.
 
 ghost use Rattle.std.specs.Prelude.{◌≡◌, ℕ, ◌<◌, ◌↔◌, true, false, Contains, length, IfOk, OnOk};
 ghost use Rattle.nll_sets.specs.ElementSet.{flag};
@@ -52,7 +52,7 @@ fn round(alloc: Global, problem: &Problem, values: &mut Values) -> Result<bool, 
     Ok(changed)
 }
 
-// Puts in what one constraint asks of the values. Answers whether something was new.
+// Adds what one constraint asks of the values. Answers whether something was new.
 fn apply(
     alloc: Global,
     problem: &Problem,
@@ -99,7 +99,7 @@ fn all_of(alloc: Global, set: &RunSet, count: u32) -> Result<Vec<Element>, Memor
     Ok(found)
 }
 
-// Puts elements into the set of a region. Answers whether one of them is new.
+// Inserts elements into the set of a region. Answers whether one of them is new.
 fn insert_all(values: &mut Values, region: RegionId, found: &[Element]) -> Result<bool, Memory>
     requires region { region < length values.old }
     requires elements { (x : ℕ) → Contains found.now x → x < length (set_of values.old region) }

@@ -1,5 +1,5 @@
-//! What tests ask, and tables of what is told. In each row of a table stand what is looked at, what
-//! is asked, and what is told.
+//! What tests ask, and tables of what is reported. Each row of a table has a subject, a question
+//! and the expected report.
 use super::builder_calls::write_new;
 use super::calls::{Call, Calls, write_behind, write_problem, write_random};
 use super::cuts::{Deal, write_cut, write_cut_file};
@@ -30,13 +30,13 @@ pub enum Asked {
     Skipped(&'static [u8]),
     /// Of a line of bytes of a MIR text: its form.
     Form(&'static [u8]),
-    /// Of a graph and of a problem of so many points and universal regions: whether they can be
+    /// Of a graph and of a problem of this many points and universal regions: whether they can be
     /// made.
     New(u32, u32),
-    /// Of points and universal regions, of first calls, so many of them, and of further ones: what
-    /// these answer.
+    /// Of points and universal regions, of first calls, this many of them, and of further ones:
+    /// what these answer.
     Behind((u32, u32), (Calls, u32), &'static [Call]),
-    /// Of points and universal regions and of calls, up to twenty of them: what the problem tells
+    /// Of points and universal regions and of calls, up to twenty of them: what the problem reports
     /// that they make.
     Made((u32, u32), &'static [Call], OfProblem),
     /// Of a number: whether both solvers give the random problem of that number the same values.
@@ -45,44 +45,44 @@ pub enum Asked {
     Graph((u32, u32), &'static [Call], Then),
     /// Of runs that come into a set: what a frontier reaches.
     Frontier(&'static [(u32, u32)]),
-    /// The same where walks may come to an end.
+    /// Like `Frontier`, where walks may reach an end.
     FrontierToEnd(&'static [(u32, u32)]),
-    /// The same of a constraint at all points.
+    /// Like `Frontier`, for a constraint at all points.
     FrontierEverywhere(&'static [(u32, u32)]),
-    /// Of where a constraint holds and of elements that come into a set: what a list holds that its
-    /// frontier puts what it reaches into, with a set of bits and one of runs.
+    /// Of where a constraint holds and of elements that come into a set: what a list holds to which
+    /// its frontier appends what it reaches, with a set of bits and one of runs.
     Elements(At, &'static [u32]),
-    /// Of so many regions and owners: how they are dealt.
+    /// Of this many regions and owners: how the regions are assigned.
     Cut(u32, u16, Deal),
     /// Of a text: which owners it lists, as a cut file.
     CutFile(&'static [u8]),
     /// Of a number of owners and a text: which events it lists, as a schedule.
     Schedule(u16, &'static [u8]),
-    /// Of a set of a length: what it tells as elements are put in, and of the next element from
+    /// Of a set of a length: what it reports as elements are inserted, and of the next element from
     /// some numbers on.
     Sets(u32, &'static [u32], &'static [u32]),
     /// Of a set of bits: the elements that its own method gives.
     LastBit,
-    /// Of elements that are put into a set of runs: how many runs there are.
+    /// Of elements that are inserted into a set of runs: how many runs there are.
     Runs(&'static [u32]),
     /// Of the elements of two sets of runs: whether the first set is seen to be within the second.
     Within(&'static [u32], &'static [u32]),
     /// Of types, structs and shapes.
     Type(OfType),
-    /// Of a text: which of its lines the loop over them hands on, and what it says of them.
+    /// Of a text: which of its lines the loop over them passes on, and what it says of them.
     Loop(&'static [u8]),
     /// What errors print.
     Messages,
-    /// What becomes of a refused growth of memory.
+    /// What becomes of a failed allocation.
     Memory,
     /// Of a type with numbers that don't fit a piece: what it is, by itself and in a statement.
     Large(Large),
 }
 
-/// What is looked at, what is asked, and what is told.
+/// A subject, a question, and the expected report.
 pub type Row = (&'static str, Asked, &'static str);
 
-// Writes what is told.
+// Writes what is reported.
 fn write_told(out: &mut Transcript, says: &str, asked: Asked) {
     match asked {
         Asked::Line(of_line) => write_line(out, says, of_line),
@@ -114,7 +114,7 @@ fn write_told(out: &mut Transcript, says: &str, asked: Asked) {
     }
 }
 
-/// Ends the test where something else is told.
+/// Ends the test if something else is reported.
 pub fn compare(rt: &impl Abort, alloc: Global, says: &str, asked: Asked, want: &str) {
     let mut out = Transcript::new(alloc);
     write_told(&mut out, says, asked);
@@ -122,21 +122,22 @@ pub fn compare(rt: &impl Abort, alloc: Global, says: &str, asked: Asked, want: &
     drop(out);
 }
 
-/// Ends the test unless that is told which each row says.
+/// Ends the test unless each row's report is as the row says.
 pub fn compare_rows(rt: &impl Abort, alloc: Global, rows: &[Row]) {
     for row in rows {
         compare(rt, alloc, row.0, row.1, row.2);
     }
 }
 
-/// The same of lines, and of what is told of each.
+/// Like `compare_rows`, for lines and what is reported about each.
 pub fn compare_lines(rt: &impl Abort, alloc: Global, of_line: OfLine, lines: &[(&str, &str)]) {
     for line in lines {
         compare(rt, alloc, line.0, Asked::Line(of_line), line.1);
     }
 }
 
-/// The same of a text: in each row a line, ` ~ `, and what is told. An empty row says nothing.
+/// Like `compare_lines`, for a text: in each row a line, ` ~ `, and what is reported. An empty row
+/// says nothing.
 pub fn compare_text(rt: &impl Abort, alloc: Global, of_line: OfLine, rows: &str) {
     for row in rows.split('\n') {
         if !row.is_empty() {

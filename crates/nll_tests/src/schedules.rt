@@ -5,7 +5,7 @@ use super::rows::{Row, compare_rows};
 use super::transcript::Transcript;
 use nll_schedule_text::read_schedule;
 
-/// Writes the events that a schedule of so many owners lists, or the line and kind of its fault.
+/// Writes the events that a schedule of this many owners lists, or the line and kind of its fault.
 pub fn write_schedule(out: &mut Transcript, owners: u16, text: &[u8]) {
     match read_schedule(out.alloc, text, owners) {
         Ok(list) => {

@@ -6,7 +6,7 @@ use super::rows::{Asked, Row, compare_rows};
 use super::transcript::Transcript;
 use nll_core::{BitSet, Element, ElementSet, Elements, Run, RunSet, is_seen_within};
 
-// Puts elements in, those below the length, and writes of each whether it is new.
+// Inserts the elements below the length, and writes of each whether it is new.
 fn insert_all<S: ElementSet>(out: &mut Transcript, set: &mut S, len: u32, elements: &[u32])
     requires { length (S.flags set.old) ≡ len }
     ensures { length (S.flags set.new) ≡ len }
@@ -42,7 +42,7 @@ fn write_had<S: ElementSet>(out: &mut Transcript, set: &S, len: u32, from: &[u32
     }
 }
 
-// Writes what a set of a length tells: of each insertion, of itself, and of the next element from
+// Writes what a set of a length reports: of each insertion, of itself, and of the next element from
 // some numbers on.
 fn write_set<S: ElementSet>(out: &mut Transcript, len: u32, inserted: &[u32], from: &[u32]) {
     if let Ok(mut set) = S::empty(out.alloc, len) {
@@ -52,7 +52,7 @@ fn write_set<S: ElementSet>(out: &mut Transcript, len: u32, inserted: &[u32], fr
     }
 }
 
-/// Writes what a set of bits tells, and what a set of runs tells where that is something else.
+/// Writes what a set of bits reports, and what a set of runs reports if that differs.
 pub fn write_sets(out: &mut Transcript, len: u32, inserted: &[u32], from: &[u32]) {
     let mut runs = Transcript::new(out.alloc);
     write_set::<RunSet>(&mut runs, len, inserted, from);
@@ -65,8 +65,8 @@ pub fn write_sets(out: &mut Transcript, len: u32, inserted: &[u32], from: &[u32]
     drop(runs);
 }
 
-// A length, elements that are put in, numbers that the next element is sought from, and what is
-// told.
+// A length, elements that are inserted, numbers from which the next element is searched, and what
+// is reported.
 const TOLD: &[Row] = &[
     ("no element", Asked::Sets(0, &[], &[0, 1]), "has|gives"),
     (
@@ -108,7 +108,7 @@ const TOLD: &[Row] = &[
 ];
 
 /// Writes the elements that the set of bits of elements below 65 gives by a method of its own,
-/// where its last one was put in.
+/// where its last one was inserted.
 pub fn write_last_bit(out: &mut Transcript) {
     if let Ok(mut set) = BitSet::empty(out.alloc, 65) {
         if let Ok(true) = set.insert(Element(64)) {
@@ -118,7 +118,7 @@ pub fn write_last_bit(out: &mut Transcript) {
     }
 }
 
-// Puts elements below ten into a set of runs, and writes of each whether it is new and how many
+// Inserts elements below ten into a set of runs, and writes of each whether it is new and how many
 // runs there are then.
 fn write_inserted(out: &mut Transcript, set: &mut RunSet, elements: &[u32])
     requires { length set.old ≡ 10 }
@@ -135,7 +135,7 @@ fn write_inserted(out: &mut Transcript, set: &mut RunSet, elements: &[u32])
     }
 }
 
-// Writes what a set of runs tells where the elements from 2 to 5 are put in, and where all are
+// Writes what a set of runs reports where the elements from 2 to 5 are inserted, and where all are
 // taken out, and then what a copy has that was made between.
 fn write_filled(out: &mut Transcript, set: &mut RunSet)
     requires { length set.old ≡ 10 }
@@ -155,9 +155,9 @@ fn write_filled(out: &mut Transcript, set: &mut RunSet)
     }
 }
 
-/// Writes what a set of runs of elements below ten tells where elements are put in, then where the
-/// elements from 2 to 5 are put in, and where all are taken out, and then what a copy has that was
-/// made between.
+/// Writes what a set of runs of elements below ten reports where elements are inserted, then where
+/// the elements from 2 to 5 are inserted, and where all are taken out, and then what a copy has
+/// that was made between.
 pub fn write_runs(out: &mut Transcript, elements: &[u32]) {
     if let Ok(mut set) = RunSet::empty(out.alloc, 10) {
         write_inserted(out, &mut set, elements);
@@ -167,8 +167,8 @@ pub fn write_runs(out: &mut Transcript, elements: &[u32]) {
     }
 }
 
-// Writes what is told of a set of runs of elements below ten where elements are put in, and whether
-// it is seen to be within another set.
+// Writes what is reported about a set of runs of elements below ten where elements are inserted,
+// and whether it is seen to be within another set.
 fn write_inner(out: &mut Transcript, elements: &[u32], outer: &RunSet) {
     if let Ok(mut inner) = RunSet::empty(out.alloc, 10) {
         write_inserted(out, &mut inner, elements);
@@ -177,8 +177,8 @@ fn write_inner(out: &mut Transcript, elements: &[u32], outer: &RunSet) {
     }
 }
 
-/// Writes what two sets of runs of elements below ten tell where elements are put in, the outer one
-/// first, and whether the inner one is seen to be within it.
+/// Writes what two sets of runs of elements below ten report where elements are inserted, the outer
+/// one first, and whether the inner one is seen to be within it.
 pub fn write_within(out: &mut Transcript, inner: &[u32], outer: &[u32]) {
     if let Ok(mut set) = RunSet::empty(out.alloc, 10) {
         write_inserted(out, &mut set, outer);
@@ -187,7 +187,7 @@ pub fn write_within(out: &mut Transcript, inner: &[u32], outer: &[u32]) {
     }
 }
 
-// What sets tell by methods of their own.
+// What sets report by methods of their own.
 const OWN: &[Row] = &[
     // A set of bits gives its elements by a method of its own.
     ("the last element", Asked::LastBit, " 64"),
@@ -199,7 +199,7 @@ const OWN: &[Row] = &[
          last: 0 }, Run { first: 2, last: 7 }, Run { first: 9, last: 9 }] Some(Run { first: 2, \
          last: 7 }) Some(Run { first: 9, last: 9 })|0 0 2 3 4 5 6 7 9",
     ),
-    // Elements come behind the run that changed last, before it and at it, and join two runs.
+    // Elements come after the run that changed last, before it and at it, and join two runs.
     (
         "more runs",
         Asked::Runs(&[1, 3, 5, 7, 9, 3, 2, 8, 0]),
@@ -222,7 +222,7 @@ const OWN: &[Row] = &[
     ("in no set", Asked::Within(&[3], &[]), "true 1| false"),
 ];
 
-// A set has what was put in, and gives it ascending and each once.
+// A set has what was inserted, and gives it ascending and each once.
 #[test]
 fn sets_hold_what_was_put_in(rt: HostRuntime) {
     compare_rows(&rt, rt.alloc(), TOLD);

@@ -240,7 +240,7 @@ const ROWS: &[Row] = &[
     ),
 ];
 
-// Regions and points, and what values that hold nothing answer where they are put in.
+// Regions and points, and what values that hold nothing answer where they are inserted.
 const INSERTED: &[Row] = &[
     (
         "the first point, of 'static",

@@ -1,4 +1,4 @@
-//! Lists of statements: what a list tells of a statement that was pushed into it.
+//! Lists of statements: what a list reports of a statement that was pushed into it.
 use super::lines::OfLine;
 use super::rows::compare_text;
 use super::statement_names::{Resolved, statement_of};
@@ -10,7 +10,7 @@ use nll_statement_list::{PutType, StatementList};
 use nll_statements::Statement;
 use nll_types::{Place, Projection};
 
-// Writes the statement of a number, as the list makes it anew.
+// Writes the statement of a number, as the list decodes it.
 fn write_anew(out: &mut Transcript, list: &StatementList, number: usize) {
     if number < list.len() {
         match list.statement(out.alloc, number) {
@@ -23,14 +23,14 @@ fn write_anew(out: &mut Transcript, list: &StatementList, number: usize) {
     }
 }
 
-// Puts the variables that the statement of a number uses behind the others.
+// Appends the variables that the statement of a number uses.
 fn put_uses(out: &mut Transcript, list: &StatementList, number: usize, used: &mut Vec<u32>) {
     if number < list.len() {
         out.note(list.uses(number, used));
     }
 }
 
-// Writes what the list tells of the statement of a number: the variables that it uses, that which
+// Writes what the list reports of the statement of a number: the variables that it uses, that which
 // it defines, that which it drops, and whether the block ends with it.
 fn write_effects(out: &mut Transcript, list: &StatementList, number: usize) {
     let mut used = Vec::new(out.alloc);
@@ -65,7 +65,7 @@ fn push_between<T: PutType>(
     push_others(out, list);
 }
 
-/// Writes what a list tells of a statement that was pushed between others.
+/// Writes what a list reports of a statement that was pushed between others.
 pub fn write_between<T: PutType>(out: &mut Transcript, statement: &Statement<RegionId, T>) {
     let mut list = StatementList::new(out.alloc);
     push_between(out, &mut list, statement);
@@ -74,7 +74,7 @@ pub fn write_between<T: PutType>(out: &mut Transcript, statement: &Statement<Reg
     drop(list);
 }
 
-/// Writes what a list tells of the statement that is written in a line.
+/// Writes what a list reports of the statement that is written in a line.
 pub fn write_kept(out: &mut Transcript, scope: &Scope<'_>, line: &[u8]) {
     match statement_of(out, scope, line) {
         Some(statement) => {
@@ -113,8 +113,8 @@ fn write_all_uses(out: &mut Transcript, list: &StatementList) {
     drop(used);
 }
 
-/// Writes what a list has at first, and behind each statement that is pushed; and then what its
-/// statements use. A `;` stands between two statements.
+/// Writes what a list has at first, and after each statement that is pushed; and then what its
+/// statements use. A `;` separates two statements.
 pub fn write_list(out: &mut Transcript, scope: &Scope<'_>, text: &str) {
     let mut list = StatementList::new(out.alloc);
     write_all(out, &list);
@@ -158,7 +158,7 @@ stop ~ stop [] None None true
 end ~ no statement
 ";
 
-// The same of what is made.
+// Like the rows above, for tuples and structs that are made.
 const MADE: &str = "
 _4 = make () () ~ _4 = make ( )| [] Some(4) None false
 _4.0 = make (int, &'a mut &'b T) (const, move _2) \
@@ -176,7 +176,7 @@ _4 = make (fn(&'a int, U) -> W<'b>, fn() -> ()) (move _1, move _2) \
 _4 = make (X) (const) ~ no statement
 ";
 
-// The same of calls.
+// Like the rows above, for calls.
 const CALLS: &str = "
 _2 = call f(): int -> bb1 ~ _2 = call : int| to 1 [] Some(2) None true
 _2 = call f(const: int): () where 'b: 'b -> bb5 \
@@ -189,7 +189,7 @@ _2 = call f(move _1: fn(int) -> &'b T): fn() -> int -> bb1 unwind bb0 \
 ~ _2 = call move _1: fn( int ) &2 P0|,: fn( ) int| to 1 or 0 [1] Some(2) None true
 ";
 
-// Statements with a `;` between two of them. How many a list has at first and behind each push, and
+// Statements with a `;` between two of them. How many a list has at first and after each push, and
 // each of them; and then the variables that they use.
 const LISTS: &str = "
 live _1;_1 = const;return \
@@ -204,7 +204,8 @@ _2 = call f(copy _1: &'a int): U where 'a: 'b -> bb1 unwind bb2;drop _2 -> bb3;s
 4: _2 = call copy _1: &1 int|,: S2< >| 1|2| to 1 or 2; drop 2 to 3; stop; read _5.0; uses [1, 5]
 ";
 
-// A list makes each kind of statement anew as it was pushed between others, and tells what it does.
+// A list makes each kind of statement anew as it was pushed between others, and reports what it
+// does.
 #[test]
 fn statements_are_kept(rt: HostRuntime) {
     compare_text(&rt, rt.alloc(), OfLine::Kept, STATEMENTS);

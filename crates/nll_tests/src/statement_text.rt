@@ -9,7 +9,7 @@ use nll_types::{Operand, Place, Projection, Ty};
 
 /// A region or a type in a statement.
 pub trait Told {
-    /// Writes it, and a bar behind it.
+    /// Writes it, and a bar.
     fn tell(&self, out: &mut Transcript);
 }
 
@@ -58,7 +58,7 @@ fn write_operand(out: &mut Transcript, operand: &Operand) {
     }
 }
 
-// Writes what is made of operands, with a comma behind each of them.
+// Writes what is made of operands, with a comma after each of them.
 fn write_make<T: Told>(out: &mut Transcript, made: &Make<T>) {
     write_place(out, "_", &made.place);
     out.say(" = make ");
@@ -77,7 +77,7 @@ fn write_exits(out: &mut Transcript, target: u32, unwind: Option<u32>) {
     }
 }
 
-// Writes the arguments of a call, with a comma behind each of them.
+// Writes the arguments of a call, with a comma after each of them.
 fn write_arguments<T: Told>(out: &mut Transcript, arguments: &[(Operand, T)]) {
     for argument in arguments {
         write_operand(out, &argument.0);

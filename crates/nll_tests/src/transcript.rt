@@ -1,14 +1,15 @@
-//! What tests write down of what they are told, and comparing it with what was found by hand.
+//! What tests write down of the reports that they get, and comparing it with what was found by
+//! hand.
 use std::alloc::Global;
 use std::fmt::{Debug, Display};
 use std::process::Abort;
 
-/// A text that grows until memory is refused, and then remembers that it was.
+/// A text that grows until an allocation fails, and then remembers that one failed.
 #[derive(Drop)]
 pub struct Transcript {
     text: String,
     is_refused: bool,
-    /// The memory of what is asked.
+    /// The allocator of the calls.
     pub alloc: Global,
 }
 
@@ -33,7 +34,7 @@ impl Transcript {
         self.note(written);
     }
 
-    /// Writes a value behind words.
+    /// Writes a value after words.
     pub fn show<T: Debug>(&mut self, before: &str, value: &T) {
         let written = write!(self.text, "{before}{value:?}");
         self.note(written);
@@ -51,23 +52,23 @@ impl Transcript {
         self.note(written);
     }
 
-    /// Writes two numbers, each with words behind it.
+    /// Writes two numbers, each with words after it.
     pub fn pair(&mut self, first: u32, between: &str, second: u32, behind: &str) {
         self.number("", first, between);
         self.number("", second, behind);
     }
 
-    /// Writes a size behind words.
+    /// Writes a size after words.
     pub fn size(&mut self, before: &str, size: usize) {
         self.show(before, &size);
     }
 
-    /// Writes a number, or that there is none, behind words.
+    /// Writes a number, or that there is none, after words.
     pub fn option(&mut self, before: &str, number: Option<u32>) {
         self.show(before, &number);
     }
 
-    /// Writes numbers as a list behind words.
+    /// Writes numbers as a list after words.
     pub fn numbers(&mut self, before: &str, numbers: &[u32]) {
         self.show(before, &numbers);
     }

@@ -1,20 +1,20 @@
-//! Types, structs and tables that are written as data. Where memory is refused, something else is
+//! Types, structs and tables that are written as data. If an allocation fails, something else is
 //! made, and the transcript says so.
 use super::transcript::Transcript;
 use nll_core::RegionId;
 use nll_types::{Declaration, Parameter, Sign, Ty, TypeTable, has_good_fields};
 
 /// A step in making types. It takes its parts from the end of the list of those made so far, and
-/// puts the type that it makes there.
+/// appends the type that it makes.
 #[derive(Clone, Copy)]
 pub enum Step {
     Int,
     Parameter(usize),
     /// A reference of this region, `mut` or not, to the last type.
     Reference(u32, bool),
-    /// A tuple of so many of the last types.
+    /// A tuple of this many of the last types.
     Tuple(usize),
-    /// A struct, its region arguments, and so many of the last types for its type arguments.
+    /// A struct, its region arguments, and this many of the last types for its type arguments.
     Named(usize, &'static [u32], usize),
 }
 
@@ -68,7 +68,7 @@ fn made(out: &mut Transcript, types: &mut Vec<Ty>, step: Step) -> Ty {
     }
 }
 
-/// The types that steps make, and then so many references to the last one.
+/// The types that steps make, and then this many references to the last one.
 pub fn types_of(out: &mut Transcript, steps: &[Step], references: usize) -> Vec<Ty> {
     let mut types = Vec::new(out.alloc);
     for step in steps {

@@ -55,7 +55,7 @@ fn write_told(out: &mut Transcript, scope: &Scope<'_>, text: &TypeText<'_>) {
     }
 }
 
-// Writes what is told of the type at the front of a line, where there is one.
+// Writes what is reported about the type at the front of a line, where there is one.
 fn write_front(out: &mut Transcript, scope: &Scope<'_>, line: &[u8]) {
     match type_at(out.alloc, line) {
         Ok(Some((text, _))) => {
@@ -78,7 +78,7 @@ fn kinds(out: &mut Transcript) -> Vec<Vec<bool>> {
     kinds
 }
 
-// Writes what is told of a line over a scope.
+// Writes what is reported about a line over a scope.
 fn write_asked(out: &mut Transcript, scope: &Scope<'_>, line: &str, asked: OfLine) {
     match asked {
         OfLine::Names => write_front(out, scope, line.as_bytes()),
@@ -88,8 +88,8 @@ fn write_asked(out: &mut Transcript, scope: &Scope<'_>, line: &str, asked: OfLin
     }
 }
 
-/// Writes what is told of a line over the scope of the tests: the regions 'static, 'a and 'b by the
-/// numbers 0, 1 and 2, the type parameter T by 0, and the structs W, V, U and T by 0 to 3.
+/// Writes what is reported about a line over the scope of the tests: the regions 'static, 'a and 'b
+/// by the numbers 0, 1 and 2, the type parameter T by 0, and the structs W, V, U and T by 0 to 3.
 pub fn write_in_scope(out: &mut Transcript, line: &str, asked: OfLine) {
     let regions = names_of(out, &["static", "a", "b"]);
     let parameters = names_of(out, &["T"]);

@@ -17,7 +17,7 @@ use nll_statements::{Make, Statement};
 use nll_types::Place;
 use std::alloc::Global;
 
-// Writes a piece, and a bar behind it.
+// Writes a piece, and a bar after it.
 fn write_piece(out: &mut Transcript, piece: Piece) {
     match piece {
         Piece::Int => out.say("int|"),
@@ -62,7 +62,7 @@ fn put_alone(alloc: Global, ty: &ResolvedType) -> Result<TypePieces, Memory> {
     Ok(TypePieces::of(pieces))
 }
 
-// Writes what is told of a resolved type.
+// Writes what is reported about a resolved type.
 fn write_resolved(out: &mut Transcript, resolved: &ResolvedType) {
     match put_alone(out.alloc, resolved) {
         Ok(ty) => {
@@ -73,7 +73,7 @@ fn write_resolved(out: &mut Transcript, resolved: &ResolvedType) {
     }
 }
 
-// Writes what is told of a written type, where each name in it is known.
+// Writes what is reported about a written type, where each name in it is known.
 fn write_told(out: &mut Transcript, scope: &Scope<'_>, text: &TypeText<'_>) {
     if scope.regions.len() <= 100 {
         match resolve(out.alloc, scope, text) {
@@ -155,7 +155,7 @@ fn large_type(alloc: Global, large: Large) -> Result<TypePieces, Memory> {
     }
 }
 
-// Writes what a list tells of a statement that makes a value of a type.
+// Writes what a list reports of a statement that makes a value of a type.
 fn write_made(out: &mut Transcript, ty: TypePieces) {
     let made = Make {
         place: Place::Whole(1),
@@ -169,7 +169,7 @@ fn write_made(out: &mut Transcript, ty: TypePieces) {
     }
 }
 
-/// Writes a type with large numbers, and what a list tells of a statement that it stands in.
+/// Writes a type with large numbers, and what a list reports of a statement in which it occurs.
 pub fn write_large(out: &mut Transcript, large: Large) {
     if let Ok(ty) = large_type(out.alloc, large) {
         write_tree(out, &ty);
@@ -199,7 +199,7 @@ T<'a, int> ~ P0|more 0|: P0
 X ~ unknown
 ";
 
-// Types with large numbers, and what a list tells of a statement with such a type.
+// Types with large numbers, and what a list reports of a statement with such a type.
 const LARGE: &[Row] = &[
     (
         "a struct",

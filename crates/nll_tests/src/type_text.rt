@@ -1,4 +1,4 @@
-//! What types, structs and shapes tell, as text.
+//! What types, structs and shapes report, as text.
 ghost use Rattle.std.specs.Prelude.{◌<◌, length};
 
 use super::meetings::{Meeting, write_both, write_meeting};
@@ -88,7 +88,7 @@ pub fn write_type(out: &mut Transcript, ty: &Ty) {
     }
 }
 
-// Writes a type that was asked for, where there is one.
+// Writes a type that was requested, where there is one.
 fn write_asked(out: &mut Transcript, asked: Result<Option<Ty>, Memory>) {
     match asked {
         Ok(Some(ty)) => {
@@ -168,7 +168,7 @@ fn declare_all(out: &mut Transcript, table: &mut TypeTable) {
     }
 }
 
-// Writes what is told of the last type that steps make, and of a place in it.
+// Writes what is reported about the last type that steps make, and of a place in it.
 fn write_made(
     out: &mut Transcript,
     table: &mut TypeTable,
@@ -223,7 +223,7 @@ fn write_same(out: &mut Transcript, table: &mut TypeTable, number: usize, made: 
     }
 }
 
-// Writes the size of a type, and whether its copy and the type with arguments put in have its
+// Writes the size of a type, and whether its copy and the type with arguments substituted have its
 // shape. It has no parameter.
 fn write_size(out: &mut Transcript, table: &mut TypeTable, ty: &Ty) {
     if let Ok(number) = table.shape(out.alloc, ty, &[]) {
@@ -236,7 +236,7 @@ fn write_size(out: &mut Transcript, table: &mut TypeTable, ty: &Ty) {
     }
 }
 
-// Writes what is told of an `int` behind so many references.
+// Writes what is reported about an `int` after this many references.
 fn write_deep(out: &mut Transcript, table: &mut TypeTable, depth: usize) {
     let types = types_of(out, &[Int], depth);
     if let Some(ty) = types.last() {
@@ -245,7 +245,7 @@ fn write_deep(out: &mut Transcript, table: &mut TypeTable, depth: usize) {
     drop(types);
 }
 
-// Declares a struct with a drop of its own and so many further ones, each of which has for its
+// Declares a struct with a drop of its own and this many further ones, each of which has for its
 // field the one before it of a pair of its own parameter.
 fn declare_doubling(out: &mut Transcript, table: &mut TypeTable, more: usize) {
     let first: Written<'_> = (&[], &[false], true, &[Parameter(0)]);
@@ -256,7 +256,8 @@ fn declare_doubling(out: &mut Transcript, table: &mut TypeTable, more: usize) {
     }
 }
 
-// Writes how large what is behind so many first fields of a type is, and how many shapes there are.
+// Writes how large what is behind this many first fields of a type is, and how many shapes there
+// are.
 fn write_behind(out: &mut Transcript, table: &mut TypeTable, ty: &Ty, times: usize) {
     if let Ok(from) = table.shape(out.alloc, ty, &[]) {
         let mut number = from;
@@ -271,8 +272,8 @@ fn write_behind(out: &mut Transcript, table: &mut TypeTable, ty: &Ty, times: usi
     }
 }
 
-// Writes what is told of the last of so many structs that double, of a reference, and of what is
-// behind it.
+// Writes what is reported about the last of this many structs that double, of a reference, and of
+// what is behind it.
 fn write_doubling(out: &mut Transcript, table: &mut TypeTable, more: usize) {
     declare_doubling(out, table, more);
     let types = types_of(out, &[Int, Reference(3, false)], 0);
@@ -290,9 +291,9 @@ pub enum OfType {
     Place(&'static [Step], &'static [Projection]),
     /// A field of a struct, and nodes that are added.
     Field,
-    /// An `int` behind so many references.
+    /// An `int` after this many references.
     Deep(usize),
-    /// The last of so many structs that double.
+    /// The last of this many structs that double.
     Doubling(usize),
     /// What is judged of a place, where `_0` and `_1` have the last two types that steps make.
     Meeting(&'static [Step], Meeting, (u32, &'static [Projection])),
@@ -300,7 +301,7 @@ pub enum OfType {
     Both,
 }
 
-// Writes what is told over a table.
+// Writes what is reported over a table.
 fn write_told(out: &mut Transcript, table: &mut TypeTable, asked: OfType) {
     match asked {
         OfType::Place(steps, projections) => write_made(out, table, steps, projections),
@@ -312,7 +313,7 @@ fn write_told(out: &mut Transcript, table: &mut TypeTable, asked: OfType) {
     }
 }
 
-/// Writes what is told of types.
+/// Writes what is reported about types.
 pub fn write_typed(out: &mut Transcript, asked: OfType) {
     let mut table = TypeTable::new(out.alloc);
     write_told(out, &mut table, asked);

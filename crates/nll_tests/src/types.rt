@@ -91,8 +91,8 @@ const PLACES: &[Row] = &[
 // A type that nests as deep as it can, and one of a node more; and the types behind structs that
 // double.
 const LARGE: &[Row] = &[
-    // A field has its declared type with the arguments put in, and a shape that is added twice is
-    // one.
+    // A field has its declared type with the arguments substituted, and a shape that is added twice
+    // is one.
     ("a field", Type(Field), "&6 mut int same true other false"),
     // A type of the most nodes nests as deep as it can, and one of a node more is no longer small.
     (
@@ -105,8 +105,8 @@ const LARGE: &[Row] = &[
         Type(Deep(4_096)),
         "size 4097 small false copy true put true",
     ),
-    // The types behind structs that double are told without being written out: two shapes a struct.
-    // Their drop regions go by what is kept of each struct.
+    // The types behind structs that double are reported without being written out: two shapes a
+    // struct. Their drop regions go by what is kept of each struct.
     ("two", Type(Doubling(2)), "size 11 of 7 shapes, 3 drop 3"),
     (
         "a thousand",

@@ -23,7 +23,7 @@ pub fn write_pieces(out: &mut Transcript, text: &TypeText<'_>) {
     }
 }
 
-/// Writes the pieces of the type in front, and the bytes that are left behind it.
+/// Writes the pieces of the type at the front, and the bytes that are left after it.
 pub fn write_front(out: &mut Transcript, line: &[u8]) {
     match type_at(out.alloc, line) {
         Ok(Some((text, left))) => {
@@ -36,7 +36,7 @@ pub fn write_front(out: &mut Transcript, line: &[u8]) {
     }
 }
 
-/// Writes whether a function is written in the type in front.
+/// Writes whether a function is written in the type at the front.
 pub fn write_function_flag(out: &mut Transcript, line: &[u8]) {
     match type_at(out.alloc, line) {
         Ok(Some((text, _))) => {
@@ -48,7 +48,7 @@ pub fn write_function_flag(out: &mut Transcript, line: &[u8]) {
     }
 }
 
-/// Writes what was told, where no memory was refused.
+/// Writes what was reported, if no allocation failed.
 pub fn write_flag(out: &mut Transcript, told: Result<bool, Memory>) {
     match told {
         Ok(is_so) => out.flag("", is_so, ""),
@@ -56,7 +56,7 @@ pub fn write_flag(out: &mut Transcript, told: Result<bool, Memory>) {
     }
 }
 
-// Lines, and the types in front of them: the pieces of each, and the bytes that are left behind it.
+// Lines, and the types at their front: the pieces of each, and the bytes that are left after it.
 const TYPES: &str = "
  ~ none
 int ~ int|left |
@@ -103,7 +103,7 @@ fn() -> -> int ~ none
 ";
 
 // Types with blanks of each kind between tokens and with none, words that are longer than those of
-// types, and bytes that are no tokens, in a type and behind one.
+// types, and bytes that are no tokens, in a type and after one.
 const GAPS: &str = "
 \tint\r ~ int|left \r|
 int \t\r ~ int|left  \t\r|
@@ -172,8 +172,8 @@ const CAPITALS: &[(&str, &str)] = &[
     ("_A", "false"),
 ];
 
-// The type in front is read, with its pieces in order, and it's told whether a function is written
-// in it. A name of a struct begins with a capital letter.
+// The type at the front is read, with its pieces in order, and the result says whether a function
+// is written in it. A name of a struct begins with a capital letter.
 #[test]
 fn types_are_read(rt: HostRuntime) {
     compare_text(&rt, rt.alloc(), OfLine::Type, TYPES);

@@ -11,11 +11,11 @@ without_last_feed [] = []
 without_last_feed (b ∷ []) = if b == 10 then [] else b ∷ []
 without_last_feed (b ∷ c ∷ bs) = b ∷ without_last_feed (c ∷ bs)
 
--- The lines of a text are its pieces between line feeds, where one at the very end parts nothing.
+-- The lines of a text are its pieces between line feeds; one at the very end separates nothing.
 abbrev pub lines_of : List ℕ → List (List ℕ)
 lines_of text = slice_split (λ b. b == 10) (without_last_feed text)
 
--- The lines left to read are those of the text that is left, and none where no text is left.
+-- The lines left to read are those of the rest of the text, and none if there is no rest.
 abbrev pub lines_left : Option (Bor (List ℕ)) → List (List ℕ)
 lines_left None = []
 lines_left (Some text) = lines_of text.now
@@ -33,6 +33,6 @@ abbrev pub is_empty_or_remark : List ℕ → Bool
 is_empty_or_remark [] = true
 is_empty_or_remark (b ∷ bs) = b == 35
 
--- A line is skipped if it is blanks alone, or if `#` is its first byte that isn't a blank.
+-- A line is skipped if it has only blanks, or if its first byte that isn't a blank is `#`.
 abbrev pub is_skipped : List ℕ → Bool
 is_skipped line = is_empty_or_remark (without_front_blanks line)

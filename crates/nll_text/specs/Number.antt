@@ -1,5 +1,4 @@
--- Numbers in a text: `0`, or one to nine digits with no zero in front.
--- Source: project's choice.
+-- Numbers in a text: `0`, or one to nine digits without a leading zero. Source: project's choice.
 use Rattle.std.specs.Prelude.{◌≡◌, ℕ, ◌<◌, ◌≤◌, ◌^◌, List, false, length, take, slice_index_or}
 use Rattle.std.specs.Char.{is_ascii_digit}
 use Rattle.std.specs.Fmt.{decimal}
@@ -10,7 +9,7 @@ pub record IsNumber (word : List ℕ) (n : ℕ) : Type 0 where
   pub small : n < 10 ^ 9
   pub printed : word ≡ decimal n
 
--- So many digits stand at the front of the bytes and no more, and this is their value.
+-- This many digits are at the front of the bytes and no more, and this is their value.
 pub record IsDigitFront (bytes : List ℕ) (n count : ℕ) : Type 0 where
   pub within : count ≤ length bytes
   pub digits : AllDigits 10 (take count bytes)

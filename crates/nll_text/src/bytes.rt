@@ -6,7 +6,8 @@ ghost use Rattle.nll_text.specs.Lines as lines;
 ghost use Rattle.nll_text.specs.Tokens as tokens;
 ghost use Rattle.nll_text.specs.Lexing.{SplitsWhile, is_no_blank};
 
-// Each byte that words are made of stands at its own place, and a dot at every other place.
+// Each byte that words are made of is at the index of its own value, and a dot at every other
+// index.
 static WORD_BYTES: [u8; 256] = *b"\
     ................................\
     ................0123456789......\
@@ -65,21 +66,21 @@ pub(crate) fn same_bytes(bytes: &[u8], others: &[u8]) -> bool
     true
 }
 
-// The word bytes at the front, perhaps none, and the rest.
+// The word bytes at the front, possibly none, and the rest.
 pub(crate) fn split_word(bytes: &[u8]) -> (&[u8], &[u8])
     ensures { SplitsWhile tokens.is_word_byte bytes.now result.0.now result.1.now }
 {
     bytes.split_at(word_len(bytes))
 }
 
-// The blanks at the front, perhaps none, and the rest.
+// The blanks at the front, possibly none, and the rest.
 pub(crate) fn split_gap(bytes: &[u8]) -> (&[u8], &[u8])
     ensures { SplitsWhile lines.is_blank bytes.now result.0.now result.1.now }
 {
     bytes.split_at(gap_len(bytes))
 }
 
-// The bytes in front of the first blank, perhaps none, and the rest.
+// The bytes before the first blank, possibly none, and the rest.
 pub(crate) fn split_run(bytes: &[u8]) -> (&[u8], &[u8])
     ensures { SplitsWhile is_no_blank bytes.now result.0.now result.1.now }
 {

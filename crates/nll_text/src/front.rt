@@ -20,7 +20,7 @@ fn goes_on(bytes: &[u8]) -> bool
     }
 }
 
-/// What stands behind the first token of a line, where that token is this word.
+/// What follows the first token of a line, where that token is this word.
 pub fn after_word<'a>(line: &'a [u8], word: &[u8]) -> Option<&'a [u8]>
     requires { IsWord word.now }
     ensures { MatchOption result (BeginsNotWith line.now (tokens.word word.now))
@@ -37,7 +37,7 @@ pub fn after_word<'a>(line: &'a [u8], word: &[u8]) -> Option<&'a [u8]>
     Some(rest)
 }
 
-/// The number that is the first token of a line, and what stands behind it.
+/// The number that is the first token of a line, and what follows it.
 pub fn first_number(line: &[u8]) -> Option<(u32, &[u8])>
     ensures { MatchOption result
         ((n : ℕ) → n < 10 ^ 9 → BeginsNotWith line.now (tokens.word (decimal n)))
@@ -56,7 +56,7 @@ pub fn first_number(line: &[u8]) -> Option<(u32, &[u8])>
     Some((number, rest))
 }
 
-/// The name of the region that is the first token of a line, and what stands behind it.
+/// The name of the region that is the first token of a line, and what follows it.
 pub fn first_region(line: &[u8]) -> Option<(&[u8], &[u8])>
     ensures { MatchOption result ((x : List ℕ) → BeginsNotWith line.now (tokens.region x))
         (λ p. BeginsWith line.now (tokens.region p.0.now) p.1.now) }

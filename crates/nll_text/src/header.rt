@@ -5,7 +5,7 @@ ghost use Rattle.nll_text.specs.Header.{IsHeader, runs};
 
 use crate::bytes::{split_gap, split_run};
 
-// The first run of a line, and what stands after it.
+// The first run of a line, and what follows it.
 fn next_run(line: &[u8]) -> Option<(&[u8], &[u8])>
     ensures { MatchOption result (runs line.now ≡ [])
         (λ p. runs line.now ≡ p.0.now ∷ runs p.1.now) }
@@ -17,8 +17,8 @@ fn next_run(line: &[u8]) -> Option<(&[u8], &[u8])>
     Some(split_run(core))
 }
 
-/// Tells whether a line is the header of this kind and version: these two runs, compared byte by
-/// byte, with blanks between them and any number of blanks round them.
+/// Says whether a line is the header of this kind and version: these two runs, compared byte by
+/// byte, with blanks between them and any number of blanks around them.
 ///
 /// # Cost
 /// The length of the line (not proved).

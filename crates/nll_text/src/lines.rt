@@ -5,7 +5,7 @@ ghost use Rattle.nll_text.specs.Lines.{lines_of, lines_left};
 
 use memchr::memchr_iter;
 
-// Where the first line feed stands.
+// The index of the first line feed.
 fn first_line_feed(text: &[u8]) -> Option<usize>
     ensures place { result ≡ position (λ b. b == 10) text.now }
     ensures within { IfSome result (λ i. i < length text.now) }

@@ -8,7 +8,7 @@ use crate::bytes::split_gap;
 use crate::error::NotUtf8;
 use std::str;
 
-// Blanks alone, or a remark behind `#`.
+// Blanks alone, or a remark after `#`.
 fn is_skipped(line: &[u8]) -> bool
     ensures { result ≡ lines.is_skipped line.now }
 {

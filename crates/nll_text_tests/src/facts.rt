@@ -18,7 +18,7 @@ pub struct Facts<'a> {
     regions: Regions<'a>,
 }
 
-// Lines by their first words, their groups, and a letter for each part behind the word.
+// Lines by their first words, their groups, and a letter for each part after the word.
 const FORMS: &[(&str, u32, &str)] = &[
     ("points", 1, "n"),
     ("universal", 2, "u"),
@@ -87,7 +87,7 @@ impl<'a> Facts<'a> {
         }
     }
 
-    // Whether a line of a group may stand behind those before.
+    // Whether a line of a group may follow those before.
     fn is_in_order(&self, group: u32) -> bool {
         let is_begun = (group == 1) == (self.reached == 0);
         is_begun && self.reached <= group && self.reached != 6

@@ -21,7 +21,7 @@ enum Format {
     Schedule,
 }
 
-// What the reader of the program tells of a text.
+// What the program's reader reports about a text.
 fn told_quickly(alloc: Global, format: Format, text: &[u8]) -> String {
     let mut out = String::new(alloc);
     match format {
@@ -33,7 +33,7 @@ fn told_quickly(alloc: Global, format: Format, text: &[u8]) -> String {
     out
 }
 
-// What the slow reader tells of a text.
+// What the slow reader reports about a text.
 fn told_slowly(alloc: Global, format: Format, text: &[u8]) -> String {
     let mut out = String::new(alloc);
     match format {
@@ -50,13 +50,13 @@ fn told_slowly(alloc: Global, format: Format, text: &[u8]) -> String {
     out
 }
 
-// Bytes that mean something in a text, stand beside those that do, or are of no UTF-8.
+// Bytes that mean something in a text, are next to those that do, or are no UTF-8.
 const BYTES: &[u8] = &[
     0, 9, 10, 13, 32, 35, 36, 38, 39, 41, 44, 45, 46, 48, 49, 50, 51, 52, 57, 62, 127, 128, 195,
     255,
 ];
 
-// A piece that is left out has at most so many bytes.
+// A piece that is left out has at most this many bytes.
 const LONGEST: usize = 12;
 
 // A facts text of each form of line, with a remark that has a letter of two bytes.
@@ -126,7 +126,7 @@ const TEXTS: &[(Format, &str)] = &[
     (Format::Schedule, SCHEDULE),
 ];
 
-// Ends the test unless both readers tell the same of a text. The number tells which it is.
+// Ends the test unless both readers report the same about a text. The number says which it is.
 fn compare(rt: &impl Abort, alloc: Global, format: Format, text: &[u8], number: (usize, u8)) {
     let quick = told_quickly(alloc, format, text);
     let slow = told_slowly(alloc, format, text);
@@ -134,7 +134,7 @@ fn compare(rt: &impl Abort, alloc: Global, format: Format, text: &[u8], number: 
     assert!(rt; is_same, "{number:?}: {quick}, and slowly {slow}");
 }
 
-// The same of each beginning of a text. The number is its length.
+// Like `compare`, for each beginning of a text. The number is its length.
 fn compare_beginnings(rt: &impl Abort, alloc: Global, format: Format, text: &[u8]) {
     for length in 0..=text.len() {
         let beginning = text.get(..length).unwrap_or(b"");
@@ -142,7 +142,7 @@ fn compare_beginnings(rt: &impl Abort, alloc: Global, format: Format, text: &[u8
     }
 }
 
-// The same of a text where each of the bytes stands at a place.
+// Like `compare`, for a text with each of the bytes at one place.
 fn compare_place(rt: &impl Abort, alloc: Global, format: Format, text: &mut [u8], place: usize) {
     for byte in BYTES {
         if let Some(changed) = text.get_mut(place) {
@@ -152,7 +152,7 @@ fn compare_place(rt: &impl Abort, alloc: Global, format: Format, text: &mut [u8]
     }
 }
 
-// The same of each place of a text.
+// Like `compare_place`, for each place of a text.
 fn compare_changes(rt: &impl Abort, alloc: Global, format: Format, text: &mut [u8]) {
     for place in 0..text.len() {
         let kept = text.get(place).copied().unwrap_or(0);
@@ -163,7 +163,7 @@ fn compare_changes(rt: &impl Abort, alloc: Global, format: Format, text: &mut [u
     }
 }
 
-// The same of a text without a piece of it. The number tells where it stood.
+// Like `compare`, for a text without a piece of it. The number says where the piece was.
 fn compare_without(
     rt: &impl Abort,
     alloc: Global,
@@ -180,7 +180,7 @@ fn compare_without(
     compare(rt, alloc, format, rest.as_slice(), (begin, 1));
 }
 
-// The same of each piece that begins at a place.
+// Like `compare_without`, for each piece that begins at a place.
 fn compare_pieces(rt: &impl Abort, alloc: Global, format: Format, text: &[u8], begin: usize) {
     for length in 1..=LONGEST {
         let end = begin.saturating_add(length);
@@ -188,7 +188,7 @@ fn compare_pieces(rt: &impl Abort, alloc: Global, format: Format, text: &[u8], b
     }
 }
 
-// Both readers tell the same of each beginning of a text.
+// Both readers report the same about each beginning of a text.
 #[test]
 fn beginnings_are_read(rt: HostRuntime) {
     for (format, lines) in TEXTS {
@@ -197,7 +197,7 @@ fn beginnings_are_read(rt: HostRuntime) {
     }
 }
 
-// Both readers tell the same of a text, whatever byte stands at whatever place.
+// Both readers report the same about a text, whatever byte is at whatever place.
 #[test]
 fn changed_texts_are_read(rt: HostRuntime) {
     for (format, lines) in TEXTS {
@@ -206,7 +206,7 @@ fn changed_texts_are_read(rt: HostRuntime) {
     }
 }
 
-// Both readers tell the same of a text without any short piece of it.
+// Both readers report the same about a text without any short piece of it.
 #[test]
 fn torn_texts_are_read(rt: HostRuntime) {
     for (format, lines) in TEXTS {
@@ -217,7 +217,7 @@ fn torn_texts_are_read(rt: HostRuntime) {
     }
 }
 
-// Both readers tell the same of a type that is as large as it may be, and of a larger one.
+// Both readers report the same about a type that is as large as it may be, and about a larger one.
 #[test]
 fn large_types_are_read(rt: HostRuntime) {
     for lines in LARGE {

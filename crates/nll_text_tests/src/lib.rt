@@ -1,4 +1,4 @@
-//! Tests of the readers of texts of all formats, beside slow readers that were written after the
+//! Tests of the readers of texts of all formats, against slow readers that were written from the
 //! definitions alone.
 //!
 //! Reading order: `tokens`, `line`, `slow`; `lists`, `regions`, `facts`; `shapes`, `types`,

@@ -1,4 +1,5 @@
-//! A line that is read from its first token to its last, and the kind of fault that is told of it.
+//! A line that is read from its first token to its last, and the kind of fault that is reported for
+//! it.
 use super::tokens::{Bytes, is, is_capital, is_region, is_word, number_of, put_tokens};
 use nll_format::TextKind;
 use nll_format::TextKind::{
@@ -7,7 +8,7 @@ use nll_format::TextKind::{
 use nll_problem::Kind;
 use std::alloc::Global;
 
-// The kinds of fault that a line of a short text can have, the first to be told in front.
+// The kinds of fault that a line of a short text can have, in the order of reporting.
 const KINDS: &[TextKind] = &[
     NotUtf8,
     Header,
@@ -21,7 +22,7 @@ const KINDS: &[TextKind] = &[
     End,
 ];
 
-// Where a kind stands among them.
+// The position of a kind among them.
 fn place_of(kind: TextKind) -> usize {
     for at in 0..KINDS.len() {
         if KINDS[at] == kind {
@@ -31,7 +32,7 @@ fn place_of(kind: TextKind) -> usize {
     KINDS.len()
 }
 
-/// The tokens of a line, how many of them are taken, and the kind of fault that is told so far.
+/// The tokens of a line, how many of them are taken, and the kind of fault that is reported so far.
 #[derive(Drop)]
 pub struct Line<'a> {
     tokens: Vec<Bytes<'a>>,
@@ -59,7 +60,7 @@ impl<'a> Line<'a> {
         }
     }
 
-    /// The kind of fault that is told of the line once it is read.
+    /// The kind of fault that is reported about the line once it is read.
     pub fn fault(&mut self) -> Option<TextKind> {
         let is_left = self.left() > 0;
         self.wrong_if(is_left, Syntax);

@@ -40,7 +40,7 @@ impl<'a> Said<'a> for Cut {
     }
 }
 
-/// The events that the lines of a schedule of so many owners list.
+/// The events that the lines of a schedule of this many owners list.
 #[derive(Drop)]
 pub struct Schedule {
     owners: u16,

@@ -1,4 +1,4 @@
-//! MIR texts: declarations, blocks, and in which order lines stand.
+//! MIR texts: declarations, blocks, and the order of lines.
 use super::line::Line;
 use super::points::read_point;
 use super::regions::Regions;
@@ -22,7 +22,7 @@ pub struct Mir<'a> {
     pub structs: Vec<Struct<'a>>,
     // The shapes of the variables' types.
     pub variables: Vec<Tokens<'a>>,
-    // How many blocks there are to be, how many there are, and how many points.
+    // How many blocks there must be, how many there are, and how many points.
     blocks: u64,
     begun: u64,
     points: u64,
@@ -30,7 +30,7 @@ pub struct Mir<'a> {
     owes: bool,
 }
 
-// The groups of lines by their first words. All others stand at points.
+// The groups of lines by their first words. All others are at points.
 const GROUPS: &[(&str, u32)] = &[
     ("universal", 1),
     ("outlives", 2),
@@ -85,7 +85,7 @@ fn read_parameters<'a>(alloc: Global, line: &mut Line<'a>, is_second: bool) -> T
     parameters
 }
 
-// Whether a name stands twice.
+// Whether a name occurs twice.
 fn has_repeats(names: &[Bytes<'_>]) -> bool {
     for at in 0..names.len() {
         if is_among(names.get(at + 1..).unwrap_or(&[]), names[at]) {
@@ -112,7 +112,7 @@ impl<'a> Mir<'a> {
         }
     }
 
-    // Whether a line of a group may stand behind those before.
+    // Whether a line of a group may follow those before.
     fn is_in_order(&self, group: u32) -> bool {
         let is_between = (self.reached == 7 || self.reached == 8) && !self.owes;
         match group {
@@ -150,7 +150,7 @@ impl<'a> Mir<'a> {
         }
     }
 
-    // Reads what stands behind `assert`.
+    // Reads what follows `assert`.
     fn assert(&mut self, line: &mut Line<'a>) {
         line.wrong_if(!self.is_second, Syntax);
         self.regions.known(line);
@@ -158,7 +158,7 @@ impl<'a> Mir<'a> {
         self.regions.known(line);
     }
 
-    // Reads what stands behind `struct`.
+    // Reads what follows `struct`.
     fn declare_struct(&mut self, line: &mut Line<'a>) {
         let name = line.name();
         let parameters = read_parameters(self.alloc, line, self.is_second);
@@ -176,7 +176,7 @@ impl<'a> Mir<'a> {
         });
     }
 
-    // Reads what stands behind `let`.
+    // Reads what follows `let`.
     fn declare_variable(&mut self, line: &mut Line<'a>) {
         let number = line.number("_");
         line.wrong_if(number != self.variables.len() as u64, Range);
@@ -185,14 +185,14 @@ impl<'a> Mir<'a> {
         let _ = self.variables.push(shape);
     }
 
-    // Reads what stands behind `blocks`.
+    // Reads what follows `blocks`.
     fn count_blocks(&mut self, line: &mut Line<'a>) {
         self.blocks = line.number("");
         line.wrong_if(self.blocks == 0, Range);
         line.wrong_if(self.blocks > 1_048_576, Limit(Kind::Points));
     }
 
-    // Reads what stands behind `block`.
+    // Reads what follows `block`.
     fn begin_block(&mut self, line: &mut Line<'a>) {
         let number = line.number("bb");
         line.wrong_if(number != self.begun || number >= self.blocks, Range);
@@ -206,7 +206,7 @@ impl<'a> Mir<'a> {
         self.points = self.points.saturating_add(1);
     }
 
-    // Reads what stands behind the first word of a declaration.
+    // Reads what follows the first word of a declaration.
     fn declare(&mut self, line: &mut Line<'a>, group: u32) {
         match group {
             1 => self.regions.declare_universal(line),
@@ -221,7 +221,7 @@ impl<'a> Mir<'a> {
         }
     }
 
-    // Reads what stands behind the first word of a line of a block, or round blocks.
+    // Reads what follows the first word of a line of a block, or of a line around blocks.
     fn go_on(&mut self, line: &mut Line<'a>, group: u32, first: Bytes<'a>) {
         match group {
             7 => self.count_blocks(line),

@@ -11,7 +11,7 @@ use std::alloc::Global;
 
 // ---- places and operands
 
-// Reads what stands behind the `.` of a projection: the shape behind it.
+// Reads what follows the `.` of a projection: the shape after it.
 fn read_projection<'a>(mir: &Mir<'a>, line: &mut Line<'a>, shape: &[Bytes<'a>]) -> Tokens<'a> {
     let behind = if line.has("*") {
         pointed_to(mir.alloc, shape)
@@ -29,7 +29,7 @@ fn read_variable<'a>(mir: &Mir<'a>, line: &mut Line<'a>) -> Tokens<'a> {
     mir.variable(line, number)
 }
 
-// Reads projections: the shape behind them.
+// Reads projections: the shape after them.
 fn read_projections<'a>(mir: &Mir<'a>, line: &mut Line<'a>, first: Tokens<'a>) -> Tokens<'a> {
     let mut shape = first;
     for _ in 0..line.left() {
@@ -66,7 +66,7 @@ fn want_same(line: &mut Line<'_>, shape: &[Bytes<'_>], other: &[Bytes<'_>]) {
 
 // ---- right sides
 
-// Reads what stands behind the `&` of a borrow: the shape of the reference.
+// Reads what follows the `&` of a borrow: the shape of the reference.
 fn read_borrow<'a>(mir: &Mir<'a>, line: &mut Line<'a>) -> Tokens<'a> {
     mir.regions.known(line);
     let is_mutable = line.has("mut");
@@ -102,7 +102,7 @@ fn judge_parts<'a>(alloc: Global, line: &mut Line<'a>, whole: &[Bytes<'a>]) {
     }
 }
 
-// Reads what stands behind `make`: the shape of what is made.
+// Reads what follows `make`: the shape of what is made.
 fn read_make<'a>(mir: &Mir<'a>, line: &mut Line<'a>) -> Tokens<'a> {
     let shape = read_type(mir, line);
     let whole = as_tuple(mir.alloc, mir.structs.as_slice(), shape.as_slice());
@@ -136,7 +136,7 @@ fn read_arguments<'a>(mir: &Mir<'a>, line: &mut Line<'a>) {
     line.want(")");
 }
 
-// Reads what of a call stands behind `where`, where it has that.
+// Reads what of a call comes after `where`, where it has that.
 fn read_bounds<'a>(mir: &Mir<'a>, line: &mut Line<'a>) {
     if !line.has("where") {
         return;
@@ -160,7 +160,7 @@ fn read_exits<'a>(mir: &Mir<'a>, line: &mut Line<'a>) {
     }
 }
 
-// Reads what stands behind `call`: the shape of the result.
+// Reads what follows `call`: the shape of the result.
 fn read_call<'a>(mir: &Mir<'a>, line: &mut Line<'a>) -> Tokens<'a> {
     line.word();
     read_arguments(mir, line);
@@ -186,7 +186,7 @@ fn read_right<'a>(mir: &Mir<'a>, line: &mut Line<'a>) -> Tokens<'a> {
 
 // ---- lines
 
-// Reads an assignment behind its variable. Whether it is a terminator: a call.
+// Reads an assignment after its variable. Answers whether it is a terminator: a call.
 fn read_assignment<'a>(mir: &Mir<'a>, line: &mut Line<'a>, variable: Bytes<'a>) -> bool {
     let number = line.number_in(variable, "_");
     let first = mir.variable(line, number);
@@ -198,7 +198,7 @@ fn read_assignment<'a>(mir: &Mir<'a>, line: &mut Line<'a>, variable: Bytes<'a>) 
     is_call
 }
 
-// Reads what stands behind `switch`.
+// Reads what follows `switch`.
 fn read_switch<'a>(mir: &Mir<'a>, line: &mut Line<'a>) {
     let operand = read_operand(mir, line);
     want_same(line, operand.as_slice(), &[b"int"]);
@@ -208,7 +208,7 @@ fn read_switch<'a>(mir: &Mir<'a>, line: &mut Line<'a>) {
     }
 }
 
-// What stands behind the first word of a line.
+// What follows the first word of a line.
 #[derive(Clone, Copy)]
 enum Behind {
     Nothing,
@@ -232,7 +232,7 @@ const FORMS: &[(&str, Behind, bool)] = &[
     ("stop", Behind::Nothing, true),
 ];
 
-// What stands behind a word, and whether it begins a terminator.
+// What follows a word, and whether it begins a terminator.
 fn form_of(word: &[u8]) -> Option<(Behind, bool)> {
     for (known, behind, is_terminator) in FORMS {
         if is(word, known) {
@@ -242,7 +242,7 @@ fn form_of(word: &[u8]) -> Option<(Behind, bool)> {
     None
 }
 
-// Reads what stands behind the first word.
+// Reads what follows the first word.
 fn read_behind<'a>(mir: &Mir<'a>, line: &mut Line<'a>, behind: Behind) {
     match behind {
         Behind::Nothing => line.wrong_if(false, Syntax),
@@ -257,7 +257,7 @@ fn read_behind<'a>(mir: &Mir<'a>, line: &mut Line<'a>, behind: Behind) {
     }
 }
 
-/// Reads a statement or terminator behind its first token. Whether it is a terminator.
+/// Reads a statement or terminator after its first token. Answers whether it is a terminator.
 pub fn read_point<'a>(mir: &Mir<'a>, line: &mut Line<'a>, first: Bytes<'a>) -> bool {
     let Some((behind, is_terminator)) = form_of(first) else {
         return read_assignment(mir, line, first);

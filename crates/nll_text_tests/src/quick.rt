@@ -41,7 +41,7 @@ pub fn write_cut(alloc: Global, out: &mut String, text: &[u8]) {
     }
 }
 
-/// Writes the events that a schedule of so many owners lists, or its fault.
+/// Writes the events that a schedule of this many owners lists, or its fault.
 pub fn write_schedule(alloc: Global, out: &mut String, text: &[u8], owners: u16) {
     match read_schedule(alloc, text, owners) {
         Ok(events) => {

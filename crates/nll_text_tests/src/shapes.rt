@@ -1,5 +1,5 @@
-//! Shapes: types with their regions forgotten, each as the tokens that it is written with, and `'`
-//! in place of each region. Where a type lacks, its shape is no token.
+//! Shapes: types with their regions erased, each as the tokens that it is written with, and `'` in
+//! place of each region. Where a type lacks, its shape is no token.
 use super::tokens::{Bytes, is, is_region, is_word};
 use std::alloc::Global;
 
@@ -16,7 +16,7 @@ pub fn int<'a>(alloc: Global) -> Tokens<'a> {
     shape
 }
 
-/// Puts tokens to others.
+/// Appends tokens.
 pub fn put_all<'a>(shape: &mut Tokens<'a>, tokens: &[Bytes<'a>]) {
     for token in tokens {
         let _ = shape.push(*token);
@@ -118,7 +118,7 @@ pub struct Struct<'a> {
     pub fields: Tokens<'a>,
 }
 
-// The fields of a struct with the arguments of a use put in for its type parameters.
+// The fields of a struct with the arguments of a use substituted for its type parameters.
 fn put_in<'a>(alloc: Global, declared: &Struct<'a>, shape: &[Bytes<'a>]) -> Tokens<'a> {
     let parts = parts_of(alloc, shape);
     let mut fields = Vec::new(alloc);
@@ -177,7 +177,7 @@ pub fn reference<'a>(alloc: Global, is_mutable: bool, shape: &[Bytes<'a>]) -> To
     made
 }
 
-/// Whether an argument that is a region, or isn't, stands where a struct takes one at this place.
+/// Whether a struct takes an argument of this kind (a region, or not one) at this place.
 pub fn is_taken(parameters: &[Bytes<'_>], place: usize, is_of_region: bool) -> bool {
     match parameters.get(place) {
         Some(parameter) => is_region(parameter) == is_of_region,

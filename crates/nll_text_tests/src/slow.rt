@@ -15,14 +15,14 @@ pub trait Said<'a> {
     /// Reads a further line, notes what is wrong with it, and adds what it says.
     fn read(&mut self, line: &mut Line<'a>);
 
-    /// Whether a text may stop behind these lines.
+    /// Whether a text may stop after these lines.
     fn may_stop(&self) -> bool;
 
     /// Writes what is said.
     fn write(&self, out: &mut String);
 }
 
-// The kind of fault of a header, which tells of which version the text is.
+// The kind of fault of a header, which reports of which version the text is.
 fn header_fault<'a, S: Said<'a>>(line: &[u8], kind: &str, said: &mut S) -> Option<TextKind> {
     if !is_utf8(line) {
         return Some(NotUtf8);

@@ -4,7 +4,7 @@ use std::str;
 /// Some bytes of a text: a line, or a token.
 pub type Bytes<'a> = &'a [u8];
 
-/// Puts the lines of a text to others.
+/// Appends the lines of a text.
 pub fn put_lines<'a>(lines: &mut Vec<Bytes<'a>>, text: Bytes<'a>) {
     let text = text.strip_suffix(b"\n").unwrap_or(text);
     let mut begin = 0usize;
@@ -46,7 +46,7 @@ fn is_of(byte: u8, class: Class) -> bool {
     }
 }
 
-// How many bytes in front are of a class.
+// How many bytes at the front are of a class.
 fn count_of(line: &[u8], class: Class) -> usize {
     for at in 0..line.len() {
         if !is_of(line[at], class) {
@@ -61,7 +61,7 @@ fn rest_from(line: &[u8], at: usize) -> &[u8] {
     line.get(at..).unwrap_or(b"")
 }
 
-// How many bytes the token in front has: none where there is no token.
+// How many bytes the token at the front has: none where there is no token.
 fn token_length(line: &[u8]) -> usize {
     if line.starts_with(b"'") {
         let name = count_of(rest_from(line, 1), Class::Word);
@@ -73,7 +73,7 @@ fn token_length(line: &[u8]) -> usize {
     count_of(line, Class::Word).max(count_of(line, Class::Sign).min(1))
 }
 
-/// Puts the tokens of a line to others, unless it isn't made of tokens.
+/// Appends the tokens of a line, unless it isn't made of tokens.
 pub fn put_tokens<'a>(tokens: &mut Vec<Bytes<'a>>, line: Bytes<'a>) -> bool {
     let mut rest = line;
     for _ in 0..=line.len() {
@@ -88,13 +88,13 @@ pub fn put_tokens<'a>(tokens: &mut Vec<Bytes<'a>>, line: Bytes<'a>) -> bool {
     false
 }
 
-/// Whether a line behind the header says nothing.
+/// Whether a line after the header says nothing.
 pub fn is_skipped(line: &[u8]) -> bool {
     let core = rest_from(line, count_of(line, Class::Blank));
     core.is_empty() || core.starts_with(b"#")
 }
 
-// What stands behind a run of bytes and the blanks on both sides of it.
+// What follows a run of bytes and the blanks on both sides of it.
 fn behind_run<'a>(line: Bytes<'a>, run: &str) -> Option<Bytes<'a>> {
     let core = rest_from(line, count_of(line, Class::Blank));
     let rest = core.strip_prefix(run.as_bytes())?;

@@ -9,7 +9,7 @@ use nll_format::TextKind::{Shape, Syntax, TypeSize, Unknown};
 // More parts within parts than a type of a short text has.
 const DEEPEST: u32 = 10_000;
 
-// Puts the token to a shape where it comes next. Whether it does.
+// Appends the token to a shape if it comes next. Answers whether it does.
 fn put_if<'a>(shape: &mut Tokens<'a>, line: &mut Line<'a>, spelled: &str) -> bool {
     let token = line.front();
     let found = line.has(spelled);
@@ -19,7 +19,7 @@ fn put_if<'a>(shape: &mut Tokens<'a>, line: &mut Line<'a>, spelled: &str) -> boo
     found
 }
 
-// Puts the token to a shape, which has to come next.
+// Appends the token to a shape; it has to come next.
 fn put<'a>(shape: &mut Tokens<'a>, line: &mut Line<'a>, spelled: &str) {
     let found = put_if(shape, line, spelled);
     line.wrong_if(!found, Syntax);
@@ -49,7 +49,7 @@ fn parameters_of<'a>(mir: &Mir<'a>, own: &[Bytes<'a>], name: &[u8]) -> Option<To
     None
 }
 
-// Reads the types of a tuple behind its `(`.
+// Reads the types of a tuple after its `(`.
 #[cycle(types)]
 fn put_types<'a>(
     shape: &mut Tokens<'a>,
@@ -70,7 +70,7 @@ fn put_types<'a>(
     put(shape, line, ")");
 }
 
-// Reads an argument. Whether it is a region.
+// Reads an argument. Answers whether it is a region.
 #[cycle(types)]
 fn put_argument<'a>(
     shape: &mut Tokens<'a>,
@@ -88,7 +88,7 @@ fn put_argument<'a>(
     is_of_region
 }
 
-// Reads arguments behind `<`, for these parameters.
+// Reads arguments after `<`, for these parameters.
 #[cycle(types)]
 fn put_arguments<'a>(
     shape: &mut Tokens<'a>,
@@ -113,7 +113,7 @@ fn put_arguments<'a>(
     line.wrong_if(count != parameters.len(), Shape);
 }
 
-// Reads what stands behind the name of a type.
+// Reads what follows the name of a type.
 #[cycle(types)]
 fn put_named<'a>(
     shape: &mut Tokens<'a>,
@@ -134,8 +134,8 @@ fn put_named<'a>(
     }
 }
 
-// Reads the types of a function behind its `fn`. Its arguments stand in a shape between `<` and
-// `)`, since `(` is a tuple there.
+// Reads the types of a function after its `fn`. Its arguments are in a shape between `<` and `)`,
+// since `(` is a tuple there.
 #[cycle(types)]
 fn put_function<'a>(
     shape: &mut Tokens<'a>,
@@ -154,7 +154,7 @@ fn put_function<'a>(
     put_type(shape, line, mir, own, depth - 1);
 }
 
-// Reads a type and puts its tokens to a shape.
+// Reads a type and appends its tokens to a shape.
 #[cycle(types)]
 fn put_type<'a>(
     shape: &mut Tokens<'a>,

@@ -1,7 +1,6 @@
--- Which types a statement or terminator asks to be equal when regions are forgotten, and how large
--- its types may be.
--- Source: RFC 2094, "Subtyping" and "Reborrow constraints" (the types that are related); the rest
--- is project's choice, and docs/FORMATS.md says the same in words.
+-- Which types a statement or terminator requires to be equal when regions are erased, and how large
+-- its types may be. Source: RFC 2094, "Subtyping" and "Reborrow constraints" (the types that are
+-- related); the rest is project's choice, and docs/FORMATS.md says the same in prose.
 use Rattle.std.specs.Prelude.{ℕ, Bool, true, ◌&&◌, List, ◌++◌, Option, Some, None, is_some}
 use Rattle.std.specs.List.{list_all}
 use Rattle.nll_types.specs.Types.{TypeTree, TypeTrees, none, more}
@@ -24,7 +23,7 @@ abbrev pub is_read_typed : List Struct → List TypeTree → Statement ℕ TypeT
 is_read_typed structs variables (read p) = is_some (type_of structs variables p)
 is_read_typed structs variables _ = true
 
--- Each place has a type, and the types that meet are equal when regions are forgotten.
+-- Each place has a type, and the types that meet are equal when regions are erased.
 abbrev pub types_agree : List Struct → List TypeTree → Statement ℕ TypeTree → Bool
 types_agree structs variables i =
     pairs_agree (type_pairs structs variables i) && is_read_typed structs variables i

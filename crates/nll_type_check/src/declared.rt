@@ -7,7 +7,7 @@ ghost use Rattle.nll_types.specs.Operands.{operand_of, place_in};
 
 use nll_types::Operand;
 
-/// Whether a variable is among the first so many.
+/// Whether a variable is among the first this many.
 pub(crate) fn is_declared(count: usize, variable: u32) -> bool
     ensures { result ≡ nat_lt variable count }
 {

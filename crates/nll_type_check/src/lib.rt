@@ -1,4 +1,4 @@
-//! Which types a statement asks to be equal when regions are forgotten, and how large its types
+//! Which types a statement requires to be equal when regions are erased, and how large its types
 //! may be. Types are judged by the numbers of their shapes, however large they are.
 #![tactic(auto)]
 

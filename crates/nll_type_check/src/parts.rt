@@ -21,7 +21,7 @@ use nll_sets::Memory;
 use nll_types::{Judgement, Operand, TypeTable};
 use std::alloc::Global;
 
-// Whether types of this shape have so many parts.
+// Whether types of this shape have this many parts.
 fn has_parts(table: &TypeTable, shape: usize, count: usize) -> bool
     requires { shape < length table.now.shapes }
     ensures { (t : TypeTree) → shape_in table.now.shapes shape ≡ shape_of t

@@ -86,7 +86,7 @@ fn judge_call<T>(
     Ok(inputs.and(result))
 }
 
-// Judges an operand that is to be an `int`.
+// Judges an operand that must be an `int`.
 fn judge_switch(
     alloc: Global,
     table: &mut TypeTable,
@@ -109,7 +109,7 @@ fn judge_switch(
     table.judge_operand(alloc, variables, operand, int)
 }
 
-// Judges a return: the type of the return place is to be small.
+// Judges a return: the type of the return place must be small.
 fn judge_return(table: &TypeTable, variables: &[usize]) -> Judgement
     requires { AreBelow (length table.now.shapes) variables.now }
     ensures declared { result.declared ≡ nat_lt 0 (length variables.now) }
@@ -124,7 +124,7 @@ fn judge_return(table: &TypeTable, variables: &[usize]) -> Judgement
     Judgement::fitting(true, table.shapes().is_small(variables[0]))
 }
 
-// Judges a variable that stands by itself.
+// Judges a variable that occurs by itself.
 fn judge_variable(count: usize, variable: u32) -> Judgement
     ensures declared { result.declared ≡ nat_lt variable count }
     ensures judged { IsJudged true true result }

@@ -13,7 +13,7 @@ use Rattle.nll_types.specs.declared.source.Source.TheVariants.{Region, AnyOf, Dr
 abbrev pub IsPutRegion : List ℕ → List ℕ → TypeTrees → ℕ → Type 0
 IsPutRegion qs rs ts r = (k : ℕ) × (q : ℕ) × (slice_get qs k ≡ Some q) × (region_in rs q ≡ r)
 
--- r is what a region of the sources becomes where qs are put in and then rs
+-- r is what a region of the sources becomes where qs are substituted and then rs
 abbrev pub IsSourceRegion : List Source → List ℕ → List ℕ → TypeTrees → ℕ → Type 0
 IsSourceRegion sources qs rs ts r =
     (k : ℕ) × (q : ℕ) × (slice_get sources k ≡ Some (Region q))
@@ -27,12 +27,12 @@ IsKeptRegion parameters rs ts r = (k : ℕ) × IsKept parameters k × (region_in
 abbrev pub IsInKept : List Parameter → List ℕ → TypeTrees → ℕ → Type 0
 IsInKept parameters rs ts r = (k : ℕ) × IsKept parameters k × HasRegion (argument ts k) r
 
--- the regions of argument k of a struct with these sources are wanted
+-- the regions of argument k of a struct with these sources are required
 abbrev pub WantsWritten : List Source → Bool → Bool → ℕ → Type 0
 WantsWritten sources written dropped k =
     IsTrue written ⊎ (IsTrue dropped × Contains sources (AnyOf k))
 
--- the drop regions of argument k of a struct with these sources are wanted
+-- the drop regions of argument k of a struct with these sources are required
 abbrev pub WantsDropped : List Source → Bool → ℕ → Type 0
 WantsDropped sources dropped k = IsTrue dropped × Contains sources (DropOf k)
 

@@ -10,21 +10,21 @@ use Rattle.nll_types.specs.declared.parameter.Parameter.{Parameter}
 abbrev pub IsKept : List Parameter → ℕ → Type 0
 IsKept parameters k = (p : Parameter) × (slice_get parameters k ≡ Some p) × (p.may_dangle ≡ false)
 
--- r must hold where the struct's own drop runs: it stands in an argument whose parameter isn't
+-- r must hold where the struct's own drop runs: it occurs in an argument whose parameter isn't
 -- marked
 abbrev pub IsOwnDropRegion : Struct → List ℕ → TypeTrees → ℕ → Type 0
 IsOwnDropRegion d rs ts r = (d.has_drop ≡ true)
     × (((k : ℕ) × (slice_get rs k ≡ Some r) × IsKept d.regions k)
     ⊎ ((k : ℕ) × (t : TypeTree) × (type_at ts k ≡ Some t) × IsKept d.types k × HasRegion t r))
 
--- with a value of the first type one of the second is dropped: a part of a tuple, or a field of a
--- struct; with an `int`, a reference or a function none is
+-- dropping a value of the first type drops one of the second: a part of a tuple, or a field of a
+-- struct; an `int`, a reference or a function has none
 abbrev pub Drops : List Struct → TypeTree → TypeTree → Type 0
 Drops structs (tuple ts) u = (k : ℕ) × (type_at ts k ≡ Some u)
 Drops structs (named s rs ts) u = (k : ℕ) × (field_type structs s rs ts k ≡ Some u)
 Drops structs _ u = ⊥
 
--- a chain of these, perhaps empty, leads from the first type by way of the list to the last
+-- a chain of these, possibly empty, leads from the first type by way of the list to the last
 abbrev pub LeadsTo : List Struct → TypeTree → List TypeTree → TypeTree → Type 0
 LeadsTo structs t [] u = t ≡ u
 LeadsTo structs t (next ∷ way) u = Drops structs t next × LeadsTo structs next way u

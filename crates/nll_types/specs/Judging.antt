@@ -13,16 +13,16 @@ use Rattle.nll_types.specs.declared.judgement.Judgement.{Judgement}
 abbrev pub HaveShapes : List Node → List ℕ → List TypeTree → Type 0
 HaveShapes ns numbers types = map (shape_in ns) numbers ≡ map shape_of types
 
--- the variables of the places are among the first so many
+-- the variables of the places are among the first this many
 abbrev pub have_variables : ℕ → List PlacePath → Bool
 have_variables count places = list_all (λ x. nat_lt x count) (map (λ p. p.variable) places)
 
--- both are there, and they are equal when regions are forgotten
+-- both are there, and they are equal when regions are erased
 abbrev pub agree : Option TypeTree → Option TypeTree → Bool
 agree (Some t) (Some u) = same_shape t u
 agree _ _ = false
 
--- It tells whether the types fit, and whether they fit and are small.
+-- It says whether the types fit, and whether they fit and are small.
 pub record IsJudged (agree small : Bool) (judged : Judgement) : Type 0 where
   pub fits : judged.fits ≡ agree
   pub fits_small : judged.small ≡ (agree && small)

@@ -1,4 +1,4 @@
--- Types with their regions forgotten: two types may stand for each other where they have one shape.
+-- Types with their regions erased: two types may replace each other where they have one shape.
 -- Source: RFC 2094, "Subtyping" (it relates types that differ in their regions alone); the forms
 -- are project's choice.
 use Rattle.std.specs.Prelude.{ℕ, zero, suc, ◌+◌, Bool, false, true, ◌==◌, ◌&&◌, nat_le, List}
@@ -67,7 +67,7 @@ argument_shape no_shape k = int_shape
 argument_shape (more_shapes t ts) zero = t
 argument_shape (more_shapes t ts) (suc k) = argument_shape ts k
 
--- A field's shape with the shapes of the type arguments put in for the parameters.
+-- A field's shape with the shapes of the type arguments substituted for the parameters.
 abbrev mutual
   pub put_in_shape : ShapeList → Shape → Shape
   put_in_shape types int_shape = int_shape
@@ -92,7 +92,7 @@ behind_shape structs (Field k) (named_shape s n ts) =
     option_map (put_in_shape ts) (shape_at (shapes_of (struct_at structs s).fields) k)
 behind_shape structs (Field k) _ = None
 
--- whether two types have one shape: they are the same where regions are forgotten
+-- whether two types have one shape: they are the same once regions are erased
 abbrev mutual
   pub same_shape : TypeTree → TypeTree → Bool
   same_shape int int = true

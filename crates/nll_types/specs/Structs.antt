@@ -1,6 +1,6 @@
--- Struct declarations, and the types of a struct's fields with its arguments put in.
--- Source: RFC 2094, "Subtyping" (variance of parameters) and "Drop" (parameters that may dangle);
--- the forms are project's choice.
+-- Struct declarations, and the types of a struct's fields with its arguments substituted. Source:
+-- RFC 2094, "Subtyping" (variance of parameters) and "Drop" (parameters that may dangle); the forms
+-- are project's choice.
 use Rattle.std.specs.Prelude.{◌≡◌, ◌<◌, ◌+◌, ℕ, zero, suc, Bool, false, List, [], map, length}
 use Rattle.std.specs.Prelude.{slice_index_or}
 use Rattle.std.specs.Prelude.{Option, option_map, All, take}
@@ -36,7 +36,7 @@ argument none k = int
 argument (more t ts) zero = t
 argument (more t ts) (suc k) = argument ts k
 
--- A field's type with these region arguments and type arguments put in for the parameters.
+-- A field's type with these region arguments and type arguments substituted for the parameters.
 abbrev mutual
   pub put_in : List ℕ → TypeTrees → TypeTree → TypeTree
   put_in regions types int = int

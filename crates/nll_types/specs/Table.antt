@@ -66,8 +66,8 @@ IsTable ns = (i : ℕ) → i < length ns → IsOver i (slice_index_or ns i nodes
 abbrev pub HasOneNumber : List Node → Type 0
 HasOneNumber ns = (i j : ℕ) → i < length ns → j < length ns → shape_in ns i ≡ shape_in ns j → i ≡ j
 
--- The parts of each node come before it, each shape has one number, and beside each stands how many
--- nodes the shape has, counted up to one more than a type may have.
+-- The parts of each node come before it, each shape has one number, and with each goes the number
+-- of its nodes, counted up to one more than a type may have.
 pub record IsShapeTable (ns : List Node) (sizes : List ℕ) : Type 0 where
   pub table : IsTable ns
   pub one : HasOneNumber ns

@@ -4,8 +4,8 @@
 use Rattle.std.specs.Prelude.{◌≡◌, ◌⊎◌, ℕ, zero, suc, ◌+◌, Bool, List, Option, Some, None, Contains}
 
 mutual
-  -- Regions and structs go by their numbers. A type parameter stands in the fields of a struct
-  -- alone.
+  -- Regions and structs go by their numbers. A type parameter occurs only in the fields of a
+  -- struct.
   pub data TypeTree : Type 0 where
     int : TypeTree
     parameter : ℕ → TypeTree
@@ -21,13 +21,13 @@ mutual
     none : TypeTrees
     more : TypeTree → TypeTrees → TypeTrees
 
--- the type that stands at this place of the row, counted from 0
+-- the type at this place of the row, counted from 0
 abbrev pub type_at : TypeTrees → ℕ → Option TypeTree
 type_at none k = None
 type_at (more t ts) zero = Some t
 type_at (more t ts) (suc k) = type_at ts k
 
--- how many types stand in the row
+-- how many types are in the row
 abbrev pub type_count : TypeTrees → ℕ
 type_count none = 0
 type_count (more t ts) = type_count ts + 1

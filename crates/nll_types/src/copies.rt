@@ -69,7 +69,7 @@ pub(crate) fn function(
     }
 }
 
-/// The same type once more.
+/// A copy of the type.
 ///
 /// # Cost
 /// Linear in the type.
@@ -97,7 +97,7 @@ pub fn copy(alloc: Global, ty: &Ty) -> Result<Ty, Memory>
     }
 }
 
-// The same types once more.
+// A copy of the types.
 #[cycle(copies)]
 fn copy_all(alloc: Global, types: &[Ty]) -> Result<Vec<Ty>, Memory>
     ensures { IfOk result (λ v. map tree v.items ≡ map tree types.now) }

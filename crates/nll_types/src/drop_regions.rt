@@ -1,4 +1,4 @@
-//! The regions of a type that liveness asks for.
+//! The regions of a type that liveness requires.
 
 ghost use Rattle.std.specs.Prelude.{◌≡◌, ◌≢◌, ◌⊎◌, ◌↔◌, ◌++◌, ◌∷◌, [], ℕ, List, IsTrue, IfOk};
 ghost use Rattle.std.specs.Prelude.{OnOk, Contains, AllPairs};
@@ -77,6 +77,7 @@ fn find(
 {
     let mut sources = IndexSet::new(alloc);
     let found = find_by(alloc, structs, ty, written, dropped, &mut sources);
+    // Early drop.
     drop(sources);
     found
 }

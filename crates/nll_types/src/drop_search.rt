@@ -18,7 +18,7 @@ use indexmap::IndexSet;
 use nll_problem::RegionId;
 use nll_sets::Memory;
 
-// Adds what is wanted of a type parameter.
+// Adds what is required of a type parameter.
 fn collect_parameter(
     number: usize,
     written: bool,
@@ -33,7 +33,7 @@ fn collect_parameter(
     add_where(dropped, out, Source::DropOf(number))
 }
 
-// Adds the regions, where they are wanted.
+// Adds the regions, where they are required.
 fn collect_regions(
     regions: &[RegionId],
     wanted: bool,
@@ -70,7 +70,7 @@ fn collect_source(
     }
 }
 
-// Adds what the regions of a struct's sources become with these arguments, where they are wanted.
+// Adds what the regions of a struct's sources become with these arguments, where they are required.
 fn collect_sources(
     sources: &[Source],
     regions: &[RegionId],
@@ -107,7 +107,7 @@ fn collect_use(
     collect_sources(sources, regions, dropped, out)
 }
 
-// Whether the regions of an argument are wanted.
+// Whether the regions of an argument are required.
 fn wants_written(sources: &IndexSet<Source>, place: usize, written: bool, dropped: bool) -> bool
     ensures { IsTrue result ↔ WantsWritten sources.now.keys written dropped place }
 {
@@ -117,7 +117,7 @@ fn wants_written(sources: &IndexSet<Source>, place: usize, written: bool, droppe
     wants(sources, Source::AnyOf(place), dropped)
 }
 
-// Whether drop regions are wanted and the source is among the sources.
+// Whether drop regions are required and the source is among the sources.
 fn wants(sources: &IndexSet<Source>, source: Source, dropped: bool) -> bool
     ensures { IsTrue result ↔ (IsTrue dropped × Contains sources.now.keys source) }
 {

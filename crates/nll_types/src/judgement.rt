@@ -8,7 +8,7 @@ ghost use Rattle.nll_types.specs.Judging.{IsJudged};
 pub struct Judgement {
     /// Each variable is declared.
     pub declared: bool,
-    /// Each place has a type, and the types that are to be equal when regions are forgotten are.
+    /// Each place has a type, and the types that must be equal when regions are erased are.
     pub fits: bool,
     /// They fit, and none of the types is larger than a type may be.
     pub small: bool,

@@ -13,7 +13,7 @@ pub fn types_are_as_large_as_shapes()
     ensures { (t : TypeTree) → nodes t ≡ shape_nodes (shape_of t) }
 {}
 
-/// States that arguments put into a type are their shapes put into its shape.
+/// States that substituting arguments into a type substitutes their shapes into its shape.
 pub fn arguments_of_types_and_shapes_agree()
     ensures { (regions : List ℕ) (types : TypeTrees) (t : TypeTree)
         → shape_of (put_in regions types t) ≡ put_in_shape (shapes_of types) (shape_of t) }
@@ -25,7 +25,7 @@ pub fn projections_of_types_and_shapes_agree()
         → option_map shape_of (behind structs p t) ≡ behind_shape structs p (shape_of t) }
 {}
 
-/// States that two types are told to have the same shape exactly where their shapes are equal.
+/// States that two types are reported to have the same shape exactly where their shapes are equal.
 pub fn same_shape_means_equal_shapes()
     ensures { (t u : TypeTree) → IsTrue (same_shape t u) ↔ (shape_of t ≡ shape_of u) }
 {}

@@ -142,8 +142,7 @@ impl TypeTable {
         Ok(agree(self.shapes(), found, wanted))
     }
 
-    /// Judges a place that is read, over variables with types of these shapes: it is to have a
-    /// type.
+    /// Judges a place that is read, over variables with types of these shapes: it must have a type.
     ///
     /// # Cost
     /// That of a look-up for each projection, once their shapes are in the table (not proved).

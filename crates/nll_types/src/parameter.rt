@@ -6,9 +6,11 @@
 /// RFC 2094, "Subtyping".
 #[derive(Clone, Copy, PartialEq, Eq)]
 pub enum Sign {
-    /// Written `+`: the type with the longer region may stand for the one with the shorter.
+    /// Written `+`, covariant: the type with the longer region may be used as the one with the
+    /// shorter.
     Covariant,
-    /// Written `-`: the type with the shorter region may stand for the one with the longer.
+    /// Written `-`, contravariant: the type with the shorter region may be used as the one with the
+    /// longer.
     Contravariant,
     /// Written `=`: neither may stand for the other.
     Invariant,

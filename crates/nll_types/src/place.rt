@@ -26,8 +26,8 @@ impl Default for Projection {
 /// A variable, and what is taken of it, one projection after another.
 ///
 /// # Shape
-/// A place is small: most have one projection or none, and ask for no memory of their own. More
-/// projections stand in a box, and up to three of them in the box itself.
+/// A place is small: most have one projection or none, and allocate nothing. More projections are
+/// in a box, and up to three of them in the box itself.
 #[derive(Drop)]
 pub enum Place {
     /// The whole variable.

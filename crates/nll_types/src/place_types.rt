@@ -37,8 +37,8 @@ pub fn field_type(
     }
 }
 
-// Takes projections as far as the type is written, and then the field of a struct, if one is next:
-// the type that was come to, and how many projections are taken.
+// Takes projections as far as the type is written, and then the field of a struct, if one is next.
+// Answers the type that was reached, and how many projections are taken.
 fn advance(
     alloc: Global,
     structs: &Structs,

@@ -40,7 +40,7 @@ fn field_of(
     }
 }
 
-// The same, with the arguments handed over.
+// Like `field_of`, but takes the arguments.
 fn field_with(
     alloc: Global,
     structs: &Structs,
@@ -57,6 +57,7 @@ fn field_with(
         (shape_at (shapes_of (struct_at (structs_of structs.now) number).fields) place)) }
 {
     let made = field_of(alloc, structs, shapes, number, arguments.as_slice(), place);
+    // Early drop.
     drop(arguments);
     made
 }

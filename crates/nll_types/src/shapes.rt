@@ -1,4 +1,4 @@
-//! Types with their regions forgotten, each kept once.
+//! Types with their regions erased, each kept once.
 
 ghost use Rattle.std.specs.Prelude.{IsTrue, ◌↔◌, ◌≡◌, ◌<◌, ◌≤◌, ◌+◌, [], length, min};
 ghost use Rattle.std.specs.Prelude.{IfOk, slice_index, ℕ, sum_by};
@@ -26,7 +26,7 @@ const TOO_MANY: usize = MAX_NODES + 1;
 pub struct Shapes {
     nodes: IndexSet<Node>,
     sizes: Vec<usize>,
-    // Where an `int` may stand: it is asked for so often that its number is looked up here first.
+    // Where an `int` may be: it is requested so often that its number is looked up here first.
     int: usize,
 }
 
@@ -70,7 +70,7 @@ fn size_over(sizes: &[usize], node: &Node) -> usize
     }
 }
 
-// The number of the shape that a node makes of those of a table, into which the node is put where
+// The number of the shape that a node makes of those of a table. The node is added to the table if
 // it isn't there.
 fn intern(nodes: &mut IndexSet<Node>, sizes: &mut Vec<usize>, node: Node) -> Result<usize, Memory>
     requires table { IsShapeTable nodes.old.keys sizes.old.items }

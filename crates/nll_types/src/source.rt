@@ -19,7 +19,7 @@ pub(crate) enum Source {
     DropOf(usize),
 }
 
-// Puts a source among the sources.
+// Adds a source to the sources.
 pub(crate) fn add(sources: &mut IndexSet<Source>, new: Source) -> Result<(), Memory>
     ensures { OnOk result ((all : List Struct) → AddsSources all
         (λ rs ts r. Yields all rs ts new r) sources.old.keys sources.new.keys) }
@@ -28,7 +28,7 @@ pub(crate) fn add(sources: &mut IndexSet<Source>, new: Source) -> Result<(), Mem
     Ok(())
 }
 
-// Puts a source among the sources, where it is wanted.
+// Adds a source to the sources, if it is required.
 pub(crate) fn add_where(
     wanted: bool,
     sources: &mut IndexSet<Source>,

@@ -46,7 +46,7 @@ impl Drop for Structs {
     }
 }
 
-// Puts an entry behind the others, or changes nothing.
+// Appends an entry, or changes nothing.
 fn push_entry(entries: &mut Vec<Entry>, entry: Entry) -> Result<(), Memory>
     ensures ok { OnOk result (entries.new.items ≡ entries.old.items ++ entry ∷ []) }
     ensures err { OnErr result (entries.new.items ≡ entries.old.items) }

@@ -1,4 +1,4 @@
-//! Arguments put in for the parameters of a struct.
+//! Arguments substituted for the parameters of a struct.
 
 ghost use Rattle.std.specs.Prelude.{◌≡◌, IfOk, IsOkAnd, map};
 ghost use Rattle.nll_types.specs.Structs as spec;
@@ -64,7 +64,7 @@ fn named_in(
     }
 }
 
-/// A field's type with the region arguments and the type arguments put in for the parameters.
+/// A field's type with the region arguments and the type arguments substituted for the parameters.
 ///
 /// # Cost
 /// Linear in the type that it makes.
@@ -91,7 +91,7 @@ pub fn put_in(alloc: Global, ty: &Ty, regions: &[RegionId], types: &[Ty]) -> Res
     }
 }
 
-// The types with the arguments put in.
+// The types with the arguments substituted.
 #[cycle(substitution)]
 fn put_in_all(
     alloc: Global,

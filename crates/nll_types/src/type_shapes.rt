@@ -1,4 +1,4 @@
-//! The shapes of types, with the shapes of arguments put in.
+//! The shapes of types, with the shapes of arguments substituted.
 
 ghost use Rattle.std.specs.Prelude.{◌≡◌, ◌<◌, ◌≤◌, length, slice_index, IfOk, IfSome, IfNone};
 ghost use Rattle.nll_types.specs.Shapes.{shape_of, shapes_of, argument_shape};
@@ -45,8 +45,8 @@ fn argument(shapes: &mut Shapes, arguments: &[usize], number: usize) -> Result<u
     }
 }
 
-/// The number of the shape of a field's type, with the shapes of the type arguments put in for its
-/// parameters. Of a type without parameters it is the shape of the type.
+/// The number of the shape of a field's type, with the shapes of the type arguments substituted for
+/// its parameters. Of a type without parameters it is the shape of the type.
 ///
 /// # Cost
 /// Linear in the field's type, however large the arguments are (not proved).
@@ -86,7 +86,7 @@ pub(crate) fn shape(
     }
 }
 
-// The numbers of the shapes of types, with the shapes of the type arguments put in.
+// The numbers of the shapes of types, with the shapes of the type arguments substituted.
 #[cycle(type_shapes)]
 fn shape_all(
     alloc: Global,

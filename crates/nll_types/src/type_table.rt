@@ -27,7 +27,7 @@ use std::alloc::Global;
 use std::marker::Model;
 
 /// The structs that are declared and the shapes of types. The shape of a field of a struct is made
-/// once for each list of arguments, however often it is asked for.
+/// once for each list of arguments, however often it is requested.
 pub struct TypeTable {
     structs: Structs,
     shapes: Shapes,
@@ -112,7 +112,7 @@ impl TypeTable {
         self.shapes.add(node)
     }
 
-    /// The number of the shape of a type with the shapes of these arguments put in.
+    /// The number of the shape of a type with the shapes of these arguments substituted.
     pub fn shape(&mut self, alloc: Global, ty: &Ty, arguments: &[usize]) -> Result<usize, Memory>
         ensures grows { AddsShapes self.old self.new }
         ensures within { IfOk result (λ i. i < length self.new.shapes) }

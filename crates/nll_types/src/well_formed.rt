@@ -22,7 +22,7 @@ fn are_below(regions: &[RegionId], bound: usize) -> bool
     true
 }
 
-// Whether there is a struct of this number that takes so many region and type arguments.
+// Whether there is a struct of this number that takes this many region and type arguments.
 fn takes(structs: &Structs, number: usize, regions: usize, types: usize) -> bool
     ensures { IsTrue result ↔ ((number < length structs.now)
         × (regions ≡ length (struct_at (structs_of structs.now) number).regions)
@@ -35,7 +35,7 @@ fn takes(structs: &Structs, number: usize, regions: usize, types: usize) -> bool
     regions == declaration.regions.len() && types == declaration.types.len()
 }
 
-/// Whether a type keeps to what is declared, with so many regions and type parameters.
+/// Whether a type keeps to what is declared, with this many regions and type parameters.
 #[cycle(well_formed)]
 pub fn is_well_formed(structs: &Structs, ty: &Ty, regions: usize, parameters: usize) -> bool
     ensures { IsTrue result
@@ -48,6 +48,7 @@ pub fn is_well_formed(structs: &Structs, ty: &Ty, regions: usize, parameters: us
             if region.0 as usize >= regions {
                 return false;
             }
+            // Named result.
             let good = is_well_formed(structs, target, regions, parameters);
             good
         }
@@ -89,7 +90,7 @@ fn are_well_formed(structs: &Structs, types: &[Ty], regions: usize, parameters: 
     true
 }
 
-/// Whether the fields of a struct that is to be declared keep to the structs before it and to its
+/// Whether the fields of a struct that must be declared keep to the structs before it and to its
 /// own parameters.
 pub fn has_good_fields(structs: &Structs, declaration: &Declaration) -> bool
     ensures { IsTrue result
@@ -97,6 +98,7 @@ pub fn has_good_fields(structs: &Structs, declaration: &Declaration) -> bool
 {
     let regions = declaration.regions.len() + 1;
     let parameters = declaration.types.len();
+    // Named result.
     let good = are_well_formed(structs, declaration.fields.as_slice(), regions, parameters);
     good
 }

@@ -28,7 +28,8 @@ returns-then-has_all-clause-after g c =
     (λ puts. subst (λ (new : List Bool). (x : ℕ)
     → IsIn new x ↔ IsAskedFrom c.args.graph.now (IsIn flags) c.args.starts.now x) (sym puts)
     (taken_all c.args.graph.now flags c.args.element c.requires.element c.args.starts.now c.args.reached.now
-    c.requires.before (within flags c.args.reached.now _ c.args.element c.requires.width c.requires.room c.requires.element)
+    c.requires.before
+    (within flags c.args.reached.now _ c.args.element c.requires.width c.requires.room c.requires.element)
     (c.has_all.ensures.0 c.if-has_all.true)))
     c.take.ensures.puts
 

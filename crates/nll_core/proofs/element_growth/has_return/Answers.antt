@@ -22,5 +22,6 @@ returns c = (
       let items = c.returns-point-items.result.now in
       let there = subst (λ xs. Contains xs w.0) (sym c.returns-point-items.ensures.value) w.2 in
       let out = c.loop-point.invariant there.0 (omega (arith, there.1, c.loop-point-test.false)) in
-      absurd (false≢true (sym (subst (λ x. flag c.args.reached.now x ≡ false) (contains_at items w.0 there) out) ∙ w.1)),
+      let unreached = subst (λ x. flag c.args.reached.now x ≡ false) (contains_at items w.0 there) out in
+      absurd (false≢true (sym unreached ∙ w.1)),
 )

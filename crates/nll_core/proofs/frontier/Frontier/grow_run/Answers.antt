@@ -4,8 +4,8 @@ use Rattle.nll_core.proofs.FrontierLemmas.{grown_by_run}
 use Rattle.nll_core.proofs.frontier.Frontier.grow_run.Goals as goal
 
 -- what follows of facts about an Ok, which is no error
-on_ok : {T E P Q S R : Type 0} (r : Result T E) (o : Option E) → is_some o ≡ is_err r → (is_some o ≡ false → P → Q → S → R)
-    → OnOk r P → OnOk r Q → OnOk r S → OnOk r R
+on_ok : {T E P Q S R : Type 0} (r : Result T E) (o : Option E) → is_some o ≡ is_err r
+    → (is_some o ≡ false → P → Q → S → R) → OnOk r P → OnOk r Q → OnOk r S → OnOk r R
 on_ok (Ok x) o is f p q s = f is p q s
 on_ok (Err e) o is f p q s = p
 
