@@ -1,5 +1,5 @@
 -- What the settled mailboxes, the gathered ledger and the logs say together.
-use Rattle.std.proofs.Common.{length-append, ◌≡◌, ◌≢◌, ◌↔◌, ◌+◌, ◌<◌, ◌≤◌, ℕ, zero, suc, Bool, true, false, List, [], ◌∷◌, ◌++◌, length, map, drop, slice_index_or, slice_get, Some, Contains, AllPairs, refl, ap, sym, ◌∙◌, subst, inl, inr, ◌⊎◌, ⊎_elim, arith}
+use Rattle.std.proofs.Common.{length-append, ◌≡◌, ◌≢◌, ◌↔◌, ◌+◌, ◌<◌, ◌≤◌, ℕ, zero, suc, Bool, true, false, List, [], ◌∷◌, ◌++◌, length, map, drop, slice_index_or, slice_get, Option, Some, Contains, AllPairs, refl, ap, sym, ◌∙◌, subst, inl, inr, ◌⊎◌, ⊎_elim, arith}
 use Rattle.std.specs.List.{sum_by}
 use Rattle.std.proofs.lemmas.Bool.{cases_lt}
 use Rattle.std.proofs.lemmas.List.Sums.{sum_by-cons}
@@ -11,6 +11,7 @@ use Rattle.nll_mail.specs.declared.growth.Growth.{Growth}
 use Rattle.nll_owner.specs.Holding.{Holding, AreValuesOf}
 use Rattle.nll_owner.specs.Logs.{IsPrefix, IsTold, IsCutOf, IsWellFormed, log_of, part, AreSound}
 use Rattle.nll_owner.specs.Owner.{Owner, first_owner}
+use Rattle.nll_worker.specs.Mailboxes.{through}
 use Rattle.nll_worker.specs.Sums.{sum_to}
 use Rattle.nll_worker.specs.Finishing.{Finishes}
 use Rattle.nll_mail.specs.declared.mail.Mail as Mail
@@ -101,11 +102,12 @@ error_bad endings.Unstarted t e = absurd t
 error_bad endings.NoOwner t e = absurd t
 
 module _ {D M S R C P L B H E : Type 0} (m : Mail.Ghosts M S R C P) (b : Ledger.Ghosts L B H E) (book : B)
-    (log : D → List Growth) (holding : D → Holding) (left : D → E) (closed : D → List C) (kept : D → List R)
+    (log : D → List Growth) (holding : D → Holding) (left : D → E) (closed : D → List (Option C))
+    (kept : D → List (Option R))
     (why_of : D → Ending) (q : Problem) (c : Cut) (cut : IsCutOf q c) (ds : List D) (count : length ds ≡ c.owners)
     (leaves : (k : ℕ) (d : D) → slice_get ds k ≡ Some d → Leaves b book k (left d) (why_of d))
     (finishes : (k : ℕ) (d : D) → slice_get ds k ≡ Some d → WasMade (why_of d)
-    → FinishedAs q c k (log_of (map m.all_sent (closed d))) (log_of (map m.received (kept d)))
+    → FinishedAs q c k (log_of (map (through m.all_sent) (closed d))) (log_of (map (through m.received) (kept d)))
     (b.left_owed (left d)) (b.left_cleared (left d)) (why_of d) (log d)
     (holding d))
     (calm : (k : ℕ) (d : D) → slice_get ds k ≡ Some d → IsCalm (why_of d)) where
@@ -140,19 +142,20 @@ module _ {D M S R C P L B H E : Type 0} (m : Mail.Ghosts M S R C P) (b : Ledger.
         f.0,
         (
           f.1 ∙ sym (mapped log ds i d.0 [] d.1),
-          subst (λ (x : List C). Finishes q c i f.0 (λ j. log_of (map m.all_sent x) j) (λ j. got j i) (owed i)
+          subst (λ (x : List (Option C)). Finishes q c i f.0 (λ j. log_of (map (through m.all_sent) x) j)
+              (λ j. got j i) (owed i)
               (cleared i) (ending i)) (sym (mapped closed ds i d.0 [] d.1))
-              (subst (λ (x : List R). Finishes q c i f.0 (log_of (map m.all_sent (closed d.0)))
-              (λ j. log_of (map m.received x) j) (owed i) (cleared i) (ending i))
+              (subst (λ (x : List (Option R)). Finishes q c i f.0 (log_of (map (through m.all_sent) (closed d.0)))
+              (λ j. log_of (map (through m.received) x) j) (owed i) (cleared i) (ending i))
               (sym (mapped kept ds i d.0 [] d.1))
-              (subst (λ (x : ℕ). Finishes q c i f.0 (log_of (map m.all_sent (closed d.0)))
-              (log_of (map m.received (kept d.0))) x (cleared i) (ending i))
+              (subst (λ (x : ℕ). Finishes q c i f.0 (log_of (map (through m.all_sent) (closed d.0)))
+              (log_of (map (through m.received) (kept d.0))) x (cleared i) (ending i))
               (sym (mapped (λ (y : D). b.left_owed (left y)) ds i d.0 0 d.1))
-              (subst (λ (x : ℕ). Finishes q c i f.0 (log_of (map m.all_sent (closed d.0)))
-              (log_of (map m.received (kept d.0))) (b.left_owed (left d.0)) x (ending i))
+              (subst (λ (x : ℕ). Finishes q c i f.0 (log_of (map (through m.all_sent) (closed d.0)))
+              (log_of (map (through m.received) (kept d.0))) (b.left_owed (left d.0)) x (ending i))
               (sym (mapped (λ (y : D). b.left_cleared (left y)) ds i d.0 0 d.1))
-              (subst (λ (x : Ending). Finishes q c i f.0 (log_of (map m.all_sent (closed d.0)))
-              (log_of (map m.received (kept d.0))) (b.left_owed (left d.0)) (b.left_cleared (left d.0)) x)
+              (subst (λ (x : Ending). Finishes q c i f.0 (log_of (map (through m.all_sent) (closed d.0)))
+              (log_of (map (through m.received) (kept d.0))) (b.left_owed (left d.0)) (b.left_cleared (left d.0)) x)
               (sym (mapped why_of ds i d.0 Quiet d.1)) f.2)))),
         ),
       )

@@ -1,11 +1,12 @@
 -- Settled mailboxes, one by one and row by row.
-use Rattle.std.proofs.Common.{◌≡◌, ◌≢◌, ◌+◌, ◌<◌, ℕ, zero, suc, List, [], ◌∷◌, ◌++◌, map, drop, slice_get, Some, Contains, AllPairs, refl, ap, sym, ◌∙◌, subst, inl, inr, ◌⊎◌, ⊎_elim, append_assoc, arith}
+use Rattle.std.proofs.Common.{◌≡◌, ◌≢◌, ◌+◌, ◌<◌, ℕ, zero, suc, List, [], ◌∷◌, ◌++◌, map, drop, slice_get, Option, Some, None, Contains, AllPairs, refl, ap, sym, ◌∙◌, subst, inl, inr, ◌⊎◌, ⊎_elim, append_assoc, arith}
 use Rattle.std.proofs.lemmas.List.Elements.{Contains-append_left, Contains-append_right, Contains-append_cases}
 use Rattle.nll_mail.specs.declared.growth.Growth.{Growth}
 use Rattle.nll_mail.specs.declared.mail.Mail as Mail
 use Rattle.nll_owner.specs.Logs.{IsPrefix, log_of}
-use Rattle.nll_run.specs.Table.{list_at, IsTable}
-use Rattle.nll_run.specs.Settling.{IsPostOf, ArePostsOf, AddsPosts, AreNextEnds, InRow, InRows, ComeBefore}
+use Rattle.nll_worker.specs.Mailboxes.{through}
+use Rattle.nll_run.specs.Table.{list_at, AreEnds, IsTable}
+use Rattle.nll_run.specs.Settling.{IsPostOf, ArePostsOf, AddsPost, AddsPosts, AreNext, InRow, InRows, ComeBefore}
 use Rattle.std.proofs.lemmas.List.Quantifiers.{all_pairs_push}
 use Rattle.nll_owner.specs.Delivery.{IsPairBefore}
 use Rattle.nll_run.proofs.PlaceLemmas.{place, same_place, drop_front, drop_at, mapped, map_push, map_size, contained}
@@ -138,11 +139,11 @@ pub drop_drop : {R : Type 0} (xs : List R) (m : ℕ) → drop 1 (drop m xs) ≡ 
 drop_drop xs m = let n : suc m ≡ m + 1 = omega arith in drop_drop_suc xs m ∙ ap (λ k. drop k xs) n
 
 -- what row m has for j, and the first of column j once m were taken off
-pub head_of : {C R : Type 0} (closes : C → R → Type 0) (ends : R → ℕ × ℕ) (owners m j : ℕ) (rows : List (List C))
+pub head_of : {C R : Type 0} (paired : ℕ → ℕ → C → R → Type 0) (owners m j : ℕ) (rows : List (List C))
     (columns : List (List R)) (row : List C) (column : List R)
-    → IsTable closes ends owners owners rows columns → m < owners → j < owners → row ≡ list_at rows m
-    → column ≡ drop m (list_at columns j) → AreNextEnds closes ends m j row column
-head_of closes ends owners m j rows columns row column t lm lj row_is column_is =
+    → IsTable paired owners owners rows columns → m < owners → j < owners → row ≡ list_at rows m
+    → column ≡ drop m (list_at columns j) → AreNext paired m j row column
+head_of paired owners m j rows columns row column t lm lj row_is column_is =
     let x = t.cell m j lm lj in (
       x.0,
       x.1,
@@ -151,22 +152,19 @@ head_of closes ends owners m j rows columns row column t lm lj row_is column_is 
       column_is
           ∙ drop_at (list_at columns j) m x.1 x.3,
       x.4,
-      x.5,
     )
 
 -- what is known of the two ends that are settled, once they were taken
-pub settle_cell : {C R : Type 0} (closes : C → R → Type 0) (ends : R → ℕ × ℕ) (from to : ℕ) (row row_rest : List C)
+pub settle_cell : {C R : Type 0} (paired : ℕ → ℕ → C → R → Type 0) (from to : ℕ) (row row_rest : List C)
     (column column_rest : List R) (z : C) (r : R)
-    → AreNextEnds closes ends from to row column → drop to row ≡ z ∷ row_rest → column ≡ r ∷ column_rest
-    → (slice_get row to ≡ Some z) × closes z r × (ends r ≡ (from, to)) × (row_rest ≡ drop (to + 1) row)
-    × (column_rest ≡ drop 1 column)
-settle_cell {C} {R} closes ends from to row row_rest column column_rest z r h row_is column_is =
+    → AreNext paired from to row column → drop to row ≡ z ∷ row_rest → column ≡ r ∷ column_rest
+    → (slice_get row to ≡ Some z) × paired from to z r × (row_rest ≡ drop (to + 1) row) × (column_rest ≡ drop 1 column)
+settle_cell {C} {R} paired from to row row_rest column column_rest z r h row_is column_is =
     let front = drop_front row to z row_rest row_is in
     let same_z : h.0 ≡ z = same_place row to h.0 z h.3 front.0 in
     let same_r : h.1 ≡ r = first_same h.1 r h.2 column_rest (sym h.4 ∙ column_is) in (
       front.0,
-      subst (λ (y : C × R). closes y.0 y.1) (λ i. (same_z i, same_r i)) h.5,
-      subst (λ y. ends y ≡ (from, to)) same_r h.6,
+      subst (λ (y : C × R). paired from to y.0 y.1) (λ i. (same_z i, same_r i)) h.5,
       front.1,
       sym (ap (drop 1) column_is ∙ drop_one r column_rest),
     )
@@ -178,45 +176,61 @@ settle_cell {C} {R} closes ends from to row row_rest column column_rest z r h ro
     drop_one x [] = refl
     drop_one x (y ∷ ys) = refl
 
-module _ {M S R C P : Type 0} (m : Mail.Ghosts M S R C P) (from to : ℕ) (row : List C) (columns : List (List R))
-    (z : C) (r : R) (column_rest : List R) (p : P) (place_z : slice_get row to ≡ Some z)
-    (column_is : list_at columns to ≡ r ∷ column_rest)
-    (ends_are : m.post_ends p ≡ (from, to)) (sent_is : m.post_sent p ≡ m.all_sent z)
-    (received_is : m.post_received p ≡ m.received r)
-    (whole : m.post_sent p ≡ m.post_received p ++ m.post_rest p) where
-  out_is : m.post_sent p ≡ log_of (map m.all_sent row) to
-  out_is = sent_is ∙ sym (mapped m.all_sent row to z [] place_z)
+module _ {M S R C P : Type 0} (m : Mail.Ghosts M S R C P) (from to : ℕ) (row : List (Option C))
+    (columns : List (List (Option R))) where
+  abbrev out : ℕ → ℕ → List Growth
+  out _ j = log_of (map (through m.all_sent) row) j
 
-  into_is : m.post_received p ≡ log_of (map m.received (list_at columns to)) 0
-  into_is = received_is ∙ sym (ap (λ l. log_of (map m.received l) 0) column_is)
+  abbrev into : ℕ → ℕ → List Growth
+  into _ j = log_of (map (through m.received) (list_at columns j)) 0
 
-  prefix_is : IsPrefix (log_of (map m.received (list_at columns to)) 0) (log_of (map m.all_sent row) to)
-  prefix_is = (m.post_rest p, sym out_is ∙ (whole ∙ ap (λ l. l ++ m.post_rest p) into_is))
+  module _ (z : C) (r : R) (column_rest : List (Option R)) (p : P) (place_z : slice_get row to ≡ Some (Some z))
+      (column_is : list_at columns to ≡ Some r ∷ column_rest)
+      (ends_are : m.post_ends p ≡ (from, to)) (sent_is : m.post_sent p ≡ m.all_sent z)
+      (received_is : m.post_received p ≡ m.received r)
+      (whole : m.post_sent p ≡ m.post_received p ++ m.post_rest p) where
+    out_is : m.post_sent p ≡ log_of (map (through m.all_sent) row) to
+    out_is = sent_is ∙ sym (mapped (through m.all_sent) row to (Some z) [] place_z)
 
-  pub settle_post : (old now : List P) → from ≢ to
-      → AddsPosts m (λ _ j. log_of (map m.all_sent row) j) (λ _ j. log_of (map m.received (list_at columns j)) 0)
-      (InRow from to) old now
-      → AddsPosts m (λ _ j. log_of (map m.all_sent row) j) (λ _ j. log_of (map m.received (list_at columns j)) 0)
-      (InRow from (to + 1)) old (now ++ p ∷ [])
-  settle_post old now apart a = (
-    a.0 ++ p ∷ [],
-    ap (λ l. l ++ p ∷ []) a.1 ∙ append_assoc old a.0 (p ∷ []),
-    row_post m (λ _ j. log_of (map m.all_sent row) j)
-        (λ _ j. log_of (map m.received (list_at columns j)) 0) from to a.0 p a.2 prefix_is
-        (record { apart = apart; ends_are = ends_are; sent_is = out_is; received_is = into_is; whole = whole }),
-  )
+    into_is : m.post_received p ≡ log_of (map (through m.received) (list_at columns to)) 0
+    into_is = received_is ∙ sym (ap (λ l. log_of (map (through m.received) l) 0) column_is)
 
-  pub settle_own : (old now : List P) → from ≡ to
-      → AddsPosts m (λ _ j. log_of (map m.all_sent row) j) (λ _ j. log_of (map m.received (list_at columns j)) 0)
-      (InRow from to) old now
-      → AddsPosts m (λ _ j. log_of (map m.all_sent row) j) (λ _ j. log_of (map m.received (list_at columns j)) 0)
-      (InRow from (to + 1)) old now
-  settle_own old now same a = (
-    a.0,
-    a.1,
-    row_own m (λ _ j. log_of (map m.all_sent row) j)
-        (λ _ j. log_of (map m.received (list_at columns j)) 0) from to a.0 a.2 prefix_is same,
-  )
+    prefix_is : IsPrefix (into from to) (out from to)
+    prefix_is = (m.post_rest p, sym out_is ∙ (whole ∙ ap (λ l. l ++ m.post_rest p) into_is))
+
+    pub settle_post : (old now : List P) → from ≢ to → AddsPosts m out into (InRow from to) old now
+        → AddsPosts m out into (InRow from (to + 1)) old (now ++ p ∷ [])
+    settle_post old now apart a = (
+      a.0 ++ p ∷ [],
+      ap (λ l. l ++ p ∷ []) a.1 ∙ append_assoc old a.0 (p ∷ []),
+      row_post m out into from to a.0 p a.2 prefix_is
+          (record { apart = apart; ends_are = ends_are; sent_is = out_is; received_is = into_is; whole = whole }),
+    )
+
+  pub settle_own : (column_rest : List (Option R)) → slice_get row to ≡ Some None
+      → list_at columns to ≡ None ∷ column_rest → (old now : List P) → from ≡ to
+      → AddsPosts m out into (InRow from to) old now → AddsPosts m out into (InRow from (to + 1)) old now
+  settle_own column_rest place_z column_is old now same a =
+      let none_out : out from to ≡ [] = mapped (through m.all_sent) row to None [] place_z in
+      let none_into : into from to ≡ [] = ap (λ l. log_of (map (through m.received) l) 0) column_is in (
+        a.0,
+        a.1,
+        row_own m out into from to a.0 a.2 ([], none_out ∙ sym (ap (λ l. l ++ []) none_into)) same,
+      )
+
+  -- whatever the two ends are
+  pub posts_more : (z : Option C) (r : Option R) (column_rest : List (Option R)) → slice_get row to ≡ Some z
+      → list_at columns to ≡ r ∷ column_rest → AreEnds m.closes m.ends from to z r → (old now next : List P)
+      → AddsPost m z r now next → AddsPosts m out into (InRow from to) old now
+      → AddsPosts m out into (InRow from (to + 1)) old next
+  posts_more None None column_rest place_z column_is t old now next add a =
+      subst (λ ps. AddsPosts m out into (InRow from (to + 1)) old ps) (sym add)
+      (settle_own column_rest place_z column_is old now t a)
+  posts_more (Some z) (Some r) column_rest place_z column_is t old now next add a =
+      subst (λ ps. AddsPosts m out into (InRow from (to + 1)) old ps) (sym add.1)
+      (settle_post z r column_rest add.0 place_z column_is (add.2 ∙ t.2) add.3 add.4 add.5 old now t.0 a)
+  posts_more None (Some r) column_rest place_z column_is t old now next add a = absurd t
+  posts_more (Some z) None column_rest place_z column_is t old now next add a = absurd t
 
 -- ---- the order of the posts
 
@@ -253,3 +267,14 @@ come_push {P} ends posts i j p is c = record {
       (sym is ∙ ap ends (in_one p q new)) (inr (refl, omega arith)))
       (Contains-append_cases posts (p ∷ []) q h);
 }
+
+pub order_more : {M S R C P : Type 0} (m : Mail.Ghosts M S R C P) (from to : ℕ) (z : Option C) (r : Option R)
+    (now next : List P) → AreEnds m.closes m.ends from to z r → AddsPost m z r now next
+    → ComeBefore m.post_ends now (from, to) → ComeBefore m.post_ends next (from, to + 1)
+order_more m from to None r now next t add c =
+    subst (λ ps. ComeBefore m.post_ends ps (from, to + 1)) (sym add)
+    (come_later m.post_ends now (from, to) (from, to + 1) (next_in_row from to) c)
+order_more m from to (Some z) (Some r) now next t add c =
+    subst (λ ps. ComeBefore m.post_ends ps (from, to + 1)) (sym add.1)
+    (come_push m.post_ends now from to add.0 (add.2 ∙ t.2) c)
+order_more m from to (Some z) None now next t add c = absurd t

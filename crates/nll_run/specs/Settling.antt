@@ -1,12 +1,13 @@
 -- What settled mailboxes say, while they are settled one by one. Private contracts alone cite this
 -- file.
 -- Source: project's choice.
-use Rattle.std.specs.Prelude.{◌≡◌, ◌≢◌, ℕ, ◌<◌, List, ◌∷◌, ◌++◌, length, map, drop, slice_get}
-use Rattle.std.specs.Prelude.{Some, Contains, AllPairs}
+use Rattle.std.specs.Prelude.{◌≡◌, ◌≢◌, ℕ, ◌<◌, List, [], ◌∷◌, ◌++◌, length, map, drop, slice_get}
+use Rattle.std.specs.Prelude.{Option, Some, None, Contains, AllPairs}
 use Rattle.nll_mail.specs.declared.growth.Growth.{Growth}
 use Rattle.nll_mail.specs.declared.mail.Mail as Mail
 use Rattle.nll_owner.specs.Logs.{IsPrefix, log_of}
 use Rattle.nll_owner.specs.Delivery.{IsPairBefore}
+use Rattle.nll_worker.specs.Mailboxes.{through}
 use Rattle.nll_run.specs.Table.{list_at}
 
 module _ {M S R C P : Type 0} (mail : Mail.Ghosts M S R C P) (out into : ℕ → ℕ → List Growth)
@@ -32,18 +33,27 @@ module _ {M S R C P : Type 0} (mail : Mail.Ghosts M S R C P) (out into : ℕ →
     abbrev pub AddsPosts : (ℕ → ℕ → Type 0) → List P → List P → Type 0
     AddsPosts done old new = (more : List P) × (new ≡ old ++ more) × ArePostsOf done more
 
+-- the settled mailbox of these two ends was put behind what was there; nothing, where there is none
+abbrev pub AddsPost : {M S R C P : Type 0} → Mail.Ghosts M S R C P → Option C → Option R → List P
+    → List P → Type 0
+AddsPost mail None r old new = new ≡ old
+AddsPost mail (Some z) None old new = ⊥
+AddsPost {M} {S} {R} {C} {P} mail (Some z) (Some r) old new =
+    (p : P) × (new ≡ old ++ p ∷ []) × (mail.post_ends p ≡ mail.ends r)
+    × (mail.post_sent p ≡ mail.all_sent z) × (mail.post_received p ≡ mail.received r)
+    × (mail.post_sent p ≡ mail.post_received p ++ mail.post_rest p)
+
 -- Settled mailboxes come by sender, then by receiver, and all of them before this pair.
 pub record ComeBefore {P : Type 0} (ends : P → ℕ × ℕ) (posts : List P) (pair : ℕ × ℕ)
     : Type 0 where
   pub in_order : AllPairs IsPairBefore (map ends posts)
   pub before : (p : P) → Contains posts p → IsPairBefore (ends p) pair
 
--- what the row has for j and the first of a column are the ends of the mailbox from i to j
-abbrev pub AreNextEnds : {C R : Type 0} → (C → R → Type 0) → (R → ℕ × ℕ) → ℕ → ℕ
-    → List C → List R → Type 0
-AreNextEnds {C} {R} closes ends i j row column =
+-- what the row has for j and the first of a column are paired for i and j
+abbrev pub AreNext : {C R : Type 0} → (ℕ → ℕ → C → R → Type 0) → ℕ → ℕ → List C → List R → Type 0
+AreNext {C} {R} paired i j row column =
     (z : C) × (r : R) × (rest : List R) × (slice_get row j ≡ Some z) × (column ≡ r ∷ rest)
-    × closes z r × (ends r ≡ (i, j))
+    × paired i j z r
 
 -- each of so many columns lost its first
 abbrev pub LosesFirsts : {R : Type 0} → ℕ → List (List R) → List (List R) → Type 0
@@ -59,9 +69,11 @@ abbrev pub InRows : ℕ → ℕ → ℕ → ℕ → Type 0
 InRows made owners i j = (i < made) × (j < owners)
 
 -- what the closed sender at each place has sent
-abbrev pub sent_by : {C : Type 0} → (C → List Growth) → List (List C) → ℕ → ℕ → List Growth
-sent_by all_sent rows i j = log_of (map all_sent (list_at rows i)) j
+abbrev pub sent_by : {C : Type 0} → (C → List Growth) → List (List (Option C)) → ℕ → ℕ
+    → List Growth
+sent_by all_sent rows i j = log_of (map (through all_sent) (list_at rows i)) j
 
 -- what the receiver at each place has received
-abbrev pub got_by : {R : Type 0} → (R → List Growth) → List (List R) → ℕ → ℕ → List Growth
-got_by received columns i j = log_of (map received (list_at columns j)) i
+abbrev pub got_by : {R : Type 0} → (R → List Growth) → List (List (Option R)) → ℕ → ℕ
+    → List Growth
+got_by received columns i j = log_of (map (through received) (list_at columns j)) i

@@ -1,8 +1,8 @@
 -- The mailboxes between all owners, by sender and by receiver. Private contracts alone cite this
 -- file.
 -- Source: project's choice.
-use Rattle.std.specs.Prelude.{◌≡◌, ℕ, ◌<◌, ◌≤◌, List, [], ◌∷◌, ◌++◌, length, slice_get}
-use Rattle.std.specs.Prelude.{slice_index_or, Some}
+use Rattle.std.specs.Prelude.{◌≡◌, ◌≢◌, ℕ, ◌<◌, ◌≤◌, List, [], ◌∷◌, ◌++◌, length, slice_get}
+use Rattle.std.specs.Prelude.{slice_index_or, Option, Some, None}
 use Rattle.nll_mail.specs.declared.mail.Mail as Mail
 
 -- the list at a place
@@ -13,12 +13,20 @@ list_at lists k = slice_index_or lists k []
 abbrev pub AreNewEnds : {M S R C P : Type 0} → Mail.Ghosts M S R C P → S → R → Type 0
 AreNewEnds mail s r = mail.pairs s r × (mail.sent s ≡ []) × (mail.received r ≡ [])
 
-module _ {S R : Type 0} (tied : S → R → Type 0) (ends : R → ℕ × ℕ) where
-  -- what the row of i has for j and the column of j from i are the ends of the mailbox from i to j
+-- the two ends of the mailbox from owner i to owner j, which are tied so; from an owner to itself
+-- there is neither
+abbrev pub AreEnds : {S R : Type 0} → (S → R → Type 0) → (R → ℕ × ℕ) → ℕ → ℕ → Option S → Option R
+    → Type 0
+AreEnds tied ends i j None None = i ≡ j
+AreEnds tied ends i j (Some s) (Some r) = (i ≢ j) × tied s r × (ends r ≡ (i, j))
+AreEnds tied ends i j _ _ = ⊥
+
+module _ {S R : Type 0} (paired : ℕ → ℕ → S → R → Type 0) where
+  -- what the row of i has for j and the column of j has from i are paired for i and j
   abbrev pub IsCell : ℕ → ℕ → List S → List R → Type 0
   IsCell i j row column =
       (s : S) × (r : R) × (slice_get row j ≡ Some s) × (slice_get column i ≡ Some r)
-      × tied s r × (ends r ≡ (i, j))
+      × paired i j s r
 
   -- The first so many rows, and what all columns have from them.
   pub record IsTable (done owners : ℕ) (rows : List (List S)) (columns : List (List R))
@@ -36,5 +44,5 @@ module _ {S R : Type 0} (tied : S → R → Type 0) (ends : R → ℕ × ℕ) wh
     pub column_count : length new ≡ length old
     pub each :
         (j : ℕ) → j < made → (s : S) × (r : R) × (slice_get row j ≡ Some s)
-        × (list_at new j ≡ list_at old j ++ r ∷ []) × tied s r × (ends r ≡ (from, j))
+        × (list_at new j ≡ list_at old j ++ r ∷ []) × paired from j s r
     pub others : (j : ℕ) → made ≤ j → list_at new j ≡ list_at old j

@@ -8,9 +8,10 @@ ghost use Rattle.nll_problem.specs.Problem.{IsSound};
 ghost use Rattle.nll_owner.specs.Logs.{IsCutOf, log_of};
 ghost use Rattle.nll_owner.specs.Tables.{AreTables};
 ghost use Rattle.nll_worker.specs.Finishing.{IsFresh, Leaves, WasMade, WasStarted, FinishedAs};
+ghost use Rattle.nll_worker.specs.Mailboxes.{through};
 ghost use Rattle.nll_run.specs.Outcome.{IsOutcome};
 ghost use Rattle.nll_run.specs.Refusing.{IsReason};
-ghost use Rattle.nll_run.specs.Table.{AreNewEnds, IsTable};
+ghost use Rattle.nll_run.specs.Table.{AreEnds, AreNewEnds, IsTable};
 ghost use Rattle.nll_run.specs.declared.error.RunError.TheVariants.{Thread};
 
 use crate::error::RunError;
@@ -43,7 +44,7 @@ use std::thread::Threads;
 ///
 /// # Cost
 /// The work of the owners, and for each growth that is received some two holds of the ledger, a
-/// post and a take (not proved). There is a mailbox for each ordered pair of owners.
+/// post and a take (not proved). There is a mailbox for each ordered pair of different owners.
 pub fn run<M: Mail, L: Ledger, G: Gate, R: Threads + Wait + Sync>(
     rt: &R,
     alloc: Global,
@@ -138,7 +139,7 @@ fn prepare<M: Mail, L: Ledger>(
     requires owners { (0 < owners) × (owners ≤ most_owners) }
     ensures book { IfOk result (λ p. L.owner_count p.0 ≡ owners) }
     ensures count { IfOk result (λ p. deque_len p.1 ≡ owners) }
-    ensures table { IfOk result (λ p. IsTable (AreNewEnds M.Mail) M.ends owners owners
+    ensures table { IfOk result (λ p. IsTable (AreEnds (AreNewEnds M.Mail) M.ends) owners owners
         (map (λ w. w.outbox.senders.items) p.1.items)
         (map (λ w. w.receivers.items) p.1.items)) }
     ensures each { IfOk result (λ p. (k : ℕ) (w : _) → slice_get p.1.items k ≡ Some w
@@ -171,14 +172,14 @@ fn conclude<M: Mail, L: Ledger>(
     requires cut { IsCutOf problem.now cut.now }
     requires book { L.owner_count book ≡ cut.now.owners }
     requires count { vec_len finished ≡ cut.now.owners }
-    requires table { IsTable M.closes M.ends cut.now.owners cut.now.owners
+    requires table { IsTable (AreEnds M.closes M.ends) cut.now.owners cut.now.owners
         (map (λ d. d.closed.items) finished.items) (map (λ d. d.receivers.items) finished.items) }
     requires leaves { (k : ℕ) (d : _) → slice_get finished.items k ≡ Some d
         → Leaves L.Ledger book k d.left d.ending }
     requires finishes { (k : ℕ) (d : _) → slice_get finished.items k ≡ Some d → WasMade d.ending
-        → FinishedAs problem.now cut.now k (log_of (map M.all_sent d.closed.items))
-        (log_of (map M.received d.receivers.items)) (L.left_owed d.left) (L.left_cleared d.left)
-        d.ending d.log.items d.holding }
+        → FinishedAs problem.now cut.now k (log_of (map (through M.all_sent) d.closed.items))
+        (log_of (map (through M.received) d.receivers.items)) (L.left_owed d.left)
+        (L.left_cleared d.left) d.ending d.log.items d.holding }
     ensures ok { IfOk result (λ o. IsOutcome M.Mail problem.now cut.now o.values
         (map (λ list. list.items) o.grown.items) o.posts.items) }
     ensures refused { (error : RunError)

@@ -3,7 +3,7 @@
 ghost use Rattle.std.specs.Prelude.{◌≡◌, ◌≤◌, ℕ, [], map, replicate, slice_get, Some, IfOk};
 ghost use Rattle.std.specs.Prelude.{vec_len, vec_capacity};
 ghost use Rattle.std.specs.VecDeque.{deque_len};
-ghost use Rattle.nll_run.specs.Table.{AreNewEnds, IsTable, IsPartRow};
+ghost use Rattle.nll_run.specs.Table.{AreEnds, AreNewEnds, IsTable, IsPartRow};
 
 use nll_ledger::Ledger;
 use nll_mail::Mail;
@@ -16,7 +16,7 @@ use std::collections::VecDeque;
 ///
 /// # Errors
 /// - `Memory`.
-pub fn make_columns<M: Mail>(alloc: Global, owners: u16) -> Result<Vec<Vec<M::R>>, Memory>
+pub fn make_columns<M: Mail>(alloc: Global, owners: u16) -> Result<Vec<Vec<Option<M::R>>>, Memory>
     ensures { IfOk result (λ columns.
         map (λ c. c.items) columns.items ≡ replicate owners []) }
 {
@@ -35,10 +35,10 @@ pub fn make_rows<M: Mail>(
     alloc: Global,
     mail: &M,
     owners: u16,
-    columns: &mut Vec<Vec<M::R>>,
+    columns: &mut Vec<Vec<Option<M::R>>>,
 ) -> Result<Vec<Outbox<M>>, Memory>
     requires { map (λ c. c.items) columns.old.items ≡ replicate owners [] }
-    ensures { IfOk result (λ rows. IsTable (AreNewEnds M.Mail) M.ends owners owners
+    ensures { IfOk result (λ rows. IsTable (AreEnds (AreNewEnds M.Mail) M.ends) owners owners
         (map (λ o. o.senders.items) rows.items) (map (λ c. c.items) columns.new.items)) }
 {
     let mut rows = Vec::new(alloc);
@@ -49,16 +49,32 @@ pub fn make_rows<M: Mail>(
     Ok(rows)
 }
 
-// One sender for each owner; the other ends go to the ends of the columns.
+// The two ends of a new mailbox from one owner to another; from an owner to itself there is none.
+fn make_ends<M: Mail>(
+    alloc: Global,
+    mail: &M,
+    from: u16,
+    to: u16,
+) -> Result<(Option<M::S>, Option<M::R>), Memory>
+    ensures { IfOk result (λ both. AreEnds (AreNewEnds M.Mail) M.ends from to both.0 both.1) }
+{
+    if from == to {
+        return Ok((None, None));
+    }
+    let (sender, receiver) = mail.pair(alloc, from, to)?;
+    Ok((Some(sender), Some(receiver)))
+}
+
+// One sender for each other owner; the other ends go to the ends of the columns.
 fn make_row<M: Mail>(
     alloc: Global,
     mail: &M,
     from: u16,
     owners: u16,
-    columns: &mut Vec<Vec<M::R>>,
+    columns: &mut Vec<Vec<Option<M::R>>>,
 ) -> Result<Outbox<M>, Memory>
     requires columns { vec_len columns.old ≡ owners }
-    ensures row { IfOk result (λ row. IsPartRow (AreNewEnds M.Mail) M.ends owners from
+    ensures row { IfOk result (λ row. IsPartRow (AreEnds (AreNewEnds M.Mail) M.ends) owners from
         row.senders.items (map (λ c. c.items) columns.old.items)
         (map (λ c. c.items) columns.new.items)) }
 {
@@ -66,7 +82,7 @@ fn make_row<M: Mail>(
         senders: Vec::with_capacity(alloc, owners as usize)?,
     };
     for to in 0..owners {
-        let (sender, receiver) = mail.pair(alloc, from, to)?;
+        let (sender, receiver) = make_ends::<M>(alloc, mail, from, to)?;
         row.senders.push_reserved(sender);
         columns[to as usize].push(receiver)?;
     }
@@ -81,7 +97,7 @@ pub fn make_workers<M: Mail, L: Ledger>(
     alloc: Global,
     owners: u16,
     rows: VecDeque<Outbox<M>>,
-    columns: VecDeque<Vec<M::R>>,
+    columns: VecDeque<Vec<Option<M::R>>>,
     shares: VecDeque<L::Share>,
 ) -> Result<Vec<Worker<M, L>>, Memory>
     requires rows { deque_len rows ≡ owners }

@@ -18,8 +18,8 @@ pub struct Parts<M: Mail, L: Ledger> {
     pub lefts: Vec<L::Left>,
     pub grown: Vec<Vec<Growth>>,
     pub holdings: Vec<Holding>,
-    pub rows: Vec<VecDeque<M::Closed>>,
-    pub columns: Vec<VecDeque<M::R>>,
+    pub rows: Vec<VecDeque<Option<M::Closed>>>,
+    pub columns: Vec<VecDeque<Option<M::R>>>,
 }
 
 /// Why the run is refused, if it is: since a worker wasn't started; or else since one was out of

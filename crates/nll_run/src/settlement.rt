@@ -4,27 +4,28 @@ ghost use Rattle.std.specs.Prelude.{◌≡◌, ◌+◌, ◌<◌, ℕ, [], map, v
 ghost use Rattle.std.specs.VecDeque.{deque_len};
 ghost use Rattle.nll_owner.specs.Logs.{log_of};
 ghost use Rattle.nll_owner.specs.Delivery.{IsPairBefore};
-ghost use Rattle.nll_run.specs.Table.{IsTable, list_at};
-ghost use Rattle.nll_run.specs.Settling.{ArePostsOf, AddsPosts, ComeBefore, InRows, InRow};
-ghost use Rattle.nll_run.specs.Settling.{AreNextEnds, LosesFirsts, sent_by, got_by};
+ghost use Rattle.nll_worker.specs.Mailboxes.{through};
+ghost use Rattle.nll_run.specs.Table.{AreEnds, IsTable, list_at};
+ghost use Rattle.nll_run.specs.Settling.{ArePostsOf, AddsPost, AddsPosts, ComeBefore, InRows};
+ghost use Rattle.nll_run.specs.Settling.{InRow};
+ghost use Rattle.nll_run.specs.Settling.{AreNext, LosesFirsts, sent_by, got_by};
 
 use nll_mail::Mail;
 use nll_sets::Memory;
 use std::collections::VecDeque;
 
-/// Settles all mailboxes, by sender and then by receiver. Those from an owner to itself, through
-/// which nothing went, are let go.
+/// Settles all mailboxes, by sender and then by receiver.
 ///
 /// # Errors
 /// - `Memory`.
 pub fn settle_all<M: Mail>(
-    rows: VecDeque<VecDeque<M::Closed>>,
-    columns: &mut Vec<VecDeque<M::R>>,
+    rows: VecDeque<VecDeque<Option<M::Closed>>>,
+    columns: &mut Vec<VecDeque<Option<M::R>>>,
     owners: u16,
     posts: &mut Vec<M::Post>,
 ) -> Result<(), Memory>
-    requires table { IsTable M.closes M.ends owners owners (map (λ c. c.items) rows.items)
-        (map (λ c. c.items) columns.old.items) }
+    requires table { IsTable (AreEnds M.closes M.ends) owners owners
+        (map (λ c. c.items) rows.items) (map (λ c. c.items) columns.old.items) }
     requires none { posts.old.items ≡ [] }
     ensures posts { OnOk result (ArePostsOf M.Mail
         (sent_by M.all_sent (map (λ c. c.items) rows.items))
@@ -44,21 +45,23 @@ pub fn settle_all<M: Mail>(
 
 // Settles the mailboxes of one sender with the first ends of the columns.
 fn settle_row<M: Mail>(
-    row: VecDeque<M::Closed>,
-    columns: &mut Vec<VecDeque<M::R>>,
+    row: VecDeque<Option<M::Closed>>,
+    columns: &mut Vec<VecDeque<Option<M::R>>>,
     from: u16,
     owners: u16,
     posts: &mut Vec<M::Post>,
 ) -> Result<(), Memory>
     requires row { deque_len row ≡ owners }
     requires columns { vec_len columns.old ≡ owners }
-    requires heads { (j : ℕ) → j < owners → AreNextEnds M.closes M.ends from j row.items
+    requires heads { (j : ℕ) → j < owners → AreNext (AreEnds M.closes M.ends) from j row.items
         (list_at (map (λ c. c.items) columns.old.items) j) }
     requires order { ComeBefore M.post_ends posts.old.items (from, 0) }
     ensures columns { OnOk result (LosesFirsts owners (map (λ c. c.items) columns.old.items)
         (map (λ c. c.items) columns.new.items)) }
-    ensures posts { OnOk result (AddsPosts M.Mail (λ _ j. log_of (map M.all_sent row.items) j)
-        (λ _ j. log_of (map M.received (list_at (map (λ c. c.items) columns.old.items) j)) 0)
+    ensures posts { OnOk result (AddsPosts M.Mail
+        (λ _ j. log_of (map (through M.all_sent) row.items) j)
+        (λ _ j. log_of (map (through M.received)
+        (list_at (map (λ c. c.items) columns.old.items) j)) 0)
         (InRow from owners) posts.old.items posts.new.items) }
     ensures order { OnOk result (ComeBefore M.post_ends posts.new.items (from + 1, 0)) }
 {
@@ -70,10 +73,27 @@ fn settle_row<M: Mail>(
         let Some(receiver) = columns[to as usize].pop_front() else {
             unreachable!()
         };
-        let post = M::settle(closed, receiver);
-        if from != to {
-            posts.push(post)?;
-        }
+        settle_ends::<M>(closed, receiver, posts)?;
     }
+    Ok(())
+}
+
+// Settles the mailbox that has these ends; from an owner to itself there is none.
+fn settle_ends<M: Mail>(
+    closed: Option<M::Closed>,
+    receiver: Option<M::R>,
+    posts: &mut Vec<M::Post>,
+) -> Result<(), Memory>
+    requires ends { (i j : ℕ) × AreEnds M.closes M.ends i j closed receiver }
+    ensures { OnOk result
+        (AddsPost M.Mail closed receiver posts.old.items posts.new.items) }
+{
+    let Some(closed) = closed else {
+        return Ok(());
+    };
+    let Some(receiver) = receiver else {
+        unreachable!()
+    };
+    posts.push(M::settle(closed, receiver))?;
     Ok(())
 }

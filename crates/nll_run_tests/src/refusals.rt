@@ -36,7 +36,7 @@ impl Refusals {
         }
     }
 
-    /// Writes what a run answered, how many owners were asked for, how many senders to other owners
+    /// Writes what a run answered, how many owners were asked for, how many senders
     /// were closed, and how often an owner was asked for out of turn or a refusal waited in vain.
     pub fn write(&self, out: &mut String, refused: Option<RunError>) -> Result<(), AllocError> {
         let asked = self.asked.load(Ordering::SeqCst);

@@ -22,7 +22,7 @@ use std::thread::Threads;
 type Refused = (usize, usize, u64);
 
 // A problem, how its regions are dealt, which owners are refused, and what came of it: the answer,
-// how many owners the permit was asked for, how many senders to other owners were closed, and how
+// how many owners the permit was asked for, how many senders were closed, and how
 // often it was asked out of turn; and behind that what a run of the same things comes to that
 // nobody refuses.
 type Row = (Written, Deal, Refused, &'static str);

@@ -8,7 +8,7 @@ use nll_sets::Memory;
 use std::alloc::{AllocError, Global};
 use std::collections::VecDeque;
 
-/// A step of an owner. A close is that of a mailbox to another owner.
+/// A step of an owner.
 #[derive(Clone, Copy, Debug, PartialEq, Eq)]
 pub enum Step {
     Post,
@@ -34,7 +34,6 @@ pub struct Watched<'x, I, W> {
 pub struct WatchedSender<'x, M: Mail, W> {
     inner: M::S,
     from: u16,
-    to: u16,
     watch: &'x W,
 }
 
@@ -79,7 +78,6 @@ impl<'x, M: Mail, W: Watch> Mail for Watched<'x, M, W> {
         let sender = WatchedSender {
             inner,
             from,
-            to,
             watch: self.watch,
         };
         Ok((sender, receiver))
@@ -95,15 +93,8 @@ impl<'x, M: Mail, W: Watch> Mail for Watched<'x, M, W> {
     }
 
     fn close(sender: WatchedSender<'x, M, W>) -> M::Closed {
-        let WatchedSender {
-            inner,
-            from,
-            to,
-            watch,
-        } = sender;
-        if from != to {
-            watch.before(from, Step::Close);
-        }
+        let WatchedSender { inner, from, watch } = sender;
+        watch.before(from, Step::Close);
         M::close(inner)
     }
 

@@ -1,14 +1,16 @@
 -- What was posted, after a step.
 use Rattle.std.proofs.Common.{◌≡◌, ◌≢◌, ℕ, zero, suc, ◌+◌, ◌<◌, ◌≤◌, false, List, [], ◌∷◌, ◌++◌, length, take, drop, min, slice_get, slice_set, slice_index_or, replicate, refl, sym, ap, ◌∙◌, subst, ⊎_elim, arith}
-use Rattle.std.specs.Prelude.{Option, Some, None, IfSome, IfNone}
+use Rattle.std.specs.Prelude.{Bool, true, Option, Some, None, IfSome, IfNone}
 use Rattle.std.proofs.lemmas.Bool.{cases_eq}
 use Rattle.std.proofs.lemmas.Option.{slice_get_within}
 use Rattle.std.proofs.lemmas.List.{get_or-set_same, get_or-set_other, take-append-drop}
 use Rattle.nll_problem.specs.Problem.{Problem}
-use Rattle.nll_cut.specs.Partition.{Cut}
+use Rattle.nll_cut.specs.Partition.{Cut, owner_of, reads}
+use Rattle.nll_cut.proofs.ReadLemmas.{reads_tells}
 use Rattle.nll_mail.specs.declared.growth.Growth.{Growth}
 use Rattle.nll_owner.specs.Logs.{IsPrefix, log_of}
 use Rattle.nll_owner.specs.Owner.{Owner, IsSound, part_for, given_to, first_owner}
+use Rattle.nll_owner.proofs.OutboxLemmas.{filter_none}
 use Rattle.nll_owner.proofs.PostingLemmas.{take_all, Posting}
 use Rattle.nll_worker.specs.Mailboxes.{AreAllEmpty}
 use Rattle.nll_worker.specs.Tallies.{IsCounted, HasGrown}
@@ -159,6 +161,23 @@ module _ (first old next : Owner) (to most : ℕ) (others : old ≡ record first
 
       below : (j to : ℕ) → j < to + 1 → j ≢ to → j < to
       below j to l other = grind arith
+
+-- nothing of its log is for the owner itself
+part_own : (o : Owner) → IsSound o → part_for o o.me ≡ []
+part_own o sound =
+    filter_none (λ (g : Growth). reads o.problem o.cut o.me g.region) o.log
+    (λ g h. unread g.region (reads o.problem o.cut o.me g.region) refl (sound.well_formed.own g h))
+  where
+    unread : (r : ℕ) (b : Bool) → reads o.problem o.cut o.me r ≡ b → owner_of o.cut r ≡ o.me → b ≡ false
+    unread r false e is = refl
+    unread r true e is = absurd (((reads_tells o.problem o.cut o.me r).0 e).0 is)
+
+pub given_own : (o : Owner) (to most : ℕ) → IsSound o → to ≡ o.me
+    → given_to o to ≡ min (given_to o to + most) (length (part_for o to))
+given_own o to most sound own =
+    let none = ap length (ap (part_for o) own ∙ part_own o sound) in
+    let few = sound.given to in
+    omega (arith, none, few)
 
 -- where nothing waits, nothing more is to be given out
 pub none_more : (o : Owner) (t : Tally) (most : ℕ) → IsSound o → IsCounted o t → t.waiting ≡ 0

@@ -1,7 +1,7 @@
 -- What a worker is given, and what it gives back.
 -- Source: project's choice.
 use Rattle.std.specs.Prelude.{◌≡◌, ◌≢◌, ℕ, ◌+◌, ◌<◌, ◌≤◌, Bool, true, false}
-use Rattle.std.specs.Prelude.{List, [], length, map, Contains}
+use Rattle.std.specs.Prelude.{List, [], length, map, Contains, Option}
 use Rattle.nll_problem.specs.Limits.{most_owners}
 use Rattle.nll_problem.specs.Problem.{Problem}
 use Rattle.nll_cut.specs.Partition.{Cut}
@@ -11,7 +11,7 @@ use Rattle.nll_ledger.specs.declared.ledger.Ledger as Ledger
 use Rattle.nll_owner.specs.Holding.{Holding, AreValuesOf}
 use Rattle.nll_owner.specs.Logs.{IsPrefix, log_of}
 use Rattle.nll_owner.specs.Owner.{Owner, IsSound, IsDone, Passes, received_from, part_for}
-use Rattle.nll_worker.specs.Mailboxes.{Alike, AreAllEmpty, Keeps}
+use Rattle.nll_worker.specs.Mailboxes.{Alike, AreAllEmpty, Both, HasEnds, Keeps, through}
 use Rattle.nll_worker.specs.Sums.{sum_to}
 use Rattle.nll_worker.specs.declared.ending.Ending.{Ending}
 use Rattle.nll_worker.specs.declared.ending.Ending.TheVariants.{Quiet, Stopped, Unstarted, NoOwner}
@@ -99,27 +99,30 @@ module _ {L B H E : Type 0} (ledger : Ledger.Ghosts L B H E) where
     pub called_is : ledger.called share ≡ false
 
   module _ {M S R C P : Type 0} (mail : Mail.Ghosts M S R C P) where
-    -- The worker of owner i is given a fresh share, mailboxes through which nothing went, and an
-    -- empty list with room for its senders once they are closed.
-    pub record IsGiven (c : Cut) (book : B) (i : ℕ) (share : H) (senders : List S)
-        (receivers : List R) (kept : List C) (room : ℕ) : Type 0 where
+    -- The worker of owner i is given a fresh share, ends of mailboxes through which nothing went, a
+    -- sender to each other owner, and an empty list with room for its senders once they are closed.
+    pub record IsGiven (c : Cut) (book : B) (i : ℕ) (share : H) (senders : List (Option S))
+        (receivers : List (Option R)) (kept : List (Option C)) (room : ℕ) : Type 0 where
       pub me_in : i < c.owners
       pub few : c.owners ≤ most_owners
       pub fresh : IsFresh book i share
-      pub posts : AreAllEmpty c.owners (map mail.sent senders)
-      pub taken : AreAllEmpty c.owners (map mail.received receivers)
+      pub ends : HasEnds i senders
+      pub posts : AreAllEmpty c.owners (map (through mail.sent) senders)
+      pub taken : AreAllEmpty c.owners (map (through mail.received) receivers)
       pub none_kept : kept ≡ []
       pub space : length senders ≤ room
 
     -- The worker of owner i gives back the log and the values of its owner, what is left of its
     -- share, and the ends of its mailboxes: each sender closed, each receiver the end that it was.
-    pub record IsEnded (q : Problem) (c : Cut) (book : B) (i : ℕ) (senders : List S)
-        (receivers : List R) (log : List Growth) (holding : Holding) (left : E) (closed : List C)
-        (ended : List R) (ending : Ending) : Type 0 where
-      pub shuts : Alike (λ s z. (r : R) → mail.pairs s r → mail.closes z r) senders closed
-      pub keeps : Alike (Keeps mail) receivers ended
+    pub record IsEnded (q : Problem) (c : Cut) (book : B) (i : ℕ) (senders : List (Option S))
+        (receivers : List (Option R)) (log : List Growth) (holding : Holding) (left : E)
+        (closed : List (Option C)) (ended : List (Option R)) (ending : Ending) : Type 0 where
+      pub shuts :
+          Alike (Both (λ s z. (r : R) → mail.pairs s r → mail.closes z r)) senders closed
+      pub keeps : Alike (Both (Keeps mail)) receivers ended
       pub leaves : Leaves book i left ending
       pub finishes :
           WasMade ending
-          → FinishedAs q c i (log_of (map mail.all_sent closed)) (log_of (map mail.received ended))
+          → FinishedAs q c i (log_of (map (through mail.all_sent) closed))
+          (log_of (map (through mail.received) ended))
           (ledger.left_owed left) (ledger.left_cleared left) ending log holding

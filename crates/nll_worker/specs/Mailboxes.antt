@@ -1,6 +1,6 @@
 -- Lists of ends of mailboxes, and what becomes of each end.
 -- Source: project's choice.
-use Rattle.std.specs.Prelude.{◌≡◌, ℕ, List, [], ◌∷◌, length}
+use Rattle.std.specs.Prelude.{◌≡◌, ℕ, List, [], ◌∷◌, length, Option, Some, None, slice_get}
 use Rattle.nll_mail.specs.declared.growth.Growth.{Growth}
 use Rattle.nll_mail.specs.declared.mail.Mail as Mail
 use Rattle.nll_owner.specs.Logs.{log_of}
@@ -10,6 +10,21 @@ abbrev pub Alike : {X Y : Type 0} → (X → Y → Type 0) → List X → List Y
 Alike P [] [] = Unit {0}
 Alike P (x ∷ xs) (y ∷ ys) = P x y × Alike P xs ys
 Alike P _ _ = ⊥
+
+-- P holds of two ends, or there is neither
+abbrev pub Both : {X Y : Type 0} → (X → Y → Type 0) → Option X → Option Y → Type 0
+Both P None None = Unit {0}
+Both P (Some x) (Some y) = P x y
+Both P _ _ = ⊥
+
+-- what went through an end, by f: nothing where there is no end
+abbrev pub through : {X : Type 0} → (X → List Growth) → Option X → List Growth
+through f None = []
+through f (Some x) = f x
+
+-- no end is missing but that at the place of owner i
+abbrev pub HasEnds : {X : Type 0} → ℕ → List (Option X) → Type 0
+HasEnds i ends = (j : ℕ) → slice_get ends j ≡ Some None → j ≡ i
 
 -- there is a list for each of so many owners, and all are empty
 abbrev pub AreAllEmpty : ℕ → List (List Growth) → Type 0

@@ -6,7 +6,7 @@ ghost use Rattle.nll_problem.specs.Limits.{most_posts};
 ghost use Rattle.nll_mail.specs.declared.growth.Growth.{Growth as TheGrowth};
 ghost use Rattle.nll_owner.specs.Logs.{log_of};
 ghost use Rattle.nll_owner.specs.Owner.{IsSound, Passes};
-ghost use Rattle.nll_worker.specs.Mailboxes.{Alike, Keeps};
+ghost use Rattle.nll_worker.specs.Mailboxes.{Alike, Both, Keeps, through};
 ghost use Rattle.nll_worker.specs.Hearing.{HandsIn, LooksInto};
 
 use crate::gate::Gate;
@@ -118,13 +118,42 @@ fn hear<M: Mail, G: Gate>(
     hand_in(owner, from, batch)
 }
 
+// The same, where there is a mailbox.
+fn hear_if<M: Mail, G: Gate>(
+    gate: &G,
+    turn: u64,
+    owner: &mut Owner<'_>,
+    receiver: &mut Option<M::R>,
+    from: u16,
+    batch: &mut Vec<Growth>,
+    most: usize,
+) -> Heard
+    requires sound { IsSound owner.old }
+    requires whole { owner.old.broken ≡ false }
+    requires loaded { owner.old.loaded ≡ true }
+    ensures hears { LooksInto from owner.old owner.new (through M.received receiver.old)
+        (through M.received receiver.new) batch.new.items result }
+    ensures most { length batch.new.items ≤ most }
+    ensures few { length (through M.received receiver.old) ≤ most_posts
+        → length (through M.received receiver.new) ≤ most_posts }
+    ensures keeps { Both (Keeps M.Mail) receiver.old receiver.new }
+{
+    match receiver {
+        Some(receiver) => hear::<M, G>(gate, turn, owner, receiver, from, batch, most),
+        None => {
+            batch.clear();
+            Heard::Nothing
+        }
+    }
+}
+
 /// Takes so many growths out of one of the mailboxes, at most, enters the gate, and hands the
 /// growths to the owner. The list has what was taken then.
 pub fn hear_from<M: Mail, G: Gate>(
     gate: &G,
     turn: u64,
     owner: &mut Owner<'_>,
-    receivers: &mut Vec<M::R>,
+    receivers: &mut Vec<Option<M::R>>,
     from: u16,
     batch: &mut Vec<Growth>,
     most: usize,
@@ -134,17 +163,17 @@ pub fn hear_from<M: Mail, G: Gate>(
     requires loaded { owner.old.loaded ≡ true }
     requires from { from < vec_len receivers.old }
     ensures hears { LooksInto from owner.old owner.new
-        (log_of (map M.received receivers.old.items) from)
-        (log_of (map M.received receivers.new.items) from) batch.new.items result }
+        (log_of (map (through M.received) receivers.old.items) from)
+        (log_of (map (through M.received) receivers.new.items) from) batch.new.items result }
     ensures most { length batch.new.items ≤ most }
-    ensures few { length (log_of (map M.received receivers.old.items) from) ≤ most_posts
-        → length (log_of (map M.received receivers.new.items) from) ≤ most_posts }
-    ensures others { map M.received receivers.new.items ≡ slice_set
-        (map M.received receivers.old.items) from
-        (log_of (map M.received receivers.new.items) from) }
-    ensures keeps { Alike (Keeps M.Mail) receivers.old.items receivers.new.items }
+    ensures few { length (log_of (map (through M.received) receivers.old.items) from) ≤ most_posts
+        → length (log_of (map (through M.received) receivers.new.items) from) ≤ most_posts }
+    ensures others { map (through M.received) receivers.new.items ≡ slice_set
+        (map (through M.received) receivers.old.items) from
+        (log_of (map (through M.received) receivers.new.items) from) }
+    ensures keeps { Alike (Both (Keeps M.Mail)) receivers.old.items receivers.new.items }
 {
-    hear::<M, G>(
+    hear_if::<M, G>(
         gate,
         turn,
         owner,

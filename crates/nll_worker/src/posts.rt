@@ -2,11 +2,11 @@
 //! refuses, is tried again later.
 
 ghost use Rattle.std.specs.Prelude.{◌≡◌, ◌≢◌, ◌+◌, ◌<◌, ◌≤◌, ℕ, List, length, map, take, min};
-ghost use Rattle.std.specs.Prelude.{OnOk, false, slice_set, vec_len};
+ghost use Rattle.std.specs.Prelude.{OnOk, false, slice_set, vec_len, None};
 ghost use Rattle.nll_mail.specs.declared.growth.Growth.{Growth};
 ghost use Rattle.nll_owner.specs.Logs.{log_of};
 ghost use Rattle.nll_owner.specs.Owner.{IsSound, part_for, given_to};
-ghost use Rattle.nll_worker.specs.Mailboxes.{Alike, Stays};
+ghost use Rattle.nll_worker.specs.Mailboxes.{Alike, Both, HasEnds, Stays, through};
 ghost use Rattle.nll_worker.specs.Tallies.{IsCounted};
 ghost use Rattle.nll_worker.specs.Turning.{HasPosted, HasGivenMore, GoesOn, ComesTo};
 
@@ -50,43 +50,73 @@ fn post_part<M: Mail>(
     Ok(())
 }
 
-// The same for the sender that leads to this owner.
-fn post_to<M: Mail>(
+// The same, where there is a mailbox: there is none from the owner to itself.
+fn post_if<M: Mail>(
     owner: &mut Owner<'_>,
-    senders: &mut Vec<M::S>,
+    sender: &mut Option<M::S>,
     to: u16,
     most: u64,
 ) -> Result<(), PostError>
     requires sound { IsSound owner.old }
     requires whole { owner.old.broken ≡ false }
     requires to { to < owner.old.cut.owners }
-    requires posts { HasPosted owner.old (map M.sent senders.old.items) }
-    ensures posts { HasPosted owner.new (map M.sent senders.new.items) }
+    requires end { sender.old ≡ None → to ≡ owner.old.me }
+    requires sent { through M.sent sender.old
+        ≡ take (given_to owner.old to) (part_for owner.old to) }
+    ensures sent { through M.sent sender.new
+        ≡ take (given_to owner.new to) (part_for owner.old to) }
     ensures many { M.is_bounded ≡ false → OnOk result (given_to owner.new to
         ≡ min (given_to owner.old to + most) (length (part_for owner.old to))) }
     ensures others { owner.new ≡ record owner.old { given = owner.new.given } }
     ensures other_given { (j : ℕ) → j ≢ to → given_to owner.new j ≡ given_to owner.old j }
-    ensures pairs { Alike (Stays M.Mail) senders.old.items senders.new.items }
+    ensures pair { Both (Stays M.Mail) sender.old sender.new }
     ensures sound { IsSound owner.new }
 {
-    post_part::<M>(owner, &mut senders[to as usize], to, most)
+    match sender {
+        Some(sender) => post_part::<M>(owner, sender, to, most),
+        None => Ok(()),
+    }
+}
+
+// The same for the sender that leads to this owner.
+fn post_to<M: Mail>(
+    owner: &mut Owner<'_>,
+    senders: &mut Vec<Option<M::S>>,
+    to: u16,
+    most: u64,
+) -> Result<(), PostError>
+    requires sound { IsSound owner.old }
+    requires whole { owner.old.broken ≡ false }
+    requires to { to < owner.old.cut.owners }
+    requires ends { HasEnds owner.old.me senders.old.items }
+    requires posts { HasPosted owner.old (map (through M.sent) senders.old.items) }
+    ensures posts { HasPosted owner.new (map (through M.sent) senders.new.items) }
+    ensures many { M.is_bounded ≡ false → OnOk result (given_to owner.new to
+        ≡ min (given_to owner.old to + most) (length (part_for owner.old to))) }
+    ensures others { owner.new ≡ record owner.old { given = owner.new.given } }
+    ensures other_given { (j : ℕ) → j ≢ to → given_to owner.new j ≡ given_to owner.old j }
+    ensures pairs { Alike (Both (Stays M.Mail)) senders.old.items senders.new.items }
+    ensures sound { IsSound owner.new }
+{
+    post_if::<M>(owner, &mut senders[to as usize], to, most)
 }
 
 // Posts what isn't given out yet, to all owners that read it and whose mailboxes aren't full: to
 // each not too much at once.
 fn post_all<M: Mail>(
     owner: &mut Owner<'_>,
-    senders: &mut Vec<M::S>,
+    senders: &mut Vec<Option<M::S>>,
     most: u64,
 ) -> Result<(), PostError>
     requires sound { IsSound owner.old }
     requires whole { owner.old.broken ≡ false }
-    requires posts { HasPosted owner.old (map M.sent senders.old.items) }
-    ensures posts { HasPosted owner.new (map M.sent senders.new.items) }
+    requires ends { HasEnds owner.old.me senders.old.items }
+    requires posts { HasPosted owner.old (map (through M.sent) senders.old.items) }
+    ensures posts { HasPosted owner.new (map (through M.sent) senders.new.items) }
     ensures many { M.is_bounded ≡ false
         → OnOk result (HasGivenMore most owner.old.cut.owners owner.old owner.new) }
     ensures others { owner.new ≡ record owner.old { given = owner.new.given } }
-    ensures pairs { Alike (Stays M.Mail) senders.old.items senders.new.items }
+    ensures pairs { Alike (Both (Stays M.Mail)) senders.old.items senders.new.items }
     ensures sound { IsSound owner.new }
 {
     for to in 0..owner.owners() {
@@ -98,22 +128,23 @@ fn post_all<M: Mail>(
 // Posts what waits, where something does, and counts what is left.
 fn post_waiting<M: Mail>(
     owner: &mut Owner<'_>,
-    senders: &mut Vec<M::S>,
+    senders: &mut Vec<Option<M::S>>,
     tally: &mut Tally,
     most: u64,
 ) -> Result<(), PostError>
     requires sound { IsSound owner.old }
     requires whole { owner.old.broken ≡ false }
-    requires posts { HasPosted owner.old (map M.sent senders.old.items) }
+    requires ends { HasEnds owner.old.me senders.old.items }
+    requires posts { HasPosted owner.old (map (through M.sent) senders.old.items) }
     requires counted { IsCounted owner.old tally.old }
-    ensures posts { HasPosted owner.new (map M.sent senders.new.items) }
+    ensures posts { HasPosted owner.new (map (through M.sent) senders.new.items) }
     ensures counted { IsCounted owner.new tally.new }
     ensures same { (tally.new.turns ≡ tally.old.turns)
         × (tally.new.cleared ≡ tally.old.cleared) }
     ensures many { M.is_bounded ≡ false
         → OnOk result (HasGivenMore most owner.old.cut.owners owner.old owner.new) }
     ensures others { owner.new ≡ record owner.old { given = owner.new.given } }
-    ensures pairs { Alike (Stays M.Mail) senders.old.items senders.new.items }
+    ensures pairs { Alike (Both (Stays M.Mail)) senders.old.items senders.new.items }
     ensures sound { IsSound owner.new }
 {
     if tally.waiting == 0 {
@@ -128,22 +159,23 @@ fn post_waiting<M: Mail>(
 pub fn share_out<M: Mail>(
     heard: Heard,
     owner: &mut Owner<'_>,
-    senders: &mut Vec<M::S>,
+    senders: &mut Vec<Option<M::S>>,
     tally: &mut Tally,
     most: u64,
 ) -> Heard
     requires sound { IsSound owner.old }
     requires came { (taken : List (List Growth)) × (owed : ℕ) × (cleared : ℕ)
         × ComesTo owner.old taken owed cleared tally.old heard }
-    requires posts { HasPosted owner.old (map M.sent senders.old.items) }
-    ensures posts { HasPosted owner.new (map M.sent senders.new.items) }
+    requires ends { HasEnds owner.old.me senders.old.items }
+    requires posts { HasPosted owner.old (map (through M.sent) senders.old.items) }
+    ensures posts { HasPosted owner.new (map (through M.sent) senders.new.items) }
     ensures comes { (taken : List (List Growth)) (owed cleared : ℕ)
         → ComesTo owner.old taken owed cleared tally.old heard
         → ComesTo owner.new taken owed cleared tally.new result }
     ensures many { M.is_bounded ≡ false → GoesOn result
         → HasGivenMore most owner.old.cut.owners owner.old owner.new }
     ensures others { owner.new ≡ record owner.old { given = owner.new.given } }
-    ensures pairs { Alike (Stays M.Mail) senders.old.items senders.new.items }
+    ensures pairs { Alike (Both (Stays M.Mail)) senders.old.items senders.new.items }
     ensures sound { IsSound owner.new }
 {
     match heard {

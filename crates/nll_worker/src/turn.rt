@@ -3,7 +3,7 @@
 ghost use Rattle.std.specs.Prelude.{◌≡◌, ◌+◌, ◌^◌, ◌<◌, ◌≤◌, ℕ, List, false, map, vec_len};
 ghost use Rattle.nll_mail.specs.declared.growth.Growth.{Growth as TheGrowth};
 ghost use Rattle.nll_owner.specs.Owner.{Owner, IsSound, first_owner};
-ghost use Rattle.nll_worker.specs.Mailboxes.{Alike, AreAllEmpty, Keeps};
+ghost use Rattle.nll_worker.specs.Mailboxes.{Alike, AreAllEmpty, Both, Keeps, through};
 ghost use Rattle.nll_worker.specs.Finishing.{IsFresh};
 ghost use Rattle.nll_worker.specs.Tallies.{HasGrown, IsCounted, due_of};
 ghost use Rattle.nll_worker.specs.declared.tally.Tally.{Tally as TheTally};
@@ -89,23 +89,23 @@ fn turn<M: Mail, L: Ledger, G: Gate>(
     share: &mut L::Share,
     owner: &mut Owner<'_>,
     tally: &mut Tally,
-    receivers: &mut Vec<M::R>,
+    receivers: &mut Vec<Option<M::R>>,
     from: u16,
     batch: &mut Vec<Growth>,
     most: usize,
 ) -> Heard
     requires from { from < owner.old.cut.owners }
     requires book { L.belongs book.now share.old }
-    requires rests { IsAtRest owner.old (map M.received receivers.old.items)
+    requires rests { IsAtRest owner.old (map (through M.received) receivers.old.items)
         (L.owed share.old) (L.cleared share.old) tally.old }
     ensures grows { HasGrown owner.old owner.new }
     ensures sound { IsSound owner.new }
     ensures book { L.belongs book.now share.new × (L.number share.new ≡ L.number share.old)
         × (L.called share.new ≡ L.called share.old) }
-    ensures comes { ComesTo owner.new (map M.received receivers.new.items)
+    ensures comes { ComesTo owner.new (map (through M.received) receivers.new.items)
         (L.owed share.new) (L.cleared share.new) tally.new result }
     ensures most { L.cleared share.new ≤ L.cleared share.old + most }
-    ensures keeps { Alike (Keeps M.Mail) receivers.old.items receivers.new.items }
+    ensures keeps { Alike (Both (Keeps M.Mail)) receivers.old.items receivers.new.items }
 {
     let turn = tally.turns + 1;
     match hear_from::<M, G>(gate, turn, owner, receivers, from, batch, most) {
@@ -149,20 +149,20 @@ pub fn round<M: Mail, L: Ledger, G: Gate>(
     share: &mut L::Share,
     owner: &mut Owner<'_>,
     tally: &mut Tally,
-    receivers: &mut Vec<M::R>,
+    receivers: &mut Vec<Option<M::R>>,
     batch: &mut Vec<Growth>,
     most: usize,
 ) -> Heard
     requires book { L.belongs book.now share.old }
-    requires rests { IsAtRest owner.old (map M.received receivers.old.items)
+    requires rests { IsAtRest owner.old (map (through M.received) receivers.old.items)
         (L.owed share.old) (L.cleared share.old) tally.old }
     ensures grows { HasGrown owner.old owner.new }
     ensures sound { IsSound owner.new }
     ensures book { L.belongs book.now share.new × (L.number share.new ≡ L.number share.old)
         × (L.called share.new ≡ L.called share.old) }
-    ensures comes { ComesTo owner.new (map M.received receivers.new.items)
+    ensures comes { ComesTo owner.new (map (through M.received) receivers.new.items)
         (L.owed share.new) (L.cleared share.new) tally.new result }
-    ensures keeps { Alike (Keeps M.Mail) receivers.old.items receivers.new.items }
+    ensures keeps { Alike (Both (Keeps M.Mail)) receivers.old.items receivers.new.items }
 {
     let owners = owner.owners();
     let first = first_after(tally.turns, owners);
@@ -206,21 +206,21 @@ pub fn rounds<M: Mail, L: Ledger, G: Gate>(
     share: &mut L::Share,
     owner: &mut Owner<'_>,
     tally: &mut Tally,
-    receivers: &mut Vec<M::R>,
+    receivers: &mut Vec<Option<M::R>>,
     batch: &mut Vec<Growth>,
     most: usize,
     until: u64,
 ) -> Heard
     requires book { L.belongs book.now share.old }
-    requires rests { IsAtRest owner.old (map M.received receivers.old.items)
+    requires rests { IsAtRest owner.old (map (through M.received) receivers.old.items)
         (L.owed share.old) (L.cleared share.old) tally.old }
     ensures grows { HasGrown owner.old owner.new }
     ensures sound { IsSound owner.new }
     ensures book { L.belongs book.now share.new × (L.number share.new ≡ L.number share.old)
         × (L.called share.new ≡ L.called share.old) }
-    ensures comes { ComesTo owner.new (map M.received receivers.new.items)
+    ensures comes { ComesTo owner.new (map (through M.received) receivers.new.items)
         (L.owed share.new) (L.cleared share.new) tally.new result }
-    ensures keeps { Alike (Keeps M.Mail) receivers.old.items receivers.new.items }
+    ensures keeps { Alike (Both (Keeps M.Mail)) receivers.old.items receivers.new.items }
 {
     let mut heard = round::<M, L, G>(gate, book, share, owner, tally, receivers, batch, most);
     for _ in 1..MOST_ROUNDS {

@@ -4,7 +4,8 @@ ghost use Rattle.std.specs.Prelude.{◌≡◌, map, true, false};
 ghost use Rattle.nll_ledger.specs.Leaving.{IfLeft, IfOpen, IfQuiet, IfStopped};
 ghost use Rattle.nll_owner.specs.Logs.{log_of};
 ghost use Rattle.nll_owner.specs.Owner.{first_owner};
-ghost use Rattle.nll_worker.specs.Mailboxes.{Alike, AreAllEmpty, Stays, Keeps};
+ghost use Rattle.nll_worker.specs.Mailboxes.{Alike, AreAllEmpty, Both, HasEnds, Keeps, Stays};
+ghost use Rattle.nll_worker.specs.Mailboxes.{through};
 ghost use Rattle.nll_worker.specs.Finishing.{Finishes, Leaves, IsFresh, WasStarted};
 
 use crate::ending::Ending;
@@ -91,21 +92,24 @@ pub fn work_on<M: Mail, L: Ledger, G: Gate, R: Wait>(
     book: &L::Book,
     share: L::Share,
     owner: &mut Owner<'_>,
-    senders: &mut Vec<M::S>,
-    receivers: &mut Vec<M::R>,
+    senders: &mut Vec<Option<M::S>>,
+    receivers: &mut Vec<Option<M::R>>,
     batch: &mut Vec<Growth>,
 ) -> (L::Left, Ending)
     requires first { let o = owner.old in o ≡ first_owner o.problem o.cut o.me }
     requires fresh { IsFresh L.Ledger book.now owner.old.me share }
-    requires posts { AreAllEmpty owner.old.cut.owners (map M.sent senders.old.items) }
-    requires taken { AreAllEmpty owner.old.cut.owners (map M.received receivers.old.items) }
+    requires ends { HasEnds owner.old.me senders.old.items }
+    requires posts { AreAllEmpty owner.old.cut.owners (map (through M.sent) senders.old.items) }
+    requires taken { AreAllEmpty owner.old.cut.owners
+        (map (through M.received) receivers.old.items) }
     ensures leaves { Leaves L.Ledger book.now owner.old.me result.0 result.1 }
     ensures started { WasStarted result.1 }
     ensures finishes { let o = owner.old in Finishes o.problem o.cut o.me owner.new
-        (log_of (map M.sent senders.new.items)) (log_of (map M.received receivers.new.items))
+        (log_of (map (through M.sent) senders.new.items))
+        (log_of (map (through M.received) receivers.new.items))
         (L.left_owed result.0) (L.left_cleared result.0) result.1 }
-    ensures pairs { Alike (Stays M.Mail) senders.old.items senders.new.items }
-    ensures keeps { Alike (Keeps M.Mail) receivers.old.items receivers.new.items }
+    ensures pairs { Alike (Both (Stays M.Mail)) senders.old.items senders.new.items }
+    ensures keeps { Alike (Both (Keeps M.Mail)) receivers.old.items receivers.new.items }
 {
     let pace = Pace::behind(gate);
     let mut share = share;

@@ -21,15 +21,15 @@ use std::snapshot::Snapshot;
 use std::sync::Wait;
 use std::thread::Promise;
 
-/// What a worker owns: its number, its share of the ledger's book, the ends of its mailboxes, and
-/// room for its senders once they are closed.
+/// What a worker owns: its number, its share of the ledger's book, the ends of its mailboxes by
+/// the other owner, none at its own place, and room for its senders once they are closed.
 #[derive(Drop)]
 pub struct Worker<M: Mail, L: Ledger> {
     pub me: u16,
     pub share: L::Share,
     pub outbox: Outbox<M>,
-    pub receivers: Vec<M::R>,
-    pub room: Vec<M::Closed>,
+    pub receivers: Vec<Option<M::R>>,
+    pub room: Vec<Option<M::Closed>>,
 }
 
 /// What a worker gives back: the log of its owner and the values of the owner's regions, what is
@@ -39,8 +39,8 @@ pub struct Finished<M: Mail, L: Ledger> {
     pub log: Vec<Growth>,
     pub holding: Holding,
     pub left: L::Left,
-    pub closed: Vec<M::Closed>,
-    pub receivers: Vec<M::R>,
+    pub closed: Vec<Option<M::Closed>>,
+    pub receivers: Vec<Option<M::R>>,
     pub ending: Ending,
 }
 

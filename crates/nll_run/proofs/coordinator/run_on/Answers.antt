@@ -1,9 +1,10 @@
 use Rattle.std.proofs.Common.{◌<◌, true, [], map, sym, subst, ◌∙◌, arith, vec_capacity}
 use Rattle.nll_owner.specs.Logs.{log_of}
 use Rattle.nll_worker.specs.Finishing.{IsGiven, IsFresh, Leaves, FinishedAs}
-use Rattle.nll_run.specs.Table.{IsTable}
+use Rattle.nll_worker.specs.Mailboxes.{HasEnds, through}
+use Rattle.nll_run.specs.Table.{AreEnds, IsTable}
 use Rattle.nll_run.proofs.PlaceLemmas.{place, within, mapped, map_size, all_of}
-use Rattle.nll_run.proofs.EndingLemmas.{table_then, empty_row, empty_column, answer_of, if_ok_map, started_answer}
+use Rattle.nll_run.proofs.EndingLemmas.{table_then, empty_row, whole_row, empty_column, answer_of, if_ok_map, started_answer}
 use Rattle.nll_run.proofs.coordinator.run_on.Goals as goal
 
 pub run_all-requires-clause-given : goal.run_all-requires-clause-given
@@ -28,10 +29,13 @@ run_all-requires-clause-given g c κs within' =
       me_in = omega (arith, l, n, x.0);
       few = c.owners-owners.ensures.sound.owner_limit;
       fresh = subst (λ i. IsFresh b c.in_ok-book.book i w.share) (sym x.0) s;
+      ends = subst (λ i. HasEnds i w.outbox.senders.items) (sym x.0)
+          (whole_row m c.owners-owners.result _ _ p.table k w.outbox.senders.items l
+          (mapped (λ y. y.outbox.senders.items) ws k w [] e));
       posts = (row.0 ∙ n, row.1);
       taken = (column.0 ∙ n, column.1);
       none_kept = x.1;
-      space = (let z = map_size m.sent w.outbox.senders.items in let y = row.0 in omega (arith, x.2, z, y));
+      space = (let z = map_size (through m.sent) w.outbox.senders.items in let y = row.0 in omega (arith, x.2, z, y));
     })
 
 pub conclude-requires-clause-table : goal.conclude-requires-clause-table
@@ -43,7 +47,7 @@ conclude-requires-clause-table g c κs within' =
     (λ d. d.receivers.items)
     c.in_ok-book.workers.items c.in-Ok.finished.items c.owners-owners.result each.len
     (λ k w d a z. (each.at k w d a z).shuts) (λ k w d a z. (each.at k w d a z).keeps) c.in_ok-book.ensures.table in
-    subst (λ n. IsTable m.closes m.ends n n (map (λ d. d.closed.items) c.in-Ok.finished.items)
+    subst (λ n. IsTable (AreEnds m.closes m.ends) n n (map (λ d. d.closed.items) c.in-Ok.finished.items)
     (map (λ d. d.receivers.items) c.in-Ok.finished.items)) c.owners-owners.ensures.value table
 
 pub conclude-requires-clause-leaves : goal.conclude-requires-clause-leaves
@@ -61,8 +65,9 @@ conclude-requires-clause-finishes g c κs within' = λ k d e made.
     let each = c.in-Ok.ensures.ended in
     let w = place c.in_ok-book.workers.items k
     (let h = within c.in-Ok.finished.items k d e in omega (arith, h, each.len)) in
-    subst (λ i. FinishedAs c.args.problem.now c.args.cut.now i (log_of (map m.all_sent d.closed.items))
-    (log_of (map m.received d.receivers.items)) (b.left_owed d.left) (b.left_cleared d.left) d.ending d.log.items
+    subst (λ i. FinishedAs c.args.problem.now c.args.cut.now i (log_of (map (through m.all_sent) d.closed.items))
+    (log_of (map (through m.received) d.receivers.items)) (b.left_owed d.left) (b.left_cleared d.left)
+    d.ending d.log.items
     d.holding)
     (c.in_ok-book.ensures.each k w.0 w.1).0 ((each.at k w.0 d w.1 e).finishes made)
 

@@ -1,5 +1,5 @@
 use Rattle.std.proofs.Common.{◌+◌, ◌<◌, List, map, length, slice_set, sym, subst, ap, ◌∙◌, arith, rules}
-use Rattle.nll_run.specs.Table.{AreNewEnds, IsPartRow}
+use Rattle.nll_run.specs.Table.{AreEnds, AreNewEnds, IsPartRow}
 use Rattle.nll_run.proofs.PlaceLemmas.{list_read, map_set, map_size}
 use Rattle.nll_run.proofs.TableLemmas.{part_more}
 use Rattle.nll_run.proofs.mailboxes.make_row.Goals as goal
@@ -22,14 +22,14 @@ loop-to-preserved g c =
     let p = c.in_ok-sender.ensures in
     let s = c.in_ok-sender.sender in let r = c.in_ok-sender.receiver in
     let more =
-    part_more (AreNewEnds m) m.ends to c.args.from c.loop-to.row.senders.items
+    part_more (AreEnds (AreNewEnds m) m.ends) to c.args.from c.loop-to.row.senders.items
     (map (λ x. x.items) c.args.columns.now.items) lists s r c.index_mut.result.now.items inv inside'
     (list_read (λ x. x.items) now to c.index_mut.result.now inside c.index_mut.ensures.value)
-    (p.pair, p.sent, p.received) p.ends in
+    p in
     let columns = map_set (λ x. x.items) now to c.push.new.self
     ∙ ap (λ l. slice_set lists to l) c.in_ok-push.ensures.items in (
       search rules,
-      subst (λ (y : List _ × List (List _)). IsPartRow (AreNewEnds m) m.ends (to + 1) c.args.from y.0
+      subst (λ (y : List _ × List (List _)). IsPartRow (AreEnds (AreNewEnds m) m.ends) (to + 1) c.args.from y.0
           (map (λ x. x.items) c.args.columns.now.items) y.1)
           (λ i. (sym c.push_reserved.ensures.items i, sym columns i)) more,
     )

@@ -1,10 +1,10 @@
 use Rattle.std.proofs.Common.{◌≤◌, map, vec_capacity}
-use Rattle.nll_run.specs.Table.{AreNewEnds, IsPartRow}
+use Rattle.nll_run.specs.Table.{AreEnds, AreNewEnds, IsPartRow}
 use Rattle.nll_run.proofs.mailboxes.make_row.Given as goal
 
 abbrev pub invariant-loop-to : goal.invariant-loop-to
 invariant-loop-to g l =
     let m = g.M.Mail in
     (l.owners ≤ vec_capacity l.row.senders)
-    × IsPartRow (AreNewEnds m) m.ends l.to l.from l.row.senders.items (map (λ c. c.items) l.fn.columns.items)
+    × IsPartRow (AreEnds (AreNewEnds m) m.ends) l.to l.from l.row.senders.items (map (λ c. c.items) l.fn.columns.items)
     (map (λ c. c.items) l.columns.items)

@@ -1,6 +1,7 @@
 use Rattle.std.proofs.Common.{◌≡◌, ◌+◌, [], drop, map, length, sym, subst, ap, ◌∙◌, arith, rules}
 use Rattle.nll_owner.specs.Logs.{log_of}
-use Rattle.nll_run.specs.Table.{list_at}
+use Rattle.nll_worker.specs.Mailboxes.{through}
+use Rattle.nll_run.specs.Table.{AreEnds, list_at}
 use Rattle.nll_run.specs.Settling.{ArePostsOf, InRows, InRow, sent_by, got_by}
 use Rattle.nll_run.proofs.PlaceLemmas.{drop_front, read_place}
 use Rattle.nll_run.proofs.SettlingLemmas.{settled_as, rows_more, head_of, read_dropped, drop_drop}
@@ -24,7 +25,7 @@ settle_row-requires-clause-heads g c κs within = λ j l.
     let front =
     drop_front rows c.loop-from.from c.in-Some.row.items (map (λ x. x.items) c.pop_front.new.self.items)
     (sym c.loop-from.invariant.rows ∙ ap (map (λ x. x.items)) c.in-Some.ensures.items) in
-    head_of m.closes m.ends c.args.owners c.loop-from.from j rows
+    head_of (AreEnds m.closes m.ends) c.args.owners c.loop-from.from j rows
     (map (λ x. x.items) c.args.columns.now.items) c.in-Some.row.items
     (list_at (map (λ x. x.items) c.loop-from.columns.items) j) c.requires.table c.loop-from-test.true l
     (sym (read_place rows c.loop-from.from c.in-Some.row.items [] front.0)) (c.loop-from.invariant.cut j l)
@@ -50,10 +51,10 @@ loop-from-preserved g c =
           (rows_more m (sent_by m.all_sent rows)
           (got_by m.received columns) from c.args.owners c.loop-from.posts.items added.0 inv.posts
           (settled_as m _ _ (sent_by m.all_sent rows) (got_by m.received columns) (InRow from c.args.owners) added.0
-          (λ i j d. ap (λ l. log_of (map m.all_sent l) j) (sym row ∙ ap (list_at rows) (sym d.0)))
-          (λ i j d. ap (λ l. log_of (map m.received l) 0) (inv.cut j d.1)
-          ∙ (read_dropped m.received (list_at columns j) from
-          ∙ ap (λ k. log_of (map m.received (list_at columns j)) k) (sym d.0)))
+          (λ i j d. ap (λ l. log_of (map (through m.all_sent) l) j) (sym row ∙ ap (list_at rows) (sym d.0)))
+          (λ i j d. ap (λ l. log_of (map (through m.received) l) 0) (inv.cut j d.1)
+          ∙ (read_dropped (through m.received) (list_at columns j) from
+          ∙ ap (λ k. log_of (map (through m.received) (list_at columns j)) k) (sym d.0)))
           added.2));
     }
 

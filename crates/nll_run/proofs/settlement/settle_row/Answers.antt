@@ -1,11 +1,11 @@
 use Rattle.std.proofs.Common.{◌≡◌, ◌<◌, ◌+◌, [], append-nil, drop, map, length, slice_set, refl, sym, subst, ap, ◌∙◌, ⊎_elim, arith, rules}
 use Rattle.nll_owner.specs.Logs.{log_of}
-use Rattle.nll_run.specs.Table.{list_at}
-use Rattle.nll_run.specs.Settling.{AddsPosts, InRow, ComeBefore}
+use Rattle.nll_worker.specs.Mailboxes.{through}
+use Rattle.nll_run.specs.Table.{AreEnds, list_at}
+use Rattle.nll_run.specs.Settling.{AddsPosts, InRow}
 use Rattle.nll_run.proofs.PlaceLemmas.{list_read, map_size, map_set, set_here, set_there, set_size}
-use Rattle.nll_run.proofs.SettlingLemmas.{settled_none, settle_cell, settle_post, settle_own, cases_last, come_push, come_later, next_in_row, next_row}
+use Rattle.nll_run.proofs.SettlingLemmas.{settled_none, settle_cell, posts_more, order_more, cases_last, come_later, next_row}
 use Rattle.nll_run.proofs.settlement.settle_row.Goals as goal
-use Rattle.nll_run.proofs.settlement.settle_row.Goals.{then-from-to+in_ok-push, else-from-to}
 
 pub loop-to-init : goal.loop-to-init
 loop-to-init g c =
@@ -42,8 +42,8 @@ unreachable-requires-in_default-pop_front g c =
     let none : length c.index_mut.result.now.items ≡ 0 = search rules in
     absurd (omega (arith, none, ap length column))
 
-pub settle-post-requires : goal.settle-post-requires
-settle-post-requires g c =
+pub settle_ends-requires-clause-ends : goal.settle_ends-requires-clause-ends
+settle_ends-requires-clause-ends g c κs within =
     let m = g.M.Mail in let inv = c.loop-to.invariant in
     let h = c.requires.heads c.loop-to.to c.loop-to-test.true in
     let inside : c.loop-to.to < length c.loop-to.columns.items =
@@ -57,10 +57,14 @@ settle-post-requires g c =
     ) in
     let column = sym (inv.others c.loop-to.to (omega arith))
     ∙ (list_read (λ x. x.items) c.loop-to.columns.items c.loop-to.to c.index_mut.result.now inside
-    c.index_mut.ensures.value ∙ c.in-Some-pop_front.ensures.items) in
-    (settle_cell m.closes m.ends c.args.from c.loop-to.to c.args.row.items c.pop_front.new.self.items
-    (list_at (map (λ x. x.items) c.args.columns.now.items) c.loop-to.to) c.pop_front-in-loop-to.new.self.items
-    c.in-Some.closed c.in-Some-pop_front.receiver h (sym inv.row ∙ c.in-Some.ensures.items) column).1
+    c.index_mut.ensures.value ∙ c.in-Some-pop_front.ensures.items) in (
+      c.args.from,
+      c.loop-to.to,
+      (settle_cell (AreEnds m.closes m.ends) c.args.from c.loop-to.to c.args.row.items
+          c.pop_front.new.self.items
+          (list_at (map (λ x. x.items) c.args.columns.now.items) c.loop-to.to) c.pop_front-in-loop-to.new.self.items
+          c.in-Some.closed c.in-Some-pop_front.receiver h (sym inv.row ∙ c.in-Some.ensures.items) column).1,
+    )
 
 pub loop-to-preserved : goal.loop-to-preserved
 loop-to-preserved g c =
@@ -82,62 +86,34 @@ loop-to-preserved g c =
     ∙ (list_read (λ x. x.items) now to c.index_mut.result.now inside c.index_mut.ensures.value
     ∙ c.in-Some-pop_front.ensures.items) in
     let cell =
-    settle_cell m.closes m.ends c.args.from to c.args.row.items c.pop_front.new.self.items
+    settle_cell (AreEnds m.closes m.ends) c.args.from to c.args.row.items c.pop_front.new.self.items
     (list_at (map (λ x. x.items) c.args.columns.now.items) to) v.items
     c.in-Some.closed c.in-Some-pop_front.receiver h (sym inv.row ∙ c.in-Some.ensures.items) column in
     let set = map_set (λ x. x.items) now to v in
     record {
-      row = cell.3;
+      row = cell.2;
       count = ap length set ∙ (set_size lists to v.items ∙ inv.count);
       cut = λ j l. ap (λ ls. list_at ls j) set ∙ ⊎_elim
           (λ (k : j < to). set_there lists to j v.items (λ e. absurd (omega (arith, k, e))) ∙ inv.cut j k)
           (λ (k : j ≡ to). subst (λ n. list_at (slice_set lists to v.items) n
           ≡ drop 1 (list_at (map (λ x. x.items) c.args.columns.now.items) n)) (sym k)
-          (set_here lists to v.items inside' ∙ cell.4))
+          (set_here lists to v.items inside' ∙ cell.3))
           (cases_last j to l);
       others = λ j l. ap (λ ls. list_at ls j) set
           ∙ (set_there lists to j v.items (λ e. absurd (omega (arith, l, e))) ∙ inv.others j (omega (arith, l)));
-      order = elim c.if-from-to.branch [
-        | then-from-to+in_ok-push w ↦
-            subst (λ ps. ComeBefore m.post_ends ps (c.args.from, to + 1))
-            (sym (ap (λ v. v.items) w.posts-is ∙ w.in_ok-push.ensures.items))
-            (come_push m.post_ends c.loop-to.posts.items c.args.from to c.settle-post.result
-            (c.settle-post.ensures.ends ∙ cell.2) inv.order)
-        | else-from-to w ↦
-            subst (λ ps. ComeBefore m.post_ends ps (c.args.from, to + 1)) (sym (ap (λ v. v.items) w.posts-is))
-            (come_later m.post_ends c.loop-to.posts.items (c.args.from, to) (c.args.from, to + 1)
-            (next_in_row c.args.from to) inv.order)
-      ];
-      posts = elim c.if-from-to.branch [
-        | then-from-to+in_ok-push w ↦
-            subst (λ ps. AddsPosts m (λ _ j. log_of (map m.all_sent c.args.row.items) j)
-            (λ _ j. log_of (map m.received (list_at (map (λ x. x.items) c.args.columns.now.items) j)) 0)
-            (InRow c.args.from (to + 1)) c.args.posts.now.items ps)
-            (sym (ap (λ v. v.items) w.posts-is ∙ w.in_ok-push.ensures.items))
-            (settle_post m c.args.from to c.args.row.items (map (λ x. x.items) c.args.columns.now.items)
-            c.in-Some.closed c.in-Some-pop_front.receiver v.items c.settle-post.result cell.0 column
-            (c.settle-post.ensures.ends ∙ cell.2) c.settle-post.ensures.sent c.settle-post.ensures.received
-            c.settle-post.ensures.rest
-            c.args.posts.now.items c.loop-to.posts.items (search rules) inv.posts)
-        | else-from-to w ↦
-            subst (λ ps. AddsPosts m (λ _ j. log_of (map m.all_sent c.args.row.items) j)
-            (λ _ j. log_of (map m.received (list_at (map (λ x. x.items) c.args.columns.now.items) j)) 0)
-            (InRow c.args.from (to + 1)) c.args.posts.now.items ps)
-            (sym (ap (λ v. v.items) w.posts-is))
-            (settle_own m c.args.from to c.args.row.items (map (λ x. x.items) c.args.columns.now.items)
-            c.in-Some.closed c.in-Some-pop_front.receiver v.items c.settle-post.result cell.0 column
-            (c.settle-post.ensures.ends ∙ cell.2) c.settle-post.ensures.sent c.settle-post.ensures.received
-            c.settle-post.ensures.rest
-            c.args.posts.now.items c.loop-to.posts.items (search rules) inv.posts)
-      ];
+      order = order_more m c.args.from to c.in-Some.closed c.in-Some-pop_front.receiver c.loop-to.posts.items
+          c.settle_ends.new.posts.items cell.1 c.in_ok-settle_ends.ensures inv.order;
+      posts = posts_more m c.args.from to c.args.row.items (map (λ x. x.items) c.args.columns.now.items)
+          c.in-Some.closed c.in-Some-pop_front.receiver v.items cell.0 column cell.1 c.args.posts.now.items
+          c.loop-to.posts.items c.settle_ends.new.posts.items c.in_ok-settle_ends.ensures inv.posts;
     }
 
 pub returns-clause-posts : goal.returns-clause-posts
 returns-clause-posts g c =
     let m = g.M.Mail in
     let e : c.loop-to.to ≡ c.args.owners = omega (arith, c.loop-to-test.false, c.loop-to.auto.to-end) in
-    subst (λ n. AddsPosts m (λ _ j. log_of (map m.all_sent c.args.row.items) j)
-    (λ _ j. log_of (map m.received (list_at (map (λ x. x.items) c.args.columns.now.items) j)) 0)
+    subst (λ n. AddsPosts m (λ _ j. log_of (map (through m.all_sent) c.args.row.items) j)
+    (λ _ j. log_of (map (through m.received) (list_at (map (λ x. x.items) c.args.columns.now.items) j)) 0)
     (InRow c.args.from n) c.args.posts.now.items c.loop-to.posts.items) e c.loop-to.invariant.posts
 
 pub returns-clause-order : goal.returns-clause-order

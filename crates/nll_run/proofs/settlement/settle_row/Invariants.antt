@@ -1,5 +1,6 @@
 use Rattle.std.proofs.Common.{◌≡◌, ◌<◌, ◌≤◌, ℕ, map, drop, length}
 use Rattle.nll_owner.specs.Logs.{log_of}
+use Rattle.nll_worker.specs.Mailboxes.{through}
 use Rattle.nll_run.specs.Table.{list_at}
 use Rattle.nll_run.specs.Settling.{AddsPosts, InRow, ComeBefore}
 use Rattle.nll_run.proofs.settlement.settle_row.Given as goal
@@ -15,7 +16,7 @@ invariant-loop-to g l =
       others : (j : ℕ) → l.to ≤ j → list_at (map (λ c. c.items) l.columns.items) j
           ≡ list_at (map (λ c. c.items) l.fn.columns.items) j;
       order : ComeBefore m.post_ends l.posts.items (l.from, l.to);
-      posts : AddsPosts m (λ _ j. log_of (map m.all_sent l.initial.row.items) j)
-          (λ _ j. log_of (map m.received (list_at (map (λ c. c.items) l.fn.columns.items) j)) 0)
+      posts : AddsPosts m (λ _ j. log_of (map (through m.all_sent) l.initial.row.items) j)
+          (λ _ j. log_of (map (through m.received) (list_at (map (λ c. c.items) l.fn.columns.items) j)) 0)
           (InRow l.from l.to) l.fn.posts.items l.posts.items;
     }

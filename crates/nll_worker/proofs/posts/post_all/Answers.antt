@@ -1,7 +1,7 @@
-use Rattle.std.proofs.Common.{refl, ap, ◌∙◌, arith}
+use Rattle.std.proofs.Common.{refl, sym, ap, ◌∙◌, subst, arith}
 use Rattle.nll_owner.specs.Owner.{Owner}
-use Rattle.nll_worker.specs.Mailboxes.{Stays}
-use Rattle.nll_worker.proofs.ListLemmas.{alike_refl, stays_on}
+use Rattle.nll_worker.specs.Mailboxes.{HasEnds, Stays, Both}
+use Rattle.nll_worker.proofs.ListLemmas.{alike_refl, stays_on, both_refl, ends_kept}
 use Rattle.nll_worker.proofs.PostLemmas.{given_behind, given_more}
 use Rattle.nll_worker.proofs.posts.post_all.Goals as goal
 
@@ -12,8 +12,13 @@ loop-to-init g c = record {
   many = λ unbounded j l. absurd (omega (arith, l));
   rest = λ j l. refl;
   posts = c.requires.posts;
-  pairs = alike_refl (Stays g.M.Mail) (λ s r p. p) c.args.senders.now.items;
+  pairs = alike_refl (Both (Stays g.M.Mail)) (both_refl (Stays g.M.Mail) (λ s r p. p)) c.args.senders.now.items;
 }
+
+pub post_to-requires-clause-ends : goal.post_to-requires-clause-ends
+post_to-requires-clause-ends g c κs within =
+    subst (λ (o : Owner). HasEnds o.me c.loop-to.senders.items) (sym c.loop-to.invariant.others)
+    (ends_kept (Stays g.M.Mail) c.args.owner.now.me _ _ c.loop-to.invariant.pairs c.requires.ends)
 
 pub returns-in_err-post_to-clause-pairs : goal.returns-in_err-post_to-clause-pairs
 returns-in_err-post_to-clause-pairs g c = stays_on g.M.Mail _ _ _ c.loop-to.invariant.pairs c.post_to.ensures.pairs

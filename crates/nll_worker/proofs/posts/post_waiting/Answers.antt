@@ -1,10 +1,11 @@
-use Rattle.nll_worker.specs.Mailboxes.{Stays}
-use Rattle.nll_worker.proofs.ListLemmas.{alike_refl}
+use Rattle.nll_worker.specs.Mailboxes.{Stays, Both}
+use Rattle.nll_worker.proofs.ListLemmas.{alike_refl, both_refl}
 use Rattle.nll_worker.proofs.PostLemmas.{none_more}
 use Rattle.nll_worker.proofs.posts.post_waiting.Goals as goal
 
 pub returns-then-tally-eq0-clause-pairs : goal.returns-then-tally-eq0-clause-pairs
-returns-then-tally-eq0-clause-pairs g c = alike_refl (Stays g.M.Mail) (λ s r p. p) c.args.senders.now.items
+returns-then-tally-eq0-clause-pairs g c =
+    alike_refl (Both (Stays g.M.Mail)) (both_refl (Stays g.M.Mail) (λ s r p. p)) c.args.senders.now.items
 
 pub returns-then-tally-eq0-clause-many : goal.returns-then-tally-eq0-clause-many
 returns-then-tally-eq0-clause-many g c = λ unbounded.

@@ -1,8 +1,8 @@
 use Rattle.std.proofs.Common.{map, refl, ap, ◌∙◌, arith}
 use Rattle.nll_cut.specs.Partition.{Cut}
-use Rattle.nll_worker.specs.Mailboxes.{Keeps}
+use Rattle.nll_worker.specs.Mailboxes.{Keeps, Both, through}
 use Rattle.nll_worker.specs.Turning.{IsAtRest}
-use Rattle.nll_worker.proofs.ListLemmas.{alike_refl, keeps_on}
+use Rattle.nll_worker.proofs.ListLemmas.{alike_refl, keeps_on, both_refl}
 use Rattle.nll_worker.proofs.TallyLemmas.{grown_self, grown_on}
 use Rattle.nll_worker.proofs.turn.round.Goals as goal
 use Rattle.nll_worker.proofs.turn.round.Goals.{in-Nothing, in-Growths+else-most-eq1}
@@ -14,7 +14,8 @@ loop-step-init g c = record {
   number = refl;
   called = refl;
   rests = c.requires.rests;
-  keeps = alike_refl (Keeps g.M.Mail) (λ r. ((λ s p. p), (λ s p. p), refl)) c.args.receivers.now.items;
+  keeps = alike_refl (Both (Keeps g.M.Mail)) (both_refl (Keeps g.M.Mail) (λ r. ((λ s p. p), (λ s p. p), refl)))
+      c.args.receivers.now.items;
 }
 
 pub turn-heard-requires-clause-from : goal.turn-heard-requires-clause-from
@@ -46,7 +47,7 @@ returns-in-Memory-clause-keeps g c = keeps_on g.M.Mail _ _ _ c.loop-step.invaria
 
 pub loop-step-preserved : goal.loop-step-preserved
 loop-step-preserved g c =
-    let rests : IsAtRest c.turn-heard.new.owner (map g.M.Mail.received c.turn-heard.new.receivers.items)
+    let rests : IsAtRest c.turn-heard.new.owner (map (through g.M.Mail.received) c.turn-heard.new.receivers.items)
     (g.L.Ledger.owed c.turn-heard.new.share) (g.L.Ledger.cleared c.turn-heard.new.share) c.turn-heard.new.tally =
     elim c.match-heard.branch [
       | in-Nothing w ↦ w.in-Nothing.ensures.comes

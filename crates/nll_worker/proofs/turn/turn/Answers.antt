@@ -2,6 +2,7 @@ use Rattle.std.proofs.Common.{Contains, length, length-append, map, subst, sym, 
 use Rattle.std.proofs.lemmas.List.Elements.{Contains-append_right}
 use Rattle.nll_owner.specs.Logs.{log_of}
 use Rattle.nll_owner.specs.Owner.{Owner}
+use Rattle.nll_worker.specs.Mailboxes.{through}
 use Rattle.nll_worker.proofs.TallyLemmas.{grown_self}
 use Rattle.nll_worker.proofs.TurnLemmas.{cleared_small, taken_same, taken_lost, grown_some, grown_lost}
 use Rattle.nll_worker.proofs.TurnLemmas.{some_works, some_take, rests_same, stray_same}
@@ -33,7 +34,7 @@ keep_book-requires-clause-small g c κs within =
     let h = c.in-Growths.ensures.hears in
     let cleared = cleared_small c.args.owner.now _ _ 0 rests.working.sound.cut.cut.owner_limit rests.taking in
     let few = c.hear_from.ensures.few (rests.taking.few c.args.from c.requires.from) in
-    let before = log_of (map g.M.Mail.received c.args.receivers.now.items) c.args.from in
+    let before = log_of (map (through g.M.Mail.received) c.args.receivers.now.items) c.args.from in
     let more = ap length h.0 ∙ length-append before c.hear_from.new.batch.items in
     (omega (arith, cleared), omega (arith, few, more, c.len.ensures, c.hear_from.new.batch.ok.0))
 
@@ -54,7 +55,7 @@ returns-in-Stray-clause-comes g c =
     let h = c.in-Stray.ensures.hears in
     let gs = c.hear_from.new.batch.items in
     let stray = h.1.0 in
-    let before = log_of (map g.M.Mail.received c.args.receivers.now.items) c.args.from in (
+    let before = log_of (map (through g.M.Mail.received) c.args.receivers.now.items) c.args.from in (
       stray_same c.args.owner.now c.hear_from.new.owner _ h.1.1 (
         c.args.from,
         stray.0,

@@ -1,7 +1,7 @@
-use Rattle.std.proofs.Common.{map, refl, ◌∙◌}
-use Rattle.nll_worker.specs.Mailboxes.{Stays, Keeps}
+use Rattle.std.proofs.Common.{map, refl, sym, ◌∙◌, subst}
+use Rattle.nll_worker.specs.Mailboxes.{HasEnds, Stays, Keeps, Both, through}
 use Rattle.nll_worker.specs.Turning.{IsAtRest}
-use Rattle.nll_worker.proofs.ListLemmas.{alike_refl, stays_on, keeps_on}
+use Rattle.nll_worker.proofs.ListLemmas.{alike_refl, stays_on, keeps_on, both_refl, ends_kept}
 use Rattle.nll_worker.proofs.PostLemmas.{posts_first, posts_grown}
 use Rattle.nll_worker.proofs.TurnLemmas.{taken_all, rests_open}
 use Rattle.nll_worker.proofs.FinishLemmas.{is_given, is_grown, finishes_fail, finishes_stray, finishes_quiet, finishes_left}
@@ -19,9 +19,16 @@ loop-init g c =
       (f.ensures.book.0, f.ensures.book.1 ∙ fresh.number_is, f.ensures.book.2 ∙ fresh.called_is),
       f.ensures.comes _ c.requires.taken,
       posts_first _ _ _ c.args.owner.now f.new.owner _ c.requires.first f.ensures.grows c.requires.posts,
-      alike_refl (Stays g.M.Mail) (λ s r p. p) c.args.senders.now.items,
-      alike_refl (Keeps g.M.Mail) (λ r. ((λ s p. p), (λ s p. p), refl)) c.args.receivers.now.items,
+      alike_refl (Both (Stays g.M.Mail)) (both_refl (Stays g.M.Mail) (λ s r p. p)) c.args.senders.now.items,
+      alike_refl (Both (Keeps g.M.Mail)) (both_refl (Keeps g.M.Mail) (λ r. ((λ s p. p), (λ s p. p), refl)))
+          c.args.receivers.now.items,
     )
+
+pub share_out-heard-requires-clause-ends : goal.share_out-heard-requires-clause-ends
+share_out-heard-requires-clause-ends g c κs within =
+    let l = c.loop.invariant in
+    subst (λ i. HasEnds i c.loop.senders.items) (sym l.2.me)
+    (ends_kept (Stays g.M.Mail) c.args.owner.now.me _ _ l.7 c.requires.ends)
 
 pub returns-in-Stray-clause-finishes : goal.returns-in-Stray-clause-finishes
 returns-in-Stray-clause-finishes g c =
@@ -44,7 +51,8 @@ pub returns-in-Quiet-clause-finishes : goal.returns-in-Quiet-clause-finishes
 returns-in-Quiet-clause-finishes g c =
     let l = c.loop.invariant in
     let s = c.share_out-heard in
-    let rest : IsAtRest s.new.owner (map g.M.Mail.received c.loop.receivers.items) (g.L.Ledger.owed c.loop.share)
+    let rest : IsAtRest s.new.owner (map (through g.M.Mail.received) c.loop.receivers.items)
+    (g.L.Ledger.owed c.loop.share)
     (g.L.Ledger.cleared c.loop.share) s.new.tally = elim c.match-heard.branch [
       | in-Growths w ↦ w.in-Growths.ensures.comes _ _ _ l.5
       | in-Nothing w ↦ w.in-Nothing.ensures.comes _ _ _ l.5
@@ -58,7 +66,8 @@ pub returns-in-Stopped-clause-finishes : goal.returns-in-Stopped-clause-finishes
 returns-in-Stopped-clause-finishes g c =
     let l = c.loop.invariant in
     let s = c.share_out-heard in
-    let rest : IsAtRest s.new.owner (map g.M.Mail.received c.loop.receivers.items) (g.L.Ledger.owed c.loop.share)
+    let rest : IsAtRest s.new.owner (map (through g.M.Mail.received) c.loop.receivers.items)
+    (g.L.Ledger.owed c.loop.share)
     (g.L.Ledger.cleared c.loop.share) s.new.tally = elim c.match-heard.branch [
       | in-Growths w ↦ w.in-Growths.ensures.comes _ _ _ l.5
       | in-Nothing w ↦ w.in-Nothing.ensures.comes _ _ _ l.5
@@ -83,7 +92,8 @@ pub rounds-heard-requires-clause-rests : goal.rounds-heard-requires-clause-rests
 rounds-heard-requires-clause-rests g c κs within =
     let l = c.loop.invariant in
     let s = c.share_out-heard in
-    let rest : IsAtRest s.new.owner (map g.M.Mail.received c.loop.receivers.items) (g.L.Ledger.owed c.loop.share)
+    let rest : IsAtRest s.new.owner (map (through g.M.Mail.received) c.loop.receivers.items)
+    (g.L.Ledger.owed c.loop.share)
     (g.L.Ledger.cleared c.loop.share) s.new.tally = elim c.match-heard.branch [
       | in-Growths w ↦ w.in-Growths.ensures.comes _ _ _ l.5
       | in-Nothing w ↦ w.in-Nothing.ensures.comes _ _ _ l.5

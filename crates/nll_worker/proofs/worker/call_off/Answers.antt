@@ -1,7 +1,7 @@
 use Rattle.std.proofs.Common.{refl, sym, subst, ◌∙◌}
-use Rattle.nll_worker.specs.Mailboxes.{Stays, Keeps}
+use Rattle.nll_worker.specs.Mailboxes.{Stays, Keeps, Both}
 use Rattle.nll_worker.specs.Finishing.{WasMade}
-use Rattle.nll_worker.proofs.ListLemmas.{alike_refl, shut_on}
+use Rattle.nll_worker.proofs.ListLemmas.{alike_refl, shut_on, both_refl}
 use Rattle.nll_worker.proofs.StartLemmas.{unmade_error}
 use Rattle.nll_worker.proofs.worker.call_off.Goals as goal
 
@@ -9,9 +9,11 @@ pub returns-clause-ended : goal.returns-clause-ended
 returns-clause-ended g c = λ q cut.
     let m = g.M.Mail in
     record {
-      shuts = shut_on m _ _ _ (alike_refl (Stays m) (λ s r p. p) c.args.worker.outbox.senders.items)
+      shuts = shut_on m _ _ _ (alike_refl (Both (Stays m)) (both_refl (Stays m) (λ s r p. p))
+          c.args.worker.outbox.senders.items)
           c.close_all-closed.ensures;
-      keeps = alike_refl (Keeps m) (λ r. ((λ s p. p), (λ s p. p), refl)) c.args.worker.receivers.items;
+      keeps = alike_refl (Both (Keeps m)) (both_refl (Keeps m) (λ r. ((λ s p. p), (λ s p. p), refl)))
+          c.args.worker.receivers.items;
       finishes = λ made. absurd (c.requires.reason made);
       leaves = record {
         of_book = c.halt-left.ensures.left.0;

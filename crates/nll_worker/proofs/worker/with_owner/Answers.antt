@@ -1,6 +1,6 @@
 use Rattle.std.proofs.Common.{map, sym, subst, arith}
 use Rattle.nll_owner.specs.Logs.{log_of}
-use Rattle.nll_worker.specs.Mailboxes.{Stays}
+use Rattle.nll_worker.specs.Mailboxes.{Stays, Both, through}
 use Rattle.nll_worker.specs.Finishing.{Finishes}
 use Rattle.nll_worker.proofs.FinishLemmas.{finished_as}
 use Rattle.nll_worker.proofs.ListLemmas.{alike_length, shut_lists, shut_on}
@@ -8,7 +8,7 @@ use Rattle.nll_worker.proofs.worker.with_owner.Goals as goal
 
 pub close_all-closed-requires-after_bounds : goal.close_all-closed-requires-after_bounds
 close_all-closed-requires-after_bounds g c κs within =
-    let same = alike_length (Stays g.M.Mail) _ _ c.work_on-left.ensures.pairs in
+    let same = alike_length (Both (Stays g.M.Mail)) _ _ c.work_on-left.ensures.pairs in
     (c.requires.given.none_kept, omega (arith, same, c.requires.given.space))
 
 pub returns-clause-ended : goal.returns-clause-ended
@@ -21,7 +21,8 @@ returns-clause-ended g c =
       shuts = shut_on m _ _ _ b.ensures.pairs c.close_all-closed.ensures;
       keeps = b.ensures.keeps;
       finishes = λ made. finished_as _ _ _ b.new.owner _ _ _ _ _ _ _ p.log (subst (λ xs. Finishes c.args.owner.problem
-          c.args.owner.cut c.args.owner.me b.new.owner (log_of xs) (log_of (map m.received b.new.receivers.items))
+          c.args.owner.cut c.args.owner.me b.new.owner (log_of xs)
+          (log_of (map (through m.received) b.new.receivers.items))
           (g.L.Ledger.left_owed b.result.0) (g.L.Ledger.left_cleared b.result.0) b.result.1) (sym lists)
           b.ensures.finishes) p.values;
       leaves = b.ensures.leaves;
