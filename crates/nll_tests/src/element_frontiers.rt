@@ -27,10 +27,11 @@ fn grow<S: ElementSet>(
     ensures reached { OnOk result
         (IsFrontierIn graph.now (IsIn (S.flags seen.new)) frontier.new) }
 {
-    if seen.insert(element)? {
-        frontier.grow(graph, seen, element, list)?;
+    if seen.has(element) {
+        return Ok(());
     }
-    Ok(())
+    seen.insert(element)?;
+    frontier.grow(graph, seen, element, list)
 }
 
 // Writes what a list holds, ascending.
