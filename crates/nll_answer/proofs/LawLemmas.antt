@@ -12,8 +12,8 @@ use Rattle.nll_facts.proofs.LawLemmas as facts_laws
 use Rattle.nll_body.specs.Bodies.{BodyText}
 use Rattle.nll_mir_text.specs.MirText.{IsMirHeader, Means as IsBodyOf}
 use Rattle.nll_mir_text.proofs.LawLemmas as mir_laws
-use Rattle.nll_body_problem.specs.BodyProblem.{IsProblemOf, HasTooMany}
-use Rattle.nll_body_problem.specs.declared.error.RuleError.TheVariants as rule
+use Rattle.nll_rules.specs.BodyProblem.{IsProblemOf, HasTooMany}
+use Rattle.nll_rules.specs.declared.error.RuleError.TheVariants as rule
 use Rattle.nll_answer.specs.declared.error.AnswerError.{AnswerError}
 use Rattle.nll_answer.specs.declared.error.AnswerError.TheVariants.{Text, Rule, Run, Memory}
 use Rattle.nll_answer.specs.Texts.{IsMir, IsTextFault, HasProblem, IsMeaning, IsAnswerError}

@@ -1,3 +1,4 @@
 pub mod ReportLemmas
 pub mod MeaningLemmas
 pub mod LawLemmas
+pub mod ReplayLemmas

@@ -14,9 +14,9 @@ use Rattle.nll_body.specs.Bodies.{BodyText, labels_of}
 use Rattle.nll_mir_text.specs.MirText.{IsMirHeader, IsMirFault, Means as IsBodyOf}
 use Rattle.nll_answer.specs.declared.error.AnswerError.{AnswerError}
 use Rattle.nll_answer.specs.declared.error.AnswerError.TheVariants.{Text, Rule, Run, Memory}
-use Rattle.nll_body_problem.specs.BodyProblem.{HasTooMany, IsProblemOf, IsRuleError}
-use Rattle.nll_body_problem.specs.declared.error.RuleError.{RuleError}
-use Rattle.nll_body_problem.specs.declared.error.RuleError.TheVariants as rule
+use Rattle.nll_rules.specs.BodyProblem.{HasTooMany, IsProblemOf, IsRuleError}
+use Rattle.nll_rules.specs.declared.error.RuleError.{RuleError}
+use Rattle.nll_rules.specs.declared.error.RuleError.TheVariants as rule
 use Rattle.nll_answer.specs.Texts.{IsMir, HasProblem, told_as, error_of_text, error_of_body, IsErrorOf, IsBodyError, IsAnswerError}
 
 -- lists that are the same begin alike

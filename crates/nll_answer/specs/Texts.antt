@@ -13,9 +13,9 @@ use Rattle.nll_format.specs.declared.error.TextKind.TheVariants as kind
 use Rattle.nll_facts.specs.FactsText.{IsFactsFault, Means as IsFactsOf}
 use Rattle.nll_body.specs.Bodies.{BodyText, labels_of}
 use Rattle.nll_mir_text.specs.MirText.{IsMirHeader, IsMirFault, Means as IsBodyOf}
-use Rattle.nll_body_problem.specs.BodyProblem.{IsProblemOf, HasTooMany}
-use Rattle.nll_body_problem.specs.declared.error.RuleError.{RuleError}
-use Rattle.nll_body_problem.specs.declared.error.RuleError.TheVariants as rule
+use Rattle.nll_rules.specs.BodyProblem.{IsProblemOf, HasTooMany}
+use Rattle.nll_rules.specs.declared.error.RuleError.{RuleError}
+use Rattle.nll_rules.specs.declared.error.RuleError.TheVariants as rule
 use Rattle.nll_answer.specs.declared.error.AnswerError.{AnswerError}
 use Rattle.nll_answer.specs.declared.error.AnswerError.TheVariants.{Text, Rule, Run, Memory}
 

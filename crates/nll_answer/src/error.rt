@@ -1,8 +1,8 @@
 //! Why a text has no answer.
 
-use nll_body_problem::RuleError;
 use nll_core::Memory;
 use nll_format::{TextError, TextKind};
+use nll_rules::RuleError;
 use nll_run::RunError;
 use thiserror::Error;
 

@@ -1,7 +1,8 @@
 //! The answer to a facts text or a MIR text: its problem's least values or their faults, as the
-//! bytes of a report.
+//! bytes of a report; and the report of a replay.
 //!
-//! Read `answers` first, then `meant_problem`, `values_report` and `faults_report`.
+//! Read `answers` first, then `meant_problem`, `values_report`, `faults_report` and
+//! `replay_report`. The definitions are in specs/.
 #![tactic(auto)]
 
 mod answers;
@@ -9,6 +10,8 @@ mod error;
 mod faults_report;
 mod laws;
 mod meant_problem;
+mod replay_laws;
+mod replay_report;
 mod run_answers;
 mod values_report;
 
@@ -17,5 +20,7 @@ pub use error::AnswerError;
 pub use faults_report::faults_text;
 pub use laws::{no_text_has_both, one_text_fault, one_text_meaning};
 pub use meant_problem::{meaning, read_meaning};
+pub use replay_laws::{replay_at_0_is_least, replay_says_only_least};
+pub use replay_report::replay_text;
 pub use run_answers::answer_run;
 pub use values_report::values_text;

@@ -9,11 +9,11 @@ ghost use Rattle.nll_answer.specs.Texts.{IsMeaning, IsMir, error_of_body, error_
 
 use crate::error::AnswerError;
 use nll_body::Body;
-use nll_body_problem::{RuleError, problem_of};
 use nll_core::Problem;
 use nll_facts::{Facts, read_facts};
 use nll_format::TextError;
 use nll_mir_text::{is_mir_header, read_mir};
+use nll_rules::{RuleError, problem_of};
 use nll_text::next_line;
 use std::alloc::Global;
 

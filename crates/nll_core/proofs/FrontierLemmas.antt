@@ -17,7 +17,7 @@ use Rattle.nll_core.specs.Search.{IsIn}
 use Rattle.nll_core.specs.Lines.{IsJump}
 use Rattle.nll_core.specs.Walking.{Grows, IsLedTo, IsSpread, AreOfPoints, FillsFrom}
 use Rattle.nll_core.specs.Frontiers.{Frontier, ReachesFrom, WalksOn, IsAskedFrom, IsFrontierIn, IsBeside, HasOnlyAsked, IsThere, LacksOnlyDue, GrowsByRun, GoesOn, ResumesPoints, ListsNew, as_places}
-use Rattle.nll_core.specs.declared.landing.Landing.{Landing}
+use Rattle.nll_core.specs.declared.frontiers.landings.Landing.{Landing}
 use Rattle.nll_core.proofs.SearchLemmas.{none_in_empty, flag_within}
 use Rattle.nll_core.proofs.WalkingLemmas.{grows_none, grows_append, grows_weaker, reaches_append}
 use Rattle.nll_core.proofs.ListingLemmas.{lists_grown, lists_append}

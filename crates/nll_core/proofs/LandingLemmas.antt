@@ -7,7 +7,7 @@ use Rattle.std.proofs.lemmas.List.Elements.{Contains-append_left, Contains-appen
 use Rattle.nll_problem.specs.Graph.{Graph, IsSound}
 use Rattle.nll_problem.proofs.IndexLemmas.{keys_rise}
 use Rattle.nll_core.specs.Lines.{IsJump, IsLandingStart, StandsIn}
-use Rattle.nll_core.specs.declared.landing.Landing.{Landing}
+use Rattle.nll_core.specs.declared.frontiers.landings.Landing.{Landing}
 
 -- of a list of one element that element is all
 single : {X : Type 0} (y x : X) → Contains (y ∷ []) x → y ≡ x

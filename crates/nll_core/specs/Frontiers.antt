@@ -18,28 +18,28 @@ use Rattle.nll_problem.specs.declared.at.At.TheVariants.{All, Point}
 use Rattle.nll_core.specs.Search.{IsIn, LeadsTo}
 use Rattle.nll_core.specs.Walking.{Grows}
 
--- A frontier: where the constraints hold for which it is kept, what they asked for, and whether a
--- call of it was refused.
+-- A frontier: where its constraints hold, what they asked for so far, and whether one of its calls
+-- was refused memory.
 pub record Frontier : Type 0 where
   pub starts : List At
   pub reached : List Bool
   pub refused : Bool
 
--- x is asked for inside the set from one of these on: all points, or a point from which some walk
--- of the graph inside the set leads to x
+-- x is asked for inside the set from one of these: from all points, or from a point that leads to x
+-- by some walk of the graph inside the set
 abbrev pub IsAskedFrom : Graph → (ℕ → Type 0) → List At → ℕ → Type 0
 IsAskedFrom g inside starts x = (place : At) × Contains starts place × IsAskedIn g inside place x
 
--- the frontier has just what is asked for inside the set from where its constraints hold
+-- the frontier has exactly what is asked for inside the set from where its constraints hold
 abbrev pub IsFrontierIn : Graph → (ℕ → Type 0) → Frontier → Type 0
 IsFrontierIn g inside f = (x : ℕ) → IsIn f.reached x ↔ IsAskedFrom g inside f.starts x
 
--- x is an element of the set beside those of the run
+-- x is an element of the set besides those of the run
 abbrev pub IsBeside : List Bool → Run → ℕ → Type 0
 IsBeside set run x = IsIn set x × (IsWithin run x → ⊥)
 
--- A list got runs at its end, of just the elements that are in the new set and not in the old one,
--- each once.
+-- Runs were appended to the list: exactly the elements that are in the new set and not in the old
+-- one, each once.
 pub record ListsNew (old new : List Bool) (before after : List Run) : Type 0 where
   pub longer : length before ≤ length after
   pub front : (k : ℕ) → k < length before
@@ -55,8 +55,8 @@ pub record ListsNew (old new : List Bool) (before after : List Run) : Type 0 whe
 abbrev pub IsWithout : List Bool → ℕ → ℕ → Type 0
 IsWithout set e x = IsIn set x × (x ≢ e)
 
--- Behind what a list held it got just the elements that are in the new set and not in the old one,
--- each once.
+-- The list keeps what it held; appended are exactly the elements that are in the new set and not in
+-- the old one, each once.
 pub record AppendsNew (old new : List Bool) (before after : List ℕ) : Type 0 where
   pub rest : List ℕ
   pub appended : after ≡ before ++ rest
@@ -73,15 +73,15 @@ HasOnlyAsked g inside f = (x : ℕ) → IsIn f.reached x → IsAskedFrom g insid
 abbrev pub IsThere : (ℕ → Type 0) → (ℕ → Type 0) → List Bool → ℕ → Type 0
 IsThere inside due reached x = inside x × (due x → IsIn reached x)
 
--- Inside the set without what is due and not reached, the frontier lacks nothing: it has what is
--- asked for there from where its constraints hold, and what walks reach there from what it has.
+-- Inside the set without what is due and not reached, the frontier lacks nothing: it has all that
+-- is asked for there, and all that walks inside reach from what it has.
 pub record LacksOnlyDue (g : Graph) (inside due : ℕ → Type 0) (f : Frontier) : Type 0 where
   pub asked : (x : ℕ) → IsAskedFrom g (IsThere inside due f.reached) f.starts x → IsIn f.reached x
   pub onward : (x y : ℕ) → IsIn f.reached x → Reaches g (IsThere inside due f.reached) x y
       → IsIn f.reached y
 
--- A frontier is of a graph, and has only what is asked for inside a set, which has a run of
--- elements.
+-- A frontier is of a graph and has only what is asked for inside a set; a run of elements is in
+-- this set.
 pub record MayGrowByRun (g : Graph) (set : List Bool) (run : Run) (f : Frontier) : Type 0 where
   pub width : length set ≡ element_count g
   pub proper : run.first ≤ run.last
@@ -90,10 +90,10 @@ pub record MayGrowByRun (g : Graph) (set : List Bool) (run : Run) (f : Frontier)
   pub fits : f.refused ≡ false → length f.reached ≤ element_count g
   pub sound : f.refused ≡ false → HasOnlyAsked g (IsIn set) f
 
--- A frontier grew by a run of elements of a set, and listed what is new. If it had just what is
--- asked for inside the set without the run, it has just what is asked for inside the set. Whatever
--- else is due: if it lacked only that and the run, it lacks only that. Where a constraint holds at
--- all points, no more than the run came.
+-- A frontier grew by a run of elements of a set, and listed what is new. If it had exactly what is
+-- asked for inside the set without the run, it now has exactly what is asked for inside the set.
+-- The same holds with other elements due: if it lacked only these and the run, it now lacks only
+-- these. Where a constraint holds at all points, nothing but the run was added.
 pub record GrowsByRun (g : Graph) (set : List Bool) (run : Run) (old new : Frontier)
     (found : List Run) : Type 0 where
   pub usable : (old.refused ≡ false) × (new.refused ≡ false)
@@ -108,8 +108,8 @@ pub record GrowsByRun (g : Graph) (set : List Bool) (run : Run) (old new : Front
       → LacksOnlyDue g (IsIn set) (λ x. due x ≡ true) new
   pub listed : ListsNew old.reached new.reached [] found
 
--- Nothing is reached, and a run leaves it so, from these places on: all points aren't among them,
--- and no walk begins in the run.
+-- Nothing is reached, and from these places a run adds nothing: all points aren't among them, and
+-- no walk begins in the run.
 pub record IsIdle (starts : List At) (run : Run) (reached : List Bool) : Type 0 where
   pub none : (x : ℕ) → IsIn reached x → ⊥
   pub nowhere : Contains starts All → ⊥
@@ -121,9 +121,9 @@ first_frontier places = record { starts = places; reached = []; refused = false 
 
 -- ---- how it goes on: private contracts alone cite what follows
 
--- A frontier went on from a run of elements of a set. Where a constraint holds at all points, the
--- run itself came, and nothing else. Else walks went on: what is newly reached is followed to its
--- end; of what was reached before, the steps into the run.
+-- A frontier went on from a run of elements of a set. Where a constraint holds at all points,
+-- exactly the run was added. Otherwise walks went on: what is newly reached is followed to its end;
+-- from what was reached before, only the steps into the run are followed.
 pub record GoesOn (g : Graph) (set : List Bool) (run : Run) (starts : List At) (old new : List Bool)
     : Type 0 where
   pub kept : (x : ℕ) → IsIn old x → IsIn new x
@@ -134,7 +134,7 @@ pub record GoesOn (g : Graph) (set : List Bool) (run : Run) (starts : List At) (
   pub closed : (x y : ℕ) → IsIn new x → IsStep g x y → IsIn set y
       → IsIn new y ⊎ ((IsIn old x ⊎ Contains starts All) × (IsWithin run y → ⊥))
 
--- the numbers of the list rise
+-- the numbers of the list ascend
 abbrev pub IsAscending : List ℕ → Type 0
 IsAscending xs = AllPairs (λ x y. x < y) xs
 
@@ -146,7 +146,7 @@ as_places points = map (λ p. Point p) points
 abbrev pub behind : At → List ℕ → List At
 behind place points = place ∷ as_places points
 
--- where the place is a point, the points behind it ascend with it
+-- where the place is a point, the points after it ascend with it
 abbrev pub Ascend : At → List ℕ → Type 0
 Ascend place points = (p : ℕ) → place ≡ Point p → IsAscending (p ∷ points)
 
@@ -155,7 +155,7 @@ abbrev pub ReachesFrom : Graph → (ℕ → Type 0) → List ℕ → ℕ → Typ
 ReachesFrom g inside starts x = (p : ℕ) × Contains starts p × Reaches g inside p x
 
 -- Walks inside a set went on from a run of its elements. What is newly reached is followed to its
--- end; of what was reached before, the steps into the run.
+-- end; from what was reached before, only the steps into the run are followed.
 pub record WalksOn (g : Graph) (set : List Bool) (run : Run) (starts : List ℕ)
     (old new : List Bool) : Type 0 where
   pub kept : (x : ℕ) → IsIn old x → IsIn new x
@@ -164,8 +164,8 @@ pub record WalksOn (g : Graph) (set : List Bool) (run : Run) (starts : List ℕ)
   pub closed : (x y : ℕ) → IsIn new x → IsStep g x y → IsIn set y
       → IsIn new y ⊎ (IsIn old x × (IsWithin run y → ⊥))
 
--- Walks inside a set went on from a run to points alone, and the list got what was newly reached.
--- `ended` says whether they came to a return point now.
+-- Walks inside a set went on from a run, among points only, and what is newly reached was appended
+-- to the list. `ended` says whether they newly reached a return point.
 pub record ResumesPoints (g : Graph) (set : List Bool) (run : Run) (starts : List ℕ)
     (old new : List Bool) (before after : List Run) (ended : Bool) : Type 0 where
   pub grows : Grows g set (ReachesFrom g (IsIn set) starts) old new before after
@@ -175,8 +175,8 @@ pub record ResumesPoints (g : Graph) (set : List Bool) (run : Run) (starts : Lis
   pub ends_from : ended ≡ true → (x : ℕ) × IsIn new x × IsReturn g x
   pub ends : (x : ℕ) → IsIn new x → IsReturn g x → (ended ≡ true) ⊎ IsIn old x
 
--- Walks by steps of the relation went on from an element that was put into a set: what they lead to
--- is in the set, as far as steps lead from it.
+-- Walks by steps of the relation went on from an element that was added to a set: the set has what
+-- they lead to, and each step from there leads into it.
 pub record StepsOn (step : ℕ → ℕ → Type 0) (element : ℕ) (old new : List Bool) : Type 0 where
   pub width : length new ≡ length old
   pub kept : (x : ℕ) → IsIn old x → IsIn new x

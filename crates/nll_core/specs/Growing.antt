@@ -1,5 +1,5 @@
--- How values grow towards the least solution of a problem.
--- Source: project's choice. Private contracts alone cite this file.
+-- How values grow towards the least solution of a problem. Source: project's choice. Only private
+-- contracts cite this file.
 use Rattle.std.specs.Prelude.{◌≡◌, ◌⊎◌, ℕ, ◌<◌, Bool, true, false, IsTrue}
 use Rattle.std.specs.Prelude.{List, length, Contains, sum_by}
 use Rattle.nll_problem.specs.Problem.{Problem, IsUniversal, end_of}
@@ -12,14 +12,15 @@ use Rattle.nll_problem.specs.declared.constraint.Constraint.{Constraint}
 abbrev pub missing_pairs : List (List Bool) → ℕ
 missing_pairs values = sum_by missing values
 
--- Nothing left the values, and each pair of a region and an element that came is of this kind.
+-- The values lost nothing, and each pair of a region and an element that they gained is of this
+-- kind.
 pub record Gains (kind : ℕ → ℕ → Type 0) (old new : List (List Bool)) : Type 0 where
   pub width : length new ≡ length old
   pub widths : (r : ℕ) → length (set_of new r) ≡ length (set_of old r)
   pub kept : (r e : ℕ) → IsHeld old r e → IsHeld new r e
   pub cause : (r e : ℕ) → IsHeld new r e → IsHeld old r e ⊎ kind r e
 
--- `changed` says whether something came.
+-- `changed` says whether the values gained something.
 pub record Tells (changed : Bool) (old new : List (List Bool)) : Type 0 where
   pub same : changed ≡ false → new ≡ old
   pub fewer : changed ≡ true → missing_pairs new < missing_pairs old
@@ -46,11 +47,11 @@ HoldsEnds q values = (r : ℕ) → IsUniversal q r → IsHeld values r (end_of q
 abbrev pub HoldsFacts : Problem → List (List Bool) → Type 0
 HoldsFacts q values = (r e : ℕ) → Contains q.bases (r, e) → IsHeld values r e
 
--- the constraint asks the region r, its `sup`, for e
+-- the constraint asks for e in its region `sup`, which is r
 abbrev pub IsAskedBy : Problem → List (List Bool) → Constraint → ℕ → ℕ → Type 0
 IsAskedBy q values c r e = (r ≡ c.sup) × Asks q.graph (IsHeld values) c e
 
--- the new values hold all that the constraint asked for by the old ones
+-- the new values hold all that the constraint asks for by the old ones
 abbrev pub Meets : Problem → List (List Bool) → Constraint → List (List Bool) → Type 0
 Meets q old c new = (e : ℕ) → Asks q.graph (IsHeld old) c e → IsHeld new c.sup e
 

@@ -1,5 +1,5 @@
--- A descent through regions that gives an order of them: that it keeps to regions, and no more.
--- Source: project's choice. Private contracts alone cite this file.
+-- A depth-first search through regions that gives an order of them: it yields only regions, and
+-- nothing more is said of it. Source: project's choice. Only private contracts cite this file.
 use Rattle.std.specs.Prelude.{◌≡◌, ℕ, ◌+◌, ◌<◌, Bool, List, length, Contains}
 use Rattle.nll_problem.specs.declared.constraint.Constraint.{Constraint}
 
@@ -12,7 +12,7 @@ abbrev pub AreOfRegions : ℕ → List Constraint → Type 0
 AreOfRegions count constraints =
     (c : Constraint) → Contains constraints c → (c.sub < count) × (c.sup < count)
 
--- A descent among so many regions has a place and a mark for each, and its lists are of regions.
+-- A search among this many regions has an index and a mark for each, and its lists are of regions.
 pub record IsDescent (count : ℕ) (next : List ℕ) (seen : List Bool) (path left : List ℕ)
     : Type 0 where
   pub next_sized : length next ≡ count + 1

@@ -1,6 +1,5 @@
--- What the fault check reads off the outlives facts, and how it goes through the pairs of universal
--- regions, one after another.
--- Source: project's choice. Private contracts alone cite this file.
+-- What the fault check takes from the outlives facts, and how it goes through the pairs of
+-- universal regions in order. Source: project's choice. Only private contracts cite this file.
 use Rattle.std.specs.Prelude.{◌≡◌, ◌≢◌, ◌↔◌, ℕ, Bool, false, List, Contains, AllPairs}
 use Rattle.nll_problem.specs.Problem.{Problem, IsUniversal, end_of}
 use Rattle.nll_problem.specs.Faults.{IsEarlier, IsFault, IsKnown}
@@ -11,7 +10,7 @@ use Rattle.nll_core.specs.Values.{holds, IsHeld}
 abbrev pub IsShorterOf : List (ℕ × ℕ) → ℕ → Type 0
 IsShorterOf facts b = (a : ℕ) × Contains facts (a, b)
 
--- the set has just the regions that a is known to outlive
+-- the set has exactly the regions that a is known to outlive
 abbrev pub AreOutlived : Problem → ℕ → List Bool → Type 0
 AreOutlived q a outlived = (b : ℕ) → IsIn outlived b ↔ IsKnown q a b
 
@@ -19,7 +18,7 @@ AreOutlived q a outlived = (b : ℕ) → IsIn outlived b ↔ IsKnown q a b
 abbrev pub HasNoForeignEnd : Problem → List (List Bool) → ℕ → Type 0
 HasNoForeignEnd q values a = (b : ℕ) → IsUniversal q b → b ≢ a → holds values a (end_of q b) ≡ false
 
--- the list has just the pairs of this kind that stand before (a, b)
+-- the list has exactly the pairs of this kind that come before (a, b)
 abbrev pub ListsUpTo : (ℕ → ℕ → Type 0) → List (ℕ × ℕ) → ℕ → ℕ → Type 0
 ListsUpTo kind pairs a b = (x y : ℕ) → Contains pairs (x, y) ↔ (kind x y × IsEarlier (x, y) (a, b))
 

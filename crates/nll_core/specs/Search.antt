@@ -1,12 +1,12 @@
--- What a search through a relation has reached, and what it adds.
--- Source: project's choice. Private contracts alone cite this file.
+-- What a search through a relation has reached, and what it adds. Source: project's choice. Only
+-- private contracts cite this file.
 use Rattle.std.specs.Prelude.{◌≡◌, ◌≢◌, ◌⊎◌, ◌↔◌, ℕ, ◌+◌, ◌<◌, ◌≤◌, Bool, true, false, not, ⊤}
 use Rattle.std.specs.Prelude.{List, Contains, AllPairs, length, count_by, slice_index}
 use Rattle.nll_sets.specs.ElementSet.{flag}
 use Rattle.nll_problem.specs.Graph.{Graph, IsStep}
 use Rattle.nll_problem.specs.Walks.{IsWalk, Reaches}
 
--- The elements that were reached: as a set, and as a list in the order in which they came.
+-- The elements that were reached: as a set, and as a list in the order in which they were reached.
 pub record Search : Type 0 where
   pub reached : List Bool
   pub list : List ℕ
@@ -35,7 +35,7 @@ missing flags = count_by not flags
 
 -- ---- walks
 
--- after x may come y, and the set has y
+-- y may follow x, and the set has y
 abbrev pub IsStepInside : Graph → List Bool → ℕ → ℕ → Type 0
 IsStepInside g set x = Within set (IsStep g x)
 
@@ -47,7 +47,7 @@ LeadsTo step x y = (way : List ℕ) × IsWalk step (λ _. ⊤) x way y
 abbrev pub IsLedTo : (ℕ → ℕ → Type 0) → List Bool → ℕ → Type 0
 IsLedTo step reached x = (y : ℕ) × IsIn reached y × LeadsTo step y x
 
--- the set has all that one step from x leads to
+-- the set has all elements that one step from x leads to
 abbrev pub IsCovered : (ℕ → ℕ → Type 0) → List Bool → ℕ → Type 0
 IsCovered step reached x = HasAll (step x) reached
 
@@ -58,16 +58,16 @@ pub record AreReached (g : Graph) (set : List Bool) (at : ℕ) (list : List ℕ)
 
 -- ---- what a search adds
 
--- x is at a place of the list that isn't before `place`
+-- x is in the list at an index that is at least `place`
 abbrev pub IsFrom : ℕ → List ℕ → ℕ → Type 0
 IsFrom place list x = (k : ℕ) × (place ≤ k) × (k < length list) × (slice_index list k ≡ x)
 
--- what holds at each place of the list that isn't before `place`
+-- this holds at each index of the list that is at least `place`
 abbrev pub HoldsFrom : ℕ → List ℕ → (ℕ → Type 0) → Type 0
 HoldsFrom place list kind = (k : ℕ) → place ≤ k → k < length list → kind (slice_index list k)
 
--- Elements of this kind were put into the set and at the end of the list, each new to the set and
--- each once, and no others.
+-- Exactly the elements of this kind that the set lacked were added to the set and appended to the
+-- list, each once.
 pub record Adds (kind : ℕ → Type 0) (old new : Search) : Type 0 where
   pub width : length new.reached ≡ length old.reached
   pub kept : HasAll (IsIn old.reached) new.reached
@@ -90,7 +90,8 @@ pub record Visits (kind : ℕ → Type 0) (old new : Search) : Type 0 where
 abbrev pub VisitsWithin : List Bool → (ℕ → Type 0) → Search → Search → Type 0
 VisitsWithin set kind old new = Visits (Within set kind) old new
 
--- The list from `place` on is of reached elements, and each other reached element is covered.
+-- The list from the index `place` on has only reached elements, and each other reached element is
+-- covered.
 pub record IsPending (step : ℕ → ℕ → Type 0) (s : Search) (place : ℕ) : Type 0 where
   pub within : place ≤ length s.list
   pub listed : HoldsFrom place s.list (IsIn s.reached)

@@ -1,6 +1,5 @@
 -- What a walk through the lines of a graph, inside the value of a region, has reached, and what it
--- adds.
--- Source: project's choice. Private contracts alone cite this file.
+-- adds. Source: project's choice. Only private contracts cite this file.
 use Rattle.std.specs.Prelude.{◌≡◌, ◌⊎◌, ◌↔◌, ℕ, ◌+◌, ◌-◌, ◌≤◌, ◌<◌, Bool, true, false}
 use Rattle.std.specs.Prelude.{List, length, Contains, slice_index_or}
 use Rattle.nll_sets.specs.ElementSet.{flag}
@@ -24,7 +23,7 @@ IsLineClosed g sub reached =
     (x : ℕ) → IsIn reached x → IsNext g x (x + 1) → IsIn sub (x + 1) → IsIn reached (x + 1)
 
 -- The run goes from the point along its line inside `sub`, up to where the line or `sub` ends, or
--- what is reached goes on.
+-- where what is already reached begins.
 pub record IsStretch (g : Graph) (sub reached : List Bool) (point : ℕ) (run : Run) : Type 0 where
   pub first : run.first ≡ point
   pub proper : point ≤ run.last
@@ -35,11 +34,12 @@ pub record IsStretch (g : Graph) (sub reached : List Bool) (point : ℕ) (run : 
   pub closing :
       IsNext g run.last (run.last + 1) → IsIn sub (run.last + 1) → IsIn reached (run.last + 1)
 
--- the limit that stands for none: each point is below it
+-- the limit that means no limit: each point is below it
 abbrev pub no_limit : ℕ
 no_limit = 4294967295
 
--- From the point on the set has no number below the limit, and goes on there if that is a point.
+-- From the point on, the set has no number below the limit, and it has the limit if that is a
+-- point.
 pub record IsFreeTo (reached : List Bool) (point limit : ℕ) : Type 0 where
   pub above : point < limit
   pub new : (x : ℕ) → point ≤ x → x < limit → flag reached x ≡ false
@@ -54,7 +54,8 @@ AreOfPoints g runs =
 abbrev pub AreIn : List Bool → Run → Type 0
 AreIn flags run = (x : ℕ) → IsWithin run x → IsIn flags x
 
--- The set got elements of this kind, and the list their runs at its end, each element once.
+-- Elements of this kind were added to the set, and their runs appended to the list, each element
+-- once.
 pub record Grows (g : Graph) (sub : List Bool) (kind : ℕ → Type 0)
     (old new : List Bool) (before after : List Run) : Type 0 where
   pub width : length new ≡ length old
@@ -87,8 +88,8 @@ IsFollowed g sub reached x = (t : ℕ) → IsJump g x t → t < g.points → IsI
 abbrev pub IsLedTo : Graph → List Bool → List Bool → ℕ → Type 0
 IsLedTo g sub start x = (y : ℕ) × IsIn start y × Reaches g (IsIn sub) y x
 
--- The set got what walks inside `sub` reach from it, points alone, and the list their runs. Each
--- point of the list was followed; `ends` says whether a return point is among them.
+-- The set gained what walks inside `sub` reach from it, points only, and the list their runs. Each
+-- run of the list was followed; `ends` says whether one of them has a return point.
 pub record IsSpread (g : Graph) (sub start new : List Bool) (listed all : List Run) (ends : Bool)
     : Type 0 where
   pub grows : Grows g sub (IsLedTo g sub start) start new listed all
@@ -97,7 +98,7 @@ pub record IsSpread (g : Graph) (sub start new : List Bool) (listed all : List R
       (x : ℕ) → IsInRuns all x
       → IsFollowed g sub new x × (IsJump g x g.points → ends ≡ true)
 
--- the set got the elements of `sub` from a number on
+-- the set gained the elements of `sub` from a number on
 pub record FillsFrom (from : ℕ) (sub old new : List Bool) : Type 0 where
   pub width : length new ≡ length old
   pub kept : (x : ℕ) → IsIn old x → IsIn new x
@@ -114,8 +115,8 @@ no_constraint = record { sub = 0; sup = 0; at = All }
 abbrev pub constraint_at : List Constraint → ℕ → Constraint
 constraint_at pair k = slice_index_or pair k no_constraint
 
--- where the constraints hold never descends: those that hold at all points come first, and the
--- points of the others never descend
+-- the places where the constraints hold never descend: those that hold at all points come first,
+-- and the points of the others never descend
 abbrev pub PointsAscend : List Constraint → Type 0
 PointsAscend pair =
     (j k : ℕ) → j ≤ k → k < length pair
@@ -131,7 +132,7 @@ AreAskedOf g sub pair reached = (x : ℕ) → IsIn reached x ↔ IsAskedOf g sub
 
 -- ---- those of a pair that all hold at points
 
--- the point of a constraint, and 0 where it holds at all points
+-- the point of a constraint, or 0 where it holds at all points
 abbrev pub point_of : Constraint → ℕ
 point_of c = at_rank c.at - 1
 

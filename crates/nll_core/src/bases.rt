@@ -1,4 +1,4 @@
-//! The values of just the base elements.
+//! The values of exactly the base elements.
 
 ghost use Rattle.std.specs.Prelude.{◌≡◌, ℕ, ◌≤◌, ◌<◌, ◌↔◌, length, IfOk, OnOk};
 ghost use Rattle.nll_problem.specs.Problem.{IsBase};
@@ -10,7 +10,7 @@ use nll_problem::{Problem, RegionId};
 use nll_sets::{Element, Memory, Run};
 use std::alloc::Global;
 
-/// The values of just the base elements.
+/// The values of exactly the base elements.
 pub fn base_values(alloc: Global, problem: &Problem) -> Result<Values, Memory>
     ensures shaped { IfOk result (IsShaped problem.now) }
     ensures exact { IfOk result (λ values. (r e : ℕ) → IsHeld values r e ↔ IsBase problem.now r e) }
@@ -21,7 +21,7 @@ pub fn base_values(alloc: Global, problem: &Problem) -> Result<Values, Memory>
     Ok(values)
 }
 
-// Puts in what the universal regions hold from the start.
+// Inserts what the universal regions hold from the start.
 fn insert_universals(problem: &Problem, values: &mut Values) -> Result<(), Memory>
     requires { IsShaped problem.now values.old }
     ensures gains { OnOk result (Gains (IsBase problem.now) values.old values.new) }
@@ -37,7 +37,7 @@ fn insert_universals(problem: &Problem, values: &mut Values) -> Result<(), Memor
     Ok(())
 }
 
-// Puts each point into the value of a region, as one run.
+// Inserts each point into the value of a region, as one run.
 fn insert_points(values: &mut Values, region: RegionId, points: u32) -> Result<(), Memory>
     requires some { 0 < points }
     requires region { region < length values.old }
@@ -56,7 +56,7 @@ fn insert_points(values: &mut Values, region: RegionId, points: u32) -> Result<(
     Ok(())
 }
 
-// Puts in the base elements that were given, a run of them at a time.
+// Inserts the base elements that were given, a run of them at a time.
 fn insert_bases(problem: &Problem, values: &mut Values) -> Result<(), Memory>
     requires { IsShaped problem.now values.old }
     ensures gains { OnOk result (Gains (IsBase problem.now) values.old values.new) }

@@ -75,7 +75,8 @@ fn add_faults(
     told
 }
 
-// Adds the faults of one universal region, which is known to outlive just the regions of the set.
+// Adds the faults of one universal region, which is known to outlive exactly the regions of the
+// set.
 fn add_unknown(
     problem: &Problem,
     values: &Values,

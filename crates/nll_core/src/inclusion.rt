@@ -1,4 +1,4 @@
-//! Whether a set is within another, where a look at a few runs tells.
+//! Whether a set is within another, where a look at a few runs is enough to know.
 
 ghost use Rattle.std.specs.Prelude.{◌≡◌, ℕ, true};
 ghost use Rattle.nll_sets.specs.Runs.{IsWithin};
@@ -6,11 +6,11 @@ ghost use Rattle.nll_core.specs.Search.{IsIn};
 
 use nll_sets::{Run, RunSet};
 
-// A look goes through no more runs than this, so that it costs no more than a short walk.
+// At most this many runs are looked at, so that it costs no more than a short walk.
 const MOST_RUNS: usize = 64;
 
-/// Whether each element of a set is in another one. A set of many runs isn't looked at: then the
-/// answer is false.
+/// Whether each element of a set is in another one. A set of many runs isn't looked at: the result
+/// is then false.
 ///
 /// # Cost
 /// At most 64 look-ups (not proved).
@@ -32,7 +32,7 @@ pub fn is_seen_within(inner: &RunSet, outer: &RunSet) -> bool
     true
 }
 
-// Whether a set has all elements of a run, with a place near which later runs of it may lie.
+// Whether a set has all elements of a run, with an index near which later runs of it may lie.
 fn has_run(outer: &RunSet, near: usize, run: Run) -> (usize, bool)
     ensures { result.1 ≡ true → (e : ℕ) → IsWithin run e → IsIn outer.now e }
 {

@@ -9,11 +9,11 @@ use nll_problem::Graph;
 use nll_sets::Memory;
 use std::alloc::Global;
 
-/// Where the jumps of each point lead, those of one point after those of another.
+/// Where the jumps of each point lead, in the order of the points.
 ///
 /// # Shape
-/// The targets of the point p stand from `starts[p]` up to `starts[p + 1]`. The number of points
-/// stands for all ends.
+/// The targets of the point p are those from `starts[p]` up to `starts[p + 1]`. The number of
+/// points denotes all ends.
 #[derive(Drop)]
 pub struct Jumps {
     pub starts: Vec<usize>,
@@ -39,7 +39,7 @@ pub fn jumps_of(alloc: Global, graph: &Graph) -> Result<(Jumps, Vec<u32>), Memor
     Ok((Jumps { starts, targets }, ends))
 }
 
-// Puts the targets of the jumps of a point at the end of a list. Answers whether its line goes on.
+// Appends the targets of the jumps of a point to a list. Returns whether its line goes on.
 fn push_jumps(graph: &Graph, point: u32, targets: &mut Vec<u32>) -> Result<bool, Memory>
     requires { point < graph.now.points }
     ensures jumps { OnOk result
@@ -53,8 +53,8 @@ fn push_jumps(graph: &Graph, point: u32, targets: &mut Vec<u32>) -> Result<bool,
     Ok(goes_on)
 }
 
-// Puts the successors of a point at the end of a list, but for the next point of its line. Answers
-// whether that one is among them.
+// Appends the successors of a point to a list, except the next point of its line. Returns whether
+// that one is among them.
 fn push_others(
     successors: &[u32],
     points: u32,

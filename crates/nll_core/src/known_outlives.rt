@@ -41,7 +41,7 @@ impl<'a> Relation for Outliving<'a> {
     }
 }
 
-// Of ascending facts those that say what a region outlives.
+// Of ascending facts, those that say what a region outlives.
 fn facts_of(facts: &[(RegionId, RegionId)], longer: RegionId) -> &[(RegionId, RegionId)]
     requires { AllPairs IsEarlier facts.now }
     ensures { (x : ℕ × ℕ) → Contains result.now x ↔ (Contains facts.now x × (x.0 ≡ longer)) }

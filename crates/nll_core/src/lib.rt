@@ -2,35 +2,27 @@
 //! The problem is that of `nll_problem`, the sets are those of `nll_sets`; both are found here too.
 //!
 //! Reading order: `values`, `bases`, `lines` (with `line_ends`, `jumps`), `stretches`, `tail_copy`,
-//! `walk`, `pairs`, `inclusion`, `satisfaction`, `order`, `solver`; `points`, `starts`, `returns`,
-//! `landings`, `steps`, `places`, `continuation`; `search`, `reachability`, `element_growth`,
-//! `frontier`; `known_outlives`, `fault_check`. The definitions are in specs/.
+//! `walk`, `pairs`, `inclusion`, `order`, `indexed`, `satisfaction`, `solver`; `known_outlives`,
+//! `fault_check`. What owners use beside the solver is in `frontiers`. The definitions are in
+//! specs/.
 #![tactic(auto)]
 
 mod bases;
-mod continuation;
-mod element_growth;
 mod fault_check;
-mod frontier;
+mod frontiers;
 mod inclusion;
+mod indexed;
 mod jumps;
 mod known_outlives;
-mod landing;
-mod landings;
 mod line_ends;
 mod lines;
 mod order;
 mod pairs;
-mod places;
-mod points;
 mod reachability;
 mod region_elements;
-mod returns;
 mod satisfaction;
 mod search;
 mod solver;
-mod starts;
-mod steps;
 mod stretches;
 mod tail_copy;
 mod values;
@@ -38,7 +30,7 @@ mod walk;
 
 pub use bases::base_values;
 pub use fault_check::faults;
-pub use frontier::Frontier;
+pub use frontiers::{Frontier, Steps};
 pub use inclusion::is_seen_within;
 pub use nll_problem::{
     At, BuildError, Constraint, Graph, Kind, MAX_CONSTRAINTS, MAX_EDGES, MAX_POINTS, MAX_REGIONS,
@@ -48,5 +40,4 @@ pub use nll_sets::{BitSet, Element, ElementSet, Elements, Memory, Run, RunSet};
 pub use reachability::reached_from;
 pub use region_elements::RegionElements;
 pub use solver::solve;
-pub use steps::Steps;
 pub use values::Values;

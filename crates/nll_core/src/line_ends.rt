@@ -7,8 +7,8 @@ ghost use Rattle.nll_core.specs.Lines.{AreEndsTo};
 use nll_problem::Graph;
 use nll_sets::Memory;
 
-/// Goes on to a point, of which it is told whether its line goes on behind it. Where the line ends,
-/// the point is the last one of all points behind those of the list.
+/// Goes on to a point, given whether its line goes on after it. Where the line ends, this point is
+/// the last one for all points that the list lacks up to it.
 pub fn pass_point(
     graph: &Graph,
     ends: &mut Vec<u32>,

@@ -13,10 +13,10 @@ use std::marker::Model;
 use std::snapshot::Snapshot;
 
 /// A graph as its lines, and the jumps: the steps that don't go along one. A jump to the number of
-/// points stands for the steps of a return point to all ends. Contracts see it as the graph.
+/// points denotes the steps of a return point to all ends. Contracts see it as the graph.
 ///
 /// # Cost
-/// What it answers it reads off lists that are made once (not proved).
+/// Each call reads lists that are made once (not proved).
 #[derive(Drop)]
 pub struct Lines {
     // For contracts alone.

@@ -1,6 +1,6 @@
-//! In which order regions are visited.
+//! The order in which regions are visited.
 //!
-//! Only time hangs on it, so the contracts say that the order is of regions and no more.
+//! Only time depends on it, so the contracts say nothing but that it is a list of regions.
 
 ghost use Rattle.std.specs.Prelude.{◌≡◌, ◌<◌, ◌+◌, length, IfOk, OnOk};
 ghost use Rattle.nll_problem.specs.Problem.{SameSet};
@@ -11,20 +11,20 @@ use nll_problem::{Constraint, ConstraintIndex, Problem};
 use nll_sets::Memory;
 use std::alloc::Global;
 
-// A descent from regions to those that are filled from them.
+// A depth-first search from regions to those that are filled from them.
 #[derive(Drop)]
 struct Descent {
-    // The place of the constraint that each region follows next.
+    // The index of the constraint that each region follows next.
     next: Vec<usize>,
     seen: Vec<bool>,
-    // The regions from which the descent has still to go on.
+    // The regions that the search has entered and not left.
     path: Vec<u32>,
-    // The regions that it has left.
+    // The regions that it has left, in that order.
     left: Vec<u32>,
 }
 
-/// The regions in the order in which a descent leaves them: backwards, a region that is read stands
-/// before those that are filled from it, save in circles.
+/// The regions in the order in which a depth-first search leaves them (postorder): backwards, a
+/// region that is read comes before those that are filled from it, except in cycles.
 pub fn order_of(
     alloc: Global,
     problem: &Problem,
@@ -48,7 +48,7 @@ pub fn order_of(
     Ok(descent.left)
 }
 
-// Where the constraints that read each region begin, and where the last ones end.
+// The indices at which the constraints that read each region begin, and where the last ones end.
 fn starts_of(alloc: Global, constraints: &[Constraint], regions: u32) -> Result<Vec<usize>, Memory>
     requires { AreOfRegions regions constraints.now }
     ensures { IfOk result (λ starts. length starts.items ≡ regions + 1) }
@@ -64,7 +64,7 @@ fn starts_of(alloc: Global, constraints: &[Constraint], regions: u32) -> Result<
     Ok(starts)
 }
 
-// A descent that has seen nothing.
+// A search that has seen nothing.
 fn descent_of(alloc: Global, starts: &[usize], regions: u32) -> Result<Descent, Memory>
     requires { length starts.now ≡ regions + 1 }
     ensures { IfOk result (λ d.
@@ -80,7 +80,7 @@ fn descent_of(alloc: Global, starts: &[usize], regions: u32) -> Result<Descent, 
     })
 }
 
-// Goes from a region, if it wasn't seen, to all that are filled by way of it.
+// Goes from a region, if it wasn't seen, to all regions that are filled from it, also indirectly.
 fn descend(
     constraints: &[Constraint],
     starts: &[usize],
@@ -107,7 +107,7 @@ fn descend(
     Ok(())
 }
 
-// Follows the next constraint that reads a region or, where there is none, leaves the region.
+// Follows the next constraint that reads a region or, if there is none, leaves the region.
 fn step(
     constraints: &[Constraint],
     starts: &[usize],

@@ -7,9 +7,17 @@ ghost use Rattle.nll_problem.specs.declared.constraint.Constraint as spec;
 ghost use Rattle.nll_core.specs.Walking.{constraint_at, PointsAscend};
 ghost use Rattle.nll_core.specs.Worklist.{AreOfOneSup, SupsAscend};
 
-use nll_problem::{At, Constraint};
+use nll_problem::{At, Constraint, RegionId};
 
-/// The place up to which, from one on, the constraints fill the same region.
+/// Constraints of a list that all read the region `sub` and fill the region `sup`.
+#[derive(Drop)]
+pub struct Pair<'c> {
+    pub sub: RegionId,
+    pub sup: RegionId,
+    pub constraints: &'c [Constraint],
+}
+
+/// The index up to which, from one on, the constraints fill the same region.
 pub fn pair_end(constraints: &[Constraint], place: usize) -> usize
     requires place { place < length constraints.now }
     requires ascending { SupsAscend constraints.now }

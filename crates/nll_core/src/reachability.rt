@@ -1,4 +1,4 @@
-//! Which elements of a graph the walks from a point reach that stay inside a set.
+//! The elements of a graph that walks from a point reach inside a set.
 
 ghost use Rattle.std.specs.Prelude.{◌≡◌, ◌≤◌, ◌<◌, Contains, length, IfOk, OnOk};
 ghost use Rattle.nll_problem.specs.Graph.{element_count};
@@ -94,8 +94,7 @@ impl<'a, S: ElementSet> Relation for Inside<'a, S> {
     }
 }
 
-/// The elements that the walks from `at` inside a set reach, each once: none where `at` is outside
-/// it.
+/// The elements that walks from `at` inside a set reach, each once; none if `at` isn't in it.
 pub fn reached_from<S: ElementSet>(
     alloc: Global,
     graph: &Graph,

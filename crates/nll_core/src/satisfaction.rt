@@ -12,86 +12,81 @@ ghost use Rattle.nll_core.specs.Walking.{PointsAscend, IsAskedOf};
 ghost use Rattle.nll_core.specs.Worklist.{AreOfPair, Visits};
 
 use crate::inclusion::is_seen_within;
-use crate::lines::Lines;
-use crate::pairs::is_everywhere;
+use crate::indexed::Indexed;
+use crate::pairs::{Pair, is_everywhere};
 use crate::values::Values;
 use crate::walk::Walk;
-use nll_problem::{Constraint, Problem, RegionId};
+use nll_problem::RegionId;
 use nll_sets::{Memory, Run, RunSet};
 
 /// Meets the constraints of a pair of regions, and marks the one that they fill if it gets
-/// something. Answers whether it does.
+/// something. Returns whether it does.
 pub fn meet(
-    problem: &Problem,
-    lines: &Lines,
+    problem: &Indexed<'_>,
     values: &mut Values,
     marks: &mut Vec<bool>,
     walk: &mut Walk,
-    sub: RegionId,
-    sup: RegionId,
-    pair: &[Constraint],
+    pair: &Pair<'_>,
 ) -> Result<bool, Memory>
     requires shaped { IsShaped problem.now values.old }
-    requires lines { lines.now ≡ problem.now.graph }
-    requires walk { length walk.old.reached ≡ element_count lines.now }
+    requires walk { length walk.old.reached ≡ element_count problem.now.graph }
     requires width { length marks.old.items ≡ problem.now.regions }
-    requires sub { sub < problem.now.regions }
-    requires sup { sup < problem.now.regions }
-    requires pair { AreOfPair problem.now sub sup pair.now }
-    requires ascending { PointsAscend pair.now }
-    ensures visits { IfOk result (Visits problem.now sub values.old values.new
+    requires sub { pair.now.sub < problem.now.regions }
+    requires sup { pair.now.sup < problem.now.regions }
+    requires pair { AreOfPair problem.now pair.now.sub pair.now.sup pair.now.constraints.now }
+    requires ascending { PointsAscend pair.now.constraints.now }
+    ensures visits { IfOk result (Visits problem.now pair.now.sub values.old values.new
         marks.old.items marks.new.items) }
-    ensures walk { OnOk result (length walk.new.reached ≡ element_count lines.now) }
-    ensures met { OnOk result
-        ((c : spec.Constraint) → Contains pair.now c → IsMet problem.now values.new c) }
+    ensures walk { OnOk result (length walk.new.reached ≡ element_count problem.now.graph) }
+    ensures met { OnOk result ((c : spec.Constraint)
+        → Contains pair.now.constraints.now c → IsMet problem.now values.new c) }
 {
+    let (sub, sup) = (pair.sub, pair.sup);
     // What is asked for inside a region is in it, and so in another one that has all of it.
     if sup == sub || is_seen_within(values.set(sub), values.set(sup)) {
         return Ok(false);
     }
-    let new = fill(problem, lines, values, walk, sub, sup, pair)?;
+    let new = fill(problem, values, walk, pair)?;
     marks[sup.0 as usize] |= new;
     Ok(new)
 }
 
-// Puts in what the constraints of a pair of regions ask: what walks from their points reach; or all
-// of the region that they read, without a walk, where one of them holds at all points. Answers
+// Inserts what the constraints of a pair of regions ask: what walks from their points reach; or all
+// of the region that they read, without a walk, where one of them holds at all points. Returns
 // whether something was new.
 fn fill(
-    problem: &Problem,
-    lines: &Lines,
+    problem: &Indexed<'_>,
     values: &mut Values,
     walk: &mut Walk,
-    sub: RegionId,
-    sup: RegionId,
-    pair: &[Constraint],
+    pair: &Pair<'_>,
 ) -> Result<bool, Memory>
     requires shaped { IsShaped problem.now values.old }
-    requires lines { lines.now ≡ problem.now.graph }
-    requires walk { length walk.old.reached ≡ element_count lines.now }
-    requires sub { sub < problem.now.regions }
-    requires sup { sup < problem.now.regions }
-    requires pair { AreOfPair problem.now sub sup pair.now }
-    requires ascending { PointsAscend pair.now }
+    requires walk { length walk.old.reached ≡ element_count problem.now.graph }
+    requires sub { pair.now.sub < problem.now.regions }
+    requires sup { pair.now.sup < problem.now.regions }
+    requires pair { AreOfPair problem.now pair.now.sub pair.now.sup pair.now.constraints.now }
+    requires ascending { PointsAscend pair.now.constraints.now }
     ensures gains { OnOk result (Gains
-        (λ r e. (r ≡ sup) × IsAskedOf problem.now.graph (set_of values.old sub) pair.now e)
+        (λ r e. (r ≡ pair.now.sup)
+        × IsAskedOf problem.now.graph (set_of values.old pair.now.sub) pair.now.constraints.now e)
         values.old values.new) }
     ensures asks { OnOk result ((e : ℕ)
-        → IsAskedOf problem.now.graph (set_of values.old sub) pair.now e
-        → IsHeld values.new sup e) }
+        → IsAskedOf problem.now.graph (set_of values.old pair.now.sub) pair.now.constraints.now e
+        → IsHeld values.new pair.now.sup e) }
     ensures tells { IfOk result (λ new. Tells new values.old values.new) }
-    ensures walk { OnOk result (length walk.new.reached ≡ element_count lines.now) }
+    ensures walk { OnOk result (length walk.new.reached ≡ element_count problem.now.graph) }
 {
+    let (sub, sup) = (pair.sub, pair.sup);
     let _regions = problem.regions();
-    if is_everywhere(pair) {
+    if is_everywhere(pair.constraints) {
         return fill_whole(values, walk, sub, sup);
     }
-    walk.reach(lines, values.set(sub), pair)?;
+    walk.reach(problem.lines(), values.set(sub), pair.constraints)?;
     fill_all(values, sup, walk.reached.as_runs())
 }
 
-// Puts all that a region holds into another one; a region that holds nothing gets a copy. Answers
-// whether something was new.
+// Inserts all that a region holds into another one; a region that holds nothing gets a copy.
+// Returns whether something was new.
 fn fill_whole(
     values: &mut Values,
     walk: &mut Walk,
@@ -114,7 +109,8 @@ fn fill_whole(
     fill_all(values, sup, walk.todo.as_slice())
 }
 
-// Gives a region that holds nothing all that another one holds. Answers whether that is something.
+// Gives a region that holds nothing a copy of another one. Returns whether that one holds
+// something.
 fn copy_whole(values: &mut Values, sub: RegionId, sup: RegionId) -> Result<bool, Memory>
     requires sub { sub < length values.old }
     requires sup { sup < length values.old }
@@ -138,7 +134,7 @@ pub fn is_empty(set: &RunSet) -> bool
     set.as_runs().is_empty()
 }
 
-// Puts the elements of runs into the value of a region. Answers whether one of them is new.
+// Inserts the elements of runs into the value of a region. Returns whether one of them is new.
 fn fill_all(values: &mut Values, region: RegionId, runs: &[Run]) -> Result<bool, Memory>
     requires region { region < length values.old }
     requires fit { (k : ℕ) → k < length runs.now

@@ -1,7 +1,7 @@
 //! Searches: what the walks of a relation reach from an element.
 //!
-//! A search keeps the elements that it has reached twice: as a set, which tells what is new, and as
-//! a list in the order in which they came, whose end is the work that is left.
+//! A search keeps the elements that it has reached twice: as a set, which shows what is new, and as
+//! a list in the order in which they were reached, the end of which is still to be followed.
 
 ghost use Rattle.std.specs.Prelude.{◌≡◌, ℕ, ◌≤◌, ◌<◌, false, [], length, replicate, slice_index};
 ghost use Rattle.std.specs.Prelude.{IfOk, OnOk};
@@ -11,9 +11,9 @@ use nll_sets::{Element, ElementSet, Memory};
 use std::alloc::Global;
 use std::marker::Model;
 
-/// Which element may come after which, of the elements below a number.
+/// Which elements may follow which, among the elements below a number.
 pub trait Relation {
-    /// After the first element may come the second.
+    /// The second element may follow the first.
     ghost step: { Self → ℕ → ℕ → Type 0 };
 
     /// The elements are the numbers below it.
@@ -65,7 +65,7 @@ impl<R: ElementSet> Search<R> {
         }
     }
 
-    /// Puts an element into the set and at the end of the list, where it is new.
+    /// Inserts an element into the set and appends it to the list, if it is new.
     pub fn visit(&mut self, element: Element) -> Result<(), Memory>
         requires { element < length self.old.reached }
         ensures { OnOk result (Visits (λ x. x ≡ element) self.old self.new) }
@@ -76,7 +76,7 @@ impl<R: ElementSet> Search<R> {
         Ok(())
     }
 
-    /// Goes on from the elements of the list from a place on, until each step from the set leads
+    /// Goes on from the elements of the list from an index on, until each step from the set leads
     /// into it.
     pub fn spread<P: Relation>(&mut self, relation: &P, from: usize) -> Result<(), Memory>
         requires width { P.count relation.now ≤ length self.old.reached }
@@ -99,7 +99,7 @@ impl<R: ElementSet> Search<R> {
         self.list.len()
     }
 
-    // What stands at a place of the list.
+    // The element at an index of the list.
     fn at(&self, place: usize) -> Element
         requires { place < length self.now.list }
         ensures { result ≡ slice_index self.now.list place }

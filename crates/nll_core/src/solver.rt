@@ -1,24 +1,23 @@
 //! The least solution of a problem: each region whose value grew is visited, until no value grows.
 //!
 //! A visit meets all constraints that read the region. What they ask is found anew, by a walk for
-//! each region that they fill; no walk is kept.
+//! each region that they fill; no walk is kept between visits.
 
 ghost use Rattle.std.specs.Prelude.{◌≡◌, ℕ, ◌≤◌, ◌<◌, ◌↔◌, false, true, Contains, length};
 ghost use Rattle.std.specs.Prelude.{IfOk, OnOk};
 ghost use Rattle.nll_sets.specs.ElementSet.{flag};
 ghost use Rattle.nll_problem.specs.Graph.{element_count};
-ghost use Rattle.nll_problem.specs.Problem.{SameSet};
 ghost use Rattle.nll_problem.specs.Solution.{Least};
 ghost use Rattle.nll_problem.specs.declared.constraint.Constraint as spec;
 ghost use Rattle.nll_core.specs.Values.{IsHeld, IsShaped};
-ghost use Rattle.nll_core.specs.Growing.{StaysBelow, IsClosed, IsMet};
+ghost use Rattle.nll_core.specs.Growing.{IsMet};
 ghost use Rattle.nll_core.specs.Worklist.{AreRegions, IsTracked, IsCleared, IsOnTheWay, Turns};
-ghost use Rattle.nll_core.specs.Worklist.{Visits};
+ghost use Rattle.nll_core.specs.Worklist.{Completes, Visits};
 
 use crate::bases::base_values;
+use crate::indexed::Indexed;
 use crate::lines::Lines;
-use crate::order::order_of;
-use crate::pairs::pair_end;
+use crate::pairs::{Pair, pair_end};
 use crate::satisfaction::meet;
 use crate::values::Values;
 use crate::walk::Walk;
@@ -47,13 +46,10 @@ pub fn solve(alloc: Global, problem: &Problem) -> Result<Values, Memory>
     Ok(values)
 }
 
-// Puts in what the constraints ask of the values, until they ask for nothing more.
+// Inserts what the constraints ask of the values, until they ask for nothing more.
 fn close(alloc: Global, problem: &Problem, values: &mut Values) -> Result<(), Memory>
     requires { IsShaped problem.now values.old }
-    ensures shaped { OnOk result (IsShaped problem.now values.new) }
-    ensures kept { OnOk result ((r e : ℕ) → IsHeld values.old r e → IsHeld values.new r e) }
-    ensures below { OnOk result (StaysBelow problem.now values.old values.new) }
-    ensures closed { OnOk result (IsClosed problem.now values.new) }
+    ensures { OnOk result (Completes problem.now values.old values.new) }
 {
     let lines = Lines::of(alloc, problem.graph())?;
     let told = close_by(alloc, problem, &lines, values);
@@ -61,7 +57,7 @@ fn close(alloc: Global, problem: &Problem, values: &mut Values) -> Result<(), Me
     told
 }
 
-// The same, over the lines of the problem's graph.
+// Like `close`, over the lines of the problem's graph.
 fn close_by(
     alloc: Global,
     problem: &Problem,
@@ -70,130 +66,98 @@ fn close_by(
 ) -> Result<(), Memory>
     requires shaped { IsShaped problem.now values.old }
     requires lines { lines.now ≡ problem.now.graph }
-    ensures shaped { OnOk result (IsShaped problem.now values.new) }
-    ensures kept { OnOk result ((r e : ℕ) → IsHeld values.old r e → IsHeld values.new r e) }
-    ensures below { OnOk result (StaysBelow problem.now values.old values.new) }
-    ensures closed { OnOk result (IsClosed problem.now values.new) }
+    ensures { OnOk result (Completes problem.now values.old values.new) }
 {
     let index = ConstraintIndex::of(alloc, problem)?;
-    let told = visit_all(alloc, problem, lines, &index, values);
+    let indexed = Indexed {
+        problem,
+        lines,
+        index: &index,
+    };
+    let told = visit_all(alloc, &indexed, values);
     drop(index);
     told
 }
 
-// The same, over the constraints by the region that they read.
-fn visit_all(
-    alloc: Global,
-    problem: &Problem,
-    lines: &Lines,
-    index: &ConstraintIndex,
-    values: &mut Values,
-) -> Result<(), Memory>
-    requires shaped { IsShaped problem.now values.old }
-    requires lines { lines.now ≡ problem.now.graph }
-    requires index { SameSet index.now problem.now.constraints }
-    ensures shaped { OnOk result (IsShaped problem.now values.new) }
-    ensures kept { OnOk result ((r e : ℕ) → IsHeld values.old r e → IsHeld values.new r e) }
-    ensures below { OnOk result (StaysBelow problem.now values.old values.new) }
-    ensures closed { OnOk result (IsClosed problem.now values.new) }
+// Like `close`, over what was made of the problem.
+fn visit_all(alloc: Global, problem: &Indexed<'_>, values: &mut Values) -> Result<(), Memory>
+    requires { IsShaped problem.now values.old }
+    ensures { OnOk result (Completes problem.now values.old values.new) }
 {
-    let order = order_of(alloc, problem, index)?;
+    let order = problem.order(alloc)?;
     let mut marks = vec![in alloc; true; problem.regions() as usize]?;
-    let mut walk = Walk::new(alloc, problem.points() + problem.universals())?;
-    let told = sweep(problem, lines, index, &order, values, &mut marks, &mut walk);
+    let mut walk = Walk::new(alloc, problem.elements())?;
+    let told = sweep(problem, &order, values, &mut marks, &mut walk);
     drop(walk);
     told
 }
 
 // Visits marked regions until none is marked.
 fn sweep(
-    problem: &Problem,
-    lines: &Lines,
-    index: &ConstraintIndex,
+    problem: &Indexed<'_>,
     order: &[u32],
     values: &mut Values,
     marks: &mut Vec<bool>,
     walk: &mut Walk,
 ) -> Result<(), Memory>
-    requires lines { lines.now ≡ problem.now.graph }
-    requires index { SameSet index.now problem.now.constraints }
     requires order { AreRegions problem.now order.now }
-    requires walk { length walk.old.reached ≡ element_count lines.now }
+    requires walk { length walk.old.reached ≡ element_count problem.now.graph }
     requires way { IsOnTheWay problem.now values.old values.old marks.old.items }
-    ensures shaped { OnOk result (IsShaped problem.now values.new) }
-    ensures kept { OnOk result ((r e : ℕ) → IsHeld values.old r e → IsHeld values.new r e) }
-    ensures below { OnOk result (StaysBelow problem.now values.old values.new) }
-    ensures closed { OnOk result (IsClosed problem.now values.new) }
+    ensures { OnOk result (Completes problem.now values.old values.new) }
 {
     let _regions = problem.regions();
-    while sweep_backwards(problem, lines, index, order, values, marks, walk)? {}
-    while sweep_all(problem, lines, index, values, marks, walk)? {}
+    while sweep_backwards(problem, order, values, marks, walk)? {}
+    while sweep_all(problem, values, marks, walk)? {}
     Ok(())
 }
 
-// Visits each marked region of a list, the last one first. Answers whether something was new.
+// Visits each marked region of a list, the last one first. Returns whether something was new.
 fn sweep_backwards(
-    problem: &Problem,
-    lines: &Lines,
-    index: &ConstraintIndex,
+    problem: &Indexed<'_>,
     order: &[u32],
     values: &mut Values,
     marks: &mut Vec<bool>,
     walk: &mut Walk,
 ) -> Result<bool, Memory>
     requires shaped { IsShaped problem.now values.old }
-    requires lines { lines.now ≡ problem.now.graph }
-    requires index { SameSet index.now problem.now.constraints }
     requires order { AreRegions problem.now order.now }
-    requires walk { length walk.old.reached ≡ element_count lines.now }
+    requires walk { length walk.old.reached ≡ element_count problem.now.graph }
     requires width { length marks.old.items ≡ problem.now.regions }
     requires tracked { IsTracked problem.now values.old marks.old.items }
     ensures turns { IfOk result
         (Turns problem.now values.old values.new marks.new.items) }
-    ensures walk { OnOk result (length walk.new.reached ≡ element_count lines.now) }
+    ensures walk { OnOk result (length walk.new.reached ≡ element_count problem.now.graph) }
 {
     let mut changed = false;
     let mut place = order.len();
     while place > 0 {
         place -= 1;
-        let new = turn(
-            problem,
-            lines,
-            index,
-            values,
-            marks,
-            walk,
-            RegionId(order[place]),
-        )?;
+        let new = turn(problem, values, marks, walk, RegionId(order[place]))?;
         changed |= new;
     }
     Ok(changed)
 }
 
-// Visits each marked region by number. Answers whether something was new.
+// Visits each marked region by number. Returns whether something was new.
 fn sweep_all(
-    problem: &Problem,
-    lines: &Lines,
-    index: &ConstraintIndex,
+    problem: &Indexed<'_>,
     values: &mut Values,
     marks: &mut Vec<bool>,
     walk: &mut Walk,
 ) -> Result<bool, Memory>
     requires shaped { IsShaped problem.now values.old }
-    requires lines { lines.now ≡ problem.now.graph }
-    requires index { SameSet index.now problem.now.constraints }
-    requires walk { length walk.old.reached ≡ element_count lines.now }
+    requires walk { length walk.old.reached ≡ element_count problem.now.graph }
     requires width { length marks.old.items ≡ problem.now.regions }
     requires tracked { IsTracked problem.now values.old marks.old.items }
     ensures turns { IfOk result
         (Turns problem.now values.old values.new marks.new.items) }
-    ensures walk { OnOk result (length walk.new.reached ≡ element_count lines.now) }
+    ensures walk { OnOk result (length walk.new.reached ≡ element_count problem.now.graph) }
     ensures clean { IfOk result (λ changed. changed ≡ false
         → (r : ℕ) → r < problem.now.regions → flag marks.new.items r ≡ false) }
 {
     let mut changed = false;
     for region in 0..problem.regions() {
-        let new = turn(problem, lines, index, values, marks, walk, RegionId(region))?;
+        let new = turn(problem, values, marks, walk, RegionId(region))?;
         changed |= new;
     }
     Ok(changed)
@@ -201,24 +165,20 @@ fn sweep_all(
 
 // Visits a region, if it is marked.
 fn turn(
-    problem: &Problem,
-    lines: &Lines,
-    index: &ConstraintIndex,
+    problem: &Indexed<'_>,
     values: &mut Values,
     marks: &mut Vec<bool>,
     walk: &mut Walk,
     sub: RegionId,
 ) -> Result<bool, Memory>
     requires shaped { IsShaped problem.now values.old }
-    requires lines { lines.now ≡ problem.now.graph }
-    requires index { SameSet index.now problem.now.constraints }
-    requires walk { length walk.old.reached ≡ element_count lines.now }
+    requires walk { length walk.old.reached ≡ element_count problem.now.graph }
     requires width { length marks.old.items ≡ problem.now.regions }
     requires region { sub < problem.now.regions }
     requires tracked { IsTracked problem.now values.old marks.old.items }
     ensures turns { IfOk result
         (Turns problem.now values.old values.new marks.new.items) }
-    ensures walk { OnOk result (length walk.new.reached ≡ element_count lines.now) }
+    ensures walk { OnOk result (length walk.new.reached ≡ element_count problem.now.graph) }
     ensures clean { IfOk result (λ changed. changed ≡ false
         → IsCleared marks.old.items marks.new.items sub) }
 {
@@ -227,40 +187,39 @@ fn turn(
         return Ok(false);
     }
     marks[at] = false;
-    visit(problem, lines, index, values, marks, walk, sub)
+    visit(problem, values, marks, walk, sub)
 }
 
-// Meets each constraint that reads a region, and marks the regions that get something.
+// Meets each constraint that reads a region, and marks the regions that gain something.
 fn visit(
-    problem: &Problem,
-    lines: &Lines,
-    index: &ConstraintIndex,
+    problem: &Indexed<'_>,
     values: &mut Values,
     marks: &mut Vec<bool>,
     walk: &mut Walk,
     sub: RegionId,
 ) -> Result<bool, Memory>
     requires shaped { IsShaped problem.now values.old }
-    requires lines { lines.now ≡ problem.now.graph }
-    requires index { SameSet index.now problem.now.constraints }
-    requires walk { length walk.old.reached ≡ element_count lines.now }
+    requires walk { length walk.old.reached ≡ element_count problem.now.graph }
     requires width { length marks.old.items ≡ problem.now.regions }
     requires region { sub < problem.now.regions }
     ensures visits { IfOk result (Visits problem.now sub values.old values.new
         marks.old.items marks.new.items) }
-    ensures walk { OnOk result (length walk.new.reached ≡ element_count lines.now) }
+    ensures walk { OnOk result (length walk.new.reached ≡ element_count problem.now.graph) }
     ensures met { OnOk result ((c : spec.Constraint)
         → Contains problem.now.constraints c → c.sub ≡ sub → IsMet problem.now values.new c) }
 {
     let _regions = problem.regions();
-    let constraints = index.reading(sub);
+    let constraints = problem.reading(sub);
     let mut changed = false;
     let mut place = 0;
     while place < constraints.len() {
         let end = pair_end(constraints, place);
-        let sup = constraints[place].sup;
-        let pair = &constraints[place..end];
-        let new = meet(problem, lines, values, marks, walk, sub, sup, pair)?;
+        let pair = Pair {
+            sub,
+            sup: constraints[place].sup,
+            constraints: &constraints[place..end],
+        };
+        let new = meet(problem, values, marks, walk, &pair)?;
         changed |= new;
         place = end;
     }

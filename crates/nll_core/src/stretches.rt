@@ -16,8 +16,8 @@ ghost use Rattle.nll_core.specs.Walking.{AreIn, IsLineClosed, IsSpread, no_limit
 use crate::lines::Lines;
 use nll_sets::{Memory, Run, RunSet};
 
-// The run of a set that has a point; Err with the number before which, from the point on, no number
-// is in the set.
+// The run of a set that has a point; or Err with the number before which, from the point on, the
+// set has no number.
 fn look_up(reached: &RunSet, point: u32) -> Result<Run, u32>
     requires { point < no_limit }
     ensures has { OnOk result (IsIn reached.now point) }
@@ -33,9 +33,9 @@ fn look_up(reached: &RunSet, point: u32) -> Result<Run, u32>
     Err(next.first)
 }
 
-// Puts the stretch from a new point of a run of `sub` into the set and into the list: as far as its
-// line and the run go on, and before the limit, where the set goes on. Answers a number up to which
-// each number from the point on is settled.
+// Inserts the stretch from a new point of a run of `sub` into the set and appends it to the list:
+// as far as its line and the run go on, and before the limit, where the set goes on. Returns a
+// number up to which each number from the point on is settled.
 fn enter_run(
     lines: &Lines,
     inside: Run,
@@ -67,7 +67,7 @@ fn enter_run(
     Ok(last + 1)
 }
 
-/// Enters a point of a run of `sub`. Answers a number up to which each number from the point on is
+/// Enters a point of a run of `sub`. Returns a number up to which each number from the point on is
 /// settled.
 pub fn enter(
     lines: &Lines,
@@ -94,9 +94,9 @@ pub fn enter(
     enter_run(lines, inside, limit, reached, todo, point)
 }
 
-// Enters a point, where it is in `sub` and not reached. Answers a run of reached points: the one
-// that has the point or, where it wasn't reached, the one that is given. It keeps the place of a
-// run of `sub` near which later points may lie.
+// Enters a point, if it is in `sub` and not reached. Returns a run of reached points: the one that
+// has the point or, if it wasn't reached, the one that was given. Keeps the index of a run of `sub`
+// near which later points may lie.
 fn go_to(
     lines: &Lines,
     sub: &RunSet,
@@ -138,7 +138,7 @@ fn has(run: Run, point: u32) -> bool
     run.first <= point && point <= run.last
 }
 
-// Enters the targets of the jumps from the points of a reached run. Answers whether one of these is
+// Enters the targets of the jumps from the points of a reached run. Returns whether one of these is
 // a return point.
 fn follow(
     lines: &Lines,
@@ -161,7 +161,7 @@ fn follow(
 {
     let points = lines.points();
     let mut ends = false;
-    // Most targets are reached already, and lie in one run with the target before.
+    // Most targets are reached already, and lie in the same run as the target before.
     let mut known = run;
     for target in lines.jumps(run) {
         if *target >= points {
@@ -173,8 +173,8 @@ fn follow(
     Ok(ends)
 }
 
-/// Follows the stretches of a list, and those that it comes to, which it puts at the end of the
-/// list. Answers whether one of them has a return point.
+/// Follows the stretches of a list, and those that it enters, which it appends to the list. Returns
+/// whether one of them has a return point.
 pub fn spread(
     lines: &Lines,
     sub: &RunSet,

@@ -1,4 +1,4 @@
-//! The elements of a set from a number on, put into another one.
+//! Copying the elements of a set from a number on into another one.
 
 ghost use Rattle.std.specs.Prelude.{◌≡◌, ◌<◌, length, OnOk};
 ghost use Rattle.nll_core.specs.Walking.{FillsFrom};
@@ -6,8 +6,8 @@ ghost use Rattle.nll_core.specs.Frontiers.{ListsNew};
 
 use nll_sets::{Memory, Run, RunSet};
 
-/// Puts the elements of `sub` from a number on into a set, and the runs of those that are new to it
-/// at the end of a list.
+/// Inserts the elements of `sub` from a number on into a set, and appends the runs of those that
+/// are new to a list.
 pub fn fill_from(
     sub: &RunSet,
     reached: &mut RunSet,

@@ -37,7 +37,7 @@ impl Values {
         Values::of(alloc, problem.regions(), len)
     }
 
-    /// So many sets of elements below a length that hold nothing.
+    /// This many sets of elements below a length that hold nothing.
     pub fn of(alloc: Global, count: u32, len: u32) -> Result<Values, Memory>
         ensures { IfOk result (λ values. values ≡ replicate count (replicate len false)) }
     {
@@ -64,7 +64,7 @@ impl Values {
         self.sets[region.0 as usize].has(element)
     }
 
-    /// Puts an element into the value of a region, and answers whether it is new.
+    /// Inserts an element into the value of a region, and returns whether it is new.
     ///
     /// # Errors
     /// - `Memory`: the values are as before.
@@ -78,7 +78,7 @@ impl Values {
         self.sets[region.0 as usize].insert(element)
     }
 
-    /// Puts the elements of a run into the value of a region, and answers whether one is new.
+    /// Inserts the elements of a run into the value of a region, and returns whether one is new.
     ///
     /// # Errors
     /// - `Memory`: the values are as before.
@@ -140,7 +140,7 @@ impl Values {
         &self.sets[region.0 as usize]
     }
 
-    /// Takes the set of a region out; the empty set of no elements stays. Takes no memory.
+    /// Takes the set of a region out, and leaves the empty set of no elements. Takes no memory.
     pub fn take(&mut self, alloc: Global, region: RegionId) -> RunSet
         requires { region < length self.old }
         ensures set { result ≡ set_of self.old region }

@@ -20,8 +20,8 @@ use nll_sets::{ElementSet, Memory, Run, RunSet};
 use std::alloc::Global;
 
 /// What a walk has reached, and the stretches that it has still to follow. Where no walk is needed,
-/// the list has the runs of a region. One serves all walks of a solver, so that its memory is taken
-/// once.
+/// the list has the runs of a region. One walk serves a whole solver, so that its memory is
+/// allocated once.
 #[derive(Drop)]
 pub struct Walk {
     pub reached: RunSet,
@@ -40,8 +40,8 @@ impl Walk {
         })
     }
 
-    /// Reaches what constraints of a pair that hold at points ask for inside the set of the region
-    /// that they read, and nothing else: what walks reach from their points.
+    /// Reaches exactly what constraints of a pair that hold at points ask for inside the set of the
+    /// region that they read: what walks reach from their points.
     pub fn reach(&mut self, lines: &Lines, sub: &RunSet, pair: &[Constraint]) -> Result<(), Memory>
         requires sub_width { length sub.now ≡ element_count lines.now }
         requires width { length self.old.reached ≡ element_count lines.now }
@@ -55,7 +55,7 @@ impl Walk {
         reach_all(lines, sub, &mut self.reached, &mut self.todo, pair)
     }
 
-    /// Lists the runs of a set, in place of the stretches of a walk.
+    /// Lists the runs of a set, instead of the stretches of a walk.
     pub fn list(&mut self, set: &RunSet) -> Result<(), Memory>
         ensures reached { self.new.reached ≡ self.old.reached }
         ensures make_up { OnOk result (MakeUp self.new.todo.items set.now) }
@@ -69,8 +69,8 @@ impl Walk {
     }
 }
 
-// The point of the constraint at a place. It's asked for so often that another kind of place isn't
-// even looked for.
+// The point of the constraint at an index. It's called so often that it doesn't even test for
+// another kind of place.
 fn point_at(pair: &[Constraint], place: usize) -> u32
     requires place { place < length pair.now }
     requires points { NoneEverywhere pair.now }
@@ -108,8 +108,8 @@ fn reach_all(
     fill_from(sub, reached, todo, points)
 }
 
-// Enters the points of the constraints that are in `sub`; those that an entry settles are passed
-// over.
+// Enters the points of the constraints that are in `sub`, except those that an earlier entry
+// settles.
 fn enter_all(
     lines: &Lines,
     sub: &RunSet,
@@ -137,7 +137,7 @@ fn enter_all(
     Ok(())
 }
 
-// A constraint whose point is in the value, the run in which it is, and the place of this run.
+// A constraint whose point is in the value, the run in which it is, and the index of this run.
 #[derive(Clone, Copy)]
 struct Found {
     place: usize,
@@ -145,7 +145,7 @@ struct Found {
     run: Run,
 }
 
-// The first constraint, from a place on, whose point is in `sub`.
+// The first constraint, from an index on, whose point is in `sub`.
 fn next_inside(sub: &RunSet, near: usize, pair: &[Constraint], from: usize) -> Option<Found>
     requires points { NoneEverywhere pair.now }
     requires ascending { PointsAscend pair.now }
@@ -174,7 +174,7 @@ fn next_inside(sub: &RunSet, near: usize, pair: &[Constraint], from: usize) -> O
     None
 }
 
-// The first place, from one on, of a constraint whose point isn't below `least`.
+// The first index, from one on, of a constraint whose point isn't below `least`.
 fn place_from(pair: &[Constraint], from: usize, least: u32) -> usize
     requires points { NoneEverywhere pair.now }
     requires ascending { PointsAscend pair.now }

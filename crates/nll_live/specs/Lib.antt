@@ -6,3 +6,4 @@ pub mod Lows
 pub mod Marks
 pub mod Rooms
 pub mod BaseRuns
+pub mod Searches

@@ -7,7 +7,7 @@ ghost use Rattle.nll_body.specs.Bodies.{IsGraphOf};
 ghost use Rattle.nll_body.specs.Sound.{IsSound};
 ghost use Rattle.nll_live.specs.Gathering.{AreListed};
 ghost use Rattle.nll_live.specs.Live.{AsksForUse, AsksForDrop, DropsAt, IsBaseOf, IsLive, UsesAt};
-ghost use Rattle.nll_live.specs.Lows.{AreWays};
+ghost use Rattle.nll_live.specs.Searches.{AreOfBody};
 ghost use Rattle.nll_problem.specs.BaseRuns.{IsInBaseRuns};
 ghost use Rattle.nll_live.specs.BaseRuns.{Gains};
 
@@ -15,11 +15,19 @@ use crate::base_runs::push_all;
 use crate::live_points::find_set;
 use crate::points_by_variable::{drops_by_variable, uses_by_variable};
 use crate::search::Room;
-use crate::ways::{Ways, ways_of};
+use crate::ways::Ways;
 use nll_body::Body;
 use nll_problem::{BaseRun, Predecessors, RegionId};
 use nll_sets::Memory;
 use std::alloc::Global;
+
+// A variable, the points that use it or drop it, and the regions that it asks for there.
+#[derive(Drop)]
+struct Asking<'b> {
+    variable: u32,
+    points: &'b [u32],
+    regions: &'b [RegionId],
+}
 
 /// The base elements of regions that follow from the liveness of variables, by runs: for each
 /// variable and each region that it asks for those of the points where it is live, in no order.
@@ -78,70 +86,46 @@ fn push_over(
     ensures { OnOk result
         ((r p : ℕ) → IsInBaseRuns base_runs.new.items r p ↔ IsBaseOf body.now r p) }
 {
-    let ways = ways_of(alloc, body, previous)?;
-    let told = push_both(alloc, body, previous, &ways, base_runs);
+    let ways = Ways::of(alloc, body, previous)?;
+    let told = push_both(alloc, &ways, base_runs);
     // Early drop.
     drop(ways);
     told
 }
 
 // Ladder: like `push_live`, given what searches in the body go by.
-fn push_both(
-    alloc: Global,
-    body: &Body,
-    previous: &Predecessors<'_>,
-    ways: &Ways,
-    base_runs: &mut Vec<BaseRun>,
-) -> Result<(), Memory>
-    requires shown { IsGraphOf body.now previous.now }
-    requires ways { AreWays body.now ways.now.starts.items
-        (map (λ list. list.items) ways.now.definitions.items) }
+fn push_both(alloc: Global, ways: &Ways<'_>, base_runs: &mut Vec<BaseRun>) -> Result<(), Memory>
+    requires ways { AreOfBody ways.now }
     requires nothing { base_runs.old.items ≡ [] }
     ensures { OnOk result
-        ((r p : ℕ) → IsInBaseRuns base_runs.new.items r p ↔ IsBaseOf body.now r p) }
+        ((r p : ℕ) → IsInBaseRuns base_runs.new.items r p ↔ IsBaseOf ways.now.body.now r p) }
 {
-    push_uses(alloc, body, previous, ways, base_runs)?;
-    push_drops(alloc, body, previous, ways, base_runs)?;
+    push_uses(alloc, ways, base_runs)?;
+    push_drops(alloc, ways, base_runs)?;
     Ok(())
 }
 
 // Appends the runs of base elements that variables ask for where they are use-live.
-fn push_uses(
-    alloc: Global,
-    body: &Body,
-    previous: &Predecessors<'_>,
-    ways: &Ways,
-    base_runs: &mut Vec<BaseRun>,
-) -> Result<(), Memory>
-    requires shown { IsGraphOf body.now previous.now }
-    requires ways { AreWays body.now ways.now.starts.items
-        (map (λ list. list.items) ways.now.definitions.items) }
-    ensures { OnOk result (Gains (λ r p. (x : ℕ) × AsksForUse body.now x r p)
+fn push_uses(alloc: Global, ways: &Ways<'_>, base_runs: &mut Vec<BaseRun>) -> Result<(), Memory>
+    requires ways { AreOfBody ways.now }
+    ensures { OnOk result (Gains (λ r p. (x : ℕ) × AsksForUse ways.now.body.now x r p)
         base_runs.old.items base_runs.new.items) }
 {
-    let lists = uses_by_variable(alloc, body)?;
-    let told = push_each_use(alloc, body, previous, ways, lists.as_slice(), base_runs);
+    let lists = uses_by_variable(alloc, ways.body)?;
+    let told = push_each_use(alloc, ways, lists.as_slice(), base_runs);
     // Early drop.
     drop(lists);
     told
 }
 
 // Appends the runs of base elements that variables ask for where they are drop-live.
-fn push_drops(
-    alloc: Global,
-    body: &Body,
-    previous: &Predecessors<'_>,
-    ways: &Ways,
-    base_runs: &mut Vec<BaseRun>,
-) -> Result<(), Memory>
-    requires shown { IsGraphOf body.now previous.now }
-    requires ways { AreWays body.now ways.now.starts.items
-        (map (λ list. list.items) ways.now.definitions.items) }
-    ensures { OnOk result (Gains (λ r p. (x : ℕ) × AsksForDrop body.now x r p)
+fn push_drops(alloc: Global, ways: &Ways<'_>, base_runs: &mut Vec<BaseRun>) -> Result<(), Memory>
+    requires ways { AreOfBody ways.now }
+    ensures { OnOk result (Gains (λ r p. (x : ℕ) × AsksForDrop ways.now.body.now x r p)
         base_runs.old.items base_runs.new.items) }
 {
-    let lists = drops_by_variable(alloc, body)?;
-    let told = push_each_drop(alloc, body, previous, ways, lists.as_slice(), base_runs);
+    let lists = drops_by_variable(alloc, ways.body)?;
+    let told = push_each_drop(alloc, ways, lists.as_slice(), base_runs);
     // Early drop.
     drop(lists);
     told
@@ -150,35 +134,26 @@ fn push_drops(
 // Ladder: like `push_uses`, given the points that use each variable.
 fn push_each_use(
     alloc: Global,
-    body: &Body,
-    previous: &Predecessors<'_>,
-    ways: &Ways,
+    ways: &Ways<'_>,
     lists: &[Vec<u32>],
     base_runs: &mut Vec<BaseRun>,
 ) -> Result<(), Memory>
-    requires shown { IsGraphOf body.now previous.now }
-    requires ways { AreWays body.now ways.now.starts.items
-        (map (λ list. list.items) ways.now.definitions.items) }
-    requires listed { AreListed (length body.now.variables) (UsesAt body.now)
-        (length body.now.points) (map (λ list. list.items) lists.now) }
-    ensures { OnOk result (Gains (λ r p. (x : ℕ) × AsksForUse body.now x r p)
+    requires ways { AreOfBody ways.now }
+    requires listed { AreListed (length ways.now.body.now.variables) (UsesAt ways.now.body.now)
+        (length ways.now.body.now.points) (map (λ list. list.items) lists.now) }
+    ensures { OnOk result (Gains (λ r p. (x : ℕ) × AsksForUse ways.now.body.now x r p)
         base_runs.old.items base_runs.new.items) }
 {
-    let mut room = Room::of(alloc, body.points())?;
-    for variable in 0..body.variables() {
+    let mut room = Room::of(alloc, ways.body.points())?;
+    for variable in 0..ways.body.variables() {
         let list = lists[variable].as_slice();
-        let regions = body.var_regions(alloc, variable as u32)?;
-        push_found(
-            alloc,
-            body,
-            previous,
-            ways,
-            variable as u32,
-            list,
-            regions.as_slice(),
-            &mut room,
-            base_runs,
-        )?;
+        let regions = ways.body.var_regions(alloc, variable as u32)?;
+        let asking = Asking {
+            variable: variable as u32,
+            points: list,
+            regions: regions.as_slice(),
+        };
+        push_found(alloc, ways, &asking, &mut room, base_runs)?;
     }
     Ok(())
 }
@@ -186,35 +161,26 @@ fn push_each_use(
 // Ladder: like `push_drops`, given the points that drop each variable.
 fn push_each_drop(
     alloc: Global,
-    body: &Body,
-    previous: &Predecessors<'_>,
-    ways: &Ways,
+    ways: &Ways<'_>,
     lists: &[Vec<u32>],
     base_runs: &mut Vec<BaseRun>,
 ) -> Result<(), Memory>
-    requires shown { IsGraphOf body.now previous.now }
-    requires ways { AreWays body.now ways.now.starts.items
-        (map (λ list. list.items) ways.now.definitions.items) }
-    requires listed { AreListed (length body.now.variables) (DropsAt body.now)
-        (length body.now.points) (map (λ list. list.items) lists.now) }
-    ensures { OnOk result (Gains (λ r p. (x : ℕ) × AsksForDrop body.now x r p)
+    requires ways { AreOfBody ways.now }
+    requires listed { AreListed (length ways.now.body.now.variables) (DropsAt ways.now.body.now)
+        (length ways.now.body.now.points) (map (λ list. list.items) lists.now) }
+    ensures { OnOk result (Gains (λ r p. (x : ℕ) × AsksForDrop ways.now.body.now x r p)
         base_runs.old.items base_runs.new.items) }
 {
-    let mut room = Room::of(alloc, body.points())?;
-    for variable in 0..body.variables() {
+    let mut room = Room::of(alloc, ways.body.points())?;
+    for variable in 0..ways.body.variables() {
         let list = lists[variable].as_slice();
-        let regions = body.var_drop_regions(alloc, variable as u32)?;
-        push_found(
-            alloc,
-            body,
-            previous,
-            ways,
-            variable as u32,
-            list,
-            regions.as_slice(),
-            &mut room,
-            base_runs,
-        )?;
+        let regions = ways.body.var_drop_regions(alloc, variable as u32)?;
+        let asking = Asking {
+            variable: variable as u32,
+            points: list,
+            regions: regions.as_slice(),
+        };
+        push_found(alloc, ways, &asking, &mut room, base_runs)?;
     }
     Ok(())
 }
@@ -223,36 +189,33 @@ fn push_each_drop(
 // is reachable. The room's marks are of earlier variables.
 fn push_found(
     alloc: Global,
-    body: &Body,
-    previous: &Predecessors<'_>,
-    ways: &Ways,
-    variable: u32,
-    list: &[u32],
-    regions: &[RegionId],
+    ways: &Ways<'_>,
+    asking: &Asking<'_>,
     room: &mut Room,
     base_runs: &mut Vec<BaseRun>,
 ) -> Result<(), Memory>
-    requires shown { IsGraphOf body.now previous.now }
-    requires ways { AreWays body.now ways.now.starts.items
-        (map (λ list. list.items) ways.now.definitions.items) }
-    requires variable { variable < length body.now.variables }
-    requires points { (p : ℕ) → Contains list.now p → p < length body.now.points }
-    requires few { length body.now.points < 2 ^ 32 }
-    requires width { length room.old.marks.items ≡ length body.now.points }
-    requires tall { length room.old.heights.items ≡ length body.now.points }
-    requires fresh { (p : ℕ) → slice_index room.old.marks.items p ≤ variable }
+    requires ways { AreOfBody ways.now }
+    requires variable { asking.now.variable < length ways.now.body.now.variables }
+    requires points { (p : ℕ) → Contains asking.now.points.now p
+        → p < length ways.now.body.now.points }
+    requires few { length ways.now.body.now.points < 2 ^ 32 }
+    requires width { length room.old.marks.items ≡ length ways.now.body.now.points }
+    requires tall { length room.old.heights.items ≡ length ways.now.body.now.points }
+    requires fresh { (p : ℕ) → slice_index room.old.marks.items p ≤ asking.now.variable }
     ensures gains { OnOk result
-        (Gains (λ r p. Contains regions.now r × IsLive body.now (Contains list.now) variable p)
+        (Gains (λ r p. Contains asking.now.regions.now r
+        × IsLive ways.now.body.now (Contains asking.now.points.now) asking.now.variable p)
         base_runs.old.items base_runs.new.items) }
-    ensures width { OnOk result (length room.new.marks.items ≡ length body.now.points) }
-    ensures tall { OnOk result (length room.new.heights.items ≡ length body.now.points) }
-    ensures fresh { OnOk result ((p : ℕ) → slice_index room.new.marks.items p ≤ variable + 1) }
+    ensures width { OnOk result (length room.new.marks.items ≡ length ways.now.body.now.points) }
+    ensures tall { OnOk result (length room.new.heights.items ≡ length ways.now.body.now.points) }
+    ensures fresh { OnOk result ((p : ℕ)
+        → slice_index room.new.marks.items p ≤ asking.now.variable + 1) }
 {
     // Most variables of most bodies have types without regions.
-    if regions.is_empty() {
+    if asking.regions.is_empty() {
         return Ok(());
     }
-    let set = find_set(alloc, body, previous, ways, variable, list, room)?;
-    push_all(base_runs, regions, set.as_runs())?;
+    let set = find_set(alloc, ways, asking.variable, asking.points, room)?;
+    push_all(base_runs, asking.regions, set.as_runs())?;
     Ok(())
 }

@@ -8,13 +8,13 @@ ghost use Rattle.nll_sets.specs.ElementSet.{flag};
 ghost use Rattle.nll_live.specs.Gathering.{IsListed};
 ghost use Rattle.nll_live.specs.Live.{IsLive, IsUseLive, IsDropLive};
 ghost use Rattle.nll_live.specs.LiveSets.{AreLiveSets, AreSetsOf};
-ghost use Rattle.nll_live.specs.Lows.{AreWays};
 ghost use Rattle.nll_live.specs.Marks.{IsCovered};
+ghost use Rattle.nll_live.specs.Searches.{AreOfBody};
 
 use crate::live_sets::LiveSets;
 use crate::points_by_variable::{drops_by_variable, uses_by_variable};
-use crate::search::{Room, search_back};
-use crate::ways::{Ways, ways_of};
+use crate::search::{Room, Search, search_back};
+use crate::ways::Ways;
 use nll_body::Body;
 use nll_problem::Predecessors;
 use nll_sets::{ElementSet, Memory, Run, RunSet};
@@ -47,27 +47,20 @@ fn sets_over(alloc: Global, body: &Body, previous: &Predecessors<'_>) -> Result<
     requires { IsGraphOf body.now previous.now }
     ensures { IfOk result (AreLiveSets body.now) }
 {
-    let ways = ways_of(alloc, body, previous)?;
-    let sets = both_sets(alloc, body, previous, &ways);
+    let ways = Ways::of(alloc, body, previous)?;
+    let sets = both_sets(alloc, &ways);
     // Early drop.
     drop(ways);
     sets
 }
 
 // Ladder: like `liveness`, given what searches in the body go by.
-fn both_sets(
-    alloc: Global,
-    body: &Body,
-    previous: &Predecessors<'_>,
-    ways: &Ways,
-) -> Result<LiveSets, Memory>
-    requires shown { IsGraphOf body.now previous.now }
-    requires ways { AreWays body.now ways.now.starts.items
-        (map (λ list. list.items) ways.now.definitions.items) }
-    ensures { IfOk result (AreLiveSets body.now) }
+fn both_sets(alloc: Global, ways: &Ways<'_>) -> Result<LiveSets, Memory>
+    requires ways { AreOfBody ways.now }
+    ensures { IfOk result (AreLiveSets ways.now.body.now) }
 {
-    let uses = use_live_sets(alloc, body, previous, ways)?;
-    match drop_live_sets(alloc, body, previous, ways) {
+    let uses = use_live_sets(alloc, ways)?;
+    match drop_live_sets(alloc, ways) {
         Ok(drops) => Ok(LiveSets::of(uses, drops)),
         Err(memory) => {
             drop(uses);
@@ -77,63 +70,44 @@ fn both_sets(
 }
 
 // For each variable the points where it is use-live.
-fn use_live_sets(
-    alloc: Global,
-    body: &Body,
-    previous: &Predecessors<'_>,
-    ways: &Ways,
-) -> Result<Vec<RunSet>, Memory>
-    requires shown { IsGraphOf body.now previous.now }
-    requires ways { AreWays body.now ways.now.starts.items
-        (map (λ list. list.items) ways.now.definitions.items) }
-    ensures { IfOk result (λ sets. AreSetsOf body.now (IsUseLive body.now) sets.items) }
+fn use_live_sets(alloc: Global, ways: &Ways<'_>) -> Result<Vec<RunSet>, Memory>
+    requires ways { AreOfBody ways.now }
+    ensures { IfOk result (λ sets.
+        AreSetsOf ways.now.body.now (IsUseLive ways.now.body.now) sets.items) }
 {
-    let lists = uses_by_variable(alloc, body)?;
-    let sets = live_sets(alloc, body, previous, ways, lists.as_slice());
+    let lists = uses_by_variable(alloc, ways.body)?;
+    let sets = live_sets(alloc, ways, lists.as_slice());
     // Early drop.
     drop(lists);
     sets
 }
 
 // For each variable the points where it is drop-live.
-fn drop_live_sets(
-    alloc: Global,
-    body: &Body,
-    previous: &Predecessors<'_>,
-    ways: &Ways,
-) -> Result<Vec<RunSet>, Memory>
-    requires shown { IsGraphOf body.now previous.now }
-    requires ways { AreWays body.now ways.now.starts.items
-        (map (λ list. list.items) ways.now.definitions.items) }
-    ensures { IfOk result (λ sets. AreSetsOf body.now (IsDropLive body.now) sets.items) }
+fn drop_live_sets(alloc: Global, ways: &Ways<'_>) -> Result<Vec<RunSet>, Memory>
+    requires ways { AreOfBody ways.now }
+    ensures { IfOk result (λ sets.
+        AreSetsOf ways.now.body.now (IsDropLive ways.now.body.now) sets.items) }
 {
-    let lists = drops_by_variable(alloc, body)?;
-    let sets = live_sets(alloc, body, previous, ways, lists.as_slice());
+    let lists = drops_by_variable(alloc, ways.body)?;
+    let sets = live_sets(alloc, ways, lists.as_slice());
     // Early drop.
     drop(lists);
     sets
 }
 
 // For each variable the points from which one of its list is reachable.
-fn live_sets(
-    alloc: Global,
-    body: &Body,
-    previous: &Predecessors<'_>,
-    ways: &Ways,
-    lists: &[Vec<u32>],
-) -> Result<Vec<RunSet>, Memory>
-    requires shown { IsGraphOf body.now previous.now }
-    requires ways { AreWays body.now ways.now.starts.items
-        (map (λ list. list.items) ways.now.definitions.items) }
-    requires counted { length lists.now ≡ length body.now.variables }
+fn live_sets(alloc: Global, ways: &Ways<'_>, lists: &[Vec<u32>]) -> Result<Vec<RunSet>, Memory>
+    requires ways { AreOfBody ways.now }
+    requires counted { length lists.now ≡ length ways.now.body.now.variables }
     requires points { (x p : ℕ) → IsListed (map (λ list. list.items) lists.now) x p
-        → p < length body.now.points }
-    ensures { IfOk result (λ sets. AreSetsOf body.now
-        (λ x. IsLive body.now (IsListed (map (λ list. list.items) lists.now) x) x) sets.items) }
+        → p < length ways.now.body.now.points }
+    ensures { IfOk result (λ sets. AreSetsOf ways.now.body.now
+        (λ x. IsLive ways.now.body.now (IsListed (map (λ list. list.items) lists.now) x) x)
+        sets.items) }
 {
-    let mut room = Room::of(alloc, body.points())?;
+    let mut room = Room::of(alloc, ways.body.points())?;
     let mut sets = Vec::new(alloc);
-    let told = find_sets(alloc, body, previous, ways, lists, &mut room, &mut sets);
+    let told = find_sets(alloc, ways, lists, &mut room, &mut sets);
     // Early drop.
     drop(room);
     match told {
@@ -148,29 +122,26 @@ fn live_sets(
 // Writes the sets into an empty list. The room's marks are of no turn.
 fn find_sets(
     alloc: Global,
-    body: &Body,
-    previous: &Predecessors<'_>,
-    ways: &Ways,
+    ways: &Ways<'_>,
     lists: &[Vec<u32>],
     room: &mut Room,
     sets: &mut Vec<RunSet>,
 ) -> Result<(), Memory>
-    requires shown { IsGraphOf body.now previous.now }
-    requires ways { AreWays body.now ways.now.starts.items
-        (map (λ list. list.items) ways.now.definitions.items) }
-    requires counted { length lists.now ≡ length body.now.variables }
+    requires ways { AreOfBody ways.now }
+    requires counted { length lists.now ≡ length ways.now.body.now.variables }
     requires points { (x p : ℕ) → IsListed (map (λ list. list.items) lists.now) x p
-        → p < length body.now.points }
-    requires width { length room.old.marks.items ≡ length body.now.points }
-    requires tall { length room.old.heights.items ≡ length body.now.points }
+        → p < length ways.now.body.now.points }
+    requires width { length room.old.marks.items ≡ length ways.now.body.now.points }
+    requires tall { length room.old.heights.items ≡ length ways.now.body.now.points }
     requires fresh { (p : ℕ) → slice_index room.old.marks.items p ≤ 0 }
     requires nothing { sets.old.items ≡ [] }
-    ensures { OnOk result (AreSetsOf body.now
-        (λ x. IsLive body.now (IsListed (map (λ list. list.items) lists.now) x) x) sets.new.items) }
+    ensures { OnOk result (AreSetsOf ways.now.body.now
+        (λ x. IsLive ways.now.body.now (IsListed (map (λ list. list.items) lists.now) x) x)
+        sets.new.items) }
 {
-    for variable in 0..body.variables() {
+    for variable in 0..ways.body.variables() {
         let list = lists[variable].as_slice();
-        let set = find_set(alloc, body, previous, ways, variable as u32, list, room)?;
+        let set = find_set(alloc, ways, variable as u32, list, room)?;
         sets.push(set)?;
     }
     Ok(())
@@ -180,42 +151,36 @@ fn find_sets(
 /// earlier variables.
 pub(crate) fn find_set(
     alloc: Global,
-    body: &Body,
-    previous: &Predecessors<'_>,
-    ways: &Ways,
+    ways: &Ways<'_>,
     variable: u32,
     list: &[u32],
     room: &mut Room,
 ) -> Result<RunSet, Memory>
-    requires shown { IsGraphOf body.now previous.now }
-    requires ways { AreWays body.now ways.now.starts.items
-        (map (λ list. list.items) ways.now.definitions.items) }
-    requires variable { variable < length body.now.variables }
-    requires points { (p : ℕ) → Contains list.now p → p < length body.now.points }
-    requires width { length room.old.marks.items ≡ length body.now.points }
-    requires tall { length room.old.heights.items ≡ length body.now.points }
+    requires ways { AreOfBody ways.now }
+    requires variable { variable < length ways.now.body.now.variables }
+    requires points { (p : ℕ) → Contains list.now p → p < length ways.now.body.now.points }
+    requires width { length room.old.marks.items ≡ length ways.now.body.now.points }
+    requires tall { length room.old.heights.items ≡ length ways.now.body.now.points }
     requires fresh { (p : ℕ) → slice_index room.old.marks.items p ≤ variable }
-    ensures width { OnOk result (length room.new.marks.items ≡ length body.now.points) }
-    ensures tall { OnOk result (length room.new.heights.items ≡ length body.now.points) }
+    ensures width { OnOk result (length room.new.marks.items ≡ length ways.now.body.now.points) }
+    ensures tall { OnOk result (length room.new.heights.items ≡ length ways.now.body.now.points) }
     ensures fresh { OnOk result ((p : ℕ) → slice_index room.new.marks.items p ≤ variable + 1) }
-    ensures set_width { IfOk result (λ set. length set ≡ length body.now.points) }
+    ensures set_width { IfOk result (λ set. length set ≡ length ways.now.body.now.points) }
     ensures each { IfOk result (λ set. (p : ℕ)
-        → (flag set p ≡ true) ↔ IsLive body.now (Contains list.now) variable p) }
+        → (flag set p ≡ true) ↔ IsLive ways.now.body.now (Contains list.now) variable p) }
 {
-    let points = body.points();
+    let points = ways.body.points();
     let starts = ways.starts.as_slice();
     let definitions = ways.definitions[variable as usize].as_slice();
-    room.lows.clear();
-    search_back(
-        room,
-        variable + 1,
-        body,
-        previous,
+    let search = Search {
+        body: ways.body,
+        previous: ways.previous,
         starts,
         definitions,
         variable,
-        list,
-    )?;
+    };
+    room.lows.clear();
+    search_back(room, variable + 1, &search, list)?;
     set_found(alloc, points, room)
 }
 

@@ -7,12 +7,10 @@
 
 ghost use Rattle.std.specs.Prelude.{◌≡◌, ◌≢◌, ◌↔◌, ◌<◌, ◌≤◌, ℕ, [], length, slice_index, AllPairs};
 ghost use Rattle.std.specs.Prelude.{Contains, IfOk, IsTrue, OnOk, max, replicate, slice_set};
-ghost use Rattle.nll_live.specs.Chains.{AreStarts};
 ghost use Rattle.nll_live.specs.Live.{DefinesAt, GoesOnUndefined, IsLive};
-ghost use Rattle.nll_live.specs.Lows.{AreDefinitions, IsLow};
+ghost use Rattle.nll_live.specs.Searches.{IsLowIn, IsSearch};
 ghost use Rattle.nll_live.specs.Marks.{IsCovered, IsMarked};
 ghost use Rattle.nll_live.specs.Rooms.{GetsReached, HasFound, HasReached};
-ghost use Rattle.nll_body.specs.Bodies.{GoesOn, IsGraphOf};
 
 use crate::lows::low_of;
 use nll_body::Body;
@@ -27,6 +25,17 @@ pub(crate) struct Room {
     pub(crate) marks: Vec<u32>,
     pub(crate) heights: Vec<u32>,
     pub(crate) lows: Vec<u32>,
+}
+
+/// What a search for a variable goes by: the body and the predecessors of its points, for each
+/// point the first one of its chain, and the points that define the variable, ascending.
+#[derive(Drop)]
+pub(crate) struct Search<'b> {
+    pub(crate) body: &'b Body,
+    pub(crate) previous: &'b Predecessors<'b>,
+    pub(crate) starts: &'b [u32],
+    pub(crate) definitions: &'b [u32],
+    pub(crate) variable: u32,
 }
 
 impl Room {
@@ -55,106 +64,73 @@ impl Room {
 pub(crate) fn search_back(
     room: &mut Room,
     turn: u32,
-    body: &Body,
-    previous: &Predecessors<'_>,
-    starts: &[u32],
-    definitions: &[u32],
-    variable: u32,
+    search: &Search<'_>,
     ends: &[u32],
 ) -> Result<(), Memory>
-    requires shown { IsGraphOf body.now previous.now }
-    requires starts { AreStarts (GoesOn body.now) (length body.now.points) starts.now }
-    requires definitions { AreDefinitions body.now variable definitions.now }
-    requires width { length room.old.marks.items ≡ length body.now.points }
-    requires tall { length room.old.heights.items ≡ length body.now.points }
+    requires search { IsSearch search.now }
+    requires width { length room.old.marks.items ≡ length search.now.body.now.points }
+    requires tall { length room.old.heights.items ≡ length search.now.body.now.points }
     requires fresh { (p : ℕ) → slice_index room.old.marks.items p < turn }
     requires nothing { room.old.lows.items ≡ [] }
     requires ends { (k : ℕ) → k < length ends.now
-        → slice_index ends.now k < length body.now.points }
-    ensures width { OnOk result (length room.new.marks.items ≡ length body.now.points) }
-    ensures tall { OnOk result (length room.new.heights.items ≡ length body.now.points) }
+        → slice_index ends.now k < length search.now.body.now.points }
+    ensures width { OnOk result (length room.new.marks.items ≡ length search.now.body.now.points) }
+    ensures tall { OnOk result (length room.new.heights.items ≡ length search.now.body.now.points) }
     ensures fresh { OnOk result ((p : ℕ) → slice_index room.new.marks.items p ≤ turn) }
     ensures proper { OnOk result ((low : ℕ) → Contains room.new.lows.items low
         → low ≤ slice_index room.new.heights.items low) }
     ensures each { OnOk result ((p : ℕ) → IsCovered room.new.heights.items room.new.lows.items p
-        ↔ IsLive body.now (Contains ends.now) variable p) }
+        ↔ IsLive search.now.body.now (Contains ends.now) search.now.variable p) }
 {
     for point in ends {
-        visit(room, turn, starts, definitions, *point)?;
+        visit(room, turn, search, *point)?;
     }
     let mut place = 0;
     while place < room.lows.len() {
         let low = room.lows[place];
         place += 1;
-        visit_previous(
-            room,
-            turn,
-            body,
-            previous,
-            starts,
-            definitions,
-            variable,
-            low,
-        )?;
+        visit_previous(room, turn, search, low)?;
     }
     Ok(())
 }
 
 // Visits the points that go on to a point and don't define the variable.
-fn visit_previous(
-    room: &mut Room,
-    turn: u32,
-    body: &Body,
-    previous: &Predecessors<'_>,
-    starts: &[u32],
-    definitions: &[u32],
-    variable: u32,
-    point: u32,
-) -> Result<(), Memory>
-    requires shown { IsGraphOf body.now previous.now }
-    requires starts { AreStarts (GoesOn body.now) (length body.now.points) starts.now }
-    requires definitions { AllPairs ◌<◌ definitions.now }
+fn visit_previous(room: &mut Room, turn: u32, search: &Search<'_>, point: u32) -> Result<(), Memory>
+    requires search { IsSearch search.now }
     requires some { 0 < turn }
     requires found { HasFound room.old turn }
-    requires width { length room.old.marks.items ≡ length body.now.points }
-    requires point { point < length body.now.points }
-    ensures reaches { OnOk result (GetsReached (λ low p. GoesOnUndefined body.now variable p point
-        × IsLow (slice_index starts.now p) definitions.now p low) turn room.old room.new) }
+    requires width { length room.old.marks.items ≡ length search.now.body.now.points }
+    requires point { point < length search.now.body.now.points }
+    ensures reaches { OnOk result (GetsReached
+        (λ low p. GoesOnUndefined search.now.body.now search.now.variable p point
+        × IsLowIn search.now p low) turn room.old room.new) }
     ensures found { OnOk result (HasFound room.new turn) }
-    ensures all { OnOk result ((p : ℕ) → GoesOnUndefined body.now variable p point
+    ensures all { OnOk result ((p : ℕ)
+        → GoesOnUndefined search.now.body.now search.now.variable p point
         → HasReached room.new turn p) }
 {
-    let points = previous.previous_of(point);
-    visit_all(room, turn, body, starts, definitions, variable, points)?;
+    let points = search.previous.previous_of(point);
+    visit_all(room, turn, search, points)?;
     Ok(())
 }
 
 // Visits each of the points that doesn't define the variable.
-fn visit_all(
-    room: &mut Room,
-    turn: u32,
-    body: &Body,
-    starts: &[u32],
-    definitions: &[u32],
-    variable: u32,
-    points: &[u32],
-) -> Result<(), Memory>
-    requires starts { AreStarts (GoesOn body.now) (length body.now.points) starts.now }
-    requires definitions { AllPairs ◌<◌ definitions.now }
+fn visit_all(room: &mut Room, turn: u32, search: &Search<'_>, points: &[u32]) -> Result<(), Memory>
+    requires search { IsSearch search.now }
     requires some { 0 < turn }
     requires found { HasFound room.old turn }
-    requires width { length room.old.marks.items ≡ length body.now.points }
+    requires width { length room.old.marks.items ≡ length search.now.body.now.points }
     requires points { (k : ℕ) → k < length points.now
-        → slice_index points.now k < length body.now.points }
+        → slice_index points.now k < length search.now.body.now.points }
     ensures reaches { OnOk result (GetsReached (λ low p. Contains points.now p
-        × (DefinesAt body.now variable p → ⊥)
-        × IsLow (slice_index starts.now p) definitions.now p low) turn room.old room.new) }
+        × (DefinesAt search.now.body.now search.now.variable p → ⊥)
+        × IsLowIn search.now p low) turn room.old room.new) }
     ensures found { OnOk result (HasFound room.new turn) }
     ensures all { OnOk result ((p : ℕ) → Contains points.now p
-        → (DefinesAt body.now variable p → ⊥) → HasReached room.new turn p) }
+        → (DefinesAt search.now.body.now search.now.variable p → ⊥) → HasReached room.new turn p) }
 {
     for point in points {
-        visit_undefined(room, turn, body, starts, definitions, variable, *point)?;
+        visit_undefined(room, turn, search, *point)?;
     }
     Ok(())
 }
@@ -163,27 +139,23 @@ fn visit_all(
 fn visit_undefined(
     room: &mut Room,
     turn: u32,
-    body: &Body,
-    starts: &[u32],
-    definitions: &[u32],
-    variable: u32,
+    search: &Search<'_>,
     point: u32,
 ) -> Result<(), Memory>
-    requires starts { AreStarts (GoesOn body.now) (length body.now.points) starts.now }
-    requires definitions { AllPairs ◌<◌ definitions.now }
+    requires search { IsSearch search.now }
     requires some { 0 < turn }
     requires found { HasFound room.old turn }
-    requires width { length room.old.marks.items ≡ length body.now.points }
-    requires point { point < length body.now.points }
+    requires width { length room.old.marks.items ≡ length search.now.body.now.points }
+    requires point { point < length search.now.body.now.points }
     ensures reaches { OnOk result (GetsReached (λ low p. (p ≡ point)
-        × (DefinesAt body.now variable p → ⊥)
-        × IsLow (slice_index starts.now p) definitions.now p low) turn room.old room.new) }
+        × (DefinesAt search.now.body.now search.now.variable p → ⊥)
+        × IsLowIn search.now p low) turn room.old room.new) }
     ensures found { OnOk result (HasFound room.new turn) }
-    ensures all { OnOk result ((DefinesAt body.now variable point → ⊥)
+    ensures all { OnOk result ((DefinesAt search.now.body.now search.now.variable point → ⊥)
         → HasReached room.new turn point) }
 {
-    if !defines(body, variable, point) {
-        visit(room, turn, starts, definitions, point)?;
+    if !defines(search.body, search.variable, point) {
+        visit(room, turn, search, point)?;
     }
     Ok(())
 }
@@ -200,25 +172,18 @@ fn defines(body: &Body, variable: u32, point: u32) -> bool
 }
 
 // Comes to a point, and from it by itself to a lower one.
-fn visit(
-    room: &mut Room,
-    turn: u32,
-    starts: &[u32],
-    definitions: &[u32],
-    point: u32,
-) -> Result<(), Memory>
-    requires start { slice_index starts.now point ≤ point }
-    requires definitions { AllPairs ◌<◌ definitions.now }
+fn visit(room: &mut Room, turn: u32, search: &Search<'_>, point: u32) -> Result<(), Memory>
+    requires search { IsSearch search.now }
     requires some { 0 < turn }
     requires found { HasFound room.old turn }
-    requires counted { length starts.now ≡ length room.old.marks.items }
-    requires point { point < length room.old.marks.items }
+    requires width { length room.old.marks.items ≡ length search.now.body.now.points }
+    requires point { point < length search.now.body.now.points }
     ensures reaches { OnOk result (GetsReached (λ low p. (p ≡ point)
-        × IsLow (slice_index starts.now p) definitions.now p low) turn room.old room.new) }
+        × IsLowIn search.now p low) turn room.old room.new) }
     ensures found { OnOk result (HasFound room.new turn) }
     ensures all { OnOk result (HasReached room.new turn point) }
 {
-    let low = low_of(starts[point as usize], definitions, point);
+    let low = low_of(search.starts[point as usize], search.definitions, point);
     if room.marks[low as usize] == turn {
         raise(&mut room.heights, low, point);
         Ok(())

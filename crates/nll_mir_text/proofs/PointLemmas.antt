@@ -25,7 +25,7 @@ use Rattle.nll_statements.specs.Edges.{edges_from, edge_count}
 use Rattle.nll_statements.proofs.MapLemmas.{same_terminator, same_targets, same_edges, same_variables}
 use Rattle.nll_resolve.specs.Naming.{Scope, is_among, is_known, has_arguments, meant}
 use Rattle.nll_resolve.specs.Resolution.{Resolved, tree_of}
-use Rattle.nll_type_check.specs.Typing.{types_agree, types_are_small}
+use Rattle.nll_statements.specs.Typing.{types_agree, types_are_small}
 use Rattle.nll_mir_grammar.specs.MirForms.{at_point}
 use Rattle.nll_mir_text.specs.declared.tables.Regions.{Regions}
 use Rattle.nll_mir_text.specs.declared.tables.StructNames.{StructNames}

@@ -10,7 +10,7 @@ use Rattle.nll_types.specs.Views.{tree}
 use Rattle.nll_types.specs.declared.node.Node.{Node}
 use Rattle.nll_types.specs.declared.ty.Ty.{Ty}
 use Rattle.nll_types.proofs.ShapeLemmas.{same_nodes}
-use Rattle.nll_type_check.specs.Typing.{are_small}
+use Rattle.nll_statements.specs.Typing.{are_small}
 use Rattle.nll_mir_text.specs.MirReading.{AreShapes}
 
 -- the smallness of a type is that of its shape

@@ -27,7 +27,7 @@ use Rattle.nll_mir_text.specs.MirSaid.{Said, said, scope_inside}
 use Rattle.nll_mir_text.specs.StructLines.{is_region}
 use Rattle.nll_mir_text.specs.MirSteps.{says, nothing_said, declared, statement_meant}
 use Rattle.nll_mir_text.specs.MirFaults.{is_universal, first_fault, has_targets, shapes_fit, knows, are_declared, is_in_body}
-use Rattle.nll_type_check.specs.Typing.{types_agree}
+use Rattle.nll_statements.specs.Typing.{types_agree}
 use Rattle.nll_mir_text.specs.MirReading.{AreKinds}
 use Rattle.nll_mir_grammar.specs.declared.version.Version.{Version}
 use Rattle.nll_mir_text.specs.MirText.{mir, body_said}

@@ -8,7 +8,7 @@ use Rattle.std.proofs.Math.Seq.{take-length}
 use Rattle.nll_problem.specs.Limits.{most_structs}
 use Rattle.nll_format.specs.declared.error.TextKind.TheVariants.{Unknown, Duplicate, Shape, TypeSize, Limit}
 use Rattle.nll_problem.specs.declared.error.Kind.TheVariants.{Structs}
-use Rattle.nll_type_check.specs.Typing.{are_small}
+use Rattle.nll_statements.specs.Typing.{are_small}
 use Rattle.nll_types.specs.Structs.{Struct, no_struct, HasGoodFields, AreWellFormed, AreInOrder}
 use Rattle.nll_mir_grammar.specs.WrittenTypes.{Name, WrittenTypes}
 use Rattle.nll_mir_grammar.specs.MirForms.{WrittenParameter, region_parameter, type_parameter, struct_line}

@@ -18,7 +18,7 @@ use Rattle.nll_statements.specs.Statements.{Statement, types_written}
 use Rattle.nll_statements.specs.Effects.{targets}
 use Rattle.nll_statements.specs.Written.{regions_written, variables_written}
 use Rattle.nll_statements.specs.Edges.{edges_from, edge_count}
-use Rattle.nll_type_check.specs.Typing.{types_agree, types_are_small, are_small}
+use Rattle.nll_statements.specs.Typing.{types_agree, types_are_small, are_small}
 use Rattle.nll_mir_grammar.specs.MirForms.{WrittenParameter}
 use Rattle.nll_mir_grammar.specs.MirForms.{Form, universal, outlives, further, assert_line}
 use Rattle.nll_mir_grammar.specs.MirForms.{struct_line, variable, blocks, block, at_point, end}

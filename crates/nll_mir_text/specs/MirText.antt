@@ -7,7 +7,7 @@ use Rattle.nll_format.specs.declared.error.TextKind.{TextKind}
 use Rattle.nll_types.specs.Types.{TypeTree}
 use Rattle.nll_types.specs.Shapes.{is_small}
 use Rattle.nll_statements.specs.Statements.{Statement}
-use Rattle.nll_type_check.specs.Typing.{types_agree, types_are_small, are_small}
+use Rattle.nll_statements.specs.Typing.{types_agree, types_are_small, are_small}
 use Rattle.nll_mir_grammar.specs.MirForms.{Form, end}
 use Rattle.nll_mir_grammar.specs.Versions.{HasFormIn, version_codes}
 use Rattle.nll_mir_grammar.specs.declared.version.Version.{Version}

@@ -25,7 +25,7 @@ use Rattle.nll_statements.specs.declared.edges.Exits.{Exits}
 use Rattle.nll_statements.specs.declared.statement.Statement.{Statement as Kept}
 use Rattle.nll_resolve.specs.Naming.{Scope, is_among, is_known, has_arguments, meant}
 use Rattle.nll_resolve.specs.Resolution.{Resolved, tree_of}
-use Rattle.nll_type_check.specs.Typing.{types_are_small}
+use Rattle.nll_statements.specs.Typing.{types_are_small}
 use Rattle.nll_mir_text.specs.declared.tables.Regions.{Regions}
 use Rattle.nll_mir_text.specs.declared.tables.StructNames.{StructNames}
 use Rattle.nll_mir_text.specs.declared.tables.Variables.{Variables}

@@ -10,7 +10,7 @@ use Rattle.nll_mir_grammar.specs.declared.line.ParameterText.{ParameterText}
 use Rattle.nll_mir_grammar.specs.declared.line.ParameterText.TheVariants as parameters
 use Rattle.nll_resolve.specs.Naming.{Scope, is_among, all_meant}
 use Rattle.nll_resolve.specs.ToldTypes.{are_known, have_arguments}
-use Rattle.nll_type_check.specs.Typing.{are_small}
+use Rattle.nll_statements.specs.Typing.{are_small}
 use Rattle.nll_mir_text.specs.MirSaid.{region_in, type_in}
 use Rattle.nll_mir_text.specs.MirFaults.{has_repeats}
 use Rattle.nll_mir_text.specs.declared.tables.StructNames.{StructNames}

@@ -15,7 +15,7 @@ ghost use Rattle.nll_mir_grammar.specs.Tuples.{IsTuple, parts};
 ghost use Rattle.nll_resolve.specs.Naming.{Scope as naming_scope, is_known};
 ghost use Rattle.nll_resolve.specs.Resolution.{IsResolved, tree_of};
 ghost use Rattle.nll_mir_text.specs.StructLines.{regions_in, types_in};
-ghost use Rattle.nll_type_check.specs.Typing as typing;
+ghost use Rattle.nll_statements.specs.Typing as typing;
 ghost use Rattle.nll_mir_text.specs.StructLines.{AreJudged, own_scope, region_marks, type_marks};
 
 use crate::own_names::OwnNames;

@@ -16,8 +16,7 @@ use crate::tables::{Points, Variables};
 use nll_problem::RegionId;
 use nll_resolve::ResolvedType;
 use nll_sets::Memory;
-use nll_statements::{Exits, Statement};
-use nll_type_check::judge_statement;
+use nll_statements::{Exits, Statement, judge_statement};
 use nll_types::Judgement;
 use std::alloc::Global;
 

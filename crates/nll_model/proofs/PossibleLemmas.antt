@@ -5,7 +5,7 @@ use Rattle.std.proofs.lemmas.Bool.{false≢true}
 use Rattle.std.proofs.lemmas.Option.{slice_get_within}
 use Rattle.nll_problem.specs.Problem.{Problem}
 use Rattle.nll_cut.specs.Partition.{Cut}
-use Rattle.nll_event.specs.declared.event.Event.TheVariants.{Take, Push}
+use Rattle.nll_model.specs.declared.event.Event.TheVariants.{Take, Push}
 use Rattle.nll_model.specs.State.{Seat, State, IsAt, lane_to}
 use Rattle.nll_model.specs.Events.{IsFree, IsPossible}
 use Rattle.nll_model.specs.Soundness.{IsSoundState}

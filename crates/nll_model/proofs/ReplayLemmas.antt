@@ -8,7 +8,7 @@ use Rattle.nll_problem.specs.Problem.{Problem}
 use Rattle.nll_cut.specs.Partition.{Cut}
 use Rattle.nll_owner.specs.Owner.{Owner, first_owner}
 use Rattle.nll_owner.specs.declared.error.OwnerError.{OwnerError}
-use Rattle.nll_event.specs.declared.event.Event.{Event}
+use Rattle.nll_model.specs.declared.event.Event.{Event}
 use Rattle.nll_model.specs.declared.outcome.Step.{Step}
 use Rattle.nll_model.specs.declared.seat.Item.TheVariants.{Nothing}
 use Rattle.nll_model.specs.State.{Seat, State, empty_lane, first_seat}

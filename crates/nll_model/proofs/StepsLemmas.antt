@@ -10,8 +10,8 @@ use Rattle.nll_cut.specs.Partition.{Cut}
 use Rattle.nll_owner.specs.Logs.{IsCutOf}
 use Rattle.nll_owner.specs.Owner.{received_from, part_for}
 use Rattle.nll_owner.proofs.OwnerLemmas.{first_sound}
-use Rattle.nll_event.specs.declared.event.Event.{Event}
-use Rattle.nll_event.specs.declared.event.Event.TheVariants.{Load, Take, Owe, Clear, Push, Leave}
+use Rattle.nll_model.specs.declared.event.Event.{Event}
+use Rattle.nll_model.specs.declared.event.Event.TheVariants.{Load, Take, Owe, Clear, Push, Leave}
 use Rattle.nll_model.specs.declared.outcome.Step.{Step}
 use Rattle.nll_model.specs.declared.outcome.Step.TheVariants.{Done, Quiet, Open}
 use Rattle.nll_model.specs.State.{Lane, empty_lane, Seat, State, lane_to, first_seat, IsFirst}

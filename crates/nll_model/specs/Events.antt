@@ -1,14 +1,14 @@
--- The events of a schedule: where each is possible, and what it does.
--- Source: project's choice. An event is one atomic step of the running solver: a push into a
--- mailbox, a pop out of one, an account of growths sent or received, or a look at the balance.
+-- The events of a schedule: when each is possible, and what it does. Source: project's choice. An
+-- event is one atomic step of the running solver: a push into a mailbox, a pop from one, counting
+-- growths as sent or received, or a look at the balance.
 use Rattle.std.specs.Prelude.{◌≡◌, ◌≢◌, ℕ, ◌+◌, ◌<◌, true, false, List, [], ◌∷◌, ◌++◌, length}
 use Rattle.std.specs.Prelude.{map, drop, slice_set, sum_by, Option, Some, None}
 use Rattle.nll_mail.specs.declared.growth.Growth.{Growth}
 use Rattle.nll_owner.specs.Logs.{IsPrefix}
 use Rattle.nll_owner.specs.Owner.{IsSound, IsDone, part_for, given_to, with_growth}
 use Rattle.nll_model.specs.State.{Lane, Seat, State, IsAt, lane_to, with_seat, with_lane}
-use Rattle.nll_event.specs.declared.event.Event.{Event}
-use Rattle.nll_event.specs.declared.event.Event.TheVariants.{Load, Take, Owe, Clear, Push, Leave}
+use Rattle.nll_model.specs.declared.event.Event.{Event}
+use Rattle.nll_model.specs.declared.event.Event.TheVariants.{Load, Take, Owe, Clear, Push, Leave}
 use Rattle.nll_model.specs.declared.outcome.Step.{Step}
 use Rattle.nll_model.specs.declared.outcome.Step.TheVariants.{Done, Quiet, Open}
 use Rattle.nll_model.specs.declared.seat.Item.TheVariants.{Nothing, Fresh, Owed}
@@ -23,10 +23,10 @@ IsFree s = (s.owner.loaded ≡ true) × (s.item ≡ Nothing) × (s.left ≡ fals
 abbrev pub HasSent : Seat → Type 0
 HasSent s = (j : ℕ) → (lane_to s j).out ≡ []
 
--- An event is possible: a load where the owner isn't loaded; a take where the owner is free and the
--- box from the other isn't empty; an owe where the owner has an item that isn't owed for; a clear
--- where it has one that is; a push where something that is owed for waits to be sent; a leave where
--- the owner is free and has sent all.
+-- An event is possible: a load if the owner isn't loaded; a take if the owner is free and the box
+-- from the other isn't empty; an owe if the owner has an item that isn't owed for; a clear if it
+-- has one that is; a push if something that is owed for waits to be sent; a leave if the owner is
+-- free and has sent all.
 abbrev pub IsPossible : State → Event → Type 0
 IsPossible w (Load i) = (s : Seat) × IsAt w i s × (s.owner.loaded ≡ false)
 IsPossible w (Take i j) =
@@ -40,7 +40,7 @@ IsPossible w (Leave i) = (s : Seat) × IsAt w i s × IsFree s × HasSent s
 -- ---- what an event does
 
 -- An owner's turn: its log grew, in any well-formed and well-supported way, until nothing was left
--- to do; all that it has for the others and hadn't given out is fresh, and so is its item.
+-- to do; all that it has for the others and hadn't given them yet is fresh, and so is its item.
 pub record Turns (old new : Seat) : Type 0 where
   pub begins : IsPrefix old.owner.log new.owner.log
   pub problem : new.owner.problem ≡ old.owner.problem
@@ -73,20 +73,20 @@ owed_seat s = record s { item = Owed; lanes = map owed_lane s.lanes }
 abbrev pub fresh_count : Seat → ℕ
 fresh_count s = sum_by (λ (l : Lane). length l.fresh) s.lanes
 
--- What an event does where it is possible, and what it answers.
+-- What an event does where it is possible, and its answer.
 abbrev pub Does : State → Event → Step → State → Type 0
 -- the owner takes its first turn
 Does w (Load i) Done new =
     (s t : Seat) × IsAt w i s × (s.owner.loaded ≡ false)
     × Turns s t × (t.owner.received ≡ s.owner.received) × (new ≡ with_seat w i t)
--- the owner takes a turn by the first growth of the other's box, which is received
+-- the owner takes a turn by the first growth of the other's box, which it receives
 Does w (Take i j) Done new =
     (s t u : Seat) × (g : Growth) × (rest : List Growth) × (i ≢ j)
     × IsAt w i s × (s.owner.loaded ≡ true) × (s.item ≡ Nothing) × (s.left ≡ false)
     × IsAt w j u × ((lane_to u i).box ≡ g ∷ rest)
     × Turns s t × (t.owner.received ≡ with_growth s.owner.received j g)
     × (new ≡ with_seat (with_seat w i t) j (with_lane u i (record (lane_to u i) { box = rest })))
--- all that is fresh is owed for, and the balance grows by so much
+-- all that is fresh is owed for, and the balance grows by its number
 Does w (Owe i) Done new =
     (s : Seat) × IsAt w i s × (s.item ≡ Fresh)
     × (new ≡ record {
@@ -108,12 +108,12 @@ Does w (Push i j) Done new =
       out = rest;
       box = (lane_to s j).box ++ g ∷ [];
     })))
--- at the balance 0 the owner has left
+-- at a balance of 0 the owner has left
 Does w (Leave i) Quiet new =
     (s : Seat) × IsAt w i s × (w.balance ≡ 0)
     × (s.owner.loaded ≡ true) × (s.item ≡ Nothing) × (s.left ≡ false) × HasSent s
     × (new ≡ with_seat w i (record s { left = true }))
--- at any other it stays
+-- at any other balance it stays
 Does w (Leave i) Open new =
     (s : Seat) × IsAt w i s × (0 < w.balance)
     × (s.owner.loaded ≡ true) × (s.item ≡ Nothing) × (s.left ≡ false) × HasSent s
@@ -125,7 +125,7 @@ abbrev pub IsStep : State → Event → Option Step → State → Type 0
 IsStep w event (Some answer) new = Does w event answer new
 IsStep w event None new = (IsPossible w event → ⊥) × (new ≡ w)
 
--- Events in a row, each with its answer.
+-- A sequence of events, each with its answer.
 abbrev pub AreSteps : State → List Event → List (Option Step) → State → Type 0
 AreSteps w [] [] new = new ≡ w
 AreSteps w (event ∷ events) (answer ∷ answers) new =

@@ -7,7 +7,7 @@ use Rattle.nll_cut.specs.Partition.{Cut}
 use Rattle.nll_model.specs.State.{State, IsFirst}
 use Rattle.nll_model.specs.Events.{AreSteps}
 use Rattle.nll_model.specs.Soundness.{IsLawful, Says}
-use Rattle.nll_event.specs.declared.event.Event.{Event}
+use Rattle.nll_model.specs.declared.event.Event.{Event}
 use Rattle.nll_model.specs.declared.outcome.Step.{Step}
 
 -- The events lead from the first state to a last one by these answers; this is its balance, and the

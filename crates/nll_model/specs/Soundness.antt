@@ -1,6 +1,6 @@
--- What is true of a world at every moment: what its balance counts, and what its logs say.
--- Source: project's choice, after RFC 2094, "Solving constraints". That a balance of 0 shows that
--- nothing is under way is the argument of credits, or of counted messages (Mattern, "Algorithms for
+-- What is true of a world at every moment: what its balance counts, and what its logs say. Source:
+-- project's choice, after RFC 2094, "Solving constraints". That a balance of 0 shows that nothing
+-- is under way is the argument of credits, or of counted messages (Mattern, "Algorithms for
 -- distributed termination detection", 1987).
 use Rattle.std.specs.Prelude.{◌≡◌, ◌≢◌, ◌↔◌, ℕ, ◌+◌, ◌<◌, ◌^◌, Bool, true, false, []}
 use Rattle.std.specs.Prelude.{◌++◌, length, sum_by, Contains}
@@ -16,13 +16,13 @@ use Rattle.nll_model.specs.declared.seat.Item.TheVariants.{Nothing, Fresh}
 
 -- ---- what the balance counts
 
--- 1 for a load that isn't cleared, or for a received growth that is held; else 0
+-- 1 for a load that isn't cleared, or for a received growth that is being worked on; otherwise 0
 abbrev pub held : Bool → Item → ℕ
 held false item = 1
 held true Nothing = 0
 held true _ = 1
 
--- what is under way of a seat: what its owner holds, and the growths that are owed for and not yet
+-- what is under way at a seat: what its owner holds, and the growths that are owed for and not yet
 -- taken
 abbrev pub under_way : Seat → ℕ
 under_way s =
@@ -30,8 +30,8 @@ under_way s =
 
 -- ---- what is true at every moment
 
--- The seat of owner i: all that the owner has for the others was given out, and where it is loaded
--- nothing is left to do for it; only a fresh item has fresh growths.
+-- The seat of owner i: all that the owner has for the others was given to them, and if it is
+-- loaded, nothing is left to do for it; only a fresh item has fresh growths.
 pub record IsSoundSeat (q : Problem) (c : Cut) (i : ℕ) (s : Seat) : Type 0 where
   pub problem : s.owner.problem ≡ q
   pub cut : s.owner.cut ≡ c
@@ -42,12 +42,12 @@ pub record IsSoundSeat (q : Problem) (c : Cut) (i : ℕ) (s : Seat) : Type 0 whe
   pub given : (j : ℕ) → j < c.owners → given_to s.owner j ≡ length (part_for s.owner j)
   pub done : s.owner.loaded ≡ true → IsDone s.owner
   pub unloaded : s.owner.loaded ≡ false → s.item ≡ Nothing
-  -- it has nothing for itself
+  -- the owner has nothing for itself
   pub own : lane_to s i ≡ empty_lane
   pub fresh : s.item ≢ Fresh → (j : ℕ) → (lane_to s j).fresh ≡ []
 
 -- A sound state: what owner i grew for owner j is what j received, then what is in the box, then
--- what is owed for, then what is fresh; and the balance is what is under way.
+-- what is owed for, then what is fresh; and the balance counts exactly what is under way.
 pub record IsSoundState (q : Problem) (c : Cut) (w : State) : Type 0 where
   pub count : length w.seats ≡ c.owners
   pub seats : (i : ℕ) (s : Seat) → IsAt w i s → IsSoundSeat q c i s
@@ -57,15 +57,15 @@ pub record IsSoundState (q : Problem) (c : Cut) (w : State) : Type 0 where
       ++ ((lane_to s j).box ++ ((lane_to s j).out ++ (lane_to s j).fresh))
   pub balance : w.balance ≡ sum_by under_way w.seats
 
--- The owner is of this problem, cut and number, and sound, which it is after a refusal too.
+-- The owner is of this problem, cut and number, and sound, which it stays after a refusal.
 pub record IsOwner (q : Problem) (c : Cut) (i : ℕ) (o : Owner) : Type 0 where
   pub problem : o.problem ≡ q
   pub cut : o.cut ≡ c
   pub me : o.me ≡ i
   pub sound : IsSound o
 
--- An orderly state, as each is, also once a growth of memory was refused: the owners are sound, and
--- what one received from another stands in that one's log.
+-- An orderly state, as every state is, even after memory was refused: the owners are sound, and
+-- what one received from another is in that one's log.
 pub record IsOrderly (q : Problem) (c : Cut) (w : State) : Type 0 where
   pub count : length w.seats ≡ c.owners
   pub owners : (i : ℕ) (s : Seat) → IsAt w i s → IsOwner q c i s.owner
@@ -96,8 +96,8 @@ abbrev pub AreRanksLow : State → Type 0
 AreRanksLow w =
     (i : ℕ) (s : Seat) (g : Growth) → IsAt w i s → Contains s.owner.log g → g.rank < 2 ^ 37
 
--- What holds of every state that a world of this problem and cut comes to: it is sound; its logs
--- say only what the least values have; at a balance of 0 nothing is under way, and they say just
+-- What holds of every state that a world of this problem and cut reaches: it is sound; its logs say
+-- only what the least values have; at a balance of 0 nothing is under way, and they say exactly
 -- that; and its ranks are low.
 pub record IsLawful (q : Problem) (c : Cut) (w : State) : Type 0 where
   pub problem : IsSoundProblem q

@@ -1,7 +1,6 @@
 -- The world of a schedule: every owner, what is under way between each two of them, and the
--- balance.
--- Source: project's choice. (The global state of a distributed computation: each process, and what
--- is in each channel; Chandy and Lamport, "Distributed snapshots", 1985.)
+-- balance. Source: project's choice. (The global state of a distributed computation: each process,
+-- and what is in each channel; Chandy and Lamport, "Distributed snapshots", 1985.)
 use Rattle.std.specs.Prelude.{◌≡◌, ℕ, Bool, false, List, [], length, replicate}
 use Rattle.std.specs.Prelude.{slice_index_or, slice_get, slice_set, Some}
 use Rattle.nll_problem.specs.Problem.{Problem}
@@ -18,7 +17,7 @@ pub record Lane : Type 0 where
   pub out : List Growth
   pub box : List Growth
 
--- a lane on which nothing is
+-- an empty lane
 abbrev pub empty_lane : Lane
 empty_lane = record { fresh = []; out = []; box = [] }
 
@@ -35,7 +34,7 @@ pub record State : Type 0 where
   pub seats : List Seat
   pub balance : ℕ
 
--- A world: whose owners it has, its state, and whether a growth of memory was refused it.
+-- A world: whose owners it has, its state, and whether it was refused memory.
 pub record World : Type 0 where
   pub problem : Problem
   pub cut : Cut

@@ -1,5 +1,5 @@
--- What the steps inside an event do to a lane and to a seat.
--- Source: project's choice. Private contracts alone cite this file.
+-- What the steps inside an event do to a lane and to a seat. Source: project's choice. Only private
+-- contracts cite this file.
 use Rattle.std.specs.Prelude.{◌≡◌, ◌⊎◌, ℕ, ◌<◌, ◌≤◌, Bool, true, false, List, [], ◌∷◌, ◌++◌, length}
 use Rattle.std.specs.Prelude.{drop, slice_get, Contains, Option, Some, None}
 use Rattle.nll_problem.specs.Problem.{Problem}
@@ -16,7 +16,7 @@ Pushes true old new =
     × (new ≡ record old { out = rest; box = old.box ++ g ∷ [] })
 Pushes false old new = (old.out ≡ []) × (new ≡ old)
 
--- The same of a seat's lane.
+-- Like `Pushes`, for the lane of a seat.
 abbrev pub PushesTo : Bool → ℕ → Seat → Seat → Type 0
 PushesTo true to old new =
     (g : Growth) × (rest : List Growth) × ((lane_to old to).out ≡ g ∷ rest)
@@ -26,13 +26,13 @@ PushesTo true to old new =
     }))
 PushesTo false to old new = (lane_to old to).out ≡ []
 
--- The first growth of a box came out of it, and this is so of the lane then; or there is none.
+-- The first growth of a box was taken out, and this holds of the lane then; or the box is empty.
 abbrev pub TakesFrom : Lane → Option Growth → (Lane → Type 0) → Type 0
 TakesFrom old (Some g) P =
     (rest : List Growth) × (old.box ≡ g ∷ rest) × P (record old { box = rest })
 TakesFrom old None P = old.box ≡ []
 
--- The lanes to the first owners got all that the owner hadn't given out to them.
+-- The lanes to the first owners got all that the owner hadn't given them.
 pub record Fills (old new : Seat) (count : ℕ) : Type 0 where
   pub sound : IsSound new.owner
   pub owner : new.owner ≡ record old.owner { given = new.owner.given }
@@ -48,8 +48,8 @@ pub record Fills (old new : Seat) (count : ℕ) : Type 0 where
   pub other_given : (j : ℕ) → count ≤ j → given_to new.owner j ≡ given_to old.owner j
   pub other_lanes : (j : ℕ) → count ≤ j → lane_to new j ≡ lane_to old j
 
--- The owner went on, perhaps to a refusal: its log is longer at most, and what it received it had
--- received before, or it is of this kind.
+-- The owner went on, perhaps to a refusal: its log only grew, and what it received it had received
+-- before, or it is of this kind.
 pub record GoesOn (came : ℕ → Growth → Type 0) (old new : Owner) : Type 0 where
   pub begins : IsPrefix old.log new.log
   pub problem : new.problem ≡ old.problem

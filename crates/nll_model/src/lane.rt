@@ -36,7 +36,7 @@ impl Model for Lane {
 }
 
 impl Lane {
-    // A lane on which nothing is.
+    // An empty lane.
     pub(crate) fn new(alloc: Global) -> Lane
         ensures { result ≡ empty_lane }
     {
@@ -68,7 +68,7 @@ impl Lane {
         &self.boxed
     }
 
-    // Appends what isn't given out yet of the part of the log that another owner reads.
+    // Appends the part of the log that another owner reads and that wasn't given to it yet.
     pub(crate) fn collect(&mut self, owner: &mut Owner<'_>, to: u16) -> Result<(), Memory>
         requires sound { IsSound owner.old }
         requires whole { owner.old.broken ≡ false }
@@ -84,7 +84,7 @@ impl Lane {
         collect(owner, &mut self.fresh, to)
     }
 
-    // Makes what is fresh owed for. Answers how much it is.
+    // Makes what is fresh owed for. Returns how many growths that is.
     pub(crate) fn owe(&mut self) -> Result<u64, Memory>
         ensures lane { OnOk result (self.new ≡ owed_lane self.old) }
         ensures count { IfOk result (λ n. n ≡ length self.old.fresh) }
@@ -94,7 +94,7 @@ impl Lane {
         Ok(count)
     }
 
-    // Puts the first growth that is owed for into the box. Answers whether there is one.
+    // Moves the first growth that is owed for into the box. Returns whether there is one.
     pub(crate) fn push(&mut self) -> Result<bool, Memory>
         ensures { IfOk result (λ moved. Pushes moved self.old self.new) }
     {
@@ -131,7 +131,7 @@ impl Lane {
     }
 }
 
-// Appends what isn't given out yet of the part of the log that another owner reads.
+// Appends the part of the log that another owner reads and that wasn't given to it yet.
 fn collect(owner: &mut Owner<'_>, fresh: &mut VecDeque<Growth>, to: u16) -> Result<(), Memory>
     requires sound { IsSound owner.old }
     requires whole { owner.old.broken ≡ false }

@@ -7,11 +7,11 @@ ghost use Rattle.nll_owner.specs.Logs.{IsCutOf};
 ghost use Rattle.nll_model.specs.State.{State, IsFirst};
 ghost use Rattle.nll_model.specs.Events.{AreSteps};
 ghost use Rattle.nll_model.specs.Soundness.{IsSoundState, IsOrderly, IsLawful, AreRanksLow};
-ghost use Rattle.nll_event.specs.declared.event.Event.{Event};
+ghost use Rattle.nll_model.specs.declared.event.Event.{Event};
 ghost use Rattle.nll_model.specs.declared.outcome.Step.{Step};
 
 /// States that in a sound state the logs say only what the least values have, that at a balance of
-/// 0 nothing is under way and they say just that, and that no rank reaches 2^37.
+/// 0 nothing is under way and they say exactly that, and that no rank reaches 2^37.
 pub fn sound_states_are_lawful()
     ensures { (q : Problem) (c : Cut) (w : State)
         → IsSound q → IsCutOf q c → IsSoundState q c w → IsLawful q c w }
@@ -26,7 +26,7 @@ pub fn steps_are_lawful()
         → IsLawful q c last }
 {}
 
-/// States that in an orderly state, as each is, also once a growth of memory was refused, no rank
+/// States that in an orderly state, as every state is, even after memory was refused, no rank
 /// reaches 2^37.
 pub fn orderly_states_have_low_ranks()
     ensures { (q : Problem) (c : Cut) (w : State) → IsOrderly q c w → AreRanksLow w }

@@ -10,10 +10,10 @@ ghost use Rattle.nll_model.specs.Replaying.{IsReplay};
 ghost use Rattle.nll_model.specs.declared.error.ModelError.TheVariants.{Owner};
 
 use crate::error::ModelError;
+use crate::event::Event;
 use crate::outcome::{Replay, Step};
 use crate::world::World;
 use nll_cut::Cut;
-use nll_event::Event;
 use nll_owner::{OwnerError, Tables};
 use nll_problem::Problem;
 use std::alloc::Global;
@@ -40,7 +40,7 @@ pub fn replay(
     }
 }
 
-// The same on tables that are lent.
+// Like `replay`, on tables that are borrowed.
 fn replay_on(
     alloc: Global,
     problem: &Problem,
@@ -64,7 +64,7 @@ fn replay_on(
     }
 }
 
-// What a world has come to.
+// The outcome of a world.
 fn outcome_of(
     alloc: Global,
     world: &World,
@@ -111,7 +111,7 @@ fn take_all(
     Ok(answers)
 }
 
-// What an event answers; none where it isn't possible.
+// The answer of an event; none where it isn't possible.
 fn answer_of(world: &mut World, event: Event) -> Result<Option<Step>, OwnerError>
     requires { world.old.broken ≡ false }
     ensures step { IfOk result (λ answer. IsStep world.old.state event answer world.new.state) }

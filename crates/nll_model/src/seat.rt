@@ -25,7 +25,7 @@ pub enum Item {
     Nothing,
     /// Its load, or a growth that it received, for which it doesn't owe yet.
     Fresh,
-    /// The same, once it owes for what this made it grow.
+    /// That item, once what it made the owner grow is owed for.
     Owed,
 }
 
@@ -94,7 +94,8 @@ impl<'q> Seat<'q> {
         self.left
     }
 
-    /// The lanes to the owners, in the order of their numbers. That to the owner itself is empty.
+    /// The lanes to the owners, in the order of their numbers. The lane to the owner itself is
+    /// empty.
     pub fn lanes(&self) -> &[Lane]
         ensures { result.now ≡ self.now.lanes }
     {
@@ -212,7 +213,7 @@ impl<'q> Seat<'q> {
         self.lanes[to as usize].take()
     }
 
-    // Makes what is fresh owed for. Answers how much it is.
+    // Makes what is fresh owed for. Returns how many growths that is.
     pub(crate) fn owe(&mut self) -> Result<u64, Memory>
         requires { fresh_count self.old < 2 ^ 64 }
         ensures seat { OnOk result (self.new ≡ owed_seat self.old) }
@@ -227,14 +228,14 @@ impl<'q> Seat<'q> {
         Ok(count)
     }
 
-    // The owner is done with its item.
+    // Ends the owner's item.
     pub(crate) fn clear(&mut self)
         ensures { self.new ≡ record self.old { item = Nothing } }
     {
         self.item = Item::Nothing;
     }
 
-    // Puts the first growth that is owed for into the box for another owner. Answers whether there
+    // Moves the first growth that is owed for into the box for another owner. Returns whether there
     // is one.
     pub(crate) fn push(&mut self, to: u16) -> Result<bool, Memory>
         requires { to < length self.old.lanes }
@@ -252,7 +253,7 @@ impl<'q> Seat<'q> {
     }
 }
 
-// This many lanes on which nothing is.
+// This many empty lanes.
 fn empty_lanes(alloc: Global, count: u16) -> Result<Vec<Lane>, Memory>
     ensures { IfOk result (λ lanes. lanes.items ≡ replicate count empty_lane) }
 {

@@ -12,8 +12,8 @@ use nll_problem::Problem;
 use nll_sets::Memory;
 use std::alloc::Global;
 
-/// A seat for each owner of a cut, with an owner that has done nothing yet. The owners are on the
-/// tables that are lent; where none are, each has tables of its own.
+/// A seat for each owner of a cut, with an owner that has done nothing yet. The owners share the
+/// tables that are given; without these, each has tables of its own.
 pub fn first_seats<'q>(
     alloc: Global,
     problem: &'q Problem,

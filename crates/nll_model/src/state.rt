@@ -10,14 +10,14 @@ ghost use Rattle.nll_owner.specs.declared.error.OwnerError.TheVariants.{Broken};
 ghost use Rattle.nll_model.specs.State.{Seat, IsAt};
 ghost use Rattle.nll_model.specs.Events.{Does, IsPossible};
 ghost use Rattle.nll_model.specs.Soundness.{IsSoundState, IsOrderly, Says};
-ghost use Rattle.nll_event.specs.declared.event.Event.TheVariants as events;
+ghost use Rattle.nll_model.specs.declared.event.Event.TheVariants as events;
 ghost use Rattle.nll_model.specs.declared.outcome.Step.TheVariants.{Done};
 
+use crate::event::Event;
 use crate::outcome::Step;
 use crate::seat::{Item, Seat};
 use nll_core::Values;
 use nll_cut::Cut;
-use nll_event::Event;
 use nll_owner::OwnerError;
 use nll_problem::{Problem, RegionId};
 use nll_sets::Memory;
@@ -238,7 +238,7 @@ impl<'q> State<'q> {
         self.balance -= 1;
     }
 
-    // Puts the next growth from one owner to another into the box.
+    // Moves the next growth from one owner to another into the box.
     fn push(&mut self, i: u16, j: u16) -> Result<(), Memory>
         requires sound { (q : Problem) × (c : Cut) × IsSoundState q c self.old }
         requires possible { IsPossible self.old (events.Push i j) }
@@ -250,7 +250,7 @@ impl<'q> State<'q> {
         Ok(())
     }
 
-    // Lets an owner look at the balance, and leave where it is 0.
+    // Lets an owner look at the balance, and leave if it is 0.
     fn leave(&mut self, i: u16) -> Step
         requires possible { IsPossible self.old (events.Leave i) }
         ensures { Does self.old (events.Leave i) result self.new }

@@ -11,13 +11,13 @@ ghost use Rattle.nll_model.specs.Soundness.{IsLawful, IsOrderly, Says};
 ghost use Rattle.nll_model.specs.declared.error.ModelError.TheVariants.{NotNow, Owner};
 
 use crate::error::ModelError;
+use crate::event::Event;
 use crate::outcome::Step;
 use crate::seat::Seat;
 use crate::start::first_seats;
 use crate::state::State;
 use nll_core::Values;
 use nll_cut::Cut;
-use nll_event::Event;
 use nll_owner::{OwnerError, Tables};
 use nll_problem::Problem;
 use nll_sets::Memory;
@@ -28,15 +28,15 @@ use std::marker::Model;
 /// Events change it one by one, each as a single step.
 ///
 /// # Cost
-/// That of the owners, and three short lists for each pair of them. An event costs what it changes:
-/// a load and a take what the owner does, and with an owe and a leave a look at each of its lanes
-/// (not proved).
+/// The memory of the owners, and of three short lists for each pair of them. An event costs what it
+/// changes: a load and a take what the owner does; these, an owe and a leave also a look at each of
+/// its lanes (not proved).
 #[derive(Drop)]
 pub struct World<'q> {
     problem: &'q Problem,
     cut: &'q Cut,
     state: State<'q>,
-    // Whether a growth of memory was refused. Nothing is known of the state then.
+    // Whether memory was refused. Nothing is known of the state then.
     broken: bool,
 }
 
@@ -71,7 +71,7 @@ impl<'q> World<'q> {
         World::of_tables(alloc, problem, cut, None)
     }
 
-    /// A world in which no owner has done anything yet, on tables that are lent to it.
+    /// A world in which no owner has done anything yet, on tables that it borrows.
     ///
     /// # Errors
     /// - `Memory`.
@@ -102,7 +102,7 @@ impl<'q> World<'q> {
         ensures lawful { IfOk result (λ w. IsLawful problem.now cut.now w.state) }
     {
         let owners = cut.owners();
-        // No effect at run time. The proof reads from this call that the problem is sound.
+        // Clause call: the problem is sound.
         let _regions = problem.regions();
         match first_seats(alloc, problem, cut, tables) {
             Ok(seats) => Ok(World {
@@ -171,7 +171,7 @@ impl<'q> World<'q> {
         self.state.balance()
     }
 
-    /// Whether a step was refused memory. The world takes no steps then.
+    /// Whether a step was refused memory. The world takes no more steps then.
     pub fn is_broken(&self) -> bool
         ensures { result ≡ self.now.broken }
     {

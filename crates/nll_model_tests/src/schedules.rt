@@ -1,8 +1,8 @@
 //! Schedules come to answers, balances and values that were found by hand.
 use super::failure::Failure;
 use super::world_text::{compare, replayed};
-use nll_event::Event::{self, Clear, Leave, Load, Owe, Push, Take};
-use nll_worked_problems::{BY_TURNS, EVERYWHERE, REACHED, Written};
+use nll_model::Event::{self, Clear, Leave, Load, Owe, Push, Take};
+use nll_worked::{BY_TURNS, EVERYWHERE, REACHED, Written};
 use std::alloc::Global;
 
 // An event of two owners, what it answers, and what each region has then, after the balance.

@@ -1,7 +1,7 @@
 //! The states of a world, as it is read, are those that were found by hand.
 use super::world_text::{compare, stepped};
-use nll_event::Event::{self, Clear, Leave, Load, Owe, Push, Take};
-use nll_worked_problems::BY_TURNS;
+use nll_model::Event::{self, Clear, Leave, Load, Owe, Push, Take};
+use nll_worked::BY_TURNS;
 
 // Events of two owners, of which the first has the regions 0 and 2, and the second the region 1. A
 // growth is written as its region and its element.

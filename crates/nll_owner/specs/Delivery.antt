@@ -1,6 +1,5 @@
--- What is said in the end of owners that have told each other all: by their mailboxes, and by their
--- logs.
--- Source: project's choice, after RFC 2094, "Solving constraints".
+-- What is proved at the end of owners that have sent each other everything: by their mailboxes, and
+-- by their logs. Source: project's choice, after RFC 2094, "Solving constraints".
 use Rattle.std.specs.Prelude.{◌≡◌, ◌≢◌, ◌⊎◌, ◌↔◌, ℕ, ◌<◌, List, map, Contains}
 use Rattle.nll_problem.specs.Problem.{Problem}
 use Rattle.nll_problem.specs.Solution.{Least}
@@ -25,7 +24,7 @@ pub record AreDelivered {P : Type 0} (ends : P → ℕ × ℕ) (sent received : 
       (p : P) → Contains posts p → sent p ≡ part q c (ends p).1 (log_of logs (ends p).0)
   pub all_of_it : (p : P) → Contains posts p → received p ≡ sent p
 
--- the log of each region's owner says just what the region has in the least solution
+-- the log of each region's owner says exactly what the region has in the least solution
 abbrev pub SayLeast : Problem → Cut → List (List Growth) → Type 0
 SayLeast q c logs =
     (r e : ℕ) → IsTold (log_of logs (owner_of c r)) r e ↔ Least q r e

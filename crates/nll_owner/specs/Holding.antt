@@ -1,5 +1,4 @@
--- The sets that an owner hands out.
--- Source: project's choice.
+-- The sets that an owner gives up at the end. Source: project's choice.
 use Rattle.std.specs.Prelude.{◌≡◌, ◌↔◌, ℕ, ◌<◌, Bool, List, Some, slice_get, length}
 use Rattle.nll_problem.specs.Graph.{element_count}
 use Rattle.nll_problem.specs.Problem.{Problem}
@@ -18,7 +17,7 @@ abbrev pub HasSet : Holding → ℕ → List Bool → Type 0
 HasSet h r set = (s : ℕ) × (slice_get h.regions s ≡ Some r) × (slice_get h.sets s ≡ Some set)
 
 -- Each region of owner i has a set there, with one flag for each element of the graph, and the set
--- has just the elements that the log tells of the region.
+-- has exactly the elements that the log says of the region.
 pub record AreValuesOf (q : Problem) (c : Cut) (i : ℕ) (log : List Growth) (h : Holding)
     : Type 0 where
   pub whole : (r : ℕ) → r < q.regions → owner_of c r ≡ i → (set : List Bool) × HasSet h r set

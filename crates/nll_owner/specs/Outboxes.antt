@@ -1,6 +1,5 @@
--- What an owner keeps to tell the others: for each of them the places in its log of what that one
--- is still to be told.
--- Source: project's choice. Private contracts alone cite this file.
+-- What an owner keeps for the other owners: for each of them the indices in its log of the growths
+-- that it still has to send. Source: project's choice. Only private contracts cite this file.
 use Rattle.std.specs.Prelude.{◌≡◌, ℕ, ◌-◌, ◌<◌, ◌≤◌, Bool, true, List, [], ◌++◌, length, map, take}
 use Rattle.std.specs.Prelude.{drop, Some, slice_get, slice_index_or, false}
 use Rattle.std.specs.List.{flat_map, range_with_len}
@@ -13,15 +12,15 @@ use Rattle.nll_owner.specs.declared.outbox.Places.{Places}
 
 -- ---- one queue
 
--- the places of a range, ascending
+-- the indices of a range, ascending
 abbrev pub places_of : Places → List ℕ
 places_of range = range_with_len range.first (range.end - range.first)
 
--- the places of the ranges from one of them on
+-- the indices of the ranges from one of them on
 abbrev pub queued : List Places → ℕ → List ℕ
 queued ranges at = flat_map places_of (drop at ranges)
 
--- So many places are queued, and no range is empty.
+-- This many indices are queued, and no range is empty.
 pub record IsQueue (ranges : List Places) (at count : ℕ) : Type 0 where
   pub within : at ≤ length ranges
   pub proper :
@@ -31,7 +30,7 @@ pub record IsQueue (ranges : List Places) (at count : ℕ) : Type 0 where
 
 -- ---- the queues for all owners
 
--- The queues by the owner that is told, and how far the log was looked through.
+-- The queues by the receiving owner, and how much of the log was looked through.
 pub record Outboxes : Type 0 where
   pub queues : List (List ℕ)
   pub place : ℕ
@@ -40,17 +39,18 @@ pub record Outboxes : Type 0 where
 abbrev pub outboxes_of : List (List ℕ) → ℕ → Outboxes
 outboxes_of lists next = record { queues = lists; place = next }
 
--- the places of what owner j is still to be told
+-- the indices of what is still to be sent to owner j
 abbrev pub queue_of : Outboxes → ℕ → List ℕ
 queue_of b j = slice_index_or b.queues j []
 
--- no queue has more places than were looked through, and there is none for more owners than may be
+-- no queue has more indices than were looked through, and there are no more queues than the most
+-- owners
 pub record AreQueues (b : Outboxes) : Type 0 where
   pub few : length b.queues ≤ most_owners
   pub short : (j : ℕ) → length (queue_of b j) ≤ b.place
 
--- The queue of each owner has just the places of what it's still to be told of the log up to the
--- place: of its part of that, all but what was given out.
+-- The queue of each owner has exactly the indices of what is still to be sent to it of the log up
+-- to the index: its part of that, except what was given to it.
 pub record AreQueued (o : Owner) (b : Outboxes) : Type 0 where
   pub owners : length b.queues ≡ o.cut.owners
   pub within : b.place ≤ length o.log
@@ -61,18 +61,18 @@ pub record AreQueued (o : Owner) (b : Outboxes) : Type 0 where
       → map (slice_get o.log) (queue_of b j)
       ≡ map Some (drop (given_to o j) (part o.problem o.cut j (take b.place o.log)))
 
--- the same, and the whole log was looked through
+-- the queues have all that is to be sent, and the whole log was looked through
 abbrev pub AreAllQueued : Owner → Outboxes → Type 0
 AreAllQueued o b = AreQueued o b × (b.place ≡ length o.log)
 
 -- ---- a step
 
--- the readers tell who is told what of the owner's log
+-- the readers say who reads what of the owner's log
 abbrev pub TellsAs : Owner → List (List Bool) → Type 0
 TellsAs o readers = (j r : ℕ) → is_read readers j r ≡ reads o.problem o.cut j r
 
--- The queues of the owners below a number got these places, where they pass a test; the other
--- queues are as they were.
+-- These indices were appended to the queues of the owners below a number that pass a test; the
+-- other queues are as they were.
 pub record GotPlaces (reads : ℕ → Bool) (places : List ℕ) (below : ℕ) (old new : Outboxes)
     : Type 0 where
   pub got :

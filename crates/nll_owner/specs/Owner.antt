@@ -1,6 +1,5 @@
--- An owner as contracts see it: its log, what it received, and what it gave out.
--- Source: project's choice. The code keeps sets of elements as well; they say no more than the
--- lists do.
+-- An owner as contracts see it: its log, what it received, and what it gave to others. Source:
+-- project's choice. The code keeps sets of elements as well; they say no more than the lists do.
 use Rattle.std.specs.Prelude.{◌≡◌, ◌⊎◌, ℕ, ◌+◌, ◌*◌, ◌^◌, ◌<◌, ◌≤◌, Bool, true, false, List, []}
 use Rattle.std.specs.Prelude.{◌∷◌, ◌++◌, length, Contains, slice_index_or, slice_set, replicate}
 use Rattle.nll_problem.specs.Graph.{element_count}
@@ -10,8 +9,8 @@ use Rattle.nll_mail.specs.declared.growth.Growth.{Growth}
 use Rattle.nll_owner.specs.Logs.{IsWellFormed, IsWellSupported, IsSaturated, IsCutOf, IsTold}
 use Rattle.nll_owner.specs.Logs.{IsCalledFor, IsPrefix, list_of, part}
 
--- The owner `me` of a cut of the problem: its log; what it received from each owner; to each owner,
--- how many growths of that owner's part it gave out; its clock, which is the highest rank so far;
+-- The owner `me` of a cut of the problem: its log; what it received from each owner; how many
+-- growths of each owner's part it gave to that owner; its clock, which is the highest rank so far;
 -- whether it was loaded; and whether a call of it was refused.
 pub record Owner : Type 0 where
   pub problem : Problem
@@ -40,15 +39,15 @@ Has o r e = IsTold (list_in o r) r e
 abbrev pub IsCalled : Owner → ℕ → ℕ → Type 0
 IsCalled o r e = IsCalledFor o.problem (Has o) r e
 
--- nothing is left to do: all that is called for in its regions it has
+-- nothing is left to do: it has all that is called for in its regions
 abbrev pub IsDone : Owner → Type 0
 IsDone o = IsSaturated o.problem o.cut o.me (list_in o)
 
--- the part of its log that owner j is told
+-- the part of its log that owner j receives
 abbrev pub part_for : Owner → ℕ → List Growth
 part_for o j = part o.problem o.cut j o.log
 
--- how many growths of that part were given out
+-- how many growths of that part were given to it
 abbrev pub given_to : Owner → ℕ → ℕ
 given_to o j = slice_index_or o.given j 0
 
@@ -60,11 +59,11 @@ pair_count q = q.regions * element_count q.graph
 abbrev pub HasBases : Owner → Type 0
 HasBases o = (r e : ℕ) → owner_of o.cut r ≡ o.me → IsBase o.problem r e → Has o r e
 
--- the growth stands in its log or in what it received
+-- the growth is in its log or in what it received
 abbrev pub IsNoted : Owner → Growth → Type 0
 IsNoted o g = Contains o.log g ⊎ ((j : ℕ) × Contains (received_from o j) g)
 
--- What is true of an owner at every moment, also after a call of it was refused.
+-- What is true of an owner at every moment, even after a call of it was refused.
 pub record IsSound (o : Owner) : Type 0 where
   pub problem : IsSoundProblem o.problem
   pub cut : IsCutOf o.problem o.cut
@@ -83,23 +82,23 @@ pub record IsSound (o : Owner) : Type 0 where
   -- no rank is above its clock
   pub own_ranks : (g : Growth) → Contains o.log g → g.rank ≤ o.clock
   pub heard_ranks : (j : ℕ) (g : Growth) → Contains (received_from o j) g → g.rank ≤ o.clock
-  -- no rank that it received is 2^61 or above, and its clock is not above the highest that it
+  -- no rank that it received is 2^61 or above, and its clock is at most the highest that it
   -- received and the number of its own growths together
   pub early : (j : ℕ) (g : Growth) → Contains (received_from o j) g → g.rank < 2 ^ 61
   pub paced :
       (n : ℕ) → ((j : ℕ) (g : Growth) → Contains (received_from o j) g → g.rank ≤ n)
       → o.clock ≤ n + length o.log
-  -- its clock is the rank of a growth, and each rank of its own comes next after that of another
+  -- its clock is the rank of a growth, and each rank of its own is one above that of another growth
   pub top : (o.clock ≡ 0) ⊎ ((h : Growth) × IsNoted o h × (h.rank ≡ o.clock))
   pub steps :
       (g : Growth) → Contains o.log g → 1 < g.rank
       → (h : Growth) × IsNoted o h × (h.rank + 1 ≡ g.rank)
-  -- it gave out no more than there is
+  -- it gave no more than there is
   pub receivers : length o.given ≡ o.cut.owners
   pub given : (j : ℕ) → given_to o j ≤ length (part_for o j)
 
--- Owner i may be told the growth by owner j: it is of a region of j that i reads, and of an element
--- of the problem, and its rank is below 2^61, as the ranks of all growths of a run are.
+-- Owner i may receive the growth from owner j: it is of a region of j that i reads, and of an
+-- element of the problem, and its rank is below 2^61, as the ranks of all growths of a run are.
 pub record Passes (q : Problem) (c : Cut) (i j : ℕ) (g : Growth) : Type 0 where
   pub sender : owner_of c g.region ≡ j
   pub read : reads q c i g.region ≡ true
@@ -114,12 +113,12 @@ IsReady o = o.broken ≡ false → o.loaded ≡ true
 abbrev pub with_growth : List (List Growth) → ℕ → Growth → List (List Growth)
 with_growth received j g = slice_set received j (slice_index_or received j [] ++ g ∷ [])
 
--- the lists with these growths behind the others from owner j
+-- the lists with these growths from owner j appended
 abbrev pub with_growths : List (List Growth) → ℕ → List Growth → List (List Growth)
 with_growths received j gs = slice_set received j (slice_index_or received j [] ++ gs)
 
--- the new lists are the old ones with a beginning of these growths from owner j: none of them, some
--- or all
+-- the new lists are the old ones with a prefix of these growths from owner j appended: none of
+-- them, some or all
 abbrev pub GotBeginning : List (List Growth) → ℕ → List Growth → List (List Growth) → Type 0
 GotBeginning old j gs new =
     (some : List Growth) × IsPrefix some gs × (new ≡ with_growths old j some)

@@ -1,5 +1,5 @@
--- What runs of elements tell of regions.
--- Source: project's choice. Private contracts alone cite this file.
+-- What runs of elements say of regions. Source: project's choice. Only private contracts cite this
+-- file.
 use Rattle.std.specs.Prelude.{◌≡◌, ◌⊎◌, ℕ, ◌<◌, ◌≤◌, List, length, Contains, slice_index_or}
 use Rattle.nll_sets.specs.Runs.{IsWithin}
 use Rattle.nll_mail.specs.declared.growth.Growth.{Growth}
@@ -9,7 +9,7 @@ use Rattle.nll_owner.specs.Keeping.{IsSlot}
 use Rattle.nll_owner.specs.declared.due.Due.{Due}
 use Rattle.nll_owner.specs.declared.region_run.RegionRun.{RegionRun}
 
--- one of the runs tells that the region r has e
+-- one of the runs says that the region r has e
 abbrev pub IsToldByRuns : List RegionRun → ℕ → ℕ → Type 0
 IsToldByRuns runs r e =
     (k : RegionRun) × Contains runs k × (k.region ≡ r) × (k.run.first ≤ e) × (e ≤ k.run.last)
@@ -18,13 +18,13 @@ IsToldByRuns runs r e =
 abbrev pub AreProper : List RegionRun → Type 0
 AreProper runs = (k : RegionRun) → Contains runs k → k.run.first ≤ k.run.last
 
--- The runs tell what the growths tell, and nothing else.
+-- The runs say what the growths say, and nothing else.
 pub record TellTheSame (growths : List Growth) (runs : List RegionRun) : Type 0 where
   pub proper : AreProper runs
   pub each : (r e : ℕ) → IsTold growths r e → IsToldByRuns runs r e
   pub cause : (r e : ℕ) → IsToldByRuns runs r e → IsTold growths r e
 
--- A list tells what it told and what a run tells, and nothing else.
+-- A list says what it said before and what a run says, and nothing else.
 pub record AddsRun (run : RegionRun) (old new : List RegionRun) : Type 0 where
   pub proper : AreProper new
   pub kept : (r e : ℕ) → IsToldByRuns old r e → IsToldByRuns new r e
@@ -41,7 +41,7 @@ pub record AreHeld (o : Owner) (runs : List RegionRun) : Type 0 where
       (k : RegionRun) → Contains runs k → (e : ℕ) → IsWithin k.run e → Has o k.region e
 
 -- The first runs of a list are due to the links that read a region, which the owner holds: they are
--- of this region. The owner has what the list tells.
+-- of this region. The owner has what the list says.
 pub record AreDue (o : Owner) (d : Due) (runs : List RegionRun) : Type 0 where
   pub slot : IsSlot o d.slot d.region
   pub place : d.place ≤ length o.log

@@ -9,6 +9,6 @@ pub struct Due {
     pub region: RegionId,
     pub slot: Slot,
     pub count: usize,
-    /// How far the log was followed up. Contracts alone ask for it.
+    /// How much of the log was followed up. Only contracts need it.
     pub place: usize,
 }

@@ -28,10 +28,10 @@ use std::marker::Model;
 pub struct Following {
     // By the slot of the region that they read.
     rows: Vec<LinkRow>,
-    // How far in the log.
+    // How much of the log.
     place: usize,
-    // What was followed up last, and what the last link has found. They're kept so that their
-    // memory is taken once.
+    // What was followed up last, and what the last link has found. They are kept so that their
+    // memory is allocated once.
     runs: RegionRuns,
     found: Vec<Run>,
 }
@@ -48,7 +48,7 @@ impl Model for Following {
 }
 
 impl Following {
-    /// What an owner has followed up that has done nothing yet.
+    /// What an owner that has done nothing yet has followed up.
     pub fn new(
         alloc: Global,
         problem: &Problem,
@@ -76,8 +76,7 @@ impl Following {
     /// reads a region of theirs is looked at once.
     ///
     /// # Cost
-    /// A sort of the runs that they tell, and what each run newly reaches by each link (not
-    /// proved).
+    /// A sort of the runs that they say, and what each run newly reaches by each link (not proved).
     pub fn follow_all(
         &mut self,
         knowledge: &mut Knowledge,
@@ -104,12 +103,12 @@ impl Following {
         )
     }
 
-    /// Follows up the log to its end: all that it tells behind a place together, then all that came
-    /// of that, and so on. Nothing is left to do then.
+    /// Follows up the log to its end: all that it says from an index on together, then all that was
+    /// added by that, and so on. Nothing is left to do then.
     ///
     /// # Cost
-    /// Each time a sort of the runs that the log tells, and what each run newly reaches by each
-    /// link (not proved).
+    /// Each time a sort of the runs that the log says, and what each run newly reaches by each link
+    /// (not proved).
     pub fn settle(&mut self, knowledge: &mut Knowledge, steps: &Steps) -> Result<(), Memory>
         requires sound { IsSound knowledge.old }
         requires steps { steps.now ≡ knowledge.old.problem.graph }

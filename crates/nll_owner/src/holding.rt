@@ -1,4 +1,4 @@
-//! The sets that an owner hands out.
+//! The sets that an owner gives up at the end.
 
 ghost use Rattle.std.specs.Prelude.{◌≡◌, ◌≢◌, ◌↔◌, ◌<◌, ℕ, Bool, List, [], Contains, length};
 ghost use Rattle.nll_core.specs.Values.{set_of};
@@ -14,8 +14,8 @@ use nll_sets::RunSet;
 use std::alloc::Global;
 use std::marker::Model;
 
-/// The sets that an owner hands out: the values of its own regions. It lets the sets of the regions
-/// that it read go, which no clause says.
+/// The sets that an owner gives up at the end: the values of its own regions. It frees the sets of
+/// the regions that it read, which no clause says.
 pub struct Holding {
     slots: Slots,
     // By slot.
@@ -44,7 +44,7 @@ impl Model for Holding {
 }
 
 impl Holding {
-    /// That of no owner. Takes no memory.
+    /// The sets of no owner. Takes no memory.
     pub fn none(alloc: Global) -> Holding
         ensures { result ≡ record { regions = []; sets = [] } }
     {
@@ -54,7 +54,7 @@ impl Holding {
         }
     }
 
-    /// The values of the regions that an owner of a cut has, out of the sets of all that it holds.
+    /// The values of the regions that an owner of a cut has, from the sets of all that it holds.
     pub(crate) fn of(alloc: Global, cut: &Cut, me: u16, slots: Slots, values: Values) -> Holding
         requires as_many { length values ≡ length slots }
         requires regions { (r : ℕ) → Contains slots r → r < length cut.now.list }
@@ -82,7 +82,7 @@ impl Holding {
     }
 }
 
-// Lets the sets of the regions of other owners go.
+// Frees the sets of the regions of other owners.
 fn empty_copies(alloc: Global, cut: &Cut, me: u16, slots: &Slots, values: &mut Values)
     requires as_many { length values.old ≡ length slots.now }
     requires regions { (r : ℕ) → Contains slots.now r → r < length cut.now.list }

@@ -37,8 +37,8 @@ const END_OF_RANKS: u64 = 1 << 61;
 /// The values and copies of an owner, its log, and what it received. Contracts see it as the owner.
 ///
 /// # Shape
-/// `received` and `given` have an entry for each owner: what it told, and how much of its part of
-/// the log it was given.
+/// `received` and `given` have an entry for each owner: what it sent, and how much of its part of
+/// the log was given to it.
 #[derive(Drop)]
 pub struct Knowledge<'q> {
     pub problem: &'q Problem,
@@ -72,7 +72,7 @@ impl<'q> Model for Knowledge<'q> {
 }
 
 impl<'q> Knowledge<'q> {
-    /// What an owner knows that has done nothing yet.
+    /// What an owner that has done nothing yet knows.
     pub fn new(
         alloc: Global,
         problem: &'q Problem,
@@ -166,7 +166,7 @@ impl<'q> Knowledge<'q> {
         Ok(())
     }
 
-    // Puts a growth into the copy of its region and at the end of what was received.
+    // Inserts a growth into the copy of its region, and appends it to what was received.
     fn enter_received(&mut self, from: u16, growth: Growth) -> Result<(), Memory>
         requires { Passes self.old.problem self.old.cut self.old.me from growth }
         ensures ok { OnOk result (self.new ≡ record self.old {
@@ -187,7 +187,7 @@ impl<'q> Knowledge<'q> {
         Ok(())
     }
 
-    /// Puts growths of one owner into the copies of their regions and at the end of what was
+    /// Inserts growths of one owner into the copies of their regions, and appends them to what was
     /// received.
     pub fn enter_all_received(&mut self, from: u16, growths: &[Growth]) -> Result<(), Memory>
         requires sound { IsSound self.old }
@@ -219,7 +219,7 @@ impl<'q> Knowledge<'q> {
         self.broken = broken;
     }
 
-    /// Gives the growth at a place of the log to another owner, which lacks some of its part.
+    /// Gives the growth at an index of the log to another owner, which lacks some of its part.
     pub fn give(&mut self, to: u16, place: usize) -> Growth
         requires to { to < self.old.cut.owners }
         requires place { place < length self.old.log }
@@ -243,7 +243,7 @@ impl<'q> Knowledge<'q> {
         outboxes.take_up(readers, &self.log)
     }
 
-    /// Whether the owner may be told a growth by another one.
+    /// Whether the owner may receive a growth from another one.
     pub fn passes(&self, from: u16, growth: &Growth) -> bool
         ensures { IsTrue result
             ↔ Passes self.now.problem self.now.cut self.now.me from growth.now }
@@ -317,7 +317,7 @@ impl<'q> Knowledge<'q> {
         &self.log
     }
 
-    /// Hands out the log, and the values of the own regions.
+    /// Returns the log, and the values of the own regions.
     pub fn into_parts(self, alloc: Global) -> (Vec<Growth>, Holding)
         ensures log { result.0.items ≡ self.entry.log }
         ensures values { let o = self.entry in
@@ -334,7 +334,7 @@ impl<'q> Knowledge<'q> {
         (log, Holding::of(alloc, cut, me, slots, values))
     }
 
-    /// How many growths were given out.
+    /// How many growths were given to others.
     pub fn given_count(&self) -> u64
         ensures { result ≡ sum self.now.given }
     {
@@ -345,7 +345,7 @@ impl<'q> Knowledge<'q> {
         count
     }
 
-    /// How many growths were received; the largest number of the type where there were more.
+    /// How many growths were received; the largest number of the type if there were more.
     pub fn received_count(&self) -> u64
         ensures { result ≡ min (sum_by length self.now.received) (2 ^ 64 - 1) }
     {
@@ -367,7 +367,7 @@ impl<'q> Knowledge<'q> {
     }
 }
 
-// Puts the growths of a region by so many elements at the end of a log, which has room for them.
+// Appends the growths of a region by this many elements to a log, which has room for them.
 fn push_growths(log: &mut Vec<Growth>, region: RegionId, first: u32, count: u32, clock: u64)
     requires room { vec_len log.old + count ≤ vec_capacity log.old }
     requires elements { first + count ≤ 2 ^ 32 }
@@ -383,8 +383,8 @@ fn push_growths(log: &mut Vec<Growth>, region: RegionId, first: u32, count: u32,
     }
 }
 
-// Makes room for a growth more at the end of a list, of which there are many and which only grow:
-// for a quarter of the list at once.
+// Makes room for one more growth in a list. There are many such lists and they only grow, so it
+// makes room for a quarter of the list at once.
 fn make_room(list: &mut Vec<Growth>) -> Result<(), Memory>
     ensures items { list.new.items ≡ list.old.items }
     ensures room { OnOk result (vec_len list.new + 1 ≤ vec_capacity list.new) }

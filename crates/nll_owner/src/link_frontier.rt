@@ -37,7 +37,7 @@ impl Model for LinkFrontier {
 }
 
 impl LinkFrontier {
-    /// That of a constraint which holds there. Takes no memory.
+    /// The frontier of a constraint that holds there. Takes no memory.
     pub fn new(at: At) -> LinkFrontier
         ensures { result ≡ first_frontier (at ∷ []) }
     {
@@ -46,7 +46,7 @@ impl LinkFrontier {
         }
     }
 
-    /// Adds where a further constraint holds, behind all others.
+    /// Appends where a further constraint holds.
     pub fn add(&mut self, alloc: Global, at: At) -> Result<(), Memory>
         requires { (x : places) → Contains self.old.starts x → at_rank x < at_rank at }
         ensures { OnOk result
@@ -73,7 +73,7 @@ impl LinkFrontier {
         }
     }
 
-    /// Grows by a run of elements of the set in which walks may go, as `Frontier::grow_run` does.
+    /// Grows by a run of elements of the set in which walks may go, like `Frontier::grow_run`.
     pub fn grow_run(
         &mut self,
         steps: &Steps,
@@ -109,7 +109,7 @@ fn frontier_of_two(alloc: Global, first: At, second: At) -> Result<Box<Frontier>
     }
 }
 
-// Whether a place isn't all points, and no point of a run.
+// Whether a place is neither all points nor a point of a run.
 fn is_outside(at: At, run: Run) -> bool
     ensures { result ≡ true → IsIdle (at ∷ []) run [] }
 {

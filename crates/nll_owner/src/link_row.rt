@@ -38,7 +38,7 @@ impl Model for LinkRow {
 }
 
 impl LinkRow {
-    /// A row of the links of a list, which are taken out. It gets no room beyond them.
+    /// A row of the links of a list, which are taken out. It allocates no room beyond them.
     pub fn take(alloc: Global, list: &mut Vec<Link>) -> Result<LinkRow, Memory>
         ensures items { IfOk result (λ row. row.items ≡ list.old.items) }
         ensures empty { OnOk result (list.new.items ≡ []) }
@@ -84,7 +84,7 @@ impl LinkRow {
     }
 }
 
-// The links of a list, moved to one that has no room beyond them.
+// The links of a list, moved to a list that has no room beyond them.
 fn moved(alloc: Global, list: &mut Vec<Link>) -> Result<Vec<Link>, Memory>
     ensures items { IfOk result (λ links. links.items ≡ list.old.items) }
     ensures empty { OnOk result (list.new.items ≡ []) }

@@ -7,8 +7,8 @@ use nll_mail::Growth;
 use nll_problem::RegionId;
 use nll_sets::Run;
 
-/// The growths from a place of a log on that give one region elements which follow each other by
-/// number: the region, the run of the elements, and the place behind the growths.
+/// The growths from an index of a log on that give one region consecutive elements: the region, the
+/// run of the elements, and the index after the growths.
 ///
 /// # Cost
 /// A look at each of the growths (not proved).
@@ -28,7 +28,7 @@ pub fn run_at(log: &[Growth], place: usize) -> (RegionId, Run, usize)
     (region, Run { first, last }, end)
 }
 
-// Whether a growth gives a region the element behind one.
+// Whether a growth gives a region the element after a given one.
 fn is_next(growth: &Growth, region: RegionId, last: u32) -> bool
     ensures tells { IsTrue result
         ↔ ((growth.now.region ≡ region) × (growth.now.element ≡ last + 1)) }

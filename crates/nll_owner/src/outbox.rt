@@ -1,4 +1,4 @@
-//! The places in a log of what one other owner is still to be told.
+//! The indices in a log of what is still to be sent to one other owner.
 
 ghost use Rattle.std.specs.Prelude.{◌≡◌, ◌+◌, ◌-◌, ◌<◌, ◌^◌, [], ◌++◌, length, drop, OnOk, OnErr};
 ghost use Rattle.std.specs.Prelude.{slice_get};
@@ -8,22 +8,22 @@ use nll_sets::Memory;
 use std::alloc::Global;
 use std::marker::Model;
 
-/// Places of a log that follow each other: from the first one to before the end.
+/// Consecutive indices of a log: from the first one to before the end.
 #[derive(Clone, Copy)]
 pub struct Places {
     pub first: usize,
     pub end: usize,
 }
 
-/// A queue of places of a log. Contracts see it as the list of them.
+/// A queue of indices of a log. Contracts see it as the list of them.
 ///
 /// # Cost
-/// 16 bytes for places that are put in at once; they are used again when nothing is left. A call
-/// takes the same time, however many places there are (neither is proved).
+/// 16 bytes for indices that are appended at once; they are used again when nothing is left. A call
+/// takes the same time, however many indices there are (neither is proved).
 #[derive(Drop)]
 pub struct Outbox {
     ranges: Vec<Places>,
-    // The first range of which a place is left.
+    // The first range of which an index is left.
     at: usize,
     len: u64,
 }
@@ -40,7 +40,7 @@ impl Model for Outbox {
 }
 
 impl Outbox {
-    /// No place.
+    /// No index.
     pub fn empty(alloc: Global) -> Outbox
         ensures { result ≡ [] }
     {
@@ -51,7 +51,7 @@ impl Outbox {
         }
     }
 
-    /// Puts places in behind the others.
+    /// Appends indices.
     pub fn push(&mut self, places: Places) -> Result<(), Memory>
         requires proper { places.first < places.end }
         requires room { length self.old + (places.end - places.first) < 2 ^ 64 }
@@ -65,7 +65,7 @@ impl Outbox {
         Ok(())
     }
 
-    // Lets the ranges go, where no place is left.
+    // Frees the ranges, if no index is left.
     fn reset(&mut self)
         ensures { self.new ≡ self.old }
     {
@@ -75,7 +75,7 @@ impl Outbox {
         }
     }
 
-    /// The first place.
+    /// The first index.
     pub fn first(&self) -> Option<usize>
         ensures { result ≡ slice_get self.now 0 }
     {
@@ -85,7 +85,7 @@ impl Outbox {
         Some(self.ranges[self.at].first)
     }
 
-    /// Takes the first place out.
+    /// Removes the first index.
     pub fn pop(&mut self)
         requires { 0 < length self.old }
         ensures { self.new ≡ drop 1 self.old }
@@ -102,7 +102,7 @@ impl Outbox {
         self.len -= 1;
     }
 
-    /// How many places there are.
+    /// How many indices there are.
     pub fn len(&self) -> u64
         ensures { result ≡ length self.now }
     {

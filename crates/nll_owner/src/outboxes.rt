@@ -1,4 +1,4 @@
-//! What an owner keeps to tell the others.
+//! What an owner keeps for the other owners.
 
 ghost use Rattle.std.specs.Prelude.{◌≡◌, ◌≢◌, ◌+◌, ◌-◌, ◌<◌, ◌≤◌, ℕ, true, [], length, replicate};
 ghost use Rattle.std.specs.Prelude.{IfOk, OnOk, IfSome, IfNone, Some, drop, slice_get, slice_set};
@@ -18,11 +18,11 @@ use nll_sets::Memory;
 use std::alloc::Global;
 use std::marker::Model;
 
-/// For each owner the places in a log of what it's still to be told.
+/// For each owner the indices in a log of what is still to be sent to it.
 #[derive(Drop)]
 pub struct Outboxes {
     queues: Vec<Outbox>,
-    // How far in the log.
+    // How much of the log was looked through.
     place: usize,
 }
 
@@ -39,7 +39,7 @@ impl Model for Outboxes {
 }
 
 impl Outboxes {
-    /// A queue for each of so many owners, with nothing in it.
+    /// An empty queue for each of this many owners.
     pub fn new(alloc: Global, owners: u16) -> Result<Outboxes, Memory>
         requires { owners ≤ most_owners }
         ensures { IfOk result (λ outboxes. outboxes ≡ outboxes_of (replicate owners []) 0) }
@@ -51,12 +51,12 @@ impl Outboxes {
         Ok(Outboxes { queues, place: 0 })
     }
 
-    /// Looks through the rest of a log, and puts the place of each growth into the queues of those
+    /// Looks through the rest of a log, and appends the index of each growth to the queues of those
     /// that read its region.
     ///
     /// # Cost
-    /// A look at each growth, and one step for growths of one region that follow each other and
-    /// each reader of that region (not proved).
+    /// A look at each growth, and one step for consecutive growths of one region and each reader of
+    /// that region (not proved).
     pub fn take_up(&mut self, readers: &Readers, log: &[Growth]) -> Result<(), Memory>
         requires within { self.old.place ≤ length log.now }
         requires owners { (j r : ℕ) → is_read readers.now j r ≡ true
@@ -72,7 +72,7 @@ impl Outboxes {
         Ok(())
     }
 
-    // Puts the places up to the end into the queues of those that read a region.
+    // Appends the indices up to the end to the queues of those that read a region.
     fn queue(&mut self, readers: &Readers, region: RegionId, end: usize) -> Result<(), Memory>
         requires place { self.old.place < end }
         requires owners { (j r : ℕ) → is_read readers.now j r ≡ true
@@ -96,7 +96,7 @@ impl Outboxes {
         Ok(())
     }
 
-    /// The place of the next growth for an owner.
+    /// The index of the next growth for an owner.
     pub fn first(&self, to: u16) -> Option<usize>
         ensures { result ≡ slice_get (queue_of self.now to) 0 }
     {
@@ -106,7 +106,7 @@ impl Outboxes {
         self.queues[to as usize].first()
     }
 
-    /// The place of the next growth for an owner, which is taken out.
+    /// The index of the next growth for an owner, which is removed.
     pub fn take(&mut self, to: u16) -> Option<usize>
         ensures first { result ≡ slice_get (queue_of self.old to) 0 }
         ensures some { IfSome result (λ _. self.new ≡ record self.old {
@@ -119,7 +119,7 @@ impl Outboxes {
         Some(place)
     }
 
-    /// How many places there are for an owner.
+    /// How many indices there are for an owner.
     pub fn len(&self, to: u16) -> u64
         ensures { result ≡ length (queue_of self.now to) }
     {
@@ -130,7 +130,7 @@ impl Outboxes {
     }
 }
 
-// Where the growths of a region end that stand in a log from a place on.
+// The end of the growths of a region that are in a log from an index on.
 fn region_end(log: &[Growth], region: RegionId, place: usize) -> usize
     requires within { place < length log.now }
     requires here { (g : Growth) → slice_get log.now place ≡ Some g → g.region ≡ region }

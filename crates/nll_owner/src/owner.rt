@@ -37,8 +37,8 @@ use std::alloc::Global;
 use std::borrow::Cow;
 use std::marker::Model;
 
-/// How many growths an owner has grown, has given out, and has received. A number that is too large
-/// for its type stands as the largest.
+/// How many growths an owner has grown, given and received. A number that is too large for its type
+/// is the largest of the type.
 #[derive(Clone, Copy, Debug, PartialEq, Eq)]
 pub struct Counts {
     pub grown: u64,
@@ -47,18 +47,18 @@ pub struct Counts {
 }
 
 /// An owner of some regions of a problem. It keeps their values, and copies of the regions that it
-/// reads; it writes down each growth of its own regions, and hands each other owner the growths of
+/// reads; it writes down each growth of its own regions, and gives each other owner the growths of
 /// the regions that this one reads.
 ///
 /// # Cost
-/// Besides lent tables: what the regions that it owns or reads hold, in runs, some 75 bytes for
+/// Besides borrowed tables: what the regions that it owns or reads hold, in runs, some 75 bytes for
 /// each of these regions, two for each region of the problem, 16 bytes for each growth of its log
 /// and of what it received, and a link for each pair of an own region and another one that it
-/// reads: 24 bytes where more than one reads the same region, and some 100 more once the link has
+/// reads: 24 bytes if more than one reads the same region, and some 100 more once the link has
 /// reached something (not proved).
 ///
 /// # Source
-/// RFC 2094, "Solving constraints"; that the regions are dealt to owners is project's choice.
+/// RFC 2094, "Solving constraints"; that the regions are assigned to owners is project's choice.
 #[derive(Drop)]
 pub struct Owner<'q> {
     tables: Cow<'q, Tables>,
@@ -93,7 +93,7 @@ impl<'q> Owner<'q> {
     /// - `Memory`.
     ///
     /// # Cost
-    /// That of the tables, and that of an owner on lent ones (not proved).
+    /// The cost of the tables, and that of an owner on borrowed ones (not proved).
     pub fn new(
         alloc: Global,
         problem: &'q Problem,
@@ -110,7 +110,7 @@ impl<'q> Owner<'q> {
         }
     }
 
-    /// An owner that has done nothing yet, on tables that are lent to it.
+    /// An owner that has done nothing yet, on tables that it borrows.
     ///
     /// # Errors
     /// - `Memory`.
@@ -157,7 +157,7 @@ impl<'q> Owner<'q> {
     ///
     /// # Errors
     /// - `Broken`: an earlier call was refused; nothing has changed.
-    /// - `Memory`: the log has perhaps grown.
+    /// - `Memory`: the log may have grown.
     pub fn load(&mut self) -> Result<(), OwnerError>
         requires { self.old.broken ≡ false → self.old.loaded ≡ false }
         ensures begins { IsPrefix self.old.log self.new.log }
@@ -193,7 +193,7 @@ impl<'q> Owner<'q> {
     ///
     /// # Errors
     /// - `Broken`: an earlier call was refused; nothing has changed.
-    /// - `Memory`: the growth has perhaps been received, and the log has perhaps grown.
+    /// - `Memory`: the growth may have been received, and the log may have grown.
     pub fn receive(&mut self, from: u16, growth: Growth) -> Result<(), OwnerError>
         requires ready { IsReady self.old }
         requires passes { Passes self.old.problem self.old.cut self.old.me from growth }
@@ -218,17 +218,16 @@ impl<'q> Owner<'q> {
         self.receive_all(from, &[growth])
     }
 
-    /// Receives growths of another owner, in the order in which it told them, and follows up all of
+    /// Receives growths of another owner, in the order in which it sent them, and follows up all of
     /// them together. Nothing is left to do then. The owner is loaded, or a call of it was refused.
     ///
     /// # Errors
     /// - `Broken`: an earlier call was refused; nothing has changed.
-    /// - `Memory`: a beginning of the growths has perhaps been received, and the log has perhaps
-    ///   grown.
+    /// - `Memory`: a prefix of the growths may have been received, and the log may have grown.
     ///
     /// # Cost
-    /// A sort of the runs that the growths tell; for each region of theirs a look at each link, and
-    /// for each run what it newly reaches; the same for what the own regions get, again and again
+    /// A sort of the runs that the growths say; for each region of theirs a look at each link, and
+    /// for each run what it newly reaches; the same for what the own regions gain, again and again
     /// (not proved).
     pub fn receive_all(&mut self, from: u16, growths: &[Growth]) -> Result<(), OwnerError>
         requires ready { IsReady self.old }
@@ -267,7 +266,7 @@ impl<'q> Owner<'q> {
         result
     }
 
-    /// Whether the owner may be told a growth by another one: whether it is of a region of that
+    /// Whether the owner may receive a growth from another one: whether it is of a region of that
     /// owner which this one reads, and of an element of the problem.
     pub fn passes(&self, from: u16, growth: &Growth) -> bool
         ensures { IsTrue result
@@ -276,7 +275,7 @@ impl<'q> Owner<'q> {
         self.knowledge.passes(from, growth)
     }
 
-    /// Whether the owner may be told all of these growths by another one.
+    /// Whether the owner may receive all of these growths from another one.
     pub fn passes_all(&self, from: u16, growths: &[Growth]) -> bool
         ensures { let o = self.now in IsTrue result
             ↔ ((g : Growth) → Contains growths.now g → Passes o.problem o.cut o.me from g) }
@@ -289,7 +288,7 @@ impl<'q> Owner<'q> {
         true
     }
 
-    /// The problem whose regions are dealt to owners.
+    /// The problem whose regions are assigned to owners.
     pub fn problem(&self) -> &'q Problem
         ensures { result.now ≡ self.now.problem }
     {
@@ -325,8 +324,8 @@ impl<'q> Owner<'q> {
         self.knowledge.broken
     }
 
-    /// The next growth of the part of the log that another owner reads; it is given out by this
-    /// call. None where all of it was given, where `to` is no other owner, and after an error.
+    /// The next growth of the part of the log that another owner reads; this call gives it. None if
+    /// all of it was given, if `to` is no other owner, and after an error.
     pub fn outgoing(&mut self, to: u16) -> Option<Growth>
         ensures some { IfSome result (λ growth. (self.old.broken ≡ false)
             × (slice_get (part_for self.old to) (given_to self.old to) ≡ Some growth)
@@ -345,7 +344,7 @@ impl<'q> Owner<'q> {
         Some(self.knowledge.give(to, place))
     }
 
-    /// The growth that `outgoing` gives next. None where that gives none.
+    /// The growth that `outgoing` gives next. None if that gives none.
     pub fn next_for(&self, to: u16) -> Option<Growth>
         ensures some { IfSome result (λ growth. (self.now.broken ≡ false)
             × (slice_get (part_for self.now to) (given_to self.now to) ≡ Some growth)) }
@@ -360,8 +359,8 @@ impl<'q> Owner<'q> {
         Some(self.knowledge.entries()[place])
     }
 
-    /// How many growths of the part of the log that another owner reads weren't given out; 0 where
-    /// `to` is no other owner, and after an error.
+    /// How many growths of the part of the log that another owner reads weren't given; 0 if `to` is
+    /// no other owner, and after an error.
     pub fn unsent(&self, to: u16) -> u64
         ensures count { self.now.broken ≡ false → to < self.now.cut.owners
             → given_to self.now to + result ≡ length (part_for self.now to) }
@@ -418,7 +417,7 @@ impl<'q> Owner<'q> {
         self.knowledge.set(self.knowledge.slot(region))
     }
 
-    /// Hands out the log, and the values of the own regions. Takes no memory.
+    /// Returns the log, and the values of the own regions. Takes no memory.
     ///
     /// # Cost
     /// A look at each region that the owner holds (not proved).
@@ -431,8 +430,7 @@ impl<'q> Owner<'q> {
         knowledge.into_parts(alloc)
     }
 
-    /// What was received from an owner, in the order of receipt; nothing where it is no other
-    /// owner.
+    /// What was received from an owner, in the order of receipt; nothing if it is no other owner.
     pub fn received(&self, from: u16) -> &[Growth]
         ensures received { result.now ≡ received_from self.now from }
         ensures sound { IsSound self.now }
@@ -441,7 +439,7 @@ impl<'q> Owner<'q> {
     }
 }
 
-// What an owner knows, has followed up and is to tell that has done nothing yet.
+// What an owner that has done nothing yet knows, has followed up and has to send.
 fn parts_of<'q>(
     alloc: Global,
     problem: &'q Problem,
@@ -468,7 +466,7 @@ fn parts_of<'q>(
     }
 }
 
-// Enters the base elements, settles, and queues what the log got.
+// Enters the base elements, settles, and queues what was added to the log.
 fn load_all(
     knowledge: &mut Knowledge,
     following: &mut Following,
@@ -508,7 +506,7 @@ fn load_and_settle(
     Ok(())
 }
 
-// Enters growths into the copies of their regions, settles, and queues what the log got.
+// Enters growths into the copies of their regions, settles, and queues what was added to the log.
 fn receive_and_queue(
     knowledge: &mut Knowledge,
     following: &mut Following,

@@ -1,4 +1,4 @@
-//! What growths tell, as few runs, region by region.
+//! What growths say, as few runs, region by region.
 
 ghost use Rattle.std.specs.Prelude.{◌≡◌, ◌+◌, ◌≤◌, List, [], IsTrue, OnOk};
 ghost use Rattle.nll_mail.specs.declared.growth.Growth.{Growth};
@@ -11,8 +11,8 @@ use nll_sets::Memory;
 use std::alloc::Global;
 use std::marker::Model;
 
-/// What growths tell, as runs by region and ascending; runs that touch are one. It's kept so that
-/// its memory is taken once.
+/// What growths say, as runs by region and ascending; runs that touch are one. It is kept so that
+/// its memory is allocated once.
 #[derive(Drop)]
 pub struct RegionRuns {
     // In the order of the growths.
@@ -40,7 +40,7 @@ impl RegionRuns {
         }
     }
 
-    /// Gathers what growths tell, in place of what was gathered before.
+    /// Gathers what growths say, and replaces what was gathered before.
     ///
     /// # Cost
     /// A look at each growth, and a sort of their runs (not proved).
@@ -62,12 +62,12 @@ impl RegionRuns {
     }
 }
 
-// Where a run stands among others: by its region, then by its first element.
+// The order of a run among others: by its region, then by its first element.
 fn order_of(run: &RegionRun) -> u64 {
     run.region.0 as u64 * (1 << 32) + run.run.first as u64
 }
 
-// Puts the runs of growths into an empty list, in the order of the growths.
+// Fills an empty list with the runs of growths, in the order of the growths.
 fn list_runs(growths: &[Growth], list: &mut Vec<RegionRun>) -> Result<(), Memory>
     requires none { list.old.items ≡ [] }
     ensures { OnOk result (TellTheSame growths.now list.new.items) }
@@ -81,7 +81,7 @@ fn list_runs(growths: &[Growth], list: &mut Vec<RegionRun>) -> Result<(), Memory
     Ok(())
 }
 
-// Puts runs into an empty list; those that follow each other and touch are one there.
+// Fills an empty list with runs; those that follow each other and touch are merged.
 fn merge(told: &[RegionRun], list: &mut Vec<RegionRun>) -> Result<(), Memory>
     requires none { list.old.items ≡ [] }
     requires proper { AreProper told.now }
@@ -94,7 +94,7 @@ fn merge(told: &[RegionRun], list: &mut Vec<RegionRun>) -> Result<(), Memory>
     Ok(())
 }
 
-// Puts a run at the end of a list: into the last run, where it goes on from there.
+// Appends a run to a list: it extends the last run if it goes on from there.
 fn push_run(list: &mut Vec<RegionRun>, run: RegionRun) -> Result<(), Memory>
     requires proper { AreProper list.old.items }
     requires run { run.run.first ≤ run.run.last }

@@ -18,7 +18,7 @@ use nll_problem::RegionId;
 use nll_sets::{Memory, Run};
 
 /// Hands runs to the links that read their regions, and grows the own regions by what these newly
-/// reach. The log was followed up to a place; contracts alone ask for it.
+/// reach. The log was followed up to an index; only contracts need it.
 pub fn follow_runs(
     rows: &mut Vec<LinkRow>,
     knowledge: &mut Knowledge,
@@ -44,7 +44,7 @@ pub fn follow_runs(
     Ok(())
 }
 
-// Hands the first runs, as many as are of one region, to the links that read this region. Answers
+// Hands the first runs, as many as are of one region, to the links that read this region. Returns
 // how many they are.
 fn follow_first(
     rows: &mut Vec<LinkRow>,

@@ -18,7 +18,7 @@ pub type Slot = RegionId;
 #[derive(Drop)]
 pub struct Slots {
     regions: Vec<u16>,
-    // By region the slot, and any number where it has none.
+    // The slot by region, and any number if it has none.
     table: Vec<u16>,
 }
 
@@ -38,7 +38,7 @@ impl Model for Slots {
 }
 
 impl Slots {
-    /// Those of an owner of a cut.
+    /// The slots of an owner of a cut.
     ///
     /// # Cost
     /// A look at each region (not proved).
@@ -107,7 +107,7 @@ impl Slots {
     }
 }
 
-// The regions that an owner holds, of so many, ascending.
+// The regions that an owner holds, of this many, ascending.
 fn held_of(
     alloc: Global,
     cut: &Cut,
@@ -129,7 +129,7 @@ fn held_of(
     Ok(held)
 }
 
-// The places of regions in a list, by region.
+// The indices of regions in a list, by region.
 fn table_of(alloc: Global, held: &[u16], regions: u32) -> Result<Vec<u16>, Memory>
     requires ascending { AllPairs {X = ℕ} (λ r s. r < s) held.now }
     requires within { (s r : ℕ) → IsSlotIn held.now s r → r < regions }

@@ -11,8 +11,8 @@ use std::alloc::Global;
 use std::marker::Model;
 
 /// What all owners of a cut look up in a problem: the steps of its graph, its constraints by the
-/// region that they read, and who reads which region. It is made once and lent to each owner; no
-/// lifetime stands in it, so threads can borrow it.
+/// region that they read, and who reads which region. It is made once and each owner borrows it; it
+/// has no lifetime, so threads can borrow it.
 ///
 /// # Cost
 /// Some 4 bytes a point, 16 bytes a step that doesn't lead to the next point, 12 bytes a constraint

@@ -1,7 +1,6 @@
 //! Why a test didn't get what it requested.
 use nll_core::{BuildError, Memory};
 use nll_cut::CutError;
-use nll_driver::Stop;
 use nll_owner::OwnerError;
 use std::alloc::{AllocError, AllocFailed};
 
@@ -11,8 +10,11 @@ pub enum Failure {
     Problem(BuildError),
     Cut(CutError),
     Owner(OwnerError),
-    Stop(Stop),
     Memory,
+    /// A turn names no owner, or one owner twice.
+    Wrong,
+    /// Owners have something to do after a thousand rounds.
+    Unsettled,
     /// A list doesn't have an entry for each region, or for each owner.
     Length,
 }
@@ -32,12 +34,6 @@ impl From<CutError> for Failure {
 impl From<OwnerError> for Failure {
     fn from(error: OwnerError) -> Failure {
         Failure::Owner(error)
-    }
-}
-
-impl From<Stop> for Failure {
-    fn from(stop: Stop) -> Failure {
-        Failure::Stop(stop)
     }
 }
 

@@ -9,7 +9,7 @@ use nll_core::{Element, Problem, RegionId, RunSet};
 use nll_cut::Cut;
 use nll_mail::Growth;
 use nll_owner::{Holding, Owner, OwnerError};
-use nll_worked_problems::{BY_TURNS, FILLED_HOLE, REACHED, Written, worked_problem};
+use nll_worked::{BY_TURNS, FILLED_HOLE, REACHED, Written, worked_problem};
 use std::alloc::{AllocError, Global};
 
 // An owner of a problem: how many owners there are, its number, another owner, and the growths that

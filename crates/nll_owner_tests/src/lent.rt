@@ -10,7 +10,7 @@ use nll_core::Problem;
 use nll_cut::Cut;
 use nll_mail::Growth;
 use nll_owner::{Owner, OwnerError, Tables};
-use nll_worked_problems::{Written, worked_problem};
+use nll_worked::{Written, worked_problem};
 use std::alloc::Global;
 
 // The owners of a cut, on lent tables.

@@ -1,9 +1,11 @@
 //! Tests of owners, by their public calls alone. Expected values are found by hand from the
 //! definitions.
 //!
-//! Reading order: `failure`, `owner_text`, then each module of tests.
+//! Reading order: `failure`, `driver`, `owner_text`, then each module of tests.
 #![tactic(auto)]
 
+#[cfg(test)]
+mod driver;
 #[cfg(test)]
 mod failure;
 #[cfg(test)]

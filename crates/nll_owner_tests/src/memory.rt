@@ -8,7 +8,7 @@ use nll_core::{BuildError, Problem};
 use nll_cut::{Cut, CutError};
 use nll_mail::Growth;
 use nll_owner::{Owner, OwnerError};
-use nll_worked_problems::{BY_TURNS, FILLED_HOLE, REACHED, Written, worked_problem};
+use nll_worked::{BY_TURNS, FILLED_HOLE, REACHED, Written, worked_problem};
 use std::alloc::Global;
 
 // How it ends: with this many growths of each owner; with memory refused, and each owner as it must

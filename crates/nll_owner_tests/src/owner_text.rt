@@ -1,13 +1,13 @@
 //! What owners have and answer, written.
 ghost use Rattle.std.specs.Prelude.{◌≡◌, length};
 
+use super::driver::{Network, Turn};
 use super::failure::Failure;
 use nll_core::{Element, Problem, RegionId};
 use nll_cut::Cut;
-use nll_driver::{Network, Turn, drive_by_turns};
-use nll_mail::{Growth, Mail};
+use nll_mail::Growth;
 use nll_owner::Owner;
-use nll_worked_problems::{Written, worked_problem};
+use nll_worked::{Written, worked_problem};
 use std::alloc::{AllocError, Global};
 
 // Writes what an owner has in a region.
@@ -57,11 +57,10 @@ pub fn write_counts(out: &mut String, owners: &[Owner]) -> Result<(), AllocError
     Ok(())
 }
 
-/// What the owners of a cut have once they are driven over mailboxes: the value of each region, and
+/// What the owners of a cut have once they are driven: the value of each region, and
 /// how many growths each owner has grown, given and received.
-pub fn driven_over<M: Mail>(
+pub fn driven_over(
     alloc: Global,
-    mail: &M,
     problem: &Problem,
     cut: &Cut,
     turns: &[Turn],
@@ -69,10 +68,12 @@ pub fn driven_over<M: Mail>(
     requires { length cut.now.list ≡ problem.now.regions }
 {
     let mut out = String::new(alloc);
-    let settled = drive_by_turns(alloc, mail, problem, cut, turns)?;
-    let values = write_values(&mut out, &settled.owners, cut, problem.regions());
-    let counts = write_counts(&mut out, &settled.owners);
-    drop(settled);
+    let mut network = Network::new(alloc, problem, cut)?;
+    let driven = network.drive(alloc, turns);
+    let values = write_values(&mut out, network.owners(), cut, problem.regions());
+    let counts = write_counts(&mut out, network.owners());
+    drop(network);
+    driven?;
     values?;
     counts?;
     Ok(out)
@@ -80,29 +81,27 @@ pub fn driven_over<M: Mail>(
 
 /// What the owners of a problem have once they are driven, with the regions assigned round-robin:
 /// the value of each region, and how many growths each owner has grown, given and received.
-pub fn driven<M: Mail>(
+pub fn driven(
     alloc: Global,
-    mail: &M,
     written: Written,
     owners: u16,
     turns: &[Turn],
 ) -> Result<String, Failure> {
     let problem = worked_problem(alloc, written)?;
-    let told = driven_round(alloc, mail, &problem, owners, turns);
+    let told = driven_round(alloc, &problem, owners, turns);
     drop(problem);
     told
 }
 
 // Like `driven_over`, for a problem whose regions are assigned round-robin.
-fn driven_round<M: Mail>(
+fn driven_round(
     alloc: Global,
-    mail: &M,
     problem: &Problem,
     owners: u16,
     turns: &[Turn],
 ) -> Result<String, Failure> {
     let cut = Cut::round(alloc, problem.regions(), owners)?;
-    let told = driven_over(alloc, mail, problem, &cut, turns);
+    let told = driven_over(alloc, problem, &cut, turns);
     drop(cut);
     told
 }
@@ -119,63 +118,54 @@ fn write_logs(out: &mut String, owners: &[Owner]) -> Result<(), AllocError> {
 }
 
 // The logs of the owners of a cut once they are driven.
-fn logs_over<M: Mail>(
-    alloc: Global,
-    mail: &M,
-    problem: &Problem,
-    cut: &Cut,
-    turns: &[Turn],
-) -> Result<String, Failure>
+fn logs_over(alloc: Global, problem: &Problem, cut: &Cut, turns: &[Turn]) -> Result<String, Failure>
     requires { length cut.now.list ≡ problem.now.regions }
 {
     let mut out = String::new(alloc);
-    let settled = drive_by_turns(alloc, mail, problem, cut, turns)?;
-    let written = write_logs(&mut out, &settled.owners);
-    drop(settled);
+    let mut network = Network::new(alloc, problem, cut)?;
+    let driven = network.drive(alloc, turns);
+    let written = write_logs(&mut out, network.owners());
+    drop(network);
+    driven?;
     written?;
     Ok(out)
 }
 
 // Like the call above, with the regions of a problem assigned round-robin.
-fn logs_round<M: Mail>(
+fn logs_round(
     alloc: Global,
-    mail: &M,
     problem: &Problem,
     owners: u16,
     turns: &[Turn],
 ) -> Result<String, Failure> {
     let cut = Cut::round(alloc, problem.regions(), owners)?;
-    let told = logs_over(alloc, mail, problem, &cut, turns);
+    let told = logs_over(alloc, problem, &cut, turns);
     drop(cut);
     told
 }
 
 /// The logs of the owners of a problem once they are driven, with the regions assigned round-robin:
 /// the region and the element of each growth.
-pub fn logs_of<M: Mail>(
+pub fn logs_of(
     alloc: Global,
-    mail: &M,
     written: Written,
     owners: u16,
     turns: &[Turn],
 ) -> Result<String, Failure> {
     let problem = worked_problem(alloc, written)?;
-    let told = logs_round(alloc, mail, &problem, owners, turns);
+    let told = logs_round(alloc, &problem, owners, turns);
     drop(problem);
     told
 }
 
 // Writes what each turn answers, and how many growths each owner has grown, given and received
 // then.
-fn write_turns<M: Mail>(
+fn write_turns(
     out: &mut String,
-    network: &mut Network<'_, M>,
+    network: &mut Network<'_>,
     turns: &[Turn],
 ) -> Result<(), AllocError> {
     for turn in turns {
-        if network.is_refused() {
-            return out.push_str("refused");
-        }
         let told = network.take(*turn);
         write!(out, "{told:?} ")?;
         write_counts(out, network.owners())?;
@@ -185,9 +175,8 @@ fn write_turns<M: Mail>(
 }
 
 // What the turns of the owners of a cut answer.
-fn answers_over<M: Mail>(
+fn answers_over(
     alloc: Global,
-    mail: &M,
     problem: &Problem,
     cut: &Cut,
     turns: &[Turn],
@@ -195,7 +184,7 @@ fn answers_over<M: Mail>(
     requires { length cut.now.list ≡ problem.now.regions }
 {
     let mut out = String::new(alloc);
-    let mut network = Network::new(alloc, mail, problem, cut)?;
+    let mut network = Network::new(alloc, problem, cut)?;
     let written = write_turns(&mut out, &mut network, turns);
     drop(network);
     written?;
@@ -203,30 +192,28 @@ fn answers_over<M: Mail>(
 }
 
 // Like the call above, with the regions of a problem assigned round-robin.
-fn answers_round<M: Mail>(
+fn answers_round(
     alloc: Global,
-    mail: &M,
     problem: &Problem,
     owners: u16,
     turns: &[Turn],
 ) -> Result<String, Failure> {
     let cut = Cut::round(alloc, problem.regions(), owners)?;
-    let told = answers_over(alloc, mail, problem, &cut, turns);
+    let told = answers_over(alloc, problem, &cut, turns);
     drop(cut);
     told
 }
 
 /// What each turn answers of the owners of a problem, to whom the regions are assigned round-robin,
 /// and how many growths each owner has grown, given and received then.
-pub fn answers_of<M: Mail>(
+pub fn answers_of(
     alloc: Global,
-    mail: &M,
     written: Written,
     owners: u16,
     turns: &[Turn],
 ) -> Result<String, Failure> {
     let problem = worked_problem(alloc, written)?;
-    let told = answers_round(alloc, mail, &problem, owners, turns);
+    let told = answers_round(alloc, &problem, owners, turns);
     drop(problem);
     told
 }

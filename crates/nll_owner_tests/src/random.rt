@@ -2,12 +2,11 @@
 //! `solve` gives.
 ghost use Rattle.std.specs.Prelude.{◌≡◌, ◌<◌, ◌≤◌, length};
 
+use super::driver::Turn::{self, Load, Post, Take};
 use super::failure::Failure;
 use super::owner_text::driven_over;
 use nll_core::{At, BuildError, Constraint, Problem, ProblemBuilder, RegionId, Values, solve};
 use nll_cut::Cut;
-use nll_driver::Turn::{self, Load, Post, Take};
-use nll_mail::{Mail, QueueMail};
 use std::alloc::{AllocError, Global};
 
 // A number that looks random.
@@ -124,27 +123,16 @@ fn solved(alloc: Global, problem: &Problem) -> Result<String, Failure> {
 }
 
 // Whether driven owners come to what `solve` gives.
-fn agree_over<M: Mail>(
-    alloc: Global,
-    mail: &M,
-    problem: &Problem,
-    cut: &Cut,
-    turns: &[Turn],
-) -> Result<bool, Failure>
+fn agree_over(alloc: Global, problem: &Problem, cut: &Cut, turns: &[Turn]) -> Result<bool, Failure>
     requires { length cut.now.list ≡ problem.now.regions }
 {
-    let told = driven_over(alloc, mail, problem, cut, turns)?;
+    let told = driven_over(alloc, problem, cut, turns)?;
     let want = solved(alloc, problem)?;
     Ok(told.as_str().starts_with(want.as_str()))
 }
 
 // Like `agree_over`, for a random cut and random turns.
-fn agree_on<M: Mail>(
-    alloc: Global,
-    mail: &M,
-    problem: &Problem,
-    seed: u32,
-) -> Result<bool, Failure> {
+fn agree_on(alloc: Global, problem: &Problem, seed: u32) -> Result<bool, Failure> {
     let owners = (1 + seed % 4) as u16;
     let list = list_of(alloc, problem.regions(), owners, seed)?;
     let turns = turns_of(alloc, owners, seed)?;
@@ -152,15 +140,15 @@ fn agree_on<M: Mail>(
         return Err(Failure::Length);
     }
     let cut = Cut::from_list(alloc, problem.regions(), owners, &list)?;
-    let told = agree_over(alloc, mail, problem, &cut, &turns);
+    let told = agree_over(alloc, problem, &cut, &turns);
     drop(cut);
     told
 }
 
 // Like `agree_on`, for a random problem.
-fn agree<M: Mail>(alloc: Global, mail: &M, seed: u32) -> Result<bool, Failure> {
+fn agree(alloc: Global, seed: u32) -> Result<bool, Failure> {
     let problem = problem_of(alloc, seed)?;
-    let told = agree_on(alloc, mail, &problem, seed);
+    let told = agree_on(alloc, &problem, seed);
     drop(problem);
     told
 }
@@ -168,7 +156,7 @@ fn agree<M: Mail>(alloc: Global, mail: &M, seed: u32) -> Result<bool, Failure> {
 #[test]
 fn driven_owners_agree_with_one_solver(rt: HostRuntime) {
     for seed in 0..300 {
-        let told = agree(rt.alloc(), &QueueMail::new(rt), seed);
+        let told = agree(rt.alloc(), seed);
         assert!(rt; told == Ok(true), "{seed}: {told:?}");
     }
 }

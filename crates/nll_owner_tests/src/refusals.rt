@@ -1,6 +1,6 @@
 //! What an owner answers to growths of the highest ranks.
 use super::owner_text::answers_at_the_last_rank;
-use nll_worked_problems::BY_TURNS;
+use nll_worked::BY_TURNS;
 
 #[test]
 fn the_highest_rank_passes_and_none_above(rt: HostRuntime) {

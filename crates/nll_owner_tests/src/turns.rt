@@ -1,10 +1,8 @@
 //! Owners that are driven by all orders of turns that are named here come to the same values.
+use super::driver::Turn::{self, Load, Post, Take};
 use super::failure::Failure;
 use super::owner_text::{answers_of, driven, logs_of};
-use nll_driver::Stop;
-use nll_driver::Turn::{self, Load, Post, Take};
-use nll_mail::QueueMail;
-use nll_worked_problems::{BY_TURNS, EVERYWHERE, FILLED_HOLE, REACHED, TWO_SOURCES, Written};
+use nll_worked::{BY_TURNS, EVERYWHERE, FILLED_HOLE, REACHED, TWO_SOURCES, Written};
 use std::process::Abort;
 
 // Each of two owners is loaded, and then each sends to the other.
@@ -17,7 +15,7 @@ const TWO: &[Turn] = &[
     Take(1, 0),
 ];
 
-// The second is loaded late: growths wait for it in the mailbox.
+// The second is loaded late: growths wait for it.
 const TWO_LATE: &[Turn] = &[
     Load(0),
     Post(0, 1),
@@ -266,7 +264,7 @@ pub fn compare(rt: &impl Abort, told: Result<String, Failure>, want: &str) {
 fn driven_owners_come_to_the_least_values(rt: HostRuntime) {
     for (written, owners, want, orders) in ROWS {
         for turns in *orders {
-            let told = driven(rt.alloc(), &QueueMail::new(rt), *written, *owners, turns);
+            let told = driven(rt.alloc(), *written, *owners, turns);
             compare(&rt, told, want);
         }
     }
@@ -275,7 +273,7 @@ fn driven_owners_come_to_the_least_values(rt: HostRuntime) {
 #[test]
 fn named_turns_are_taken_in_their_order(rt: HostRuntime) {
     for (written, owners, turns, want) in TAKEN {
-        let told = answers_of(rt.alloc(), &QueueMail::new(rt), *written, *owners, turns);
+        let told = answers_of(rt.alloc(), *written, *owners, turns);
         compare(&rt, told, want);
     }
 }
@@ -283,7 +281,7 @@ fn named_turns_are_taken_in_their_order(rt: HostRuntime) {
 #[test]
 fn a_driver_takes_its_turns_in_their_order(rt: HostRuntime) {
     for (turns, want) in LOGGED {
-        let told = logs_of(rt.alloc(), &QueueMail::new(rt), TWO_SOURCES, 3, turns);
+        let told = logs_of(rt.alloc(), TWO_SOURCES, 3, turns);
         compare(&rt, told, want);
     }
 }
@@ -291,14 +289,8 @@ fn a_driver_takes_its_turns_in_their_order(rt: HostRuntime) {
 #[test]
 fn a_turn_of_no_owner_is_wrong(rt: HostRuntime) {
     for turn in WRONG {
-        let told = driven(
-            rt.alloc(),
-            &QueueMail::new(rt),
-            BY_TURNS,
-            2,
-            &[Load(0), *turn],
-        );
-        let is_right = told.err() == Some(Failure::Stop(Stop::Wrong));
+        let told = driven(rt.alloc(), BY_TURNS, 2, &[Load(0), *turn]);
+        let is_right = told.err() == Some(Failure::Wrong);
         assert!(rt; is_right, "{turn:?}");
     }
 }

@@ -4,7 +4,7 @@ use Rattle.std.specs.Prelude.{◌≡◌, ◌≢◌, ℕ, ◌-◌, List, take}
 use Rattle.nll_program_tests.specs.declared.known.Sheet.{Sheet}
 use Rattle.nll_program_tests.specs.declared.page.Page.{Page}
 
--- just the sheet's text is held, at the sheet's path
+-- exactly the sheet's text is held, at the sheet's path
 abbrev pub is_sheet : Sheet → List ℕ → List ℕ → Type 0
 is_sheet sheet path text = (path ≡ sheet.path.now) × (text ≡ sheet.text.now)
 

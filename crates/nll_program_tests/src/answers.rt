@@ -6,7 +6,7 @@ use nll_report::{AnswerError, Command, answer, answer_text};
 use std::alloc::Global;
 use std::process::Abort;
 
-// A report, and its status where that isn't 0; or why there is none.
+// A report, and its status if it isn't 0; or why there is none.
 fn answer_told(alloc: Global, answered: Result<(Vec<u8>, u8), AnswerError>) -> String {
     let mut out = String::new(alloc);
     match answered {
@@ -17,7 +17,7 @@ fn answer_told(alloc: Global, answered: Result<(Vec<u8>, u8), AnswerError>) -> S
     out
 }
 
-/// Writes a report, and its status where that isn't 0.
+/// Writes a report, and its status if it isn't 0.
 pub fn write_report(out: &mut String, report: &[u8], status: u8) {
     say_bytes(out, report);
     if status != 0 {
@@ -31,13 +31,13 @@ pub fn answer_to(alloc: Global, command: Command, text: &[u8]) -> String {
     answer_told(alloc, answer(alloc, command, text))
 }
 
-/// The same as text, where the text that is asked about is handed over.
+/// Like `answer_to`, with the text handed over.
 pub fn answer_handed(rt: &impl Abort, alloc: Global, command: Command, text: &[u8]) -> String {
     let text = Vec::from_slice(alloc, text).expect(rt, "memory");
     answer_told(alloc, answer_text(alloc, command, text))
 }
 
-// Whole texts that say the same: blanks, skipped lines and the end of the last line say nothing.
+// Whole texts that say the same: blanks, skipped lines and the end of the last line mean nothing.
 const BLANKS: &str = "
 nll-facts 1|points 2|universal 'a|region 'R_1|return 1|base 'R_1 0|end
 \t nll-facts\r 1 \r|points 2\r|universal'a| \tregion\t'R_1|return 1|base'R_1 0|end\r
@@ -63,7 +63,7 @@ nll-mir 1|let _0: int|blocks 1|block bb0|return|end| ~ ok|
 nll-mir 1| ~ line 1: End
 ";
 
-// What blanks are between is answered, and a text that is handed over has the same answer.
+// Blanks don't change an answer, and a text that is handed over has the same answer.
 #[test]
 fn answers_texts(rt: HostRuntime) {
     let (values, faults) = (Command::Values, Command::Check);

@@ -25,7 +25,7 @@ const LATER_USE: &str = "nll-mir 1|region 'slot|region 'loan|let _0: int|let _1:
     let _3: &'slot mut int|blocks 3|block bb0|_3 = &'loan mut _1|switch copy _2 bb1 bb2|\
     block bb1|_3.* = const|goto bb2|block bb2|_1 = const|return|end|";
 
-// A lookup hands out a reference on one way, and borrows again on the other: the third problem case
+// A lookup returns a reference on one path, and borrows again on the other: the third problem case
 // of RFC 2094.
 const LOOKUP: &str = "nll-mir 1|universal 'r|region 'found|region 'insert|region 'get|region '2|\
     region '3|region '4|region '6|region 'x|region 'y|region 'z|struct Map ()|struct Value ()|\
@@ -72,7 +72,7 @@ fn answers_mir_texts(rt: HostRuntime) {
     );
 }
 
-// The same of texts of version 2.
+// Like the test above, for texts of version 2.
 #[test]
 fn answers_mir_texts_of_version_2(rt: HostRuntime) {
     compare_body(
@@ -100,7 +100,7 @@ fn answers_mir_texts_of_version_2(rt: HostRuntime) {
     );
 }
 
-// MIR texts with a fault, with the line that tells it.
+// MIR texts with a fault, with the line that reports it.
 const REFUSED: &str = "
 nll-mir 3| ~ 2>>nllc: line 1: header|
 nll-mir 1|assert 'static : 'static| ~ 2>>nllc: line 2: syntax|
@@ -109,14 +109,14 @@ nll-mir 1|points 1|end| ~ 2>>nllc: line 2: syntax|
 nll-facts 1|let _0: int| ~ 2>>nllc: line 2: syntax|
 ";
 
-// The fault of a MIR text is told, and of no other format.
+// The fault of a MIR text is reported, and no fault of another format.
 #[test]
 fn refuses_mir_texts(rt: HostRuntime) {
     compare_rows(&rt, Asked::Run("check|sheet"), REFUSED);
 }
 
-// Writes a text that assigns one variable to another so often. Their types have 16,384 regions in
-// invariant places, each its own, so each assignment asks 32,768 constraints.
+// Writes a text that assigns one variable to another this many times. Their types have 16,384
+// regions in invariant places, each its own, so each assignment requires 32,768 constraints.
 fn write_assignments(out: &mut String, count: u32) {
     say(out, "nll-mir 1\n");
     say_each(out, (0, 32_768), "region 'x", "\n");
@@ -131,7 +131,7 @@ fn write_assignments(out: &mut String, count: u32) {
     say(out, "return\nend\n");
 }
 
-// Ends the test unless that is what the program says of the faults of such a text.
+// Ends the test unless the program reports this of the faults of such a text.
 fn compare_assignments<R: Abort + AllocGlobal + Threads + Wait + Sync>(
     rt: &R,
     count: u32,
@@ -144,7 +144,7 @@ fn compare_assignments<R: Abort + AllocGlobal + Threads + Wait + Sync>(
     compare(rt, "assignments", told, want);
 }
 
-// 32 assignments ask as many constraints as the limit, and one more is refused.
+// 32 assignments require exactly as many constraints as the limit, and one more is refused.
 #[test]
 fn refuses_constraints_past_the_limit(rt: HostRuntime) {
     compare_assignments(&rt, 32, b"0>ok\n>");

@@ -10,7 +10,7 @@ use std::process::Abort;
 use std::sync::Wait;
 use std::thread::Threads;
 
-// What a text shows, the text, of which something stands as often as it may or once more, and what
+// What a text shows, the text, which has something as often as the limit or once more, and what
 // `check` does.
 type Counted = (&'static str, &'static [Piece], &'static str);
 
@@ -87,7 +87,7 @@ const COUNTED: &[Counted] = &[
     ),
 ];
 
-// The same of long texts.
+// Like `COUNTED`, for long texts.
 const LONG: &[Counted] = &[
     (
         "1,048,576 constraints",
@@ -160,7 +160,7 @@ fn limits_of_long_texts_are_kept(rt: HostRuntime) {
     compare_each(&rt, LONG);
 }
 
-// Ends the test unless that is what `check` does with a text of so many blanks.
+// Ends the test unless that is what `check` does with a text of this many blanks.
 fn compare_blanks<R: Abort + AllocGlobal + Threads + Wait + Sync>(
     rt: &R,
     bytes: usize,
@@ -190,7 +190,7 @@ const TUPLES: &[Piece] = &[
     (")|blocks 1|block bb0|", 0, 1),
 ];
 
-// Ends the test unless that is what `check` does with a text of so many assignments.
+// Ends the test unless that is what `check` does with a text of this many assignments.
 fn compare_assigned<R: Abort + AllocGlobal + Threads + Wait + Sync>(
     rt: &R,
     count: u32,
@@ -219,7 +219,7 @@ fn write_edges(out: &mut String, end: u32) {
     }
 }
 
-// Ends the test unless that is what `check` does with a text of so many edges and further lines.
+// Ends the test unless that is what `check` does with a text of this many edges and further lines.
 fn compare_edges<R: Abort + AllocGlobal + Threads + Wait + Sync>(
     rt: &R,
     (edges, lines): (u32, &str),
@@ -232,7 +232,7 @@ fn compare_edges<R: Abort + AllocGlobal + Threads + Wait + Sync>(
     compare_run(rt, "check|sheet", (text.as_str(), ""), want);
 }
 
-// One edge more than the limit, and one that stands twice.
+// One edge more than the limit, and one that is there twice.
 #[test]
 fn edges_are_counted(rt: HostRuntime) {
     let limit = "2>>nllc: line 4194307: limit edges\n";

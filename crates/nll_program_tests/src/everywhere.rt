@@ -1,7 +1,7 @@
 //! The program over facts texts with constraints at all points.
 use super::rows::{Around, Asked, compare_rows, compare_within};
 
-// What stands around the lines of a text of version 2.
+// What is around the lines of a text of version 2.
 const SECOND: Around<'static> = ("nll-facts 2|", "|end|");
 
 // Words that ask for the values, in one thread and by owners.
@@ -14,7 +14,7 @@ const VALUES: &[&str] = &[
     "values|sheet|--owners|3|--deal|round",
 ];
 
-// Texts, and what the program says of their values, whoever works them out.
+// Texts, and what the program reports of their values, whoever computes them.
 const VALUED: &str = "
 // Without an edge.
 points 2|region '1|region '2|base '1 1|constraint '2 '1 all ~ \
@@ -39,7 +39,7 @@ points 3|region '1|region '2|region '3|region '4|next 0 1|next 1 2|base '1 0|bas
 points 2|region '1|base '1 1|constraint '1 '1 all ~ 0>'static: 0 1 end('static)|'1: 1|>
 ";
 
-// Texts, and what the program says of their faults.
+// Texts, and what the program reports of their faults.
 const CHECKED: &str = "
 // Round a circle of points without a return point there is no fault at a point.
 nll-facts 2|points 2|universal 'a|universal 'b|next 0 1|next 1 0|constraint 'a 'b 0|end| ~ 0>ok|>

@@ -16,7 +16,7 @@ pub struct Example {
     pub told: &'static [Told],
 }
 
-/// Words, which stand between bars, and what the program does with each of them.
+/// Words, separated by bars, and what the program does with each of them.
 pub type Told = (&'static [&'static str], &'static str);
 
 /// Words that ask for values: of one thread, and of owners of either kind of mailbox.
@@ -49,7 +49,7 @@ pub const EITHER: &[&str] = &[
     "check|sheet|--owners|2|--mail|ring",
 ];
 
-/// What `check` does where there is no fault.
+/// What `check` does if there is no fault.
 pub const OK: &str = "0>ok|>";
 
 // Ends the test unless that is what the program does with each of the words over two texts.

@@ -8,8 +8,8 @@ use std::alloc::Global;
 // Three bytes a call: twelve calls, and one more byte.
 const REPORT: &[u8] = b"'1: bb0/0 bb0/1\n'2: bb0/1 end('a)\nend";
 
-// Writes how many bytes are told to be written of a report by a writer with a fault after so many
-// calls, or `all`; and `lost` where it doesn't hold just these.
+// Writes how many bytes of a report are reported as written by a writer with a fault after this
+// many calls, or `all`; and `lost` if it doesn't hold exactly these.
 fn write_put(out: &mut String, alloc: Global, report: &[u8], fault: (Fault, u32)) {
     let mut writer = Faulty::new(alloc, fault);
     let written = match put(&mut writer, report) {
@@ -25,7 +25,7 @@ fn write_put(out: &mut String, alloc: Global, report: &[u8], fault: (Fault, u32)
     say(out, if is_held { " " } else { " lost " });
 }
 
-// The same for each number of calls, and once for a report of nothing.
+// Like `write_put`, for each number of calls, and once for an empty report.
 fn puts_told(alloc: Global, fault: Fault) -> String {
     let mut out = String::new(alloc);
     for calls_before in 0..14 {
@@ -53,8 +53,8 @@ const FAULTS: &[(Fault, &str)] = &[
     ),
 ];
 
-// A failed write, and one that takes nothing, tells how many bytes stand before it. All is written
-// where no write fails, and of nothing nothing is, so no fault is met.
+// A failed write, and one that takes nothing, reports how many bytes were written before it. All is
+// written if no write fails; of an empty report nothing is written, so no fault is met.
 #[test]
 fn tells_how_much_was_written(rt: HostRuntime) {
     for (fault, want) in FAULTS {

@@ -39,7 +39,8 @@ constraint 'a 'b 1 ~ ok|
 return 0|next 0 1|constraint 'a 'b 1 ~ ok|
 ";
 
-// Faults stand by the region that holds the end, then by that of the end, both in region order.
+// Faults are ordered by the region that holds the end, then by that of the end, both in region
+// order.
 const IN_ORDER: &str = "
 points 1|universal 'a|universal 'b|universal 'c|return 0|constraint 'c 'b 0|constraint 'b 'a 0|\
     constraint 'a 'c 0 ~ \
@@ -64,7 +65,7 @@ points 3|universal 'a|universal 'b|region 'r|next 0 1|next 1 2|return 2|base 'r 
     ok|
 ";
 
-// What stands around the lines of a text, and around those behind two points and three universal
+// What is around the lines of a text, and around those after two points and three universal
 // regions.
 const TEXT: Around<'static> = ("nll-facts 1|", "|end|");
 

@@ -10,7 +10,7 @@ use nll_report::{Command, answer_of};
 use std::alloc::{AllocError, Global};
 use std::process::Abort;
 
-// A problem of so many regions and points, which lead to one another in a row; the last one
+// A problem of this many regions and points, which lead to one another in a row; the last one
 // returns. The region 1 has the points as base elements.
 fn problem_of(rt: &impl Abort, alloc: Global, regions: u32, points: u32, bases: &[u32]) -> Problem {
     let mut builder = ProblemBuilder::new(alloc, points, 1).expect(rt, "a graph");
@@ -43,7 +43,7 @@ fn write_values(rt: &impl Abort, alloc: Global, out: &mut String, facts: Facts) 
     write_report(out, report.as_slice(), status);
 }
 
-// How points are named, and the values of a problem of so many points, whose region 1 has these
+// How points are named, and the values of a problem of this many points, whose region 1 has these
 // base elements.
 fn labels_told(
     rt: &impl Abort,
@@ -60,7 +60,7 @@ fn labels_told(
     out
 }
 
-// Adds a name where it isn't among them, and answers whether it wasn't.
+// Adds a name if it is new, and returns whether it was.
 fn add(rt: &impl Abort, alloc: Global, names: &mut Names, name: &str) -> bool {
     let is_new = names.number_of(name.as_bytes()).is_none();
     if is_new {
@@ -83,7 +83,7 @@ fn write_names(out: &mut String, names: &Names) {
     }
 }
 
-// What names tell where these are added: of each whether it is new, then all of them.
+// What names report when these are added: of each whether it is new, then all of them.
 fn names_told(rt: &impl Abort, alloc: Global, added: &[&str]) -> String {
     let mut out = String::new(alloc);
     let mut names = Names::new(alloc).expect(rt, "memory");
@@ -114,14 +114,14 @@ return
 end
 ";
 
-// The labels of that body, told with the points at which the struct may be dropped.
+// The labels of that body, with the points at which the struct may be dropped.
 fn body_told(rt: &impl Abort, alloc: Global) -> String {
     let body = read_mir(alloc, BODY).expect(rt, "a body");
     labels_told(rt, alloc, body.into_labels(), 3, &[0, 1])
 }
 
-// Names stand in the order in which they were added, each once, behind `static`. Points without
-// blocks are named by their numbers.
+// Names are in the order in which they were added, each once, after `static`. Points without blocks
+// are named by their numbers.
 #[test]
 fn keeps_names_in_order(rt: HostRuntime) {
     let told = names_told(&rt, rt.alloc(), &["a", "b", "a", "static"]);
@@ -136,7 +136,7 @@ fn three_blocks(alloc: Global) -> Result<Labels, AllocError> {
     Ok(Labels::with_blocks(Names::new(alloc)?, starts))
 }
 
-// The same, of blocks that begin at 0 and 2.
+// Like `three_blocks`, of blocks that begin at 0 and 2.
 fn two_blocks(alloc: Global) -> Result<Labels, AllocError> {
     let starts = vec![in alloc; 0u32, 2]?;
     Ok(Labels::with_blocks(Names::new(alloc)?, starts))

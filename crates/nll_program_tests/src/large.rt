@@ -1,5 +1,5 @@
-//! Large texts with lines of all forms, and large reports. A refusal that is made up where nothing
-//! was refused is seen here, and by no clause.
+//! Large texts with lines of all forms, and large reports. A refusal that is reported though
+//! nothing was refused fails here, and breaks no clause.
 use super::pieces::{Made, Piece, compare_made};
 use std::process::Abort;
 use std::sync::Wait;
@@ -187,7 +187,7 @@ const EVENTS_TOLD: &[Piece] = &[
     ("'static: 0 1 end('static)|'1: 0|'2: 1|>", 0, 1),
 ];
 
-// The report of one thread, and of 64 owners however the regions are dealt to them.
+// The report of one thread, and of 64 owners however the regions are assigned to them.
 #[test]
 fn large_facts_are_answered(rt: HostRuntime) {
     compare_made(&rt, &FACTS);

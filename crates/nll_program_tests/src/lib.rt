@@ -1,8 +1,8 @@
 //! Tests of the readers of texts, of reports and of the program, by their public calls alone.
 //! Expected values are found by hand from the rules of the formats and from the definitions.
 //!
-//! The program is also run over a text and streams of which all is known (`known`), and its
-//! contract says then what they hold.
+//! The program is also run over a text and streams of which all is known (`known`); its contract
+//! then says what they hold.
 //!
 //! Reading order: `known`, `rows`, `notes`, `comparison`, `problem_text`, `answers`, `fakes`,
 //! `program`, `examples`, then each further module of tests.

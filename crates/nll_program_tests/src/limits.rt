@@ -8,7 +8,7 @@ use std::process::Abort;
 use std::sync::Wait;
 use std::thread::Threads;
 
-/// Writes words so often.
+/// Writes words this many times.
 pub fn repeat(out: &mut String, times: u32, words: &str) {
     for _ in 0..times {
         say(out, words);
@@ -24,15 +24,15 @@ pub fn say_each(out: &mut String, (first, end): (u32, u32), before: &str, behind
     }
 }
 
-// Ends the test unless that is answered to a text, which is let go.
+// Ends the test unless this is the answer to a text, which is freed.
 fn compare_answer(rt: &impl Abort, alloc: Global, says: &str, text: String, want: &str) {
     let told = answer_to(alloc, Command::Check, text.as_bytes());
     drop(text);
     compare(rt, says, told, want.as_bytes());
 }
 
-// The same of a text of one point that declares so many regions by these words, and then has
-// further lines.
+// Like `compare_answer`, of a text of one point that declares this many regions by these words, and
+// then has further lines.
 fn compare_declaring<R: Abort + AllocGlobal + Threads + Wait + Sync>(
     rt: &R,
     (words, times): (&str, u32),
@@ -60,7 +60,7 @@ fn refuses_declarations_past_the_limits(rt: HostRuntime) {
     compare_declaring(&rt, region, "region 'r0\nend\n", duplicate);
 }
 
-// The letters of which there are a mebibyte where they stand 16,384 times.
+// The letters that 16,384 times make a mebibyte.
 const LETTERS: &str = "rrrrrrrrrrrrrrrrrrrrrrrrrrrrrrrrrrrrrrrrrrrrrrrrrrrrrrrrrrrrrrrr";
 
 // Writes a text whose region has a name of a mebibyte, and a remark of as many letters.

@@ -49,7 +49,7 @@ fn wanted(alloc: Global, line: u64, words: &str) -> String {
     out
 }
 
-// The fault of a text is told with its line, however far down, and its kind in words.
+// The fault of a text is reported with its line, however far down, and its kind in words.
 #[test]
 fn prints_each_kind(rt: HostRuntime) {
     for (kind, words) in KINDS {
@@ -77,7 +77,7 @@ fn compare_refusal<R: Abort + AllocGlobal>(rt: &R, error: AnswerError, want: &[u
     compare(rt, "a refusal", told(rt.alloc(), error), want);
 }
 
-// Refused memory has no line, wherever it was met, and a limit of a body has none.
+// Refused memory has no line, wherever it was refused, and a limit of a body has none.
 #[test]
 fn prints_refusals_without_a_line(rt: HostRuntime) {
     let (line, kind) = (0, TextKind::Memory);

@@ -1,5 +1,5 @@
-//! Writing down what calls tell. Where memory is refused for it, some of it is missing, so that it
-//! isn't what a test wants.
+//! Writing down the results of calls. If memory is refused for it, some of the text is missing, so
+//! that it isn't what a test expects.
 use std::fmt::{Debug, Display};
 use std::str;
 

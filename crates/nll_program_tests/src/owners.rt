@@ -1,4 +1,4 @@
-//! The program where owners are asked for.
+//! The program when owners are asked for.
 use super::program::{NEVER, USAGE_LINE};
 use super::rows::{ALONE, Asked, compare_rows, compare_same};
 
@@ -76,7 +76,7 @@ values|chain|--owners|3|--deal|round|--cut|one
 values|chain|--owners|2|--mail|rings
 ";
 
-// The report of owners is that of one thread, however the regions are dealt to them.
+// The report of owners is that of one thread, however the regions are assigned to them.
 #[test]
 fn owners_answer_as_one_thread(rt: HostRuntime) {
     let program = Asked::Program(NEVER, NEVER);

@@ -1,4 +1,4 @@
-//! Texts whose pieces stand often, each time with another number, and what the program does with
+//! Texts of pieces that are repeated, each time with another number, and what the program does with
 //! them.
 use super::comparison::compare;
 use super::notes::{count, say};
@@ -8,10 +8,10 @@ use std::process::Abort;
 use std::sync::Wait;
 use std::thread::Threads;
 
-/// A piece, and the numbers with which it stands: from the first to before the second.
+/// A piece, and the numbers with which it is repeated: from the first to before the second.
 ///
-/// In a piece `|` stands for a line feed, `#` for the number, `@` for the one behind it, `$`, `%`
-/// and `^` for those 1,000, 2,000 and 3,000 behind it, `!` for `#`, and `~` for all points.
+/// In a piece `|` stands for a line feed, `#` for the number, `@` for the one after it, `$`, `%`
+/// and `^` for those 1,000, 2,000 and 3,000 after it, `!` for `#`, and `~` for all points.
 pub type Piece = (&'static str, u32, u32);
 
 /// A text and a list beside it, the points of the text as a report has them, and what the program
@@ -91,7 +91,7 @@ pub fn compare_run<R: Abort + AllocGlobal + Threads + Wait + Sync>(
     compare(rt, words, told, want.as_bytes());
 }
 
-/// The same of a text of pieces and the words of each row.
+/// Like `compare_run`, of a text of pieces and the words of each row.
 pub fn compare_made<R: Abort + AllocGlobal + Threads + Wait + Sync>(rt: &R, made: &Made) {
     let points = text_of(rt.alloc(), made.points, "");
     let text = text_of(rt.alloc(), made.text, points.as_str());

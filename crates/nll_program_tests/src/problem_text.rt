@@ -100,8 +100,8 @@ fn write_said(out: &mut String, problem: &Problem, labels: &Labels) {
     write_constraints(out, problem.constraints(), labels);
 }
 
-// Hands a problem on to be answered, which lets it go. To prove here how it is let go would cost
-// more than all else of this module.
+// Hands a problem on to be answered, which frees it. To prove here how it is freed would cost more
+// than all else of this module.
 fn hand_on(rt: &impl Abort, alloc: Global, facts: Facts) {
     assert!(rt; facts.labels.regions() == facts.problem.regions() as usize);
     let _ = answer_of(alloc, Command::Check, facts);

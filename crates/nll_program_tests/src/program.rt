@@ -11,7 +11,7 @@ use std::process::Abort;
 use std::sync::Wait;
 use std::thread::Threads;
 
-// The status, what stands on standard output and what stands on standard error.
+// The status, what is on standard output and what is on standard error.
 fn streams_told(alloc: Global, status: u8, out: &[u8], err: &[u8]) -> String {
     let mut told = String::new(alloc);
     count(&mut told, u64::from(status));
@@ -28,7 +28,7 @@ pub type FaultAt = (Fault, u32);
 /// A fault that doesn't come.
 pub const NEVER: FaultAt = (Fault::Fails, u32::MAX);
 
-// What a stream holds, or nothing where its fault comes.
+// What a stream holds, or nothing if its fault comes.
 fn held_by(stream: &Faulty, (_, calls_before): FaultAt) -> &[u8] {
     if calls_before == u32::MAX {
         stream.held.as_slice()
@@ -37,8 +37,8 @@ fn held_by(stream: &Faulty, (_, calls_before): FaultAt) -> &[u8] {
     }
 }
 
-/// What the program does with words, which stand between bars, and the texts of the shelf, where
-/// its streams have these faults.
+/// What the program does with words, separated by bars, and the texts of the shelf, if its streams
+/// have these faults.
 pub fn run<R: Abort + AllocGlobal + Threads + Wait + Sync>(
     rt: &R,
     words: &str,
@@ -61,7 +61,7 @@ pub fn run_at_desk<R: Abort + AllocGlobal + Threads + Wait + Sync>(
     run_over(rt, words, &Desk { shelf, text, list }, NEVER, NEVER)
 }
 
-// What the program does with words over texts, where its streams have these faults.
+// What the program does with words over texts, if its streams have these faults.
 fn run_over<R: Abort + AllocGlobal + Threads + Wait + Sync, T: Texts>(
     rt: &R,
     words: &str,
@@ -81,7 +81,7 @@ fn run_over<R: Abort + AllocGlobal + Threads + Wait + Sync, T: Texts>(
     )
 }
 
-/// `help` where the program answers words with status 0 and a text that ends so on standard output.
+/// `help` if the program answers words with status 0 and a text that ends so on standard output.
 pub fn help_told<R: Abort + AllocGlobal + Threads + Wait + Sync>(
     rt: &R,
     words: &str,
@@ -225,7 +225,7 @@ check|end ~ 2>>
 check|large ~ 3>>
 ";
 
-// Words that are answered, where standard output has a fault after so many calls and fewer.
+// Words that are answered, with a fault of standard output after this many calls and fewer.
 fn compare_out<R: Abort + AllocGlobal + Threads + Wait + Sync>(rt: &R, fault: Fault, last: u32) {
     for calls_before in 0..=last {
         let asked = Asked::Program((fault, calls_before), NEVER);
@@ -233,7 +233,7 @@ fn compare_out<R: Abort + AllocGlobal + Threads + Wait + Sync>(rt: &R, fault: Fa
     }
 }
 
-// Words that are refused, where standard error has a fault after at most two calls.
+// Words that are refused, with a fault of standard error after at most two calls.
 fn compare_err<R: Abort + AllocGlobal + Threads + Wait + Sync>(rt: &R, fault: Fault) {
     for calls_before in 0..3 {
         let asked = Asked::Program(NEVER, (fault, calls_before));

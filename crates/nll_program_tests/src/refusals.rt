@@ -61,7 +61,7 @@ nll-facts 2|points 1|return all| ~ line 3: Syntax
 nll-facts 2|points all| ~ line 2: Syntax
 ";
 
-// Lines that are faulty as the first line behind the header.
+// Lines that are faulty as the first line after the header.
 const FIRST: &str = "
 points ~ line 2: Syntax
 points 1 1 ~ line 2: Syntax
@@ -95,7 +95,7 @@ constraint 'static 'static 0 ~ line 2: Syntax
 end ~ line 2: Syntax
 ";
 
-// Lines that are faulty behind the points 0 and 1 and the universal region 'a.
+// Lines that are faulty after the points 0 and 1 and the universal region 'a.
 const BEHIND_UNIVERSAL: &str = "
 points 2 ~ line 4: Syntax
 points 0 ~ line 4: Syntax
@@ -119,7 +119,7 @@ region 'a ~ line 4: Duplicate
 region 'static ~ line 4: Duplicate
 ";
 
-// Lines that are faulty behind the points 0 and 1, the universal region 'a and the region 'x.
+// Lines that are faulty after the points 0 and 1, the universal region 'a and the region 'x.
 const BEHIND_REGION: &str = "
 universal 'b ~ line 5: Syntax
 universal 'x ~ line 5: Syntax
@@ -170,7 +170,7 @@ constraint 'z 'x 2 ~ line 5: Unknown
 points 0 ~ line 5: Syntax
 ";
 
-// Lines that are faulty behind a fact: with it all declarations are over.
+// Lines that are faulty after a fact: with it all declarations are over.
 const BEHIND_FACT: &str = "
 points 2 ~ line 6: Syntax
 universal 'a ~ line 6: Syntax
@@ -181,7 +181,7 @@ next 0 2 ~ line 6: Range
 return 2 ~ line 6: Range
 ";
 
-// Lines that are faulty behind the last line.
+// Lines that are faulty after the last line.
 const BEHIND_END: &str = "
 end ~ line 6: Syntax
 points 1 ~ line 6: Syntax
@@ -194,7 +194,7 @@ nll-facts 1 ~ line 6: Syntax
 # ^ ~ line 6: NotUtf8
 ";
 
-// Tries lines behind lines that are fine, each as the last one and with a further line.
+// Tries lines after lines that are right, each as the last one and before a further line.
 fn compare_behind<R: Abort + AllocGlobal + Threads + Wait + Sync>(
     rt: &R,
     before: &str,
@@ -204,8 +204,8 @@ fn compare_behind<R: Abort + AllocGlobal + Threads + Wait + Sync>(
     compare_within(rt, Asked::Said, (before, "\r|end|"), faulty);
 }
 
-// A text that doesn't fit has this fault; a faulty line is refused with this kind, whether it is
-// the last one or a further line stands behind it.
+// A text that isn't valid has this fault; a faulty line is refused with this kind, whether it is
+// the last one or a further line follows.
 #[test]
 fn refuses_texts(rt: HostRuntime) {
     compare_rows(&rt, Asked::Said, TEXTS);

@@ -1,13 +1,13 @@
-//! Replays of schedules, and what is told where there is none.
+//! Replays of schedules, and what is reported if there is none.
 use super::notes::say;
 use super::program::{NEVER, USAGE_LINE};
 use super::rows::{ALONE, Around, Asked, compare_row, compare_rows, compare_same, compare_within};
-use nll_worked_texts::TWO_BORROWS;
+use nll_worked::TWO_BORROWS;
 use std::process::Abort;
 use std::sync::Wait;
 use std::thread::Threads;
 
-// A schedule behind its header.
+// A schedule after its header.
 const HEADED: Around<'static> = ("nll-schedule 1|", "");
 
 const CIRCLE_BY_TWO: Asked = Asked::Desk("replay|circle|--owners|2|--schedule|sheet");
@@ -78,7 +78,7 @@ fn compare_events<R: Abort + AllocGlobal + Threads + Wait + Sync>(
     compare_row(rt, CIRCLE_BY_TWO, HEADED, events, want.as_str());
 }
 
-// What each event answers, and the balance and the values behind each, are those of the table.
+// The answer of each event, and the balance and the values after it, are those of the table.
 #[test]
 fn replays_event_by_event(rt: HostRuntime) {
     let mut events = String::new(rt.alloc());
@@ -99,8 +99,8 @@ leave 0|take 0 0|push 0 0|clear 0|owe 0| ~ 0>1 not now|2 not now|3 not now|4 not
 balance 1|'static:|'1:|'2:|>
 ";
 
-// What the program does with words over the texts of the shelf. Where no number is given there is
-// one owner, and the regions are dealt in turns where nothing else is said.
+// What the program does with words over the texts of the shelf. By default there is one owner, and
+// the regions are assigned round-robin.
 const REPLAYED: &str = "
 replay|circle|--schedule|still ~ 0>balance 1|'static:|'1:|'2:|>
 replay|--owners=64|--schedule=still|--|circle ~ 0>balance 64|'static:|'1:|'2:|>

@@ -49,7 +49,7 @@ nll-facts 1|points 12|region 'x|next 11 10|return 11|base 'x 11|constraint 'x 'x
     points 12|universal 'static|region 'x|next 11 10|return 11|base 'x 11|constraint 'x 'x 11|
 ";
 
-// The same of version 2: what version 1 has, and constraints at all points.
+// Like `MEANT`, for version 2: what version 1 has, and constraints at all points.
 const MEANT_BY_SECOND: &str = "
 nll-facts 2|points 1|end| ~ points 1|universal 'static|
 nll-facts 2|points 2|region 'x|next 0 1|return 1|base 'x 1|constraint 'x 'x 0|end| ~ \
@@ -68,7 +68,7 @@ nll-facts 2|points 1|region 'all|constraint 'all 'all all|constraint 'all 'all 0
     points 1|universal 'static|region 'all|constraint 'all 'all all|constraint 'all 'all 0|
 ";
 
-// A text that fits says this, and nothing else.
+// A valid text says this, and nothing else.
 #[test]
 fn reads_texts(rt: HostRuntime) {
     compare_rows(&rt, Asked::Said, MEANT);

@@ -1,5 +1,5 @@
-//! Tables of texts and of what is told of them: in each row a text, ` ~ `, and what is told. An
-//! empty row, or one that begins with `//`, says nothing.
+//! Tables of texts and of what is reported of them: in each row a text, ` ~ `, and what is
+//! reported. An empty row, or one that begins with `//`, is skipped.
 use super::answers::{answer_handed, answer_to};
 use super::comparison::compare;
 use super::problem_text::said;
@@ -17,26 +17,26 @@ pub enum Asked {
     Said,
     /// The answer to a command.
     Answer(Command),
-    /// The answer to a command, where the text is handed over.
+    /// The answer to a command, with the text handed over.
     Handed(Command),
     /// What the program does with these words over the text.
     Run(&'static str),
     /// What the program does with these words over the texts of the shelf and the text, which is at
     /// the path `sheet`.
     Desk(&'static str),
-    /// Which line the words are. They stand between bars.
+    /// Which line the words are. They are separated by bars.
     Line,
-    /// What the program does with the words, over the texts of the shelf, where standard output and
+    /// What the program does with the words, over the texts of the shelf, if standard output and
     /// standard error have these faults.
     Program(FaultAt, FaultAt),
     /// Whether the words are answered with help that ends so.
     Help(&'static str),
 }
 
-/// What stands in front of something, and what stands behind it.
+/// What is before something, and what is after it.
 pub type Around<'a> = (&'a str, &'a str);
 
-/// What stands around a text that stands alone.
+/// Nothing is around a whole text.
 pub const ALONE: Around<'static> = ("", "");
 
 // The byte that a byte of a row stands for: a bar for the end of a line, `!` for a bar, `^` and a
@@ -58,7 +58,7 @@ fn put_meant(rt: &impl Abort, out: &mut Vec<u8>, row: &str) {
     }
 }
 
-/// The bytes that some of a row stands for, and what stands around it.
+/// The bytes that some of a row stands for, with what is around it.
 pub fn bytes_of<R: Abort + AllocGlobal + Threads + Wait + Sync>(
     rt: &R,
     (front, back): Around<'_>,
@@ -71,7 +71,7 @@ pub fn bytes_of<R: Abort + AllocGlobal + Threads + Wait + Sync>(
     out
 }
 
-/// What is told of words, or of a text.
+/// What is reported of words, or of a text.
 pub fn told<R: Abort + AllocGlobal + Threads + Wait + Sync>(
     rt: &R,
     asked: Asked,
@@ -90,7 +90,7 @@ pub fn told<R: Abort + AllocGlobal + Threads + Wait + Sync>(
     }
 }
 
-/// Ends the test unless that is told of a text, both as in a row.
+/// Ends the test unless this is reported of a text, both as in a row.
 pub fn compare_row<R: Abort + AllocGlobal + Threads + Wait + Sync>(
     rt: &R,
     asked: Asked,
@@ -105,12 +105,12 @@ pub fn compare_row<R: Abort + AllocGlobal + Threads + Wait + Sync>(
     compare(rt, row, told, want.as_slice());
 }
 
-// Whether a row says something.
+// Whether a row isn't skipped.
 fn says_something(row: &str) -> bool {
     !row.is_empty() && !row.starts_with("//")
 }
 
-// The same of each row of a table, or of each text of it what is the same.
+// Compares each row of a table or, if what is reported is given, each text of it.
 fn compare_each<R: Abort + AllocGlobal + Threads + Wait + Sync>(
     rt: &R,
     asked: Asked,
@@ -126,7 +126,7 @@ fn compare_each<R: Abort + AllocGlobal + Threads + Wait + Sync>(
     }
 }
 
-/// Ends the test unless of each text of a table that is told which its row says.
+/// Ends the test unless of each text of a table exactly what its row says is reported.
 pub fn compare_rows<R: Abort + AllocGlobal + Threads + Wait + Sync>(
     rt: &R,
     asked: Asked,
@@ -135,7 +135,7 @@ pub fn compare_rows<R: Abort + AllocGlobal + Threads + Wait + Sync>(
     compare_each(rt, asked, ALONE, None, rows);
 }
 
-/// The same, where something stands around each text.
+/// Like `compare_rows`, with something around each text.
 pub fn compare_within<R: Abort + AllocGlobal + Threads + Wait + Sync>(
     rt: &R,
     asked: Asked,
@@ -145,7 +145,7 @@ pub fn compare_within<R: Abort + AllocGlobal + Threads + Wait + Sync>(
     compare_each(rt, asked, around, None, rows);
 }
 
-/// The same, where the same is told of each text.
+/// Like `compare_within`, with the same reported of each text.
 pub fn compare_same<R: Abort + AllocGlobal + Threads + Wait + Sync>(
     rt: &R,
     asked: Asked,

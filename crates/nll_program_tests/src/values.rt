@@ -43,7 +43,7 @@ points 2|region '1|region '2|region '3|region '4|next 0 1|base '1 0|base '1 1|co
     'static: 0 1 end('static)|'1: 0 1|'2: 0 1|'3: 0 1|'4: 1|
 ";
 
-// A universal region holds every point and its end; a path comes to the ends behind a return point.
+// A universal region holds every point and its end; a path reaches the ends after a return point.
 const ENDS: &str = "
 // Universal regions stand first, without any line about them.
 points 2|universal 'b|universal 'a|region 'r ~ \
@@ -63,7 +63,7 @@ points 1|universal 'b|universal 'a|region 'r|return 0|constraint 'r 'a 0|constra
     'static: 0 end('static)|'b: 0 end('b)|'a: 0 end('a)|'r: 0 end('static) end('b) end('a)|
 ";
 
-// An end is passed on from region to region as a point behind the return points is.
+// An end is passed on from region to region like a point after the return points.
 const ENDS_PASSED_ON: &str = "
 // A plain region passes ends on.
 points 3|universal 'a|region 'r|region 's|next 0 1|next 1 2|return 2|constraint 's 'r 1|\
@@ -80,7 +80,7 @@ points 1|universal 'a|return 0|constraint 'static 'a 0 ~ \
     'static: 0 end('static) end('a)|'a: 0 end('a)|
 ";
 
-// What stands around the lines of a text.
+// What is around the lines of a text.
 const TEXT: Around<'static> = ("nll-facts 1|", "|end|");
 
 // Ends the test unless these are the reports of the texts' values.
@@ -88,7 +88,7 @@ fn compare_values<R: Abort + AllocGlobal + Threads + Wait + Sync>(rt: &R, rows: 
     compare_within(rt, Asked::Answer(Command::Values), TEXT, rows);
 }
 
-// The same, and unless the texts have no fault.
+// Like `compare_values`, and unless the texts have no fault.
 fn compare_without_fault<R: Abort + AllocGlobal + Threads + Wait + Sync>(rt: &R, rows: &str) {
     compare_values(rt, rows);
     compare_same(rt, Asked::Answer(Command::Check), TEXT, "ok|", rows);

@@ -53,7 +53,7 @@ pub fn line_told(rt: &impl Abort, alloc: Global, words: &str) -> String {
     out
 }
 
-// A command and one file, with `--` before the file or behind it.
+// A command and one file, with `--` before the file or after it.
 const TAKEN: &str = "
 values|a.facts ~ Values a.facts
 check|a.facts ~ Check a.facts
@@ -71,7 +71,7 @@ values|a=b c ~ Values a=b c
 values|ä.facts ~ Values ä.facts
 ";
 
-// Options before the file and behind it, in two words or one.
+// Options before the file and after it, in two words or one.
 const OPTIONS: &str = "
 values|a|--owners|2 ~ Values a, 2 owners
 values|--owners=2|a ~ Values a, 2 owners
@@ -95,7 +95,7 @@ replay|a|--deal|blocks|--schedule=-s ~ Replay a, Blocks, schedule -s
 replay|a|--cut|c|--schedule= ~ Replay a, cut c, schedule\x20
 ";
 
-// Whatever is not of that form, options that there are not, and help behind a word that is refused.
+// Words of other forms, options that don't exist, and help after a word that is refused.
 const REFUSED: &str = "
  ~ usage
 values
@@ -244,7 +244,7 @@ Options:
   -h, --help                 Print help
 ";
 
-// Words that ask for help of the program, or of a command where they stand behind it.
+// Words that ask for help of the program, or of a command if they follow it.
 const ASK_HELP: &str = "
 --help
 -h
@@ -272,7 +272,7 @@ replay|--schedule|s|--help
 replay|a|--help|--mail|queue
 ";
 
-// Ends the test unless that is told of each of the words.
+// Ends the test unless this is reported of each of the words.
 fn compare_words<R: Abort + AllocGlobal + Threads + Wait + Sync>(rt: &R, same: &str, rows: &str) {
     compare_same(rt, Asked::Line, ALONE, same, rows);
 }
@@ -324,7 +324,7 @@ const SCHEDULE_ABOUT: &str = "Takes the events from the schedule SCHEDULE";
 
 const REPLAY_OWNERS_ABOUT: &str = "Has 1 to 64 owners of regions, and not one";
 
-// A command with the options that say how the regions are dealt, for `clap`.
+// A command with the options that say how the regions are assigned, for `clap`.
 fn with_deal<'a>(rt: &impl Abort, alloc: Global, command: Command<'a>) -> Command<'a> {
     let deal = option(alloc, "deal", "round|blocks", DEAL_ABOUT);
     let cut = option(alloc, "cut", "CUT", CUT_ABOUT);
@@ -391,7 +391,7 @@ fn program<'a>(rt: &impl Abort, alloc: Global) -> Command<'a> {
     program.expect(rt, "memory")
 }
 
-// The text that `clap` answers words with where it has no matches.
+// The text with which `clap` answers words that have no matches.
 fn text_of_clap(rt: &impl Abort, alloc: Global, words: &[&str]) -> String {
     let matches = program(rt, alloc).try_get_matches_from(words);
     let error = matches.expect_err(rt, "help");

@@ -1,6 +1,6 @@
 //! Worked MIR texts.
 use super::examples::{CHECK, EITHER, Example, OK, VALUES, compare_examples};
-use nll_worked_texts::{
+use nll_worked::{
     ASSERTED, CALLED, DROPPED, FUNCTIONS, MOVED, REBORROW, RETURNED, TAKERS, TWO_BORROWS,
 };
 

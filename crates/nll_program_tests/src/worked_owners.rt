@@ -13,7 +13,7 @@ const BY_TURNS: &str = "nll-facts 1|points 2|region '1|region '2|next 0 1|return
 
 const BY_TURNS_VALUES: &str = "0>'static: 0 1 end('static)|'1: 0 1|'2: 0 1|>";
 
-// How many owners there may be, and how the regions are dealt to them.
+// How many owners there may be, and how the regions are assigned to them.
 const DEALT: &[Example] = &[
     Example {
         shows: "there are 1 to 64 owners",
@@ -134,7 +134,7 @@ fn worked_schedules_are_replayed(rt: HostRuntime) {
     compare_examples(&rt, REPLAYED);
 }
 
-// What the program does where two regions hold 300 points, more than a ring has places.
+// What the program does if two regions hold 300 points, more than a ring has places.
 const MANY_TOLD: &[(&str, &[Piece])] = &[
     ("values|sheet|--owners|2|--mail|queue", MANY_VALUES),
     ("values|sheet|--owners|2|--mail|ring", MANY_VALUES),

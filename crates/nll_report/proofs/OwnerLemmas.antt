@@ -14,7 +14,7 @@ use Rattle.nll_format.specs.declared.error.TextKind.TheVariants as kind
 use Rattle.nll_cut.specs.Partition.{Answers, Cut, cut_of, list_error, may_be_count, owners_error, stranger_error}
 use Rattle.nll_cut.specs.declared.error.CutError.{CutError}
 use Rattle.nll_cut.specs.declared.error.CutError.TheVariants as due
-use Rattle.nll_cut_text.specs.CutText.{Means, cut}
+use Rattle.nll_lists.specs.CutText.{Means, cut}
 use Rattle.nll_run.specs.declared.error.RunError.TheVariants as run
 use Rattle.nll_answer.specs.Answer.{IsProblemAnswer}
 use Rattle.nll_answer.specs.Running.{IsRunError}

@@ -5,7 +5,7 @@ use Rattle.std.proofs.lemmas.List.{length-append}
 use Rattle.std.specs.Io.KnownBytes.{Appends}
 use Rattle.nll_format.specs.declared.error.TextKind.{TextKind}
 use Rattle.nll_format.specs.declared.error.TextKind.TheVariants as kind
-use Rattle.nll_body_problem.specs.declared.error.RuleError.TheVariants as rule
+use Rattle.nll_rules.specs.declared.error.RuleError.TheVariants as rule
 use Rattle.nll_answer.specs.Texts.{IsTextFault, IsAnswerError}
 use Rattle.nll_answer.specs.declared.error.AnswerError.{AnswerError}
 use Rattle.nll_answer.specs.declared.error.AnswerError.TheVariants as answer

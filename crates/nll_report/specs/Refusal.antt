@@ -1,5 +1,5 @@
 -- Why the program gives no report: its status, its line, and how it follows from a text's fault.
--- Source: this project's own.
+-- Source: project's choice.
 use Rattle.std.specs.Prelude.{◌≡◌, ℕ, List, [], ◌∷◌, ◌++◌, codes, string_bytes}
 use Rattle.std.specs.Fmt.{decimal}
 use Rattle.nll_problem.specs.declared.error.Kind.{Kind}
@@ -18,9 +18,9 @@ use Rattle.nll_report.specs.declared.messages.Refusal.TheVariants.{Memory, Canno
 use Rattle.nll_cut.specs.declared.error.CutError.{CutError}
 use Rattle.nll_cut.specs.declared.error.CutError.TheVariants as cut
 use Rattle.nll_run.specs.declared.error.RunError.TheVariants as run
-use Rattle.nll_body_problem.specs.declared.error.RuleError.TheVariants as rule
+use Rattle.nll_rules.specs.declared.error.RuleError.TheVariants as rule
 
--- 2 for what was handed to the program, 3 for what it lacked
+-- 2 for what was given to the program, 3 for what it lacked
 abbrev pub status_of : Refusal → ℕ
 status_of Usage = 2
 status_of (CannotRead path) = 2
@@ -62,8 +62,8 @@ abbrev pub schedule_refusal_at : ℕ → TextKind → Refusal
 schedule_refusal_at line kind.Memory = Memory
 schedule_refusal_at line other = ScheduleText line other
 
--- the refusal follows from why a list is no cut; that the number of owners is none is refused
--- among the words
+-- the refusal follows from why a list is no cut; a number of owners that isn't allowed is refused
+-- with the words already
 abbrev pub IsCutRefusal : CutError → Refusal → Type 0
 IsCutRefusal cut.Owners refusal = ⊥
 IsCutRefusal cut.Length refusal = refusal ≡ CutLength

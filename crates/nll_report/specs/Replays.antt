@@ -5,9 +5,9 @@ use Rattle.nll_problem.specs.Problem.{Problem}
 use Rattle.nll_format.specs.Labels.{Labels}
 use Rattle.nll_format.specs.Text.{IsFault}
 use Rattle.nll_cut.specs.Partition.{Cut}
-use Rattle.nll_event.specs.declared.event.Event.{Event}
-use Rattle.nll_schedule_text.specs.ScheduleText.{schedule, Means}
-use Rattle.nll_replay.specs.ReplayReport.{IsReplayReport}
+use Rattle.nll_model.specs.declared.event.Event.{Event}
+use Rattle.nll_lists.specs.ScheduleText.{schedule, Means}
+use Rattle.nll_answer.specs.ReplayReport.{IsReplayReport}
 use Rattle.nll_command_line.specs.declared.options.Deal.{Deal}
 use Rattle.nll_report.specs.Owners.{IsAskedCut, IsCutRefused, IsFileMeaning, IsFileTold}
 use Rattle.nll_report.specs.Texts.{Holds, Lacks}
@@ -15,12 +15,12 @@ use Rattle.nll_report.specs.declared.messages.Refusal.{Refusal}
 use Rattle.nll_report.specs.declared.messages.Refusal.TheVariants.{CannotRead, ScheduleText}
 use Rattle.nll_report.specs.declared.messages.Refusal.TheVariants.{Memory}
 
--- a text of the schedule's file lists these events of so many owners
+-- a text of the schedule's file lists these events of this many owners
 abbrev pub IsListedSchedule : Holds → List ℕ → ℕ → List Event → Type 0
 IsListedSchedule holds path count events =
     (text : List ℕ) × holds path text × Means count text events
 
--- a text of the schedule's file lists events of so many owners, and the report is that of their
+-- a text of the schedule's file lists events of this many owners, and the report is that of their
 -- replay by the owners of this cut of the problem's regions
 abbrev pub IsListedReplay : Holds → ℕ → List ℕ → List ℕ → Problem → Labels → Cut → Type 0
 IsListedReplay holds count schedule report problem labels cut =
@@ -37,12 +37,13 @@ IsFileReplay holds file count how path schedule report status =
 
 -- ---- why there is no replay
 
--- the refusal tells the fault of a text as a schedule of so many owners, or that memory was refused
+-- the refusal says the fault of a text as a schedule of this many owners, or that memory was
+-- refused
 abbrev pub IsScheduleTextRefused : ℕ → List ℕ → Refusal → Type 0
 IsScheduleTextRefused count text (ScheduleText line kind) = IsFault (schedule count) text line kind
 IsScheduleTextRefused count text other = other ≡ Memory
 
--- the refusal tells the truth of a text of the schedule's file, or that there is none
+-- the refusal is true of a text of the schedule's file, or says that there is none
 abbrev pub IsScheduleRefused : Holds → Lacks → ℕ → List ℕ → Refusal → Type 0
 IsScheduleRefused holds lacks count path (CannotRead other) =
     (string_bytes other ≡ path) × lacks path
@@ -50,8 +51,8 @@ IsScheduleRefused holds lacks count path Memory = Unit {0}
 IsScheduleRefused holds lacks count path other =
     (text : List ℕ) × holds path text × IsScheduleTextRefused count text other
 
--- the refusal tells why there is no cut; or the cut that is asked for is there, and it tells why
--- there is no schedule: so the cut file is dealt with wholly before the schedule
+-- the refusal says why there is no cut; or the cut that is asked for is there, and it says why
+-- there is no schedule: so faults of the cut file come before those of the schedule
 abbrev pub IsReplayRefused : Holds → Lacks → ℕ → ℕ → Deal → Option (List ℕ) → List ℕ → Refusal
     → Type 0
 IsReplayRefused holds lacks regions count how path schedule refusal =
@@ -59,8 +60,8 @@ IsReplayRefused holds lacks regions count how path schedule refusal =
     ⊎ ((cut : Cut) × IsAskedCut holds regions count how path cut
     × IsScheduleRefused holds lacks count schedule refusal)
 
--- A text of the file means a problem, and the refusal tells the truth of the cut of its regions or
--- of the schedule. So the file is dealt with wholly before both.
+-- A text of the file means a problem, and the refusal is true of the cut of its regions or of the
+-- schedule. So faults of the file come before those of both.
 pub record IsFileReplayRefused (holds : Holds) (lacks : Lacks) (file : List ℕ) (count : ℕ)
     (how : Deal) (path : Option (List ℕ)) (schedule : List ℕ) (refusal : Refusal) : Type 0 where
   pub problem : Problem

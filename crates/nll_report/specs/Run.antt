@@ -1,5 +1,5 @@
--- What the program makes of its words, over the texts that are held at paths.
--- Source: project's choice.
+-- What the program does with its words, over the texts that are held at paths. Source: project's
+-- choice.
 use Rattle.std.specs.Prelude.{◌≡◌, ◌⊎◌, ℕ, List, Option, Some, string_bytes}
 use Rattle.std.specs.Io.KnownBytes.{Appends}
 use Rattle.nll_format.specs.declared.error.TextKind.{TextKind}
@@ -11,7 +11,7 @@ use Rattle.nll_report.specs.declared.messages.Refusal.TheVariants.{Limit, CutTex
 use Rattle.nll_report.specs.declared.messages.Refusal.TheVariants.{NoSuchOwner, ScheduleText}
 use Rattle.nll_report.specs.declared.messages.Refusal.TheVariants.{Thread, Memory, CannotWrite}
 use Rattle.nll_problem.specs.declared.error.Kind.{Kind}
-use Rattle.nll_body_problem.specs.declared.error.RuleError.TheVariants as rule
+use Rattle.nll_rules.specs.declared.error.RuleError.TheVariants as rule
 use Rattle.nll_answer.specs.declared.error.AnswerError.TheVariants as answer
 use Rattle.nll_command_line.specs.declared.task.Task.{Task}
 use Rattle.nll_command_line.specs.declared.task.Task.TheVariants.{Values, Check, Replay}
@@ -40,8 +40,8 @@ pub record IsFileAnswer (holds : Holds) (asked : Command) (file report : List �
   pub held : holds file text
   pub answer : IsAnswer asked text report status
 
--- the report and the status answer the command on the file; and where owners are asked for, they
--- answer it by the cut that is asked for of the regions of a problem that a text of the file means
+-- the report and the status answer the command on the file; if owners are asked for, they answer it
+-- by the cut that is asked for, of the regions of a problem that a text of the file means
 abbrev pub IsAskedAnswer : Holds → Command → List ℕ → Said → List ℕ → ℕ → Type 0
 IsAskedAnswer holds asked file said report status =
     IsFileAnswer holds asked file report status
@@ -50,7 +50,7 @@ IsAskedAnswer holds asked file said report status =
     (λ problem labels cut. IsProblemAnswer asked problem labels report status))
 
 -- the report and the status answer the task on the file: its values or faults, or the replay of the
--- schedule that the options give; where the options ask for owners, by the cut that they ask for
+-- schedule that the options give; if the options ask for owners, by the cut that they ask for
 abbrev pub IsTaskAnswer : Holds → Task → List ℕ → Said → List ℕ → ℕ → Type 0
 IsTaskAnswer holds Values file said report status =
     IsAskedAnswer holds command.Values file said report status
@@ -70,7 +70,7 @@ pub record IsAsked (words : Words) (task : Task) (file : List ℕ) (said : Said)
   pub other : AsksPlainlyForHelp others → ⊥
 
 -- The words are a line and do not plainly ask for help, and the report and the status answer its
--- task on its file; those of values and of faults with owners as without.
+-- task on its file; those of values and of faults are the same with owners as without.
 pub record IsReport (holds : Holds) (words : Words) (report : List ℕ) (status : ℕ) : Type 0 where
   pub task : Task
   pub file : List ℕ
@@ -78,8 +78,8 @@ pub record IsReport (holds : Holds) (words : Words) (report : List ℕ) (status 
   pub asked : IsAsked words task file said
   pub answer : IsTaskAnswer holds task file said report status
 
--- The words, but for options among them, are no plain line and ask for help, which the bytes are,
--- with status 0.
+-- The words, without options among them, are no plain line and ask for help; the bytes are the
+-- help, with status 0.
 pub record IsHelp (words : Words) (bytes : List ℕ) (status : ℕ) : Type 0 where
   pub others : Words
   pub said : Said
@@ -93,14 +93,14 @@ pub record IsHelp (words : Words) (bytes : List ℕ) (status : ℕ) : Type 0 whe
 abbrev pub IsRun : Holds → Words → List ℕ → ℕ → Type 0
 IsRun holds words bytes status = IsReport holds words bytes status ⊎ IsHelp words bytes status
 
--- The bytes of a run with this status were put behind the known bytes of a writer.
+-- The bytes of a run with this status were appended to the known bytes of a writer.
 pub record IsPrinted (holds : Holds) (words : Words) (status : ℕ) (old new : Option (List ℕ))
     : Type 0 where
   pub bytes : List ℕ
   pub run : IsRun holds words bytes status
   pub appended : Appends old new bytes
 
--- A sink that may refuse some of the bytes of a run, whatever its status, got the first of them.
+-- A sink that may refuse some of the bytes of a run, whatever its status, got a prefix of them.
 pub record IsBegun (holds : Holds) (words : Words) (room : Option ℕ) (old new : Option (List ℕ))
     : Type 0 where
   pub bytes : List ℕ
@@ -120,7 +120,7 @@ pub record IsFileLimit (holds : Holds) (file : List ℕ) (counted : Kind) : Type
   pub held : holds file text
   pub over : IsAnswerError text (answer.Rule (rule.Limit counted))
 
--- the refusal tells the truth of a text of the file
+-- the refusal is true of a text of the file
 abbrev pub IsFileRefused : Holds → Lacks → List ℕ → Refusal → Type 0
 IsFileRefused holds lacks file Usage = ⊥
 IsFileRefused holds lacks file (CannotRead path) = (string_bytes path ≡ file) × lacks file
@@ -134,14 +134,14 @@ IsFileRefused holds lacks file Thread = ⊥
 IsFileRefused holds lacks file Memory = Unit {0}
 IsFileRefused holds lacks file CannotWrite = ⊥
 
--- owners are asked for, and the refusal tells the truth of the cut file or of the owners at work
+-- owners are asked for, and the refusal is true of the cut file or of the owners at work
 abbrev pub AreOwnersRefused : Holds → Lacks → List ℕ → Said → Refusal → Type 0
 AreOwnersRefused holds lacks file said refusal =
     AsksForOwners said.owners said.cut × IsOwnersRefused holds lacks file
     (count_of said.owners) (deal_of said.deal) said.cut refusal
 
--- behind the file, the refusal tells the truth of owners that are asked for; or, of a replay, of
--- the cut or of the schedule
+-- after the file, the refusal is true of owners that are asked for; or, of a replay, of the cut or
+-- of the schedule
 abbrev pub IsRefusedBehindFile : Holds → Lacks → Task → List ℕ → Said → Refusal → Type 0
 IsRefusedBehindFile holds lacks Values file said refusal =
     AreOwnersRefused holds lacks file said refusal
@@ -151,14 +151,14 @@ IsRefusedBehindFile holds lacks Replay file said refusal =
     (path : List ℕ) × (said.schedule ≡ Some path) × IsFileReplayRefused holds lacks file
     (count_of said.owners) (deal_of said.deal) said.cut path refusal
 
--- the refusal tells the truth of a text of the file, or of what the task asks for behind it
+-- the refusal is true of a text of the file, or of what the task asks for after it
 abbrev pub IsTaskRefused : Holds → Lacks → Task → List ℕ → Said → Refusal → Type 0
 IsTaskRefused holds lacks task file said refusal =
     IsFileRefused holds lacks file refusal
     ⊎ IsRefusedBehindFile holds lacks task file said refusal
 
--- The words are a line and do not plainly ask for help, and the refusal tells the truth of what it
--- asks for.
+-- The words are a line and do not plainly ask for help, and the refusal is true of what it asks
+-- for.
 pub record IsLineRefused (holds : Holds) (lacks : Lacks) (words : Words) (refusal : Refusal)
     : Type 0 where
   pub task : Task
@@ -173,7 +173,7 @@ abbrev pub AreRefused : Words → Type 0
 AreRefused words = (others : Words) (said : Said) → AreRead words others said
     → IsNoSuitedLine others said × (AsksPlainlyForHelp others → ⊥)
 
--- the refusal tells the truth of the words and the texts; refused memory says nothing of them
+-- the refusal is true of the words and the texts; refused memory says nothing of them
 abbrev pub IsRefused : Holds → Lacks → Words → Refusal → Type 0
 IsRefused holds lacks words Usage = AreRefused words
 IsRefused holds lacks words (CannotRead path) = IsLineRefused holds lacks words (CannotRead path)

@@ -6,7 +6,7 @@ use Rattle.std.specs.Prelude.{ℕ, List}
 abbrev pub Holds : Type 1
 Holds = List ℕ → List ℕ → Type 0
 
--- at which paths there may be no text
+-- at which paths a text may be missing
 abbrev pub Lacks : Type 1
 Lacks = List ℕ → Type 0
 
@@ -14,6 +14,6 @@ Lacks = List ℕ → Type 0
 abbrev pub holds_anything : Holds
 holds_anything path text = Unit {0}
 
--- at any path there may be no text
+-- at any path a text may be missing
 abbrev pub lacks_anything : Lacks
 lacks_anything path = Unit {0}

@@ -13,7 +13,7 @@ use std::io::{ErrorKind, Read};
 use std::rt::Files;
 use std::{fs, io};
 
-/// One byte past the longest text: that many show that a text is too long.
+/// One byte more than the longest text: a text that has it is too long.
 const READ_LIMIT: u64 = MAX_TEXT as u64 + 1;
 
 const _: () = prove!(READ_LIMIT == 67_108_865);
@@ -41,7 +41,7 @@ impl<'a, R> Disk<'a, R> {
 
 impl<R: Files + AllocGlobal> Texts for Disk<'_, R> {
     // No contract knows which files there are and what they hold: these are the weakest relations,
-    // and allow all bytes, and the answer that there is no text, at each path.
+    // which allow at each path all bytes, and that there is no text.
     ghost holds = { λ _. holds_anything };
 
     ghost lacks = { λ _. lacks_anything };
@@ -82,7 +82,7 @@ fn text_of<F: Read + OpenFile + Drop>(alloc: Global, opened: io::Result<F>) -> i
     }
 }
 
-// The bytes of a file, or the first of them.
+// The bytes of a file, or a prefix of them.
 fn read_open<F: Read + OpenFile + Drop>(alloc: Global, file: F) -> io::Result<Vec<u8>>
     ensures { IfOk result (λ text.
         IfSome (F.remaining file) (λ bytes. text.items ≡ take read_limit bytes)) }
@@ -91,7 +91,7 @@ fn read_open<F: Read + OpenFile + Drop>(alloc: Global, file: F) -> io::Result<Ve
         Ok(known) => known.len().min(READ_LIMIT),
         Err(_) => 0,
     };
-    // The byte more shows the end of the file without another allocation.
+    // The one byte more shows the end of the file without another allocation.
     let mut text = Vec::with_capacity(alloc, length as usize + 1)?;
     file.take(READ_LIMIT).read_to_end(&mut text)?;
     Ok(text)

@@ -1,4 +1,4 @@
-//! What is made of the text of a file, and of a file of which there is none.
+//! What follows from the text of a file, and from a file that can't be read.
 ghost use Rattle.std.specs.Prelude.{◌≡◌, IfErr, IfOk, length, string_bytes};
 ghost use Rattle.nll_report.specs.Owners.{IsFileMeaning};
 ghost use Rattle.nll_report.specs.Run.{IsFileRefused};
@@ -24,7 +24,7 @@ pub(crate) fn facts_of<T: Texts>(alloc: Global, file: String, texts: &T) -> Resu
     }
 }
 
-/// Why a text is not given, told of its file.
+/// The refusal of a file of which no text is given.
 pub(crate) fn without_text(unread: Unread, file: String) -> Refusal
     ensures cannot { unread ≡ Unread.Cannot → result ≡ Refusal.CannotRead file }
     ensures memory { unread ≡ Unread.Memory → result ≡ Refusal.Memory }

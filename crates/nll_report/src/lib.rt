@@ -2,8 +2,7 @@
 //!
 //! Read `program` first (what is done with the words), then `owners`, `schedule_replay`,
 //! `file_text`, `sink`, `report_output`, `messages`, `disk` and `words`. The words are read in
-//! `nll_command_line`, a text is answered in `nll_answer`, and the report of a replay is made in
-//! `nll_replay`.
+//! `nll_command_line`; a text is answered, and a schedule replayed, in `nll_answer`.
 #![tactic(auto)]
 
 mod disk;
@@ -24,11 +23,10 @@ pub use nll_answer::{
     AnswerError, Command, answer, answer_of, answer_run, answer_text, faults_text, meaning,
     no_text_has_both, one_text_fault, one_text_meaning, read_meaning, values_text,
 };
-pub use nll_body_problem::RuleError;
 pub use nll_command_line::{Deal, Line, LineError, MailKind, Task, line};
-pub use nll_cut_text::read_cut;
+pub use nll_lists::{read_cut, read_schedule};
+pub use nll_rules::RuleError;
 pub use nll_run::RunError;
-pub use nll_schedule_text::read_schedule;
 pub use program::{Texts, drive, run_in_process};
 pub use report_output::put;
 pub use sink::Sink;

@@ -13,9 +13,9 @@ use crate::error::Unwritten;
 use crate::sink::{Sink, put_pieces};
 use itoa::Buffer;
 use nll_answer::AnswerError;
-use nll_body_problem::RuleError;
 use nll_core::Kind;
 use nll_format::{TextError, TextKind};
+use nll_rules::RuleError;
 use nll_run::RunError;
 use std::alloc::AllocError;
 use std::error::Error;
@@ -29,7 +29,7 @@ pub const USAGE: &str = "usage: nllc values|check|replay FILE [--owners N] \
 /// the line.
 #[derive(Debug, Drop)]
 pub enum Refusal {
-    /// The words are none of the forms.
+    /// The words have none of the allowed forms.
     Usage,
     /// The file of this path cannot be read.
     CannotRead(String),
@@ -54,7 +54,7 @@ pub enum Refusal {
 }
 
 impl Refusal {
-    /// The status of the program: 2 for what was handed to it, 3 for what it lacked.
+    /// The status of the program: 2 for what was given to it, 3 for what it lacked.
     pub fn status(&self) -> u8
         ensures { result ≡ status_of self.now }
     {
@@ -68,10 +68,10 @@ impl Refusal {
         }
     }
 
-    /// Puts the line of the refusal, with its end. It takes no memory.
+    /// Puts the line of the refusal, with its end. Takes no memory.
     ///
     /// # Errors
-    /// `Unwritten` where the sink takes some of the line only.
+    /// `Unwritten` if the sink takes only a part of the line.
     pub fn print<S: Sink>(&self, to: &mut S) -> Result<(), Unwritten>
         ensures all { OnOk result
             (Appends (S.contents to.old) (S.contents to.new) (refusal_line self.now)) }

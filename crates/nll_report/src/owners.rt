@@ -18,10 +18,10 @@ use crate::program::Texts;
 use nll_answer::{AnswerError, Command, answer_run};
 use nll_command_line::{Deal, MailKind};
 use nll_cut::{Cut, CutError};
-use nll_cut_text::read_cut;
 use nll_facts::Facts;
 use nll_format::{TextError, TextKind};
 use nll_ledger::WordLedger;
+use nll_lists::read_cut;
 use nll_mail::{Mail, QueueMail, RingMail};
 use nll_worker::NoGate;
 use std::alloc::Global;
@@ -33,7 +33,7 @@ use std::thread::Threads;
 pub(crate) struct AskedCut {
     /// How many owners there are.
     pub(crate) count: u16,
-    /// How the regions are dealt to them where there is no cut file.
+    /// How the regions are assigned to them without a cut file.
     pub(crate) deal: Deal,
     /// The path of the cut file.
     pub(crate) path: Option<String>,
@@ -42,13 +42,13 @@ pub(crate) struct AskedCut {
 /// The owners that a line asks for.
 #[derive(Drop)]
 pub(crate) struct Owners {
-    /// How the regions are cut among them.
+    /// How the regions are assigned to them.
     pub(crate) cut: AskedCut,
-    /// What carries what they tell each other.
+    /// The mailboxes between them.
     pub(crate) mail: MailKind,
 }
 
-/// The cut that options ask for: among 1 owner and in turns, where nothing is said.
+/// The cut that options ask for: by default one owner and round-robin.
 pub(crate) fn cut_asked(owners: Option<u16>, deal: Option<Deal>, path: Option<String>) -> AskedCut
     ensures { (result.count ≡ count_of owners) × (result.deal ≡ deal_of deal)
         × (result.path ≡ path) }
@@ -60,8 +60,8 @@ pub(crate) fn cut_asked(owners: Option<u16>, deal: Option<Deal>, path: Option<St
     }
 }
 
-/// The owners that options ask for: none where neither their number is given nor a cut file, else 1
-/// and in turns, over queues, where nothing is said.
+/// The owners that options ask for: none if neither their number is given nor a cut file; otherwise
+/// by default one owner, round-robin, over queues.
 pub(crate) fn owners_asked(
     owners: Option<u16>,
     deal: Option<Deal>,
@@ -83,7 +83,7 @@ pub(crate) fn owners_asked(
 }
 
 /// The answer to a command on the text of its file, found by owners at work in threads. The file is
-/// dealt with wholly before the cut file is opened.
+/// read and judged before the cut file is opened.
 pub(crate) fn answered_by_owners<R: AllocGlobal + Threads + Wait + Sync, T: Texts>(
     rt: &R,
     command: Command,
@@ -154,7 +154,7 @@ fn told_by_cut<R: AllocGlobal + Threads + Wait + Sync>(
     }
 }
 
-// The same over these mailboxes.
+// Like `told_by_cut`, over these mailboxes.
 fn told_over<R: AllocGlobal + Threads + Wait + Sync, M: Mail>(
     rt: &R,
     command: Command,
@@ -181,7 +181,7 @@ fn told_over<R: AllocGlobal + Threads + Wait + Sync, M: Mail>(
     )
 }
 
-/// The cut that is asked for, of so many regions.
+/// The cut that is asked for, of this many regions.
 pub(crate) fn asked_cut<T: Texts>(
     alloc: Global,
     regions: u32,
@@ -202,7 +202,7 @@ pub(crate) fn asked_cut<T: Texts>(
     }
 }
 
-// The cut by which so many regions are dealt.
+// The cut by which this many regions are assigned.
 fn dealt_cut(alloc: Global, regions: u32, count: u16, deal: Deal) -> Result<Cut, Refusal>
     requires { may_be_count count ≡ true }
     ensures regions { IfOk result (λ cut. length cut.list ≡ regions) }
@@ -236,7 +236,7 @@ fn listed_cut<T: Texts>(
     }
 }
 
-// The cut that a text lists. The text is let go as soon as it is read.
+// The cut that a text lists. The text is freed as soon as it is read.
 fn cut_of_text(alloc: Global, regions: u32, count: u16, text: Vec<u8>) -> Result<Cut, Refusal>
     requires { may_be_count count ≡ true }
     ensures regions { IfOk result (λ cut. length cut.list ≡ regions) }
@@ -264,7 +264,7 @@ fn cut_of_list(alloc: Global, regions: u32, count: u16, list: Vec<u16>) -> Resul
     taken(cut)
 }
 
-// The cut, or the refusal for which there is none.
+// The cut, or the refusal if there is none.
 fn taken(cut: Result<Cut, CutError>) -> Result<Cut, Refusal>
     requires { cut ≢ Err CutError.Owners }
     ensures ok { IfOk cut (λ value. result ≡ Ok value) }

@@ -32,21 +32,21 @@ pub trait Texts {
     // Which bytes may be given for a path.
     ghost holds: { Self → List ℕ → List ℕ → Type 0 };
 
-    // For which paths it may be answered that there is no text.
+    // For which paths the result may be that there is no text.
     ghost lacks: { Self → List ℕ → Type 0 };
 
-    /// Gives the bytes of a text, or its first 67,108,865 where it has more.
+    /// Gives the bytes of a text, or its first 67,108,865 if it has more.
     fn get(&self, path: &str) -> Result<Vec<u8>, Unread>
         ensures held { IfOk result (λ text. holds self.now path.now text.items) }
         ensures lacking { IfErr result (λ e. e ≡ Unread.Cannot → lacks self.now path.now) };
 }
 
-/// Runs the program on its words, without its name, and answers its status.
+/// Runs the program on its words, without its name, and returns its status.
 ///
 /// # Shape
 /// Status 0 or 1: the report or the help is on `out`, and nothing is on `err`. Status 2: nothing is
-/// on `out`, and one line is on `err`. Status 3: the same, save that with `nllc: cannot write` some
-/// of the report may be on `out`. What `err` does not take of its line is lost.
+/// on `out`, and one line is on `err`. Status 3: the same, except that with `nllc: cannot write`
+/// some of the report may be on `out`. What `err` does not take of its line is lost.
 pub fn drive<R: AllocGlobal + Threads + Wait + Sync, T: Texts, O: Sink, E: Sink>(
     rt: &R,
     words: &[String],
@@ -63,7 +63,7 @@ pub fn drive<R: AllocGlobal + Threads + Wait + Sync, T: Texts, O: Sink, E: Sink>
         ⊎ IsBegun (T.holds texts.now) (map string_bytes words.now)
         (O.room out.old) (O.contents out.old) (O.contents out.new) }
 
-    // Standard error tells a refusal of this status: it is true of the words and the texts, or
+    // Standard error has a refusal of this status: it is true of the words and the texts, or
     // standard output refused some of the report or the help.
     ensures told { 2 ≤ result → (refusal : Refusal) × (status_of refusal ≡ result)
         × (((out.new ≡ out.old) × IsRefused (T.holds texts.now) (T.lacks texts.now)
@@ -82,12 +82,12 @@ pub fn drive<R: AllocGlobal + Threads + Wait + Sync, T: Texts, O: Sink, E: Sink>
     }
 }
 
-/// Runs the program on the words and the files of its process, and answers its status. Words that
+/// Runs the program on the words and the files of its process, and returns its status. Words that
 /// are not UTF-8 are refused.
 ///
 /// # Not said
 /// No contract knows which words a process has, what its files hold, and what its own standard
-/// streams hold or take. So where `out` and `err` are those, the clauses say the status alone, and
+/// streams hold or take. So if `out` and `err` are those, the clauses say only the status, and
 /// which of the two streams is left as it is.
 pub fn run_in_process<R: Env + Files + AllocGlobal + Threads + Wait + Sync, O: Sink, E: Sink>(
     rt: &R,
@@ -134,7 +134,7 @@ fn report<R: AllocGlobal + Threads + Wait + Sync, T: Texts>(
     }
 }
 
-// What is made of words that are no line: help, or a refusal.
+// What follows from words that are no line: help, or a refusal.
 fn without_line(error: LineError) -> Result<(Vec<u8>, u8), Refusal>
     ensures { MatchResult result (λ r. IsHelpOf error r.0.items r.1) (IsRefusalOf error) }
 {
@@ -145,7 +145,7 @@ fn without_line(error: LineError) -> Result<(Vec<u8>, u8), Refusal>
     }
 }
 
-// What the line's task comes to on the text of its file.
+// The report of the line's task on the text of its file, and the status.
 fn answered<R: AllocGlobal + Threads + Wait + Sync, T: Texts>(
     rt: &R,
     line: Line,
@@ -166,7 +166,7 @@ fn answered<R: AllocGlobal + Threads + Wait + Sync, T: Texts>(
     }
 }
 
-// The answer to a command on the text of the line's file, with owners where they are asked for.
+// The answer to a command on the text of the line's file, by owners if they are asked for.
 fn solved<R: AllocGlobal + Threads + Wait + Sync, T: Texts>(
     rt: &R,
     command: Command,
@@ -191,7 +191,7 @@ fn solved<R: AllocGlobal + Threads + Wait + Sync, T: Texts>(
         mail,
         schedule,
     } = line;
-    // There is one for a replay alone.
+    // Only a replay has one.
     drop(schedule);
     match owners_asked(owners, deal, mail, cut) {
         Some(owners) => answered_by_owners(rt, command, file, owners, texts),
@@ -218,7 +218,7 @@ fn answered_by_one<T: Texts>(
     }
 }
 
-// Puts the line of a refusal. That nobody reads it changes no status.
+// Puts the line of a refusal. If that fails, the status is the same.
 fn tell<E: Sink>(refusal: &Refusal, err: &mut E) -> u8
     ensures status { result ≡ status_of refusal.now }
     ensures told { IsPut (E.room err.old) (E.contents err.old) (E.contents err.new)

@@ -1,4 +1,4 @@
-//! Writing all of a report, and saying how much of it was written where that fails.
+//! Writing all of a report, and saying how much of it was written if that fails.
 ghost use Rattle.std.specs.Prelude.{◌<◌, ◌≤◌, IfErr, IfSome, IsNone, OnOk, length, take};
 ghost use Rattle.std.specs.Io.KnownBytes.{Appends, Keeps};
 
@@ -8,7 +8,7 @@ use std::io::{ErrorKind, Write};
 /// Writes the bytes, in pieces as large as the writer takes, and does not flush.
 ///
 /// # Errors
-/// `Unwritten` where a `write` fails or takes no byte. A write that a signal interrupts is tried
+/// `Unwritten` if a `write` fails or takes no byte. A write that a signal interrupts is tried
 /// again, at most 2^64 - 1 times.
 pub fn put<W: Write>(out: &mut W, bytes: &[u8]) -> Result<(), Unwritten>
     ensures all { OnOk result (Appends (W.contents out.old) (W.contents out.new) bytes.now) }
@@ -26,7 +26,7 @@ pub fn put<W: Write>(out: &mut W, bytes: &[u8]) -> Result<(), Unwritten>
     Ok(())
 }
 
-// Writes some of the bytes and answers how many, or none where the writer takes none.
+// Writes some of the bytes and returns how many, or none if the writer takes none.
 fn put_some<W: Write>(out: &mut W, bytes: &[u8]) -> Option<usize>
     ensures some { IfSome result (λ n. (0 < n) × (n ≤ length bytes.now)) }
     ensures taken { IfSome result (λ n.

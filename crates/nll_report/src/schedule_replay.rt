@@ -5,7 +5,7 @@ ghost use Rattle.nll_problem.specs.Limits.{most_owners};
 ghost use Rattle.nll_cut.specs.Partition.{may_be_count};
 ghost use Rattle.nll_command_line.specs.Options.{said_by};
 ghost use Rattle.nll_command_line.specs.declared.task.Task.TheVariants.{Replay};
-ghost use Rattle.nll_schedule_text.specs.ScheduleText.{Means};
+ghost use Rattle.nll_lists.specs.ScheduleText.{Means};
 ghost use Rattle.nll_report.specs.Refusal.{schedule_refusal_at};
 ghost use Rattle.nll_report.specs.Owners.{HasAskedCut};
 ghost use Rattle.nll_report.specs.Replays.{IsFileReplay, IsFileReplayRefused, IsListedReplay};
@@ -17,13 +17,13 @@ use crate::file_text::{facts_of, without_text};
 use crate::messages::Refusal;
 use crate::owners::{AskedCut, asked_cut, cut_asked};
 use crate::program::Texts;
+use nll_answer::replay_text;
 use nll_command_line::Line;
 use nll_cut::Cut;
-use nll_event::Event;
 use nll_facts::Facts;
 use nll_format::{TextError, TextKind};
-use nll_replay::replay_text;
-use nll_schedule_text::read_schedule;
+use nll_lists::read_schedule;
+use nll_model::Event;
 use std::alloc::Global;
 
 /// The replay of the line's schedule over the text of its file, by the owners of the cut that is
@@ -56,8 +56,8 @@ pub(crate) fn replayed<T: Texts>(
     }
 }
 
-// The replay of a schedule over the text of a file, by the owners of a cut. The file is dealt with
-// wholly before the cut file is opened.
+// The replay of a schedule over the text of a file, by the owners of a cut. The file is read and
+// judged before the cut file is opened.
 fn told_of_file<T: Texts>(
     alloc: Global,
     file: String,
@@ -81,8 +81,8 @@ fn told_of_file<T: Texts>(
     Ok((told?, 0))
 }
 
-// The report of a replay over a problem and its labels. The cut file is dealt with wholly before
-// the schedule is opened.
+// The report of a replay over a problem and its labels. The cut file is read and judged before the
+// schedule is opened.
 fn told_of_problem<T: Texts>(
     alloc: Global,
     facts: &Facts,
@@ -107,7 +107,7 @@ fn told_of_problem<T: Texts>(
     told
 }
 
-// The report of a replay over a problem and its labels, by so many owners of a cut.
+// The report of a replay over a problem and its labels, by this many owners of a cut.
 fn told_by_cut<T: Texts>(
     alloc: Global,
     facts: &Facts,
@@ -150,7 +150,7 @@ fn listed_events<T: Texts>(
     }
 }
 
-// The events that a text lists. The text is let go as soon as it is read.
+// The events that a text lists. The text is freed as soon as it is read.
 fn events_of_text(alloc: Global, owners: u16, text: Vec<u8>) -> Result<Vec<Event>, Refusal>
     ensures listed { IfOk result (λ events. Means owners text.items events.items) }
     ensures err { IfErr result (IsScheduleTextRefused owners text.items) }

@@ -9,18 +9,18 @@ use crate::error::Unwritten;
 use crate::report_output::put;
 use std::io::Write;
 
-/// What a stream of bytes goes to. Each `std::io::Write` is one.
+/// Where the program writes bytes. Each `std::io::Write` is a sink.
 pub trait Sink {
     // The bytes that the sink holds, where they are known.
     ghost contents: { Self → Option (List ℕ) };
 
-    // How many more bytes the sink takes for sure, where that is known.
+    // How many more bytes the sink certainly takes, where that is known.
     ghost room: { Self → Option ℕ };
 
-    /// Puts the bytes behind those that the sink holds, and flushes it.
+    /// Appends the bytes to those that the sink holds, and flushes it.
     ///
     /// # Errors
-    /// `Unwritten` where the sink takes some of the bytes only, or fails to flush.
+    /// `Unwritten` if the sink takes only some of the bytes, or fails to flush.
     fn put(&mut self, bytes: &[u8]) -> Result<(), Unwritten>
         ensures all { OnOk result (Appends (contents self.old) (contents self.new) bytes.now) }
         ensures left { OnOk result
@@ -50,7 +50,7 @@ impl<W: Write> Sink for W {
 /// Puts the pieces, one after another.
 ///
 /// # Errors
-/// `Unwritten` where the sink takes some of a piece only; the count is of that piece.
+/// `Unwritten` if the sink takes only some of a piece; the count is of that piece.
 pub(crate) fn put_pieces<S: Sink>(to: &mut S, pieces: &[&str]) -> Result<(), Unwritten>
     ensures all { OnOk result (Appends (S.contents to.old) (S.contents to.new)
         (flat_map (λ piece. piece.now) pieces.now)) }

@@ -17,7 +17,7 @@ pub(crate) fn words_of<R: Env + AllocGlobal>(rt: &R) -> Result<Vec<String>, Refu
     words_given(rt.alloc(), env::args(rt))
 }
 
-// The words behind the first of those that the process gave, or why they are lost.
+// The words after the first of those that the process gave, or why they are lost.
 fn words_given(alloc: Global, given: io::Result<Args>) -> Result<Vec<String>, Refusal>
     ensures words { IfOk given (λ all. MatchResult result
         (λ words. words.items ≡ drop 1 (into_iter_items all)) (λ e. e ≡ Refusal.Memory)) }

@@ -6,3 +6,9 @@ pub mod StatementLemmas
 pub mod RegionFreeLemmas
 pub mod LeadingLemmas
 pub mod InstanceLemmas
+pub mod AddingLemmas
+pub mod KindLemmas
+pub mod AlikeLemmas
+pub mod RegionLemmas
+pub mod PointLemmas
+pub mod WholeLemmas

@@ -8,3 +8,6 @@ pub mod RegionFree
 pub mod Marks
 pub mod Leading
 pub mod Instances
+pub mod BodyProblem
+pub mod Adding
+pub mod Known

@@ -1,5 +1,5 @@
--- The sets that all owners hand out. Private contracts alone cite this file.
--- Source: project's choice.
+-- The sets that all owners give up at the end. Only private contracts cite this file. Source:
+-- project's choice.
 use Rattle.std.specs.Prelude.{◌≡◌, ℕ, ◌<◌, List, [], length, slice_index_or}
 use Rattle.nll_problem.specs.Problem.{Problem}
 use Rattle.nll_cut.specs.Partition.{Cut}
@@ -11,7 +11,7 @@ use Rattle.nll_owner.specs.Holding.{Holding, AreValuesOf}
 abbrev pub holding_of : List Holding → ℕ → Holding
 holding_of holdings i = slice_index_or holdings i (record { regions = []; sets = [] })
 
--- Each owner of the cut has a log and a holding, which has the values that the log tells.
+-- Each owner of the cut has a log and a holding, which has the values that the log says.
 pub record HaveValuesOf (q : Problem) (c : Cut) (logs : List (List Growth))
     (holdings : List Holding) : Type 0 where
   pub logs_counted : length logs ≡ c.owners

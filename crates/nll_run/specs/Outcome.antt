@@ -1,5 +1,4 @@
--- What a run answers.
--- Source: project's choice, after RFC 2094, "Solving constraints".
+-- The outcome of a run. Source: project's choice, after RFC 2094, "Solving constraints".
 use Rattle.std.specs.Prelude.{◌≡◌, ◌≢◌, ◌↔◌, ◌⊎◌, ℕ, ◌+◌, ◌^◌, ◌<◌, Bool}
 use Rattle.std.specs.Prelude.{List, [], map, Contains, AllPairs}
 use Rattle.nll_problem.specs.Problem.{Problem}
@@ -11,8 +10,8 @@ use Rattle.nll_mail.specs.declared.mail.Mail as Mail
 use Rattle.nll_owner.specs.Logs.{AreSound, log_of, part}
 use Rattle.nll_owner.specs.Delivery.{AreDelivered, IsPairBefore, SayLeast}
 
--- the growth's rank comes next after that of a growth which stands in the log of owner i, or in
--- what i received from another
+-- the growth's rank is one above that of a growth which is in the log of owner i, or in what i
+-- received from another
 abbrev pub ComesNext : Problem → Cut → List (List Growth) → ℕ → Growth → Type 0
 ComesNext q c grown i g =
     (h : Growth)
@@ -20,17 +19,17 @@ ComesNext q c grown i g =
     ⊎ ((j : ℕ) × (j < c.owners) × (j ≢ i) × Contains (part q c i (log_of grown j)) h))
     × (h.rank + 1 ≡ g.rank)
 
--- No rank is left out: each growth of a rank above 1 comes next after another. So there are as many
--- growths as the highest rank says: no more than pairs of a region and an element. No rank reaches
--- 2^37.
+-- No rank is left out: each growth of a rank above 1 has one of the rank before it. So the highest
+-- rank is at most the number of growths, which is at most that of pairs of a region and an element.
+-- No rank reaches 2^37.
 pub record AreRanked (q : Problem) (c : Cut) (grown : List (List Growth)) : Type 0 where
   pub next :
       (i : ℕ) (g : Growth) → i < c.owners → Contains (log_of grown i) g → 1 < g.rank
       → ComesNext q c grown i g
   pub low : (i : ℕ) (g : Growth) → i < c.owners → Contains (log_of grown i) g → g.rank < 2 ^ 37
 
--- Each owner received from each other just the growths of the regions that it reads, once each and
--- in the order in which they grew, and none was left in a mailbox. The values are the least.
+-- Each owner received from each other exactly the growths of the regions that it reads, once each
+-- and in the order in which they grew, and none was left in a mailbox. The values are the least.
 pub record IsOutcome {M S R C P : Type 0} (mail : Mail.Ghosts M S R C P) (q : Problem) (c : Cut)
     (values : List (List Bool)) (grown : List (List Growth)) (posts : List P) : Type 0 where
   -- a settled mailbox for each ordered pair of different owners, and no other, by sender and then

@@ -1,5 +1,4 @@
--- Why a run is refused. Private contracts alone cite this file.
--- Source: project's choice.
+-- Why a run is refused. Only private contracts cite this file. Source: project's choice.
 use Rattle.std.specs.Prelude.{◌≡◌, ℕ, List, Option, Some, None, slice_get}
 use Rattle.nll_worker.specs.Finishing.{WasStarted}
 use Rattle.nll_worker.specs.declared.ending.Ending.{Ending}
@@ -22,8 +21,8 @@ IsOutOfMemory endings.Memory = Unit {0}
 IsOutOfMemory endings.NoOwner = Unit {0}
 IsOutOfMemory _ = ⊥
 
--- Why a run is refused whose workers ended so, if it is: since a worker wasn't started; or else
--- since one was out of memory.
+-- Why a run whose workers ended so is refused, if it is: because a worker wasn't started, or else
+-- because one was out of memory.
 abbrev pub IsReason : List Ending → Option RunError → Type 0
 IsReason all None = (k : ℕ) (e : Ending) → slice_get all k ≡ Some e → IsCalm e
 IsReason all (Some errors.Thread) =

@@ -1,6 +1,5 @@
--- What settled mailboxes say, while they are settled one by one. Private contracts alone cite this
--- file.
--- Source: project's choice.
+-- What settled mailboxes say, while they are settled one by one. Only private contracts cite this
+-- file. Source: project's choice.
 use Rattle.std.specs.Prelude.{◌≡◌, ◌≢◌, ℕ, ◌<◌, List, [], ◌∷◌, ◌++◌, length, map, drop, slice_get}
 use Rattle.std.specs.Prelude.{Option, Some, None, Contains, AllPairs}
 use Rattle.nll_mail.specs.declared.growth.Growth.{Growth}
@@ -20,7 +19,7 @@ module _ {M S R C P : Type 0} (mail : Mail.Ghosts M S R C P) (out into : ℕ →
       pub received_is : mail.post_received p ≡ into i j
       pub whole : mail.post_sent p ≡ mail.post_received p ++ mail.post_rest p
 
-    -- Of the pairs that are done, what was received begins what was sent; each that is of two
+    -- Of the pairs that are done, what was received is a prefix of what was sent; each pair of two
     -- different owners has its settled mailbox, and there is no other.
     pub record ArePostsOf (done : ℕ → ℕ → Type 0) (posts : List P) : Type 0 where
       pub prefix : (i j : ℕ) → done i j → IsPrefix (into i j) (out i j)
@@ -29,11 +28,11 @@ module _ {M S R C P : Type 0} (mail : Mail.Ghosts M S R C P) (out into : ℕ →
           → (p : P) × Contains posts p × (mail.post_ends p ≡ (i, j))
       pub only : (p : P) → Contains posts p → (i : ℕ) × (j : ℕ) × done i j × IsPostOf i j p
 
-    -- those of the pairs that are done were put behind what was there
+    -- those of the pairs that are done were appended
     abbrev pub AddsPosts : (ℕ → ℕ → Type 0) → List P → List P → Type 0
     AddsPosts done old new = (more : List P) × (new ≡ old ++ more) × ArePostsOf done more
 
--- the settled mailbox of these two ends was put behind what was there; nothing, where there is none
+-- the settled mailbox of these two ends was appended, if there is one
 abbrev pub AddsPost : {M S R C P : Type 0} → Mail.Ghosts M S R C P → Option C → Option R → List P
     → List P → Type 0
 AddsPost mail None r old new = new ≡ old
@@ -49,13 +48,13 @@ pub record ComeBefore {P : Type 0} (ends : P → ℕ × ℕ) (posts : List P) (p
   pub in_order : AllPairs IsPairBefore (map ends posts)
   pub before : (p : P) → Contains posts p → IsPairBefore (ends p) pair
 
--- what the row has for j and the first of a column are paired for i and j
+-- the entry of the row for j and the first one of a column are paired for i and j
 abbrev pub AreNext : {C R : Type 0} → (ℕ → ℕ → C → R → Type 0) → ℕ → ℕ → List C → List R → Type 0
 AreNext {C} {R} paired i j row column =
     (z : C) × (r : R) × (rest : List R) × (slice_get row j ≡ Some z) × (column ≡ r ∷ rest)
     × paired i j z r
 
--- each of so many columns lost its first
+-- each of this many columns lost its first entry
 abbrev pub LosesFirsts : {R : Type 0} → ℕ → List (List R) → List (List R) → Type 0
 LosesFirsts owners old new =
     (length new ≡ length old) × ((j : ℕ) → j < owners → list_at new j ≡ drop 1 (list_at old j))

@@ -34,11 +34,11 @@ use std::thread::Threads;
 
 /// Runs the owners of a cut, each in a thread of its own, until nothing is left to do anywhere.
 ///
-/// Each owner receives from each other just the growths of the regions that it reads, once each and
-/// in the order in which they grew, and none is left behind; the values are the least.
+/// Each owner receives from each other exactly the growths of the regions that it reads, once each
+/// and in the order in which they grew, and none is left behind; the values are the least.
 ///
 /// # Errors
-/// All threads are joined and all senders closed, and what was lent is as it was.
+/// All threads are joined and all senders closed, and what was borrowed is as it was.
 /// - `Thread`: a thread couldn't be started.
 /// - `Memory`.
 ///
@@ -62,13 +62,13 @@ pub fn run<M: Mail, L: Ledger, G: Gate, R: Threads + Wait + Sync>(
     run_with::<M, L, G, AlwaysStart, R>(rt, alloc, problem, cut, mail, ledger, gate, &permit)
 }
 
-/// As `run`, where a permit is asked before each start. It is asked once for each owner, in the
+/// Like `run`, but a permit is asked before each start. It is asked once for each owner, in the
 /// order of their numbers; a start that it refuses counts as one that failed.
 ///
 /// # Errors
-/// As those of `run`.
-/// - `Thread`: the permit refused a start, or a thread couldn't be started. The permit was asked by
-///   then.
+/// Those of `run`.
+/// - `Thread`: the permit refused a start, or a thread couldn't be started. The permit was asked
+///   before that.
 /// - `Memory`, where no start failed.
 pub fn run_with<M: Mail, L: Ledger, G: Gate, P: Permit, R: Threads + Wait + Sync>(
     rt: &R,
@@ -96,7 +96,7 @@ pub fn run_with<M: Mail, L: Ledger, G: Gate, P: Permit, R: Threads + Wait + Sync
     outcome
 }
 
-// The same on tables that are lent to all workers.
+// Like `run_with`, on tables that all workers borrow.
 fn run_on<M: Mail, L: Ledger, G: Gate, P: Permit, R: Threads + Wait + Sync>(
     rt: &R,
     alloc: Global,
@@ -117,7 +117,7 @@ fn run_on<M: Mail, L: Ledger, G: Gate, P: Permit, R: Threads + Wait + Sync>(
     ensures thread { result ≡ Err Thread → (owner : ℕ) × (answer : Bool)
         × (owner < cut.now.owners) × P.permits permit.now owner answer }
 {
-    // No effect at run time. The proof reads from this call that the problem is sound.
+    // Clause call: the problem is sound.
     let _regions = problem.regions();
     let owners = cut.owners();
     let (book, workers) = prepare::<M, L>(alloc, mail, ledger, owners)?;
@@ -160,7 +160,7 @@ fn prepare<M: Mail, L: Ledger>(
     Ok((book, VecDeque::from(workers)))
 }
 
-// Settles the mailboxes, gathers the ledger and puts the values together.
+// Settles the mailboxes, gathers the ledger and assembles the values.
 fn conclude<M: Mail, L: Ledger>(
     alloc: Global,
     problem: &Problem,

@@ -3,7 +3,7 @@
 use nll_sets::OutOfMemory;
 use thiserror::Error;
 
-/// Why a run is refused. Where there are several reasons, a start that failed is told.
+/// Why a run is refused. If there are several reasons, a start that failed is reported.
 #[derive(Clone, Copy, Debug, PartialEq, Eq, Error)]
 pub enum RunError {
     /// A thread couldn't be started, or a permit refused it.

@@ -12,7 +12,7 @@ use nll_worker::{Outbox, Worker};
 use std::alloc::Global;
 use std::collections::VecDeque;
 
-/// So many empty columns.
+/// This many empty columns.
 ///
 /// # Errors
 /// - `Memory`.
@@ -27,7 +27,7 @@ pub fn make_columns<M: Mail>(alloc: Global, owners: u16) -> Result<Vec<Vec<Optio
     Ok(columns)
 }
 
-/// The senders of all owners; the other ends go to the columns.
+/// The senders of all owners; the receivers are appended to the columns.
 ///
 /// # Errors
 /// - `Memory`.
@@ -65,7 +65,7 @@ fn make_ends<M: Mail>(
     Ok((Some(sender), Some(receiver)))
 }
 
-// One sender for each other owner; the other ends go to the ends of the columns.
+// One sender for each other owner; the receivers are appended to the columns.
 fn make_row<M: Mail>(
     alloc: Global,
     mail: &M,

@@ -1,9 +1,9 @@
-//! What a run answers.
+//! The outcome of a run.
 
 use nll_core::Values;
 use nll_mail::Growth;
 
-/// What a run answers.
+/// The outcome of a run.
 ///
 /// # Shape
 /// `values` has a set for each region. `grown` has a log for each owner, in the order of their

@@ -22,8 +22,8 @@ pub struct Parts<M: Mail, L: Ledger> {
     pub columns: Vec<VecDeque<Option<M::R>>>,
 }
 
-/// Why the run is refused, if it is: since a worker wasn't started; or else since one was out of
-/// memory.
+/// Why the run is refused, if it is: because a worker wasn't started, or else because one was out
+/// of memory.
 pub fn reason_of<M: Mail, L: Ledger>(finished: &[Finished<M, L>]) -> Option<RunError>
     ensures { IsReason (map (λ d. d.ending) finished.now) result }
 {

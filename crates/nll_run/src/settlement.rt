@@ -1,4 +1,4 @@
-//! The mailboxes of a run are settled.
+//! Settling the mailboxes of a run.
 
 ghost use Rattle.std.specs.Prelude.{◌≡◌, ◌+◌, ◌<◌, ℕ, [], map, vec_len, OnOk, AllPairs};
 ghost use Rattle.std.specs.VecDeque.{deque_len};
@@ -43,7 +43,7 @@ pub fn settle_all<M: Mail>(
     Ok(())
 }
 
-// Settles the mailboxes of one sender with the first ends of the columns.
+// Settles the mailboxes of one sender with the first entries of the columns.
 fn settle_row<M: Mail>(
     row: VecDeque<Option<M::Closed>>,
     columns: &mut Vec<VecDeque<Option<M::R>>>,

@@ -1,4 +1,4 @@
-//! The values of all regions, out of the sets that the owners hand out.
+//! The values of all regions, taken from the sets that the owners give up at the end.
 
 ghost use Rattle.std.specs.Prelude.{◌≡◌, ◌↔◌, ℕ, List, IfOk, OnErr};
 ghost use Rattle.nll_core.specs.Values.{IsHeld, IsShaped};
@@ -14,8 +14,8 @@ use nll_problem::{Problem, RegionId};
 use nll_sets::Memory;
 use std::alloc::Global;
 
-/// The values that have what the owners' logs tell, and no more: the set of each region is taken
-/// out of the holding of its owner.
+/// The values that have exactly what the owners' logs say: the set of each region is taken out of
+/// the holding of its owner.
 ///
 /// # Errors
 /// - `Memory`: nothing was taken.

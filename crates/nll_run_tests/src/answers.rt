@@ -6,11 +6,11 @@ use super::run_text::{compare, told};
 use super::watches::Watched;
 use nll_ledger::WordLedger;
 use nll_mail::QueueMail;
-use nll_worked_problems::BY_TURNS;
+use nll_worked::BY_TURNS;
 use nll_worker::Gate;
 use std::alloc::AllocGlobal;
 
-// A gate that takes notes, and lets so many growths into a turn.
+// A gate that takes notes, and allows this many growths in a turn.
 #[derive(Drop)]
 struct Answer<'x> {
     notes: &'x Notes,
@@ -27,8 +27,8 @@ impl<'x> Gate for Answer<'x> {
     }
 }
 
-// Where a gate lets no growth into a turn, each turn receives one all the same: all that it owes
-// and posts, and what it clears, is as where a gate doesn't say.
+// If a gate allows no growth in a turn, each turn receives one all the same: all that it owes and
+// posts, and what it clears, is as with a gate that doesn't say.
 #[test]
 fn none_is_read_as_one(rt: HostRuntime) {
     let notes = Notes::new();

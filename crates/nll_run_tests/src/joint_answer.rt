@@ -1,4 +1,4 @@
-//! An answer that two owners find who meet.
+//! An answer that two owners find side by side.
 use super::meeting::Meeting;
 use nll_answer::{Command, answer_run, meaning};
 use nll_cut::Cut;
@@ -28,8 +28,8 @@ const REPORT: &[u8] = b"'static: 0 1 end('static)
 '2: 0 1
 ";
 
-// The two owners of an answer are at work side by side: each begins its turns 1 and 2 only where
-// the other has.
+// The two owners of an answer work side by side: each begins its turns 1 and 2 only once the other
+// does.
 fn meet<M: Mail, L: Ledger, R: AllocGlobal + Abort + Threads + Wait + Sync>(
     rt: &R,
     mail: &M,

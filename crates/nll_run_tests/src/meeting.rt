@@ -4,10 +4,10 @@ use nll_worker::Gate;
 use std::sync::atomic::{AtomicBool, AtomicU64, Ordering};
 use std::thread;
 
-/// A place where the owners 0 and 1 meet, again and again. Who comes there waits for the other, but
-/// not for good.
+/// A place where the owners 0 and 1 meet, again and again. Whoever comes there waits for the other,
+/// but not for ever.
 ///
-/// As a gate it has them meet in as many turns as it is made for; as a watch of mailboxes, at as
+/// As a gate it makes them meet in as many turns as it is made for; as a watch of mailboxes, at as
 /// many posts.
 #[derive(Drop)]
 pub struct Meeting {
@@ -18,7 +18,7 @@ pub struct Meeting {
 }
 
 impl Meeting {
-    /// A place for so many meetings, to which none has come.
+    /// A place for this many meetings, to which none has come.
     pub fn new(times: u64) -> Meeting {
         Meeting {
             times,
@@ -35,7 +35,7 @@ impl Meeting {
             && self.second.load(Ordering::SeqCst) == self.times
     }
 
-    // Has an owner come for its next meeting, and wait for the other.
+    // Makes an owner come to its next meeting, and wait for the other.
     fn come(&self, owner: usize) {
         match owner {
             0 => self.wait(&self.first, &self.second),
@@ -44,7 +44,7 @@ impl Meeting {
         }
     }
 
-    // Notes that an owner has come, and waits for the other; not where all meetings are over.
+    // Notes that an owner has come, and waits for the other, unless all meetings are over.
     fn wait(&self, mine: &AtomicU64, other: &AtomicU64) {
         let number = mine.load(Ordering::SeqCst).saturating_add(1);
         if number > self.times {

@@ -16,15 +16,15 @@ struct Page {
     // Whether it owed, and whether it posted or cleared, in the turn that it's in.
     has_owed: AtomicBool,
     has_acted: AtomicBool,
-    // How often a turn began that hadn't the next number, or came after one in which it hadn't
+    // How often a turn began with another number than the next, or after one in which it hadn't
     // cleared once or before all was posted that it had owed for; it posted or cleared in a turn in
-    // which it hadn't owed; it owed where it had owed, posted or cleared; or it cleared more or
+    // which it hadn't owed; it owed after it had owed, posted or cleared; or it cleared more or
     // less than 1.
     wrong: AtomicU64,
 }
 
 impl Page {
-    // A page that says nothing.
+    // An empty page.
     fn new() -> Page {
         Page {
             turns: AtomicU64::new(0),
@@ -101,7 +101,7 @@ pub struct Notes {
 }
 
 impl Notes {
-    /// Notes that say nothing.
+    /// Empty notes.
     pub fn new() -> Notes {
         Notes {
             first: Page::new(),
@@ -109,10 +109,10 @@ impl Notes {
         }
     }
 
-    /// For each of the two, whose last turn has ended: what it owed beside its load, its posts,
+    /// For each of the two, whose last turn has ended: what it owed besides its load, its posts,
     /// what it cleared, which is the number of its turns, and how often it was wrong: began a turn
     /// by a number that wasn't the next, or before it had posted all that it had owed for; didn't
-    /// clear 1 once in a turn; posted or cleared in a turn in which it hadn't owed; or owed where
+    /// clear 1 once in a turn; posted or cleared in a turn in which it hadn't owed; or owed after
     /// it had owed, posted or cleared.
     pub fn written(&self, alloc: Global) -> Result<String, AllocError> {
         let mut out = String::new(alloc);

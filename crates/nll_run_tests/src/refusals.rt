@@ -1,4 +1,4 @@
-//! A permit that refuses starts, and counts what a run does then.
+//! A permit that refuses starts, and counts what a run then does.
 use super::watches::{Step, Watch};
 use nll_run::RunError;
 use nll_worker::Permit;
@@ -6,14 +6,14 @@ use std::alloc::AllocError;
 use std::sync::atomic::{AtomicU64, Ordering};
 use std::thread;
 
-/// A permit that refuses the starts of some owners that follow one another, and counts, as a watch
-/// of mailboxes, what a run does.
+/// A permit that refuses the starts of some consecutive owners, and counts, as a watch of
+/// mailboxes, what a run does.
 #[derive(Drop)]
 pub struct Refusals {
     // The first owner that is refused, and the last.
     first: usize,
     last: usize,
-    // How many posts a refusal waits for, for 10,000,000 yields at most.
+    // How many posts a refusal waits for, for at most 10,000,000 yields.
     awaited: u64,
     asked: AtomicU64,
     closed: AtomicU64,
@@ -23,7 +23,7 @@ pub struct Refusals {
 }
 
 impl Refusals {
-    /// A permit that was asked nothing yet.
+    /// A permit that wasn't asked yet.
     pub fn new(first: usize, last: usize, awaited: u64) -> Refusals {
         Refusals {
             first,
@@ -36,8 +36,8 @@ impl Refusals {
         }
     }
 
-    /// Writes what a run answered, how many owners were asked for, how many senders
-    /// were closed, and how often an owner was asked for out of turn or a refusal waited in vain.
+    /// Writes the answer of a run, how many owners were asked for, how many senders were closed,
+    /// and how often an owner was asked for out of turn or a refusal waited in vain.
     pub fn write(&self, out: &mut String, refused: Option<RunError>) -> Result<(), AllocError> {
         let asked = self.asked.load(Ordering::SeqCst);
         let closed = self.closed.load(Ordering::SeqCst);
@@ -48,7 +48,7 @@ impl Refusals {
         }
     }
 
-    // Waits until so many posts were begun.
+    // Waits until this many posts were begun.
     fn wait(&self) {
         for _ in 0..10_000_000u32 {
             if self.posts.load(Ordering::SeqCst) >= self.awaited {

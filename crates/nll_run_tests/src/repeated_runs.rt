@@ -1,5 +1,5 @@
-//! Runs that may be refused memory, and are run again then. Where one growth of memory is refused
-//! to a test, the test still passes.
+//! Runs that may be refused memory, and are then run again. If one growth of memory is refused to a
+//! test, the test still passes.
 ghost use Rattle.std.specs.Prelude.{◌≡◌, length, IfOk};
 
 use super::deals::{Deal, cut_of};
@@ -11,15 +11,16 @@ use nll_cut::Cut;
 use nll_ledger::{Ledger, LockLedger, WordLedger};
 use nll_mail::{Mail, QueueMail, RingMail};
 use nll_run::RunError;
-use nll_worked_problems::{BY_TURNS, FILLED_HOLE, MANY, REACHED, Written, worked_problem};
-use nll_worked_texts::{TWO_BORROWS, text_of};
+use nll_worked::{
+    BY_TURNS, FILLED_HOLE, MANY, REACHED, TWO_BORROWS, Written, text_of, worked_problem,
+};
 use nll_worker::NoGate;
 use std::alloc::{AllocGlobal, Global};
 use std::process::Abort;
 use std::sync::Wait;
 use std::thread::Threads;
 
-// A problem, how its regions are dealt, and what its run comes to.
+// A problem, how its regions are assigned, and the outcome of its run.
 const ROWS: &[(Written, Deal, &str)] = &[
     (
         REACHED,
@@ -49,7 +50,7 @@ const ROWS: &[(Written, Deal, &str)] = &[
     ),
 ];
 
-// What the runs of `TWO_BORROWS` come to. Its regions 'p, 'foo and 'bar are 1, 2 and 3; 'foo and
+// The outcome of the runs of `TWO_BORROWS`. Its regions 'p, 'foo and 'bar are 1, 2 and 3; 'foo and
 // 'bar are asked to hold what 'p holds, from the points 1 and 4 on.
 const BORROWS: &[(Deal, &str)] = &[
     (
@@ -81,7 +82,7 @@ fn problem_again(rt: &impl Abort, alloc: Global, written: Written) -> Problem {
     }
 }
 
-// The cut of so many regions.
+// The cut of this many regions.
 fn cut_again(rt: &impl Abort, alloc: Global, deal: Deal, regions: u32) -> Cut
     ensures { length result.list ≡ regions }
 {
@@ -91,8 +92,8 @@ fn cut_again(rt: &impl Abort, alloc: Global, deal: Deal, regions: u32) -> Cut
     }
 }
 
-// Compares what a run comes to, or where it is refused memory or a thread, the next one over the
-// same problem, cut, mailboxes, ledger and gate.
+// Compares the outcome of a run, or if it is refused memory or a thread, that of the next one over
+// the same problem, cut, mailboxes, ledger and gate.
 fn compare_again<M: Mail, L: Ledger, R: Abort + Threads + Wait + Sync>(
     rt: &R,
     alloc: Global,
@@ -115,7 +116,7 @@ fn compare_again<M: Mail, L: Ledger, R: Abort + Threads + Wait + Sync>(
     }
 }
 
-// The same of a problem whose regions are dealt.
+// Like `compare_again`, for a problem whose regions are assigned so.
 fn compare_dealt<M: Mail, L: Ledger, R: Abort + Threads + Wait + Sync>(
     rt: &R,
     alloc: Global,
@@ -169,7 +170,7 @@ fn compare_borrows<M: Mail, L: Ledger, R: AllocGlobal + Abort + Threads + Wait +
     drop(problem);
 }
 
-// What a run of `MANY` comes to, where owner 1 has the region that fills the mailbox.
+// The outcome of a run of `MANY`, if owner 1 has the region that fills the mailbox.
 fn filled_again(rt: &impl Abort, alloc: Global, rest: &str) -> String {
     match filled(alloc, rest) {
         Ok(text) => text,

@@ -1,9 +1,9 @@
-//! Runs of worked problems come to values and counts that were found by hand.
+//! Runs of worked problems have values and counts that were found by hand.
 use super::deals::Deal;
 use super::run_text::{compare, filled, told};
 use nll_ledger::{Ledger, LockLedger, WordLedger};
 use nll_mail::{QueueMail, RingMail};
-use nll_worked_problems::{
+use nll_worked::{
     BY_TURNS, EVERYWHERE, FILLED_HOLE, MANY, MANY_BOTH_WAYS, ONE_POINT, REACHED, Written,
 };
 use nll_worker::NoGate;
@@ -12,10 +12,10 @@ use std::process::Abort;
 use std::sync::Wait;
 use std::thread::Threads;
 
-// A problem, how its regions are dealt, and what its run comes to: the value of each region (a
-// universal region has all points, and its end behind them), how many logs there are and how long
-// each is, how many posts there are and what each received. An owner is told of a region where a
-// constraint asks a region of its own to hold what this one holds.
+// A problem, how its regions are assigned, and the outcome of its run: the value of each region (a
+// universal region has all points, and its end after them), how many logs there are and how long
+// each is, how many posts there are and what each received. An owner receives the growths of a
+// region if a constraint asks a region of its own to hold what this one holds.
 type Row = (Written, Deal, &'static str);
 
 const ROWS: &[Row] = &[
@@ -133,7 +133,7 @@ const FILLING: &[(Written, &str)] = &[
     (MANY_BOTH_WAYS, "2: 0 601 1 300|2: 0-1 300 1-0 300"),
 ];
 
-// Compares what a run comes to with either kind of mailbox.
+// Compares the outcome of a run with either kind of mailbox.
 fn compare_mailboxes<L: Ledger, R: AllocGlobal + Abort + Threads + Wait + Sync>(
     rt: &R,
     written: Written,
@@ -149,7 +149,7 @@ fn compare_mailboxes<L: Ledger, R: AllocGlobal + Abort + Threads + Wait + Sync>(
     compare(rt, by_rings, want);
 }
 
-// The same with either kind of ledger.
+// Like `compare_mailboxes`, with either kind of ledger.
 fn compare_all<R: AllocGlobal + Abort + Threads + Wait + Sync>(
     rt: &R,
     written: Written,
@@ -160,7 +160,7 @@ fn compare_all<R: AllocGlobal + Abort + Threads + Wait + Sync>(
     compare_mailboxes(rt, written, deal, &LockLedger::new(rt), want);
 }
 
-// What the runs come to, with each pair of mailbox and ledger.
+// The outcome of the runs, with each pair of mailbox and ledger.
 #[test]
 fn runs_come_to_the_least_values(rt: HostRuntime) {
     for (written, deal, want) in ROWS {

@@ -1,4 +1,4 @@
-//! What a run came to, written.
+//! The outcome of a run, written.
 ghost use Rattle.std.specs.Prelude.{◌≡◌, ◌<◌, length};
 ghost use Rattle.nll_core.specs.Values.{IsShaped};
 
@@ -9,7 +9,7 @@ use nll_cut::Cut;
 use nll_ledger::Ledger;
 use nll_mail::{Growth, Mail};
 use nll_run::{Outcome, run};
-use nll_worked_problems::{Written, worked_problem};
+use nll_worked::{Written, worked_problem};
 use nll_worker::Gate;
 use std::alloc::{AllocError, Global};
 use std::process::Abort;
@@ -83,7 +83,7 @@ fn write_outcome<M: Mail>(
     write_posts::<M>(out, &outcome.posts, owners)
 }
 
-/// What a run of the owners of a cut came to.
+/// The outcome of a run of the owners of a cut, written.
 pub fn told_over<M: Mail, L: Ledger, G: Gate, R: Threads + Wait + Sync>(
     rt: &R,
     alloc: Global,
@@ -103,7 +103,7 @@ pub fn told_over<M: Mail, L: Ledger, G: Gate, R: Threads + Wait + Sync>(
     Ok(out)
 }
 
-// The same of a problem whose regions are dealt.
+// Like `told_over`, for a problem whose regions are assigned so.
 fn told_of<M: Mail, L: Ledger, G: Gate, R: Threads + Wait + Sync>(
     rt: &R,
     alloc: Global,
@@ -119,9 +119,9 @@ fn told_of<M: Mail, L: Ledger, G: Gate, R: Threads + Wait + Sync>(
     told
 }
 
-/// What a run of a written problem, whose regions are dealt, came to: the value of each region; how
-/// many logs there are, and the length of each that isn't empty, behind its owner; and how many
-/// posts there are, and what each that isn't empty received, behind its ends.
+/// The outcome of a run of a written problem, whose regions are assigned so: the value of each
+/// region; how many logs there are, and the length of each that isn't empty, after its owner; and
+/// how many posts there are, and what each that isn't empty received, after its ends.
 pub fn told<M: Mail, L: Ledger, G: Gate, R: Threads + Wait + Sync>(
     rt: &R,
     alloc: Global,
@@ -137,7 +137,7 @@ pub fn told<M: Mail, L: Ledger, G: Gate, R: Threads + Wait + Sync>(
     told
 }
 
-// Writes a region that has the first so many elements.
+// Writes a region that has the first this many elements.
 fn write_first(out: &mut String, region: u32, count: u32) -> Result<(), AllocError> {
     write!(out, "{region}:")?;
     for element in 0..count {
@@ -146,7 +146,7 @@ fn write_first(out: &mut String, region: u32, count: u32) -> Result<(), AllocErr
     out.push('|')
 }
 
-/// What a run of 300 points comes to whose regions all have all points.
+/// The outcome of a run of 300 points whose regions all have all points.
 pub fn filled(alloc: Global, rest: &str) -> Result<String, AllocError> {
     let mut out = String::new(alloc);
     let universal = write_first(&mut out, 0, 301);
@@ -156,7 +156,7 @@ pub fn filled(alloc: Global, rest: &str) -> Result<String, AllocError> {
     universal.and(first).and(second).and(rest).and(Ok(out))
 }
 
-/// Compares what was told.
+/// Compares what was written.
 pub fn compare(rt: &impl Abort, told: Result<String, Failure>, want: &str) {
     match told {
         Ok(text) => assert!(rt; text.as_str() == want, "{text} for {want}"),

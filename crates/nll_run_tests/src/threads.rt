@@ -11,17 +11,17 @@ use nll_core::Problem;
 use nll_cut::Cut;
 use nll_ledger::{Ledger, LockLedger, WordLedger};
 use nll_mail::{Mail, QueueMail, RingMail};
-use nll_worked_problems::{BY_TURNS, MANY_BOTH_WAYS, REACHED, Written, worked_problem};
+use nll_worked::{BY_TURNS, MANY_BOTH_WAYS, REACHED, Written, worked_problem};
 use nll_worker::NoGate;
 use std::alloc::AllocGlobal;
 use std::process::Abort;
 use std::sync::Wait;
 use std::thread::Threads;
 
-// What a run of the two owners of `BY_TURNS` comes to.
+// The outcome of a run of the two owners of `BY_TURNS`.
 const WANT: &str = "0: 0 1 2|1: 0 1|2: 0 1|2: 0 5 1 2|2: 0-1 2 1-0 2";
 
-// The two owners are at work side by side: each begins its turns 1 and 2 only where the other has.
+// The two owners work side by side: each begins its turns 1 and 2 only once the other does.
 fn meet<M: Mail, L: Ledger, R: AllocGlobal + Abort + Threads + Wait + Sync>(
     rt: &R,
     mail: &M,
@@ -44,10 +44,10 @@ fn two_owners_meet(rt: HostRuntime) {
     meet(&rt, &rings, &lock);
 }
 
-// Each of the two makes its first posts, so many of them, only where the other does.
+// Each of the two makes its first posts, this many of them, only once the other does.
 const POSTS: &[(Written, u64)] = &[(BY_TURNS, 1), (MANY_BOTH_WAYS, 256)];
 
-// The owners of a cut post side by side, so often.
+// The owners of a cut post side by side, this many times.
 fn post_over<M: Mail, L: Ledger, R: AllocGlobal + Abort + Threads + Wait + Sync>(
     rt: &R,
     problem: &Problem,
@@ -68,7 +68,7 @@ fn post_over<M: Mail, L: Ledger, R: AllocGlobal + Abort + Threads + Wait + Sync>
     assert!(rt; met, "the owners don't post side by side");
 }
 
-// The same of the two owners of each problem.
+// Like `post_over`, for the two owners of each problem.
 fn post<M: Mail, L: Ledger, R: AllocGlobal + Abort + Threads + Wait + Sync>(
     rt: &R,
     mail: &M,
@@ -93,9 +93,9 @@ fn two_owners_post(rt: HostRuntime) {
     post(&rt, &rings, &lock);
 }
 
-// Problems whose regions are dealt in turns to two owners, what their runs come to, and what each
-// owner does: it owes and posts the growths that the other reads, has a turn for its load and one
-// for each growth that it receives, clears 1 in each, and does nothing wrong.
+// Problems whose regions are assigned round-robin to two owners, the outcomes of their runs, and
+// what each owner does: it owes and posts the growths that the other reads, has a turn for its load
+// and one for each growth that it receives, clears 1 in each, and does nothing wrong.
 const STEPS: &[(Written, &str, &str)] = &[
     (BY_TURNS, WANT, "2 2 3 0|2 2 3 0|"),
     (
@@ -132,7 +132,7 @@ fn owe_over<M: Mail, L: Ledger, R: AllocGlobal + Abort + Threads + Wait + Sync>(
     compare(rt, notes.written(rt.alloc()).map_err(Failure::from), steps);
 }
 
-// The same of the two owners of each problem.
+// Like `owe_over`, for the two owners of each problem.
 fn owe<M: Mail, L: Ledger, R: AllocGlobal + Abort + Threads + Wait + Sync>(
     rt: &R,
     mail: &M,

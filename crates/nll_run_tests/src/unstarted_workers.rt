@@ -11,7 +11,7 @@ use nll_cut::Cut;
 use nll_ledger::{Ledger, LockLedger, WordLedger};
 use nll_mail::{Mail, QueueMail, RingMail};
 use nll_run::run_with;
-use nll_worked_problems::{BY_TURNS, MANY, REACHED, Written, worked_problem};
+use nll_worked::{BY_TURNS, MANY, REACHED, Written, worked_problem};
 use nll_worker::NoGate;
 use std::alloc::{AllocGlobal, Global};
 use std::process::Abort;
@@ -21,10 +21,9 @@ use std::thread::Threads;
 // Which owners are refused, from the first to the last, and how many posts the refusals wait for.
 type Refused = (usize, usize, u64);
 
-// A problem, how its regions are dealt, which owners are refused, and what came of it: the answer,
-// how many owners the permit was asked for, how many senders were closed, and how
-// often it was asked out of turn; and behind that what a run of the same things comes to that
-// nobody refuses.
+// A problem, how its regions are assigned, which owners are refused, and the outcome: the answer,
+// how many owners the permit was asked for, how many senders were closed, and how often it was
+// asked out of turn; then the outcome of a run of the same things that nobody refuses.
 type Row = (Written, Deal, Refused, &'static str);
 
 const ROWS: &[Row] = &[
@@ -66,8 +65,8 @@ const ROWS: &[Row] = &[
     ),
 ];
 
-// What a run of the owners of a cut comes to of which some aren't started, and what the next one
-// comes to, over the same problem, cut, mailboxes, ledger and gate.
+// The outcome of a run of the owners of a cut of which some aren't started, and that of the next
+// one, over the same problem, cut, mailboxes, ledger and gate.
 fn told_twice<M: Mail, L: Ledger, R: Threads + Wait + Sync>(
     rt: &R,
     alloc: Global,
@@ -103,7 +102,7 @@ fn told_twice<M: Mail, L: Ledger, R: Threads + Wait + Sync>(
     Ok(out)
 }
 
-// The same of a written problem.
+// Like `told_twice`, for a written problem.
 fn told_of<M: Mail, L: Ledger, R: Threads + Wait + Sync>(
     rt: &R,
     alloc: Global,
@@ -122,7 +121,7 @@ fn told_of<M: Mail, L: Ledger, R: Threads + Wait + Sync>(
     told
 }
 
-// Compares what is told with each pair of mailbox and ledger.
+// Compares the outcomes with each pair of mailbox and ledger.
 fn compare_all<R: AllocGlobal + Abort + Threads + Wait + Sync>(
     rt: &R,
     written: Written,
@@ -144,8 +143,8 @@ fn compare_all<R: AllocGlobal + Abort + Threads + Wait + Sync>(
     compare(rt, told, want);
 }
 
-// A run of which some workers aren't started answers that, asks for each owner once and in order,
-// and closes all senders; and all that was lent serves for another run.
+// A run of which some workers aren't started reports that, asks for each owner once and in order,
+// and closes all senders; and all that it borrowed serves for another run.
 #[test]
 fn refused_starts_are_told(rt: HostRuntime) {
     for (written, deal, refused, want) in ROWS {

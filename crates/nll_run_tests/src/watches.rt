@@ -1,5 +1,5 @@
-//! A mailbox and a ledger, of any kind, that are watched: before each step of an owner it is noted,
-//! or held up.
+//! A mailbox and a ledger, of any kind, that are watched: each step of an owner is noted, or held
+//! up, before it is done.
 ghost use Rattle.std.specs.Prelude.{◌≡◌, ◌++◌, ◌<◌, map, vec_len, IfOk};
 
 use nll_ledger::{Leave, Ledger, Totals};
@@ -17,7 +17,7 @@ pub enum Step {
     Clear(u64),
 }
 
-/// What is told of each step of an owner right before it.
+/// What is called before each step of an owner.
 pub trait Watch: Sync {
     /// The owner of this number is about to take a step.
     fn before(&self, owner: u16, step: Step);

@@ -4,3 +4,4 @@ pub mod Written
 pub mod Edges
 pub mod Kept
 pub mod TypePairs
+pub mod Typing

@@ -9,7 +9,7 @@ use super::rows::{Row, compare_rows};
 use super::transcript::Transcript;
 use nll_core::RegionId;
 use nll_cut::CutError;
-use nll_cut_text::read_cut;
+use nll_lists::read_cut;
 use std::alloc::Global;
 
 /// How regions are assigned.

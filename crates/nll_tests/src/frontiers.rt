@@ -1,4 +1,4 @@
-//! Frontiers, where runs of elements come into the set.
+//! Frontiers, where runs of elements are added to the set.
 ghost use Rattle.std.specs.Prelude.{◌≡◌, ◌≤◌, ◌<◌, false, length, Contains, OnOk, replicate};
 ghost use Rattle.nll_problem.specs.At.{IsAmong};
 ghost use Rattle.nll_problem.specs.Graph.{element_count};
@@ -22,7 +22,8 @@ enum From {
     All,
 }
 
-// Puts the first gap of a run into a set, and lets the frontier go on; lists what it newly reaches.
+// Inserts the first gap of a run into a set, and lets the frontier go on; lists what it newly
+// reaches.
 fn grow(
     steps: &Steps,
     seen: &mut RunSet,
@@ -61,8 +62,8 @@ fn write_found(out: &mut Transcript, found: &mut Vec<Run>) {
     out.say("|");
 }
 
-// Lets a frontier go on where runs come into the set, up to one past the last element, and writes
-// what it newly reaches; a minus sign where it told beforehand that this is nothing.
+// Lets a frontier go on as runs are added to the set, up to one past the last element, and writes
+// what it newly reaches; a minus sign if it said before that this is nothing.
 fn write_grown(
     out: &mut Transcript,
     steps: &Steps,
@@ -94,7 +95,7 @@ fn write_grown(
     Ok(())
 }
 
-// Writes what a frontier from the point 0 newly reaches as runs come into a set that has none.
+// Writes what a frontier from the point 0 newly reaches as runs are added to an empty set.
 fn write_one(
     out: &mut Transcript,
     steps: &Steps,
@@ -114,7 +115,7 @@ fn write_one(
     drop(found);
 }
 
-// The same of a frontier of a constraint at all points, and one from the point 2.
+// Like `write_one`, for a frontier of a constraint at all points, and one from the point 2.
 fn write_all(
     out: &mut Transcript,
     steps: &Steps,
@@ -136,7 +137,7 @@ fn write_all(
     drop(found);
 }
 
-// The same of a frontier from the points 0 and 2.
+// Like `write_one`, for a frontier from the points 0 and 2.
 fn write_both(
     out: &mut Transcript,
     steps: &Steps,
@@ -158,7 +159,7 @@ fn write_both(
     drop(found);
 }
 
-// The same of a set that is made for it.
+// Like `write_grown`, over a set that is made for it.
 fn write_over(out: &mut Transcript, graph: &Graph, from: From, runs: &[(u32, u32)]) {
     if graph.points() <= 2 {
         return;
@@ -177,8 +178,8 @@ fn write_over(out: &mut Transcript, graph: &Graph, from: From, runs: &[(u32, u32
     }
 }
 
-/// Writes the same of walks from both points over the graph of four points with the edges 0 to 1
-/// and 2 to 3.
+/// Like `write_over`, for walks from both points over the graph of four points with the edges 0 to
+/// 1 and 2 to 3.
 pub fn write_frontier(out: &mut Transcript, runs: &[(u32, u32)]) {
     if let Ok(mut builder) = GraphBuilder::new(out.alloc, 4, 1) {
         out.note(builder.next(0, 1));
@@ -189,8 +190,8 @@ pub fn write_frontier(out: &mut Transcript, runs: &[(u32, u32)]) {
     }
 }
 
-// Writes the same over the graph of four points with the edges 0 to 1, 1 to 2 and 1 to 3, of which
-// 2 is a return point.
+// Like `write_over`, over the graph of four points with the edges 0 to 1, 1 to 2 and 1 to 3, of
+// which 2 is a return point.
 fn write_to_end(out: &mut Transcript, from: From, runs: &[(u32, u32)]) {
     if let Ok(mut builder) = GraphBuilder::new(out.alloc, 4, 1) {
         out.note(builder.next(0, 1));
@@ -203,18 +204,18 @@ fn write_to_end(out: &mut Transcript, from: From, runs: &[(u32, u32)]) {
     }
 }
 
-/// Writes the same of walks from the point 0.
+/// Like `write_to_end`, for walks from the point 0.
 pub fn write_frontier_to_end(out: &mut Transcript, runs: &[(u32, u32)]) {
     write_to_end(out, From::One, runs);
 }
 
-/// Writes the same of a constraint at all points.
+/// Like `write_to_end`, for a constraint at all points.
 pub fn write_frontier_everywhere(out: &mut Transcript, runs: &[(u32, u32)]) {
     write_to_end(out, From::All, runs);
 }
 
-// Runs that come into the set, and what is newly reached with each; a minus sign where the frontier
-// tells that it has nothing to go on from.
+// Runs that are added to the set, and what is newly reached with each; a minus sign if the frontier
+// says that it has nothing to go on from.
 const GROWN: &[Row] = &[
     (
         "each point in turn",
@@ -273,7 +274,7 @@ const GROWN: &[Row] = &[
     ),
 ];
 
-// Walks begin at the point that was added as at the first, and go on at a hole that is filled.
+// Walks begin at the point that was added just as at the first, and go on at a hole that is filled.
 #[test]
 fn a_frontier_goes_on_from_each_of_its_points(rt: HostRuntime) {
     compare_rows(&rt, rt.alloc(), GROWN);

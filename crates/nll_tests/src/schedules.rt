@@ -3,7 +3,7 @@
 use super::rows::Asked::Schedule;
 use super::rows::{Row, compare_rows};
 use super::transcript::Transcript;
-use nll_schedule_text::read_schedule;
+use nll_lists::read_schedule;
 
 /// Writes the events that a schedule of this many owners lists, or the line and kind of its fault.
 pub fn write_schedule(out: &mut Transcript, owners: u16, text: &[u8]) {

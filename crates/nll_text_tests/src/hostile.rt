@@ -5,7 +5,7 @@ use super::lists::{Cut, Schedule};
 use super::mir::Mir;
 use super::quick::{write_cut, write_facts, write_mir, write_schedule};
 use super::slow::write_slowly;
-use nll_worked_texts::{
+use nll_worked::{
     CALLED, DROPPED, FUNCTIONS, MOVED, REBORROW, RETURNED, TAKERS, TWO_BORROWS, text_of,
 };
 use std::alloc::Global;

@@ -1,9 +1,8 @@
 //! What the readers of the program say of texts, as text.
 use super::slow::{write_counts, write_fault};
-use nll_cut_text::read_cut;
 use nll_facts::read_facts;
+use nll_lists::{read_cut, read_schedule};
 use nll_mir_text::read_mir;
-use nll_schedule_text::read_schedule;
 use std::alloc::Global;
 
 /// Writes how much a facts text has, or its fault.

@@ -28,8 +28,8 @@ abbrev pub HasStray : Problem → Cut → ℕ → (ℕ → List Growth) → Type
 HasStray q c i got =
     (j : ℕ) × (g : Growth) × (j < c.owners) × Contains (got j) g × (Passes q c i j g → ⊥)
 
--- What the worker of owner i comes to: its owner, what it posted to each other owner and took from
--- each, what it owed and cleared, and how it ended.
+-- What the worker of owner i has at the end: its owner, what it posted to each other owner and took
+-- from each, what it owed and cleared, and how it ended.
 pub record Finishes (q : Problem) (c : Cut) (i : ℕ) (o : Owner) (sent got : ℕ → List Growth)
     (owed cleared : ℕ) (ending : Ending) : Type 0 where
   pub problem : o.problem ≡ q
@@ -42,7 +42,7 @@ pub record Finishes (q : Problem) (c : Cut) (i : ℕ) (o : Owner) (sent got : �
   -- its owner received nothing but what it took
   pub taken :
       (j : ℕ) (g : Growth) → j < c.owners → Contains (received_from o j) g → Contains (got j) g
-  -- where all was quiet, its owner received what it took and has nothing left to do; it has posted
+  -- if it ended quiet, its owner received what it took and has nothing left to do; it has posted
   -- all, owed for the load and for all that it posted, and cleared the load and all that it took
   pub heard : ending ≡ Quiet → (j : ℕ) → j < c.owners → got j ≡ received_from o j
   pub done : ending ≡ Quiet → IsDone o
@@ -56,7 +56,7 @@ WasStarted Forbidden = ⊥
 WasStarted Unstarted = ⊥
 WasStarted _ = Unit {0}
 
--- what the permit answered of a worker that ended so
+-- the answer of the permit for a worker that ended so
 abbrev pub IsAnswered : (Bool → Type 0) → Ending → Type 0
 IsAnswered permits Forbidden = permits false
 IsAnswered permits _ = permits true
@@ -68,14 +68,14 @@ WasMade Unstarted = ⊥
 WasMade NoOwner = ⊥
 WasMade _ = Unit {0}
 
--- it finished with an owner of this log, whose values are there
+-- it finished with an owner of this log, and has the owner's values
 abbrev pub FinishedAs : Problem → Cut → ℕ → (ℕ → List Growth) → (ℕ → List Growth)
     → ℕ → ℕ → Ending → List Growth → Holding → Type 0
 FinishedAs q c i sent got owed cleared ending log holding =
     (o : Owner) × (o.log ≡ log) × Finishes q c i o sent got owed cleared ending
     × AreValuesOf q c i log holding
 
--- the worker neither found all quiet nor was stopped by another
+-- the worker neither ended quiet nor was stopped by another
 abbrev pub IsError : Ending → Type 0
 IsError Quiet = ⊥
 IsError Stopped = ⊥
@@ -99,8 +99,9 @@ module _ {L B H E : Type 0} (ledger : Ledger.Ghosts L B H E) where
     pub called_is : ledger.called share ≡ false
 
   module _ {M S R C P : Type 0} (mail : Mail.Ghosts M S R C P) where
-    -- The worker of owner i is given a fresh share, ends of mailboxes through which nothing went, a
-    -- sender to each other owner, and an empty list with room for its senders once they are closed.
+    -- The worker of owner i is given a fresh share, ends of mailboxes through which nothing was
+    -- sent, a sender to each other owner, and an empty list with room for its senders once they are
+    -- closed.
     pub record IsGiven (c : Cut) (book : B) (i : ℕ) (share : H) (senders : List (Option S))
         (receivers : List (Option R)) (kept : List (Option C)) (room : ℕ) : Type 0 where
       pub me_in : i < c.owners
@@ -113,7 +114,8 @@ module _ {L B H E : Type 0} (ledger : Ledger.Ghosts L B H E) where
       pub space : length senders ≤ room
 
     -- The worker of owner i gives back the log and the values of its owner, what is left of its
-    -- share, and the ends of its mailboxes: each sender closed, each receiver the end that it was.
+    -- share, and the ends of its mailboxes: each sender closed, each receiver as the end of its
+    -- mailbox that it was.
     pub record IsEnded (q : Problem) (c : Cut) (book : B) (i : ℕ) (senders : List (Option S))
         (receivers : List (Option R)) (log : List Growth) (holding : Holding) (left : E)
         (closed : List (Option C)) (ended : List (Option R)) (ending : Ending) : Type 0 where

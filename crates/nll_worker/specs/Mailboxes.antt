@@ -1,11 +1,10 @@
--- Lists of ends of mailboxes, and what becomes of each end.
--- Source: project's choice.
+-- Lists of ends of mailboxes, and what each end becomes. Source: project's choice.
 use Rattle.std.specs.Prelude.{◌≡◌, ℕ, List, [], ◌∷◌, length, Option, Some, None, slice_get}
 use Rattle.nll_mail.specs.declared.growth.Growth.{Growth}
 use Rattle.nll_mail.specs.declared.mail.Mail as Mail
 use Rattle.nll_owner.specs.Logs.{log_of}
 
--- P holds of two lists, place by place
+-- P holds of two lists, index by index
 abbrev pub Alike : {X Y : Type 0} → (X → Y → Type 0) → List X → List Y → Type 0
 Alike P [] [] = Unit {0}
 Alike P (x ∷ xs) (y ∷ ys) = P x y × Alike P xs ys
@@ -17,16 +16,16 @@ Both P None None = Unit {0}
 Both P (Some x) (Some y) = P x y
 Both P _ _ = ⊥
 
--- what went through an end, by f: nothing where there is no end
+-- what was sent through an end, by f: nothing if there is no end
 abbrev pub through : {X : Type 0} → (X → List Growth) → Option X → List Growth
 through f None = []
 through f (Some x) = f x
 
--- no end is missing but that at the place of owner i
+-- no end is missing except the one at the index of owner i
 abbrev pub HasEnds : {X : Type 0} → ℕ → List (Option X) → Type 0
 HasEnds i ends = (j : ℕ) → slice_get ends j ≡ Some None → j ≡ i
 
--- there is a list for each of so many owners, and all are empty
+-- there is a list for each of this many owners, and all are empty
 abbrev pub AreAllEmpty : ℕ → List (List Growth) → Type 0
 AreAllEmpty n lists = (length lists ≡ n) × ((j : ℕ) → log_of lists j ≡ [])
 

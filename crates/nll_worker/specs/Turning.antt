@@ -1,5 +1,5 @@
--- What a worker has between its steps. Private contracts alone cite this file.
--- Source: project's choice.
+-- What a worker has between its steps. Only private contracts cite this file. Source: project's
+-- choice.
 use Rattle.std.specs.Prelude.{◌≡◌, ◌^◌, ℕ, ◌+◌, ◌<◌, ◌≤◌, true, false, List, length, take, min, Contains}
 use Rattle.nll_mail.specs.declared.growth.Growth.{Growth}
 use Rattle.nll_owner.specs.Logs.{log_of}
@@ -11,12 +11,12 @@ use Rattle.nll_worker.specs.declared.tally.Tally.{Tally}
 use Rattle.nll_worker.specs.declared.inbox.Heard.{Heard}
 use Rattle.nll_worker.specs.declared.inbox.Heard.TheVariants.{Nothing, Growths, Stray, Memory}
 
--- Just that was posted to each owner which was given out to it.
+-- Exactly what was given to each owner was posted to it.
 pub record HasPosted (o : Owner) (posts : List (List Growth)) : Type 0 where
   pub count : length posts ≡ o.cut.owners
   pub front : (j : ℕ) → j < o.cut.owners → log_of posts j ≡ take (given_to o j) (part_for o j)
 
--- of each of the first so many parts so many growths more were given out, or all that were left
+-- of each of the first this many parts, this many more growths were given, or all that were left
 abbrev pub HasGivenMore : ℕ → ℕ → Owner → Owner → Type 0
 HasGivenMore most owners old new =
     (j : ℕ) → j < owners → given_to new j ≡ min (given_to old j + most) (length (part_for old j))
@@ -30,7 +30,7 @@ pub record IsWorking (o : Owner) (owed : ℕ) : Type 0 where
   pub done : IsDone o
   pub owes : owed ≡ 1 + due_of o
 
--- What was taken was received; all of it and the load are cleared, but for so many items.
+-- What was taken was received; all of it and the load are cleared, except this many items.
 pub record HasTaken (o : Owner) (taken : List (List Growth)) (cleared items : ℕ) : Type 0 where
   pub count : length taken ≡ o.cut.owners
   pub heard : (j : ℕ) → j < o.cut.owners → log_of taken j ≡ received_from o j
@@ -38,7 +38,7 @@ pub record HasTaken (o : Owner) (taken : List (List Growth)) (cleared items : �
   pub clears : cleared + items ≡ 1 + sum_to o.cut.owners (λ j. length (log_of taken j))
 
 -- Between two turns all that grew is owed for and counted, and all that was taken is cleared. There
--- were no more turns than that.
+-- were no more turns than cleared items.
 pub record IsAtRest (o : Owner) (taken : List (List Growth)) (owed cleared : ℕ) (t : Tally)
     : Type 0 where
   pub working : IsWorking o owed
@@ -53,14 +53,14 @@ HasTakenAll o taken =
     (j : ℕ) (g : Growth) → j < o.cut.owners → Contains (received_from o j) g
     → Contains (log_of taken j) g
 
--- the worker hasn't to end now
+-- the worker needn't end now
 abbrev pub GoesOn : Heard → Type 0
 GoesOn Nothing = Unit {0}
 GoesOn Growths = Unit {0}
 GoesOn Stray = ⊥
 GoesOn Memory = ⊥
 
--- what a turn comes to
+-- the outcome of a turn
 abbrev pub ComesTo : Owner → List (List Growth) → ℕ → ℕ → Tally → Heard → Type 0
 ComesTo o taken owed cleared t Nothing = IsAtRest o taken owed cleared t
 ComesTo o taken owed cleared t Growths = IsAtRest o taken owed cleared t

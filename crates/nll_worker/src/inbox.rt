@@ -13,7 +13,7 @@ use crate::gate::Gate;
 use nll_mail::{Growth, Mail};
 use nll_owner::Owner;
 
-/// What a look into a mailbox came to.
+/// The outcome of a look into a mailbox.
 #[derive(Clone, Copy, Debug, PartialEq, Eq)]
 pub enum Heard {
     /// Nothing was found there.
@@ -27,7 +27,8 @@ pub enum Heard {
 }
 
 // Takes growths out of a mailbox into an empty list that has room for them, until none is found
-// there, one can't be its sender's, or there are so many: whether all can be their sender's.
+// there, one can't be its sender's, or there are this many. Returns whether all can be their
+// sender's.
 fn take_batch<M: Mail>(
     owner: &Owner<'_>,
     receiver: &mut M::R,
@@ -79,8 +80,8 @@ fn hand_in(owner: &mut Owner<'_>, from: u16, growths: &[Growth]) -> Heard
     }
 }
 
-// Takes so many growths out of a mailbox, at most, enters the gate, and hands the growths to the
-// owner. The list has what was taken then. Its room is made before, so that none is lost where
+// Takes at most this many growths out of a mailbox, enters the gate, and hands the growths to the
+// owner. The list then has what was taken. Room for them is made before, so that none is lost if
 // memory is refused.
 fn hear<M: Mail, G: Gate>(
     gate: &G,
@@ -118,7 +119,7 @@ fn hear<M: Mail, G: Gate>(
     hand_in(owner, from, batch)
 }
 
-// The same, where there is a mailbox.
+// Like `hear`, if there is a mailbox.
 fn hear_if<M: Mail, G: Gate>(
     gate: &G,
     turn: u64,
@@ -147,8 +148,8 @@ fn hear_if<M: Mail, G: Gate>(
     }
 }
 
-/// Takes so many growths out of one of the mailboxes, at most, enters the gate, and hands the
-/// growths to the owner. The list has what was taken then.
+/// Takes at most this many growths out of one of the mailboxes, enters the gate, and hands the
+/// growths to the owner. The list then has what was taken.
 pub fn hear_from<M: Mail, G: Gate>(
     gate: &G,
     turn: u64,

@@ -23,8 +23,8 @@ pub fn never_stray()
         → (i : ℕ) → i < c.owners → ending i ≢ Stray }
 {}
 
-/// States that where all workers found the balance 0, and owed and cleared the same in all, each
-/// owner received its whole part of each other log, and the logs say exactly the least values.
+/// States that if all workers found the balance 0, and owed and cleared the same in all, each owner
+/// received its whole part of each other log, and the logs say exactly the least values.
 pub fn all_quiet()
     ensures { (q : Problem) (c : Cut) (owner : ℕ → Owner) (logs : List (List Growth))
         (sent got rest : ℕ → ℕ → List Growth) (owed cleared : ℕ → ℕ) (ending : ℕ → Ending)

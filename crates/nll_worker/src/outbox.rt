@@ -6,14 +6,13 @@ ghost use Rattle.nll_worker.specs.Mailboxes.{Alike, Both, Shuts};
 use nll_mail::Mail;
 use std::collections::VecDeque;
 
-/// The sending ends of a worker's mailboxes, one for each other owner. Those that are let go are
-/// closed.
+/// The sending ends of a worker's mailboxes, one for each other owner. Dropping one closes it.
 pub struct Outbox<M: Mail> {
     /// The ends, by the owner to whom they lead; none leads to the worker's own owner.
     pub senders: Vec<Option<M::S>>,
 }
 
-// An end is closed, if there is one.
+// Closes an end, if there is one.
 fn shut<M: Mail>(sender: Option<M::S>) -> Option<M::Closed>
     ensures { Both (Shuts M.Mail) sender result }
 {
@@ -37,7 +36,7 @@ impl<M: Mail> Drop for Outbox<M> {
 }
 
 impl<M: Mail> Outbox<M> {
-    /// Closes the ends, in their order and places, into a list that has room for them.
+    /// Closes the ends, and puts each at its index of a list that has room for them.
     pub fn close_all(self, room: Vec<Option<M::Closed>>) -> Vec<Option<M::Closed>>
         requires { (room.items ≡ []) × (vec_len self.senders ≤ vec_capacity room) }
         ensures { Alike (Both (Shuts M.Mail)) self.senders.items result.items }

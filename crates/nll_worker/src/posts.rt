@@ -1,5 +1,5 @@
-//! What a worker posts: to each owner so much at once, at most. The rest, and what a full mailbox
-//! refuses, is tried again later.
+//! What a worker posts: at most a given number to each owner at once. The rest, and what a full
+//! mailbox refuses, is tried again later.
 
 ghost use Rattle.std.specs.Prelude.{◌≡◌, ◌≢◌, ◌+◌, ◌<◌, ◌≤◌, ℕ, List, length, map, take, min};
 ghost use Rattle.std.specs.Prelude.{OnOk, false, slice_set, vec_len, None};
@@ -15,8 +15,8 @@ use crate::tally::{Tally, unsent_count};
 use nll_mail::{Mail, PostError};
 use nll_owner::Owner;
 
-// Posts what isn't given out yet of the part of the log that another owner reads, as long as its
-// mailbox isn't full and it isn't too much at once.
+// Posts what isn't given yet of the part of the log that another owner reads, until its mailbox is
+// full or the number for one time is reached.
 fn post_part<M: Mail>(
     owner: &mut Owner<'_>,
     sender: &mut M::S,
@@ -50,7 +50,7 @@ fn post_part<M: Mail>(
     Ok(())
 }
 
-// The same, where there is a mailbox: there is none from the owner to itself.
+// Like `post_part`, if there is a mailbox: there is none from the owner to itself.
 fn post_if<M: Mail>(
     owner: &mut Owner<'_>,
     sender: &mut Option<M::S>,
@@ -78,7 +78,7 @@ fn post_if<M: Mail>(
     }
 }
 
-// The same for the sender that leads to this owner.
+// Like `post_if`, for the sender that leads to this owner.
 fn post_to<M: Mail>(
     owner: &mut Owner<'_>,
     senders: &mut Vec<Option<M::S>>,
@@ -101,8 +101,8 @@ fn post_to<M: Mail>(
     post_if::<M>(owner, &mut senders[to as usize], to, most)
 }
 
-// Posts what isn't given out yet, to all owners that read it and whose mailboxes aren't full: to
-// each not too much at once.
+// Posts what isn't given yet, to all owners that read it and whose mailboxes aren't full: to each
+// at most the number for one time.
 fn post_all<M: Mail>(
     owner: &mut Owner<'_>,
     senders: &mut Vec<Option<M::S>>,
@@ -125,7 +125,7 @@ fn post_all<M: Mail>(
     Ok(())
 }
 
-// Posts what waits, where something does, and counts what is left.
+// Posts what waits, if something does, and counts what is left.
 fn post_waiting<M: Mail>(
     owner: &mut Owner<'_>,
     senders: &mut Vec<Option<M::S>>,
@@ -155,7 +155,7 @@ fn post_waiting<M: Mail>(
     posted
 }
 
-/// Posts what waits, where the worker hasn't to end: what it heard, or why it has to end now.
+/// Posts what waits, unless the worker has to end: returns what it heard, or why it has to end now.
 pub fn share_out<M: Mail>(
     heard: Heard,
     owner: &mut Owner<'_>,

@@ -1,4 +1,4 @@
-//! How the start of a worker went, and what becomes of it.
+//! The start of a worker, and what it leads to.
 
 ghost use Rattle.std.specs.Prelude.{◌≡◌, ◌≢◌, ◌≤◌, [], IfErr, IfOk, length, vec_capacity};
 ghost use Rattle.std.specs.VecDeque.{deque_len};
@@ -24,15 +24,14 @@ use std::sync::Wait;
 use std::sync::atomic::{AtomicU64, Ordering};
 use std::thread::{PromisedHandle, Threads};
 
-/// How the start of a worker went: the thread that it has, or, where the start failed, what the
-/// worker gives back.
+/// The outcome of a worker's start: its thread or, if the start failed, what the worker gives back.
 pub type Start<M: Mail, L: Ledger> = Result<
     PromisedHandle<Back<M, L>, Given<M, L>>,
     Finished<M, L>,
 >;
 
-/// Runs one worker from its start to its end; one that is called off by its number comes back as
-/// it was.
+/// Runs one worker from its start to its end; one that is called off by its number comes back as it
+/// was.
 pub fn work_if_started<M: Mail, L: Ledger, G: Gate, R: Wait>(
     rt: &R,
     alloc: Global,

@@ -12,7 +12,7 @@ use nll_owner::Owner;
 pub struct Tally {
     /// How many growths the log had when it was counted last.
     pub grown: u64,
-    /// How many of them weren't given out yet, over all owners that read them.
+    /// How many of them weren't given yet, over all owners that read them.
     pub waiting: u64,
     /// How many turns there were.
     pub turns: u64,
@@ -20,7 +20,7 @@ pub struct Tally {
     pub cleared: u64,
 }
 
-/// How many growths of the log aren't given out yet, over all owners that read them.
+/// How many growths of the log aren't given yet, over all owners that read them.
 pub fn unsent_count(owner: &Owner<'_>) -> u64
     requires whole { owner.now.broken ≡ false }
     ensures count { given_of owner.now + result ≡ due_of owner.now }
@@ -32,7 +32,7 @@ pub fn unsent_count(owner: &Owner<'_>) -> u64
     count
 }
 
-/// Counts anew where the log has grown: for how many growths more there is to owe.
+/// Counts again if the log has grown: returns how many more growths there are to owe for.
 pub fn count_new(owner: &Owner<'_>, tally: &mut Tally) -> u64
     requires whole { owner.now.broken ≡ false }
     requires grew { (before : Owner) × HasGrown before owner.now × IsCounted before tally.old }

@@ -1,4 +1,4 @@
-//! Workers are started and joined.
+//! Starting and joining workers.
 
 ghost use Rattle.std.specs.Prelude.{◌≡◌, ◌≢◌, ◌≤◌, true, [], IfErr, IfOk, length, vec_capacity};
 ghost use Rattle.std.specs.VecDeque.{deque_len};
@@ -26,12 +26,13 @@ use std::sync::atomic::{AtomicU64, Ordering};
 use std::thread;
 use std::thread::{Scope, Threads};
 
-/// Starts a thread for each worker that the permit lets be started, and joins them all: what each
-/// worker gives back, in their order.
+/// Starts a thread for each worker whose start the permit allows, and joins them all: returns what
+/// each worker gives back, in their order.
 ///
-/// A worker whose start fails ends as `Forbidden` where the permit refused it, else as `Unstarted`.
-/// The stop flag is set by its share, and its senders are closed, before the next worker is looked
-/// at. The workers behind it are started all the same, and leave once they see the flag.
+/// A worker whose start fails ends as `Forbidden` if the permit refused it, otherwise as
+/// `Unstarted`. The stop flag is set by its share, and its senders are closed, before the next
+/// worker is looked at. The workers after it are started all the same, and leave once they see the
+/// flag.
 ///
 /// # Errors
 /// - `AllocError`: out of memory. No worker was started; their senders are closed.
@@ -73,7 +74,7 @@ pub fn run_all<M: Mail, L: Ledger, G: Gate, P: Permit, R: Threads + Wait + Sync>
     )
 }
 
-// The same, over a mark that has the number of the worker whose start failed last.
+// Like `run_all`, over a mark that has the number of the worker whose start failed last.
 fn run_marked<'x, M: Mail + 'x, L: Ledger + 'x, G: Gate, P: Permit, R: Threads + Wait + Sync>(
     rt: &'x R,
     alloc: Global,
@@ -118,7 +119,7 @@ fn run_marked<'x, M: Mail + 'x, L: Ledger + 'x, G: Gate, P: Permit, R: Threads +
     )
 }
 
-// The same, in threads of a scope.
+// Like `run_marked`, in threads of a scope.
 fn run_in<'s, 'x: 's, M: Mail + 'x, L: Ledger + 'x, G: Gate, P: Permit, R: Threads + Wait + Sync>(
     scope: &'s Scope<'s, &'x ()>,
     rt: &'x R,
@@ -150,7 +151,7 @@ fn run_in<'s, 'x: 's, M: Mail + 'x, L: Ledger + 'x, G: Gate, P: Permit, R: Threa
     Ok(join_all::<M, L, R>(rt, alloc, book, starts, finished))
 }
 
-// Starts a thread for each worker that the permit lets be started; the others are called off.
+// Starts a thread for each worker whose start the permit allows; the others are called off.
 fn start_each<
     's,
     'x: 's,
@@ -204,7 +205,7 @@ fn start_each<
     starts
 }
 
-// Starts a thread for a worker; where that is refused, the worker comes back, and is called off.
+// Starts a thread for a worker; if that is refused, the worker comes back, and is called off.
 fn start_one<'s, 'x: 's, M: Mail + 'x, L: Ledger + 'x, G: Gate, R: Threads + Wait + Sync>(
     scope: &'s Scope<'s, &'x ()>,
     rt: &'x R,

@@ -16,10 +16,10 @@ use nll_ledger::Ledger;
 use nll_mail::{Growth, Mail};
 use nll_owner::Owner;
 
-// How many rounds follow each other at most.
+// At most this many rounds follow each other.
 const MOST_ROUNDS: u64 = 32;
 
-// Owes for what the log got in this turn, and then clears the turn's items, so many.
+// Owes for what was added to the log in this turn, and then clears the turn's items, this many.
 fn keep_book<L: Ledger>(
     book: &L::Book,
     share: &mut L::Share,
@@ -81,7 +81,7 @@ pub fn first_turn<L: Ledger, G: Gate>(
     (tally, Heard::Growths)
 }
 
-// A turn, where one of the mailboxes has growths: the owner receives so many of them, at most, and
+// A turn, if one of the mailboxes has growths: the owner receives at most this many of them, and
 // the book is kept of them.
 fn turn<M: Mail, L: Ledger, G: Gate>(
     gate: &G,
@@ -119,7 +119,7 @@ fn turn<M: Mail, L: Ledger, G: Gate>(
     }
 }
 
-// The owner whose mailbox is looked into first after so many turns: with each turn the next one.
+// The owner whose mailbox is looked into first after this many turns: with each turn the next one.
 fn first_after(turns: u64, owners: u16) -> u16
     requires { 0 < owners }
     ensures { result < owners }
@@ -127,7 +127,7 @@ fn first_after(turns: u64, owners: u16) -> u16
     (turns % owners as u64) as u16
 }
 
-// The owner that comes so many behind the first; behind the last comes owner 0.
+// The owner that comes this many after the first; after the last comes owner 0.
 fn owner_behind(first: u16, step: u16, owners: u16) -> u16
     requires first { first < owners }
     requires step { step < owners }
@@ -141,8 +141,8 @@ fn owner_behind(first: u16, step: u16, owners: u16) -> u16
     }
 }
 
-/// One look into each mailbox, or up to the first growth where a turn receives one at most: whether
-/// the owner received growths, or why the worker has to end.
+/// One look into each mailbox, or up to the first growth if a turn receives at most one. Returns
+/// whether the owner received growths, or why the worker has to end.
 pub fn round<M: Mail, L: Ledger, G: Gate>(
     gate: &G,
     book: &L::Book,
@@ -187,7 +187,7 @@ pub fn round<M: Mail, L: Ledger, G: Gate>(
     if any { Heard::Growths } else { Heard::Nothing }
 }
 
-// What rounds come to where the last one heard this, and those before it growths.
+// The outcome of rounds of which the last one heard this, and those before it growths.
 fn behind_a_growth(heard: Heard) -> Heard
     ensures { (o : Owner) (taken : List (List TheGrowth)) (owed cleared : ℕ) (t : TheTally)
         → ComesTo o taken owed cleared t heard → ComesTo o taken owed cleared t result }
@@ -199,7 +199,7 @@ fn behind_a_growth(heard: Heard) -> Heard
 }
 
 /// Looks into each mailbox, and again as long as growths are heard and fewer items were cleared
-/// than `until`: whether the owner received growths, or why the worker has to end.
+/// than `until`. Returns whether the owner received growths, or why the worker has to end.
 pub fn rounds<M: Mail, L: Ledger, G: Gate>(
     gate: &G,
     book: &L::Book,

@@ -35,7 +35,7 @@ pub fn halt<L: Ledger>(book: &L::Book, share: L::Share) -> L::Left
     }
 }
 
-// Leaves where the stop flag is found set; else the share comes back.
+// Leaves if the stop flag is set; otherwise the share comes back.
 fn heed_stop<L: Ledger>(book: &L::Book, share: L::Share) -> Leave<L::Left, L::Share>
     requires { L.belongs book.now share }
     ensures left { IfLeft result (λ left. L.left_belongs book.now left
@@ -56,8 +56,8 @@ fn heed_stop<L: Ledger>(book: &L::Book, share: L::Share) -> Leave<L::Left, L::Sh
     L::leave(book, share)
 }
 
-// Asks to leave, once the worker has waited for a while with nothing left to post. Where growths
-// wait for a place in a mailbox, it leaves only on a stop.
+// Asks to leave, once the worker has waited for a while with nothing left to post. If growths wait
+// for a place in a mailbox, it leaves only on a stop.
 fn ask_to_leave<L: Ledger>(
     book: &L::Book,
     share: L::Share,
@@ -85,7 +85,8 @@ fn ask_to_leave<L: Ledger>(
     }
 }
 
-/// Loads the owner and works until the share has left: what is left of it, and how this ended.
+/// Loads the owner and works until the share has left. Returns what is left of it, and how this
+/// ended.
 pub fn work_on<M: Mail, L: Ledger, G: Gate, R: Wait>(
     rt: &R,
     gate: &G,

@@ -21,8 +21,8 @@ use std::snapshot::Snapshot;
 use std::sync::Wait;
 use std::thread::Promise;
 
-/// What a worker owns: its number, its share of the ledger's book, the ends of its mailboxes by
-/// the other owner, none at its own place, and room for its senders once they are closed.
+/// What a worker owns: its number, its share of the ledger's book, the ends of its mailboxes by the
+/// other owner, none at its own index, and room for its senders once they are closed.
 #[derive(Drop)]
 pub struct Worker<M: Mail, L: Ledger> {
     pub me: u16,

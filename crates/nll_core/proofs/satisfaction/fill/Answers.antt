@@ -14,8 +14,8 @@ use Rattle.nll_core.proofs.satisfaction.fill.Goals as goal
 use Rattle.nll_core.proofs.satisfaction.fill.Goals.{After-fill_whole, After-fill_all}
 
 pub reach-requires-clause-points : goal.reach-requires-clause-points
-reach-requires-clause-points c = among_points c.args.lines.now c.args.pair.now
-    (λ k h. subst (λ (g : Graph). IsAmong g.points k.at) (sym c.requires.lines)
+reach-requires-clause-points c = among_points c.lines.result.now c.args.pair.now.constraints.now
+    (λ k h. subst (λ (g : Graph). IsAmong g.points k.at) (sym c.lines.ensures)
     (c.regions-regions.ensures.sound.constraint_points k (c.requires.pair k h).0))
     (c.is_everywhere.ensures.none c.if-is_everywhere.false)
 
@@ -26,10 +26,11 @@ made_up g sub pair runs found make_up asked e = (λ h. (asked e).0 ((make_up e).
 
 -- at all points, it is all that the region has
 whole : (c : After-fill_whole) → (e : ℕ)
-    → IsIn (set_of c.args.values.now c.args.sub) e
-    ↔ IsAskedOf c.args.problem.now.graph (set_of c.args.values.now c.args.sub) c.args.pair.now e
+    → IsIn (set_of c.args.values.now c.args.pair.now.sub) e
+    ↔ IsAskedOf c.args.problem.now.graph (set_of c.args.values.now c.args.pair.now.sub)
+    c.args.pair.now.constraints.now e
 whole c =
-    whole_asked c.args.problem.now.graph (set_of c.args.values.now c.args.sub) c.args.pair.now
+    whole_asked c.args.problem.now.graph (set_of c.args.values.now c.args.pair.now.sub) c.args.pair.now.constraints.now
     (c.is_everywhere.ensures.some c.if-is_everywhere.true)
 
 pub returns-then-is_everywhere-clause-gains : goal.returns-then-is_everywhere-clause-gains
@@ -44,12 +45,13 @@ returns-then-is_everywhere-clause-asks c =
 -- else they are of what walks reach
 walked : (c : After-fill_all) → (e : ℕ)
     → IsInRuns c.as_runs.result.now e ↔ IsAskedOf c.args.problem.now.graph
-    (set_of c.args.values.now c.args.sub) c.args.pair.now e
+    (set_of c.args.values.now c.args.pair.now.sub) c.args.pair.now.constraints.now e
 walked c =
-    made_up c.args.problem.now.graph (set_of c.args.values.now c.args.sub) c.args.pair.now c.as_runs.result.now
+    made_up c.args.problem.now.graph (set_of c.args.values.now c.args.pair.now.sub) c.args.pair.now.constraints.now
+    c.as_runs.result.now
     c.reach.new.self.reached c.as_runs.ensures.make_up
-    (subst (λ (of : Graph × List Bool). AreAskedOf of.0 of.1 c.args.pair.now c.reach.new.self.reached)
-    (λ i. (c.requires.lines i, c.set.ensures i)) c.in_ok-reach.ensures.reached)
+    (subst (λ (of : Graph × List Bool). AreAskedOf of.0 of.1 c.args.pair.now.constraints.now c.reach.new.self.reached)
+    (λ i. (c.lines.ensures i, c.set.ensures i)) c.in_ok-reach.ensures.reached)
 
 pub returns-clause-gains : goal.returns-clause-gains
 returns-clause-gains c =

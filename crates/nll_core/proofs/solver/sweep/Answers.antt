@@ -27,7 +27,15 @@ loop-2-preserved c = record {
   walk = c.in_ok-sweep_all.ensures.walk;
 }
 
-pub returns-clause-closed : goal.returns-clause-closed
-returns-clause-closed c =
-    closed_clean c.args.problem.now c.regions-regions.ensures.sound c.sweep_all.new.values c.sweep_all.new.marks.items
-    c.in_ok-sweep_all.ensures.turns.tracked (c.in_ok-sweep_all.ensures.clean c.if-branch-2.false)
+pub returns : goal.returns
+returns c =
+    let way = goes_on _ _ _ _ _ _ _ c.loop-2.invariant.way c.in_ok-sweep_all.ensures.turns in
+    record {
+      shaped = way.shaped;
+      kept = way.kept;
+      below = way.below;
+      closed =
+          closed_clean c.args.problem.now c.regions-regions.ensures.sound c.sweep_all.new.values
+          c.sweep_all.new.marks.items c.in_ok-sweep_all.ensures.turns.tracked
+          (c.in_ok-sweep_all.ensures.clean c.if-branch-2.false);
+    }

@@ -7,7 +7,7 @@ use Rattle.nll_core.proofs.solver.sweep.Given as goal
 abbrev pub invariant-loop : goal.invariant-loop
 invariant-loop l = record {
   way : IsOnTheWay l.problem l.fn.values l.values l.marks.items;
-  walk : length l.walk.reached ≡ element_count l.lines;
+  walk : length l.walk.reached ≡ element_count l.problem.graph;
 }
 
 abbrev pub decreases-loop : goal.decreases-loop
@@ -16,7 +16,7 @@ decreases-loop l = missing_pairs l.values
 abbrev pub invariant-loop-2 : goal.invariant-loop-2
 invariant-loop-2 l = record {
   way : IsOnTheWay l.problem l.fn.values l.values l.marks.items;
-  walk : length l.walk.reached ≡ element_count l.lines;
+  walk : length l.walk.reached ≡ element_count l.problem.graph;
 }
 
 abbrev pub decreases-loop-2 : goal.decreases-loop-2

@@ -6,5 +6,5 @@ use Rattle.nll_core.proofs.solver.sweep_all.Given as goal
 abbrev pub invariant-loop-region : goal.invariant-loop-region
 invariant-loop-region l = record {
   sweeping : Sweeping l.problem l.fn.values l.values l.marks.items l.changed l.region;
-  walk : length l.walk.reached ≡ element_count l.lines;
+  walk : length l.walk.reached ≡ element_count l.problem.graph;
 }

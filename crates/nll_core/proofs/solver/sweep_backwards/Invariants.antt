@@ -6,7 +6,7 @@ use Rattle.nll_core.proofs.solver.sweep_backwards.Given as goal
 abbrev pub invariant-loop-place : goal.invariant-loop-place
 invariant-loop-place l = record {
   turns : Turns l.problem l.fn.values l.values l.marks.items l.changed;
-  walk : length l.walk.reached ≡ element_count l.lines;
+  walk : length l.walk.reached ≡ element_count l.problem.graph;
   within : l.place ≤ length l.order;
 }
 

@@ -14,7 +14,7 @@ pair_end-end-requires-clause-ascending c =
 -- each constraint that reads the region is one of the problem
 of_problem : (c : After-pair_end-end) (k : Constraint) → Contains c.reading-constraints.result.now k
     → Contains c.args.problem.now.constraints k
-of_problem c k h = (c.requires.index k).0 ((c.reading-constraints.ensures.each k).0 h).0
+of_problem c k h = ((c.reading-constraints.ensures.each k).0 h).0
 
 -- the region that the constraint at the place fills, by whichever default it is read
 sup_is : (c : After-pair_end-end) (d : Constraint)
@@ -68,4 +68,4 @@ pub returns-clause-met : goal.returns-clause-met
 returns-clause-met c = λ k h same.
     visiting_end c.args.problem.now c.args.sub c.reading-constraints.result.now _ _ _ _ _ c.loop-place.place
     (omega (arith, c.loop-place-test.false)) c.loop-place.invariant.visiting k
-    ((c.reading-constraints.ensures.each k).1 ((c.requires.index k).1 h, same))
+    ((c.reading-constraints.ensures.each k).1 (h, same))

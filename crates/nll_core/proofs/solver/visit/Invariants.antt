@@ -7,7 +7,7 @@ abbrev pub invariant-loop-place : goal.invariant-loop-place
 invariant-loop-place l = record {
   visiting : Visiting l.problem l.sub l.constraints l.fn.values l.values l.fn.marks.items l.marks.items l.changed
       l.place;
-  walk : length l.walk.reached ≡ element_count l.lines;
+  walk : length l.walk.reached ≡ element_count l.problem.graph;
 }
 
 abbrev pub decreases-loop-place : goal.decreases-loop-place

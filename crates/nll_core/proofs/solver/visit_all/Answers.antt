@@ -1,4 +1,4 @@
-use Rattle.std.proofs.Common.{◌≡◌, ◌∙◌, ℕ, true, length, replicate, sym, subst, ap, arith}
+use Rattle.std.proofs.Common.{◌≡◌, ◌∙◌, ℕ, true, length, replicate, sym, subst, ap}
 use Rattle.std.proofs.lemmas.List.{length-replicate}
 use Rattle.nll_core.specs.Worklist.{IsTracked, AreRegions}
 use Rattle.nll_core.proofs.WorklistLemmas.{tracked_first}
@@ -14,7 +14,7 @@ pub sweep-told-requires-clause-way : goal.sweep-told-requires-clause-way
 sweep-told-requires-clause-way c =
     let d = (goal.at.sweep-told-requires-clause-way c).In_ok-marks in
     record {
-      shaped = c.requires.shaped;
+      shaped = c.requires;
       kept = λ r e h. h;
       below = λ assignment sat under. under;
       width = ap length (all_marked d) ∙ length-replicate c.args.problem.now.regions true;
@@ -25,7 +25,7 @@ sweep-told-requires-clause-way c =
 
 pub sweep-told-requires-clause-walk : goal.sweep-told-requires-clause-walk
 sweep-told-requires-clause-walk c =
-    rw c.requires.lines (omega (arith, c.in_ok-walk.ensures, c.points.ensures.value, c.universals.ensures.value))
+    c.in_ok-walk.ensures ∙ c.elements.ensures
 
 pub sweep-told-requires-clause-order : goal.sweep-told-requires-clause-order
 sweep-told-requires-clause-order c =

@@ -29,14 +29,15 @@ pub push_found-requires-clause-points : goal.push_found-requires-clause-points
 push_found-requires-clause-points c =
     let d = (goal.at.push_found-requires-clause-points c).After-as_slice-list in
     λ p h.
-    (listed_within (length c.args.body.now.variables) (DropsAt c.args.body.now) (length c.args.body.now.points)
+    (listed_within (length c.args.ways.now.body.now.variables) (DropsAt c.args.ways.now.body.now)
+    (length c.args.ways.now.body.now.points)
     (map (λ list. list.items) c.args.lists.now) c.requires.listed
     c.loop-variable.variable p (subst (λ row. Contains row p) (list_is d) h)).2
 
 pub loop-variable-preserved : goal.loop-variable-preserved
 loop-variable-preserved c =
     let d = (goal.at.loop-variable-preserved c).After-as_slice-list in
-    let body = c.args.body.now in
+    let body = c.args.ways.now.body.now in
     let x : ℕ = c.loop-variable.variable in
     let list = c.as_slice-list.result.now in
     let within : x < length body.variables =
@@ -47,7 +48,8 @@ loop-variable-preserved c =
       fresh = c.in_ok-push_found.ensures.fresh;
       asked = asked_to_step (AsksForDrop body) c.args.base_runs.now.items x c.loop-variable.base_runs.items
           c.push_found.new.base_runs.items c.loop-variable.invariant.asked
-          (asked_of body x c.as_slice.result.now (IsDropRegion c.args.body.now.structs) (IsLive body (Contains list) x)
+          (asked_of body x c.as_slice.result.now (IsDropRegion c.args.ways.now.body.now.structs)
+          (IsLive body (Contains list) x)
           (IsDropLive body x) c.loop-variable.base_runs.items c.push_found.new.base_runs.items within
           (rw c.as_slice.ensures.value c.in_ok-regions.ensures.each)
           (λ p. (
@@ -62,7 +64,7 @@ loop-variable-preserved c =
 
 pub returns : goal.returns
 returns c =
-    asked_to_last (AsksForDrop c.args.body.now) c.args.base_runs.now.items c.loop-variable.variable
+    asked_to_last (AsksForDrop c.args.ways.now.body.now) c.args.base_runs.now.items c.loop-variable.variable
     c.loop-variable.base_runs.items
-    (λ x r p h. omega (arith, drop_declared c.args.body.now x r p h, c.variables-variable-end.ensures.value))
+    (λ x r p h. omega (arith, drop_declared c.args.ways.now.body.now x r p h, c.variables-variable-end.ensures.value))
     c.loop-variable.invariant.asked

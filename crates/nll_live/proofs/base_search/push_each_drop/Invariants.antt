@@ -5,8 +5,8 @@ use Rattle.nll_live.proofs.base_search.push_each_drop.Given as goal
 
 abbrev pub invariant-loop-variable : goal.invariant-loop-variable
 invariant-loop-variable l = record {
-  width : length l.room.marks.items ≡ length l.body.points;
-  tall : length l.room.heights.items ≡ length l.body.points;
+  width : length l.room.marks.items ≡ length l.ways.body.now.points;
+  tall : length l.room.heights.items ≡ length l.ways.body.now.points;
   fresh : (p : ℕ) → slice_index l.room.marks.items p ≤ l.variable;
-  asked : AreAskedTo (AsksForDrop l.body) l.fn.base_runs.items l.variable l.base_runs.items;
+  asked : AreAskedTo (AsksForDrop l.ways.body.now) l.fn.base_runs.items l.variable l.base_runs.items;
 }

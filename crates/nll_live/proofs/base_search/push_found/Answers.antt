@@ -6,8 +6,9 @@ use Rattle.nll_live.proofs.base_search.push_found.Goals as goal
 
 pub returns-clause-gains : goal.returns-clause-gains
 returns-clause-gains c =
-    gains_as (λ r p. Contains c.args.regions.now r × IsInRuns c.as_runs.result.now p)
-    (λ r p. Contains c.args.regions.now r × IsLive c.args.body.now (Contains c.args.list.now) c.args.variable p)
+    gains_as (λ r p. Contains c.args.asking.now.regions.now r × IsInRuns c.as_runs.result.now p)
+    (λ r p. Contains c.args.asking.now.regions.now r × IsLive c.args.ways.now.body.now
+    (Contains c.args.asking.now.points.now) c.args.asking.now.variable p)
     c.args.base_runs.now.items c.push_all.new.base_runs.items
     (λ r p. (
       λ h. (h.0, (c.in_ok-set.ensures.each p).0 ((c.as_runs.ensures.make_up p).0 h.1)),

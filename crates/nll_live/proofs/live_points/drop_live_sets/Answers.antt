@@ -7,14 +7,16 @@ use Rattle.nll_live.proofs.live_points.drop_live_sets.Goals as goal
 
 pub live_sets-sets-requires-clause-points : goal.live_sets-sets-requires-clause-points
 live_sets-sets-requires-clause-points c =
-    rw c.as_slice.ensures.value (λ x p h. (listed_within (length c.args.body.now.variables) (DropsAt c.args.body.now)
-    (length c.args.body.now.points) (map (λ list. list.items) c.in_ok-lists.lists.items) c.in_ok-lists.ensures x p
+    rw c.as_slice.ensures.value (λ x p h. (listed_within (length c.args.ways.now.body.now.variables) (DropsAt
+    c.args.ways.now.body.now)
+    (length c.args.ways.now.body.now.points) (map (λ list. list.items) c.in_ok-lists.lists.items)
+    c.in_ok-lists.ensures x p
     h).2)
 
 pub returns : goal.returns
 returns c = if_ok c.live_sets-sets.result _ _
-    (λ sets are. sets_as c.args.body.now (DropsAt c.args.body.now)
+    (λ sets are. sets_as c.args.ways.now.body.now (DropsAt c.args.ways.now.body.now)
     (map (λ list. list.items) c.in_ok-lists.lists.items) sets.items
-    (λ x p h. slice_get_within c.args.body.now.points p h.0 h.1) c.in_ok-lists.ensures
+    (λ x p h. slice_get_within c.args.ways.now.body.now.points p h.0 h.1) c.in_ok-lists.ensures
     (rw c.as_slice.ensures.value at are))
     c.live_sets-sets.ensures

@@ -1,8 +1,10 @@
-use Rattle.std.proofs.Common.{◌≡◌, map, Contains, sym, subst, ◌∙◌, arith}
+use Rattle.std.proofs.Common.{◌≡◌, length, map, Contains, sym, subst, ◌∙◌, arith}
 use Rattle.std.specs.Prelude.{slice_index}
 use Rattle.std.proofs.lemmas.List.{length-map}
 use Rattle.std.proofs.lemmas.List.Elements.{Contains-get_or}
 use Rattle.nll_problem.specs.Rows.{row_at}
+use Rattle.nll_body.specs.Bodies.{GoesOn}
+use Rattle.nll_live.specs.Chains.{AreStarts}
 use Rattle.nll_live.specs.Lows.{AreDefinitions}
 use Rattle.nll_live.proofs.SetLemmas.{if_ok}
 use Rattle.nll_live.proofs.VectorLemmas.{row_here}
@@ -19,16 +21,24 @@ definitions_are c = c.as_slice-definitions.ensures.value
     (omega (
       arith,
       c.requires.variable,
-      c.requires.ways.defined.counted,
+      c.requires.ways.ways.defined.counted,
       length-map c.args.ways.now.definitions.items (λ list. list.items),
     ))
     c.index.ensures
 
-pub search_back-requires-clause-definitions : goal.search_back-requires-clause-definitions
-search_back-requires-clause-definitions c =
-    let d = (goal.at.search_back-requires-clause-definitions c).After-as_slice-definitions in
-    subst (AreDefinitions c.args.body.now c.args.variable) (sym (definitions_are d))
-    (c.requires.ways.defined.each c.args.variable (omega (arith, c.requires.variable, c.requires.ways.defined.counted)))
+pub search_back-requires-clause-search : goal.search_back-requires-clause-search
+search_back-requires-clause-search c =
+    let d = (goal.at.search_back-requires-clause-search c).After-as_slice-definitions in
+    let body = c.args.ways.now.body.now in
+    let ways = c.requires.ways.ways in
+    record {
+      shown = c.requires.ways.shown;
+      starts =
+          subst (AreStarts (GoesOn body) (length body.points)) (sym c.as_slice-starts.ensures.value) ways.chains;
+      definitions =
+          subst (AreDefinitions body c.args.variable) (sym (definitions_are d))
+          (ways.defined.each c.args.variable (omega (arith, c.requires.variable, ways.defined.counted)));
+    }
 
 pub search_back-requires-clause-ends : goal.search_back-requires-clause-ends
 search_back-requires-clause-ends c =
@@ -37,7 +47,7 @@ search_back-requires-clause-ends c =
 pub set_found-requires-clause-within : goal.set_found-requires-clause-within
 set_found-requires-clause-within c = λ p h.
     let below =
-    live_within c.args.body.now (Contains c.args.list.now) c.args.variable c.requires.points p
+    live_within c.args.ways.now.body.now (Contains c.args.list.now) c.args.variable c.requires.points p
     ((c.in_ok-search_back.ensures.each p).0 h) in
     omega (arith, below, c.points-points.ensures.value)
 

@@ -24,7 +24,7 @@ find_set-requires-clause-points c =
 pub loop-variable-preserved : goal.loop-variable-preserved
 loop-variable-preserved c =
     let d = (goal.at.loop-variable-preserved c).After-as_slice-list in
-    let body = c.args.body.now in
+    let body = c.args.ways.now.body.now in
     let x : ℕ = c.loop-variable.variable in
     let holds : ℕ → ℕ → Type 0 = λ y. IsLive body (IsListed (map (λ list. list.items) c.args.lists.now) y) y in
     record {

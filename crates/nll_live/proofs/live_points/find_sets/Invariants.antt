@@ -6,9 +6,9 @@ use Rattle.nll_live.proofs.live_points.find_sets.Given as goal
 
 abbrev pub invariant-loop-variable : goal.invariant-loop-variable
 invariant-loop-variable l = record {
-  width : length l.room.marks.items ≡ length l.body.points;
-  tall : length l.room.heights.items ≡ length l.body.points;
+  width : length l.room.marks.items ≡ length l.ways.body.now.points;
+  tall : length l.room.heights.items ≡ length l.ways.body.now.points;
   fresh : (p : ℕ) → slice_index l.room.marks.items p ≤ l.variable;
-  sets : AreSetsUpTo (length l.body.points)
-      (λ x. IsLive l.body (IsListed (map (λ list. list.items) l.lists) x) x) l.variable l.sets.items;
+  sets : AreSetsUpTo (length l.ways.body.now.points)
+      (λ x. IsLive l.ways.body.now (IsListed (map (λ list. list.items) l.lists) x) x) l.variable l.sets.items;
 }

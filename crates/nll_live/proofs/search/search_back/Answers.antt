@@ -8,10 +8,6 @@ use Rattle.nll_live.proofs.MarkLemmas.{reaches_append, reaches_weaker, reached_k
 use Rattle.nll_live.proofs.SearchLemmas.{search_first, search_step, search_last, search_proper}
 use Rattle.nll_live.proofs.search.search_back.Goals as goal
 
-pub visit-requires-clause-start : goal.visit-requires-clause-start
-visit-requires-clause-start c =
-    c.requires.starts.before _ (c.requires.ends c.loop-point.point-index c.loop-point-test.true)
-
 pub visit-requires-clause-some : goal.visit-requires-clause-some
 visit-requires-clause-some c = omega (arith, c.requires.fresh 0)
 
@@ -19,7 +15,7 @@ pub loop-point-preserved : goal.loop-point-preserved
 loop-point-preserved c =
     let step =
     reaches_weaker _ (λ low p. Contains c.args.ends.now p
-    × IsLow (slice_index c.args.starts.now p) c.args.definitions.now p low) _ _ _ _ _ _ _
+    × IsLow (slice_index c.args.search.now.starts.now p) c.args.search.now.definitions.now p low) _ _ _ _ _ _ _
     (λ low p h. (
       subst (Contains c.args.ends.now) (sym h.0)
           (Contains-get_or c.args.ends.now c.loop-point.point-index 0 c.loop-point-test.true),
@@ -35,8 +31,9 @@ loop-point-preserved c =
 
 pub loop-place-init : goal.loop-place-init
 loop-place-init c =
-    search_first _ _ _ _ _ _ c.args.starts.now c.args.definitions.now c.requires.ends c.requires.fresh c.requires.starts
-    c.requires.definitions _ _ _
+    search_first _ _ _ _ _ _ c.args.search.now.starts.now c.args.search.now.definitions.now c.requires.ends
+    c.requires.fresh c.requires.search.starts
+    c.requires.search.definitions _ _ _
     (rw c.requires.nothing at c.loop-point.invariant.reaches) c.loop-point.invariant.found
     (λ k h. c.loop-point.invariant.all k (omega arith))
 
@@ -60,18 +57,21 @@ loop-place-preserved c =
     let is =
     get_or_read c.loop-place.room.lows.items c.loop-place.place c.index-low.result.now within c.index-low.ensures 0
     in
-    search_step _ _ _ _ _ _ c.args.starts.now c.args.definitions.now c.requires.ends c.requires.fresh c.requires.starts
-    c.requires.definitions _ _ _ c.loop-place.place _ _ _ within c.loop-place.invariant
+    search_step _ _ _ _ _ _ c.args.search.now.starts.now c.args.search.now.definitions.now c.requires.ends
+    c.requires.fresh c.requires.search.starts
+    c.requires.search.definitions _ _ _ c.loop-place.place _ _ _ within c.loop-place.invariant
     (rw is at c.in_ok-visit_previous.ensures.reaches)
     c.in_ok-visit_previous.ensures.found
     (rw is at c.in_ok-visit_previous.ensures.all)
 
 pub returns-clause-proper : goal.returns-clause-proper
 returns-clause-proper c =
-    search_proper _ _ _ _ _ _ c.args.starts.now c.args.definitions.now c.requires.ends c.requires.fresh
-    c.requires.starts c.requires.definitions _ _ _ c.loop-place.place (omega arith) c.loop-place.invariant
+    search_proper _ _ _ _ _ _ c.args.search.now.starts.now c.args.search.now.definitions.now c.requires.ends
+    c.requires.fresh
+    c.requires.search.starts c.requires.search.definitions _ _ _ c.loop-place.place (omega arith) c.loop-place.invariant
 
 pub returns-clause-each : goal.returns-clause-each
 returns-clause-each c =
-    search_last _ _ _ _ _ _ c.args.starts.now c.args.definitions.now c.requires.ends c.requires.fresh c.requires.starts
-    c.requires.definitions _ _ _ c.loop-place.place (omega arith) c.loop-place.invariant
+    search_last _ _ _ _ _ _ c.args.search.now.starts.now c.args.search.now.definitions.now c.requires.ends
+    c.requires.fresh c.requires.search.starts
+    c.requires.search.definitions _ _ _ c.loop-place.place (omega arith) c.loop-place.invariant

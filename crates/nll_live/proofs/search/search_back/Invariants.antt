@@ -7,7 +7,8 @@ use Rattle.nll_live.proofs.search.search_back.Given as goal
 
 abbrev pub invariant-loop-point : goal.invariant-loop-point
 invariant-loop-point l = record {
-  reaches : ReachesMore (λ low p. Contains l.ends p × IsLow (slice_index l.starts p) l.definitions p low) l.turn
+  reaches : ReachesMore (λ low p. Contains l.ends p × IsLow (slice_index l.search.starts.now p)
+      l.search.definitions.now p low) l.turn
       l.fn.room.marks.items l.fn.room.heights.items l.fn.room.lows.items l.room.marks.items l.room.heights.items
       l.room.lows.items;
   found : AreFound l.room.marks.items l.room.heights.items l.turn l.room.lows.items;
@@ -16,7 +17,8 @@ invariant-loop-point l = record {
 
 abbrev pub invariant-loop-place : goal.invariant-loop-place
 invariant-loop-place l =
-    Searching l.body l.variable l.turn l.ends l.fn.room.marks.items l.fn.room.heights.items l.room.marks.items
+    Searching l.search.body.now l.search.variable l.turn l.ends l.fn.room.marks.items l.fn.room.heights.items
+    l.room.marks.items
     l.room.heights.items l.room.lows.items l.place
 
 abbrev pub decreases-loop-place : goal.decreases-loop-place

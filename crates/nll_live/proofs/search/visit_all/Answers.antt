@@ -11,8 +11,9 @@ use Rattle.nll_live.proofs.search.visit_all.Goals as goal
 pub loop-point-preserved : goal.loop-point-preserved
 loop-point-preserved c =
     let step =
-    reaches_weaker _ (λ low p. Contains c.args.points.now p × (DefinesAt c.args.body.now c.args.variable p → ⊥)
-    × IsLow (slice_index c.args.starts.now p) c.args.definitions.now p low) _ _ _ _ _ _ _
+    reaches_weaker _ (λ low p. Contains c.args.points.now p × (DefinesAt c.args.search.now.body.now
+    c.args.search.now.variable p → ⊥)
+    × IsLow (slice_index c.args.search.now.starts.now p) c.args.search.now.definitions.now p low) _ _ _ _ _ _ _
     (λ low p h. (
       subst (Contains c.args.points.now) (sym h.0)
           (Contains-get_or c.args.points.now c.loop-point.point-index 0 c.loop-point-test.true),
@@ -29,6 +30,6 @@ loop-point-preserved c =
 
 pub returns-clause-all : goal.returns-clause-all
 returns-clause-all c =
-    at_each (λ p. (DefinesAt c.args.body.now c.args.variable p → ⊥)
+    at_each (λ p. (DefinesAt c.args.search.now.body.now c.args.search.now.variable p → ⊥)
     → IsReached c.loop-point.room.marks.items c.loop-point.room.heights.items c.args.turn p) c.args.points.now
     (λ k h. c.loop-point.invariant.all k (omega arith))

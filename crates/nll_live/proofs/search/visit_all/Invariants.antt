@@ -7,10 +7,11 @@ use Rattle.nll_live.proofs.search.visit_all.Given as goal
 
 abbrev pub invariant-loop-point : goal.invariant-loop-point
 invariant-loop-point l = record {
-  reaches : ReachesMore (λ low p. Contains l.points p × (DefinesAt l.body l.variable p → ⊥)
-      × IsLow (slice_index l.starts p) l.definitions p low) l.turn l.fn.room.marks.items l.fn.room.heights.items
+  reaches : ReachesMore (λ low p. Contains l.points p × (DefinesAt l.search.body.now l.search.variable p → ⊥)
+      × IsLow (slice_index l.search.starts.now p) l.search.definitions.now p low) l.turn l.fn.room.marks.items
+      l.fn.room.heights.items
       l.fn.room.lows.items l.room.marks.items l.room.heights.items l.room.lows.items;
   found : AreFound l.room.marks.items l.room.heights.items l.turn l.room.lows.items;
-  all : (k : ℕ) → k < l.point-index → (DefinesAt l.body l.variable (slice_index l.points k) → ⊥)
+  all : (k : ℕ) → k < l.point-index → (DefinesAt l.search.body.now l.search.variable (slice_index l.points k) → ⊥)
       → IsReached l.room.marks.items l.room.heights.items l.turn (slice_index l.points k);
 }

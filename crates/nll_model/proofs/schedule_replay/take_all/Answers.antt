@@ -2,8 +2,8 @@ use Rattle.std.proofs.Common.{◌++◌, [], ◌∷◌, List, take, get_or, sym, 
 use Rattle.std.specs.Prelude.{Option}
 use Rattle.std.proofs.lemmas.List.{get_or_default}
 use Rattle.nll_model.specs.State.{World}
-use Rattle.nll_event.specs.declared.event.Event.{Event}
-use Rattle.nll_event.specs.declared.event.Event.TheVariants.{Load}
+use Rattle.nll_model.specs.declared.event.Event.{Event}
+use Rattle.nll_model.specs.declared.event.Event.TheVariants.{Load}
 use Rattle.nll_model.specs.declared.outcome.Step.{Step}
 use Rattle.nll_model.specs.Events.{AreSteps}
 use Rattle.nll_model.proofs.ReplayLemmas.{steps_push, take_next}

@@ -1,4 +1,0 @@
-use Rattle.nll_body_problem.proofs.body_problem.problem_of.Goals as goal
-
-pub filled-requires : goal.filled-requires
-filled-requires c = (c.graph.result.now, c.graph.ensures, c.in-Ok.ensures)

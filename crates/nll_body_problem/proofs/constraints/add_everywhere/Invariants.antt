@@ -1,6 +1,0 @@
-use Rattle.std.proofs.Common.{take}
-use Rattle.nll_body_problem.specs.Adding.{AddsConstraints, IsOfPairsEverywhere}
-use Rattle.nll_body_problem.proofs.constraints.add_everywhere.Given as goal
-
-abbrev pub invariant-loop-pair : goal.invariant-loop-pair
-invariant-loop-pair l = AddsConstraints (IsOfPairsEverywhere (take l.pair-index l.pairs)) l.fn.builder l.builder

@@ -1,6 +1,0 @@
-use Rattle.std.proofs.Common.{take}
-use Rattle.nll_body_problem.specs.Adding.{AddsOutlives}
-use Rattle.nll_body_problem.proofs.facts.add_outlives.Given as goal
-
-abbrev pub invariant-loop-fact : goal.invariant-loop-fact
-invariant-loop-fact l = AddsOutlives (take l.fact-index l.facts) l.fn.builder l.builder

@@ -1,3 +1,0 @@
-pub mod BodyProblem
-pub mod Adding
-pub mod Known

@@ -1,4 +1,0 @@
-use Rattle.nll_core.proofs.frontier.Frontier.add.Goals as goal
-
-pub push-requires : goal.push-requires
-push-requires c = rw (← c.self.view_is) at c.requires

@@ -1,0 +1,46 @@
+use Rattle.std.proofs.Common.{List, sym, subst, ◌∙◌, arith}
+use Rattle.std.proofs.lemmas.Bool.{false≢true}
+use Rattle.std.proofs.lemmas.Result.{on_ok_weaker}
+use Rattle.nll_problem.specs.declared.at.At.{At}
+use Rattle.nll_core.specs.Frontiers.{GoesOn}
+use Rattle.nll_core.proofs.SearchLemmas.{flag_within}
+use Rattle.nll_core.proofs.FrontierLemmas.{asked_walks, goes_by_walks, goes_whole, points_among}
+use Rattle.nll_core.proofs.frontiers.continuation.resume.Goals as goal
+
+pub take-requires-clause-below : goal.take-requires-clause-below
+take-requires-clause-below c =
+    omega (
+      arith,
+      flag_within c.args.seen.now _ (c.requires.run c.args.run.last (c.requires.proper, omega arith)),
+      c.requires.seen_width,
+      c.requires.width,
+    )
+
+pub returns-then-has_all-clause-width : goal.returns-then-has_all-clause-width
+returns-then-has_all-clause-width c = on_ok_weaker c.take.result (λ f. f.width) c.take.ensures.fills
+
+pub returns-then-has_all-clause-after : goal.returns-then-has_all-clause-after
+returns-then-has_all-clause-after c = on_ok_weaker c.take.result
+    (goes_whole c.args.lines.now c.args.seen.now c.args.run c.args.starts.now c.args.reached.now c.take.new.reached
+    (c.has_all.ensures.0 c.if-has_all.true) c.requires.run c.requires.before)
+    c.take.ensures.fills
+
+pub points-points-requires : goal.points-points-requires
+points-points-requires c = λ every. false≢true (sym c.if-has_all.false ∙ c.has_all.ensures.1 every)
+
+pub resume_walks-requires-clause-starts : goal.resume_walks-requires-clause-starts
+resume_walks-requires-clause-starts c =
+    points_among c.args.lines.now.points c.points-points.result (rw c.points-points.ensures at c.requires.starts)
+
+pub resume_walks-requires-clause-before : goal.resume_walks-requires-clause-before
+resume_walks-requires-clause-before c =
+    λ x h. asked_walks c.args.lines.now c.args.seen.now c.points-points.result x
+    (rw c.points-points.ensures at (c.requires.before x h))
+
+pub returns-clause-after : goal.returns-clause-after
+returns-clause-after c = on_ok_weaker c.resume_walks.result
+    (λ w. subst (λ (starts : List At). GoesOn c.args.lines.now c.args.seen.now c.args.run starts c.args.reached.now
+    c.resume_walks.new.reached) (sym c.points-points.ensures)
+    (goes_by_walks c.args.lines.now c.args.seen.now c.args.run c.points-points.result c.args.reached.now
+    c.resume_walks.new.reached w))
+    c.resume_walks.ensures.after

@@ -1,0 +1,191 @@
+//! How a frontier goes on once one more element is in the set inside which its constraints ask.
+
+ghost use Rattle.std.specs.Prelude.{◌≡◌, ◌⊎◌, ◌↔◌, ℕ, ◌≤◌, ◌<◌, ◌∷◌, ◌++◌, true, false, []};
+ghost use Rattle.std.specs.Prelude.{List, Contains, length, slice_set, IfOk, OnOk, OnErr};
+ghost use Rattle.nll_sets.specs.ElementSet.{flag};
+ghost use Rattle.nll_problem.specs.Graph.{element_count, IsNext, IsReturn, IsStep};
+ghost use Rattle.nll_core.specs.Search.{IsIn, IsStepInside};
+ghost use Rattle.nll_core.specs.Frontiers.{AppendsNew, IsAskedFrom, IsWithout, StepsOn};
+
+use crate::frontiers::places::Places;
+use crate::frontiers::points::Points;
+use crate::reachability::Inside;
+use crate::search::Search;
+use nll_problem::Graph;
+use nll_sets::{Element, ElementSet, Memory, RunSet};
+use std::mem;
+
+/// Goes on with what constraints ask for from an element that was added to the set inside which
+/// they ask, and appends what is newly reached to a list. Where one of them holds at all points,
+/// that is the element; otherwise walks go on through it, if one begins there or a step leads there
+/// from what is reached.
+pub fn go_on<S: ElementSet>(
+    graph: &Graph,
+    seen: &S,
+    starts: &Places,
+    element: Element,
+    reached: &mut RunSet,
+    out: &mut Vec<Element>,
+) -> Result<(), Memory>
+    requires width { length (S.flags seen.now) ≡ element_count graph.now }
+    requires room { element_count graph.now ≤ length reached.old }
+    requires element { IsIn (S.flags seen.now) element }
+    requires before { (x : ℕ) → IsIn reached.old x
+        ↔ IsAskedFrom graph.now (IsWithout (S.flags seen.now) element) starts.now x }
+    ensures width { OnOk result (length reached.new ≡ length reached.old) }
+    ensures after { OnOk result ((x : ℕ) → IsIn reached.new x
+        ↔ IsAskedFrom graph.now (IsIn (S.flags seen.now)) starts.now x) }
+    ensures found { OnOk result
+        (AppendsNew reached.old reached.new out.old.items out.new.items) }
+    ensures none { OnErr result (out.new.items ≡ out.old.items) }
+{
+    if starts.has_all() {
+        return take(element, reached, out);
+    }
+    if !is_asked(graph, &starts.points(), element, reached) {
+        return Ok(());
+    }
+    walk_on(graph, seen, element, reached, out)
+}
+
+// Inserts a new element into a set, and appends it to a list.
+fn take(element: Element, reached: &mut RunSet, out: &mut Vec<Element>) -> Result<(), Memory>
+    requires below { element < length reached.old }
+    ensures puts { OnOk result (reached.new ≡ slice_set reached.old element true) }
+    ensures out { OnOk result (out.new.items ≡ out.old.items ++ element ∷ []) }
+    ensures none { OnErr result (out.new.items ≡ out.old.items) }
+{
+    reached.insert(element)?;
+    out.push(element)?;
+    Ok(())
+}
+
+// Whether a walk begins at an element, or a step leads there from what is reached.
+fn is_asked(graph: &Graph, starts: &Points<'_>, element: Element, reached: &RunSet) -> bool
+    requires element { element < element_count graph.now }
+    requires room { element_count graph.now ≤ length reached.now }
+    ensures yes { result ≡ true
+        → Contains starts.now element
+        ⊎ ((x : ℕ) × IsIn reached.now x × IsStep graph.now x element) }
+    ensures start { Contains starts.now element → result ≡ true }
+    ensures step { (x : ℕ) → IsIn reached.now x → IsStep graph.now x element → result ≡ true }
+{
+    match starts.next_in(element.0, element.0) {
+        Some(_) => true,
+        None => is_next(graph, element, reached),
+    }
+}
+
+// Whether a step leads to an element from what is reached. Most steps lead to the next point, so
+// the point before it and those after that are looked at first.
+fn is_next(graph: &Graph, element: Element, reached: &RunSet) -> bool
+    requires element { element < element_count graph.now }
+    requires room { element_count graph.now ≤ length reached.now }
+    ensures yes { result ≡ true → (x : ℕ) × IsIn reached.now x × IsStep graph.now x element }
+    ensures no { (x : ℕ) → IsIn reached.now x → IsStep graph.now x element → result ≡ true }
+{
+    let points = graph.points();
+    if element.0 >= points {
+        return has_return(graph, reached);
+    }
+    let before = element.0.saturating_sub(1);
+    is_next_of(graph, reached, before, points, element.0)
+        || is_next_of(graph, reached, 0, before, element.0)
+}
+
+// Whether a return point is reached.
+fn has_return(graph: &Graph, reached: &RunSet) -> bool
+    requires { element_count graph.now ≤ length reached.now }
+    ensures { (result ≡ true) ↔ ((x : ℕ) × IsIn reached.now x × IsReturn graph.now x) }
+{
+    for point in graph.returns() {
+        if reached.has(Element(*point)) {
+            return true;
+        }
+    }
+    false
+}
+
+// Whether a point is a successor of a reached one, among those from one number up to another.
+fn is_next_of(graph: &Graph, reached: &RunSet, from: u32, to: u32, point: u32) -> bool
+    requires { to ≤ graph.now.points }
+    ensures yes { result ≡ true → (x : ℕ) × IsIn reached.now x × IsNext graph.now x point }
+    ensures no { (x : ℕ) → from ≤ x → x < to → IsIn reached.now x → IsNext graph.now x point
+        → result ≡ true }
+{
+    let mut next = from;
+    while let Some(found) = reached.next_from(Element(next)) {
+        if found.0 >= to {
+            return false;
+        }
+        if is_successor(graph, found.0, point) {
+            return true;
+        }
+        next = found.0 + 1;
+    }
+    false
+}
+
+// Whether a point is a successor of another one.
+fn is_successor(graph: &Graph, from: u32, point: u32) -> bool
+    requires { from < graph.now.points }
+    ensures { (result ≡ true) ↔ IsNext graph.now from point }
+{
+    for next in graph.next_of(from) {
+        if *next == point {
+            return true;
+        }
+    }
+    false
+}
+
+// Goes on with walks from a new element, and appends what they newly reach to a list.
+fn walk_on<S: ElementSet>(
+    graph: &Graph,
+    seen: &S,
+    element: Element,
+    reached: &mut RunSet,
+    out: &mut Vec<Element>,
+) -> Result<(), Memory>
+    requires width { length (S.flags seen.now) ≡ element_count graph.now }
+    requires room { element_count graph.now ≤ length reached.old }
+    requires element { element < element_count graph.now }
+    requires closed { (x y : ℕ) → IsIn reached.old x
+        → IsStepInside graph.now (S.flags seen.now) x y → IsIn reached.old y ⊎ (y ≡ element) }
+    ensures steps { OnOk result (StepsOn (IsStepInside graph.now (S.flags seen.now)) element
+        reached.old reached.new) }
+    ensures found { OnOk result
+        (AppendsNew reached.old reached.new out.old.items out.new.items) }
+    ensures none { OnErr result (out.new.items ≡ out.old.items) }
+{
+    let alloc = *out.allocator();
+    let taken = mem::replace(reached, RunSet::new(alloc));
+    let (set, list) = search_on(graph, seen, element, Search::over(alloc, taken))?.into_parts();
+    *reached = set;
+    out.extend_from_slice(&list)?;
+    Ok(())
+}
+
+// The search that goes on from a new element.
+fn search_on<S: ElementSet>(
+    graph: &Graph,
+    seen: &S,
+    element: Element,
+    begun: Search<RunSet>,
+) -> Result<Search<RunSet>, Memory>
+    requires width { length (S.flags seen.now) ≡ element_count graph.now }
+    requires room { element_count graph.now ≤ length begun.reached }
+    requires element { element < element_count graph.now }
+    requires none { begun.list ≡ [] }
+    requires closed { (x y : ℕ) → IsIn begun.reached x
+        → IsStepInside graph.now (S.flags seen.now) x y → IsIn begun.reached y ⊎ (y ≡ element) }
+    ensures steps { IfOk result (λ s. StepsOn (IsStepInside graph.now (S.flags seen.now)) element
+        begun.reached s.reached) }
+    ensures found { IfOk result (λ s. (before : List ℕ)
+        → AppendsNew begun.reached s.reached before (before ++ s.list)) }
+{
+    let mut search = begun;
+    search.visit(element)?;
+    search.spread::<Inside<S>>(&Inside { graph, set: seen }, 0)?;
+    Ok(search)
+}

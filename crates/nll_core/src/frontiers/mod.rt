@@ -1,0 +1,17 @@
+//! What owners use beside the solver: frontiers, which go on from what was found before.
+//!
+//! Reading order: `points`, `starts`, `returns`, `landings`, `steps`, `places`, `continuation`;
+//! `element_growth`, `frontier`.
+
+mod continuation;
+mod element_growth;
+mod frontier;
+mod landings;
+mod places;
+mod points;
+mod returns;
+mod starts;
+mod steps;
+
+pub use frontier::Frontier;
+pub use steps::Steps;

@@ -1,2 +1,0 @@
-pub mod Network
-pub mod Turns

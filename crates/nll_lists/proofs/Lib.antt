@@ -1,0 +1,3 @@
+pub mod CutLawLemmas
+pub mod LineLemmas
+pub mod ScheduleLawLemmas

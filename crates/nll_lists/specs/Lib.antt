@@ -1,0 +1,4 @@
+pub mod Lists
+pub mod CutText
+pub mod ScheduleText
+pub mod ScheduleLines

@@ -1,0 +1,176 @@
+-- What stands at points asks constraints, one point after another.
+use Rattle.std.proofs.Common.{◌≡◌, ◌⊎◌, ◌↔◌, ℕ, ◌+◌, ◌<◌, ◌≤◌, List, [], ◌∷◌, ◌++◌, Contains, length, Some, inl, inr, refl, sym, ◌∙◌, subst, ⊎_elim, arith}
+use Rattle.std.proofs.lemmas.Bool.{cases_lt}
+use Rattle.std.proofs.lemmas.List.Elements.{Contains-push_cases}
+use Rattle.std.proofs.lemmas.Option.{slice_get_within}
+use Rattle.nll_problem.specs.Problem.{Problem, SameSet}
+use Rattle.nll_problem.specs.declared.constraint.Constraint.{Constraint}
+use Rattle.nll_problem.specs.declared.error.BuildError.{BuildError}
+use Rattle.nll_types.specs.Types.{TypeTree}
+use Rattle.nll_types.specs.Structs.{Struct}
+use Rattle.nll_statements.specs.Statements.{Statement}
+use Rattle.nll_body.specs.Bodies.{BodyText, StandsAt, GoesOn}
+use Rattle.nll_rules.specs.Asking.{Asks}
+use Rattle.nll_rules.specs.Pairs.{AddsPairs}
+use Rattle.nll_rules.specs.BodyProblem.{IsAskedAt, IsAskedSomewhere, IsAsserted, IsConstraint}
+use Rattle.nll_rules.specs.Adding.{AddsConstraints, IsRefused, IsOfPairs, IsAskedBefore}
+use Rattle.nll_rules.specs.Known.{AreAskedAt, AreKnown}
+use Rattle.nll_rules.specs.declared.known.Entry.{Entry}
+use Rattle.nll_rules.proofs.AddingLemmas.{nothing, only_new, adds_none, adds_same, adds_both, refused_after, refused_same}
+
+some_same : (i j : Statement ℕ TypeTree) → Some i ≡ Some j → i ≡ j
+some_same i j e = cc
+
+-- the pairs that came to an empty list are what the statement asks, in the words of the body
+pub only_asked : (body : BodyText) (i : Statement ℕ TypeTree) (structs : List Struct) (variables : List TypeTree)
+    (old new seen : List (ℕ × ℕ)) → structs ≡ body.structs → variables ≡ body.variables
+    → old ≡ [] → seen ≡ new → AddsPairs (Asks structs variables i) old new → (x : ℕ × ℕ)
+    → Contains seen x ↔ Asks body.structs body.variables i x
+only_asked body i structs variables old new seen same_structs same_variables none same h x =
+    let each = only_new old new (Asks structs variables i) none h.each x in (
+      λ there. subst (λ (vs : List TypeTree). Asks body.structs vs i x) same_variables
+          (subst (λ (ss : List Struct). Asks ss variables i x) same_structs
+          (each.0 (subst (λ (xs : List (ℕ × ℕ)). Contains xs x) same there))),
+      λ asks. subst (λ (xs : List (ℕ × ℕ)). Contains xs x) (sym same) (each.1
+          (subst (λ (ss : List Struct). Asks ss variables i x) (sym same_structs)
+          (subst (λ (vs : List TypeTree). Asks body.structs vs i x) (sym same_variables) asks))),
+    )
+
+-- and so are those of which each is kept once
+pub kept_asked : (body : BodyText) (i : Statement ℕ TypeTree) (structs : List Struct) (variables : List TypeTree)
+    (old new once seen : List (ℕ × ℕ)) → structs ≡ body.structs → variables ≡ body.variables
+    → old ≡ [] → AddsPairs (Asks structs variables i) old new → SameSet new once → seen ≡ once → (x : ℕ × ℕ)
+    → Contains seen x ↔ Asks body.structs body.variables i x
+kept_asked body i structs variables old new once seen same_structs same_variables none h kept same x =
+    let asks = only_asked body i structs variables old new new same_structs same_variables none refl h x in (
+      λ there. asks.0 ((kept x).1 (subst (λ (xs : List (ℕ × ℕ)). Contains xs x) same there)),
+      λ a. subst (λ (xs : List (ℕ × ℕ)). Contains xs x) (sym same) ((kept x).0 (asks.1 a)),
+    )
+
+-- the pairs that a statement asks at the points that may come after it are what it asks
+pub asked_here : (body : BodyText) (p : ℕ) (i : Statement ℕ TypeTree) (next : List ℕ) (asked : List (ℕ × ℕ))
+    → StandsAt body p i
+    → ((q : ℕ) → Contains next q ↔ GoesOn body p q)
+    → ((x : ℕ × ℕ) → Contains asked x ↔ Asks body.structs body.variables i x)
+    → (c : Constraint) → IsOfPairs next asked c ↔ IsAskedAt body p c
+asked_here body p i next asked at goes asks c = (
+  λ h. (i, at, (h.1.0, (goes h.1.0).0 h.1.1, h.1.2), (asks (c.sup, c.sub)).0 h.0),
+  λ h. (
+    (asks (c.sup, c.sub)).1 (subst (λ (j : Statement ℕ TypeTree). Asks body.structs body.variables j (c.sup, c.sub))
+        (some_same h.0 i (sym h.1 ∙ at)) h.3),
+    (h.2.0, (goes h.2.0).1 h.2.1, h.2.2),
+  ),
+)
+
+module _ (body : BodyText) where
+  pub before_none : (q : Problem) → AddsConstraints (IsAskedBefore body 0) q q
+  before_none q = adds_none (IsAskedBefore body 0) q (λ c h. absurd (omega (arith, h.1)))
+
+  -- what the first n points and the next one ask
+  one_more : (n : ℕ) (c : Constraint) → IsAskedBefore body (n + 1) c ↔ (IsAskedBefore body n c ⊎ IsAskedAt body n c)
+  one_more n c = (
+    λ h. ⊎_elim
+        (λ low. inl (h.0, low, h.2))
+        (λ high. (let same : h.0 ≡ n = omega (arith, high, h.1) in
+        inr (subst (λ (p : ℕ). IsAskedAt body p c) same h.2)))
+        (cases_lt h.0 n),
+    ⊎_elim (λ h. (h.0, omega (arith, h.1), h.2)) (λ h. (n, omega arith, h)),
+  )
+
+  pub before_more : (n : ℕ) (old mid new : Problem) → AddsConstraints (IsAskedBefore body n) old mid
+      → AddsConstraints (IsAskedAt body n) mid new → AddsConstraints (IsAskedBefore body (n + 1)) old new
+  before_more n old mid new =
+      adds_both (IsAskedBefore body n) (IsAskedAt body n) (IsAskedBefore body (n + 1)) old mid new (one_more n)
+
+  pub before_all : (n : ℕ) (old new : Problem) → length body.points ≤ n → AddsConstraints (IsAskedBefore body n) old new
+      → AddsConstraints (IsAskedSomewhere body) old new
+  before_all n old new past = adds_same (IsAskedBefore body n) (IsAskedSomewhere body) old new (λ c. (
+    λ h. (h.0, h.2),
+    λ h. (h.0, omega (arith, slice_get_within body.points h.0 h.1.0 h.1.1, past), h.1),
+  ))
+
+  pub before_refused : (n : ℕ) (old mid : Problem) (e : BuildError) → AddsConstraints (IsAskedBefore body n) old mid
+      → IsRefused (IsAskedAt body n) mid e → IsRefused (IsAskedSomewhere body) old e
+  before_refused n old mid e before =
+      refused_after (IsAskedBefore body n) (IsAskedAt body n) (IsAskedSomewhere body) old mid e before
+      (λ c h. (h.0, h.2)) (λ c h. (n, h))
+
+  -- ---- what is asked, and what is asserted
+
+  pub asserted_asked : (old mid new : Problem) → AddsConstraints (IsAsserted body) old mid
+      → AddsConstraints (IsAskedSomewhere body) mid new → AddsConstraints (IsConstraint body) old new
+  asserted_asked old mid new =
+      adds_both (IsAsserted body) (IsAskedSomewhere body) (IsConstraint body) old mid new
+      (λ c. (⊎_elim inr inl, ⊎_elim inr inl))
+
+  pub asserted_refused : (q : Problem) (e : BuildError) → IsRefused (IsAsserted body) q e
+      → IsRefused (IsConstraint body) q e
+  asserted_refused q e = refused_same (IsAsserted body) (IsConstraint body) q e (λ c h. inr h)
+
+  pub asked_refused : (old mid : Problem) (e : BuildError) → AddsConstraints (IsAsserted body) old mid
+      → IsRefused (IsAskedSomewhere body) mid e → IsRefused (IsConstraint body) old e
+  asked_refused old mid e before =
+      refused_after (IsAsserted body) (IsAskedSomewhere body) (IsConstraint body) old mid e before (λ c h. inr h)
+      (λ c h. inl h)
+
+-- ---- pairs that are known of a point
+
+-- what one statement at the point asks is what stands there asks
+pub asked_pairs : (body : BodyText) (p : ℕ) (i : Statement ℕ TypeTree) (pairs : List (ℕ × ℕ)) → StandsAt body p i
+    → ((x : ℕ × ℕ) → Contains pairs x ↔ Asks body.structs body.variables i x) → AreAskedAt body p pairs
+asked_pairs body p i pairs at asks x = (
+  λ h. (i, at, (asks x).0 h),
+  λ h. (asks x).1 (subst (λ (j : Statement ℕ TypeTree). Asks body.structs body.variables j x)
+      (some_same h.0 i (sym h.1 ∙ at)) h.2),
+)
+
+-- at the points that may come after it they are what it asks
+pub known_here : (body : BodyText) (p : ℕ) (next : List ℕ) (pairs : List (ℕ × ℕ))
+    → ((q : ℕ) → Contains next q ↔ GoesOn body p q) → AreAskedAt body p pairs
+    → (c : Constraint) → IsOfPairs next pairs c ↔ IsAskedAt body p c
+known_here body p next pairs goes asked c = (
+  λ h. let a = (asked (c.sup, c.sub)).0 h.0 in (a.0, a.1, (h.1.0, (goes h.1.0).0 h.1.1, h.1.2), a.2),
+  λ h. ((asked (c.sup, c.sub)).1 (h.0, h.1, h.3), (h.2.0, (goes h.2.0).1 h.2.1, h.2.2)),
+)
+
+-- what a statement that asks the same asks at another point is known here
+pub asked_alike : (body : BodyText) (p q : ℕ) (i j : Statement ℕ TypeTree) (pairs : List (ℕ × ℕ)) → StandsAt body p i
+    → StandsAt body q j
+    → ((x : ℕ × ℕ) → Asks body.structs body.variables j x ↔ Asks body.structs body.variables i x)
+    → AreAskedAt body q pairs → AreAskedAt body p pairs
+asked_alike body p q i j pairs at_p at_q same asked x = (
+  λ h. (let a = (asked x).0 h in (
+    i,
+    at_p,
+    (same x).0 (subst (λ (k : Statement ℕ TypeTree). Asks body.structs body.variables k x)
+        (some_same a.0 j (sym a.1 ∙ at_q)) a.2),
+  )),
+  λ h. (asked x).1 (
+    j,
+    at_q,
+    (same x).1
+        (subst (λ (k : Statement ℕ TypeTree). Asks body.structs body.variables k x)
+        (some_same h.0 i (sym h.1 ∙ at_p)) h.2),
+  ),
+)
+
+-- nothing is known
+pub known_none : (body : BodyText) (entries : List Entry) → entries ≡ [] → AreKnown body entries
+known_none body entries none = record {
+  each = λ e there. absurd (nothing e (subst (λ (es : List Entry). Contains es e) none there));
+}
+
+-- one entry more
+pub known_more : (body : BodyText) (old new : List Entry) (e : Entry) (p : ℕ) (pairs : List (ℕ × ℕ)) → AreKnown body old
+    → p < length body.points
+    → AreAskedAt body p pairs → e.point ≡ p → e.pairs.items ≡ pairs → new ≡ old ++ e ∷ [] → AreKnown body new
+known_more body old new e p pairs known within asked at same more = record {
+  each = λ f there. ⊎_elim
+      (λ before. known.each f before)
+      (λ is. subst (λ (g : Entry). (g.point < length body.points) × AreAskedAt body g.point g.pairs.items) is (
+        subst (λ (n : ℕ). n < length body.points) (sym at) within,
+        subst (λ (n : ℕ). AreAskedAt body n e.pairs.items) (sym at)
+            (subst (λ (xs : List (ℕ × ℕ)). AreAskedAt body p xs) (sym same) asked),
+      ))
+      (Contains-push_cases old e f (subst (λ (es : List Entry). Contains es f) more there));
+}

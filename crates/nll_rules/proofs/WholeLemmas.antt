@@ -1,0 +1,160 @@
+-- A problem to which all facts of a body came is the body's.
+use Rattle.std.proofs.Common.{◌≡◌, ◌↔◌, ℕ, List, [], Contains, length, inl, inr, sym, ap, ◌∙◌, subst, ⊎_elim, arith}
+use Rattle.nll_problem.specs.Building.{bare_problem}
+use Rattle.nll_problem.specs.Graph.{Graph}
+use Rattle.nll_problem.specs.Problem.{Problem, IsSound, SameProblem}
+use Rattle.nll_problem.specs.declared.constraint.Constraint.{Constraint}
+use Rattle.nll_problem.specs.declared.error.BuildError.{BuildError}
+use Rattle.nll_problem.specs.declared.error.BuildError.TheVariants.{PointRange, RegionRange, Limit, Memory}
+use Rattle.nll_problem.specs.declared.error.Kind.{Kind}
+use Rattle.nll_problem.specs.declared.error.Kind.TheVariants.{Constraints}
+use Rattle.nll_body.specs.Bodies.{BodyText, IsGraphOf}
+use Rattle.nll_live.specs.Live.{IsBaseOf}
+use Rattle.nll_rules.specs.BodyProblem.{IsConstraint, IsProblemOf, HasTooMany, IsRuleError}
+use Rattle.nll_rules.specs.Adding.{AddsOutlives, AddsConstraints, IsRefused, IsRefusedFor, told_of}
+use Rattle.nll_rules.proofs.AddingLemmas.{nothing, only_new, no_more}
+
+-- the steps in front of the constraints, from the problem of a graph alone
+pub record AreSteps (body : BodyText) (graph : Graph) (counted known based : Problem) : Type 0 where
+  pub shown : IsGraphOf body graph
+  pub regions : counted ≡ record (bare_problem graph) { regions = length body.names }
+  pub outlives : AddsOutlives body.outlives counted known
+  pub others : based ≡ record known { bases = based.bases }
+  pub bases : (r p : ℕ) → Contains based.bases (r, p) ↔ IsBaseOf body r p
+
+-- what the first two of them leave as it was
+module _ (body : BodyText) (graph : Graph) (counted known : Problem) (shown : IsGraphOf body graph)
+    (regions : counted ≡ record (bare_problem graph) { regions = length body.names })
+    (outlives : AddsOutlives body.outlives counted known) where
+  pub known_graph : known.graph ≡ graph
+  known_graph = ap (λ (q : Problem). q.graph) outlives.others ∙ ap (λ (q : Problem). q.graph) regions
+
+  pub known_points : known.graph.points ≡ length body.points
+  known_points = ap (λ (g : Graph). g.points) known_graph ∙ shown.points
+
+  pub known_regions : known.regions ≡ length body.names
+  known_regions = ap (λ (q : Problem). q.regions) outlives.others ∙ ap (λ (q : Problem). q.regions) regions
+
+  pub known_bases : known.bases ≡ []
+  known_bases = ap (λ (q : Problem). q.bases) outlives.others ∙ ap (λ (q : Problem). q.bases) regions
+
+  pub known_constraints : known.constraints ≡ []
+  known_constraints = ap (λ (q : Problem). q.constraints) outlives.others ∙ ap (λ (q : Problem). q.constraints) regions
+
+module _ (body : BodyText) (graph : Graph) (counted known based : Problem)
+    (steps : AreSteps body graph counted known based) where
+  based_graph : based.graph ≡ graph
+  based_graph = ap (λ (q : Problem). q.graph) steps.others
+      ∙ known_graph body graph counted known steps.shown steps.regions steps.outlives
+
+  pub based_points : based.graph.points ≡ length body.points
+  based_points = ap (λ (g : Graph). g.points) based_graph ∙ steps.shown.points
+
+  pub based_regions : based.regions ≡ length body.names
+  based_regions = ap (λ (q : Problem). q.regions) steps.others
+      ∙ known_regions body graph counted known steps.shown steps.regions steps.outlives
+
+  based_constraints : based.constraints ≡ []
+  based_constraints = ap (λ (q : Problem). q.constraints) steps.others
+      ∙ known_constraints body graph counted known steps.shown steps.regions steps.outlives
+
+  -- the whole problem
+  pub whole : (q : Problem) → AddsConstraints (IsConstraint body) based q → IsProblemOf body q
+  whole q asked = record {
+    graph = subst (IsGraphOf body) (sym (ap (λ (z : Problem). z.graph) asked.others ∙ based_graph)) steps.shown;
+    regions = ap (λ (z : Problem). z.regions) asked.others ∙ based_regions;
+    bases = λ r p.
+        let same : q.bases ≡ based.bases = ap (λ (z : Problem). z.bases) asked.others in (
+          λ h. (steps.bases r p).0 (subst (λ (xs : List (ℕ × ℕ)). Contains xs (r, p)) same h),
+          λ h. subst (λ (xs : List (ℕ × ℕ)). Contains xs (r, p)) (sym same) ((steps.bases r p).1 h),
+        );
+    constraints = only_new based.constraints q.constraints (IsConstraint body) based_constraints asked.each;
+    outlives = λ x.
+        let same : q.outlives ≡ known.outlives = ap (λ (z : Problem). z.outlives) asked.others
+        ∙ ap (λ (z : Problem). z.outlives) steps.others in
+        let new =
+        only_new counted.outlives known.outlives (Contains body.outlives)
+        (ap (λ (z : Problem). z.outlives) steps.regions) steps.outlives.each x in (
+          λ h. new.0 (subst (λ (xs : List (ℕ × ℕ)). Contains xs x) same h),
+          λ h. subst (λ (xs : List (ℕ × ℕ)). Contains xs x) (sym same) (new.1 h),
+        );
+  }
+
+  pub whole_refused : (e : BuildError) → IsRefused (IsConstraint body) based e → IsRefusedFor body e
+  whole_refused e = ⊎_elim inl (λ h. inr (
+    h.0,
+    (
+      h.1.0,
+      h.1.1,
+      h.1.2,
+      λ c there. ⊎_elim
+          (λ old. absurd (nothing c (subst (λ (cs : List Constraint). Contains cs c) based_constraints old)))
+          (λ k. k)
+          (h.1.3 c there),
+    ),
+  ))
+
+-- a finished problem is the body's where the builder's was
+pub finished_is : (body : BodyText) (p q : Problem) → IsProblemOf body p → SameProblem p q
+    → q ≡ record p { bases = q.bases; outlives = q.outlives } → IsProblemOf body q
+finished_is body p q h same others = record {
+  graph = subst (IsGraphOf body) (sym (ap (λ (z : Problem). z.graph) others)) h.graph;
+  regions = ap (λ (z : Problem). z.regions) others ∙ h.regions;
+  bases = λ r e. (λ c. (h.bases r e).0 ((same.bases (r, e)).1 c), λ b. (same.bases (r, e)).0 ((h.bases r e).1 b));
+  constraints =
+      λ c. (
+        λ there. (h.constraints c).0 ((same.constraints c).1 there),
+        λ k. (same.constraints c).0 ((h.constraints c).1 k),
+      );
+  outlives =
+      λ x. (λ there. (h.outlives x).0 ((same.outlives x).1 there), λ k. (same.outlives x).0 ((h.outlives x).1 k));
+}
+
+-- what is told by the same facts is the same
+both_ways : {A B C : Type 0} → (A ↔ C) → (B ↔ C) → A ↔ B
+both_ways one other = (λ a. other.1 (one.0 a), λ b. one.1 (other.0 b))
+
+-- a body has one problem at most
+pub same_problem : (body : BodyText) (p q : Problem) → IsProblemOf body p → IsProblemOf body q → SameProblem p q
+same_problem body p q one other = record {
+  points = one.graph.points ∙ sym other.graph.points;
+  universals = one.graph.universals ∙ sym other.graph.universals;
+  regions = one.regions ∙ sym other.regions;
+  edges = λ x. both_ways (one.graph.next x.0 x.1) (other.graph.next x.0 x.1);
+  returns = λ r. both_ways (one.graph.returns r) (other.graph.returns r);
+  bases = λ x. both_ways (one.bases x.0 x.1) (other.bases x.0 x.1);
+  constraints = λ c. both_ways (one.constraints c) (other.constraints c);
+  outlives = λ x. both_ways (one.outlives x) (other.outlives x);
+}
+
+-- a body that has a problem hasn't too many constraints
+pub not_too_many : (body : BodyText) (q : Problem) → IsProblemOf body q → IsSound q → HasTooMany body → ⊥
+not_too_many body q h sound many =
+    let among = no_more many.0 q.constraints many.1 (λ c there. (h.constraints c).1 (many.3 c there)) in
+    absurd (omega (arith, many.2, sound.constraint_limit, among))
+
+-- ---- errors
+
+pub is_no_point_range : (body : BodyText) (e : BuildError) → IsRefusedFor body e → e ≡ PointRange → ⊥
+is_no_point_range body e h p = ⊎_elim
+    (λ m. (let d : Memory ≡ PointRange = sym m ∙ p in cc))
+    (λ l. (let d : Limit Constraints ≡ PointRange = sym l.0 ∙ p in cc))
+    h
+
+pub is_no_region_range : (body : BodyText) (e : BuildError) → IsRefusedFor body e → e ≡ RegionRange → ⊥
+is_no_region_range body e h p = ⊎_elim
+    (λ m. (let d : Memory ≡ RegionRange = sym m ∙ p in cc))
+    (λ l. (let d : Limit Constraints ≡ RegionRange = sym l.0 ∙ p in cc))
+    h
+
+not_memory : (kind : Kind) → Limit kind ≡ Memory → ⊥
+not_memory kind e = cc
+
+same_kind : (kind : Kind) → Limit kind ≡ Limit Constraints → kind ≡ Constraints
+same_kind kind e = cc
+
+pub told : (body : BodyText) (e : BuildError) → IsRefusedFor body e → IsRuleError body (told_of e)
+told body Memory h = tt
+told body (Limit kind) h = ⊎_elim (λ m. absurd (not_memory kind m)) (λ l. (same_kind kind l.0, l.1)) h
+told body PointRange h = tt
+told body RegionRange h = tt

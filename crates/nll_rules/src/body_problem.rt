@@ -1,0 +1,105 @@
+//! The problem of a body.
+
+ghost use Rattle.std.specs.Prelude.{◌≡◌, ◌↔◌, ◌<◌, ℕ, [], length, Contains, IfErr, IfOk, OnOk};
+ghost use Rattle.nll_problem.specs.Problem.{IsSound, SameProblem};
+ghost use Rattle.nll_live.specs.Live.{IsBaseOf};
+ghost use Rattle.nll_rules.specs.Adding.{IsBareOf, IsRefusedFor};
+ghost use Rattle.nll_rules.specs.BodyProblem.{HasTooMany, IsProblemOf, IsRuleError};
+
+use crate::constraints::add_constraints;
+use crate::error::{RuleError, told_of};
+use crate::facts::{add_bases, add_outlives, add_regions};
+use nll_body::Body;
+use nll_live::live_runs;
+use nll_problem::{BuildError, Problem, ProblemBuilder};
+use std::alloc::Global;
+
+/// The problem of a body: its graph and its regions, the base elements that the liveness of its
+/// variables gives them, and the constraints that its statements and terminators ask.
+///
+/// # Errors
+/// - `Limit(Constraints)`: the body has more than `MAX_CONSTRAINTS` constraints. No more than that
+///   many are made before the refusal.
+/// - `Memory`.
+///
+/// # Cost
+/// That of liveness, and for each point what its statement asks, once for each successor (not
+/// proved).
+///
+/// # Source
+/// RFC 2094, "Liveness", "Drop", "Subtyping", "Reborrow constraints" and "Layer 4: Named
+/// lifetimes".
+pub fn problem_of(alloc: Global, body: &Body) -> Result<Problem, RuleError>
+    ensures ok { IfOk result (IsProblemOf body.now) }
+    ensures few { IfOk result (λ _. HasTooMany body.now → ⊥) }
+    ensures err { IfErr result (IsRuleError body.now) }
+{
+    match ProblemBuilder::of_graph(alloc, body.graph()) {
+        Ok(builder) => filled(alloc, body, builder),
+        Err(_) => Err(RuleError::Memory),
+    }
+}
+
+// The problem of a body, of that of its graph alone.
+fn filled(alloc: Global, body: &Body, mut builder: ProblemBuilder) -> Result<Problem, RuleError>
+    requires { IsBareOf body.now builder }
+    ensures ok { IfOk result (IsProblemOf body.now) }
+    ensures few { IfOk result (λ _. HasTooMany body.now → ⊥) }
+    ensures err { IfErr result (IsRuleError body.now) }
+{
+    match fill(alloc, body, &mut builder) {
+        Ok(()) => Ok(finished(builder)),
+        Err(error) => {
+            drop(builder);
+            Err(told_of(error))
+        }
+    }
+}
+
+// The problem of a builder.
+fn finished(builder: ProblemBuilder) -> Problem
+    ensures same { SameProblem builder result }
+    ensures others { result ≡ record builder { bases = result.bases; outlives = result.outlives } }
+    ensures sound { IsSound result }
+{
+    match builder.finish() {
+        Ok(problem) => {
+            // Clause call: the problem is sound.
+            let _ = problem.universals();
+            problem
+        }
+        Err(_) => unreachable!(),
+    }
+}
+
+// Adds all facts of a body to the problem of its graph.
+fn fill(alloc: Global, body: &Body, builder: &mut ProblemBuilder) -> Result<(), BuildError>
+    requires { IsBareOf body.now builder.old }
+    ensures ok { OnOk result (IsProblemOf body.now builder.new) }
+    ensures err { IfErr result (IsRefusedFor body.now) }
+{
+    // Clause call: the body is sound.
+    let _ = body.points();
+    add_regions(builder, body.universals(), body.regions());
+    add_outlives(builder, body.outlives())?;
+    add_live(alloc, body, builder)?;
+    add_constraints(alloc, body, builder)?;
+    Ok(())
+}
+
+// Adds the base elements that the liveness of variables gives regions, where there are none.
+fn add_live(alloc: Global, body: &Body, builder: &mut ProblemBuilder) -> Result<(), BuildError>
+    requires points { builder.old.graph.points ≡ length body.now.points }
+    requires regions { builder.old.regions ≡ length body.now.names }
+    requires none { builder.old.bases ≡ [] }
+    ensures others { OnOk result (builder.new ≡ record builder.old { bases = builder.new.bases }) }
+    ensures each { OnOk result
+        ((r p : ℕ) → Contains builder.new.bases (r, p) ↔ IsBaseOf body.now r p) }
+    ensures err { IfErr result (λ e. e ≡ BuildError.Memory) }
+{
+    let live = live_runs(alloc, body)?;
+    let told = add_bases(builder, live.as_slice());
+    // Early drop.
+    drop(live);
+    told
+}

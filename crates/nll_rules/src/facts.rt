@@ -1,0 +1,87 @@
+//! The facts of a body that are known before its statements ask anything.
+
+ghost use Rattle.std.specs.Prelude.{◌≡◌, ◌+◌, ◌<◌, ◌≤◌, IfErr, OnOk};
+ghost use Rattle.nll_problem.specs.Answers.{AddsFact};
+ghost use Rattle.nll_problem.specs.BaseRuns.{AddsRun, IsProper};
+ghost use Rattle.nll_problem.specs.Limits.{most_regions};
+ghost use Rattle.nll_problem.specs.Problem.{IsUniversal};
+ghost use Rattle.nll_rules.specs.Adding.{AddsBases, AddsOutlives};
+ghost use Rattle.nll_rules.specs.Adding.{AreOfPoints, AreOfUniversals};
+
+use nll_problem::{BaseRun, BuildError, ProblemBuilder, RegionId};
+
+/// Adds the regions that aren't universal, so that there are this many in all.
+pub(crate) fn add_regions(builder: &mut ProblemBuilder, universals: u32, count: usize)
+    requires universals { builder.old.regions ≡ universals }
+    requires more { universals ≤ count }
+    requires few { count ≤ most_regions }
+    ensures { builder.new ≡ record builder.old { regions = count } }
+{
+    for number in universals as usize..count {
+        add_region(builder, number);
+    }
+}
+
+// Adds the region of the next number.
+fn add_region(builder: &mut ProblemBuilder, number: usize)
+    requires next { builder.old.regions ≡ number }
+    requires room { number < most_regions }
+    ensures { builder.new ≡ record builder.old { regions = number + 1 } }
+{
+    match builder.region() {
+        Ok(_) => {}
+        Err(_) => unreachable!(),
+    }
+}
+
+/// Adds outlives facts.
+pub(crate) fn add_outlives(
+    builder: &mut ProblemBuilder,
+    facts: &[(u32, u32)],
+) -> Result<(), BuildError>
+    requires { AreOfUniversals facts.now builder.old }
+    ensures ok { OnOk result (AddsOutlives facts.now builder.old builder.new) }
+    ensures err { IfErr result (λ e. e ≡ BuildError.Memory) }
+{
+    for fact in facts {
+        add_fact(builder, *fact)?;
+    }
+    Ok(())
+}
+
+// Adds an outlives fact.
+fn add_fact(builder: &mut ProblemBuilder, fact: (u32, u32)) -> Result<(), BuildError>
+    requires longer { IsUniversal builder.old fact.0 }
+    requires shorter { IsUniversal builder.old fact.1 }
+    ensures ok { OnOk result (AddsFact builder.old.outlives builder.new.outlives fact) }
+    ensures others { builder.new ≡ record builder.old { outlives = builder.new.outlives } }
+    ensures err { IfErr result (λ e. e ≡ BuildError.Memory) }
+{
+    let (longer, shorter) = fact;
+    builder.outlives(RegionId(longer), RegionId(shorter))?;
+    Ok(())
+}
+
+/// Adds base facts, by runs.
+pub(crate) fn add_bases(builder: &mut ProblemBuilder, runs: &[BaseRun]) -> Result<(), BuildError>
+    requires { AreOfPoints runs.now builder.old }
+    ensures ok { OnOk result (AddsBases runs.now builder.old builder.new) }
+    ensures err { IfErr result (λ e. e ≡ BuildError.Memory) }
+{
+    for run in runs {
+        add_run(builder, *run)?;
+    }
+    Ok(())
+}
+
+// Adds the base facts of a run.
+fn add_run(builder: &mut ProblemBuilder, run: BaseRun) -> Result<(), BuildError>
+    requires region { IsProper run → run.region < builder.old.regions }
+    requires points { IsProper run → run.end ≤ builder.old.graph.points }
+    ensures ok { OnOk result (AddsRun builder.old.bases builder.new.bases run) }
+    ensures others { builder.new ≡ record builder.old { bases = builder.new.bases } }
+    ensures err { IfErr result (λ e. e ≡ BuildError.Memory) }
+{
+    builder.base_run(run)?;
+    Ok(())
+}

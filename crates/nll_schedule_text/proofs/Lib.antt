@@ -1,2 +1,0 @@
-pub mod LineLemmas
-pub mod LawLemmas

@@ -1,5 +1,0 @@
-use Rattle.nll_schedule_text.proofs.LawLemmas.{some_meaning_or_fault_lem}
-use Rattle.nll_schedule_text.proofs.laws.schedule_some_meaning_or_fault.Goals as goal
-
-pub returns : goal.returns
-returns c = some_meaning_or_fault_lem

@@ -1,2 +1,0 @@
-pub mod ScheduleText
-pub mod ScheduleLines

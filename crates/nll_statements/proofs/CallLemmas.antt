@@ -1,0 +1,77 @@
+-- What is judged of a call, put together.
+use Rattle.std.proofs.Common.{◌≡◌, ℕ, Bool, true, List, [], ◌∷◌, ◌++◌, length, map, refl, sym, ap, ◌∙◌, Option, Some}
+use Rattle.std.specs.Prelude.{◌&&◌, slice_get}
+use Rattle.std.specs.List.{list_all, flat_map}
+use Rattle.std.proofs.lemmas.List.Folds.{list_all-append, list_all-map}
+use Rattle.nll_types.specs.Types.{TypeTree}
+use Rattle.nll_types.specs.Structs.{Struct}
+use Rattle.nll_types.specs.Places.{PlacePath, type_of, small_prefixes}
+use Rattle.nll_types.specs.Operands.{Operand, operand_type, place_in}
+use Rattle.nll_types.specs.Shapes.{is_small}
+use Rattle.nll_statements.specs.Statements.{call}
+use Rattle.nll_statements.specs.Typing.{agree, types_agree, types_are_small}
+use Rattle.nll_statements.proofs.JudgedLemmas.{call_order, last_agrees}
+
+-- the type behind those of the operands
+pub last_type : {X : Type 0} (h : X → TypeTree) (xs : List X) (t : TypeTree)
+    → slice_get (map h xs ++ t ∷ []) (length xs) ≡ Some t
+last_type h [] t = refl
+last_type h (x ∷ xs) t = last_type h xs t
+
+map_twice : {X Y Z : Type 0} (f : X → Y) (g : Y → Z) (xs : List X) → map g (map f xs) ≡ map (λ x. g (f x)) xs
+map_twice f g [] = refl
+map_twice f g (x ∷ xs) = ap (λ zs. g (f x) ∷ zs) (map_twice f g xs)
+
+module _ {X : Type 0} (structs : List Struct) (types : List TypeTree) (op : X → Operand) (h : X → TypeTree)
+    (xs : List X) (t : TypeTree) (p : PlacePath) where
+  args : List (Operand × TypeTree)
+  args = map (λ x. (op x, h x)) xs
+
+  pub call_fits : (wheres : List (ℕ × ℕ)) (b : ℕ) (unwind : Option ℕ)
+      → (list_all (λ x. agree (operand_type structs types (op x)) (Some (h x))) xs && agree (Some t)
+      (type_of structs types p))
+      ≡ types_agree structs types (call p (map (λ x. (op x, h x)) xs) t wheres b unwind)
+  call_fits wheres b unwind =
+      let met : Operand × TypeTree → Option TypeTree × Option TypeTree =
+      λ a. (operand_type structs types a.0, Some a.1) in
+      ap (λ (z : Bool). z && agree (Some t) (type_of structs types p))
+      (sym (list_all-map (λ (a : Operand × TypeTree). agree (operand_type structs types a.0) (Some a.1))
+      (λ x. (op x, h x)) xs)
+      ∙ sym (list_all-map (λ (x : Option TypeTree × Option TypeTree). agree x.0 x.1) met (map (λ x. (op x, h x)) xs)))
+      ∙ last_agrees (map met (map (λ x. (op x, h x)) xs)) (Some t) (type_of structs types p)
+
+  pub call_small : (wheres : List (ℕ × ℕ)) (b : ℕ) (unwind : Option ℕ)
+      → ((list_all (small_prefixes structs types) (flat_map place_in (map op xs)) && list_all is_small (map h xs)) &&
+      (is_small t && small_prefixes structs types p))
+      ≡ types_are_small structs types (call p (map (λ x. (op x, h x)) xs) t wheres b unwind)
+  call_small wheres b unwind =
+      let places = list_all (small_prefixes structs types) (flat_map place_in (map op xs)) in
+      let target = small_prefixes structs types p in
+      call_order places (list_all is_small (map h xs)) (is_small t) target
+      ∙ ap (λ (z : Bool). (z && (target && places)) && true)
+      (sym (list_all-append is_small (map h xs) (t ∷ []))
+      ∙ ap (λ (ts : List TypeTree). list_all is_small (ts ++ t ∷ []))
+      (sym (map_twice (λ x. (op x, h x)) (λ (a : Operand × TypeTree). a.1) xs)))
+      ∙ ap (λ (ops : List Operand). (list_all is_small
+      (map (λ (a : Operand × TypeTree). a.1) (map (λ x. (op x, h x)) xs) ++ t ∷ []) &&
+      (target && list_all (small_prefixes structs types) (flat_map place_in ops))) && true)
+      (sym (map_twice (λ x. (op x, h x)) (λ (a : Operand × TypeTree). a.0) xs))
+
+-- ---- operands and types of the code's call
+
+pub arguments_mapped : {W T : Type 0} (op : W → Operand) (h : T → TypeTree) (xs : List (W × T))
+    → map {B = Operand × TypeTree} (λ x. (op x.0, h x.1)) xs
+    ≡ map {B = Operand × TypeTree} (λ a. (a.0, h a.1)) (map {B = Operand × T} (λ x. (op x.0, x.1)) xs)
+arguments_mapped {W} {T} op h xs =
+    sym (map_twice {Y = Operand × T} {Z = Operand × TypeTree} (λ x. (op x.0, x.1)) (λ a. (a.0, h a.1)) xs)
+
+pub written_mapped : {W T : Type 0} (op : W → Operand) (h : T → TypeTree) (xs : List (W × T)) (t : T)
+    → map h (map {A = Operand × T} (λ a. a.1) (map {B = Operand × T} (λ x. (op x.0, x.1)) xs) ++ t ∷ [])
+    ≡ map (λ x. h x.1) xs ++ h t ∷ []
+written_mapped op h [] t = refl
+written_mapped op h (x ∷ xs) t = ap (λ z. h x.1 ∷ z) (written_mapped op h xs t)
+
+-- the operands of the code's call
+pub operands_mapped : {W T : Type 0} (op : W → Operand) (xs : List (W × T))
+    → map (λ x. op x.0) xs ≡ map (λ a. a.0) (map {B = Operand × T} (λ x. (op x.0, x.1)) xs)
+operands_mapped {W} {T} op xs = sym (map_twice {Y = Operand × T} (λ x. (op x.0, x.1)) (λ a. a.0) xs)

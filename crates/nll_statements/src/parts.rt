@@ -1,0 +1,135 @@
+//! Operands against types: those of a tuple or struct that is made, and those of a call.
+
+ghost use Rattle.std.specs.Prelude.{◌≡◌, ◌↔◌, ◌&&◌, ◌++◌, ◌<◌, ◌≤◌, List, Some, length, map};
+ghost use Rattle.std.specs.Prelude.{IfOk, IsTrue};
+ghost use Rattle.std.specs.List.{flat_map, list_all};
+ghost use Rattle.nll_types.specs.Declarations.{structs_of};
+ghost use Rattle.nll_types.specs.Judging.{HaveShapes, IsJudged, have_variables};
+ghost use Rattle.nll_types.specs.Operands.{operand_of, operand_type, place_in};
+ghost use Rattle.nll_types.specs.Places.{behind, part_count, small_prefixes};
+ghost use Rattle.nll_types.specs.Shapes.{shape_of, is_small};
+ghost use Rattle.nll_types.specs.Table.{AreBelow, shape_in};
+ghost use Rattle.nll_types.specs.Tables.{AddsShapes};
+ghost use Rattle.nll_types.specs.Types.{TypeTree};
+ghost use Rattle.nll_types.specs.declared.place.Projection.TheVariants.{Field as field};
+ghost use Rattle.nll_statements.specs.TypePairs.{beside_parts, operand_types, parts_of_type};
+ghost use Rattle.nll_statements.specs.Typing as spec;
+ghost use Rattle.nll_statements.specs.Typing.{pairs_agree, parts_are_small};
+
+use crate::declared::{are_operands_declared, is_operand_declared};
+use nll_sets::Memory;
+use nll_types::{Judgement, Operand, TypeTable};
+use std::alloc::Global;
+
+// Whether types of this shape have this many parts.
+fn has_parts(table: &TypeTable, shape: usize, count: usize) -> bool
+    requires { shape < length table.now.shapes }
+    ensures { (t : TypeTree) → shape_in table.now.shapes shape ≡ shape_of t
+        → IsTrue result ↔ (part_count (structs_of table.now.structs) t ≡ Some count) }
+{
+    match table.parts(shape) {
+        Some(parts) => parts == count,
+        None => false,
+    }
+}
+
+// Judges an operand against the part at this place of a type of this shape.
+fn judge_part(
+    alloc: Global,
+    table: &mut TypeTable,
+    variables: &[usize],
+    operand: &Operand,
+    shape: usize,
+    place: usize,
+) -> Result<Judgement, Memory>
+    requires variables { AreBelow (length table.old.shapes) variables.now }
+    requires shape { shape < length table.old.shapes }
+    ensures grows { AddsShapes table.old table.new }
+    ensures declared { IfOk result (λ j. j.declared
+        ≡ have_variables (length variables.now) (place_in (operand_of operand.now))) }
+    ensures judged { IfOk result (λ j. (types : List TypeTree) (t u : TypeTree)
+        → HaveShapes table.old.shapes variables.now types
+        → shape_in table.old.shapes shape ≡ shape_of t
+        → behind (structs_of table.old.structs) (field place) t ≡ Some u
+        → IsJudged
+        (spec.agree (operand_type (structs_of table.old.structs) types (operand_of operand.now))
+        (Some u))
+        (list_all (small_prefixes (structs_of table.old.structs) types)
+        (place_in (operand_of operand.now)) && is_small u) j) }
+{
+    match table.part(alloc, shape, place)? {
+        Some(part) => table.judge_operand(alloc, variables, operand, part),
+        None => Ok(Judgement::unfit(is_operand_declared(variables.len(), operand))),
+    }
+}
+
+/// Judges the operands of which a tuple or struct of this shape is made.
+pub(crate) fn judge_parts(
+    alloc: Global,
+    table: &mut TypeTable,
+    variables: &[usize],
+    operands: &[Operand],
+    shape: usize,
+) -> Result<Judgement, Memory>
+    requires variables { AreBelow (length table.old.shapes) variables.now }
+    requires shape { shape < length table.old.shapes }
+    ensures grows { AddsShapes table.old table.new }
+    ensures declared { IfOk result (λ j. j.declared ≡ have_variables (length variables.now)
+        (flat_map place_in (map operand_of operands.now))) }
+    ensures judged { IfOk result (λ j. (types : List TypeTree) (t : TypeTree)
+        → HaveShapes table.old.shapes variables.now types
+        → shape_in table.old.shapes shape ≡ shape_of t
+        → IsJudged
+        (pairs_agree (beside_parts
+        (operand_types (structs_of table.old.structs) types (map operand_of operands.now))
+        (parts_of_type (structs_of table.old.structs) t)))
+        (list_all (small_prefixes (structs_of table.old.structs) types)
+        (flat_map place_in (map operand_of operands.now))
+        && parts_are_small (parts_of_type (structs_of table.old.structs) t)) j) }
+{
+    if !has_parts(table, shape, operands.len()) {
+        let declared = are_operands_declared(variables.len(), operands);
+        return Ok(Judgement::unfit(declared));
+    }
+    let mut judged = Judgement::fitting(true, true);
+    for place in 0..operands.len() {
+        let part = judge_part(alloc, table, variables, &operands[place], shape, place)?;
+        judged = judged.and(part);
+    }
+    Ok(judged)
+}
+
+/// Judges the operands of a call against types of the first of these shapes.
+pub(crate) fn judge_arguments<T>(
+    alloc: Global,
+    table: &mut TypeTable,
+    variables: &[usize],
+    arguments: &[(Operand, T)],
+    written: &[usize],
+) -> Result<Judgement, Memory>
+    requires variables { AreBelow (length table.old.shapes) variables.now }
+    requires written { AreBelow (length table.old.shapes) written.now }
+    requires each { length arguments.now ≤ length written.now }
+    ensures grows { AddsShapes table.old table.new }
+    ensures declared { IfOk result (λ j. j.declared ≡ have_variables (length variables.now)
+        (flat_map place_in (map (λ a. operand_of a.0) arguments.now))) }
+    ensures judged { IfOk result (λ j. (types others : List TypeTree) (g : T → TypeTree)
+        → HaveShapes table.old.shapes variables.now types
+        → HaveShapes table.old.shapes written.now
+        (map (λ a. g a.1) arguments.now ++ others)
+        → IsJudged
+        (list_all
+        (λ a. spec.agree (operand_type (structs_of table.old.structs) types (operand_of a.0))
+        (Some (g a.1))) arguments.now)
+        (list_all (small_prefixes (structs_of table.old.structs) types)
+        (flat_map place_in (map (λ a. operand_of a.0) arguments.now))
+        && list_all is_small (map (λ a. g a.1) arguments.now)) j) }
+{
+    let mut judged = Judgement::fitting(true, true);
+    for place in 0..arguments.len() {
+        let (argument, shape) = (&arguments[place], written[place]);
+        let one = table.judge_operand(alloc, variables, &argument.0, shape)?;
+        judged = judged.and(one);
+    }
+    Ok(judged)
+}

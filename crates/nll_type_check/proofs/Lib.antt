@@ -1,3 +1,0 @@
-pub mod JudgedLemmas
-pub mod PartLemmas
-pub mod CallLemmas

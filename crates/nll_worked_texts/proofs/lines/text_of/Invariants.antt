@@ -1,6 +1,0 @@
-use Rattle.std.proofs.Common.{◌≡◌, map, take}
-use Rattle.nll_worked_texts.specs.Lines.{with_line_feed}
-use Rattle.nll_worked_texts.proofs.lines.text_of.Given as goal
-
-abbrev pub invariant-loop-byte : goal.invariant-loop-byte
-invariant-loop-byte l = l.text.items ≡ map with_line_feed (take l.byte-index l.lines)
