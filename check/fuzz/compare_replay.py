@@ -5,7 +5,7 @@
     check/run model [--count N] [--seed S] [--save FOLDER]
 
 Of each text, a small facts or MIR text of which some are changed, the program answers `replay` with random owners,
-dealt in turns, in blocks or by a cut file, and a random schedule: wholly random events, or such as lead to quiet, or
+round-robin, in blocks or by a cut file, and a random schedule: wholly random events, or such as lead to quiet, or
 a beginning of these, with events strewn in that are mostly not possible. Some cut files and schedules are hostile.
 Standard output, status and standard error must be those of the model (`reference_world.py`), byte by byte, whose
 owners grow in the order of the program; and at the balance 0 the value lines must be those of `nllc values`. Each

@@ -4,7 +4,7 @@
     check/run owners [--nllc PATH] [--count N] [--seed S] [--save FOLDER]
 
 Of each text, a small facts or MIR text of which every third is changed, the program answers `values` and `check`
-with random owners, dealt in turns, in blocks or by a cut file. Standard output, status and standard error must be
+with random owners, round-robin, in blocks or by a cut file. Standard output, status and standard error must be
 those of `nllc` without owners, of the baseline and of the reference, byte by byte. A text without a fault whose
 cut file is refused has the refusal that the slow reader `reference_cut` tells. Some cut files are hostile: other
 headers, faulty lines, changed bytes, another length, owners that there aren't, no file at all. Each text is also

@@ -68,9 +68,9 @@ def words():
     parser = argparse.ArgumentParser(description=__doc__.split("\n")[0])
     parser.add_argument("--nllc", required=True, help="the program to try")
     parser.add_argument("--seconds", type=float, default=10.0, help="time limit of a run")
-    parser.add_argument("--options", action="append", help="words that stand before a FILE")
+    parser.add_argument("--options", action="append", help="arguments in front of FILE")
     parser.add_argument("--count", type=int, help="how many growths of a run are refused")
-    parser.add_argument("--command", action="append", help="words that are run alone")
+    parser.add_argument("--command", action="append", help="a command line that is run without FILE")
     parser.add_argument("files", metavar="FILE", nargs="*")
     args = parser.parse_args()
     if args.count is not None and args.count < 2:

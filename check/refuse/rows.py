@@ -164,7 +164,7 @@ def refuse_all(jobs, allocator, number, seconds):
 
 def read_words(words, root):
     parser = argparse.ArgumentParser(description=__doc__.split("\n", maxsplit=1)[0])
-    parser.add_argument("--seconds", type=float, default=100.0, help="skip what isn't tried after so many")
+    parser.add_argument("--seconds", type=float, default=100.0, help="what isn't tried after this time is skipped")
     parser.add_argument("--nllc", default=str(root / "crates/nllc/out/nllc"))
     parser.add_argument("--tests", default=str(root / "crates/nll_run_tests/out/nll_run_tests_tests"))
     parser.add_argument("--before", default="0 passed, 0 failed", help="the last line of `rt ci`")

@@ -3,27 +3,20 @@
 `nllc` skips all of it. It is what faults are told by, in the words of the source.
 """
 
-import re
 from collections import deque
 from typing import Iterable, Iterator, Optional
 
+from .blame import Blame, word_of
+from .desugarings import Desugarings
 from .dumps import Dump
 from .loans import Loan, Loans
 from .mir import Body, Reason, Span
+from .moves import MOVES, Moved
+from .places import Place
 from .points import Points
-from .regions import Regions
+from .regions import STATIC, Regions
 from .rustc import Error
 from .tables import Location, Tables
-
-# rustc's categories of constraints in words. The others say nothing of the source.
-CATEGORIES = {
-    "Return": "return", "Yield": "yield", "UseAsConst": "constant", "UseAsStatic": "constant",
-    "TypeAnnotation": "annotation", "Cast": "cast", "CallArgument": "argument",
-    "CopyBound": "bound", "SizedBound": "bound", "Assignment": "assignment", "Usage": "use",
-    "ClosureUpvar": "capture", "Predicate": "predicate", "OpaqueType": "opaque", "Boring": "step",
-}
-GENERIC = re.compile(r"\(GenericArg\)")
-
 
 class Inside:
     """The constraints between regions that are equal everywhere, for which a text has one name."""
@@ -57,13 +50,16 @@ class Beside:
     """Makes the lines of one function."""
 
     def __init__(self, dump: Dump, tables: Tables, body: Body, points: Points, regions: Regions,
-                 names: dict[int, str], source: str):
+                 names: dict[int, str], source: str, desugarings: Desugarings):
         self.dump, self.tables, self.body, self.source = dump, tables, body, source
         self.number, self.regions, self.names = points.number, regions, names
+        self.desugarings = desugarings
 
     def lines(self, errors: Iterable[Error]) -> list[str]:
-        return [*self.loan_lines(), *self.reason_lines(), *self.use_lines(), *self.need_lines(),
-                *self.rustc_lines(errors)]
+        own = Loans(self.dump, self.tables, self.body)
+        errors = list(errors)
+        return [*self.loan_lines(own), *self.reason_lines(), *self.blame_lines(own), *self.use_lines(),
+                *self.need_lines(), *self.gone_lines(errors), *self.rustc_lines(errors)]
 
     def name(self, region: int) -> Optional[str]:
         """The name of the region's class with its `'`, where the text has it."""
@@ -79,22 +75,28 @@ class Beside:
     def numbers(self, locations: Iterable[Location]) -> str:
         return " ".join(str(n) for n in sorted({self.number[one] for one in locations}))
 
-    def loan_lines(self) -> Iterator[str]:
-        own = Loans(self.dump, self.tables, self.body)
+    def loan_lines(self, own: Loans) -> Iterator[str]:
         yield f"loans: {len(own.loans)}"
         for number, loan in sorted(own.loans.items()):
             yield f"loan {number}: {self.loan(loan)}"
             if loan.killed:
                 yield f"killed {number}: {self.numbers(loan.killed)}"
-        for location, way, begun, span, loans in own.against():
-            after = f" after {self.number[begun]}" if begun else ""
+        for location, way, span, loans in own.against:
+            what = f" of {self.path(way.place)}" if way.place else ""
+            after = f" after {self.number[way.begun]}" if way.begun else ""
             numbers = " ".join(map(str, loans))
-            yield f"against {self.number[location]}, {self.place(span)}, {way}{after}: {numbers}"
+            yield f"against {self.number[location]}, {self.place(span)}, {way.word}{what}{after}: {numbers}"
+
+    def path(self, place: Place) -> str:
+        """`list.*.0`: a variable, by its name if it has one, and the steps from it."""
+        root = self.body.locals.get(place.local)
+        name = root.name if root and root.name else f"_{place.local}"
+        steps = [step.replace(" ", "-") for step in place.steps]
+        return ".".join([name, *steps]) + ("'" if place.has_lifetimes else "")
 
     def loan(self, loan: Loan) -> str:
         """`'r4 at 5, 8:16-8:22, mut of list`, and where else it stands."""
-        root = self.body.locals.get(loan.place.local)
-        what = root.name if root and root.name else "a temporary"
+        what = self.body.name_of(loan.place) or "a temporary"
         deref = "*" if "*" in loan.place.steps else ""
         kind = "unique" if loan.is_unique else loan.kind
         by = ", by a closure" if loan.is_capture else ""
@@ -112,18 +114,24 @@ class Beside:
                 continue
             at = "" if reason.location is None else f" at {self.number[reason.location]}"
             for one in (*inside.onward(reason.sub)[::-1], reason):
-                word = self.category(one)
+                word = word_of(one)
                 if word:
                     said[f"asked {sup} {sub}{at}, {self.place(one.span)}: {word}"] = None
         return iter(said)
 
-    def category(self, reason: Reason) -> str:
-        if reason.category == "TypeAnnotation" and GENERIC.search(reason.detail):
-            return "generic"
-        if reason.category == "Cast" and "is_implicit_coercion: true" in reason.detail \
-                and "dyn " in reason.detail:
-            return "object"
-        return CATEGORIES.get(reason.category, "")
+    def blame_lines(self, own: Loans) -> Iterator[str]:
+        """Which constraint rustc names where a universal region, or a loan, would have to outlive another one."""
+        blame = Blame(self.body, self.desugarings)
+        universals = [region for region in self.regions.universals if self.name(region)]
+        known = set(self.tables.known_placeholder_subset)
+        begins = [(self.name(region), region) for region in universals if region != STATIC]
+        begins += [(str(number), loan.region) for number, loan in sorted(own.ending().items())]
+        for name, begin in begins:
+            goals = [goal for goal in universals if goal != begin and (begin, goal) not in known]
+            for goal, chain in sorted(blame.chains(begin, goals).items()):
+                named = blame.named(chain)
+                whose = " of a closure" if blame.is_of_closure(named) else ""
+                yield f"blamed {name} {self.name(goal)}, {self.place(named.span)}: {word_of(named) or 'step'}{whose}"
 
     def use_lines(self) -> Iterator[str]:
         """At which points variables of a region's types are used, and at which dropped."""
@@ -148,6 +156,22 @@ class Beside:
             if sup in self.body.external and self.name(sup) and self.name(sub):
                 yield f"needs {self.name(sup)} {self.name(sub)}"
 
+    def gone_lines(self, errors: list[Error]) -> Iterator[str]:
+        """What is accessed or assigned where it mustn't be, since when, and a walk to there."""
+        moved = Moved(self.tables, self.body) if any(error.code in MOVES for error in errors) else None
+        for error in errors if moved else ():
+            for one in moved.of([error]):
+                name = self.path(Place(one.variable))
+                walk = " ".join(str(self.number[location]) for location in one.walk)
+                yield (f"gone {self.number[one.location]}, {error.line}:{error.column}, {one.code} of {name}, "
+                       f"by {walk}: {self.numbers(one.since)}").rstrip()
+
     def rustc_lines(self, errors: Iterable[Error]) -> Iterator[str]:
+        """The errors, and below each the places that it names."""
         for error in errors:
             yield f"rustc {error.line}:{error.column}: {error.words()}"
+            for label in error.labels:
+                if label.file == self.source:
+                    yield f"label {label.line}:{label.column}-{label.last}:{label.end}: {label.text}".rstrip(": ")
+            yield from (f"note: {note}" for note in error.notes)
+            yield from (f"help: {one}" for one in error.helps)

@@ -5,40 +5,77 @@ import os
 import re
 from typing import Collection, NamedTuple, Optional
 
-from .mir import Body, Span, read_body
+from .mir import Body, Span, Statement, read_body
+from .places import Place, read_place
 from .tables import Location
 
 MADE = re.compile(r" = (\{(?:closure|coroutine|async|gen)[^{}]*\})(?: \{(.*)\})?")
+OPERAND = re.compile(r"(?:^ ?|, )\w+: (?:copy|move) ")
+BEGIN = re.compile(r"@.*?:(\d+):(\d+): \d+:\d+")
+TARGET = re.compile(r"(_\d+) = ")
 TAIL = ".-------.nll.0.mir"
 
 
+class Use(NamedTuple):
+    """Where a closure uses what it takes, as far as is known, and whether only what is behind a reference in it."""
+
+    span: Optional[Span] = None
+    is_behind: bool = False
+
+
 class Capture(NamedTuple):
-    """That a closure takes a borrow, and where it uses it, as far as that is known."""
+    """That a closure takes a variable: where the closure stands, and how it uses that."""
 
+    home: Optional[Span]
     use: Optional[Span]
+    is_behind: bool
 
 
-def capture_of(dump, body: Body, variable: Optional[int],
-               uses: Collection[Location]) -> Optional[Capture]:
-    """The capture for which the borrow in a variable is made; None where it is made for no closure.
-    """
+def capture_of(dump, body: Body, variable: Optional[int], uses: Collection[Location]) -> Optional[Capture]:
+    """The capture for which the borrow in a variable is made; None where it is made for no closure."""
     for location in uses:
-        made = MADE.search(body.statements[location].text)
-        if made and body.locals[variable].name is None:
-            taken = (made[2] or "").split(", ")
-            index = next((n for n, one in enumerate(taken) if one.split()[-1:] == [f"_{variable}"]),
-                         None)
-            return Capture(use_inside(dump.mir, made[1], index))
+        if body.locals[variable].name is None and MADE.search(body.statements[location].text):
+            return capture_at(dump.mir, body.statements[location], Place(variable))
     return None
 
 
-def use_inside(mir: str, closure: str, index: Optional[int]) -> Optional[Span]:
-    """The first statement of the closure that names its field of this number."""
+def capture_at(mir: str, said: Statement, place: Place) -> Capture:
+    """What the closure that a statement makes takes by an operand."""
+    made = MADE.search(said.text)
+    inside = made[2] or ""
+    taken = [read_place(inside, one.end()) for one in OPERAND.finditer(inside)]
+    index = next((n for n, one in enumerate(taken) if one and one[0] == place), None)
+    return Capture(home_of(made[1], said.span), *use_inside(mir, made[1], index))
+
+
+def home_of(closure: str, span: Optional[Span]) -> Optional[Span]:
+    """Where the closure begins, which is behind the parentheses around it."""
+    begin = BEGIN.search(closure)
+    if not begin or span is None:
+        return span
+    first, column = int(begin[1]), int(begin[2])
+    is_inside = (span.first, span.column) <= (first, column) < (span.last, span.end)
+    return span._replace(first=first, column=column) if is_inside else span
+
+
+def use_inside(mir: str, closure: str, index: Optional[int]) -> Use:
+    """The first statement of the closure that names its field of this number; of one in it, what that uses."""
     for path in glob.glob(glob.escape(mir.removesuffix(TAIL)) + "-*" + glob.escape(TAIL)):
         inner = read_body(path)
         own = inner.locals.get(1)
         if own and closure in own.type and os.path.isfile(path) and index is not None:
-            field = re.compile(rf"\((?:\(\*_1\)|_1)\.{index}: ")
-            return next((said.span for _, said in sorted(inner.statements.items())
-                         if field.search(said.text)), None)
-    return None
+            field = rf"\((?:\(\*_1\)|_1)\.{index}: "
+            named = [said for _, said in sorted(inner.statements.items()) if re.search(field, said.text)]
+            uses = [deeper(path, inner, said, rf"\(\*\(\*{field}") for said in named]
+            return Use(uses[0].span, all(use.is_behind for use in uses)) if uses else Use()
+    return Use()
+
+
+def deeper(mir: str, body: Body, said: Statement, behind: str) -> Use:
+    """Where a statement of a closure stands; where it borrows for a closure inside, the use in there."""
+    target = TARGET.match(said.text)
+    taken = re.compile(rf"\b(?:move|copy) {target[1]}\b") if target else None
+    made = next((one for one in body.statements.values()
+                 if taken and MADE.search(one.text) and taken.search(one.text)), None)
+    use = capture_at(mir, made, Place(int(target[1][1:]))) if made else Capture(None, None, False)
+    return Use(use.use or said.span, use.is_behind or re.search(behind, said.text) is not None)

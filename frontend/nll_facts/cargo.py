@@ -1,91 +1,89 @@
-"""All functions of a crate: `cargo check` with a wrapper round rustc, then a job for each."""
+"""What rustc leaves of the packages of a Cargo project: `cargo check` with a wrapper around rustc."""
 
-import argparse
 import json
 import os
 import shutil
 import subprocess
 import sys
-import tempfile
 
-from .dumps import Dump, find_dumps
-from .jobs import Job, run_jobs
 from .refusal import Refusal
-from .table import table
-from .text import free_path
+from .units import Unit, read_unit
 
 HERE = os.path.dirname(os.path.abspath(__file__))
 WRAPPER = os.path.join(HERE, "rustc-wrapper")
+TARGET = "nllc"     # in the project's own target folder
 
 
-def whole_crate(asked: argparse.Namespace) -> int:
-    """Writes the texts of a crate's functions, has them answered, prints one table."""
-    if not os.path.isfile(os.path.join(asked.crate, "Cargo.toml")):
-        raise Refusal(f"{asked.crate} has no Cargo.toml; give the folder of a crate or workspace")
-    name = os.path.basename(os.path.realpath(asked.crate))
-    out = asked.out or os.path.join("out", "rust", name)
-    with tempfile.TemporaryDirectory(prefix="nll-facts.") as room:
-        check(asked.crate, asked.options, room)
-        jobs = jobs_of(room, out)
-        if not jobs:
-            raise Refusal(f"no function of {asked.crate} has facts: mend what cargo says above")
-        rows = run_jobs(jobs, answer=not asked.texts_only, seconds=asked.seconds)
-    sys.stdout.write(table(rows, answered=not asked.texts_only))
-    return 0
-
-
-def check(folder: str, options: list[str], room: str) -> None:
-    """Runs `cargo check` so that each of the crate's own units leaves its facts in the room."""
-    cargo = shutil.which(os.environ.get("CARGO") or "cargo")
-    if not cargo:
-        raise Refusal("there is no cargo: install it (https://rustup.rs), "
-                      "or name it by the variable CARGO")
-    environment = os.environ | {
-        "RUSTC_WRAPPER": WRAPPER,
-        "NLL_FACTS_ROOM": room,
-        "CARGO_TARGET_DIR": os.path.join(room, "target"),
-        "CARGO_INCREMENTAL": "0",
-    }
-    done = subprocess.run([cargo, "check", "--keep-going", *options], cwd=folder, env=environment,
-                          stdin=subprocess.DEVNULL, stdout=sys.stderr, check=False)
-    if done.returncode != 0:
-        print("nllc.sh facts: cargo ends with an error; functions that it didn't come to have no facts",
-              file=sys.stderr)
-
-
-def jobs_of(room: str, out: str) -> list[Job]:
-    """A job for each function of each unit; units of one name get folders of their own."""
-    jobs: list[Job] = []
-    taken: set[str] = set()
-    for unit, crate, root in units(room):
-        folder = os.path.join(out, crate)
-        number = 2
-        while folder in taken:
-            folder = os.path.join(out, f"{crate}-{number}")
-            number += 1
-        taken.add(folder)
-        dumps = find_dumps(os.path.join(unit, "facts"), os.path.join(unit, "mir"), crate, root)
-        jobs += jobs_of_unit(dumps, folder, root)
-    return jobs
-
-
-def units(room: str) -> list[tuple[str, str, str]]:
-    """The folder, the crate's name and the folder of rustc's run, for each run that left facts."""
-    found = []
-    for entry in sorted(os.scandir(room), key=lambda entry: entry.name):
-        note = os.path.join(entry.path, "unit.json")
-        if os.path.isfile(note):
-            with open(note, encoding="utf-8") as file:
-                said = json.load(file)
-            found.append((entry.path, said["crate"], said["root"]))
+def project_of(folder: str) -> str:
+    """The nearest folder with a Cargo.toml, from this one upwards, as cargo looks for it."""
+    found = os.path.abspath(folder)
+    while not os.path.isfile(os.path.join(found, "Cargo.toml")):
+        if found == os.path.dirname(found):
+            raise Refusal(f"{folder} is in no Cargo project: give a Rust file, or the folder of a package or "
+                          f"workspace, where its Cargo.toml is")
+        found = os.path.dirname(found)
     return found
 
 
-def jobs_of_unit(dumps: list[Dump], folder: str, root: str) -> list[Job]:
-    jobs: list[Job] = []
-    taken: set[str] = set()
-    for dump in (dump for dump in dumps if dump.is_function):
-        path = free_path(folder, dump.file_name, taken)
-        taken.add(path)
-        jobs.append(Job(dump, path, root))
-    return jobs
+def check_project(folder: str, packages: list[str], options: list[str], room: str, lints: str = "allow",
+                  in_colour: bool = False) -> list[Unit]:
+    """The units of the packages, checked with the project's own edition, features and dependencies.
+
+    What is compiled of the dependencies stays in a folder of its own in the project's target folder.
+    """
+    cargo = find_cargo()
+    form = "json-diagnostic-rendered-ansi" if in_colour else "json"
+    words = [cargo, "check", "--keep-going", f"--message-format={form}",
+             *(word for package in packages for word in ("-p", package)), *options]
+    environment = os.environ | {
+        "RUSTC_WRAPPER": WRAPPER, "NLL_FACTS_ROOM": room, "NLL_FACTS_LINTS": lints,
+        "NLL_FACTS_ASKED": " ".join(words[4:]), "CARGO_INCREMENTAL": "0",
+        "CARGO_TARGET_DIR": os.path.join(target_of(cargo, folder), TARGET),
+    }
+    done = subprocess.run(words, cwd=folder, env=environment, stdin=subprocess.DEVNULL, stdout=subprocess.PIPE,
+                          check=False)
+    units = units_in(room)
+    show_others(done.stdout, units, is_json=lints != "allow")
+    if done.returncode != 0 and not any(unit.errors for unit in units):
+        raise Refusal(f"cargo can't check {folder}: mend what it says above")
+    if not units:
+        raise Refusal(f"{folder} has no package of its own that is asked for: -p names packages of the project")
+    return units
+
+
+def find_cargo() -> str:
+    cargo = shutil.which(os.environ.get("CARGO") or "cargo")
+    if not cargo:
+        raise Refusal("there is no cargo: install it (https://rustup.rs), or name it by the variable CARGO")
+    return cargo
+
+
+def target_of(cargo: str, folder: str) -> str:
+    """The project's target folder, as cargo says it."""
+    done = subprocess.run([cargo, "metadata", "--no-deps", "--format-version=1"], cwd=folder, check=False,
+                          stdin=subprocess.DEVNULL, stdout=subprocess.PIPE)
+    if done.returncode != 0:
+        raise Refusal(f"cargo can't read the project of {folder}: mend what it says above")
+    return json.loads(done.stdout)["target_directory"]
+
+
+def units_in(room: str) -> list[Unit]:
+    """The units whose folders are in the room, in the order of their names."""
+    return [read_unit(entry.path) for entry in sorted(os.scandir(room), key=lambda entry: entry.name)
+            if os.path.isfile(os.path.join(entry.path, "unit.json"))]
+
+
+def show_others(stdout: bytes, units: list[Unit], is_json: bool) -> None:
+    """Shows the errors that are of no unit, such as those of a dependency or a build script."""
+    known = [mark_of(one) for unit in units for one in unit.diagnostics()]
+    for line in stdout.splitlines():
+        message = json.loads(line).get("message", {}) if line.startswith(b"{") else {}
+        if message.get("level") == "error" and mark_of(message) not in known:
+            print(json.dumps(message) if is_json else message["rendered"],
+                  file=sys.stdout if is_json else sys.stderr)
+
+
+def mark_of(diagnostic: dict) -> tuple:
+    """By what a diagnostic is known again that cargo hands on, perhaps without its colours."""
+    places = [(span["file_name"], span["line_start"], span["column_start"]) for span in diagnostic["spans"]]
+    return diagnostic["message"], places

@@ -1,53 +1,31 @@
-"""The words of `nllc.sh facts`, and what it does with them."""
+"""The words of `nllc.sh facts`, and what it does with them; what `nllc.sh rust` shares with it."""
 
 import argparse
 import os
-import signal
 import sys
 import tempfile
-from dataclasses import dataclass, field
-from typing import Callable, Optional, Sequence
+from typing import NamedTuple, Sequence
 
-from nll_page.streams import any_locale, unwritten
+from nll_page.called import Parser
+from nll_page.streams import guarded
 from nll_page.words import plural
 
-from .cargo import whole_crate
+from .cargo import check_project, project_of
 from .convert import Problem, convert
-from .dumps import Dump, choose, find_dumps
-from .errors import own_errors
+from .functions import Checked, Function, checked
 from .progress import Progress
 from .refusal import Refusal
-from .rustc import CRATE, Error, run_rustc
-from .text import facts_text, free_path, make_folder, write_whole
+from .rustc import Error, without_colours
+from .text import facts_text, make_folder, write_whole
+from .units import check_file
+from .workers import side_by_side
 
 FOLDER = os.path.join("out", "rust")
 
 
 def main(words: Sequence[str]) -> int:
     """Does what the words say; the status is 0, 2 for what is refused, 3 for what failed."""
-    return guarded("nllc.sh facts", lambda: run(read_words(words)))
-
-
-def guarded(program: str, work: Callable[[], int]) -> int:
-    """The status of the work; a refusal is one line on standard error, and so is a full disk."""
-    signal.signal(signal.SIGTERM, signal.getsignal(signal.SIGINT))
-    any_locale()
-    try:
-        status = work()
-        sys.stdout.flush()
-        return status
-    except Refusal as refusal:
-        print(f"{program}: {refusal}", file=sys.stderr)
-        return refusal.status
-    except KeyboardInterrupt:
-        print(f"{program}: stopped; nothing half-written is left", file=sys.stderr)
-        return 130
-    except OSError as error:
-        return unwritten(program, error)
-
-
-def run(asked: argparse.Namespace) -> int:
-    return whole_crate(asked) if asked.crate else one_file(asked)
+    return guarded("facts", lambda: write_texts(read_words(words)))
 
 
 def split_words(words: Sequence[str]) -> tuple[list[str], list[str]]:
@@ -59,88 +37,118 @@ def split_words(words: Sequence[str]) -> tuple[list[str], list[str]]:
 
 def read_words(words: Sequence[str]) -> argparse.Namespace:
     own, options = split_words(words)
-    parser = argparse.ArgumentParser(
-        prog="nllc.sh facts", usage="nllc.sh facts FILE.rs [FUNCTION] [-o FOLDER] [-- OPTIONS OF RUSTC]\n"
-        "       nllc.sh facts --crate FOLDER [-o FOLDER] [--texts-only] [-- OPTIONS OF CARGO CHECK]",
-        description="Writes a facts text of each function of a Rust file or crate, by what rustc "
-        "says of them, and prints their paths. Needs rustc 1.95 or later (its stable one will do).")
-    parser.add_argument("file", metavar="FILE.rs", nargs="?")
-    parser.add_argument("function", metavar="FUNCTION", nargs="?",
-                        help="this one alone: its name (pick, module::pick, Type::pick) or a line")
-    parser.add_argument("-o", dest="out", metavar="FOLDER",
-                        help="where the texts go; it is made where it isn't there. Without it "
-                        f"{FOLDER}/NAME, NAME being the file's or crate's")
-    parser.add_argument("--edition", default="2021", help="of the language, for FILE.rs; 2021")
-    parser.add_argument("--crate", metavar="FOLDER",
-                        help="all functions of the crate or workspace there, and nllc's answers")
-    parser.add_argument("--texts-only", action="store_true", help="with --crate: no answers")
-    parser.add_argument("--seconds", type=float, default=60.0,
-                        help="with --crate: how long nllc may take for one function; 60")
+    parser = Parser(
+        "facts", "Writes a facts text of each function of a Rust file or a Cargo project, by what rustc "
+        "says of them, and prints their paths. Needs rustc 1.95 or later (its stable one will do). "
+        "OPTIONS are those of rustc, or of cargo check. Status 0: all were written; 2: refused, all or in part; 3: failed.",
+        usage="FILE.rs|FOLDER [FUNCTION ..] [-o FOLDER] [-p PACKAGE] [--edition E] [-- OPTIONS]",
+        formatter_class=argparse.HelpFormatter)
+    add_words(parser, "where the texts go")
     asked = parser.parse_args(own)
     asked.options = options
-    if bool(asked.file) == bool(asked.crate):
-        parser.error("give FILE.rs or --crate FOLDER")
+    take_input(asked)
     return asked
 
 
-def one_file(asked: argparse.Namespace) -> int:
-    checked = problems_of_file(asked.file, asked.function, asked.edition, asked.options)
-    show(checked.errors)
-    paths = write_all(folder_of(asked), checked.problems)
-    for path, (_, problem) in zip(paths, checked.problems):
-        print(f"{path}  {problem.function}: {plural(len(problem.points), 'point')}, "
-              f"{plural(len(problem.regions), 'region')}, "
-              f"{plural(len(problem.constraints), 'constraint')}")
-    return tell_unanswered(asked.file, checked.unanswered)
+def take_input(asked: argparse.Namespace) -> None:
+    """Writes what comes on standard input to a file in the folder of texts and pages, so that places in it mean something."""
+    if asked.path == "-":
+        folder = asked.out or os.path.join(FOLDER, "stdin")
+        make_ready(folder)
+        asked.path = os.path.join(folder, "stdin.rs")
+        with open(asked.path, "wb") as file:
+            file.write(sys.stdin.buffer.read())
 
 
-@dataclass
-class Checked:
-    """The problems of a file's functions, and rustc's errors.
+def add_words(parser: argparse.ArgumentParser, use_of_folder: str, is_of_cargo: bool = False) -> None:
+    """The words that say of which functions, and where to; those of cargo are of the current folder's project."""
+    if not is_of_cargo:
+        parser.add_argument("path", metavar="FILE.rs|FOLDER",
+                            help="a Rust file (- is standard input), or the folder of a Cargo package or workspace")
+        parser.add_argument("--edition", help="of the language, for FILE.rs; 2021")
+    parser.set_defaults(path=os.curdir, edition=None)
+    parser.add_argument("functions", metavar="FUNCTION", nargs="*",
+                        help="these alone: a name (pick, module::pick, Type::pick) or a line (12, src/lib.rs:12)")
+    parser.add_argument("-o", dest="out", metavar="FOLDER",
+                        help=f"{use_of_folder}; it is made where it isn't there. Without it "
+                        f"{FOLDER}/NAME, NAME being the file's or project's")
+    parser.add_argument("-p", "--package", dest="packages", metavar="PACKAGE", action="append", default=[],
+                        help="of a project, this package; it may be given several times")
 
-    Of some errors no function that rustc has checked has a line: those stand apart.
-    """
 
-    problems: list[tuple[Dump, Problem]]
-    errors: list[Error]
-    unanswered: list[Error] = field(default_factory=list)
-
-
-def problems_of_file(file: str, function: Optional[str], edition: str,
-                     options: list[str]) -> Checked:
-    """The problems of a file's functions, or of the one."""
+def write_texts(asked: argparse.Namespace) -> int:
     with tempfile.TemporaryDirectory(prefix="nll-facts.") as room:
-        with Progress(lambda: f"rustc checks {file}"):
-            run = run_rustc(file, room, [f"--edition={edition}", *options], sys.stderr.isatty())
-        dumps = find_dumps(run.facts, run.mir, CRATE)
-        if run.errors and not dumps:
-            show(run.errors)
-            raise Refusal(f"rustc refuses {file} before it checks borrows: mend what it says above")
-        if function:
-            chosen = [choose(dumps, file, function)]
-            errors = [error for error in run.errors if any(map(chosen[0].has, error.places))]
-            unanswered = []
-        else:
-            chosen = functions(file, dumps)
-            unanswered = [error for error in run.errors if error.places
-                          and not any(map(lambda dump: any(map(dump.has, error.places)), dumps))]
-            errors = [error for error in run.errors if error not in unanswered]
-        problems = [(dump, convert(dump, errors=own_errors(dump, dumps, run.errors)))
-                    for dump in chosen]
-        return Checked(problems, errors, unanswered)
+        found = check(asked, room, folder_of(asked))
+        refuse_nothing(asked.path, found)
+        show(found.errors)
+        make_ready(folder_of(asked))
+        texts = list(side_by_side(write_text, found.functions))
+    for function, text in zip(found.functions, texts):
+        print(text.failure or f"{function.path}  {function.name}: {text.size}")
+    return max(tell_unanswered(asked.path, found.unanswered), *(2 if text.failure else 0 for text in texts))
+
+
+class Text(NamedTuple):
+    """What became of a function: the size of its text, or why it has none."""
+
+    size: str
+    failure: str
+
+
+def write_text(function: Function) -> Text:
+    try:
+        problem = problem_of(function)
+        write_whole(function.path, facts_text(problem))
+    except Refusal as refusal:
+        return Text("", str(refusal))
+    return Text(f"{plural(len(problem.points), 'point')}, {plural(len(problem.regions), 'region')}, "
+                f"{plural(len(problem.constraints), 'constraint')}", "")
+
+
+def problem_of(function: Function) -> Problem:
+    return convert(function.dump, function.root, function.errors)
+
+
+def check(asked: argparse.Namespace, room: str, folder: str, is_for_people: bool = True) -> Checked:
+    """Has rustc, or cargo, check what is asked for; all that it leaves is in the room, texts go to the folder.
+
+    People aren't told of warnings.
+    """
+    in_colour = is_for_people and sys.stderr.isatty() and not os.environ.get("NO_COLOR")
+    lints = "allow" if is_for_people else "warn"
+    if is_project(asked.path):
+        if asked.edition:
+            raise Refusal("a project says its edition itself: leave out --edition")
+        units = check_project(project_of(asked.path), asked.packages, asked.options, room, lints, in_colour)
+    else:
+        if asked.packages:
+            raise Refusal(f"{asked.path} is a file, and -p is for projects: give the folder of one")
+        options = [f"--edition={asked.edition or 2021}", *asked.options]
+        with Progress(lambda: f"rustc checks {asked.path}"):
+            units = [check_file(asked.path, room, options, lints, in_colour)]
+    return checked(units, asked.functions, folder)
+
+
+def is_project(path: str) -> bool:
+    return os.path.isdir(path)
+
+
+def refuse_nothing(path: str, found: Checked) -> None:
+    """Shows rustc's errors and refuses where there is no function to look at."""
+    if not found.functions:
+        show([error for unit in found.units for error in unit.errors])
+        raise without_functions(path, found)
+
+
+def without_functions(path: str, found: Checked) -> Refusal:
+    if any(unit.errors for unit in found.units):
+        return Refusal(f"rustc refuses {path} before it checks borrows: mend what it says above")
+    return Refusal(f"{path} has no function with a body: nothing in it has regions to solve")
 
 
 def show(errors: list[Error]) -> None:
     for error in errors:
-        sys.stderr.write(error.rendered)
-
-
-def functions(file: str, dumps: list[Dump]) -> list[Dump]:
-    """All functions that rustc has checked. So an error inside one is of the borrow checker."""
-    found = [dump for dump in dumps if dump.is_function]
-    if not found:
-        raise Refusal(f"{file} has no function with a body: nothing in it has regions to solve")
-    return found
+        sys.stderr.write(error.rendered if sys.stderr.isatty() else without_colours(error.rendered))
 
 
 def tell_unanswered(file: str, errors: list[Error]) -> int:
@@ -148,31 +156,30 @@ def tell_unanswered(file: str, errors: list[Error]) -> int:
     if not errors:
         return 0
     show(errors)
-    lines = ", ".join(str(line) for line in sorted({error.line for error in errors}))
-    print(f"{file}: rustc refuses line {lines} before it checks borrows, as it says above; the functions "
-          "there have no answer", file=sys.stderr)
+    print(unanswered(file, errors), file=sys.stderr)
     return 2
 
 
+def unanswered(path: str, errors: list[Error]) -> str:
+    """Which lines those are; of a project with their files."""
+    lines = sorted({(error.path, error.line) for error in errors})
+    is_one = {place for place, _ in lines} == {path}
+    places = ", ".join(str(line) if is_one else f"{place}:{line}" for place, line in lines)
+    return (f"{path}: rustc refuses {'line ' if is_one else ''}{places} before it checks borrows, as it says above; "
+            "the functions there have no answer")
+
+
 def folder_of(asked: argparse.Namespace) -> str:
-    """Where texts and pages go: in one folder for all files, which git is told to ignore."""
+    """Where texts and pages go: in one folder for all files and projects, which git is told to ignore."""
     if asked.out:
         return asked.out
-    folder = os.path.join(FOLDER, os.path.splitext(os.path.basename(asked.file))[0])
+    path = project_of(asked.path) if is_project(asked.path) else os.path.splitext(asked.path)[0]
+    return os.path.join(FOLDER, os.path.basename(path))
+
+
+def make_ready(folder: str) -> None:
+    """Makes the folder; git is told to ignore the one of all files and projects."""
     make_folder(folder)
     ignored = os.path.join(FOLDER, ".gitignore")
-    if not os.path.exists(ignored):
+    if os.path.dirname(folder) == FOLDER and not os.path.exists(ignored):
         write_whole(ignored, "*\n")
-    return folder
-
-
-def write_all(folder: str, problems: list[tuple[Dump, Problem]]) -> list[str]:
-    """Writes a text for each problem, all made before the first is written; gives the paths."""
-    texts = [(dump.file_name, facts_text(problem)) for dump, problem in problems]
-    make_folder(folder)
-    paths: list[str] = []
-    for name, text in texts:
-        path = free_path(folder, name, paths)
-        write_whole(path, text)
-        paths.append(path)
-    return paths

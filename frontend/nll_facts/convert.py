@@ -6,9 +6,10 @@ from dataclasses import dataclass, field
 from typing import Iterable, Iterator
 
 from .beside import Beside
+from .desugarings import desugarings_of
 from .dumps import Dump
 from .liveness import bases
-from .mir import read_body
+from .mir import Body, read_body
 from .origins import origins
 from .points import Points, number_points
 from .refusal import Refusal
@@ -44,6 +45,7 @@ class Problem:
     bases: list[tuple[str, list[int]]]
     constraints: list[tuple[str, str, int]]
     beside: list[str] = field(default_factory=list)
+    way: str = ""
 
     def check_limits(self) -> None:
         """Refuses what `nllc` would refuse for its size."""
@@ -71,9 +73,7 @@ def convert(dump: Dump, root: str = "", errors: Iterable[Error] = ()) -> Problem
     points = number_points(tables, body)
     regions = Regions(tables)
     asked = list(constraints(dump.name, points, tables, regions))
-    universals = kept_universals(body.names, regions, tables, asked)
-    others = regions.classes(mentioned(tables, asked))
-    names = name_regions(body, [*universals, *others])
+    universals, others, names = named(body, tables, regions, asked)
     wording = Wording(body, tables, regions, names)
     said = origins(tables, regions, wording)
 
@@ -90,9 +90,10 @@ def convert(dump: Dump, root: str = "", errors: Iterable[Error] = ()) -> Problem
         regions=[with_remark(region) for region in others],
         successors=points.successors,
         returns=points.returns,
-        bases=[(names[region], live) for region, live in live_points(tables, points, regions)],
+        bases=[(names[region], live) for region, live in live_points(tables, body, points, regions)],
         constraints=[(names[sup], names[sub], at) for sup, sub, at in asked],
-        beside=Beside(dump, tables, body, points, regions, names, wording.source).lines(errors),
+        beside=Beside(dump, tables, body, points, regions, names, wording.source,
+                      desugarings_of(wording.source, os.path.join(root, wording.source))).lines(errors),
     )
     problem.check_limits()
     return problem
@@ -125,6 +126,14 @@ def mentioned(tables: Tables, asked: list[tuple[int, int, int]]) -> Iterator[int
         yield sub
 
 
+def named(body: Body, tables: Tables, regions: Regions,
+          asked: list[tuple[int, int, int]]) -> tuple[list[int], list[int], dict[int, str]]:
+    """The universal regions of a text, the others, and the names of both."""
+    universals = kept_universals(body.names, regions, tables, asked)
+    others = regions.classes(mentioned(tables, asked))
+    return universals, others, name_regions(body, [*universals, *others])
+
+
 def kept_universals(own_names: dict[int, str], regions: Regions, tables: Tables,
                     asked: list[tuple[int, int, int]]) -> list[int]:
     """The universal regions without rustc's own one of the body, where nothing speaks of it."""
@@ -134,12 +143,17 @@ def kept_universals(own_names: dict[int, str], regions: Regions, tables: Tables,
     return others if is_body and others else regions.universals
 
 
-def live_points(tables: Tables, points: Points,
+def live_points(tables: Tables, body: Body, points: Points,
                 regions: Regions) -> Iterator[tuple[int, list[int]]]:
-    """Each region that isn't universal with the points at which it is live, ascending."""
+    """Each region that isn't universal with the points at which it is live, ascending.
+
+    A bound of an `impl Trait` or of an associated type can say that its regions aren't live where a variable
+    of it is: that is in the dump alone.
+    """
     live: dict[int, set[int]] = defaultdict(set)
     for region, location in bases(tables):
-        live[regions.find(region)].add(points.number[location])
+        if location in body.live.get(region, ()):
+            live[regions.find(region)].add(points.number[location])
     for region in sorted(live):
         if not regions.is_universal(region):
             yield region, sorted(live[region])

@@ -1,13 +1,13 @@
-"""What rustc left for each function, and how functions are named and chosen."""
+"""What rustc left for each function, and how functions are named."""
 
 import os
 import re
 from dataclasses import dataclass, replace
-from typing import Optional
+from functools import partial
+from typing import Callable, Optional
 
 from .destructors import DROP_FUNCTION, destroyed_by
 from .mir import Span, read_body
-from .refusal import Refusal
 
 IMPL_AT = re.compile(r"<impl at (.+?):(\d+):(\d+): (\d+):(\d+)>")
 HEADER = re.compile(r"(?:unsafe\s+)?impl\b")
@@ -46,26 +46,27 @@ class Dump:
             and (span.first, span.column) < (line, column) < (span.last, span.end)
 
 
-def find_dumps(facts: str, mir: str, crate: str, root: str = "") -> list[Dump]:
-    """All functions of one run of rustc, in the order of the source.
+def find_dumps(facts: str, mir: str, crate: str, root: str = "", each: Callable = map) -> list[Dump]:
+    """All functions of one run of rustc, in the order of the source; `each` reads them, side by side if it likes.
 
     rustc names its files relatively to the folder in which it ran, which is `root`.
     """
     folders = sorted(os.listdir(facts)) if os.path.isdir(facts) else []
-    dumps = []
-    destructors: set[str] = set()
-    for folder in folders:
-        mir_path = find_mir(mir, crate, folder)
-        if mir_path is not None:
-            dumps.append(dump_of(os.path.join(facts, folder), mir_path, root))
-            destructors |= destroyed_in(mir_path, root)
-    dumps = [replace(dump, destructors=frozenset(destructors)) for dump in dumps]
+    found = [(os.path.join(facts, folder), path) for folder in folders if (path := find_mir(mir, crate, folder))]
+    read = list(each(partial(read_dump, root=root), found))
+    destructors = frozenset().union(*(destroyed for _, destroyed in read))
+    dumps = [replace(dump, destructors=destructors) for dump, _ in read]
     return sorted(dumps, key=lambda dump: (dump.span or Span("", 0, 0), dump.file_name))
 
 
 def find_mir(mir: str, crate: str, folder: str) -> Optional[str]:
     path = os.path.join(mir, f"{crate}.{folder}.-------.nll.0.mir")
     return path if os.path.isfile(path) else None
+
+
+def read_dump(paths: tuple[str, str], root: str) -> tuple[Dump, set[str]]:
+    """The function of a folder of tables and a MIR dump, and the type that it destroys, if it is a destructor."""
+    return dump_of(*paths, root), destroyed_in(paths[1], root)
 
 
 def dump_of(facts: str, mir_path: str, root: str) -> Dump:
@@ -120,7 +121,7 @@ def type_name(header: str) -> Optional[str]:
     header = header.strip()
     begin = HEADER.match(header)
     if not begin:
-        return f"derive({header})" if re.fullmatch(r"\w+", header) else None
+        return f"derive({header.split('::')[-1]})" if re.fullmatch(r"[\w:]+", header) else None
     flat = without_arguments(header[begin.end():].replace("->", ""))
     subject = flat.split(" where ")[0].split(" for ")[-1]
     words = re.findall(r"\w+", subject)
@@ -136,32 +137,3 @@ def without_arguments(text: str) -> str:
             kept.append(sign)
         depth -= (sign == ">")
     return "".join(kept)
-
-
-def choose(dumps: list[Dump], file: str, wanted: str) -> Dump:
-    """The one function that a name or a line of the file means."""
-    if wanted.isdigit():
-        return choose_at(dumps, file, int(wanted))
-    fitting = [dump for dump in dumps if dump.name == wanted]
-    fitting = fitting or [dump for dump in dumps if dump.name.endswith(f"::{wanted}")]
-    if not fitting:
-        known = ", ".join(dump.name for dump in dumps[:12]) + (", .." if len(dumps) > 12 else "")
-        raise Refusal(f"no function `{wanted}` has facts (one without a body has none, nor one "
-                      f"whose types rustc refuses); these do: {known}")
-    if len(fitting) > 1:
-        places = ", ".join(f"{dump.name} (line {line_of(dump)})" for dump in fitting)
-        raise Refusal(f"`{wanted}` fits several functions: {places}; "
-                      f"give one of these names in full, or the line in place of a name")
-    return fitting[0]
-
-
-def choose_at(dumps: list[Dump], file: str, line: int) -> Dump:
-    """The smallest function round a line."""
-    fitting = [dump for dump in dumps if dump.has((file, line))]
-    if not fitting:
-        raise Refusal(f"no function with facts has line {line} of {file}")
-    return min(fitting, key=lambda dump: dump.span.last - dump.span.first)
-
-
-def line_of(dump: Dump) -> str:
-    return str(dump.span.first) if dump.span else "?"

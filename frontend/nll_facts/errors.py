@@ -1,24 +1,30 @@
 """rustc's errors: which are of its borrow checker, and which function each belongs to."""
 
+from nll_page import kinds
+from nll_page.kinds import LIFETIMES, LOANS
+
 from .dumps import Dump
 from .rustc import Error
 
-LOANS = ("E0499", "E0502", "E0503", "E0505", "E0506", "E0510", "E0515", "E0597", "E0713", "E0716",
-         "E0373", "E0500", "E0501", "E0524")
-LIFETIMES = ("E0521", "E0621")
-NAMELESS = ("lifetime may not live long enough", "captured variable cannot escape `FnMut` closure body")
+__all__ = ["LIFETIMES", "LOANS", "has_answer", "is_judged", "own_errors"]
+
 # At these, what a closure borrows from outside goes away: that is the outer function's.
 FROM_OUTSIDE = ("E0373", "E0597")
 
 
 def is_judged(error: Error) -> bool:
     """Whether it is of a kind that `nllc` and the loans of a text say something of."""
-    return error.code in (*LOANS, *LIFETIMES) or error.message.startswith(NAMELESS)
+    return kinds.is_judged(error.code, error.message)
 
 
 def own_errors(dump: Dump, dumps: list[Dump], errors: list[Error]) -> list[Error]:
-    """The judged errors of a function that aren't those of a closure inside it."""
-    return [error for error in errors if is_judged(error) and is_own(dump, dumps, error)]
+    """The errors of a function that aren't those of a closure inside it."""
+    return [error for error in errors if is_own(dump, dumps, error)]
+
+
+def has_answer(dump: Dump, errors: list[Error]) -> bool:
+    """Whether it is answered unasked: a function, or a constant in which rustc has an error."""
+    return dump.is_function or any(error.places and dump.is_inside(*error.places[0], error.column) for error in errors)
 
 
 def is_own(dump: Dump, dumps: list[Dump], error: Error) -> bool:

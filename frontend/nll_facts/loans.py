@@ -2,10 +2,11 @@
 
 import re
 from dataclasses import dataclass, field
+from functools import cached_property
 from typing import NamedTuple, Optional
 
-from .accesses import accesses
-from .captures import capture_of
+from .accesses import WRITES, Access, accesses
+from .captures import MADE, capture_at, capture_of
 from .destructors import Path, path_to
 from .dumps import Dump
 from .mir import Body, Span
@@ -27,7 +28,8 @@ DROP = re.compile(r"drop\((.*)\) -> \[return: bb(\d+)")
 class Loan:
     """A borrow. `home` is where a temporary is made, or where a closure uses what it borrows.
 
-    A closure borrows uniquely what it writes through a variable that isn't `mut` itself.
+    A closure borrows uniquely what it writes through a variable that isn't `mut` itself, and a variable of which it
+    uses only what is behind it.
     """
 
     region: int
@@ -43,12 +45,19 @@ class Loan:
     killed: list[Location] = field(default_factory=list)
 
 
+class Way(NamedTuple):
+    """How a statement goes against a loan, by which place; of a second phase, where the first one begins."""
+
+    word: str
+    place: Optional[Place] = None
+    begun: Optional[Location] = None
+
+
 class Against(NamedTuple):
-    """A statement that goes against loans, and how; of a second phase, where the first one begins."""
+    """A statement that goes against loans, and how."""
 
     location: Location
-    way: str
-    begun: Optional[Location]
+    way: Way
     span: Optional[Span]
     loans: list[int]
 
@@ -57,7 +66,7 @@ class Loans:
     """All loans of one function."""
 
     def __init__(self, dump: Dump, tables: Tables, body: Body):
-        self.body = body
+        self.dump, self.body = dump, body
         self.destructors = dump.destructors
         self.uses: dict[int, set[Location]] = {}
         for variable, spot in tables.var_used_at:
@@ -84,21 +93,38 @@ class Loans:
         capture = capture_of(dump, self.body, variable, self.uses.get(variable, ()))
         root = self.body.locals.get(place.local)
         home = capture.use if capture else root.span if root and not root.name else None
-        is_unique = capture is not None and kind == "mut" and root is not None \
-            and not root.is_mutable and not ENVIRONMENT.search(root.type)
         path = path_to(text, way.end(), lambda number: self.body.locals[number].type)
-        return Loan(region, location, kind, place, variable, span, path, home, capture is not None,
-                    is_unique)
+        is_unique = capture is not None and kind == "mut" and root is not None \
+            and (not root.is_mutable or capture.is_behind and path.type.startswith("&mut ")) \
+            and not ENVIRONMENT.search(root.type)
+        return Loan(region, location, kind, place, variable, capture.home if capture else span, path, home,
+                    capture is not None, is_unique)
 
+    @cached_property
     def against(self) -> list[Against]:
         """What goes against which loans, in the order of the points."""
-        found: dict[tuple[Location, str, Optional[Location]], list[int]] = {}
+        found: dict[tuple[Location, Way], list[int]] = {}
         for location, number in sorted(self.invalid):
-            way, begun = self.way(location, self.loans[number])
+            way = self.way(location, self.loans[number])
             if way and not self.is_mere_reservation(location, number):
-                found.setdefault((location, way, begun), []).append(number)
-        return [Against(location, way, begun, self.body.statements[location].span, numbers)
-                for (location, way, begun), numbers in found.items()]
+                found.setdefault((location, way), []).append(number)
+        return [Against(location, way, self.span(location, way), numbers)
+                for (location, way), numbers in found.items()]
+
+    def span(self, location: Location, way: Way) -> Optional[Span]:
+        """Where a statement goes against loans: of what a closure takes the closure, of its copies the use in it."""
+        said, made = self.body.statements[location], self.issued.get(location)
+        if made and made.is_capture:
+            return made.span
+        if way.word in ("moves", "reads") and way.place and MADE.search(said.text):
+            capture = capture_at(self.dump.mir, said, way.place)
+            return capture.home if way.word == "moves" else capture.use or said.span
+        return said.span
+
+    def ending(self) -> dict[int, Loan]:
+        """The loans of what goes away while they may be in force."""
+        return {number: self.loans[number] for one in self.against if one.way.word in (*ENDING, "destroys")
+                for number in one.loans}
 
     def is_mere_reservation(self, location: Location, number: int) -> bool:
         """Whether a borrow in two phases begins there, against a loan that may only read.
@@ -119,21 +145,31 @@ class Loans:
         following = self.body.statements.get(Location(int(dropped[2]), 0)) if dropped else None
         return following is not None and following.text.startswith(f"{dropped[1]} = ")
 
-    def way(self, location: Location, loan: Loan) -> tuple[str, Optional[Location]]:
-        """How the statement goes against the loan, if it does, and where a second phase has begun.
+    def way(self, location: Location, loan: Loan) -> Optional[Way]:
+        """How the statement goes against the loan, if it does.
 
         rustc's tables have it that a coroutine which goes on goes against all loans of its
         variables. That is so of those that may be moved meanwhile, which stable Rust doesn't have.
         """
         found = accesses(self.body.statements[location].text)
-        direct = next((one.way for one in found if one.disturbs(loan.kind, loan.place)), None)
+        direct = next((one for one in found if one.disturbs(loan.kind, loan.place)), None)
+        if direct and direct.way == "moves" and loan.kind == "fake":
+            return None     # rustc leaves that to its check of moves
         if direct:
-            return self.more_exactly(direct, location, loan), None
+            return Way(self.more_exactly(direct.way, location, loan), direct.place)
         begun = (self.by_target.get(one.place.local) for one in found if one.place)
-        first = next((one for one in begun if one and overlap(one.place, loan.place)), None)
+        first = next((one for one in begun if one and one is not loan and overlap(one.place, loan.place)), None)
         if first:
-            return "late", first.location
-        return "" if location in self.resumed else "reads", None
+            return Way("late", first.place, first.location)
+        if location in self.resumed:
+            return None
+        union = self.access_of_union(found, loan)
+        return Way(union.way, union.place) if union else Way("reads", loan.place)
+
+    def access_of_union(self, found: list[Access], loan: Loan) -> Optional[Access]:
+        """The access by which a statement goes against a loan of another field of the same union."""
+        return next((one for one in found if one.place and one.place.local == loan.place.local
+                     and (one.way in WRITES or loan.kind == "mut")), None)
 
     def more_exactly(self, way: str, location: Location, loan: Loan) -> str:
         if way == "drops" and self.is_replaced(location):

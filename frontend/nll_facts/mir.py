@@ -5,11 +5,12 @@ that the problem itself needs is in the fact tables, save which terminators leav
 """
 
 import re
+from collections import deque
 from dataclasses import dataclass, field
 from functools import lru_cache
 from typing import Iterator, NamedTuple, Optional
 
-from .places import closing
+from .places import Place, closing, read_place
 from .refusal import Refusal
 from .tables import Location
 
@@ -20,13 +21,17 @@ CODE = re.compile(r"(?P<indent> +)(?P<code>\S.*?)\s+// (?:\S+ )*?in scope \d+ at
                   r"|        (?P<statement>\S.*);\s+// (?:bb\S+ )?scope \d+ at (?P<where>.*)")
 LET = re.compile(r"let (mut )?_(\d+): (.*?)(?: as UserTypeProjection .*)?;")
 DEBUG = re.compile(r"debug (\S+) => _(\d+);")
+CAPTURED = re.compile(r"debug (\S+) => (\(.*\));")
 BLOCK = re.compile(r"    bb(\d+)(?: \(cleanup\))?: \{")
 STATEMENT = re.compile(r" {8}[^\s/]")
 PARAMETER = re.compile(r"(?:^|, )_(\d+): ")
 REASON = re.compile(r"\| '\?(\d+): '\?(\d+) due to (\w+)(.*) at "
-                    r"(?:All\(.*\)|Single\(bb(\d+)\[(\d+)\]\)) \((.*) \(#\d+\)")
+                    r"(?:All\(.*\)|Single\(bb(\d+)\[(\d+)\]\)) \((.*) \(#(\d+)\)")
+LIVE = re.compile(r"\| '\?(\d+) live at \{(.*)\}")
+RUN = re.compile(r"bb(\d+)\[(\d+)(?:\.\.=(\d+))?\]")
 NEED = re.compile(r"\| where '\?(\d+): '\?(\d+)$")
 EXTERNAL = re.compile(r"\| '\?(\d+) \| External \|")
+EDGE = re.compile(r"    r(\d+) -> r(\d+)\[")
 NAME = re.compile(r"    r(\d+)\[label=\"\\'\?\d+ \(\\'([A-Za-z0-9_]+)\)\"\]")
 
 
@@ -43,7 +48,7 @@ class Span(NamedTuple):
 class Reason(NamedTuple):
     """A constraint as rustc prints it: its category with what stands behind, and where it arises.
 
-    Without a location it holds everywhere.
+    Without a location it holds everywhere. What a macro or the language itself puts there is expanded.
     """
 
     sup: int
@@ -52,6 +57,7 @@ class Reason(NamedTuple):
     detail: str
     location: Optional[Location]
     span: Optional[Span]
+    is_expanded: bool = False
 
 
 class Statement(NamedTuple):
@@ -83,6 +89,15 @@ class Body:
     external: set[int] = field(default_factory=set)
     reasons: list[Reason] = field(default_factory=list)
     needs: list[tuple[int, int]] = field(default_factory=list)
+    live: dict[int, set[Location]] = field(default_factory=dict)
+    captured: dict[Place, str] = field(default_factory=dict)
+
+    def name_of(self, place: Place) -> Optional[str]:
+        """The name of the variable of which a place is a part; in a closure, of what it has captured, too."""
+        root = self.locals.get(place.local)
+        names = (name for captured, name in self.captured.items()
+                 if captured.local == place.local and captured.steps == place.steps[:len(captured.steps)])
+        return root.name if root and root.name else next(names, None)
 
     def spans(self) -> Iterator[Span]:
         """The places in the source that the dump names."""
@@ -93,7 +108,7 @@ class Body:
 
 @lru_cache(128)  # a function's is asked for its name, for its problem, and by closures around it
 def read_body(mir_path: str) -> Body:
-    """The body of a `.mir` file; the names come from the graph of regions that stands beside it."""
+    """The body of a `.mir` file; names and the order of constraints come from the graph of regions beside it."""
     lines = read_lines(mir_path)
     title = TITLE.fullmatch(lines[0]) if lines else None
     if not title:
@@ -101,12 +116,25 @@ def read_body(mir_path: str) -> Body:
     body = Body(path=title[1])
     body.external = {int(found[1]) for found in map(EXTERNAL.match, lines) if found}
     body.reasons = list(filter(None, map(reason_of, lines)))
+    body.live = {int(found[1]): set(locations(found[2])) for found in map(LIVE.fullmatch, lines) if found}
     body.needs = [(int(found[1]), int(found[2])) for found in map(NEED.match, lines) if found]
     begin = next((i for i, line in enumerate(lines[1:], 1) if line and line[0] not in "/|"), 1)
     read_header(body, lines[begin])
     read_code(body, lines[begin + 1:])
-    body.names = read_names(mir_path.removesuffix(".mir") + ".regioncx.all.dot")
+    graph = read_lines(mir_path.removesuffix(".mir") + ".regioncx.all.dot")
+    body.names = {int(found[1]): found[2] for found in map(NAME.match, graph) if found}
+    body.reasons = in_order(body.reasons, [(int(found[1]), int(found[2]))
+                                           for found in map(EDGE.match, graph) if found])
     return body
+
+
+def in_order(reasons: list[Reason], edges: list[tuple[int, int]]) -> list[Reason]:
+    """The constraints in the order in which rustc made them, which the graph has; the dump has them by regions."""
+    by_pair: dict[tuple[int, int], deque[Reason]] = {}
+    for reason in reasons:
+        by_pair.setdefault((reason.sup, reason.sub), deque()).append(reason)
+    found = [by_pair[pair].popleft() for pair in edges if by_pair.get(pair)]
+    return [*found, *(reason for left in by_pair.values() for reason in left)]
 
 
 def reason_of(line: str) -> Optional[Reason]:
@@ -114,7 +142,15 @@ def reason_of(line: str) -> Optional[Reason]:
     if not found:
         return None
     location = Location(int(found[5]), int(found[6])) if found[5] else None
-    return Reason(int(found[1]), int(found[2]), found[3], found[4], location, span_of(found[7]))
+    return Reason(int(found[1]), int(found[2]), found[3], found[4], location, span_of(found[7]),
+                  found[8] != "0")
+
+
+def locations(text: str) -> Iterator[Location]:
+    """What `bb0[1..=2], bb1[0]` says."""
+    for run in RUN.finditer(text):
+        for index in range(int(run[2]), int(run[3] or run[2]) + 1):
+            yield Location(int(run[1]), index)
 
 
 def read_lines(path: str) -> list[str]:
@@ -164,7 +200,7 @@ def read_code(body: Body, lines: list[str]) -> None:
 def read_declaration(body: Body, code: str, span: Optional[Span]) -> None:
     """Takes `let mut _3: T;` and `debug x => _3;`, whose span is where a parameter is declared.
 
-    That of `mut x` is longer than the name.
+    That of `mut x` is longer than the name; that of `&mut self` is, too.
     """
     if found := LET.fullmatch(code):
         known = body.locals.get(int(found[2]))
@@ -174,7 +210,11 @@ def read_declaration(body: Body, code: str, span: Optional[Span]) -> None:
         local = body.locals.setdefault(int(found[2]), Local(""))
         local.name = local.name or found[1]
         local.span = local.span or span
-        local.is_mutable |= span is not None and span.end - span.column > len(found[1])
+        length = span.end - span.column if span else 0
+        local.is_mutable |= length == len("mut self") if found[1] == "self" else length > len(found[1])
+    elif found := CAPTURED.fullmatch(code):
+        if place := read_place(found[2]):
+            body.captured.setdefault(place[0], found[1].replace("__", "."))
 
 
 def span_of(text: str) -> Optional[Span]:
@@ -182,9 +222,3 @@ def span_of(text: str) -> Optional[Span]:
     if not found:
         return None
     return Span(found["file"], *(int(found[part]) for part in ("line", "last", "column", "end")))
-
-
-def read_names(dot_path: str) -> dict[int, str]:
-    """The names that regions have in the signature, without the `'`."""
-    return {int(found[1]): found[2]
-            for found in map(NAME.match, read_lines(dot_path)) if found}

@@ -8,10 +8,18 @@ FIELD = re.compile(r"\.(\d+): | as (\w+)\)")
 
 
 class Place(NamedTuple):
-    """A variable, and the steps from it: `*`, the number of a field, `as V`, `[]`."""
+    """A variable, the steps from it (`*`, the number of a field, `as V`, `[]`), whether a field's type has lifetimes.
+
+    Such a place is to rustc another one wherever it is written.
+    """
 
     local: int
     steps: tuple[str, ...] = ()
+    has_lifetimes: bool = False
+
+    def onward(self, step: str, kind: str = "") -> "Place":
+        """The place one step on, to a field of this type."""
+        return Place(self.local, (*self.steps, step), self.has_lifetimes or "&" in kind or "'" in kind)
 
 
 def closing(text: str, begin: int) -> int:
@@ -31,7 +39,7 @@ def read_place(text: str, at: int = 0) -> Optional[tuple[Place, int]]:
         return None
     place, end = found
     while text.startswith("[", end) and "]" in text[end:]:
-        place = Place(place.local, (*place.steps, "[]"))
+        place = place.onward("[]")
         end = text.index("]", end) + 1
     return place, end
 
@@ -51,8 +59,10 @@ def read_inner(text: str, at: int) -> Optional[tuple[Place, int]]:
     step = FIELD.match(text, end)
     if not is_deref and not step:
         return None
-    name = "*" if is_deref else step[1] or f"as {step[2]}"
-    return Place(place.local, (*place.steps, name)), closing(text, at) + 1
+    last = closing(text, at)
+    if is_deref:
+        return place.onward("*"), last + 1
+    return place.onward(step[1] or f"as {step[2]}", text[step.end():last] if step[1] else ""), last + 1
 
 
 def overlap(one: Place, other: Place) -> bool:

@@ -1,9 +1,5 @@
-"""What the tool says where it can't go on."""
+"""What the tool says where it can't go on: one line for a person that says what to do, and the status."""
 
+from nll_page.refusal import Refusal
 
-class Refusal(Exception):
-    """One line for a person that says what to do, and the status with which the program ends."""
-
-    def __init__(self, line: str, status: int = 2):
-        super().__init__(line)
-        self.status = status
+__all__ = ["Refusal"]

@@ -1,29 +1,39 @@
-"""The one command from a Rust file to its pages: a text, `nllc`'s answer and a page of each."""
+"""The one command from a Rust file, or a Cargo project, to its pages: a text, `nllc`'s answer and a page of each."""
 
 import argparse
 import os
+import re
 import sys
+import tempfile
 import webbrowser
-from concurrent.futures import ProcessPoolExecutor
+from contextlib import contextmanager
 from dataclasses import dataclass, field
 from functools import partial
-from typing import Any, Sequence
+from typing import Any, Iterable, Iterator, Sequence
 
+from nll_page import nllc
+from nll_page.called import OF_CARGO, Parser
 from nll_page.command import answered
 from nll_page.folder import write_index
-from nll_page.refusal import Refusal as Unanswered
+from nll_page.streams import guarded
 from nll_page.words import plural
 
-from .answers import make_ready
-from .command import (FOLDER, Checked, folder_of, guarded, problems_of_file, show, split_words,
-                      tell_unanswered, write_all)
-from .convert import Problem
-from .errors import is_judged
-from .jobs import leave_signals
+from . import diagnostics
+from .command import (add_words, check, folder_of, make_ready, problem_of, refuse_nothing, show, split_words, take_input,
+                      tell_unanswered, without_functions)
+from .functions import Checked, Function
 from .progress import Bar, Progress
+from .refusal import Refusal
 from .rustc import Error, version
+from .text import facts_text, write_whole
+from .workers import side_by_side
 
 MOST_NAMES = 20
+INNER = re.compile(r"::\{(?:closure|constant)#")
+UNJUDGED = dict.fromkeys(("E0309", "E0310", "E0311"), "how long a type parameter lives")
+OTHERS = "another reason than loans and lifetimes"
+REFUSED = 4     # the status where there is no fault, and rustc refuses all the same
+MOST_PAGES = 200
 
 
 @dataclass(frozen=True)
@@ -35,153 +45,224 @@ class Answer:
     said: dict[str, Any] = field(default_factory=dict)
 
     def count(self) -> int:
-        return self.said.get("faults", 0) + self.said.get("loans", 0)
+        return self.said.get("faults", 0) + self.said.get("loans", 0) + self.said.get("moves", 0)
 
 
 def main(words: Sequence[str]) -> int:
     """Does what the words say; the statuses are those of `nllc`."""
-    return guarded("nllc.sh rust", lambda: answer_file(read_words(words)))
+    return guarded("rust", lambda: answer_all(read_words(words)))
 
 
-def read_words(words: Sequence[str]) -> argparse.Namespace:
+def main_of_cargo(words: Sequence[str]) -> int:
+    """The same of `cargo nllc`, for the project of the current folder."""
+    return guarded(OF_CARGO, lambda: answer_all(read_words(words, is_of_cargo=True)))
+
+
+def read_words(words: Sequence[str], is_of_cargo: bool = False) -> argparse.Namespace:
     own, options = split_words(words)
-    parser = argparse.ArgumentParser(
-        prog="nllc.sh rust", usage="nllc.sh rust FILE.rs [FUNCTION] [-o FOLDER] [--explain] [--all-points] [--open] "
-        "[--edition E] [-- OPTIONS OF RUSTC]",
-        description="Says why the borrow checker refuses the functions of a Rust file: lifetimes that "
-        "would have to outlive others, and loans that something goes against while they are in force. "
-        "Makes a facts text and a page of each function. Status 0: no fault; 1: faults; 2: refused, "
-        "all or in part; 3: failed.")
-    parser.add_argument("file", metavar="FILE.rs")
-    parser.add_argument("function", metavar="FUNCTION", nargs="?",
-                        help="this one alone: its name (pick, module::pick, Type::pick) or a line")
-    parser.add_argument("-o", dest="out", metavar="FOLDER",
-                        help=f"where texts and pages go; without it {FOLDER}/NAME")
+    program, path = (OF_CARGO, "") if is_of_cargo else ("rust", "FILE.rs|FOLDER ")
+    edition = "" if is_of_cargo else "[--edition E] "
+    parser = Parser(
+        program, usage=f"{path}[FUNCTION ..] [-o FOLDER] [-p PACKAGE] {edition}"
+        "[--explain] [--all-points] [--from-mir] [--all-pages] [--open] "
+        "[--message-format human|json] [-- OPTIONS]", formatter_class=argparse.HelpFormatter,
+        about="Says why the borrow checker refuses the functions of a Rust file, or of a Cargo project: "
+        "lifetimes that would have to outlive others, and loans that something conflicts with while they are "
+        "live. Makes a facts text and a page of each function. OPTIONS are those of rustc, or of cargo check. "
+        "Status 0: no fault, and rustc takes it all; 1: faults; 2: refused, all or in part; 3: failed; 4: no "
+        "fault, and rustc refuses it all the same, for what nothing here judges or where nllc and rustc differ.")
+    add_words(parser, "where texts and pages go", is_of_cargo)
     parser.add_argument("--explain", action="store_true",
                         help="what rustc says, and how each fault comes about, step by step")
     parser.add_argument("--all-points", dest="everywhere", action="store_true",
-                        help="beside each answer the one where every constraint holds at all points, as "
-                             "rustc's own solver takes them; the status is that of the first")
+                        help="also answer with every constraint at all points, as rustc's own solver "
+                             "takes them; the status is that of the answer without")
+    parser.add_argument("--from-mir", dest="from_mir", action="store_true",
+                        help="by MIR texts and nllc's own rules in place of rustc's constraints")
+    parser.add_argument("--all-pages", action="store_true",
+                        help=f"a page of each function; of more than {MOST_PAGES:,} functions without it those of "
+                             "which something is told")
     parser.add_argument("--open", action="store_true", help="open the page in the browser")
-    parser.add_argument("--edition", default="2021", help="of the language; 2021")
+    parser.add_argument("--message-format", dest="format", choices=("human", "json"), default="human",
+                        help="json: faults as rustc's own JSON, a line each, and what else rustc says; no pages")
     asked = parser.parse_args(own)
     asked.options = options
+    take_input(asked)
     return asked
 
 
-def answer_file(asked: argparse.Namespace) -> int:
-    checked = problems_of_file(asked.file, asked.function, asked.edition, asked.options)
-    if asked.explain:
-        show(checked.errors)
-    paths = write_all(folder_of(asked), checked.problems)
-    make_ready()
-    answers = answer_all(paths, asked.explain, asked.everywhere)
+def answer_all(asked: argparse.Namespace) -> int:
+    with tempfile.TemporaryDirectory(prefix="nll-facts.") as room:
+        return answer_in_json(asked, room) if asked.format == "json" else answer_for_people(asked, room)
+
+
+def answer_for_people(asked: argparse.Namespace, room: str) -> int:
+    folder = folder_of(asked)
+    checked = check(asked, room, folder)
+    refuse_nothing(asked.path, checked)
+    make_ready(folder)
+    has_page = asked.all_pages or len(checked.functions) <= MOST_PAGES
+    with mir_texts(asked, folder) as by_mir:
+        answers = answers_of(asked, checked.functions, has_page, by_mir)
     tell_all(checked, answers)
-    status = tell_unanswered(asked.file, checked.unanswered)
-    made = [os.path.basename(answer.said.get("page", "")) for answer in answers]
-    index = write_index(os.path.dirname(paths[0]), None if asked.function else made)
-    print(f"pages: {index}")
-    if asked.open:
-        page = answers[0].said.get("page") if len(answers) == 1 else index
-        webbrowser.open(f"file://{os.path.abspath(page or index)}")
-    return max(status, *(answer.status for answer in answers))
+    if asked.explain:
+        sys.stdout.flush()
+        show(checked.errors)
+    status = tell_unanswered(asked.path, checked.unanswered)
+    tell_pages(asked, folder, [answer.said["page"] for answer in answers if answer.said.get("page")])
+    return status_of(checked, answers, status)
 
 
-def answer_all(paths: list[str], in_full: bool, everywhere: bool = False) -> list[Answer]:
-    """Has all texts answered, side by side, with a bar where somebody looks."""
-    if len(paths) == 1:
-        return [answer_text(paths[0], in_full, everywhere)]
-    bar = Bar(len(paths))
+def answer_in_json(asked: argparse.Namespace, room: str) -> int:
+    """Lines for programs on standard output, and nothing else there; texts and pages are left with `-o` alone."""
+    folder = asked.out or os.path.join(room, "texts")
+    checked = check(asked, room, folder, is_for_people=False)
+    make_ready(folder)
+    with mir_texts(asked, folder) as by_mir:
+        answers = answers_of(asked, checked.functions, asked.all_pages and asked.out is not None, by_mir)
+    for line in diagnostics.lines(checked, [answer.said for answer in answers]):
+        print(line)
+    if not checked.functions:
+        raise without_functions(asked.path, checked)
+    for function, answer in zip(checked.functions, answers):
+        if answer.failure:
+            print(f"{function.name}: no answer: {answer.failure}", file=sys.stderr)
+    return status_of(checked, answers, 2 if checked.unanswered else 0)
+
+
+@contextmanager
+def mir_texts(asked: argparse.Namespace, folder: str) -> Iterator[dict[str, Any]]:
+    """By the paths of facts texts the MIR texts of functions, where these are to be answered."""
+    if not asked.from_mir:
+        yield {}
+        return
+    from nll_mir.command import texts_by_path   # which stands on this package
+    with tempfile.TemporaryDirectory(prefix="nll-mir.") as room:
+        yield texts_by_path(asked, room, folder)
+
+
+def status_of(checked: Checked, answers: list[Answer], status: int) -> int:
+    return worst([status, REFUSED if checked.errors else 0, *(answer.status for answer in answers)])
+
+
+def worst(statuses: Iterable[int]) -> int:
+    """The status of several: what failed comes before what is refused, that before faults."""
+    return max(statuses, key=(0, REFUSED, 1, 2, 3).index)
+
+
+def answers_of(asked: argparse.Namespace, functions: list[Function], has_page: bool,
+               by_mir: dict[str, Any]) -> list[Answer]:
+    """Has all functions answered, side by side, with a bar where somebody looks."""
+    find_program()
+    work = partial(answer_one, in_full=asked.explain, everywhere=asked.everywhere, has_page=has_page)
+    bar = Bar(len(functions))
     answers = []
-    with ProcessPoolExecutor(initializer=keep_silent) as pool, Progress(bar.words):
-        for answer in pool.map(partial(answer_text, in_full=in_full, everywhere=everywhere), paths):
+    with Progress(bar.words):
+        for answer in side_by_side(work, [(one, by_mir.get(one.path)) for one in functions], few=1):
             answers.append(answer)
             bar.step(answer.count())
     return answers
 
 
-def keep_silent() -> None:
-    """Leaves signals and the terminal to the first process."""
-    leave_signals()
-    sys.stderr = open(os.devnull, "w", encoding="utf-8")
+def find_program() -> None:
+    """Finds the program once, for all functions."""
+    nllc.program_of(nllc.find())
 
 
-def answer_text(path: str, in_full: bool, everywhere: bool = False) -> Answer:
-    """Has `nllc` answer a text and its page made, and what is to be told of the function."""
+def answer_one(one: tuple[Function, Any], in_full: bool, everywhere: bool, has_page: bool) -> Answer:
+    """Writes a function's text, has `nllc` answer it and its page made, and what is to be told of it.
+
+    A function with a MIR text has the problem of that one.
+    """
+    function, made = one
     try:
-        said = answered(path, in_full, everywhere)
-    except Unanswered as refusal:
+        problem = problem_of(function)
+        if made:
+            from nll_mir.answers import problem_by_rules    # which stands on this package
+            problem = problem_by_rules(made, problem)
+        text = facts_text(problem)
+        write_whole(function.path, text)
+        said = answered(function.path, text.encode(), in_full, everywhere, has_page)
+    except Refusal as refusal:
         return Answer(refusal.status, str(refusal))
-    return Answer(1 if said["faults"] or said["loans"] else 0, said=said)
+    return Answer(1 if said["faults"] or said["loans"] or said["moves"] else 0, said=said)
+
+
+def tell_pages(asked: argparse.Namespace, folder: str, pages: list[str]) -> None:
+    """Writes the index of the pages, and says where it is; without a page none."""
+    if not pages:
+        return
+    index = write_index(folder, [os.path.basename(page) for page in pages] if not asked.functions else None)
+    print(f"pages: {index}")
+    if asked.open:
+        webbrowser.open(f"file://{os.path.abspath(pages[0] if len(pages) == 1 else index)}")
 
 
 def tell_all(checked: Checked, answers: list[Answer]) -> None:
     """The lines of all functions that have any, the names of the others, and what else rustc refuses."""
-    places = {tuple(place) for answer in answers for place in answer.said.get("places", ())}
-    places |= {(place[0], code) for answer in answers
-               for place, code in zip(answer.said.get("places", ()), answer.said.get("codes", ()))
-               if not is_named(checked.errors, *place)}
+    places = {(answer.said["source"], *place) for answer in answers for place in answer.said.get("places", ())}
     silent, loud, shown = [], set(), set()
-    for (dump, problem), answer in zip(checked.problems, answers):
-        lines = [answer.failure] if answer.failure else told(problem, answer.said, places,
-                                                                   checked.errors, shown)
+    for function, answer in zip(checked.functions, answers):
+        lines = [answer.failure] if answer.failure else told(answer.said, places, checked.errors, shown)
         if lines:
-            print(f"{answer.said.get('name', problem.function)}: "
+            print(f"{answer.said.get('name', function.name)}: "
                   f"{'no answer' if answer.failure else verdict(answer.said)}")
-            loud.add(outermost(problem.function))
+            loud.add(outermost(function.name))
         else:
-            silent.append((dump.is_closure, problem.function, answer.said["name"]))
+            silent.append((function.dump.is_closure, function.name, answer.said["name"]))
         for line in lines:
             print(f"  {line}")
     tell_silent([(is_closure, name) for is_closure, function, name in silent if function not in loud])
+    told_of = {(answer.said["source"], *error) for answer in answers for error in answer.said.get("errors", ())}
     for error in checked.errors:
-        if error.places and not is_judged(error):
-            print(f"{error.places[0][0]}:{error.line}:{error.column}: {version()}: {error.words()}\n"
-                  f"    (an error of another kind, of which nothing is said here)")
+        if error.places and (error.path, error.line, error.column, " ".join(error.words().split())) not in told_of:
+            print(f"{error.path}:{error.line}:{error.column}: {version()}: {error.words()}\n"
+                  f"    of what is no function, so that it has no answer here")
 
 
 def outermost(function: str) -> str:
-    """The function in which a closure stands."""
-    return function.split("::{closure#")[0]
+    """The function in which a closure or a constant stands."""
+    return INNER.split(function)[0]
 
 
 def tell_silent(silent: list[tuple[bool, str]]) -> None:
     """The functions of which nothing is told; closures only where there is nothing else."""
-    names = [name for is_closure, name in silent if not is_closure] or [name for _, name in silent]
+    names = list(dict.fromkeys([name for is_closure, name in silent if not is_closure] or [name for _, name in silent]))
     if names:
         more = f" and {len(names) - MOST_NAMES} more" if len(names) > MOST_NAMES else ""
         print(f"no fault: {', '.join(names[:MOST_NAMES])}{more}")
 
 
 def verdict(said: dict[str, Any]) -> str:
-    counts = [plural(said[kind], noun) for kind, noun in (("faults", "fault"), ("loans", "loan error"))
+    counts = [plural(said[kind], noun) for kind, noun in (("faults", "fault"), ("loans", "loan error"), ("moves", "move error"))
               if said[kind]]
-    return ", ".join(counts) or "no fault"
+    return ", ".join(counts) or ("refused by rustc" if said["refused"] else "no fault")
 
 
-def told(problem: Problem, said: dict[str, Any], places: set[tuple],
-         errors: list[Error], shown: set[tuple]) -> list[str]:
+def told(said: dict[str, Any], places: set[tuple], errors: list[Error], shown: set[tuple]) -> list[str]:
     """A function's lines; `places` are those of all functions' faults, the errors are rustc's.
 
-    Of a fault whose column rustc doesn't name `places` has the line and the code.
     An error of rustc that is of a closure and of the function around it is shown once.
     """
-    lines = [*said["lines"], *said["explained"], *said["everywhere"]]
+    lines, source = [*said["lines"], *said["explained"], *said["everywhere"]], said["source"]
     if said["asked_to_explain"]:
         lines += [f"needs of the function around it that {need}" for need in said["needs"]]
     for line, column, words, why in said["differences"]:
-        is_told = not places.isdisjoint({(line, column), (line, words.split(":")[0])})
-        if not is_told and (line, column, words) not in shown:
-            shown.add((line, column, words))
-            lines += [f"{problem.source}:{line}:{column}: {version()}: {words}; nllc: no fault there",
+        if (source, line, column) not in places and (source, line, column, words) not in shown:
+            shown.add((source, line, column, words))
+            lines += [f"{source}:{line}:{column}: {version()}: {words}; nllc: no fault there",
                       f"    {why}"]
-    for (line, column), code in zip(said["places"], said["codes"]):
-        if not is_named(errors, line, column) and not any(
-                code and (error.line, error.code) == (line, code) for error in errors):
-            lines.append(f"{problem.source}:{line}:{column}: {version()} names no error there")
+    for line, column, words in said["refused"]:
+        if (source, line, column, words) not in shown:
+            shown.add((source, line, column, words))
+            lines += [f"{source}:{line}:{column}: {version()}: {words}",
+                      f"    rustc refuses this for {UNJUDGED.get(words[:5], OTHERS)}, which nothing here judges"]
+    for line, column in said["unnamed"]:
+        if not is_named(errors, source, line, column):
+            lines.append(f"{source}:{line}:{column}: {version()} names no error there")
     return lines
 
 
-def is_named(errors: list[Error], line: int, column: int) -> bool:
+def is_named(errors: list[Error], source: str, line: int, column: int) -> bool:
     """Whether rustc names an error there; of a place of which the line alone is known, on the line."""
-    return any(error.line == line and column in (0, error.column) for error in errors)
+    return any((error.path, error.line) == (source, line) and column in (0, error.column) for error in errors)

@@ -5,30 +5,57 @@ import os
 import re
 import shutil
 import subprocess
-from concurrent.futures import ThreadPoolExecutor
 from dataclasses import dataclass, field
 from functools import cache
+from typing import NamedTuple
+
+from nll_page.called import called
 
 from .refusal import Refusal
 
 CRATE = "input"
+COLOUR = re.compile(r"\x1b\[[0-9;]*m")
 NO_RUSTC = ("there is no rustc: install one (https://rustup.rs), "
             "or name it by the variable RUSTC")
 TEXTS = {b"nll-facts": "facts", b"nll-mir": "MIR"}
+VARIANCE = re.compile(r"requirement occurs because of|invariant over")
+SEE = re.compile(r"see <")
 # `-Zpolonius=next`: without it rustc leaves out which regions the drop of a variable uses
 # whose regions all outlive a named lifetime; it takes those regions to hold everywhere.
 FLAGS = ("-Znll-facts", "-Zdump-mir=nll", "-Zpolonius=next")
 
 
+class Label(NamedTuple):
+    """A place that an error names, and what it says of it."""
+
+    file: str
+    line: int
+    column: int
+    last: int
+    end: int
+    text: str
+
+
 @dataclass(frozen=True)
 class Error:
-    """An error of rustc: as it would print it, and the files and lines that it is about."""
+    """An error of rustc: as it would print it, and the files and lines that it is about.
+
+    rustc names its files relatively to the folder in which it ran, which is `root`.
+    """
 
     rendered: str
     places: list[tuple[str, int]]
     column: int = 0
     code: str = ""
     message: str = ""
+    labels: list[Label] = field(default_factory=list)
+    notes: list[str] = field(default_factory=list)
+    helps: list[str] = field(default_factory=list)
+    root: str = ""
+
+    @property
+    def path(self) -> str:
+        return os.path.join(self.root, self.places[0][0]) if self.places else ""
 
     @property
     def line(self) -> int:
@@ -38,18 +65,10 @@ class Error:
         return f"{self.code}: {self.message}" if self.code else self.message
 
 
-@dataclass
-class Run:
-    """What a run of rustc left: the folders of facts and MIR, and its errors."""
-
-    facts: str
-    mir: str
-    errors: list[Error] = field(default_factory=list)
-
-
 def flags(folder: str) -> list[str]:
     """The flags by which rustc leaves `facts/` and `mir/` in a folder."""
-    return [*FLAGS, f"-Znll-facts-dir={os.path.join(folder, 'facts')}",
+    more = os.environ.get("NLL_FACTS_FLAGS", "").split()     # those of MIR texts (nll_mir)
+    return [*FLAGS, *more, f"-Znll-facts-dir={os.path.join(folder, 'facts')}",
             f"-Zdump-mir-dir={os.path.join(folder, 'mir')}"]
 
 
@@ -59,29 +78,6 @@ def find_rustc() -> str:
     if not found:
         raise Refusal(NO_RUSTC)
     return found
-
-
-def run_rustc(file: str, folder: str, options: list[str], in_colour: bool = False) -> Run:
-    """Checks a file as a library; facts, MIR and what else rustc makes go to the folder.
-
-    The errors are those of rustc as it is; a second run beside it, by another borrow checker,
-    leaves facts and MIR.
-    """
-    refuse_others(file)
-    form = ["--json=diagnostic-rendered-ansi"] if in_colour else []
-    words = [find_rustc(), "--crate-type=lib", f"--crate-name={CRATE}", "--cap-lints=allow",
-             "--error-format=json", *form, "--emit=metadata"]
-    plain = [*words, f"--out-dir={os.path.join(folder, 'plain')}", *options, file]
-    leaving = [*words, f"--out-dir={folder}", *flags(folder), *options, file]
-    with ThreadPoolExecutor(2) as pool:
-        said, left = pool.map(checked, (plain, leaving))
-    run = Run(os.path.join(folder, "facts"), os.path.join(folder, "mir"))
-    errors_left = errors_in(left.stderr)
-    run.errors = errors_in(said.stderr)
-    judge(left.returncode, errors_left, words[0])
-    if not os.path.isdir(run.facts):
-        run.errors = run.errors or errors_left
-    return run
 
 
 def refuse_others(file: str) -> None:
@@ -95,21 +91,14 @@ def refuse_others(file: str) -> None:
         raise Refusal(f"{file} can't be read: {error.strerror}") from None
     kind = TEXTS.get(b" ".join(begin[:1]))
     if kind:
-        raise Refusal(f"{file} is a {kind} text, not a Rust file: `./nllc.sh check {file}` answers it, "
-                      f"`./nllc.sh page {file}` makes a page of it")
+        raise Refusal(f"{file} is a {kind} text, not a Rust file: `{called('check', file)}` answers it, "
+                      f"`{called('page', file)}` makes a page of it")
 
 
-def checked(words: list[str]) -> subprocess.CompletedProcess:
-    try:
-        return subprocess.run(words, stdin=subprocess.DEVNULL, capture_output=True, check=False,
-                              env=os.environ | {"RUSTC_BOOTSTRAP": "1"})
-    except OSError as error:
-        raise Refusal(f"{words[0]} can't be run: {error.strerror}; {NO_RUSTC}") from None
-
-
-def errors_in(stderr: bytes) -> list[Error]:
+def errors_in(stderr: bytes, root: str = "") -> list[Error]:
+    """The errors of a run of rustc in the folder that is the root."""
     return [error for line in stderr.decode(errors="replace").splitlines()
-            for error in read_error(line)]
+            for error in read_error(line, root)]
 
 
 @cache
@@ -120,7 +109,7 @@ def version() -> str:
     return " ".join(done.stdout.split()[:2]) or "rustc"
 
 
-def read_error(line: str) -> list[Error]:
+def read_error(line: str, root: str = "") -> list[Error]:
     """The error that a line of rustc's JSON tells; what isn't JSON it tells before it has begun."""
     try:
         said = json.loads(line)
@@ -128,16 +117,57 @@ def read_error(line: str) -> list[Error]:
         return [Error(line + "\n", [])]
     if said.get("level") != "error" or not said.get("rendered"):
         return []
-    spans = [at_home(span) for span in said.get("spans", ()) if span.get("is_primary")]
+    return [error_of(said, root)]
+
+
+def without_colours(text: str) -> str:
+    return COLOUR.sub("", text)
+
+
+def error_of(said: dict, root: str) -> Error:
+    """The error of a diagnostic, of whichever level that is."""
+    spans = [at_home(span, root) for span in said.get("spans", ()) if span.get("is_primary")]
     places = [(span["file_name"], span["line_start"]) for span in spans]
     column = spans[0]["column_start"] if spans else 0
     code = (said.get("code") or {}).get("code", "")
-    return [Error(said["rendered"], places, column, code, said.get("message", ""))]
+    labels = [label_of(span, root) for span in said.get("spans", ())]
+    below = said.get("children", ())
+    notes = [child["message"] for child in below if child["level"] == "note" and VARIANCE.search(child["message"])]
+    helps = [help_of(child) for child in below if child["level"] == "help" and not SEE.match(child["message"])]
+    return Error(said["rendered"], places, column, code, said.get("message", ""), labels, notes, helps, root)
 
 
-def at_home(span: dict) -> dict:
-    """The place in the user's own files: of what a macro of the standard library made, the macro's use."""
-    while span.get("expansion") and not os.path.isfile(span["file_name"]):
+def help_of(child: dict) -> str:
+    """What rustc advises, with the code that it proposes: the lines of the source as it would change them."""
+    lines: dict[int, list[dict]] = {}
+    for span in child["spans"]:
+        if span["suggested_replacement"] is not None and span["text"] and span["line_start"] == span["line_end"]:
+            lines.setdefault(span["line_start"], []).append(span)
+    code = [changed(spans) for _, spans in sorted(lines.items())]
+    return f"{child['message']}: `{' .. '.join(code)}`" if code else child["message"]
+
+
+def changed(spans: list[dict]) -> str:
+    """A line of the source with the replacements of these places."""
+    line = spans[0]["text"][0]["text"]
+    for span in sorted(spans, key=lambda one: -one["column_start"]):
+        line = line[:span["column_start"] - 1] + span["suggested_replacement"] + line[span["column_end"] - 1:]
+    return " ".join(line.split())
+
+
+def label_of(span: dict, root: str) -> Label:
+    home = at_home(span, root)
+    return Label(home["file_name"], home["line_start"], home["column_start"], home["line_end"],
+                 home["column_end"], span.get("label") or "")
+
+
+def at_home(span: dict, root: str) -> dict:
+    """The place in the user's own files: of what a macro of another file made, the macro's use."""
+    outermost = span
+    while outermost.get("expansion"):
+        outermost = outermost["expansion"]["span"]
+    while span.get("expansion") and (span["file_name"] != outermost["file_name"]
+                                     or not os.path.isfile(os.path.join(root, span["file_name"]))):
         span = span["expansion"]["span"]
     return span
 

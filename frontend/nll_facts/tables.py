@@ -69,6 +69,7 @@ class Tables:
     child_path: list[tuple[int, int]]
     path_assigned_at_base: list[tuple[int, Spot]]
     path_moved_at_base: list[tuple[int, Spot]]
+    path_accessed_at_base: list[tuple[int, Spot]]
 
 
 def read_tables(folder: str) -> Tables:
@@ -105,6 +106,7 @@ class Reader:
             child_path=self.pairs("child_path", path, path),
             path_assigned_at_base=self.pairs("path_assigned_at_base", path, self.spot),
             path_moved_at_base=self.pairs("path_moved_at_base", path, self.spot),
+            path_accessed_at_base=self.pairs("path_accessed_at_base", path, self.spot),
         )
 
     def lines(self, table: str) -> Iterator[str]:

@@ -2,6 +2,7 @@
 
     # function: NAME                    # point N: line L: TEXT
     # source: PATH                      # region 'NAME: line L: TEXT
+    # way: BY WHAT, where it isn't rustc's facts
 
 `line L: ` is left out where the line isn't known. `beside` makes the other remarks, which stand
 before the last line.
@@ -31,6 +32,8 @@ def lines(problem: Problem) -> Iterator[str]:
     yield "nll-facts 1"
     yield f"# function: {problem.function}"
     yield f"# source: {problem.source}"
+    if problem.way:
+        yield f"# way: {problem.way}"
     yield f"points {len(problem.points)}"
     for number, remark in enumerate(problem.points):
         yield f"# point {number}: {words(remark)}"
@@ -47,7 +50,7 @@ def lines(problem: Problem) -> Iterator[str]:
     for name, live in problem.bases:
         yield from (f"base '{name} {point}" for point in live)
     yield from (f"constraint '{sup} '{sub} {at}" for sup, sub, at in problem.constraints)
-    yield from (f"# {line}" for line in problem.beside)
+    yield from (f"# {' '.join(line.split())}" for line in problem.beside)
     yield "end"
 
 

@@ -15,6 +15,8 @@ The values are those that `nllc` prints. Nothing here computes them, and nothing
     beside      what a text says of loans and reasons
     loans       which of them something goes against, and why they are in force
     blame       which constraint is named            differences  where rustc says something else
+    counterparts  which error of rustc is which fault    expansions  places of what macros make
+    lifetimes   what lifetimes without names are called    gone  errors of moves and assignments
     telling     faults in two lines                  explaining   and step by step
     both        two answers side by side: constraints from points on, and at all points
     loan_list   the loans of a page                  snippets     what stands in the source

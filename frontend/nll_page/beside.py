@@ -2,9 +2,12 @@
 
     # loans: COUNT
     # loan N: 'R at P, PLACE, KIND of WHAT, by a closure, PLACE
-    # killed N: P ..                      # against P, PLACE, WAY after P: N ..
+    # killed N: P ..                      # against P, PLACE, WAY of WHAT after P: N ..
     # asked 'R 'R at P, PLACE: WORD       # uses 'R: P ..      # drops 'R: P ..
-    # needs 'R 'R                         # rustc LINE:COLUMN: WORDS
+    # blamed 'R 'R, PLACE: WORD           # blamed N 'R, PLACE: WORD of a closure
+    # needs 'R 'R                         # gone P, L:C, CODE of WHAT, by P ..: P ..
+    # rustc LINE:COLUMN: WORDS            # label PLACE: WORDS
+    # note: WORDS                         # help: WORDS
 
 A place is `L:C-L:C` or `elsewhere`. docs/FROM-RUST.md says what each means.
 """
@@ -13,18 +16,26 @@ import re
 from dataclasses import dataclass, field
 from typing import NamedTuple, Optional
 
+from . import kinds
+
 PLACE = r"(\d+:\d+-\d+:\d+|elsewhere)"
+NAMED = re.compile(r"`([^`]+)`")
 FORMS = {
     "loans:": re.compile(r"# loans: (\d+)"),
     "loan": re.compile(rf"# loan (\d+): '(\w+) at (\d+), {PLACE}, (mut|unique|shared|fake) of (.*?)"
                        rf"(, by a closure)?(?:, {PLACE})?"),
     "killed": re.compile(r"# killed (\d+): ([\d ]+)"),
-    "against": re.compile(rf"# against (\d+), {PLACE}, (\w+)(?: after (\d+))?: ([\d ]+)"),
+    "against": re.compile(rf"# against (\d+), {PLACE}, (\w+)(?: of (\S+))?(?: after (\d+))?: ([\d ]+)"),
     "asked": re.compile(rf"# asked '(\w+) '(\w+)(?: at (\d+))?, {PLACE}: (\w+)"),
+    "blamed": re.compile(rf"# blamed ('\w+|\d+) '(\w+), {PLACE}: (\w+)( of a closure)?"),
     "uses": re.compile(r"# uses '(\w+): ([\d ]+)"),
     "drops": re.compile(r"# drops '(\w+): ([\d ]+)"),
     "needs": re.compile(r"# needs '(\w+) '(\w+)"),
+    "gone": re.compile(r"# gone (\d+), (\d+):(\d+), (E\d+) of (\w+), by ([\d ]+):([\d ]*)"),
     "rustc": re.compile(r"# rustc (\d+):(\d+): (.*)"),
+    "help:": re.compile(r"# help: (.*)"),
+    "note:": re.compile(r"# note: (.*)"),
+    "label": re.compile(rf"# label {PLACE}(?:: (.*))?"),
 }
 
 
@@ -53,13 +64,14 @@ class Loan(NamedTuple):
 
 
 class Against(NamedTuple):
-    """A point that goes against loans, and how; of a borrow in two phases the first one's point."""
+    """A point that goes against loans, how and by what; of a borrow in two phases the first one's point."""
 
     point: int
     place: Optional[Place]
     way: str
     begun: Optional[int]
     loans: list
+    what: str = ""      # `list.*.0`: a variable, and the steps from it; with a `'` where a field's type has lifetimes
 
 
 class Asked(NamedTuple):
@@ -68,6 +80,63 @@ class Asked(NamedTuple):
     point: Optional[int]
     place: Optional[Place]
     word: str
+
+
+class Gone(NamedTuple):
+    """What is accessed that was moved or has no value, or is assigned again: since when, and the walk to there."""
+
+    point: int
+    place: Place
+    code: str
+    what: str
+    walk: list
+    since: list
+
+
+class Label(NamedTuple):
+    """A place that an error of rustc names, and what it says of it."""
+
+    place: Place
+    words: str
+
+
+class Error(NamedTuple):
+    """An error of rustc in the function, with what it says at places, on variance, and as help."""
+
+    line: int
+    column: int
+    words: str
+    labels: list
+    notes: list
+    helps: list
+
+    def code(self):
+        """`E0499`; nothing of an error that has none."""
+        return self.words.split(":")[0] if self.words.startswith("E0") else ""
+
+    def named(self):
+        """What it speaks of first; nothing where it names nothing."""
+        found = NAMED.search(self.words)
+        return found[1] if found else ""
+
+    def place(self):
+        """Its own place, with its end where a label says it."""
+        begin = (self.line, self.column)
+        return next((label.place for label in self.labels if label.place[:2] == begin), Place(*begin, *begin))
+
+    def is_of_lifetimes(self):
+        return kinds.is_of_lifetimes(self.code(), self.words)
+
+    def is_judged(self):
+        return kinds.is_judged(self.code(), self.words)
+
+
+class Blamed(NamedTuple):
+    """The constraint that rustc names: where, its category, whether the body of a closure asks for it."""
+
+    place: Optional[Place]
+    word: str
+    is_of_closure: bool
 
 
 @dataclass
@@ -79,9 +148,11 @@ class Beside:
     killed: dict = field(default_factory=dict)
     against: list = field(default_factory=list)
     asked: dict = field(default_factory=dict)
+    blamed: dict = field(default_factory=dict)
     uses: dict = field(default_factory=dict)
     drops: dict = field(default_factory=dict)
     needs: set = field(default_factory=set)
+    gone: list = field(default_factory=list)
     rustc: list = field(default_factory=list)
 
     def read(self, line):
@@ -102,13 +173,16 @@ class Beside:
     def take_killed(self, number, points):
         self.killed[int(number)] = set(numbers(points))
 
-    def take_against(self, point, place, way, begun, loans):
+    def take_against(self, point, place, way, what, begun, loans):
         first = None if begun is None else int(begun)
-        self.against.append(Against(int(point), place_of(place), way, first, numbers(loans)))
+        self.against.append(Against(int(point), place_of(place), way, first, numbers(loans), what or ""))
 
     def take_asked(self, sup, sub, point, place, word):
         asked = Asked(None if point is None else int(point), place_of(place), word)
         self.asked.setdefault((sup, sub), []).append(asked)
+
+    def take_blamed(self, begin, goal, place, word, closure):
+        self.blamed[begin.lstrip("'"), goal] = Blamed(place_of(place), word, closure is not None)
 
     def take_uses(self, region, points):
         self.uses[region] = set(numbers(points))
@@ -119,8 +193,31 @@ class Beside:
     def take_needs(self, sup, sub):
         self.needs.add((sup, sub))
 
+    def error_of(self, gone):
+        """The error of rustc that an error of a move or an assignment is; None where the text lacks it."""
+        return next((error for error in self.rustc if (error.line, error.column, error.code())
+                     == (*gone.place[:2], gone.code)), None)
+
+    def take_gone(self, point, line, column, code, what, walk, since):
+        place = Place(int(line), int(column), int(line), int(column))
+        one = Gone(int(point), place, code, what, numbers(walk), numbers(since))
+        if one.place not in [known.place for known in self.gone]:
+            self.gone.append(one)
+
     def take_rustc(self, line, column, words):
-        self.rustc.append((int(line), int(column), words))
+        self.rustc.append(Error(int(line), int(column), words, [], [], []))
+
+    def take_note(self, words):
+        if self.rustc:
+            self.rustc[-1].notes.append(words)
+
+    def take_help(self, words):
+        if self.rustc:
+            self.rustc[-1].helps.append(words)
+
+    def take_label(self, place, words):
+        if self.rustc and place != "elsewhere":
+            self.rustc[-1].labels.append(Label(place_of(place), words or ""))
 
 
 def numbers(text):

@@ -22,9 +22,24 @@ class Blame(NamedTuple):
 
     place: Optional[Place]
     word: str
+    is_of_closure: bool = False
 
     def rank(self):
         return RANKS.get(self.word, INTERESTING)
+
+
+def of_fault(facts, fault):
+    """What rustc names of a fault, by the text, or else by the chain."""
+    pair = facts.names[fault.sup], facts.names[fault.sub]
+    return facts.remarks.beside.blamed.get(pair) or of_chain(facts, fault.steps)
+
+
+def of_loan(facts, number, cause):
+    """What rustc names where a loan would have to outlive the function."""
+    if not facts.is_universal(cause.region):
+        return None
+    return facts.remarks.beside.blamed.get((str(number), facts.names[cause.region])) \
+        or of_chain(facts, cause.steps)
 
 
 def reasons(facts, constraint):

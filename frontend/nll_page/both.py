@@ -6,11 +6,10 @@ answer alone.
 
 import re
 
-from . import telling, words
+from . import telling, verdicts, words
 from .escaping import sentence, text
 
 CONSTRAINT = re.compile(rb"[ \t\r]*constraint[ \t\r]*('\w+)[ \t\r]*('\w+)[ \t\r]+\w+[ \t\r]*")
-MOST_REGIONS = 200  # of more regions whose values differ the first are shown
 
 
 def at_all_points(data):
@@ -29,9 +28,7 @@ def at_all_points(data):
 
 def counted(content):
     """How many faults and loan errors an answer has, in words."""
-    counts = [words.plural(len(found), noun)
-              for found, noun in ((content.faults, "fault"), (content.loans, "loan error")) if found]
-    return ", ".join(counts) or "no fault"
+    return verdicts.counted(len(content.faults), len(content.loans))
 
 
 def mark(told):
@@ -45,15 +42,6 @@ def alone(content):
     known, others = {mark(one) for one in first}, {mark(one) for one in second}
     return ([one for one in first if mark(one) not in others],
             [one for one in second if mark(one) not in known])
-
-
-def value_words(facts, elements):
-    """The elements of a value, points by runs."""
-    points = [e for e in elements if e < facts.points]
-    runs = [facts.point_name(a) if a == b else f"{facts.point_name(a)} to {facts.point_name(b)}"
-            for a, b in words.spans(points)]
-    ends = [f"end('{facts.names[e - facts.points]})" for e in elements if e >= facts.points]
-    return ", ".join([*runs, *ends]) or "nothing"
 
 
 def differing(content):
@@ -71,15 +59,19 @@ def both(content):
     only_first, only_second = alone(content)
     rows += [row(place_of(one), sentence(one.head), "–") for one in only_first]
     rows += [row(place_of(one), "–", sentence(one.head)) for one in only_second]
-    regions = differing(content)
-    rows += [region_row(content, region) for region in regions[:MOST_REGIONS]]
-    more = f"<p>{len(regions) - MOST_REGIONS:,} more regions differ.</p>" if len(regions) > MOST_REGIONS else ""
-    same = "" if regions else "<p>Each region holds the same in both.</p>"
-    return ('<section class="answers" aria-label="Both answers"><h2>From points on, and at all points</h2>'
+    return ('<section class="answers" aria-label="Both answers"><h2>Constraints from points on, or at all points</h2>'
             "<p>On the left each constraint holds from a point on. On the right each one holds at all points, as "
-            "rustc’s own solver takes them. What the points buy is what stands on the right alone.</p>"
+            "rustc’s own solver takes them. What is only on the right is what the points buy.</p>"
             '<table><thead><tr><td></td><th scope="col">from points on</th><th scope="col">at all points</th></tr>'
-            f'</thead><tbody>{"".join(rows)}</tbody></table>{same}{more}</section>')
+            f'</thead><tbody>{"".join(rows)}</tbody></table><p>{regions_words(differing(content))}</p></section>')
+
+
+def regions_words(regions):
+    """How many regions hold more at all points; the list of regions has a second strip for each."""
+    if not regions:
+        return "Each region holds the same in both."
+    return (f"{words.plural(len(regions), 'region')} of the list below {'holds' if len(regions) == 1 else 'hold'} more "
+            "at all points: the lower strip.")
 
 
 def row(name, left, right):
@@ -88,13 +80,6 @@ def row(name, left, right):
 
 def place_of(told):
     return f"line {told.place.line}" if told.place else "fault"
-
-
-def region_row(content, region):
-    facts = content.facts
-    return row(sentence([words.tick(facts, region)]),
-               text(value_words(facts, content.values.elements(region))),
-               text(value_words(facts, content.everywhere.values.elements(region))))
 
 
 def lines(content):

@@ -1,30 +1,52 @@
 """A fault's chain on a page: a sentence in the source's words, and a line for each step.
 
-The steps stand as a reader of Rust thinks: from what lives too short a time to where it is wanted.
+The steps stand as a reader of Rust thinks: from what lives too short a time to where it is wanted. Steps between
+regions that the source has no name for are one line, and are seen where it is opened.
 """
 
-from . import words
+from . import blame, telling, words
+from .counterparts import counterpart
 from .escaping import sentence, text
+from .lifetimes import Lifetimes
+from .names import is_inner, lifetime_words
 
 MOST_LETTERS = 60   # of a line of the source; what is longer is cut
 
 
 def told(content, fault):
     """The fault in one sentence, by the lines of the source where its chain begins and ends."""
-    facts = content.facts
-    sup, sub = words.tick(facts, fault.sup), words.tick(facts, fault.sub)
-    lines = [line for step in reversed(fault.steps) for line in words.arising(facts, [step])]
-    lives = "What lives for " + sentence([sup])
-    unsaid = f"nothing says that {sentence([sup])} outlives {sentence([sub])}."
+    sup, sub = (sentence(name) for name in names_of(content, fault))
+    lines = [line for step in reversed(fault.steps) for line in words.arising(content.facts, [step])]
+    lives = f"What lives for {sup}"
+    unsaid = f"nothing says that {sup} outlives {sub}."
     if not lines:
         return unplaced(content) or \
-            f'<p class="told">{lives} is wanted for {sentence([sub])}; {unsaid}</p>'
+            f'<p class="told">{lives} is wanted for {sub}; {unsaid}</p>'
     first, last = lines[0], lines[-1]
     if first == last:
-        return (f'<p class="told">{lives} is wanted for {sentence([sub])} at '
+        return (f'<p class="told">{lives} is wanted for {sub} at '
                 f"{placed(content, last)}; {unsaid}</p>")
     return (f'<p class="told">{lives} comes in at {placed(content, first)}, and at '
-            f"{placed(content, last)}, it is wanted for {sentence([sub])}; {unsaid}</p>")
+            f"{placed(content, last)}, it is wanted for {sub}; {unsaid}</p>")
+
+
+def names_of(content, fault):
+    """What both lifetimes of a fault are called."""
+    lifetimes = Lifetimes(content, fault, counterpart(content, telling.of_fault(content, fault)))
+    return lifetimes.name(fault.sup), lifetimes.name(fault.sub)
+
+
+HEADS = {"help": "rustc’s help", "invariant": "Invariance"}
+
+
+def more_part(told):
+    """What else is said of a fault: where lifetimes without a name stand, variance, and rustc's advice."""
+    return "".join(f'<p class="more">{more_line(sentence(parts))}.</p>' for parts in told.more)
+
+
+def more_line(said):
+    head, mark, rest = said.partition(": ")
+    return f"<b>{HEADS[head]}</b>: {rest}" if mark and head in HEADS else said[:1].upper() + said[1:]
 
 
 def unplaced(content):
@@ -51,39 +73,81 @@ def line_of(content, number):
     return code if len(code) <= MOST_LETTERS else code[:MOST_LETTERS - 1] + "…"
 
 
+def advice_part(parts):
+    return f'<p class="advice"><b>What to do</b>: {sentence(parts)}.</p>'
+
+
 def chain_list(content, fault):
-    """The steps, and behind them where the end comes from."""
-    steps = fault.steps[::-1]
-    items = "".join(step_item(content, step, before, fault.sub)
-                    for step, before in zip(steps, [None, *steps]))
+    """The stretches of the chain, and behind them where the end comes from."""
+    items, before = [], None
+    for stretch in stretches(content.facts, fault.steps[::-1], lambda constraint: constraint.sub):
+        items.append(stretch_item(content, stretch, before, fault.sub))
+        before = stretch[-1]
     said = sentence(words.beginning(content.facts, fault.sub))
-    return (f'<ol class="chain">{items}'
+    return (f'<ol class="chain">{"".join(items)}'
             f'<li class="step" data-r="{fault.sub}"><p>{said}</p></li></ol>')
 
 
+def stretches(facts, steps, end_of):
+    """The steps cut where a step's end is a region that the source has a name for."""
+    found = [[]]
+    for step in steps:
+        found[-1].append(step)
+        if not is_inner(facts, end_of(step.constraint)):
+            found.append([])
+    return [stretch for stretch in found if stretch]
+
+
+def stretch_item(content, stretch, before, universal):
+    """A step, or several by way of regions without a name as one: those are inside it."""
+    if len(stretch) == 1:
+        return step_item(content, stretch[0], before, universal)
+    facts, last = content.facts, stretch[-1]
+    told = outlives_words(facts, stretch[0].constraint.sup, last.constraint.sub)
+    inner = "".join(step_item(content, step, None, universal) for step in stretch)
+    said = f"<p>{sentence(by_way_of(facts, stretch))}</p><ol class=\"inner\">{inner}</ol>"
+    return step_part(lights(last, universal), step_line(content, main_step(facts, stretch), before), told, said)
+
+
+def main_step(facts, stretch):
+    """The step whose place is shown for all: the one that rustc would name."""
+    return min(stretch, key=lambda step: (named.rank() if (named := blame.of_step(facts, step)) else blame.SILENT))
+
+
+def by_way_of(facts, stretch):
+    inner = [[words.tick(facts, step.constraint.sub)] for step in stretch[:-1]]
+    return [words.plural(len(stretch), "step"), ", by way of ", *words.joined(inner), "."]
+
+
+def outlives_words(facts, sup, sub):
+    return (f'<span class="what">{sentence(lifetime_words(facts, sup))} must outlive '
+            f"{sentence(lifetime_words(facts, sub))}</span>")
+
+
+def lights(step, universal):
+    """What a choice of the step lights: its smaller region, the walk and the end."""
+    walk = ",".join(map(str, step.walk))
+    return f'data-r="{step.constraint.sub}" data-walk="{walk}" data-end="{universal}"'
+
+
 def step_item(content, step, before, universal):
-    """A step with what its choosing lights: the smaller region, the walk and the end.
+    """A step with what its choosing lights.
 
     What stands on its line isn't said again where the step before it is of the same line.
     """
     facts = content.facts
     sup, sub = step.constraint.sup, step.constraint.sub
-    walk = ",".join(map(str, step.walk))
     said = sentence([words.end(facts, universal), " comes to ", words.tick(facts, sup), ". ",
                      *words.step_sentence(facts, step, universal)])
-    what = words.region_words(facts, sup)
-    told_of = f' title="{text(what)}"' if what else ""
-    behind = f'<span class="what"{told_of}>{sentence([words.tick(facts, sup)])} must outlive ' \
-             f"{sentence([words.tick(facts, sub)])}</span>"
-    return step_part(f'data-r="{sub}" data-walk="{walk}" data-end="{universal}"',
-                     step_line(content, step, before), behind, said)
+    return step_part(lights(step, universal), step_line(content, step, before), outlives_words(facts, sup, sub),
+                     f"<p>{said}</p>")
 
 
-def step_part(lights, shown, behind, said):
-    """A step as one line, whose words open; `lights` are the attributes for what its choosing lights."""
-    return (f'<li class="step" {lights}><details class="why"><summary><h3>'
+def step_part(lit, shown, behind, inside):
+    """A step as one line that opens; `lit` are the attributes for what its choosing lights."""
+    return (f'<li class="step" {lit}><details class="why"><summary><h3>'
             f'<button type="button" class="show">{shown}</button> {behind}</h3></summary>'
-            f"<p>{said}</p></details></li>")
+            f"{inside}</details></li>")
 
 
 def step_line(content, step, before):

@@ -1,35 +1,36 @@
 """Where rustc of today refuses a function and `nllc` doesn't: both answers side by side."""
 
 from . import telling
+from .counterparts import nearness
 from .words import Code
 
 
 def differences(content):
-    """rustc's errors that are none of this function's faults, each with a sentence on why.
+    """rustc's errors that are none of this function's faults, each with a sentence on why."""
+    told = telling.all_of(content)
+    return [(error.line, error.column, error.words, reason(content, error))
+            for error in content.facts.remarks.beside.rustc
+            if error.is_judged() and all(nearness(content, one, error) is None for one in told)]
 
-    A loan that rustc tells by its code on the same line is the same, whichever column it names.
-    """
+
+def refused(content):
+    """rustc's errors that aren't judged here: of other kinds, and of moves of which the text says nothing."""
     beside = content.facts.remarks.beside
-    told = [one for one in telling.all_of(content) if one.place]
-    found = {one.place[:2] for one in told}
-    by_line = {(one.place.line, one.code) for one in told if one.code} \
-        - {(line, words.split(":")[0]) for line, column, words in beside.rustc if (line, column) in found}
-    return [(line, column, words, reason(content, line, column, words))
-            for line, column, words in beside.rustc if found.isdisjoint({(line, column), (line, 0)})
-            and (line, words.split(":")[0]) not in by_line]
+    judged = [beside.error_of(one) for one in beside.gone]
+    return [error for error in beside.rustc if not error.is_judged() and error not in judged]
 
 
-def reason(content, line, column, words):
+def reason(content, error):
     """Why `nllc` has no fault there."""
-    if not words.startswith("E0") or words.startswith("E0621"):
+    if error.is_of_lifetimes():
         return ["what is asked at a point holds from there on, inside the smaller region; to rustc it holds "
                 "at all points"]
-    loan = handed_out(content, line, column)
+    loan = handed_out(content, error.line, error.column)
     if loan:
         return ["problem case 3 of RFC 2094: the loan of ", *telling.where_made(content, loan),
-                " (", Code(f"'{loan.region}"), ") leaves the function on another way alone; to rustc it is "
-                "in force on this one, too"]
-    return ["the loan isn't in force there, since what is asked at a point holds from there on; to rustc it "
+                " (", Code(f"'{loan.region}"), ") is returned on another path alone; rustc treats it as live "
+                "on this one, too"]
+    return ["the loan isn't live there, since what is asked at a point holds from there on; to rustc it "
             "holds at all points"]
 
 

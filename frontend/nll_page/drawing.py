@@ -15,8 +15,9 @@ HEAD = 18           # the height of a box's title
 PAD = 6
 ROW = 20            # the height of a statement's row
 LETTER = 6.65       # the width of a letter of a statement
-TITLE_LETTER = 6.6  # of a letter of a title
-MOST_LETTERS = 36
+TITLE_LETTER = 6.9  # of a letter of a title
+MOST_LETTERS = 27   # of a statement, where boxes stand side by side
+MOST_ALONE = 44     # and where they don't
 TARGETS = re.compile(r" -> (?:\[.*\]|bb\d+)$")
 STUB = 14           # the length of a stub's arrow
 STUB_PITCH = 13     # from one stub to the next
@@ -90,33 +91,50 @@ def folded_size(facts, line):
     return max(wide * PITCH - 2 + 2 * PAD, title_width(facts, line)), HEAD + high * PITCH - 2 + PAD
 
 
-def row_words(row):
+def room_for_words(shape):
+    """How many letters of a statement are shown."""
+    widest = max(sum(number < shape.boxes for number in layer) for layer in shape.layers)
+    return MOST_ALONE if widest == 1 else MOST_LETTERS
+
+
+def row_words(row, most):
     """The statement, shortened: where it goes on to is what the edges show."""
     text = TARGETS.sub("", visible(row.text))
-    return text if len(text) <= MOST_LETTERS else text[:MOST_LETTERS - 1] + "…"
+    return text if len(text) <= most else text[:most - 1] + "…"
 
 
-def unfolded_size(facts, line, rows):
+def whole_words(row, most):
+    """What is said of a row whose statement is shortened, where the pointer is on it."""
+    return "" if row_words(row, most) == visible(row.text) else f"<title>{escape(row.text)}</title>"
+
+
+def unfolded_size(facts, line, rows, most):
     cells = max(len(row.points) for row in rows)
-    letters = max(len(row_words(row)) for row in rows)
-    number = len(str(max(p for row in rows for p in row.points)))
+    letters = max(len(row_words(row, most)) for row in rows)
+    number = number_letters(facts, rows)
     return max(PAD * 2 + cells * PITCH + (number + 1 + letters) * LETTER + 4,
                title_width(facts, line)), HEAD + len(rows) * ROW + 2
+
+
+def number_letters(facts, rows):
+    """How many letters the longest name of a row's point has."""
+    return max(len(facts.point_name(row.points[0])) for row in rows)
 
 
 def folded(facts, graph, shape):
     """The drawing in which a straight line is a block of cells."""
     sizes = [folded_size(facts, line) for line in graph.lines]
     return svg("folded", facts, graph, shape, sizes, lambda box: (
-        folded_cells(facts, graph.lines[box]) + folded_stubs(graph, graph.lines[box], sizes[box])))
+        folded_cells(facts, graph.lines[box]) + folded_stubs(facts, graph, graph.lines[box], sizes[box])))
 
 
 def unfolded(facts, graph, shape):
     """The drawing in which each statement has a row."""
     rows = [lines.rows(facts, line) for line in graph.lines]
-    sizes = [unfolded_size(facts, line, found) for line, found in zip(graph.lines, rows)]
+    most = room_for_words(shape)
+    sizes = [unfolded_size(facts, line, found, most) for line, found in zip(graph.lines, rows)]
     return svg("statements", facts, graph, shape, sizes, lambda box: (
-        row_cells(facts, rows[box], sizes[box][0]) + row_stubs(graph, rows[box], sizes[box][0])))
+        row_cells(facts, rows[box], sizes[box][0], most) + row_stubs(facts, graph, rows[box], sizes[box][0])))
 
 
 def many(facts, graph, shape):
@@ -140,15 +158,14 @@ def many(facts, graph, shape):
     parts.append(f'<path class="head" d="{heads}"/></g><g class="inside"></g></svg>')
     return "".join(parts), {
         "cell": CELL, "pitch": PITCH, "top": HEAD, "pad": PAD,
-        "boxes": [[round(x), round(y), round(w), round(h), columns(len(line)),
-                   " ".join(filter(None, lines.title(facts, line))), line]
+        "boxes": [[round(x), round(y), round(w), round(h), columns(len(line)), lines.title(facts, line), line]
                   for (x, y), (w, h), line in zip(corners, sizes, graph.lines)],
         "edges": {f"{a}-{b}": [way, head] for a, b, way, head, _ in edges},
         "stubs": {str(point): found for point, found in graph.stubs.items()},
     }
 
 
-def folded_stubs(graph, line, size):
+def folded_stubs(facts, graph, line, size):
     """A stub for each point to which several of the line's points lead; the last stands lowest."""
     sources = {}
     for point in line:
@@ -156,12 +173,12 @@ def folded_stubs(graph, line, size):
             sources.setdefault(target, []).append(point)
     most = max(1, int((size[1] - 4) // STUB_PITCH))
     shown = list(sources.items())[:most]
-    return "".join(stub(points, target, size[0], size[1] - 9 - STUB_PITCH * at)
+    return "".join(stub(facts, points, target, size[0], size[1] - 9 - STUB_PITCH * at)
                    for at, (target, points) in enumerate(reversed(shown)))
 
 
-def row_stubs(graph, rows, width):
-    return "".join(stub([point], target, width, HEAD + at * ROW + ROW / 2)
+def row_stubs(facts, graph, rows, width):
+    return "".join(stub(facts, [point], target, width, HEAD + at * ROW + ROW / 2)
                    for at, row in enumerate(rows) for point in row.points
                    for target in graph.stubs.get(point, ())[:1])
 
@@ -172,11 +189,15 @@ def folded_cells(facts, line):
                    for at, point in enumerate(line))
 
 
-def row_cells(facts, rows, width):
+def row_cells(facts, rows, width, most):
     parts = []
     cells = max(len(row.points) for row in rows)
+    digits = number_letters(facts, rows)
+    blocks = [lines.block_of(facts, row.points[0]) for row in rows]
     for at, row in enumerate(rows):
         top = HEAD + at * ROW
+        if at and blocks[at] != blocks[at - 1]:
+            parts.append(f'<path class="rule" d="M1 {top:g}h{width - 2:g}"/>')
         parts.append(f'<rect class="band" data-p="{row.points[0]}" x="1" y="{top:g}" '
                      f'width="{width - 2:g}" '
                      f'height="{ROW}"/>')
@@ -185,8 +206,8 @@ def row_cells(facts, rows, width):
         left = PAD + cells * PITCH + 3
         parts.append(f'<text class="words" data-row="{row.points[0]}" x="{left:g}" '
                      f'y="{top + 14:g}">'
-                     f'<tspan class="number">{row.points[0]}</tspan> '
-                     f'{escape(row_words(row))}</text>')
+                     f'<tspan class="number">{facts.point_name(row.points[0]):>{digits}}</tspan> '
+                     f"{escape(row_words(row, most))}{whole_words(row, most)}</text>")
     return "".join(parts)
 
 
@@ -194,16 +215,15 @@ def cell(facts, point, x, y):
     mark = f'<path class="mark" d="M{x + 3:g} {y + 3.5:g}h5l-2.5 4.5z"/>'
     returns = mark if point in facts.returns else ""
     words = lines.words_of(facts, point)
-    label = f"point {point}" + (f": {words}" if words else "")
-    return (f'<g class="cell" data-p="{point}" role="button" tabindex="-1" '
-            f'aria-label="{escape(label)}">'
+    label = f"point {facts.point_name(point)}" + (f": {words}" if words else "")
+    return (f'<g class="cell" data-p="{point}" role="button" tabindex="-1">'
             f"<title>{escape(label)}</title>"
             f'<rect x="{x:g}" y="{y:g}" width="{CELL}" height="{CELL}" rx="2.5"/>{returns}</g>')
 
 
 def placed(facts, graph, shape, sizes):
     """Where boxes of these sizes stand, with room for stubs beside them."""
-    wide = STUB + LETTER * len(str(facts.points))
+    wide = STUB + LETTER * max(len(str(facts.points)), *map(len, facts.point_names.values()), 0)
     room = [wide if any(point in graph.stubs for point in line) else 0 for line in graph.lines]
     return layout.place(shape, [(*size, free) for size, free in zip(sizes, room)])
 
@@ -235,17 +255,18 @@ def box_group(facts, graph, box, x, y, size, inside):
     dim = "" if graph.returning[box] else " aside"
     return (f'<g class="box{dim}" transform="translate({x:.1f} {y:.1f})">'
             f'<rect class="frame" width="{size[0]:.1f}" height="{size[1]:.1f}" rx="5"/>'
-            f'<text class="title" x="{PAD}" y="13">{label}{escape(numbers)}</text>{inside}</g>')
+            f'<text class="title" x="{PAD}" y="13">{label}<tspan class="points">{escape(numbers)}</tspan></text>'
+            f"{inside}</g>")
 
 
-def stub(points, target, x, y):
-    """A short arrow to the right with the number of the point to which these points lead."""
+def stub(facts, points, target, x, y):
+    """A short arrow to the right with the name of the point to which these points lead."""
     ways = " ".join(f"{point}-{target}" for point in points)
     return (f'<g class="stub" data-go="{target}" data-edge="{ways}"><title>from '
-            f'{", ".join(map(str, points))} to point '
-            f"{target}, from which the function doesn’t return</title>"
+            f'{", ".join(map(facts.point_name, points))} to point '
+            f"{facts.point_name(target)}, from which the function doesn’t return</title>"
             f'<path d="M{x:.1f} {y:.1f}h10m-3.5 -3.5l3.5 3.5l-3.5 3.5"/>'
-            f'<text x="{x + 14:.1f}" y="{y + 3.5:.1f}">{target}</text></g>')
+            f'<text x="{x + 14:.1f}" y="{y + 3.5:.1f}">{facts.point_name(target)}</text></g>')
 
 
 def edge_ends(graph, edge):

@@ -27,6 +27,12 @@ def sentence(parts):
                    for part in parts)
 
 
+def ticked(said):
+    """A sentence of plain text as HTML: what stands between backticks is code."""
+    return "".join(f"<code>{text(piece)}</code>" if at % 2 else text(piece)
+                   for at, piece in enumerate(said.split("`")))
+
+
 def script_data(value):
     """JSON that may stand in a `script` element: it holds no `<`, so it can't end the element."""
     compact = json.dumps(value, separators=(",", ":"))

@@ -18,12 +18,12 @@ def lines(content):
 
 def loan_lines(facts, fault):
     point, cause, region = fault.against.point, fault.cause, Code(f"'{fault.loan.region}")
-    yield words.plain(["why ", region, f" holds point {point}, ", *words.statement(facts, point), ":"])
+    yield words.plain(["why ", region, f" holds point {facts.point_name(point)}, ", *words.statement(facts, point), ":"])
     yield "    " + words.plain(first_line(facts, cause, point))
     for step in cause.steps:
         sup, sub = words.tick(facts, step.constraint.sup), words.tick(facts, step.constraint.sub)
         asked = words.reason(facts, step.constraint) or ["By the text, "]
-        way = [", inside which ", words.walk_text(step.walk), " leads there"] if step.walk else \
+        way = [", inside which ", words.walk_text(facts, step.walk), " leads there"] if step.walk else \
             [", which holds it"]
         yield "    " + words.plain([*asked, sup, " must outlive ", sub, *way])
 
@@ -33,6 +33,6 @@ def first_line(facts, cause, point):
     if facts.is_universal(cause.region):
         return [name, " outlives the function, so it holds each point"]
     if cause.use is None:
-        return [name, f" is live at point {point}"]
-    return [name, f" is live at point {point}: ", *words.statement(facts, cause.use),
+        return [name, f" is live at point {facts.point_name(point)}"]
+    return [name, f" is live at point {facts.point_name(point)}: ", *words.statement(facts, cause.use),
             " drops it" if cause.is_drop else " uses it"]

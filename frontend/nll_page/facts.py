@@ -10,6 +10,7 @@ from dataclasses import dataclass, field
 from functools import cached_property
 from typing import NamedTuple
 
+from .called import called
 from .refusal import Refusal
 from .remarks import Remarks, is_remark
 
@@ -106,8 +107,8 @@ def is_facts_text(text):
 def read_facts(text, path):
     """The problem that the bytes of a text say."""
     if not is_facts_text(text):
-        raise Refusal(f"{path} isn't a facts text: its first line is neither `nll-facts 1` nor `nll-facts 2`; "
-                      f"nllc.sh facts FILE.rs makes such texts of Rust files")
+        raise Refusal(f"{path} isn't a facts text or a MIR text: its first line is none of `nll-facts 1`, `nll-facts 2`, `nll-mir 1` "
+                      f"and `nll-mir 2`; {called('facts')} FILE.rs makes facts texts of Rust files")
     reader = Reader(path, text.split(b"\n", 1)[0].split() == VERSIONS[1])
     for number, line in enumerate(decoded(text, path).split("\n"), 1):
         if number > 1:

@@ -1,7 +1,7 @@
 """The faults of a page, each with its chain."""
 
-from . import words
-from .chain_list import chain_list, told
+from . import advice, telling, words
+from .chain_list import advice_part, chain_list, more_part, told
 from .escaping import sentence
 
 
@@ -14,9 +14,8 @@ def fault_list(content):
 
 
 def fault_item(content, fault, is_open):
-    facts = content.facts
-    head = sentence(words.fault_head(facts, fault.sup, fault.sub))
-    so = sentence(words.conclusion(facts, fault.sup, fault.sub))
-    return (f'<details class="fault"{" open" if is_open else ""}><summary>{head}</summary>'
-            f"{told(content, fault)}{chain_list(content, fault)}"
+    said = telling.of_fault(content, fault)
+    so = sentence(words.conclusion(content.facts, fault.sup, fault.sub))
+    return (f'<details class="fault"{" open" if is_open else ""}><summary>{sentence(said.head)}</summary>'
+            f"{told(content, fault)}{advice_part(advice.of_fault(content, fault))}{more_part(said)}{chain_list(content, fault)}"
             f'<p class="so">{so}</p></details>')

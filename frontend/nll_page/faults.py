@@ -37,8 +37,23 @@ def needs(facts, found):
     rustc says what that is, and asks it where the closure is made; there it is a constraint like
     any other.
     """
-    asked = [(facts.names.index(long), facts.names.index(short))
-             for long, short in facts.remarks.beside.needs
-             if {long, short} <= set(facts.names[:facts.universals])]
+    asked = asked_for(facts)
     outlived = known(facts, asked)
     return [(long, short) for long, short in found if asked and short in outlived[long]]
+
+
+def asked_for(facts):
+    """The pairs of universal regions of which a closure needs that the first outlive the second."""
+    return [(facts.names.index(long), facts.names.index(short))
+            for long, short in facts.remarks.beside.needs
+            if {long, short} <= set(facts.names[:facts.universals])]
+
+
+def distinct(facts, found):
+    """The faults without those that are another one's in other names: of regions that a closure needs to be equal."""
+    outlived = known(facts, asked_for(facts))
+    kept = []
+    for pair in found:
+        if not any(all(b in outlived[a] and a in outlived[b] for a, b in zip(pair, other)) for other in kept):
+            kept.append(pair)
+    return kept

@@ -4,13 +4,18 @@ import os
 
 from .command import write
 from .index import NAME, index_page, rows_in
-from .page import template
+from .page import compact, template
 
 
-def write_index(folder, names=None):
-    """Writes the index of a folder's pages, or of those that are named; its path."""
+def write_index(folder, names=None, with_older=False):
+    """Writes the index of a folder's pages, or of those that are named; its path.
+
+    If it is asked for, the pages that aren't named stand below those that are.
+    """
     path = os.path.join(folder, NAME)
-    style = template("look.css") + template("index.css")
-    rows = [(name, row) for name, row in rows_in(folder) if names is None or name in names]
-    write(path, index_page(rows, template("index.html"), style))
+    style = compact(template("look.css") + template("index.css"))
+    found = rows_in(folder)
+    rows = [(name, row) for name, row in found if names is None or name in names]
+    older = [one for one in found if one not in rows] if with_older else []
+    write(path, index_page(rows, template("index.html"), style, older))
     return path

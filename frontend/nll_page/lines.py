@@ -97,12 +97,24 @@ def words_of(facts, point):
     return facts.remarks.point(point).statement() or ("return" if point in facts.returns else "")
 
 
+MOST_BLOCKS = 3     # of a title; of more blocks it names the first and the last
+
+
 def title(facts, line):
-    """The block of a line, where remarks say it, and its points."""
-    spot = facts.remarks.point(line[0]).spot()
+    """The blocks of a line, where remarks say them, and its points; where their names have the block, the blocks alone."""
+    found = list(dict.fromkeys(filter(None, (block_of(facts, point) for point in line))))
+    blocks = ", ".join(found) if len(found) <= MOST_BLOCKS else f"{found[0]} … {found[-1]}"
+    if blocks and facts.point_names:
+        return blocks, ""
+    first, last = facts.point_name(line[0]), facts.point_name(line[-1])
     between = "–" if is_run(line) else " … "
-    numbers = str(line[0]) if len(line) == 1 else f"{line[0]}{between}{line[-1]}"
-    return (spot[0] if spot else ""), numbers
+    return blocks, first if len(line) == 1 else f"{first}{between}{last}"
+
+
+def block_of(facts, point):
+    """The block of a point, where a remark says it; else nothing."""
+    spot = facts.remarks.point(point).spot()
+    return spot[0] if spot else ""
 
 
 def is_run(line):

@@ -4,15 +4,18 @@ A loan is in force at a point if a path leads there from the borrow, inside the 
 region, and past no point that kills the loan.
 """
 
+import re
 from collections import deque
+from functools import partial
 from typing import NamedTuple, Optional
 
-from . import blame, chains
+from . import blame, chains, expansions
 from .beside import Against, Loan, Place
 from .facts import ALL, grouped
 
 ENDING = ("ends", "drops", "leaves", "destroys")
 BORROWING = ("mut", "unique", "late", "shared")
+UNWIND = re.compile(r"\bunwind: (bb\d+)")
 CODES = {"moves": "E0505", "assigns": "E0506", "reads": "E0503", "looks": "E0503"}
 
 
@@ -56,7 +59,8 @@ def loan_faults(facts, values):
             if one.point in points and one.begun not in points:
                 cause = why(facts, values, region, one.point)
                 found.append(fault(facts, number, loan, one, cause))
-    return each_once(sorted(found, key=order))
+    told = list(each_once(sorted(first_of_each_access(found), key=order)))
+    return sorted(expansions.placed(facts, told), key=order)
 
 
 def order(one):
@@ -76,15 +80,34 @@ def in_force(facts, inside, loan, killed):
     return reached
 
 
-def each_once(found):
-    """Without what rustc wouldn't say again: of the same loan's end, of the same access."""
-    told = set()
+def first_of_each_access(found):
+    """Of the loans that one access goes against the first, as rustc does; all of those that outlive the function."""
+    seen = set()
     for one in found:
+        access = one.against.point, one.against.way, one.against.what
+        if one.against.way == "leaves" or not one.against.what or access not in seen:
+            yield one
+        seen.add(access)
+
+
+def each_once(found):
+    """Without what rustc wouldn't say again: of the same loan's end, of the same access, of a borrow's second phase."""
+    told, begun = set(), {one.against.what for one in found if one.against.way in ("mut", "unique")}
+    for one in found:
+        if one.against.way == "late" and one.against.what and one.against.what in begun:
+            continue
         marks = marks_of_end(one) if one.against.way in ENDING else \
-            {one.place, (one.place and one.place[:2], one.code)}
+            marks_of_access(one)
         if told.isdisjoint(marks):
             yield one
         told |= marks
+
+
+def marks_of_access(one):
+    """The place that is accessed, and where that stands; of one whose types have lifetimes, rustc doesn't know
+    again what it has told with another code."""
+    where, what = one.place and one.place[:2], one.against.what
+    return {(where, what, one.code if what.endswith("'") else "")}
 
 
 def marks_of_end(one):
@@ -102,7 +125,10 @@ def fault(facts, number, loan, against, cause):
     elif against.way in BORROWING:
         code = code_of_borrows(loan, against)
     elif against.way in ENDING:
-        code, place = end_of_loan(facts, loan, against, cause)
+        named = blame.of_loan(facts, number, cause)
+        code, place = end_of_loan(loan, against, named)
+        if named and named.word == "assignment" and not named.is_of_closure and is_of_capture(facts, cause.region):
+            code, place = "E0521", named.place
     start = loan.at if against.way in ENDING else against.point
     return LoanFault(code, place or next_line(facts, start), number, loan, against, cause)
 
@@ -123,10 +149,15 @@ def next_line(facts, start):
     return None if line is None else Place(line, 0, line, 0)
 
 
-def end_of_loan(facts, loan, against, cause):
-    """rustc's code and place where what is borrowed goes away."""
-    named = blame.of_chain(facts, cause.steps) if facts.is_universal(cause.region) else None
-    category = named.word if named else ""
+def is_of_capture(facts, region):
+    """Whether a closure's lifetime is one without a name in what it captures."""
+    name = facts.names[region]
+    return "of the function around this closure" in facts.remarks.region(name).text and name.startswith("r")
+
+
+def end_of_loan(loan, against, named):
+    """rustc's code and place where what is borrowed goes away; `named` is what it names of a universal region."""
+    category = named.word if named and not named.is_of_closure else ""
     if against.way == "destroys":
         return "E0713", loan.home if loan.by_closure and loan.home else loan.place
     if loan.by_closure and category in ("return", "argument", "opaque"):
@@ -134,7 +165,7 @@ def end_of_loan(facts, loan, against, cause):
     if category in ("return", "yield"):
         return "E0515", named.place
     if loan.is_of_temporary():
-        return "E0716", loan.home or loan.place
+        return "E0716", loan.home
     return "E0597", loan.home if loan.by_closure and loan.home else loan.place
 
 
@@ -179,7 +210,18 @@ def outlives_caller(facts, values, region):
 
 
 def used(facts, region, point, steps):
-    """The cause with the nearest point, from this one on, that uses or drops a variable of it."""
+    """The cause with the nearest point, from this one on, that uses or drops a variable of it.
+
+    Ways on which a panic goes out are looked at where no other leads to one, as rustc does.
+    """
+    for onwards in (partial(without_unwinding, facts), facts.successors.__getitem__):
+        if found := nearest_use(facts, region, point, onwards):
+            return Cause(region, *found, steps)
+    return Cause(region, None, False, steps)
+
+
+def nearest_use(facts, region, point, onwards):
+    """The nearest point that uses or drops a variable of the region, and whether that is a drop."""
     beside, name, live = facts.remarks.beside, facts.names[region], facts.bases[region]
     seen = {point}
     todo = deque([point])
@@ -187,9 +229,18 @@ def used(facts, region, point, steps):
         here = todo.popleft()
         for table, is_drop in ((beside.uses, False), (beside.drops, True)):
             if here in table.get(name, ()) and here in live:
-                return Cause(region, here, is_drop, steps)
-        for following in facts.successors[here]:
+                return here, is_drop
+        for following in onwards(here):
             if following in live and following not in seen:
                 seen.add(following)
                 todo.append(following)
-    return Cause(region, None, False, steps)
+    return None
+
+
+def without_unwinding(facts, point):
+    """The points that follow where nothing panics."""
+    found = UNWIND.search(facts.remarks.point(point).text)
+    if not found:
+        return facts.successors[point]
+    return [one for one in facts.successors[point]
+            if (facts.remarks.point(one).spot() or ("",))[0] != found[1]]

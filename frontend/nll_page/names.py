@@ -1,21 +1,30 @@
-"""What a page calls a function and the lifetimes of the function around it: words in place of rustc's names."""
+"""What a page calls a function and its lifetimes: the source's words in place of rustc's names."""
 
 import re
+
+from . import words
+from .words import Code
 
 CLOSURE = re.compile(r"\{closure#(\d+)\}$")
 BODY = re.compile(r"\{(async|gen|async gen) (fn body|block|closure body)\b")
 AROUND = re.compile(r"'(\w+) of the function around this closure")
 NUMBERED = re.compile(r"_*r\d+_*|_*\d+|_+")
+# What a region is that no variable of the source has.
+INNER = re.compile(r"(?:region \d+ of \d+ in )?the type of the temporary|in the statement|the borrow ")
+OF_VARIABLE = re.compile(r"(?:region \d+ of \d+ in )?the type of (the result|\w+)(?: \(_\d+\))?(?::|;|$)")
 
 
-def function_words(facts):
-    """The function's name; of a closure or the body of an async function, whose it is."""
+def function_words(facts, is_async=False):
+    """The function's name; of a closure or the body of an async function, whose it is.
+
+    That the function around a closure is async its source says, where it is at hand.
+    """
     *around, last = split_path(facts.remarks.function)
     found = CLOSURE.match(last)
     if not found:
         return facts.remarks.function
     outer = "::".join(around)
-    body = body_kind(facts)
+    body = body_kind(facts) or ("async body" if is_async and found[1] == "0" else "")
     if body and not CLOSURE.search(outer):
         return f"{body} of {outer}"
     words = [f"closure {int(found[1]) + 1}"]
@@ -53,3 +62,23 @@ def region_text(facts, text):
         whose = f"of {outer}" if outer else "of the function around this closure"
         return f"an unnamed lifetime {whose}" if NUMBERED.fullmatch(found[1]) else f"'{found[1]} {whose}"
     return AROUND.sub(named, text)
+
+
+def is_inner(facts, region):
+    """Whether it is the region of a borrow, a statement or a temporary, to which the source gives no name."""
+    name = facts.names[region]
+    return bool(NUMBERED.fullmatch(name) and INNER.match(facts.remarks.region(name).text))
+
+
+def lifetime_words(facts, region):
+    """A region by its name; one that rustc numbers by the variable in whose type it is, or by its borrow."""
+    name = facts.names[region]
+    said = facts.remarks.region(name).text
+    if facts.is_universal(region) or not NUMBERED.fullmatch(name):
+        return [words.tick(facts, region)]
+    if said.startswith("the borrow "):
+        return ["the borrow ", words.tick(facts, region)]
+    found = OF_VARIABLE.match(said)
+    if not found:
+        return [words.tick(facts, region)]
+    return ["the lifetime in ", "the result" if found[1] == "the result" else Code(found[1])]

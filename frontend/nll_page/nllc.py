@@ -16,6 +16,9 @@ ROOT = os.path.dirname(os.path.dirname(os.path.dirname(os.path.abspath(__file__)
 PROVED = "proved"
 UNPROVED = "not proved"
 UNKNOWN = "unknown"
+STANDINGS = {"proved": PROVED, "unproved": UNPROVED}    # as `nllc.sh --which` says it
+INSTALLED = {"nllc": PROVED, "nllc-unproved": UNPROVED}    # beside the folder frontend/ of an installed copy
+PATIENCE = 1.0
 
 
 class Report(NamedTuple):
@@ -27,27 +30,52 @@ class Report(NamedTuple):
     standing: str
 
 
+class Program(NamedTuple):
+    """The program that answers, and whether it is proved."""
+
+    path: str
+    standing: str
+
+
 def find():
-    """The program in the variable NLLC, the repository's `nllc.sh`, or the `nllc` on the PATH."""
+    """The program in the variable NLLC, the repository's `nllc.sh`, that of an installed copy, or the `nllc` on the PATH."""
     named = os.environ.get("NLLC")
     if named:
         found = shutil.which(named)
         if not found:
             raise Refusal(f"there is no program {named}, which the variable NLLC names")
         return found
-    script = os.path.join(ROOT, "nllc.sh")
-    found = script if os.access(script, os.X_OK) else shutil.which("nllc")
+    beside = (os.path.join(ROOT, name) for name in ("nllc.sh", *INSTALLED))
+    found = next((path for path in beside if os.access(path, os.X_OK)), None) or shutil.which("nllc")
     if not found:
-        raise Refusal("no nllc is found: neither nllc.sh beside the folder frontend/ nor nllc on the "
-                      "PATH; name one "
-                      "by the variable NLLC, or hand in what it printed: --values FILE")
+        raise Refusal("no nllc is found: neither beside the folder frontend/ nor on the PATH; name one "
+                      "by the variable NLLC")
     return found
+
+
+@cache
+def program_of(found):
+    """The program that is found; `nllc.sh` is asked once which one it runs, and compiles that if need be."""
+    if os.path.basename(found) != "nllc.sh":
+        is_installed = found in (os.path.join(ROOT, name) for name in INSTALLED)
+        return Program(found, INSTALLED[os.path.basename(found)] if is_installed else UNKNOWN)
+    try:
+        with subprocess.Popen([found, "--which"], stdin=subprocess.DEVNULL, stdout=subprocess.PIPE, encoding="utf-8",
+                              errors="replace", stderr=None if sys.stderr.isatty() else subprocess.PIPE) as asked:
+            for line in asked.stderr or ():
+                sys.stderr.write(line)
+                sys.stderr.flush()
+            standing, _, path = asked.stdout.read().strip().partition(" ")
+    except OSError as error:
+        raise Refusal(f"{found} can't be run: {error.strerror}") from None
+    if asked.returncode or standing not in STANDINGS:
+        raise Refusal(f"{shown(found)} has no program to run, as it says above", 3)
+    return Program(path, STANDINGS[standing])
 
 
 def run(text):
     """Runs `values` and `check` on the text, side by side."""
-    program = find()
-    make_ready(program)
+    program, standing = program_of(find())
     with tempfile.TemporaryDirectory(prefix="nll-page.") as folder:
         copy = os.path.join(folder, "text.facts")
         with open(copy, "wb") as file:
@@ -61,16 +89,7 @@ def run(text):
             check.stop()
         values.judge((0,))
         check.judge((0, 1))
-        return Report(values.text("out"), fault_lines(check.text("out")), shown(program),
-                      standing(program, values))
-
-
-@cache
-def make_ready(program):
-    """Has `nllc.sh` compile now, with its word of how long, what it would compile for both runs."""
-    if os.path.basename(program) == "nllc.sh":
-        subprocess.run([program, "--help"], stdin=subprocess.DEVNULL, stdout=subprocess.DEVNULL,
-                       stderr=None if sys.stderr.isatty() else subprocess.DEVNULL, check=False)
+        return Report(values.text("out"), fault_lines(check.text("out")), shown(program), standing)
 
 
 class Run:
@@ -91,6 +110,14 @@ class Run:
         with open(self.files[stream], encoding="utf-8", errors="replace") as file:
             return file.read()
 
+    def is_ended(self, patience):
+        """Whether the process has ended, or does so in so many seconds."""
+        try:
+            self.process.wait(patience)
+        except subprocess.TimeoutExpired:
+            return False
+        return True
+
     def stop(self):
         if self.process.poll() is None:
             self.process.terminate()
@@ -101,27 +128,24 @@ class Run:
         status = self.process.returncode
         if status in statuses:
             return
-        said = [line for line in self.text("err").splitlines() if line
-                and not line.startswith("nllc.sh:")]
+        said = self.text("err").strip().splitlines()
         if status == 2:
             raise Refusal(f"nllc refuses the text: {said[-1] if said else 'it says not why'}")
-        hint = " (is `rt` of the Rattle kit on the PATH?)" if status == 127 else ""
-        last = (self.text("err").strip().splitlines() or ["it said nothing"])[-1]
-        raise Refusal(f"{shown(self.program)} ended with status {status}: {last}{hint}; "
-                      f"what it printed elsewhere can be handed in by --values FILE", 3)
+        last = said[-1] if said else "it said nothing"
+        raise Refusal(f"{shown(self.program)} ended with status {status}: {last}", 3)
 
 
-def wait(runs, patience=1.0):
-    """Waits for all; says so on standard error where it takes longer than the patience."""
+def wait(runs):
+    """Waits for all; says so on standard error, each second, where somebody looks."""
     began = time.monotonic()
     told = False
-    while any(run.process.poll() is None for run in runs):
-        time.sleep(0.02)
-        seconds = time.monotonic() - began
-        if seconds > patience and sys.stderr.isatty():
-            sys.stderr.write(f"\rnll-page: nllc computes the values ({seconds:.0f} s) ")
-            sys.stderr.flush()
-            told = True
+    for run in runs:
+        while not run.is_ended(PATIENCE):
+            if sys.stderr.isatty():
+                seconds = time.monotonic() - began
+                sys.stderr.write(f"\rnllc computes the values ({seconds:.0f} s) ")
+                sys.stderr.flush()
+                told = True
     if told:
         sys.stderr.write("\r\033[K")
 
@@ -136,10 +160,3 @@ def shown(program):
     """The path of the program, in the repository from its root on."""
     inside = os.path.relpath(program, ROOT)
     return program if inside.startswith("..") else inside
-
-
-def standing(program, values):
-    """Whether the build was proved, as far as `nllc.sh` says it."""
-    if os.path.basename(program) != "nllc.sh":
-        return UNKNOWN
-    return UNPROVED if "isn't proved" in values.text("err") else PROVED

@@ -6,8 +6,11 @@ from typing import NamedTuple, Optional
 
 from . import drawing, layout, lines, words
 from .both import both
+from .difference_list import difference_list
+from .differences import differences, handed_out
 from .escaping import script_data, text, visible
 from .fault_list import fault_list
+from .icon import icon
 from .index import row_mark, row_of
 from .loan_list import loan_list
 from .names import function_words
@@ -16,6 +19,7 @@ from .point_list import blocks, end_list, point_list, source_list, tabs
 from .region_graph import region_graph
 from .region_list import region_list, region_words
 from .source import Source
+from .verdicts import badge, verdict_of
 
 TEMPLATES = os.path.join(os.path.dirname(os.path.abspath(__file__)), "templates")
 SCRIPTS = ("values.js", "show.js", "words.js", "large.js", "choose.js", "graph.js", "keys.js", "start.js")
@@ -52,6 +56,7 @@ class Content(NamedTuple):
     needs: list = []    # pairs that a closure needs of the function around it
     problem: str = ""   # a sentence on where the problem comes from, where the text doesn't say it itself
     everywhere: Optional["Content"] = None  # the answer where each constraint holds at all points, if it's asked for
+    index: str = ""     # the page of all pages of the folder, where there is one
 
 
 def page(content):
@@ -64,16 +69,19 @@ def page(content):
     is_large = rows > MOST_ROWS
     folded, large = drawing.many(facts, graph, shape) if is_large else \
         (drawing.folded(facts, graph, shape), None)
+    verdict = verdict_of(content)
     return fill("page.html", {
-        "title": text(name_of(content)),
+        "title": text(title_of(content)),
+        "icon": icon(verdict.kind),
+        "back": back(content),
         "row": row_mark(row_of(content, name_of(content))),
-        "css": template("look.css") + template("page.css"),
-        "js": "\n".join(map(template, SCRIPTS)),
+        "css": compact(template("look.css") + template("code.css") + template("page.css")),
+        "js": compact("\n".join(map(template, SCRIPTS))),
         "name": text(name_of(content)),
         "about": about(content),
-        "verdict": verdict(content),
+        "verdict": verdict_part(verdict, content),
         "provenance": provenance(content),
-        "faults": fault_list(content) + loan_list(content) + both(content),
+        "faults": fault_list(content) + loan_list(content) + difference_list(content) + both(content),
         "regions": region_list(content),
         "tabs": tabs(content),
         "source": source_list(content, is_large),
@@ -92,13 +100,24 @@ def template(name):
         return file.read()
 
 
+ASYNC = re.compile(r"\s*(?:pub(?:\([^)]*\))?\s+)?async\s+(?:unsafe\s+)?fn\b")
+MOST_HEAD = 20      # lines, among which a function's head is looked for
+COMMENT = re.compile(r"/\*.*?\*/|^\s*//.*?$", re.DOTALL | re.MULTILINE)
+
+
+def compact(text):
+    """Style or script without comments and indents, which nobody reads in a page."""
+    return "".join(f"{line.strip()}\n" for line in COMMENT.sub("", text).split("\n") if line.strip())
+
+
 def fill(name, parts):
     """The template with each `{{part}}` in place; what is put in isn't looked at again."""
     return re.sub(r"\{\{(\w+)\}\}", lambda found: parts[found[1]], template(name))
 
 
 def name_of(content):
-    named = function_words(content.facts)
+    lines = content.source.lines if content.source else ()
+    named = function_words(content.facts, any(ASYNC.match(line) for line in lines[:MOST_HEAD]))
     return named or os.path.basename(content.facts_path).removesuffix(".facts")
 
 
@@ -110,13 +129,23 @@ def about(content):
     return f'<span class="path">{text(path)}</span> <span>{" · ".join(counts)}</span>'
 
 
-def verdict(content):
-    counts = [words.plural(len(found), noun)
-              for found, noun in ((content.faults, "fault"), (content.loans, "loan error")) if found]
-    if not counts:
-        return '<p class="verdict fine"><span aria-hidden="true">✓</span> no fault</p>'
-    return (f'<p class="verdict faulty"><span aria-hidden="true">✕</span> '
-            f'{", ".join(counts)}</p>')
+def title_of(content):
+    """What a tab says: the name, and the file."""
+    name = name_of(content)
+    path = content.source.path if content.source else content.facts.remarks.source
+    return f"{name} ({os.path.basename(path)})" if path and os.path.basename(path) != name else name
+
+
+def back(content):
+    return f'<a class="back" href="./{text(content.index)}">‹ all pages</a>' if content.index else ""
+
+
+def verdict_part(verdict, content):
+    """The badge, and beside it what rustc says."""
+    said = badge(verdict.kind, verdict.words)
+    if verdict.rustc is not None:
+        said += f'<p class="of-rustc">rustc: {text(verdict.rustc)}</p>'
+    return said
 
 
 def provenance(content):
@@ -129,7 +158,10 @@ def data(content, found, large=None):
     facts = content.facts
     more = {} if large is None else {
         "large": large, "blocks": [[row.points for row in rows] for _, rows in found]}
+    if facts.point_names:
+        more["names"] = [facts.point_name(point) for point in range(facts.points)]
     return more | {
+        "start": start(content),
         "points": facts.points,
         "universals": facts.universals,
         "regions": [region_data(content, region) for region in range(len(facts.names))],
@@ -139,6 +171,17 @@ def data(content, found, large=None):
         "texts": [visible(lines.words_of(facts, point)) for point in range(facts.points)],
         "lines": [facts.remarks.point(point).line for point in range(facts.points)],
     }
+
+
+def start(content):
+    """What is lit at first: the first step of a fault, or the region of the first loan that is spoken of."""
+    if content.faults:
+        return {"step": 0}
+    regions = [fault.loan.region for fault in content.loans]
+    for line, column, _, _ in [] if regions else differences(content):
+        loan = handed_out(content, line, column)
+        regions += [loan.region] if loan else []
+    return {"region": content.facts.names.index(regions[0])} if regions else {}
 
 
 def region_data(content, region):

@@ -2,7 +2,8 @@
 
 from . import lines, words
 from .escaping import text, visible
-from .source import pieces
+from .labels import labels_of
+from .source import is_mir, pieces
 
 
 MOST_IN_PART = 100  # rows, where no remark names blocks
@@ -28,24 +29,55 @@ def source_list(content, is_large=False):
     for row in all_rows(facts):
         rows.setdefault(facts.remarks.point(row.points[0]).line, []).append(row)
     asking = {number for fault in content.faults for number in words.arising(facts, fault.steps)}
-    return "".join(source_line(facts, number, line, rows.get(number, []), number in asking, is_large)
-                   for number, line in enumerate(content.source.lines, content.source.first))
+    labels = labels_of(content)
+    source = content.source
+    return "".join(source_line(facts, number, code_part(source, line, labels.get(number, ())),
+                               rows.get(number, []), number in asking or number in labels, is_large)
+                   for number, line in enumerate(source.lines, source.first))
 
 
-def source_line(facts, number, line, rows, asks, is_large=False):
+def source_line(facts, number, code, rows, asks, is_large=False):
     """A line of the source; with points it opens, and shows them."""
     head = f'<span class="no">{number}</span>'
-    code = "".join(f'<span class="{kind}">{text(piece)}</span>' if kind else text(piece)
-                   for kind, piece in pieces(visible(line)))
+    kind = "line asks" if asks else "line"
     if not rows:
-        return (f'<div class="line" id="line-{number}">{head}<span class="strip"></span>'
+        return (f'<div class="{kind}" id="line-{number}">{head}<span class="strip"></span>'
                 f"<code>{code}</code></div>")
-    kind, told = ("line asks", " title='a constraint of a fault’s chain arises here'") \
-        if asks else ("line", "")
     inside = "" if is_large else "".join(point_row(facts, row) for row in rows)
-    return (f'<details class="{kind}" id="line-{number}"><summary{told}>{head}{strip(rows)}'
+    return (f'<details class="{kind}" id="line-{number}"><summary>{head}{strip(rows)}'
             f"<code>{code}</code></summary>"
             f'<div class="rows">{inside}</div></details>')
+
+
+def code_part(source, line, labels):
+    """The words of a line by kind, marked where a label has a place, and behind them the labels."""
+    marked = {}
+    for label in labels:
+        place = label.place
+        if place and place.column and place.last == place.line:
+            marked.update((column, label.kind) for column in range(place.column - 1, place.end - 1))
+    shown, at = [], 0
+    for kind, piece in pieces(line, is_mir(source)):
+        shown += [piece_part(kind, part, mark) for mark, part in runs(piece, at, marked)]
+        at += len(piece)
+    shown += [f'<span class="label {label.kind}">{text(label.words)}</span>' for label in labels]
+    return "".join(shown)
+
+
+def runs(piece, start, marked):
+    """The parts of a piece that are marked alike."""
+    found = []
+    for at, letter in enumerate(piece, start):
+        if found and found[-1][0] == marked.get(at):
+            found[-1][1] += letter
+        else:
+            found.append([marked.get(at), letter])
+    return found
+
+
+def piece_part(kind, piece, mark):
+    named = " ".join(filter(None, (kind, mark and f"at {mark}")))
+    return f'<span class="{named}">{text(piece)}</span>' if named else text(piece)
 
 
 def strip(rows):
@@ -80,9 +112,10 @@ def blocks(facts):
 
 
 def block_part(facts, number, name, rows, is_large):
-    first, last = rows[0].points[0], rows[-1].points[-1]
-    numbers = str(first) if first == last else f"{first}–{last}"
-    head = f'{text(name) + " " if name else ""}<span class="of">{numbers}</span>'
+    first, last = facts.point_name(rows[0].points[0]), facts.point_name(rows[-1].points[-1])
+    numbers = first if first == last else f"{first}–{last}"
+    own = "" if name and facts.point_names else f'<span class="of">{numbers}</span>'
+    head = f'{text(name) + " " if name else ""}{own}'
     inside = "" if is_large else "".join(
         point_row(facts, row, place_mark(facts, row.points[0])) for row in rows)
     is_open = "" if is_large and number else " open"
@@ -91,17 +124,15 @@ def block_part(facts, number, name, rows, is_large):
 
 
 def place_mark(facts, point):
-    """The line of a point, and its name where that isn't its number."""
+    """The line of a point."""
     line = facts.remarks.point(point).line
-    said = [facts.point_names[point]] if point in facts.point_names else []
-    said += [f"line {line}"] if line is not None else []
-    return f'<span class="at">{text(", ".join(said))}</span>' if said else ""
+    return "" if line is None else f'<span class="at">line {line}</span>'
 
 
 def point_row(facts, row, behind=""):
     """The buttons of a statement's points, and its words; what stands behind them comes last."""
     buttons = "".join(f'<button type="button" class="point" data-p="{point}" tabindex="-1">'
-                      f"{point}</button>" for point in row.points)
+                      f"{facts.point_name(point)}</button>" for point in row.points)
     return (f'<div class="row"><span class="numbers">{buttons}</span>{row_words(facts, row)}'
             f"{return_mark(facts, row)}{behind}</div>")
 

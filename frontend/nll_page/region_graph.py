@@ -10,7 +10,7 @@ from . import layout, words
 from .escaping import text, visible
 from .facts import ALL
 
-LETTER = 6.65
+LETTER = 6.95
 PAD = 8
 ROW = 18
 LABEL = 16          # the height of an arrow's label
@@ -164,7 +164,7 @@ def box_size(names, told):
 
 
 def label_size(short):
-    return len(short) * 6 + 8, LABEL
+    return len(short) * 6.4 + 8, LABEL
 
 
 def arrow(route, has_head):
@@ -186,8 +186,7 @@ def box_part(facts, box, inner, corner, size):
     for at, region in enumerate(box.regions):
         name, what = f"'{facts.names[region]}", words.region_words(facts, region)
         label = f"{name}: {what}" if what else name
-        rows.append(f'<g class="knot" data-r="{region}" role="button" tabindex="0" '
-                    f'aria-label="{text(label)}"><title>{text(label)}</title>'
+        rows.append(f'<g class="knot" data-r="{region}" role="button" tabindex="0"><title>{text(label)}</title>'
                     f'<rect x="2" y="{PAD / 2 + at * ROW:g}" width="{size[0] - 4:.1f}" height="{ROW}" rx="4"/>'
                     f'<text x="{PAD}" y="{PAD / 2 + at * ROW + 13:g}">{text(name)}</text></g>')
     rows += [f'<text class="asked" x="{PAD}" y="{PAD / 2 + (len(names) + at) * ROW + 13:g}">{text(line)}</text>'

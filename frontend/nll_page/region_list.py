@@ -39,7 +39,7 @@ def region_item(content, region):
     return (f'<li><button type="button" class="region{"" if elements else " empty"}" '
             f'data-r="{region}" aria-pressed="false" tabindex="-1" title="{text(what)}">'
             f'<code class="name">&#x27;{text(name)}</code><span class="what">{text(short)}</span>'
-            f"{barcode(facts, elements)}{end_marks(content, region)}</button></li>")
+            f"{barcodes(content, region)}{end_marks(content, region)}</button></li>")
 
 
 def region_words(facts, region):
@@ -51,11 +51,20 @@ def region_words(facts, region):
     return ", ".join(part for part in (region_text(facts, remark.text), line) if part)
 
 
-def barcode(facts, elements):
+def barcodes(content, region):
+    """The strip of the region's points; with a second answer that one's below it."""
+    first = barcode(content.facts, content.values.elements(region))
+    if content.everywhere is None:
+        return first
+    second = barcode(content.facts, content.everywhere.values.elements(region), "at all points it ")
+    return f'<span class="barcodes">{first}{second}</span>'
+
+
+def barcode(facts, elements, head=""):
     """A strip as long as all points, dark where the region holds them."""
     points = [element for element in elements if element < facts.points]
     bars = "".join(f"M{a} 0h{b - a + 1}v1h{a - b - 1}z" for a, b in words.spans(points))
-    label = f"holds {words.plural(len(points), 'point')}" if points else "holds no point"
+    label = head + (f"holds {words.plural(len(points), 'point')}" if points else "holds no point")
     return (f'<svg class="barcode" viewBox="0 0 {facts.points} 1" preserveAspectRatio="none" '
             f'role="img" aria-label="{text(label)}"><path d="{bars}"/></svg>')
 

@@ -2,6 +2,7 @@
 
     # function: NAME
     # source: PATH
+    # way: WORDS
     # point N: line L: TEXT
     # region 'NAME: line L: TEXT
 
@@ -18,6 +19,7 @@ from .beside import Beside
 
 FUNCTION = re.compile(r"#\s*function:\s*(\S.*)", re.ASCII)
 SOURCE = re.compile(r"#\s*source:\s*(\S.*)", re.ASCII)
+WAY = re.compile(r"#\s*way:\s*(\S.*)", re.ASCII)
 POINT = re.compile(r"#\s*point (\d{1,9}):\s*(?:line (\d{1,9}):\s*)?(.*)", re.ASCII)
 REGION = re.compile(r"#\s*region '(\w+):\s*(?:line (\d{1,9}):\s*)?(.*)", re.ASCII)
 
@@ -51,6 +53,7 @@ class Remarks:
 
     function: str = ""
     source: str = ""
+    way: str = ""           # by what the text was made, where it isn't rustc's facts
     points: dict = field(default_factory=dict)
     regions: dict = field(default_factory=dict)
     beside: Beside = field(default_factory=Beside)
@@ -77,6 +80,8 @@ class Remarks:
             self.function = self.function or found[1]
         elif found := SOURCE.fullmatch(line):
             self.source = self.source or found[1]
+        elif found := WAY.fullmatch(line):
+            self.way = self.way or found[1]
 
 
 def is_remark(line):

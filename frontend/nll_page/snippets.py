@@ -22,11 +22,16 @@ def snippet(source, place):
     return words
 
 
-def whole_line(source, number):
-    """A line without its indent and what is said behind it."""
+def text_of(source, number):
+    """A line as it stands there; empty where the source isn't at hand."""
     if source is None or not source.first <= number < source.first + len(source.lines):
         return ""
-    words = source.lines[number - source.first].partition("//")[0].strip()
+    return source.lines[number - source.first]
+
+
+def whole_line(source, number):
+    """A line without its indent and what is said behind it."""
+    words = text_of(source, number).partition("//")[0].strip()
     return words if len(words) <= MOST_LETTERS else words[:MOST_LETTERS - 3].rstrip() + " .."
 
 

@@ -4,6 +4,7 @@ import os
 import re
 from typing import NamedTuple
 
+from .called import called
 from .refusal import Refusal
 
 MOST_BYTES = 4 * 1024 * 1024
@@ -20,7 +21,14 @@ WORD = re.compile(r"""
 """, re.VERBOSE)
 
 
-REMARK = re.compile(r"\s*#(?![\[!])")     # of a MIR text; Rust's attributes go on with a bracket
+# The words of a MIR text. Its regions may have a number for a name.
+MIR_WORD = re.compile(r"""
+    (?P<comment>^\s*\#.*)
+  | (?P<lifetime>'\w+)
+  | (?P<keyword>\b(?:universal|outlives|region|assert|struct|let|blocks|block|read|live|dead|nop|goto|switch|drop|call|
+      where|unwind|return|stop|end|make|mut|const|copy|move|int|fn|for)\b)
+  | (?P<number>\b[0-9]+\b)
+""", re.VERBOSE)
 
 
 class Source(NamedTuple):
@@ -60,7 +68,7 @@ def read(path, facts):
     if named and max(named) > len(lines):
         raise Refusal(f"{path} has {len(lines)} lines, and the facts text speaks of line "
                       f"{max(named)}: "
-                      f"was the file changed? `nllc.sh facts` makes a new text")
+                      f"was the file changed? `{called('facts')}` makes a new text")
     first, last = window(lines, named) if named else (1, len(lines))
     return Source(path, first, lines[first - 1:last])
 
@@ -88,13 +96,15 @@ def closes(line, depth):
     return indent(line) <= depth and line.rstrip().endswith("}")
 
 
-def pieces(line):
+def is_mir(source):
+    """Whether these are lines of a MIR text."""
+    return source.path.endswith(".mir") or source.first == 1 and source.lines[0].split()[:1] == ["nll-mir"]
+
+
+def pieces(line, of_mir=False):
     """The line cut into pairs of a kind ("" for the rest) and text."""
-    if REMARK.match(line):
-        yield "comment", line
-        return
     at = 0
-    for found in WORD.finditer(line):
+    for found in (MIR_WORD if of_mir else WORD).finditer(line):
         if found.start() > at:
             yield "", line[at:found.start()]
         yield found.lastgroup, found[0]

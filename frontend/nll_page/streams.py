@@ -1,8 +1,14 @@
-"""Standard output and standard error, whatever the locale is and wherever they lead."""
+"""Standard output and standard error, whatever the locale is and wherever they lead, and how a run ends."""
 
 import codecs
+import contextlib
 import os
+import signal
 import sys
+
+from .called import called
+from .escaping import visible
+from .refusal import Refusal
 
 # How a person writes them without the letter.
 PLAIN = {"→": "->", "…": "..", "–": "-", "’": "'", "‹": "<", "›": ">"}
@@ -25,9 +31,52 @@ def any_locale():
             stream.reconfigure(errors="plain")
 
 
+def guarded(word, work):
+    """The status of what one of the command's words does; what it can't do is one line on standard error."""
+    program = called(word)
+    sys.stderr = sys.stderr or open(os.devnull, "w", encoding="utf-8")    # it is None where it was closed
+    if sys.stdout is None:
+        return tell(f"{program}: standard output can't be written: it is closed", 3)
+    end_by_signals()
+    any_locale()
+    try:
+        status = ended(work)
+        sys.stdout.flush()
+        return status
+    except Refusal as refusal:
+        return tell(f"{program}: {visible(str(refusal))}", refusal.status)
+    except KeyboardInterrupt:
+        return tell(f"{program}: stopped; nothing half-written is left", 130)
+    except OSError as error:
+        return unwritten(program, error)
+
+
+def tell(line, status):
+    """Says a line on standard error, if that can be written; the status."""
+    with contextlib.suppress(OSError):
+        sys.stderr.write(line + "\n")
+        sys.stderr.flush()
+    return status
+
+
+def end_by_signals():
+    """Has a signal end the work as Ctrl-C does, so that what is half-written is taken away."""
+    for number in (signal.SIGTERM, signal.SIGHUP):
+        if signal.getsignal(number) == signal.SIG_DFL:    # it is ignored under nohup
+            signal.signal(number, signal.default_int_handler)
+
+
+def ended(work):
+    """The status of the work, also where it ends with help or a word that isn't known."""
+    try:
+        return work()
+    except SystemExit as end:
+        return end.code
+
+
 def unwritten(program, error):
     """Says in one line that standard output can't be written, unless nobody reads it; the status."""
     os.dup2(os.open(os.devnull, os.O_WRONLY), 1)    # what is still to be written goes there
-    if not isinstance(error, BrokenPipeError):
-        sys.stderr.write(f"{program}: standard output can't be written: {error.strerror}\n")
-    return 3
+    if isinstance(error, BrokenPipeError):
+        return 3
+    return tell(f"{program}: standard output can't be written: {error.strerror}", 3)

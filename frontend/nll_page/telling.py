@@ -6,16 +6,27 @@ A telling is a place, and two sentences; a sentence is a list of strings, as in 
 import re
 from typing import NamedTuple, Optional
 
-from . import blame, loans, words
+from . import advice, blame, gone, loans, words
 from .beside import Place
+from .counterparts import are_same, counterpart, pair_of
+from .escaping import visible
+from .lifetimes import Lifetimes
 from .snippets import borrowed, snippet, whole_line
 from .words import Code
 
 # What a constraint of a category does with what stands at its place.
-DEEDS = {"return": "returned", "yield": "yielded", "constant": "made a constant",
-         "annotation": "annotated", "generic": "annotated", "cast": "cast", "object": "made an object",
-         "argument": "passed on", "bound": "bound", "assignment": "assigned", "use": "used",
-         "capture": "captured", "predicate": "asked", "opaque": "the type of the result"}
+DEEDS = {"return": "returned", "yield": "yielded", "constant": "used as a constant",
+         "annotation": "written as a type", "generic": "written as a type", "cast": "cast",
+         "object": "made a trait object", "argument": "given as an argument", "bound": "bound by its type",
+         "assignment": "assigned", "use": "used", "capture": "captured by a closure",
+         "predicate": "asked by a bound", "opaque": "returned as an impl type"}
+# And what asks for it there.
+ASKERS = {"return": "what is returned here", "yield": "what is yielded here", "constant": "this constant",
+          "annotation": "the type that is written here", "generic": "the type that is written here",
+          "cast": "this cast", "object": "this trait object", "argument": "this call",
+          "bound": "a bound of this type", "assignment": "this assignment", "use": "this use",
+          "capture": "what the closure captures here", "predicate": "a bound of what is called here",
+          "opaque": "the impl type of the result"}
 ACTS = {"mut": "borrows as mutable", "unique": "borrows as mutable", "late": "borrows as mutable",
         "shared": "borrows", "moves": "moves", "assigns": "assigns to", "reads": "uses", "looks": "looks at"}
 # The same, of a place of the source that is no more than what it is done to.
@@ -24,26 +35,70 @@ SUFFERED = {"mut": "is borrowed as mutable", "unique": "is borrowed as mutable",
             "looks": "is looked at"}
 PATH = re.compile(r"\**[A-Za-z_]\w*(?:\.\w+)*")
 
-OF_VARIABLE = re.compile(r"the type of (\w+)(?::|;|$)")
+DROPPED = re.compile(r"drop\((\w+)")
+DESTRUCTOR = re.compile(r"here, drop of `(.*)` needs exclusive access to `(.*)`, because the type `(.*)` implements")
+EARLIER = "in an earlier turn of the loop"
+MOST_HELPS = 2
+
+# What takes a borrow that is made at a statement, by the statements of MIR.
+MADE = re.compile(r"(_\d+) = &")
+CALL = r"= (.*)\((?:.*, )?(?:move|copy) {}\b.*\) -> "
+TRAIT = re.compile(r" as (?:[\w:]+::)?(\w+)(?:<.*>)?>::\w+$")
+LAST_NAME = re.compile(r"(\w+)$")
+GENERICS = re.compile(r"::<.*>")
+OPERATORS = {"Deref": ["its type's ", Code("Deref")], "DerefMut": ["its type's ", Code("DerefMut")],
+             "Index": ["an index"], "IndexMut": ["an index"]}
+MOST_STATEMENTS = 12
+HELP = "help: "
 
 
 class Telling(NamedTuple):
-    """Where it is, what it is called, what it is, and how it comes about."""
+    """Where it is, what it is called, what it is, how it comes about, the fault that is told, and what else is said."""
 
     place: Optional[Place]
     code: str
     head: list
     cause: list
+    fault: object
+    more: list = []
 
 
-def of_fault(content, fault):
-    """A lifetime that would have to outlive another."""
-    facts = content.facts
-    named = blame.of_chain(facts, fault.steps)
-    deed = f" ({DEEDS[named.word]})" if named and named.word in DEEDS else ""
-    head = [*lifetime(facts, fault.sup), " must outlive ", *lifetime(facts, fault.sub),
-            ", which the signature doesn't say", deed]
-    return Telling(place_of_fault(facts, fault, named), "", head, way_of(content, fault))
+def of_fault(content, fault, further=()):
+    """A lifetime that would have to outlive another; and, at the same place, further ones."""
+    named = blame.of_fault(content.facts, fault)
+    told = Telling(place_of_fault(content.facts, fault, named), "", [], [], fault)
+    error = counterpart(content, told)
+    lifetimes = Lifetimes(content, fault, error)
+    asker = f": {ASKERS[named.word]} needs it" if named and named.word in ASKERS else ""
+    shorter = [lifetimes.name(one.sub) for one in (fault, *further)]
+    head = [*lifetimes.name(fault.sup), " must outlive ", *words.joined(shorter),
+            ", which the signature doesn't say", asker]
+    more = [lifetimes.places(fault.sup, *(one.sub for one in (fault, *further))), *notes(content, fault, error)]
+    return told._replace(head=head, cause=way_of(content, fault, lifetimes), more=list(filter(None, more)))
+
+
+def of_faults(content):
+    """The faults, each place and longer lifetime once; rustc's own pair comes first."""
+    groups = {}
+    for fault in content.faults:
+        place = place_of_fault(content.facts, fault, blame.of_fault(content.facts, fault))
+        groups.setdefault((fault.sup, place[:2] if place else fault.sub), []).append(fault)
+    for faults in groups.values():
+        faults.sort(key=lambda one: not is_of_rustc(content, one))
+        yield of_fault(content, faults[0], faults[1:])
+
+
+def is_of_rustc(content, fault):
+    """Whether an error of rustc is of the very lifetimes of a fault."""
+    return any(error.is_of_lifetimes() and pair_of(error) and are_same(content.facts, fault, pair_of(error))
+               for error in content.facts.remarks.beside.rustc)
+
+
+def notes(content, fault, error):
+    """Why no other lifetime will do, and what rustc advises; where it advises nothing, the usual ways out."""
+    why = [["invariant: ", *words.ticked("; ".join(error.notes))]] if error and error.notes else []
+    helps = [words.ticked(one) for one in error.helps[:MOST_HELPS]] if error else []
+    return why + [[HELP, *one] for one in helps or [advice.of(content, fault)]]
 
 
 def place_of_fault(facts, fault, named):
@@ -54,13 +109,13 @@ def place_of_fault(facts, fault, named):
     return None if line is None else Place(line, 0, line, 0)
 
 
-def way_of(content, fault):
+def way_of(content, fault, lifetimes):
     """The lines through which what is to last too long goes."""
     stops = stops_of(content, fault.steps[::-1])
-    name = lifetime(content.facts, fault.sup)
+    name = lifetimes.name(fault.sup)
     if not stops:
         return [*name, " is asked to by constraints that no line of the source is known for"]
-    return ["what lives for ", *name, " comes to ", *lifetime(content.facts, fault.sub), " by ",
+    return ["what lives for ", *name, " comes to ", *lifetimes.name(fault.sub), " by ",
             *words.joined(stops)]
 
 
@@ -97,8 +152,14 @@ def stop(content, named):
 
 def of_loan(content, fault):
     """A loan that something goes against."""
-    return Telling(place_of_loan(content, fault), fault.code, loan_head(content, fault),
-                   loan_cause(content, fault))
+    told = Telling(place_of_loan(content, fault), fault.code, [], [], fault)
+    error = counterpart(content, told)
+    is_same = error is not None and error.code() == fault.code
+    lifetimes = Lifetimes(content, fault, error)
+    regions = [fault.cause.region] if content.facts.is_universal(fault.cause.region) else []
+    more = [lifetimes.places(*regions), *notes(content, fault, error)]
+    return told._replace(head=loan_head(content, fault, error if is_same else None),
+                         cause=loan_cause(content, fault, lifetimes), more=list(filter(None, more)))
 
 
 def place_of_loan(content, fault):
@@ -108,12 +169,20 @@ def place_of_loan(content, fault):
     return borrowed(content.source, fault.place) if is_use else fault.place
 
 
-def loan_head(content, fault):
+def loan_head(content, fault, error):
     """What is wrong, at rustc's place."""
+    what = what_of(fault, error)
     if fault.against.way in loans.ENDING:
-        return ending_head(content, fault)
+        return ending_head(content, fault, what, error)
     code = snippet(content.source, fault.against.place)
-    return path_head(content, fault, code) if PATH.fullmatch(code) else deed_head(content, fault, code)
+    return path_head(content, fault, code) if PATH.fullmatch(code) else deed_head(content, fault, code, what)
+
+
+def what_of(fault, error):
+    """What is borrowed, as rustc calls it, or else the variable; nothing where it has no name."""
+    if error and error.named():
+        return [Code(error.named())]
+    return [] if fault.loan.is_of_temporary() else [Code(fault.loan.what.lstrip("*"))]
 
 
 def path_head(content, fault, path):
@@ -126,15 +195,22 @@ def path_head(content, fault, path):
     return [*done, *by, f" has borrowed it{as_mutable(loan)}"]
 
 
-def deed_head(content, fault, code):
+def deed_head(content, fault, code, what):
     """What the statement there does."""
     loan = fault.loan
-    does = [*([Code(code)] if code else ["this"]), " ", ACTS[fault.against.way], " what "]
+    does = [*([Code(code)] if code else ["this"]), *act(fault.against.way, what)]
     if loan.kind == "fake":
         return [*does, "the ", Code("match"), " is looking at"]
     if is_of_earlier_turn(fault):
-        return [*does, f"it has borrowed{as_mutable(loan)} in an earlier turn of the loop"]
+        return [*does, f"it has borrowed{as_mutable(loan)} {EARLIER}"]
     return [*does, *where_made(content, loan), f" has borrowed{as_mutable(loan)}"]
+
+
+def act(way, what):
+    """`borrows x as mutable, which `, up to who has borrowed it."""
+    verb, _, how = ACTS[way].partition(" as ")
+    how = f" as {how}" if how else ""
+    return [f" {verb} ", *what, f"{how}, which "] if what else [f" {verb}{how} what "]
 
 
 def as_mutable(loan):
@@ -146,61 +222,109 @@ def is_of_earlier_turn(fault):
     return fault.loan.at == fault.against.point
 
 
-def ending_head(content, fault):
+def ending_head(content, fault, what, error):
     """What is borrowed goes away too early."""
     loan = fault.loan
-    what = ["a temporary value"] if loan.is_of_temporary() else [Code(loan.what.lstrip("*"))]
+    if loan.is_of_temporary():
+        code = snippet(content.source, fault.place)
+        what = ["the temporary ", Code(code)] if code and fault.code == "E0716" else ["a temporary value"]
     if fault.code == "E0515":
-        return ["this hands out a borrow of ", *what, ", which ends with the function"]
+        what = what if loan.is_of_temporary() else [Code(loan.what.lstrip("*"))]
+        return ["this returns a borrow of ", *what, ", which ends with the function"]
     if fault.code == "E0373":
         who = "async block" if snippet(content.source, loan.place).startswith("async") else "closure"
-        return [f"the {who} may outlive the function, and it borrows ", *what, " from it"]
+        return [f"the {who} may outlive the function, and it borrows ", Code(loan.what.lstrip("*")), " from it"]
     if fault.code == "E0713":
-        return ["this borrow may still be in use when the destructor of ", *what, " runs"]
+        return destructor_head(loan, error)
+    if fault.code == "E0521":
+        return ["this keeps a borrow of ", Code(loan.what.lstrip("*")), " outside of the closure, at whose end it is gone"]
     end = line_of(content.facts, fault.against)
     at = f" at line {end}" if end is not None else " there"
     return [*what, f" is gone{at}, and is still borrowed"]
 
 
-def loan_cause(content, fault):
+def destructor_head(loan, error):
+    """Whose destructor may look at what is borrowed."""
+    said = next(filter(None, (DESTRUCTOR.search(label.words) for label in error.labels)), None) if error else None
+    if said:
+        return [Code(said[2]), " may still be borrowed when ", Code(said[1]), " is dropped, and the destructor of its type ",
+                Code(said[3]), " may use it"]
+    return ["this borrow may still be in use when the destructor of ", Code(loan.what.lstrip("*")), " runs"]
+
+
+def loan_cause(content, fault, lifetimes):
     """Why the loan is in force there."""
     loan, facts = fault.loan, content.facts
-    code = snippet(content.source, loan.place)
-    loan_words = ["the loan of ", *where_made(content, loan), *([" (", Code(code), ")"] if code else [])]
     region = Code(f"'{loan.region}")
     here = line_of(facts, fault.against)
-    holds = [" is in force: its region ", region, " holds ",
+    holds = [" is live: its region ", region, " holds ",
              f"line {here}" if here is not None else f"point {fault.against.point}"]
-    return [*loan_words, *holds, ", since ", *since(content, fault)]
+    return ["the loan of ", *where_made(content, loan), *made_by(content, loan), *holds, ", since ",
+            *since(content, fault, lifetimes)]
 
 
-def since(content, fault):
+def made_by(content, loan):
+    """What stands where a loan is made; where no `&` does, what borrows there."""
+    code = snippet(content.source, loan.place)
+    if not code:
+        return []
+    if loan.by_closure:
+        who = "async block" if code.startswith("async") else "closure"
+        return [" (", Code(code), f", a {who} that uses ", Code(loan.what.lstrip("*")), ")"]
+    caller = borrower(content.facts, loan) if PATH.fullmatch(code) else []
+    return [" (", Code(code), *([", borrowed by ", *caller] if caller else []), ")"]
+
+
+def borrower(facts, loan):
+    """What a borrow that no `&` makes is for: the call that takes it."""
+    made = MADE.match(facts.remarks.point(loan.at).text)
+    point = loan.at
+    for _ in range(MOST_STATEMENTS if made else 0):
+        following = facts.successors[point]
+        if len(following) != 1:
+            break
+        point = following[0]
+        call = re.search(CALL.format(re.escape(made[1])), facts.remarks.point(point).text)
+        if call:
+            return caller_words(call[1])
+    return []
+
+
+def caller_words(callee):
+    """`*`, an index, or the name of what is called."""
+    trait = TRAIT.search(callee)
+    if trait and trait[1] in OPERATORS:
+        return OPERATORS[trait[1]]
+    name = LAST_NAME.search(GENERICS.sub("", callee))
+    return ["the call of ", Code(name[1])] if name else []
+
+
+def since(content, fault, lifetimes=None):
     facts, cause = content.facts, fault.cause
+    lifetimes = lifetimes or Lifetimes(content)
     if facts.is_universal(cause.region):
         stops = stops_of(content, cause.steps[::-1])
         by = [", by ", *words.joined(stops)] if stops else []
-        return ["it must outlive ", *lifetime(facts, cause.region), *by]
+        return ["it must outlive ", *lifetimes.name(cause.region), *by]
     if cause.use is None:
         return ["it is in the type of a variable that is used later"]
     line = facts.remarks.point(cause.use).line
-    deed = " drops what holds it" if cause.is_drop else " uses it"
+    deed = drop_words(facts, cause.use) if cause.is_drop else [" uses it"]
     later = " in a later turn of the loop" if is_later_turn(facts, fault) else ""
     if line is None:
-        return [f"point {cause.use}", deed, later]
+        return [f"point {cause.use}", *deed, later]
     if line == line_of(facts, fault.against):
-        return ["the same line", deed, later]
+        return ["the same line", *deed, later]
     code = whole_line(content.source, line)
-    return [f"line {line}", deed, later, *([" (", Code(code), ")"] if code and code != "}" else [])]
+    return [f"line {line}", *deed, later, *([" (", Code(code), ")"] if code and code != "}" else [])]
 
 
-def lifetime(facts, region):
-    """A universal region by its name; one without a name by its variable."""
-    said = facts.remarks.region(facts.names[region]).text
-    if "without a name" not in said:
-        return [words.tick(facts, region)]
-    variable = OF_VARIABLE.search(said)
-    return ["the lifetime", *([" in the type of ", Code(variable[1])] if variable else
-                              [" ", words.tick(facts, region)])]
+def drop_words(facts, point):
+    """That a variable which holds the loan is dropped, with its name if it has one."""
+    found = DROPPED.match(facts.remarks.point(point).text)
+    if found and not found[1].startswith("_"):
+        return [" drops ", Code(found[1]), ", which holds it"]
+    return [" drops what holds it"]
 
 
 def is_later_turn(facts, fault):
@@ -227,15 +351,30 @@ def of_need(content, pair):
     return [words.tick(facts, pair[0]), " outlive ", words.tick(facts, pair[1])]
 
 
+def of_gone(content, one):
+    """What is used that was moved or has no value, or is assigned again."""
+    error = content.facts.remarks.beside.error_of(one)
+    return Telling(one.place, one.code, gone.head(content, one, error), gone.cause(content, one, error), one,
+                   notes(content, one, error))
+
+
 def all_of(content):
-    """Faults and loans in the order of their places."""
-    found = [of_fault(content, fault) for fault in content.faults]
+    """Faults, loans, and errors of moves and assignments, in the order of their places."""
+    found = list(of_faults(content))
     found += [of_loan(content, fault) for fault in content.loans]
+    found += [of_gone(content, one) for one in content.facts.remarks.beside.gone]
     return sorted(found, key=lambda one: one.place or Place(0, 0, 0, 0))
 
 
+def parts(told):
+    """The sentences of a telling for programs: what it is, how it comes about and what else is said, what to do."""
+    below = [visible(words.plain(one)) for one in (told.cause, *told.more)]
+    return {"message": visible(words.plain(told.head)), "notes": [one for one in below if not one.startswith(HELP)],
+            "helps": [one.removeprefix(HELP) for one in below if one.startswith(HELP)]}
+
+
 def lines(content, telling):
-    """The two lines for a terminal."""
+    """The lines for a terminal: what it is, how it comes about, what else is said, and what to do about it."""
     path = content.source.path if content.source else content.facts.remarks.source
     where = [path] if path else []
     if telling.place:
@@ -243,4 +382,4 @@ def lines(content, telling):
     code = f"{telling.code}: " if telling.code else ""
     head = f"{':'.join(where)}: {code}{words.plain(telling.head)}" if where else \
         f"{code}{words.plain(telling.head)}"
-    return [head, f"    {words.plain(telling.cause)}"]
+    return [head, *(f"    {words.plain(one)}" for one in (telling.cause, *telling.more))]

@@ -27,12 +27,17 @@ def end(facts, universal):
     return Code(f"end('{facts.names[universal]})")
 
 
-def joined(pieces, last=" and "):
+def ticked(text):
+    """A sentence of rustc's, in which code stands between ticks."""
+    return [Code(part) if number % 2 else part for number, part in enumerate(text.split("`"))]
+
+
+def joined(pieces, last=" and ", between=", "):
     """Sentences' pieces, with commas and an `and`."""
     parts = []
     for number, piece in enumerate(pieces):
         if number:
-            parts.append(last if number == len(pieces) - 1 else ", ")
+            parts.append(last if number == len(pieces) - 1 else between)
         parts.extend(piece)
     return parts
 
@@ -85,8 +90,8 @@ def statement(facts, point):
     if words and remark.line is not None:
         return [Code(words), f" (line {remark.line})"]
     if words:
-        return [Code(words), f" (point {point})"]
-    return [f"line {remark.line}"] if remark.line is not None else [f"point {point}"]
+        return [Code(words), f" (point {facts.point_name(point)})"]
+    return [f"line {remark.line}"] if remark.line is not None else [f"point {facts.point_name(point)}"]
 
 
 def arising(facts, steps):
@@ -133,7 +138,7 @@ def step_sentence(facts, step, universal):
                 " holds, wherever that is, and so ", end(facts, universal), "."]
     return [*reason(facts, step.constraint), tick(facts, sup),
             " must hold all that is reached inside ",
-            tick(facts, sub), f" from point {at} on. ", *walk_words(facts, step, universal),
+            tick(facts, sub), f" from point {facts.point_name(at)} on. ", *walk_words(facts, step, universal),
             "; so ",
             tick(facts, sup), " holds it too."]
 
@@ -142,8 +147,8 @@ def step_brief(facts, step):
     """The step in one line of a terminal."""
     sup, sub = step.constraint.sup, step.constraint.sub
     what = region_words(facts, sup)
-    asked = reason(facts, step.constraint)[:-1] or [f"From point {step.constraint.at} on"]
-    way = [", inside ", tick(facts, sub), f" by {walk_text(step.walk)}"] if step.walk else []
+    asked = reason(facts, step.constraint)[:-1] or [f"From point {facts.point_name(step.constraint.at)} on"]
+    way = [", inside ", tick(facts, sub), f" by {walk_text(facts, step.walk)}"] if step.walk else []
     return ["to ", tick(facts, sup), f", {what}: " if what else ": ",
             asked[0][0].lower() + asked[0][1:], *asked[1:], *way]
 
@@ -157,7 +162,7 @@ def reason(facts, constraint):
     if not any(any(facts.remarks.point(p)) for p in points):
         return []
     if len(points) > MOST_ORIGINS:
-        return [f"By one of the {len(points)} statements before point {constraint.at}", ", "]
+        return [f"By one of the {len(points)} statements before point {facts.point_name(constraint.at)}", ", "]
     return ["After ", *joined([statement(facts, p) for p in points], " or "), ", "]
 
 
@@ -175,7 +180,7 @@ def walk_words(facts, step, universal):
     if len(points) == 1:
         return [f"The function {leaves} right there, and the walk goes on to ", *holds]
     return ["Inside ", sub,
-            f" a walk from there ({walk_text(points)}) leads to point {points[-1]}, where the "
+            f" a walk from there ({walk_text(facts, points)}) leads to point {facts.point_name(points[-1])}, where the "
             "function "
             f"{leaves}, and on to ", *holds]
 
@@ -186,12 +191,13 @@ def unwinds(facts, point):
     return facts.remarks.point(point).statement().rstrip(";") in ("resume", "UnwindResume")
 
 
-def walk_text(points, most=7):
+def walk_text(facts, points, most=7):
     """The points with arrows; of long walks the runs of numbers are shortened."""
+    name = facts.point_name
     if len(points) <= most:
-        return " → ".join(map(str, points))
-    return " → ".join(f"{a} → … → {b}" if b - a > 2
-                      else " → ".join(map(str, range(a, b + 1))) for a, b in spans(points))
+        return " → ".join(map(name, points))
+    return " → ".join(f"{name(a)} → … → {name(b)}" if b - a > 2
+                      else " → ".join(map(name, range(a, b + 1))) for a, b in spans(points))
 
 
 def conclusion(facts, sup, sub):

@@ -1,14 +1,14 @@
 """The command line: words, files, what is printed, statuses."""
 
-import argparse
+import os
 import re
-import signal
-import sys
+import webbrowser
 
+from nll_page.called import Parser
 from nll_page.command import read_bytes, same_file, write
-from nll_page.escaping import visible
 from nll_page.facts import read_facts
 from nll_page.refusal import Refusal
+from nll_page.streams import guarded
 
 from . import program
 from .content import Content
@@ -29,7 +29,7 @@ of frontend/world_program.rattle, a program over the proved model of a run; the 
 WORLD_PROGRAM stands in for it."""
 
 STATUSES = """\
-status 0: the page was written; 2: words, a file or a text was refused; 3: world_program gave no answer, or
+status 0: the page was written; 2: the arguments, a file or a text was refused; 3: world_program gave no answer, or
 the page couldn't be written; each with one line on standard error, and no page is left half-written"""
 
 EVENT = re.compile(rb"[ \t\r]*(?:load|take|owe|clear|push|leave)[ \t\r]+([0-9]{1,9})"
@@ -38,22 +38,11 @@ EVENT = re.compile(rb"[ \t\r]*(?:load|take|owe|clear|push|leave)[ \t\r]+([0-9]{1
 
 def main(arguments):
     """Runs the program on these words; its status."""
-    for number in (signal.SIGTERM, signal.SIGHUP):
-        signal.signal(number, signal.default_int_handler)  # what is half-written is taken away
-    try:
-        return run(words_of(arguments))
-    except Refusal as refusal:
-        say(str(refusal))
-        return refusal.status
-    except KeyboardInterrupt:
-        say("stopped")
-        return 130
+    return guarded("schedule", lambda: run(words_of(arguments)))
 
 
 def words_of(arguments):
-    parser = argparse.ArgumentParser(prog="nllc.sh schedule", description=ABOUT, epilog=STATUSES,
-                                     allow_abbrev=False,
-                                     formatter_class=argparse.RawDescriptionHelpFormatter)
+    parser = Parser("schedule", ABOUT, STATUSES)
     parser.add_argument("facts", metavar="FILE", help="a facts text or a MIR text")
     parser.add_argument("schedule", metavar="SCHEDULE", help="a schedule of its owners")
     parser.add_argument("--owners", metavar="N", type=int, choices=range(1, MOST_OWNERS + 1),
@@ -64,6 +53,7 @@ def words_of(arguments):
     dealing.add_argument("--cut", metavar="FILE", help="a cut file, which lists the owner of each region")
     parser.add_argument("-o", metavar="OUT.html", dest="out",
                         help="the page (otherwise SCHEDULE with .html behind it)")
+    parser.add_argument("--open", action="store_true", help="open the page in the browser")
     return parser.parse_args(arguments)
 
 
@@ -74,6 +64,8 @@ def run(asked):
             raise Refusal(f"the page would be written over {path}; name another by -o OUT.html")
     write(out, page(content_of(asked)))
     print(out)
+    if asked.open:
+        webbrowser.open(f"file://{os.path.abspath(out)}")
     return 0
 
 
@@ -125,7 +117,3 @@ def look_small(path, count, most, noun):
     if count > most:
         raise Refusal(f"{path} has {count:,} {noun}, and a page of more than {most:,} is no use to "
                       "anybody; `nllc replay` answers it")
-
-
-def say(line):
-    sys.stderr.write(f"nllc.sh schedule: {visible(line)}\n")

@@ -12,16 +12,23 @@ MOST_ROWS = 12      # of a list of what is under way, or of what grew, no more i
 
 def event_list(content):
     rows = [event_row(0, "the first state", "", content.run.states[0].balance)]
-    rows += [event_row(number, telling.words_of(state.event), state.answer, state.balance)
+    rows += [event_row(number, telling.words_of(state.event), state.answer, state.balance, why_part(content, number))
              for number, state in enumerate(content.run.states) if number]
     return f'<ol class="events" id="events" start="0">{"".join(rows)}</ol>'
 
 
-def event_row(number, words, answer, balance):
+def why_part(content, number):
+    """Why an event did nothing, at the event itself."""
+    if content.run.states[number].answer != "not now":
+        return ""
+    return f'<span class="why">{sentence(telling.why_not(content.facts, content.run, number))}</span>'
+
+
+def event_row(number, words, answer, balance, why=""):
     kind = answer.replace(" ", "-") or "first"
     return (f'<li><a href="#event={number}" data-event="{number}"><span class="no">{number or ""}</span>'
             f'<code>{text(words)}</code><span class="answer {kind}">{text(answer)}</span>'
-            f'<span class="balance">{balance}</span></a></li>')
+            f'<span class="balance">{balance}</span>{why}</a></li>')
 
 
 def event_parts(content):

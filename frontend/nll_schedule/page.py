@@ -5,6 +5,7 @@ import re
 
 from nll_page import page as region_page
 from nll_page.escaping import script_data, text
+from nll_page.icon import icon
 from nll_page.nllc import PROVED
 from nll_page.words import plural
 
@@ -13,6 +14,7 @@ from .lane_part import lane_parts
 from .owner_part import owner_part
 from .spans import attributes, values
 from .telling import element_name
+from .wait_part import wait_part
 
 TEMPLATES = os.path.join(os.path.dirname(os.path.abspath(__file__)), "templates")
 MOST_EDGES = 60     # of more edges none is written out
@@ -23,8 +25,9 @@ def page(content):
     run = content.run
     return fill("schedule.html", {
         "title": text(name_of(content)),
-        "css": region_page.template("look.css") + template("schedule.css"),
-        "js": template("schedule.js"),
+        "icon": icon("fine"),
+        "css": region_page.compact(region_page.template("look.css") + template("schedule.css")),
+        "js": region_page.compact(template("schedule.js")),
         "name": text(name_of(content)),
         "about": about(content),
         "last": str(len(run.states) - 1),
@@ -34,6 +37,7 @@ def page(content):
         "owners": "".join(owner_part(content, owner) for owner in range(run.owners)),
         "kind": "pair" if run.owners == 2 else "many",
         "lanes": lane_parts(content),
+        "waits": wait_part(content),
         "constraints": constraint_list(content),
         "graph": graph(content.facts),
         "values": text("\n".join([f"balance {run.states[-1].balance}", *run.values])),

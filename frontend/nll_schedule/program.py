@@ -8,6 +8,7 @@ from nll_page.nllc import PROVED, ROOT, UNKNOWN, UNPROVED, shown
 from nll_page.refusal import Refusal
 
 SCRIPT = os.path.join(ROOT, "frontend", "world_program.sh")
+INSTALLED = {"world_program": PROVED, "world_program-unproved": UNPROVED}    # as of nllc itself
 MOST_BYTES = 64 * 1024 * 1024
 
 
@@ -24,6 +25,9 @@ def find():
     named = os.environ.get("WORLD_PROGRAM")
     if named:
         return named, UNKNOWN
+    for name, standing in INSTALLED.items():
+        if os.access(os.path.join(ROOT, name), os.X_OK):
+            return os.path.join(ROOT, name), standing
     found = subprocess.run([SCRIPT], stdin=subprocess.DEVNULL, stdout=subprocess.PIPE, check=False)
     path = found.stdout.decode().strip()
     if found.returncode or not path:

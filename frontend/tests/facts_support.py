@@ -16,8 +16,9 @@ ROOT = os.path.dirname(FRONTEND)
 GOLDEN = os.path.join(HERE, "golden")
 DUMPS = os.path.join(HERE, "dumps")
 SOURCES = ("small", "rfc2094", "differ")
-WRONG = ("borrowed_twice", "by_closures", "moved_or_assigned", "too_short", "lifetimes")
-RIGHT = ("closures", "coroutines", "iterators")
+WRONG = ("borrowed_twice", "by_closures", "moved_or_assigned", "too_short", "lifetimes", "places")
+MOVES = ("moves",)
+RIGHT = ("closures", "coroutines", "iterators", "right")
 
 sys.path[:0] = [FRONTEND, os.path.join(ROOT, "check", "reference")]
 
@@ -25,7 +26,7 @@ import reference  # noqa: E402 (the slow reader and solver of check/reference/)
 from nll_facts.convert import convert  # noqa: E402
 from nll_facts.dumps import find_dumps  # noqa: E402
 from nll_facts.errors import own_errors  # noqa: E402
-from nll_facts.rustc import CRATE, Error  # noqa: E402
+from nll_facts.rustc import CRATE, Error, Label  # noqa: E402
 from nll_facts.text import facts_text  # noqa: E402
 
 POINT = re.compile(r"# point (\d+): (?:line (\d+): )?(.*)")
@@ -72,8 +73,12 @@ def stored_errors(source):
     """rustc's errors of a source, as they are stored."""
     with open(os.path.join(HERE, "loans", "errors.tsv"), encoding="utf-8") as file:
         rows = [line.rstrip("\n").split("\t") for line in file]
-    return [Error("", [(name, int(line))], int(column), code, message)
-            for name, line, column, code, message in rows if name == source_path(source)]
+    return [error_of(*row) for row in rows if row[0] == source_path(source)]
+
+
+def error_of(name, line, column, code, message, more):
+    labels, notes, helps = json.loads(more)
+    return Error("", [(name, int(line))], int(column), code, message, [Label(*one) for one in labels], notes, helps)
 
 
 @cache

@@ -13,8 +13,8 @@ import shutil
 import tempfile
 
 import facts_support as support
-from nll_facts.rustc import run_rustc
 from nll_facts.tables import Tables
+from nll_facts.units import check_file
 
 TABLES = {f"{name}.facts" for name in Tables.__dataclass_fields__}
 
@@ -35,7 +35,7 @@ def files_of(folder):
 def store(source):
     """Stores the dump, and of some sources the texts; gives rustc's errors."""
     with tempfile.TemporaryDirectory() as room:
-        errors = run_rustc(support.source_path(source), room, ["--edition=2021"]).errors
+        errors = check_file(support.source_path(source), room, ["--edition=2021"]).errors
         errors = [error for error in errors if error.places]
         path = os.path.join(support.DUMPS, f"{source}.json.xz")
         with lzma.open(path, "wt", preset=9, encoding="utf-8") as file:
@@ -58,12 +58,13 @@ def store_errors(errors):
     with open(os.path.join(support.HERE, "loans", "errors.tsv"), "w", encoding="utf-8") as file:
         for error in errors:
             message = " ".join(error.message.split())
-            row = (error.places[0][0], str(error.line), str(error.column), error.code, message)
+            more = json.dumps([error.labels, error.notes, error.helps], ensure_ascii=False)
+            row = (error.places[0][0], str(error.line), str(error.column), error.code, message, more)
             file.write("\t".join(row) + "\n")
 
 
 if __name__ == "__main__":
     os.chdir(support.HERE)
     os.makedirs(support.DUMPS, exist_ok=True)
-    store_errors([error for one in (*support.SOURCES, *support.WRONG, *support.RIGHT)
+    store_errors([error for one in (*support.SOURCES, *support.WRONG, *support.MOVES, *support.RIGHT)
                   for error in store(one)])

@@ -109,7 +109,7 @@ class Refused(Room):
         self.assertEqual(done.returncode, 2)
         self.assertEqual(os.listdir(self.path("o")), ["g.facts"])
         self.assertIn("mismatched types", done.stderr)
-        self.assertIn("rustc refuses line 2 before it checks borrows", done.stderr)
+        self.assertRegex(done.stderr, r"rustc refuses (line 2|\S+/m\.rs:2) before it checks borrows")
 
     def test_texts_of_nllc(self):
         for text, words in (("nll-facts 1\npoints 1\nend\n", "is a facts text, not a Rust file"),
@@ -135,6 +135,10 @@ class Refused(Room):
         done = self.convert("fn f() {}\n", env=os.environ | {"RUSTC": self.path("rustc")})
         self.refused(done, "there is no rustc: install one")
 
+    def test_a_rustc_that_compiles_nothing(self):
+        done = self.convert("fn f() {}\n", env=os.environ | {"RUSTC": shutil.which("true")})
+        self.refused(done, "true says that all is well, but has compiled nothing: is it rustc?")
+
     def test_unknown_flags(self):
         done = self.convert("fn f() {}\n", "--", "-Znone-such")
         self.refused(done, "doesn't take what it was given")
@@ -144,35 +148,15 @@ class Refused(Room):
         self.assertEqual(done.returncode, 3)
         self.assertIn("can't be made", done.stderr)
 
-    def test_no_crate(self):
-        done = support.run(*FACTS, "--crate", self.room, "-o", self.path("o"))
-        self.refused(done, "has no Cargo.toml; give the folder of a crate or workspace")
+    def test_no_project(self):
+        done = support.run(*FACTS, self.room, "-o", self.path("o"))
+        self.refused(done, "is in no Cargo project: give a Rust file, or the folder of a package")
 
-
-@needs_known
-class Crate(Room):
-    def test_workspace_with_a_dependency(self):
-        self.write("ws/Cargo.toml", '[workspace]\nmembers = ["one", "two"]\nresolver = "2"\n')
-        self.write("ws/one/Cargo.toml", '[package]\nname = "one"\nversion = "0.1.0"\n')
-        self.write("ws/one/src/lib.rs", "pub fn f(x: &u8) -> &u8 {\n    x\n}\n")
-        self.write("ws/two/Cargo.toml", '[package]\nname = "two"\nversion = "0.1.0"\n'
-                   '[dependencies]\none = { path = "../one" }\n')
-        self.write("ws/two/src/main.rs", "fn main() {\n    one::f(&3);\n}\n"
-                   "pub fn bad<'a>(x: &'a u8) -> &'static u8 {\n    x\n}\n"
-                   "pub fn worse(mut x: u8) -> u8 {\n    let y = &x;\n    x = 3;\n    *y\n}\n")
-        program = self.write("nllc", "#!/bin/sh\nexec python3 "
-                             f"{support.ROOT}/check/reference/reference.py \"$@\"\n")
-        os.chmod(program, 0o755)
-        done = support.run(*FACTS, "--crate", self.path("ws"), "-o", self.path("o"), "--",
-                           "--workspace", "--offline", env=os.environ | {"NLLC": program})
-        self.assertEqual(done.returncode, 0, done.stderr)
-        self.assertRegex(done.stdout, r"one/src/lib\.rs +1 +2 +\d+\.\d +0 +0\n")
-        self.assertRegex(done.stdout, r"two/src/main\.rs +3 +\d+ +\d+\.\d +1 +1\n")
-        self.assertIn("two/src/main.rs:9:5: worse: E0506: `x = 3` assigns to what line 8 has borrowed",
-                      done.stdout)
-        self.assertIn("two/src/main.rs:4: bad: 'a must outlive 'static", done.stdout)
-        self.assertEqual([name for name in self.left() if name.startswith("o/")],
-                         ["o/one/f.facts", "o/two/bad.facts", "o/two/main.facts", "o/two/worse.facts"])
+    def test_words_of_the_other_form(self):
+        self.refused(self.convert("fn f() {}\n", "-p", "one"), "is a file, and -p is for projects")
+        done = support.run(*FACTS, os.path.join(support.ROOT, "examples", "shelf"), "--edition", "2024", "-o",
+                           self.path("o"))
+        self.refused(done, "a project says its edition itself: leave out --edition")
 
 
 @needs_known
@@ -200,9 +184,11 @@ class OneCommand(Room):
         into, out = self.line("differ", "        r = y;"), self.line("differ", "    r // holds: r")
         self.assertEqual(done.stdout.splitlines(), [
             "longer: 1 fault",
-            f"  sources/differ.rs:{out}:5: `'b` must outlive `'a`, which the signature doesn't say (returned)",
+            f"  sources/differ.rs:{out}:5: `'b` must outlive `'a`, which the signature doesn't say: what is "
+            "returned here needs it",
             f"      what lives for `'b` comes to `'a` by line {into} (assigned: `r = y`) and line {out} "
             "(returned: `r`)",
+            "      help: consider adding the following bound: `'b: 'a`",
             f"pages: {self.path('o', 'index.html')}"])
         self.assertTrue(os.path.isfile(self.path("o", "longer.html")))
 
@@ -228,12 +214,19 @@ pub fn keeps<'a>(list: &mut Vec<&'a str>, text: &'a str) {
         self.assertEqual(done.returncode, 1, done.stderr)
         self.assertEqual(done.stdout.splitlines()[:3], [
             "wrong: 1 loan error",
-            f"  {path}:5:5: E0502: `list.push(2)` borrows as mutable what line 4 has borrowed",
-            "      the loan of line 4 (`list`) is in force: its region `'r2` holds line 5, since line 6 "
+            f"  {path}:5:5: E0502: `list.push(2)` borrows `list` as mutable, which line 4 has borrowed",
+            "      the loan of line 4 (`list`, borrowed by an index) is live: its region `'r2` holds line 5, since line 6 "
             "uses it (`show(first);`)"])
         self.assertIn("error[E0502]", done.stderr)
         self.assertRegex(done.stdout, r"why `'r2` holds point \d+, ")
         self.assertRegex(done.stdout, r"`'r\d+` is live at point \d+: .* \(line 6\) uses it\n")
+
+    def test_standard_input(self):
+        done = subprocess.run([RUST, "rust", "-", "-o", self.path("o")], capture_output=True, check=False, input=self.LOANS,
+                              encoding="utf-8", env=os.environ | {"NLLC": self.program})
+        self.assertEqual(done.returncode, 1, done.stderr)
+        self.assertIn(f"  {self.path('o', 'stdin.rs')}:5:5: E0502: ", done.stdout)
+        self.assertTrue(os.path.isfile(self.path("o", "wrong.html")))
 
     def test_right_functions(self):
         done = self.rust(self.write("a.rs", self.KEEPS))
@@ -245,14 +238,48 @@ pub fn keeps<'a>(list: &mut Vec<&'a str>, text: &'a str) {
                           "        let one = &mut list;\n        list.push(1);\n        one.push(2);\n"
                           "    };\n    add();\n}\npub fn g() {}\n")
         lines = self.rust(path).stdout.splitlines()
-        self.assertEqual((lines[0], lines[3]), ("closure 1 of f: 1 loan error", "no fault: g"))
+        self.assertEqual((lines[0], lines[4]), ("closure 1 of f: 1 loan error", "no fault: g"))
         self.assertIn(f"{path}:4:9: E0499", lines[1])
 
     def test_both_answers(self):
         done = self.rust(support.source_path("differ"), "get_default")
-        self.assertEqual(done.returncode, 0, done.stderr)
+        self.assertEqual(done.returncode, 4, done.stderr)
         self.assertRegex(done.stdout, r"differ.rs:55:13: rustc 1\.\d+\.\d+: E0499: .*; nllc: no fault there\n"
                          r" +problem case 3 of RFC 2094: the loan of line 52 ")
+
+    def test_errors_that_nothing_judges(self):
+        path = self.write("a.rs", "pub fn f(text: &Vec<String>) -> String {\n    text[0]\n}\n"
+                          "pub fn g<T: Fn()>(run: T) -> Box<dyn Fn()> {\n    Box::new(run)\n}\npub fn h() {}\n")
+        done = self.rust(path)
+        lines = done.stdout.splitlines()
+        self.assertEqual((done.returncode, lines[0], lines[3]), (4, "f: refused by rustc", "g: refused by rustc"))
+        self.assertRegex(lines[1], r"  \S+a.rs:2:5: rustc 1\.\d+\.\d+: E0507: cannot move out of index of `Vec<String>`$")
+        self.assertRegex(lines[4], r"  \S+a.rs:5:5: rustc 1\.\d+\.\d+: E0310: the parameter type `T` may not live long "
+                         r"enough$")
+        self.assertEqual(lines[6], "no fault: h")
+
+    def test_moves(self):
+        path = self.write("a.rs", "pub fn f(text: String) -> String {\n    drop(text);\n    text\n}\npub fn g() {}\n")
+        done = self.rust(path)
+        self.assertEqual(done.returncode, 1)
+        self.assertEqual(done.stdout.splitlines()[:5], [
+            "f: 1 move error", f"  {path}:3:5: E0382: `text` is used here, and line 2 may have moved it",
+            "      line 2 (`drop(text);`) moves it, and a way leads from there to here on which it gets no new value",
+            "      help: consider cloning the value if the performance cost is acceptable: `drop(text.clone());`",
+            "no fault: g"])
+
+    def test_faults_come_before_what_nothing_judges(self):
+        done = self.rust(self.write("a.rs", "pub fn f<'a, 'b>(x: &'a u8, _y: &'b u8) -> &'b u8 {\n    x\n}\n"
+                                    "pub fn g(text: &Vec<String>) -> String {\n    text[0]\n}\n"))
+        self.assertEqual(done.returncode, 1)
+        self.assertIn("g: refused by rustc\n", done.stdout)
+
+    def test_errors_of_constants(self):
+        done = self.rust(self.write("a.rs", "pub const GONE: u8 = {\n    let mut one = 1;\n    let held = &one;\n"
+                                    "    one = 2;\n    *held\n};\npub const RIGHT: u8 = 1;\npub fn f() {}\n"))
+        lines = done.stdout.splitlines()
+        self.assertEqual((done.returncode, lines[0], lines[4]), (1, "GONE: 1 loan error", "no fault: f"))
+        self.assertRegex(lines[1], r"a.rs:4:5: E0506: `one` is assigned to|`one = 2` assigns to `one`")
 
     def test_a_type_error_beside(self):
         path = self.write("a.rs", 'fn f() -> u8 {\n    "a"\n}\nfn g(x: &u8) -> &u8 {\n    x\n}\n')

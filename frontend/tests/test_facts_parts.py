@@ -3,22 +3,24 @@
 import contextlib
 import io
 import os
+import sys
 import tempfile
 import unittest
+from unittest import mock
 
 import facts_support as support
 from nll_facts.convert import Problem
-from nll_facts.dumps import Dump, choose, file_name, type_name
-from nll_facts.jobs import Row, beyond_needs
+from nll_facts.dumps import Dump, file_name, type_name
+from nll_facts.functions import Found, choose
 from nll_facts.liveness import bases
 from nll_facts.mir import Body, Local, Span
 from nll_facts.refusal import Refusal
 from nll_facts.regions import Regions, name_regions
-from nll_facts.table import table
 from nll_facts.tables import Location, Reader, Spot, Subsets, Tables, read_tables
 from nll_facts.text import free_path, write_whole
+from nll_facts.units import Unit
 from nll_facts.wording import Remark, Wording
-from nll_page.command import main as page
+from nll_page.texts import main as page
 
 
 def tables(**given):
@@ -95,6 +97,7 @@ class Names(unittest.TestCase):
             "unsafe impl<T> Send for Box<S<T>> where T: Send": "Box",
             "impl Iterator for &S": "S",
             "Debug": "derive(Debug)",
+            "serde::Serialize": "derive(Serialize)",
             "&mut *self": None,
         }.items():
             self.assertEqual(type_name(header), name, header)
@@ -103,13 +106,37 @@ class Names(unittest.TestCase):
         self.assertEqual(file_name("{impl#1}-get-{closure#0}"), "impl1-get-closure0")
         self.assertEqual(free_path("o", "f", ["o/f.facts", "o/f-2.facts"]), "o/f-3.facts")
 
-    def test_smallest_function_round_a_line(self):
-        dumps = [Dump(name, name, "", "", Span("a.rs", *lines)) for name, lines in
-                 {"f": (1, 9), "f::{closure#0}": (3, 4), "g": (11, 12)}.items()]
-        self.assertEqual(choose(dumps, "a.rs", "3").name, "f::{closure#0}")
-        self.assertEqual(choose(dumps, "a.rs", "5").name, "f")
-        with self.assertRaisesRegex(Refusal, "no function with facts has line 10 of a.rs"):
-            choose(dumps, "a.rs", "10")
+
+class Chosen(unittest.TestCase):
+    """Functions by what a person calls them."""
+
+    ONE, TWO = Unit("", "one"), Unit("", "two", "root")
+    FOUND = [Found(name, unit, Dump(name, name, "", "", Span(file, *lines))) for name, unit, file, lines in (
+        ("one::f", ONE, "a.rs", (1, 9)), ("one::f::{closure#0}", ONE, "a.rs", (3, 4)),
+        ("one::S::g", ONE, "a.rs", (11, 12)), ("two::f", TWO, "b.rs", (1, 2)))]
+
+    def chosen(self, *words):
+        return [one.name for one in choose(self.FOUND, words)]
+
+    def test_smallest_function_around_a_line(self):
+        self.assertEqual(self.chosen("3"), ["one::f::{closure#0}"])
+        self.assertEqual(self.chosen("5", "5"), ["one::f"])
+        self.assertEqual(self.chosen("a.rs:2", "root/b.rs:2"), ["one::f", "two::f"])
+        self.refused("no function with facts has line 10 of a.rs", "a.rs:10")
+        self.refused("several files have a function at line 2: give FILE:2", "2")
+
+    def test_names(self):
+        self.assertEqual(self.chosen("S::g", "two::f"), ["one::S::g", "two::f"])
+        self.refused(r"`f` fits several functions: one::f \(line 1\), two::f \(line 1\); give one", "f")
+        self.refused("no function `h` has facts .*; these do: one::f, one::f::{closure#0}, one::S::g, two::f", "h")
+
+    def test_one_function_that_is_checked_in_two_ways(self):
+        twice = [*self.FOUND, self.FOUND[0]._replace(unit=Unit("", "one"))]
+        self.assertEqual(len(choose(twice, ["one::f"])), 2)
+
+    def refused(self, words, *wanted):
+        with self.assertRaisesRegex(Refusal, words):
+            self.chosen(*wanted)
 
 
 class Words(unittest.TestCase):
@@ -186,49 +213,21 @@ class Writing(unittest.TestCase):
             self.assertEqual(os.listdir(folder), ["f.facts"])
 
 
-class TableAtTheEnd(unittest.TestCase):
-    def test_rows_sums_faults_loans(self):
-        rows = [Row("f", "a.rs", 3, "o/f.facts", 10, 0.25, ["fault 'a must outlive 'b"],
-                    [("5:9", "E0506: `x = 3` assigns to what line 4 has borrowed")]),
-                Row("g", "b.rs", 1, "o/g.facts", 2, 0.5, failure="no answer in 60 s")]
-        self.assertEqual(table(rows, answered=True), """\
-Source   Functions  Points  Seconds  Faults  Loans
--------  ---------  ------  -------  ------  -----
-a.rs             1      10      0.2       1      1
-b.rs             1       2      0.5       0      0
--------  ---------  ------  -------  ------  -----
-2 files          2      12      0.8       1      1
-a.rs:3: f: 'a must outlive 'b  (o/f.facts)
-a.rs:5:9: f: E0506: `x = 3` assigns to what line 4 has borrowed  (o/f.facts)
-b.rs:1: g: no answer: no answer in 60 s
-""")
-
-
-class NeedsOfACrate(unittest.TestCase):
-    def test_no_fault_is_told_of_a_need(self):
-        text = ("nll-facts 1\npoints 1\nuniversal 'a\nuniversal 'b\nuniversal 'c\n# needs 'a 'b\n"
-                "end\n")
-        lines = ["fault 'a must outlive 'b", "fault 'a must outlive 'c"]
-        self.assertEqual(beyond_needs(text, lines), lines[1:])
-        self.assertEqual(beyond_needs(text, []), [])
-
-
 class Pages(unittest.TestCase):
     """A page is made of each text, with the values of the slow reference."""
 
     def test_pages_of_the_golden_texts(self):
-        for source in support.SOURCES:
-            folder = os.path.join(support.GOLDEN, source)
-            for name, text in support.golden_texts(source).items():
-                with self.subTest(text=f"{source}/{name}"), tempfile.TemporaryDirectory() as room:
-                    values = os.path.join(room, "values")
-                    with open(values, "wb") as file:
-                        file.write(support.reference.answer("values", text.encode())[0])
-                    words = [os.path.join(folder, name),
-                             os.path.join(support.HERE, support.source_path(source)),
-                             "--values", values, "-o", os.path.join(room, "page.html")]
-                    with contextlib.redirect_stdout(io.StringIO()):
-                        self.assertEqual(page(words), 0)
+        with tempfile.TemporaryDirectory() as room:
+            program = os.path.join(room, "nllc")
+            with open(program, "w", encoding="utf-8") as file:
+                file.write(f'#!/bin/sh\nexec "{sys.executable}" "{support.ROOT}/check/reference/reference.py" "$@"\n')
+            os.chmod(program, 0o755)
+            for source in support.SOURCES:
+                folder = os.path.join(support.GOLDEN, source)
+                for name in sorted(os.listdir(folder)):
+                    with self.subTest(text=f"{source}/{name}"), mock.patch.dict(os.environ, {"NLLC": program}), \
+                            contextlib.redirect_stdout(io.StringIO()):
+                        self.assertEqual(page([os.path.join(folder, name), "-o", room]), 0)
 
 
 if __name__ == "__main__":

@@ -13,14 +13,12 @@ from collections import defaultdict
 import facts_support as support
 from nll_facts.dumps import find_dumps
 from nll_facts.liveness import bases
-from nll_facts.mir import read_body
+from nll_facts.mir import locations, read_body
 from nll_facts.points import number_points
 from nll_facts.rustc import CRATE
-from nll_facts.tables import Location, read_tables
+from nll_facts.tables import read_tables
 
 VALUE = re.compile(r"\| '\?(\d+) \| U\d+ \| \{(.*)\}")
-LIVE = re.compile(r"\| '\?(\d+) live at \{(.*)\}")
-RUN = re.compile(r"bb(\d+)\[(\d+)(?:\.\.=(\d+))?\]")
 UNIVERSAL = re.compile(r"'\?(\d+)")
 
 
@@ -43,32 +41,16 @@ class SameLiveness(unittest.TestCase):
         self.assertGreater(compared, 500)
 
     def compare(self, tables, mir):
-        own, printed, mentioned = defaultdict(set), live_at(mir), defaultdict(set)
+        own, printed, mentioned = defaultdict(set), read_body(mir).live, defaultdict(set)
         for region, location in bases(tables):
             own[region].add(location)
         for sup, sub, spot in tables.subset_base.located:
             mentioned[sup].add(spot.location)
             mentioned[sub].add(spot.location)
         for region in {*own, *printed} - set(tables.universal_region):
-            self.assertLessEqual(own[region], printed[region], region)
-            self.assertLessEqual(printed[region] - own[region], mentioned[region], region)
+            self.assertLessEqual(own[region], printed.get(region, set()), region)
+            self.assertLessEqual(printed.get(region, set()) - own[region], mentioned[region], region)
         return sum(map(len, own.values()))
-
-
-def live_at(mir):
-    """The locations at which rustc takes each region to be live."""
-    found = defaultdict(set)
-    with open(mir, encoding="utf-8") as file:
-        for line in filter(None, map(LIVE.fullmatch, file.read().split("\n"))):
-            found[int(line[1])].update(locations(line[2]))
-    return found
-
-
-def locations(text):
-    """What `bb0[1..=2], bb1[0]` says."""
-    for run in RUN.finditer(text):
-        for index in range(int(run[2]), int(run[3] or run[2]) + 1):
-            yield Location(int(run[1]), index)
 
 
 class WithinRustc(unittest.TestCase):

@@ -39,7 +39,7 @@ def found_in(source):
     found = set()
     for text in support.stored_texts(source).values():
         for one in telling.all_of(content_of(text, source)):
-            found.add((one.code, one.place.line, one.place.column))
+            found.add((one.code if one.code in LOANS else "", one.place.line, one.place.column))
     return found
 
 
@@ -56,6 +56,36 @@ class Found(unittest.TestCase):
             with self.subTest(source=source):
                 self.assertEqual(found_in(source), set())
                 self.assertEqual(support.stored_errors(source), [])
+
+
+class Moves(unittest.TestCase):
+    """Errors of moves and assignments are those of rustc, since the lines that the source marks."""
+
+    def test_errors(self):
+        lines = page_support.file_bytes(support.HERE, support.source_path("moves")).decode().split("\n")
+        marked = {number for number, line in enumerate(lines, 1) if line.endswith("// before")}
+        found, since = set(), set()
+        for text in support.stored_texts("moves").values():
+            content = content_of(text, "moves")
+            for one in telling.all_of(content):
+                found.add((one.code, one.place.line, one.place.column))
+                since.update(content.facts.remarks.point(point).line for point in one.fault.since)
+            self.assertEqual(differences.refused(content), [])
+        errors = {(error.code, error.line, error.column) for error in support.stored_errors("moves")}
+        self.assertEqual(found, errors)
+        self.assertEqual({code for code, _, _ in errors}, {"E0381", "E0382", "E0384"})
+        self.assertEqual(since - {self.line(lines, "pub fn argument(number: u8) -> u8 {") + 1}, marked)
+
+    def line(self, lines, code):
+        return lines.index(code) + 1
+
+    def test_words(self):
+        content = content_of(support.stored_texts("moves")["on_one_way.facts"], "moves")
+        [one] = telling.all_of(content)
+        self.assertEqual([telling.words.plain(one.head), telling.words.plain(one.cause)], [
+            "`text` is used here, and line 20 may have moved it",
+            "line 20 (`drop(text);`) moves it, and a way leads from there to here on which it gets no new value "
+            "(by lines 20, 21, 22)"])
 
 
 class Sources(unittest.TestCase):
@@ -99,6 +129,11 @@ class Needs(unittest.TestCase):
         found = faults.faults(facts, quick_values(facts))
         self.assertEqual(found, [(1, 2), (1, 3), (2, 3)])
         self.assertEqual(faults.needs(facts, found), [(2, 3)])
+
+    def test_of_equal_regions_one_is_a_fault(self):
+        facts = page_support.facts_of(1, "universal 'a", "universal 'b", "universal 'c", "return 0",
+                                      "constraint 'a 'b 0", "# needs 'b 'c", "# needs 'c 'b")
+        self.assertEqual(faults.distinct(facts, [(1, 2), (1, 3), (2, 1)]), [(1, 2), (2, 1)])
 
     def test_what_follows_from_them_is_one(self):
         facts = page_support.facts_of(1, "universal 'a", "universal 'b", "universal 'c", "return 0",

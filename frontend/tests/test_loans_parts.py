@@ -4,15 +4,16 @@ import unittest
 
 import page_support
 from nll_facts.accesses import accesses
+from nll_facts.desugarings import MACRO, Desugarings, lines_of
 from nll_facts.destructors import destroyed_by, path_to
 from nll_facts.dumps import Dump
 from nll_facts.errors import own_errors
 from nll_facts.mir import Body, Local, Span, reason_of
 from nll_facts.places import Place, overlap, read_place
 from nll_facts.rustc import Error, read_error
-from nll_page import blame, loans, telling
+from nll_page import blame, chains, lifetimes, loans, telling
 from nll_page.facts import Constraint
-from nll_page.page import Content
+from nll_page.page import Content, Fault
 from nll_page.snippets import snippet, whole_line
 from nll_page.source import Source
 import nll_page.streams  # noqa: F401 (the codec `plain`)
@@ -26,7 +27,7 @@ class Places(unittest.TestCase):
     def test_forms(self):
         self.assertEqual(self.read("_3"), Place(3))
         self.assertEqual(self.read("(*_1)"), Place(1, ("*",)))
-        self.assertEqual(self.read("((*_1).0: &mut Vec<(u8, u8)>)"), Place(1, ("*", "0")))
+        self.assertEqual(self.read("((*_1).0: &mut Vec<(u8, u8)>)"), Place(1, ("*", "0"), True))
         self.assertEqual(self.read("((_1 as Some).0: fn(u8) -> u8)[_5][0 of 1]"),
                          Place(1, ("as Some", "0", "[]", "[]")))
 
@@ -121,11 +122,12 @@ class RustcsWords(unittest.TestCase):
 
     def test_errors_in_macros(self):
         inner = '{"file_name": "/rustc/none/macros.rs", "line_start": 1, "column_start": 1, ' \
-                '"is_primary": true, "expansion": {"span": {"file_name": "a.rs", "line_start": 7, ' \
-                '"column_start": 5, "expansion": null}}}'
+                '"is_primary": true, "label": "is gone", "expansion": {"span": {"file_name": "a.rs", ' \
+                '"line_start": 7, "column_start": 5, "line_end": 7, "column_end": 9, "expansion": null}}}'
         [error] = read_error('{"level": "error", "rendered": "x", "message": "m", "code": {"code": "E0716"}, '
                              f'"spans": [{inner}]}}')
         self.assertEqual((error.places, error.column, error.words()), ([("a.rs", 7)], 5, "E0716: m"))
+        self.assertEqual(error.labels, [("a.rs", 7, 5, 7, 9, "is gone")])
 
     def test_whose_errors(self):
         outer = Dump("f", "f", "", "", Span("a.rs", 1, 9, 1, 2))
@@ -134,7 +136,8 @@ class RustcsWords(unittest.TestCase):
         errors = [Error("", [("a.rs", line)], column, code)
                   for line, column, code in ((2, 5, "E0499"), (4, 9, "E0502"), (3, 9, "E0505"),
                                              (4, 9, "E0597"), (2, 5, "E0382"), (12, 1, "E0499"))]
-        self.assertEqual([e.code for e in own_errors(outer, dumps, errors)], ["E0499", "E0505", "E0597"])
+        self.assertEqual([e.code for e in own_errors(outer, dumps, errors)],
+                         ["E0499", "E0505", "E0597", "E0382"])
         self.assertEqual([e.code for e in own_errors(closure, dumps, errors)], ["E0502", "E0597"])
 
 
@@ -178,7 +181,7 @@ class Loans(unittest.TestCase):
                                "base 'x 1", "# loan 0: 'x at 0, 1:9-1:11, mut of a",
                                "# against 0, 1:9-1:11, mut: 0", "# point 0: line 1: y = &mut a").loans
         told = telling.of_loan(self.content(), fault)
-        self.assertEqual(telling.words.plain(told.head), "`&a` borrows as mutable what it has borrowed as "
+        self.assertEqual(telling.words.plain(told.head), "`&a` borrows `a` as mutable, which it has borrowed as "
                          "mutable in an earlier turn of the loop")
 
     def test_closures_that_borrow_uniquely(self):
@@ -198,8 +201,9 @@ class Loans(unittest.TestCase):
         [one] = telling.all_of(content)
         self.assertEqual(telling.lines(content, one), [
             "a.rs:2:5: E0506: `a` is assigned to, and line 1 has borrowed it as mutable",
-            "    the loan of line 1 (`&a`) is in force: its region `'x` holds line 2, since the same line "
-            "uses it"])
+            "    the loan of line 1 (`&a`) is live: its region `'x` holds line 2, since the same line "
+            "uses it",
+            "    help: end the borrow before; or clone what is needed; or keep an index or a key in place of the reference"])
 
 
 class Blame(unittest.TestCase):
@@ -220,17 +224,75 @@ class Blame(unittest.TestCase):
 
 
 class Lifetimes(unittest.TestCase):
+    NAMELESS = "a lifetime of the signature without a name; "
+
     def told(self, remark):
         facts = page_support.facts_of(1, f"# region 'r1: line 1: {remark}", "universal 'r1")
-        return telling.words.plain(telling.lifetime(facts, 1))
+        own = lifetimes.Lifetimes(Content(facts, None, [], "TEXT", SOURCE, "", ""))
+        return telling.words.plain(own.name(1)), telling.words.plain(own.places(1))
 
     def test_with_and_without_names(self):
-        nameless = "a lifetime of the signature without a name; "
-        self.assertEqual(self.told("'a of the signature; the type of x: &'a u8"), "`'r1`")
-        self.assertEqual(self.told(nameless + "the type of x: &'r1 u8"), "the lifetime in the type of `x`")
-        self.assertEqual(self.told(nameless + "region 2 of 2 in the type of m: &Mutex<&u8>"),
-                         "the lifetime in the type of `m`")
-        self.assertEqual(self.told(nameless + "the type of the result: &'r1 u8"), "the lifetime `'r1`")
+        self.assertEqual(self.told("'a of the signature; the type of x: &'a u8"), ("`'r1`", ""))
+        self.assertEqual(self.told(self.NAMELESS + "the type of x: &'r1 u8"), ("the lifetime in the type of `x`", ""))
+        self.assertEqual(self.told(self.NAMELESS + "the type of x: &'r1 mut Vec<&'r2 u8>"),
+                         ("`'r1`", "the type of `x` is `&'r1 mut Vec<&'r2 u8>`"))
+        self.assertEqual(self.told(self.NAMELESS + "the type of the result: &'r1 u8"), ("the lifetime `'r1`", ""))
+
+    def test_names_of_rustc(self):
+        source = Source("a.rs", 1, ["fn f(list: &mut Vec<&u8>, one: &u8, all: &mut Names<'_>) {", "    list.push(one);", "}"])
+        facts = page_support.facts_of(
+            2, "# region 'r1: line 1: a lifetime of the signature without a name", "universal 'r1",
+            "# region 'r2: line 1: a lifetime of the signature without a name", "universal 'r2", "next 0 1", "return 1",
+            "constraint 'r1 'r2 0", "# asked 'r1 'r2, 2:5-2:19: argument", "# blamed 'r1 'r2, 2:5-2:19: argument",
+            "# rustc 2:5: lifetime may not live long enough",
+            "# label 2:5-2:19: argument requires that `'1` must outlive `'2`",
+            "# label 1:32-1:33: let's call the lifetime of this reference `'1`", "# label 1:37-1:40: has type `Names<'2>`",
+            "# note: mutable references are invariant over their type parameter",
+            "# help: consider this: `fn f<'a>()`")
+        values = quick_values(facts)
+        [one] = telling.all_of(Content(facts, values, [Fault(1, 2, chains.chain(facts, values, 1, 2))], "TEXT", source, "", ""))
+        self.assertEqual(telling.words.plain(one.head), "`'1` must outlive `'2`, which the signature doesn't say: "
+                         "this call needs it")
+        self.assertEqual([telling.words.plain(line) for line in one.more],
+                         ["line 1 with names: `fn f(list: &mut Vec<&u8>, one: &'1 u8, all: &mut Names<'_>) {`; "
+                          "the type of `all` is `Names<'2>`",
+                          "invariant: mutable references are invariant over their type parameter",
+                          "help: consider this: `fn f<'a>()`"])
+
+    def test_several_at_one_place(self):
+        facts = page_support.facts_of(
+            2, "universal 'a", "universal 'b", "universal 'c", "next 0 1", "return 1", "constraint 'a 'b 0",
+            "constraint 'a 'c 0", "# asked 'a 'b, 2:5-2:19: argument", "# asked 'a 'c, 2:5-2:19: argument",
+            "# rustc 2:5: lifetime may not live long enough", "# label 2:5-2:19: argument requires that `'a` must outlive `'c`")
+        values = quick_values(facts)
+        faults = [Fault(1, sub, chains.chain(facts, values, 1, sub)) for sub in (2, 3)]
+        [one] = telling.all_of(Content(facts, values, faults, "TEXT", SOURCE, "", ""))
+        self.assertEqual(telling.words.plain(one.head), "`'a` must outlive `'c` and `'b`, which the signature doesn't "
+                         "say: this call needs it")
+
+    def test_names_in_a_line(self):
+        place = loans.Place(1, 8, 1, 10)
+        self.assertEqual(lifetimes.named_line(Source("a.rs", 1, ["f(x: A<'_>, y: A)"]), 1,
+                                              [(place, "'1"), (loans.Place(1, 16, 1, 17), "'2")]), "f(x: A<'1>, y: A<'2>)")
+
+
+class Desugared(unittest.TestCase):
+    """Constraints of `for`, `await` and `?`, and of macros that the file declares."""
+
+    TEXT = ["macro_rules! twice {", "    ($x:expr) => { $x + $x };", "}", "fn f() { for x in all() {} g().await; h()? }"]
+
+    def has(self, line, column, end, category="Boring", expansion=4):
+        own = Desugarings("a.rs", self.TEXT, [lines_of("\n".join(self.TEXT), MACRO.search(self.TEXT[0]))])
+        return own.has(reason_of(f"| '?1: '?2 due to {category} at Single(bb0[0]) "
+                                 f"(a.rs:{line}:{column}: {line}:{end} (#{expansion})"))
+
+    def test_which_are(self):
+        self.assertTrue(self.has(4, 19, 24))
+        self.assertTrue(self.has(4, 28, 37, "Return(Normal)"))
+        self.assertFalse(self.has(4, 39, 43, "Return(Normal)"))
+        self.assertTrue(self.has(4, 39, 43))
+        self.assertFalse(self.has(4, 19, 24, expansion=0))
+        self.assertFalse(self.has(2, 20, 27))
 
 
 class AnyLocale(unittest.TestCase):

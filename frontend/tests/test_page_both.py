@@ -1,5 +1,7 @@
 """Constraints at all points in texts and on pages, and both answers side by side."""
 
+import os
+import re
 import unittest
 import unittest.mock
 
@@ -11,6 +13,7 @@ from nll_page.chains import chain, check
 from nll_page.command import explained
 from nll_page.facts import ALL, read_facts
 from nll_page.faults import faults
+from nll_page.region_list import region_list
 from nll_page.page import Content, page
 from nll_page.refusal import Refusal
 from nll_page.words import plain, step_brief, step_sentence
@@ -94,7 +97,12 @@ class Both(unittest.TestCase):
         self.assertEqual(told[0], "with each constraint at all points: 1 fault, in place of no fault")
         made = page(content)
         self.assertIn('<section class="answers"', made)
-        self.assertIn("<td>1, 3 to 4, end(&#x27;static)</td><td>0 to 4, end(&#x27;static)</td>", made)
+        self.assertIn('<td>no fault</td><td>1 fault</td>', made)
+        self.assertIn("no fault · 1 fault at all points</p>", made)
+        self.assertIn("2 regions of the list below hold more at all points", made)
+        strips = region_list(content).split('data-r="2"')[1].split("</button>")[0]
+        self.assertEqual(re.findall(r'aria-label="([^"]*)"><path d="([^"]*)"', strips),
+                         [("holds 3 points", "M1 0h1v1h-1zM3 0h2v1h-2z"), ("at all points it holds 5 points", "M0 0h5v1h-5z")])
 
     def test_both_the_same(self):
         content = with_both(text(1, "universal 'a", "return 0", "constraint 'static 'a 0"))
@@ -116,13 +124,23 @@ class Both(unittest.TestCase):
 class Command(Folder):
     def test_answered(self):
         from nll_page import command
-        path = self.write("overwritten.facts", file_bytes(EXAMPLES, "overwritten.facts"))
+        text = file_bytes(EXAMPLES, "overwritten.facts")
+        path = self.write("overwritten.facts", text)
         self.enterContext(unittest.mock.patch.dict("os.environ", {"NLLC": self.path("nllc")}))
-        said = command.answered(path, False, everywhere=True)
+        said = command.answered(path, text, False, everywhere=True)
         self.assertEqual(said["faults"], 0)
         self.assertEqual(said["everywhere"][0],
                          "with each constraint at all points: 1 fault, in place of no fault")
-        self.assertEqual(command.answered(path, False)["everywhere"], [])
+        self.assertEqual(command.answered(path, text, False)["everywhere"], [])
+
+    def test_a_page_where_something_is_told(self):
+        from nll_page import command
+        self.enterContext(unittest.mock.patch.dict("os.environ", {"NLLC": self.path("nllc")}))
+        for name, has_page in (("running", False), ("as_static", True)):
+            text = file_bytes(EXAMPLES, f"{name}.facts")
+            said = command.answered(self.write(f"{name}.facts", text), text, False, has_page=False)
+            self.assertEqual("page" in said, has_page)
+            self.assertEqual(os.path.exists(self.path(f"{name}.html")), has_page)
 
 
 if __name__ == "__main__":

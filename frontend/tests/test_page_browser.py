@@ -108,6 +108,7 @@ class Browser(unittest.TestCase):
 
     def test_hovering_shows_what_a_click_fixes(self):
         shown = self.browser.open(self.write("pick.html", page(sample())), 1440, 900)
+        shown.value("clear()")
         lit = "all('#graph .cell.held').map((one) => Number(one.dataset.p)).sort((a, b) => a - b).join()"
         held = self.hover(shown, ".region[data-r='3']", lit)
         self.assertTrue(held)
@@ -131,6 +132,7 @@ class Browser(unittest.TestCase):
         shown = self.browser.open(path, 1440, 900, metrics=True)
         shown.value("document.body.getBoundingClientRect().height")
         self.assertLess(shown.seconds(), MOST_SECONDS)
+        self.assertTrue(shown.value("probe.inSight(\"#graph .cell[data-p='0']\")"))
         region = shown.value("data.regions.length - 1")
         shown.value(f"chooseRegion({region})")
         wanted = shown.value(f"data.regions[{region}].holds[0][0]")

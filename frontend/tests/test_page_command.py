@@ -10,10 +10,10 @@ import unittest
 from contextlib import redirect_stderr, redirect_stdout
 from unittest import mock
 
-from page_support import ROOT, SAMPLES, Folder, file_bytes, reference, text
+from page_support import ROOT, SAMPLES, Folder, file_bytes, text
 
-from nll_page import nllc
-from nll_page.command import main
+from nll_page import command, nllc
+from nll_page.texts import main
 
 REFERENCE = os.path.join(ROOT, "check", "reference", "reference.py")
 
@@ -28,10 +28,7 @@ class Commands(Folder):
         out, err = io.StringIO(), io.StringIO()
         with mock.patch.dict(os.environ, {"NLLC": self.path(nllc)} if nllc else {}), \
                 redirect_stdout(out), redirect_stderr(err):
-            try:
-                status = main(list(words))
-            except SystemExit as ended:
-                status = ended.code
+            status = main([*words, "-o", self.folder])
         return status, out.getvalue(), err.getvalue()
 
     def refused(self, pattern, *words, status=2, **more):
@@ -50,7 +47,7 @@ class Commands(Folder):
 
     def test_a_page(self):
         status, out, err = self.run_main(self.path("pick.facts"))
-        self.assertEqual((status, out, err), (0, self.path("pick.html") + "\n", ""))
+        self.assertEqual((status, out.splitlines(), err), (0, [self.path("pick.html"), self.path("index.html")], ""))
         page = self.page()
         self.assertIn("<code>&#x27;b</code> must outlive <code>&#x27;a</code>, which the signature "
                       "doesn&#x27;t say", page)
@@ -66,37 +63,24 @@ class Commands(Folder):
         os.umask(mask)
         return mask
 
-    def test_a_page_elsewhere_of_another_source(self):
-        source = self.write("other.rs", file_bytes(SAMPLES, "pick.rs").replace(b"longer", b"other"))
-        status, out, _ = self.run_main(self.path("pick.facts"), source, "-o", self.path("out.html"))
-        self.assertEqual((status, out), (0, self.path("out.html") + "\n"))
-        self.assertIn("The other one", self.page("out.html"))
-
     def test_an_older_page_is_replaced(self):
         self.write("pick.html", b"old")
         self.run_main(self.path("pick.facts"))
         self.assertTrue(self.page().startswith("<!doctype html>"))
 
-    def test_values_of_a_file_and_no_program(self):
-        report = self.write("report",
-                            reference.answer("values", file_bytes(SAMPLES, "pick.facts"))[0])
-        status, _, err = self.run_main(self.path("pick.facts"), "--values", report, nllc="missing")
-        self.assertEqual((status, err), (0, ""))
-        self.assertIn("report</code>", self.page())
+    def answered(self):
+        with mock.patch.dict(os.environ, {"NLLC": self.path("nllc")}):
+            return command.answered(self.path("pick.facts"), file_bytes(SAMPLES, "pick.facts"), True)
 
     def test_faults_in_words(self):
-        status, out, _ = self.run_main(self.path("pick.facts"), "--faults")
-        lines = out.splitlines()
-        self.assertEqual(status, 0)
-        self.assertEqual(lines[1],
-                         f"{self.folder}/pick.rs:7: `'b` must outlive `'a`, which the signature "
-                         "doesn't say")
-        self.assertEqual(lines[2:], ["    what lives for `'b` comes to `'a` by line 7 (`best = second;`) "
-                                     "and line 9 (`best`)"])
+        self.assertEqual(self.answered()["lines"], [
+            f"{self.folder}/pick.rs:7: `'b` must outlive `'a`, which the signature doesn't say",
+            "    what lives for `'b` comes to `'a` by line 7 (`best = second;`) and line 9 (`best`)",
+            "    help: consider adding the bound `'b: 'a` to the signature; or write `'a` in place of `'b`; "
+            "or return an owned value"])
 
     def test_faults_step_by_step(self):
-        _, out, _ = self.run_main(self.path("pick.facts"), "--explain")
-        self.assertEqual(out.splitlines()[3:], [
+        self.assertEqual(self.answered()["explained"], [
             "`'b` must outlive `'a`, which the signature doesn't say:",
             "    `end('a)` comes",
             "    to `'best`, the type of best: after `_0 = copy best` (line 9), inside `'a` by 8",
@@ -108,31 +92,45 @@ class Commands(Folder):
             line for line in file_bytes(SAMPLES, "pick.facts").splitlines(True)
             if not line.startswith(b"#")))
         status, _, err = self.run_main(bare)
-        self.assertEqual(status, 0)
-        self.assertRegex(err, "note: .*no remark lines of points.*nllc.sh facts FILE.rs")
+        self.assertEqual((status, err), (0, ""))
         self.assertIn("doesn’t say which statements its points are", self.page("bare.html"))
 
     def test_a_source_that_is_not_there(self):
         os.unlink(self.path("pick.rs"))
         status, _, err = self.run_main(self.path("pick.facts"))
-        self.assertEqual(status, 0)
-        self.assertRegex(err, "note: pick.rs, the source that the text names, isn't there; give it "
-                              "behind FACTS")
+        self.assertEqual((status, err), (0, ""))
+        self.assertNotIn('id="line-7"', self.page())
 
     # Which nllc it was
 
     def test_the_standing_of_each_program(self):
-        for script, line, standing in (("nllc.sh", "echo nllc.sh: this build isn\\'t proved >&2",
-                                        nllc.UNPROVED),
-                                       ("nllc.sh", "", nllc.PROVED), ("nllc", "", nllc.UNKNOWN)):
-            self.program(script, f'{line}\nexec "{sys.executable}" "{REFERENCE}" "$@"')
+        text = file_bytes(SAMPLES, "pick.facts")
+        for word, standing in (("unproved", nllc.UNPROVED), ("proved", nllc.PROVED)):
+            script = os.path.join(word, "nllc.sh")
+            os.mkdir(self.path(word))
+            self.program(script, f'[ "$*" = --which ] && echo "{word} {self.path("nllc")}" && '
+                                 f'echo asked >>{self.path(word, "log")}')
             with mock.patch.dict(os.environ, {"NLLC": self.path(script)}):
-                self.assertEqual(nllc.run(file_bytes(SAMPLES, "pick.facts")).standing, standing)
+                for _ in range(2):
+                    answer = nllc.run(text)
+                    self.assertEqual((answer.program, answer.standing), (self.path("nllc"), standing))
+            self.assertEqual(file_bytes(self.path(word, "log")), b"asked\n")
+        with mock.patch.dict(os.environ, {"NLLC": self.path("nllc")}):
+            self.assertEqual(nllc.run(text).standing, nllc.UNKNOWN)
+
+    def test_a_script_that_has_no_program(self):
+        self.program("nllc.sh", "echo nllc.sh: nothing was compiled >&2; exit 127")
+        status, out, err = self.run_main(self.path("pick.facts"), nllc="nllc.sh")
+        self.assertEqual((status, out), (3, ""))
+        self.assertRegex(err, r"\Anllc.sh: nothing was compiled\n"
+                              r"nllc.sh page: \S*nllc.sh has no program to run, as it says above\n\Z")
 
     # What is refused
 
     def test_no_facts_text(self):
-        self.refused("isn't a facts text: .*nllc.sh facts FILE.rs", self.path("pick.rs"))
+        self.refused("isn't a facts text or a MIR text: .*`nll-mir 1` .*nllc.sh facts FILE.rs", self.write("none", b"none"))
+        self.refused("isn't a facts text", self.write("empty", b""))
+        self.refused("isn't a facts text", self.write("bytes", bytes(range(256))))
 
     def test_no_file(self):
         self.refused("missing.facts can't be read: No such file", self.path("missing.facts"))
@@ -148,16 +146,12 @@ class Commands(Folder):
                      nllc="missing")
         with mock.patch.object(nllc, "ROOT", self.path("nowhere")), mock.patch.dict(os.environ,
                                                                                     {"PATH": ""}):
-            self.refused("no nllc is found: .*--values FILE", self.path("pick.facts"), nllc=None)
+            self.refused("no nllc is found: .* by the variable NLLC", self.path("pick.facts"), nllc=None)
 
     def test_an_nllc_that_fails(self):
         self.program("failing", "echo nllc: memory >&2; exit 3")
-        self.refused("ended with status 3: nllc: memory; .*--values FILE", self.path("pick.facts"),
+        self.refused("ended with status 3: nllc: memory$", self.path("pick.facts"),
                      nllc="failing",
-                     status=3)
-        self.program("rtless", "echo nllc.sh: rt is missing >&2; exit 127")
-        self.refused("status 127: .*is `rt` of the Rattle kit on the PATH", self.path("pick.facts"),
-                     nllc="rtless",
                      status=3)
 
     def test_values_and_faults_that_disagree(self):
@@ -166,61 +160,41 @@ class Commands(Folder):
         self.refused("the faults of .* aren't those of", self.path("pick.facts"), nllc="lying",
                      status=3)
 
+    def answering(self, values):
+        """An nllc that checks as it ought to, and whose values a shell command prints."""
+        self.program("answering", f'[ "$1" = check ] && exec "{sys.executable}" "{REFERENCE}" "$@"\n{values}')
+
     def test_values_that_do_not_follow(self):
-        right = reference.answer("values", file_bytes(SAMPLES, "pick.facts"))[0]
-        report = self.write("report",
-                            right.replace(b"'best: 1 2 3 4 6 7 8 end('a)", b"'best: 1 2 3 4 6 7"))
-        self.refused("the values of .*report don't follow from the text: no constraints bring",
-                     self.path("pick.facts"),
-                     "--values", report)
+        self.answering(f'"{sys.executable}" "{REFERENCE}" "$@" | sed "s/^\'best: .*/\'best: 1 2 3 4 6 7/"')
+        self.refused("the values of .*answering don't follow from the text: no constraints bring",
+                     self.path("pick.facts"), nllc="answering")
 
     def test_a_report_of_another_text(self):
-        report = self.write("report", b"'static: 0 end('static)\n")
-        self.refused("report isn't the report of this facts text", self.path("pick.facts"),
-                     "--values", report)
+        self.answering("""echo "'static: 0 end('static)\"""")
+        self.refused("isn't the report of this facts text", self.path("pick.facts"), nllc="answering")
 
     def test_sources_that_are_none(self):
-        self.refused("none.rs can't be read", self.path("pick.facts"), self.path("none.rs"))
-        self.refused("isn't UTF-8", self.path("pick.facts"), self.write("bytes.rs", b"\xff"))
-        self.refused("has 1 lines, and the facts text speaks of line 10: was the file changed",
-                     self.path("pick.facts"), self.write("short.rs", b"fn f() {}\n"))
+        self.write("pick.rs", b"\xff")
+        self.refused("isn't UTF-8", self.path("pick.facts"))
+        self.write("pick.rs", b"fn f() {}\n")
+        self.refused("has 1 lines, and the facts text speaks of line 10: was the file changed", self.path("pick.facts"))
 
     def test_pages_that_cannot_be_written(self):
-        self.refused("can't be written: No such file or directory; name another",
-                     self.path("pick.facts"), "-o",
-                     self.path("nowhere/out.html"), status=3)
-        os.mkdir(self.path("folder.html"))
-        self.refused("can't be written: Is a directory", self.path("pick.facts"), "-o",
-                     self.path("folder.html"),
-                     status=3)
-        self.refused("would be written over .*pick.facts", self.path("pick.facts"), "-o",
-                     self.path("pick.facts"))
-
-    def test_a_pipe_without_a_name_for_the_page(self):
-        os.mkfifo(self.path("pipe"))
-        self.refused("pipe has no place beside it; name the page by -o", self.path("pipe"))
+        os.mkdir(self.path("pick.html"))
+        self.refused("can't be written: Is a directory; name another place by -o", self.path("pick.facts"), status=3)
 
     def test_a_run_that_is_stopped(self):
         self.program("slow", f"touch {self.path('began')}; exec sleep 20")
         with mock.patch.dict(os.environ, {"NLLC": self.path("slow")}):
-            run = subprocess.Popen([os.path.join(ROOT, "frontend", "run"), "facts-page",
-                                    self.path("pick.facts")],
+            run = subprocess.Popen([os.path.join(ROOT, "frontend", "run"), "page",
+                                    self.path("pick.facts"), "-o", self.folder],
                                    stdout=subprocess.PIPE, stderr=subprocess.PIPE, text=True)
         while not os.path.exists(self.path("began")):
             time.sleep(0.02)
         run.terminate()
         out, err = run.communicate(timeout=10)
-        self.assertEqual((run.returncode, out, err), (130, "", "nll-page: stopped\n"))
+        self.assertEqual((run.returncode, out, err), (130, "", "nllc.sh page: stopped; nothing half-written is left\n"))
         self.assertNotIn("pick.html", os.listdir(self.folder))
-
-    def test_words(self):
-        for words in ([], ["a", "b", "c"], ["--color", self.path("pick.facts")]):
-            status, out, err = self.run_main(*words)
-            self.assertEqual((status, out), (2, ""))
-            self.assertIn("usage: nll-page", err)
-        status, out, _ = self.run_main("--help")
-        self.assertEqual(status, 0)
-        self.assertIn("FACTS", out)
 
 
 if __name__ == "__main__":

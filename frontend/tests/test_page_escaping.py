@@ -1,6 +1,7 @@
 """No text from outside becomes markup, script or a hidden character."""
 
 import json
+import re
 import unittest
 from html.parser import HTMLParser
 
@@ -43,7 +44,7 @@ class Elements(HTMLParser):
 class Nesting(HTMLParser):
     """Which elements stay open, and which ends fit none."""
 
-    VOID = {"meta", "input", "rect", "path", "br"}
+    VOID = {"meta", "link", "input", "rect", "path", "br"}
 
     def __init__(self):
         super().__init__()
@@ -98,12 +99,12 @@ class Pages(unittest.TestCase):
     def test_nothing_is_fetched(self):
         made = Elements()
         made.feed(page_of("harmless"))
-        self.assertFalse({"link", "img", "iframe", "object", "embed", "base", "audio",
-                          "video"} & set(made.tags))
+        self.assertFalse({"img", "iframe", "object", "embed", "base", "audio", "video"} & set(made.tags))
+        self.assertEqual([value for name, value in made.attributes if name == "rel"], ["icon"])
         names = [name for name, _ in made.attributes]
         self.assertNotIn("src", names)
-        self.assertTrue(all(value.startswith("#") for name, value in made.attributes
-                            if name == "href"))
+        addresses = [value for name, value in made.attributes if name == "href"]
+        self.assertTrue(all(value.startswith(("#", "data:image/svg+xml,")) for value in addresses))
         self.assertIn("default-src 'none'", page_of("harmless"))
 
     def test_elements_are_closed_in_order(self):
@@ -134,18 +135,22 @@ class Pieces(unittest.TestCase):
         self.assertEqual(plain(parts), "a < b, `<'a>` & more")
 
     def test_what_is_put_in_is_not_looked_at_again(self):
-        with_marks = fill("page.html", {name: "{{css}}" for name in
-                                        ("title", "row", "css", "js", "name", "about", "verdict",
-                                         "provenance", "faults",
-                                         "regions", "tabs", "source", "points", "folded",
-                                         "statements", "outlives", "view",
-                                         "ends", "data")})
+        names = re.findall(r"\{\{(\w+)\}\}", template("page.html"))
+        with_marks = fill("page.html", {name: "{{css}}" for name in names})
         self.assertIn("<style>\n{{css}}</style>", with_marks)
 
     def test_pieces_of_a_line_are_the_line(self):
         for line in [NASTY, "let x: &'a str = \"a\\\"b\"; // 'c'", "'\\'' 'x' b'y' 'label: loop",
                      "/* a */ 0x1f 'a\"", ""]:
             self.assertEqual("".join(piece for _, piece in pieces(line)), line)
+
+    def test_kinds_of_pieces_of_a_mir_text(self):
+        for line, kinds in (("  region '2", ["keyword", "lifetime"]), ("# 'a", ["comment"]),
+                            ("switch copy _2.0 bb1 bb2", ["keyword", "keyword", "number"]),
+                            ("_0 = call get(move _6: &'6 mut Map)", ["keyword", "keyword", "lifetime", "keyword"])):
+            found = list(pieces(line, of_mir=True))
+            self.assertEqual("".join(piece for _, piece in found), line)
+            self.assertEqual([kind for kind, _ in found if kind], kinds)
 
     def test_kinds_of_pieces(self):
         self.assertEqual([kind for kind, _ in pieces("fn f<'a>(x: &'a u8) -> u8 { 'b' }") if kind],

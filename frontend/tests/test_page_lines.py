@@ -59,8 +59,15 @@ class Folding(unittest.TestCase):
         self.assertEqual(rows(facts, [0, 1, 2, 3]), [([0, 1], "a"), ([2], "b"), ([3], "return")])
         self.assertEqual(title(facts, [0, 1, 2, 3]), ("bb0", "0–3"))
         self.assertEqual(title(facts, [3]), ("", "3"))
-        self.assertEqual(title(facts, [3, 2]), ("", "3 … 2"))
+        self.assertEqual(title(facts, [3, 2]), ("bb0", "3 … 2"))
+        facts.point_names.update({point: f"bb0/{point}" for point in range(4)})
+        self.assertEqual(title(facts, [0, 1, 2]), ("bb0", ""))
+        self.assertEqual(title(facts, [3]), ("", "bb0/3"))
 
+    def test_titles_of_several_blocks(self):
+        facts = facts_of(5, *(f"# point {n}: a (bb{n}[0])" for n in range(5)))
+        self.assertEqual(title(facts, [0, 1, 2]), ("bb0, bb1, bb2", "0–2"))
+        self.assertEqual(title(facts, [0, 1, 3, 4]), ("bb0 … bb4", "0 … 4"))
 
     def test_marks_share_a_row(self):
         facts = facts_of(5, "# point 0: line 1: StorageLive(_1) (bb0[0])",

@@ -7,7 +7,7 @@ import unittest
 from contextlib import redirect_stderr, redirect_stdout
 from unittest import mock
 
-from page_support import EXAMPLES, ROOT, SAMPLES, Folder, file_bytes, reference
+from page_support import EXAMPLES, ROOT, SAMPLES, Folder, file_bytes, reference, text
 
 from nll_page import index
 from nll_page.folder import write_index
@@ -57,6 +57,13 @@ class Pages(Command):
         self.assertEqual([os.path.basename(path) for path in out],
                          ["running.html", "running.mir.html", "index.html"])
 
+    def test_standard_input(self):
+        for name, shown in (("chain.facts", "no fault"), ("drop.mir", "drop _1 -&gt; bb1")):
+            with mock.patch("sys.stdin", io.TextIOWrapper(io.BytesIO(file_bytes(EXAMPLES, name)))):
+                status, out, err = self.run_main("-")
+            self.assertEqual((status, out[0], err), (0, self.path("pages", "stdin.html"), ""))
+            self.assertIn(shown, self.page("stdin.html"))
+
     def test_a_struct_with_a_drop(self):
         status, _, err = self.run_main(os.path.join(EXAMPLES, "drop.mir"))
         self.assertEqual((status, err), (0, ""))
@@ -66,8 +73,9 @@ class Pages(Command):
         for name, data, said in (
                 ("wrong.mir", b"nll-mir 1\nend\n", "nllc refuses the text: nllc: line 2: syntax"),
                 ("second.mir", b"nll-mir 2\nend\n", "nllc refuses the text: nllc: line 2: syntax"),
-                ("wrong.rs", b"fn f() {}\n", r"is a Rust file: ./nllc.sh rust \S*wrong.rs makes its texts"),
-                ("other", b"hello\n", "isn't a facts text")):
+                ("wrong.rs", b"fn f() {}\n", r"is a Rust file: nllc.sh rust \S*wrong.rs makes its texts"),
+                ("other", b"hello\n", "isn't a facts text or a MIR text: .*`nll-mir 1`"),
+                ("empty", b"", "isn't a facts text"), ("bytes", b"\xff\0", "isn't a facts text")):
             with self.subTest(name=name):
                 status, out, err = self.run_main(self.write(name, data))
                 self.assertEqual((status, out, err.count("\n")), (2, [], 1))
@@ -101,19 +109,39 @@ class MirTexts(unittest.TestCase):
 
 class Index(Command):
     def test_a_row_a_page(self):
-        self.write("pick.facts", file_bytes(SAMPLES, "pick.facts"))
-        self.write("pick.rs", file_bytes(SAMPLES, "pick.rs"))
-        self.run_main(self.path("pick.facts"), os.path.join(EXAMPLES, "drop.mir"))
+        for name in ("pick.facts", "pick.rs"):
+            self.write(name, file_bytes(SAMPLES, name))
+        self.write("drop.mir", file_bytes(EXAMPLES, "drop.mir"))
+        self.run_main(self.path("pick.facts"), self.path("drop.mir"))
         made = self.page("index.html")
-        self.assertEqual(re.findall(r'href="\./([^"]*)"', made), [name for name, _ in index.rows_in(
-            self.path("pages"))])
+        self.assertEqual(re.findall(r'<a href="\./([^"]*)"', made),
+                         ["drop.mir.html", "pick.html", "pick.html#line=7"])
         rows = dict(index.rows_in(self.path("pages")))
-        self.assertEqual(rows["pick.html"], ("pick", self.path("pick.rs"), 5, 9, 4, 1, None))
-        self.assertIn("1 fault<", made)
+        said = [7, "`'b` must outlive `'a`, which the signature doesn't say"]
+        self.assertEqual(rows["pick.html"], ("pick", self.path("pick.rs"), 4, 9, 4, 1, None, "faulty", "1 fault",
+                                             None, [said], True))
+        self.assertIsNone(rows["drop.mir.html"].line)
+        self.assertIn(">line 7</a>: <code>&#x27;b</code> must outlive <code>&#x27;a</code>, which", made)
+        self.assertIn("2 pages", made)
+
+    def test_pages_of_an_earlier_run_come_last(self):
+        self.run_main(os.path.join(EXAMPLES, "chain.facts"))
+        self.run_main(os.path.join(EXAMPLES, "drop.mir"))
+        made = self.page("index.html")
+        self.assertIn("1 text<", made)
+        self.assertRegex(made, r"(?s)drop\.mir\.html.*Made before.*chain\.html")
+
+    def test_two_texts_of_one_name(self):
+        os.mkdir(self.path("other"))
+        for folder in (".", "other"):
+            self.write(os.path.join(folder, "x.facts"), text(1, "return 0"))
+        _, out, _ = self.run_main(self.path("x.facts"), self.path("other", "x.facts"))
+        self.assertEqual([os.path.basename(path) for path in out], ["x.html", "x-2.html", "index.html"])
+        self.assertIn("other/x.facts", self.page("x-2.html"))
 
     def test_text_stays_text(self):
         nasty = '"><script>alert(1)</script>&'
-        row = index.Row(nasty, nasty, 1, 2, 3, 0, 1)
+        row = index.Row(nasty, nasty, 1, 2, 3, 0, 1, "faulty", nasty, nasty, [[3, nasty]], True)
         self.write("a b%.html", index.row_mark(row).encode())
         self.assertEqual(index.row_in(self.path("a b%.html")), row)
         made = index.index_page(index.rows_in(self.folder), "{{title}}{{rows}}{{verdict}}", "")

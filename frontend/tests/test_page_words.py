@@ -99,11 +99,13 @@ class Sentences(unittest.TestCase):
         self.assertEqual(words.origins(facts, Constraint(2, 1, 4)), [0, 2])
 
     def test_walks(self):
-        self.assertEqual(words.walk_text([3]), "3")
-        self.assertEqual(words.walk_text([1, 2, 3, 4, 5, 6, 7]), "1 → 2 → 3 → 4 → 5 → 6 → 7")
-        self.assertEqual(words.walk_text([1, 2, 3, 7]), "1 → 2 → 3 → 7")
-        self.assertEqual(words.walk_text([1, 2, 3, 4, 5, 9, 11, 12, 13]),
-                         "1 → … → 5 → 9 → 11 → 12 → 13")
+        facts = facts_of(14)
+        for points, said in (([3], "3"), ([1, 2, 3, 4, 5, 6, 7], "1 → 2 → 3 → 4 → 5 → 6 → 7"),
+                             ([1, 2, 3, 7], "1 → 2 → 3 → 7"),
+                             ([1, 2, 3, 4, 5, 9, 11, 12, 13], "1 → … → 5 → 9 → 11 → 12 → 13")):
+            self.assertEqual(words.walk_text(facts, points), said)
+        facts.point_names.update({1: "bb0/1", 2: "bb1/0"})
+        self.assertEqual(words.walk_text(facts, [1, 2]), "bb0/1 → bb1/0")
 
     def test_small_words(self):
         self.assertEqual(words.spans([0, 1, 2, 5, 7, 8]), [[0, 2], [5, 5], [7, 8]])

@@ -9,10 +9,11 @@ from schedule_support import SCHEDULES, content_of, example_content, schedule
 
 from nll_page.words import plain
 from nll_schedule import reasons, telling
-from nll_schedule.event_part import event_part
+from nll_schedule.event_part import event_list, event_part
 from nll_schedule.page import page
 from nll_schedule.reasons import Asked, Reading
 from nll_schedule.states import Growth, under_way
+from nll_schedule.wait_part import wait_part
 
 # Two owners: owner 0 has 'static and '2, owner 1 has '1, which reads '2.
 ONE_WAY = text(2, "region '1", "region '2", "next 0 1", "return 1", "base '2 0", "constraint '1 '2 0")
@@ -123,10 +124,38 @@ class Reasons(unittest.TestCase):
             reasons.reasons(content.facts, seat, Growth(1, 1, 2))
 
 
+class Waits(unittest.TestCase):
+    def at(self, name, number):
+        """What the drawing says of a state, in words."""
+        found = re.findall(r'<g class="[^"]*" data-from="(\d+)"(?: data-to="(\d+)")?><title>([^<]*)</title>',
+                           wait_part(example_content(name)))
+        return [said for first, end, said in found if int(first) <= number < int(end or 10 ** 9)]
+
+    def test_an_owner_with_nothing_to_do_waits(self):
+        self.assertEqual(self.at("each_other", 18),
+                         ["1 message from owner 1 to owner 0", "owner 0 waits for owner 1", "owner 0 waits", "owner 1 works"])
+
+    def test_before_and_at_the_end(self):
+        self.assertEqual(self.at("each_other", 0), ["owner 0 not loaded", "owner 1 not loaded"])
+        self.assertEqual(self.at("each_other", 26), ["owner 0 has left", "owner 1 has left"])
+
+    def test_an_owner_with_something_in_its_box_does_not_wait(self):
+        self.assertEqual(self.at("each_other", 17),
+                         ["1 message from owner 0 to owner 1", "owner 0 waits for owner 1", "owner 0 waits",
+                          "owner 1 has something to take or to send"])
+
+    def test_the_one_that_it_waits_for_is_not_loaded(self):
+        self.assertEqual(self.at("late_hole", 12)[0], "owner 1 waits for owner 0")
+
+    def test_too_many_owners(self):
+        content = content_of(text(1, "return 0"), schedule(), 17)
+        self.assertEqual(wait_part(content), '<p class="none">17 owners, too many for a picture.</p>')
+
+
 class Parser(HTMLParser):
     """Looks whether tags are closed in order, and gathers ids and links."""
 
-    VOID = {"meta", "input", "path", "br"}
+    VOID = {"meta", "link", "input", "path", "br"}
 
     def __init__(self):
         super().__init__()
@@ -157,8 +186,13 @@ class Pages(unittest.TestCase):
             with self.subTest(example=name):
                 self.assertEqual(parser.open, [])
                 self.assertEqual(len(parser.ids), len(set(parser.ids)))
-                inside = [link[1:] for link in parser.links if "event=" not in link]
+                inside = [link[1:] for link in parser.links if link.startswith("#") and "event=" not in link]
                 self.assertLessEqual(set(inside), set(parser.ids))
+
+    def test_why_an_event_is_not_possible_is_said_at_the_event(self):
+        rows = event_list(example_content("each_other")).split("<li>")
+        self.assertIn('<span class="why">The box from owner 1 to owner 0 is empty.</span>', rows[5])
+        self.assertEqual(sum('class="why"' in row for row in rows), 1)
 
     def test_a_taken_growth_leads_to_its_constraint(self):
         part = event_part(example_content("each_other"), 18)

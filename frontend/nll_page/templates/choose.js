@@ -1,7 +1,8 @@
 // Choosing, and bringing what was chosen into sight.
 
 function chooseRegion(region) {
-  chosen.region = chosen.region === region ? null : region;
+  chosen.region = chosen.region === region && !chosen.isFirst ? null : region;
+  chosen.isFirst = false;
   chosen.step = null;
   show();
   if (chosen.region === null) return;
@@ -19,6 +20,7 @@ function chooseRegion(region) {
 function chooseElement(element, from) {
   makePlaces(element);
   chosen.element = chosen.element === element ? null : element;
+  chosen.isFirst = false;
   chosen.step = null;
   show();
   if (chosen.element === null) return;
@@ -31,8 +33,8 @@ function chooseElement(element, from) {
 }
 
 function chooseStep(step) {
-  const isNew = chosen.step !== step;
-  Object.assign(chosen, { step: null, region: null, element: null });
+  const isNew = chosen.step !== step || chosen.isFirst;
+  Object.assign(chosen, { step: null, region: null, element: null, isFirst: false });
   if (isNew) Object.assign(chosen, { step, region: Number(step.dataset.r) });
   show();
   if (!isNew) return;
@@ -45,7 +47,7 @@ function chooseStep(step) {
 }
 
 function clear() {
-  Object.assign(chosen, { region: null, element: null, step: null });
+  Object.assign(chosen, { region: null, element: null, step: null, isFirst: false });
   show();
 }
 

@@ -28,7 +28,7 @@ function takeIn(part) {
 
 function rowNode(points, withLine) {
   const buttons = points.map((point) => {
-    const button = make("button", "point", String(point));
+    const button = make("button", "point", pointName(point));
     button.type = "button";
     button.dataset.p = point;
     button.tabIndex = -1;
@@ -76,11 +76,11 @@ function fillBox(number) {
   const [x, y, width, height, wide, title, points] = data.large.boxes[number];
   const box = draw("g", { class: "box", transform: `translate(${x} ${y})` },
     draw("rect", { class: "frame", width, height, rx: 5 }),
-    draw("text", { class: "title", x: pad, y: 13 }, title));
+    draw("text", { class: "title", x: pad, y: 13 }, ...titleNodes(title)));
   points.forEach((point, at) => {
-    const words = `point ${point}` + (data.texts[point] ? `: ${data.texts[point]}` : "");
+    const words = `point ${pointName(point)}` + (data.texts[point] ? `: ${data.texts[point]}` : "");
     const [left, down] = [pad + (at % wide) * pitch, top + Math.floor(at / wide) * pitch];
-    const node = draw("g", { class: "cell", "data-p": point, role: "button", tabindex: -1, "aria-label": words },
+    const node = draw("g", { class: "cell", "data-p": point, role: "button", tabindex: -1 },
       draw("title", {}, words), draw("rect", { x: left, y: down, width: cell, height: cell, rx: 2.5 }));
     if (returns.has(point)) node.append(draw("path", { class: "mark", d: `M${left + 3} ${down + 3.5}h5l-2.5 4.5z` }));
     box.append(node);
@@ -88,6 +88,11 @@ function fillBox(number) {
   box.append(...stubNodes(points, stubs, width, height));
   document.querySelector(".graph.many .inside").append(box);
   takeIn(box);
+}
+
+// The names of a box's blocks, and its points.
+function titleNodes([blocks, points]) {
+  return [draw("tspan", { class: "block" }, blocks), draw("tspan", { class: "points" }, ` ${points}`)];
 }
 
 // An arrow for each point outside to which several of the box's points lead, the last one lowest.
@@ -98,9 +103,9 @@ function stubNodes(points, stubs, width, height) {
   return shown.map(([target, from], at) => {
     const y = height - 9 - 13 * at;
     const node = draw("g", { class: "stub", "data-go": target },
-      draw("title", {}, `from ${from.join(", ")} to point ${target}, from which the function doesn’t return`),
+      draw("title", {}, `from ${from.map(pointName).join(", ")} to point ${pointName(target)}, from which the function doesn’t return`),
       draw("path", { d: `M${width} ${y}h10m-3.5 -3.5l3.5 3.5l-3.5 3.5` }),
-      draw("text", { x: width + 14, y: y + 3.5 }, String(target)));
+      draw("text", { x: width + 14, y: y + 3.5 }, pointName(target)));
     for (const point of from) addTo(edges, `${point}-${target}`, node);
     return node;
   });

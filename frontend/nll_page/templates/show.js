@@ -1,6 +1,7 @@
 // What is chosen, and how it is shown.
 
-const chosen = { region: null, element: null, step: null };
+// What the page begins with is chosen, too, but nobody asked for it.
+const chosen = { region: null, element: null, step: null, isFirst: false };
 
 // What the pointer is on: the page shows for as long what a click there would fix. Null where it is on nothing.
 let hovered = null;
@@ -27,6 +28,8 @@ const placesOf = (element) => places.get(element) || [];
 function show() {
   hovered = null;
   document.body.classList.remove("hovering");
+  const isChoice = chosen.region !== null || chosen.element !== null;
+  document.body.classList.toggle("has-choice", isChoice && !chosen.isFirst);
   light(chosen);
   describe(reasonToShow(chosen));
   remember();

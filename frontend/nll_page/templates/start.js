@@ -1,4 +1,4 @@
-// Tabs, filter, scheme and address; what is clicked; the start.
+// Tabs, filter, theme and address; what is clicked; the start.
 
 function setTab(name) {
   for (const tab of all("[role=tab]")) {
@@ -20,32 +20,54 @@ function filterRegions() {
   rove(regionButtons, first);
 }
 
-const schemes = ["system", "light", "dark"];
+const themes = ["system", "light", "dark"];
 
-function nextScheme() {
-  const now = document.documentElement.dataset.scheme || "system";
-  const next = schemes[(schemes.indexOf(now) + 1) % schemes.length];
-  if (next === "system") delete document.documentElement.dataset.scheme;
-  else document.documentElement.dataset.scheme = next;
-  byId("scheme").querySelector("span").textContent = next;
+function nextTheme() {
+  const now = document.documentElement.dataset.theme || "system";
+  const next = themes[(themes.indexOf(now) + 1) % themes.length];
+  if (next === "system") delete document.documentElement.dataset.theme;
+  else document.documentElement.dataset.theme = next;
+  byId("theme").querySelector("span").textContent = next;
 }
 
-// Writes what is chosen into the address, so that a link can point at it.
+let isRecalling = false;
+
+// Writes what is chosen into the address, so that a link can point at it, and Back leads to what was chosen before.
 function remember() {
+  if (isRecalling) return;
   const words = new URLSearchParams();
   if (chosen.region !== null) words.set("region", data.regions[chosen.region].name);
   if (chosen.element !== null) words.set("point", elementName(chosen.element));
   if (chosen.step) words.set("step", String(all(".step").indexOf(chosen.step)));
+  const address = String(words) ? `#${words}` : "";
+  if (address === location.hash) return;
   try {
-    history.replaceState(null, "", String(words) ? `#${words}` : location.href.split("#")[0]);
+    history.pushState(null, "", address || location.href.split("#")[0]);
   } catch {
     // Some browsers allow it for no page from a file. The address then stays as it is.
   }
 }
 
-// Chooses what an address says.
+// Chooses what an address says; without any, what the page begins with.
 function recall(address) {
-  const words = new URLSearchParams(address.slice(1));
+  isRecalling = true;
+  Object.assign(chosen, { region: null, element: null, step: null });
+  if (address.length > 1) chooseBy(new URLSearchParams(address.slice(1)));
+  else begin();
+  isRecalling = false;
+}
+
+// At first the first step of a fault is lit, or the region of a loan: nothing is scrolled for it.
+function begin() {
+  const step = data.start.step === undefined ? null : all(".step")[data.start.step];
+  const region = step ? Number(step.dataset.r) : data.start.region ?? null;
+  Object.assign(chosen, { step, region, element: null, isFirst: region !== null });
+  show();
+  if (region !== null) reveal(regionButtons.find((one) => Number(one.dataset.r) === region));
+}
+
+function chooseBy(words) {
+  show();
   const step = all(".step")[Number(words.get("step") ?? -1)];
   const region = data.regions.findIndex(({ name }) => name === words.get("region"));
   const count = data.points + data.universals;
@@ -55,6 +77,7 @@ function recall(address) {
     chooseStep(step);
     return;
   }
+  if (words.has("line")) showLine(words.get("line"));
   if (region >= 0) chooseRegion(region);
   if (element !== undefined) chooseElement(element);
 }
@@ -68,7 +91,9 @@ const clicks = [
   [".words", (node) => chooseElement(Number(node.dataset.row), node)],
   [".stub", (node) => chooseElement(Number(node.dataset.go))],
   ["[role=tab]", (node) => setTab(node.id.slice(4))],
-  ["#scheme", nextScheme],
+  ["#theme", nextTheme],
+  ["#clear", clear],
+  ["#save", saveGraph],
   ["#help-button", () => byId("help").showModal()],
   ["#view-statements", () => setView("statements")],
   ["#view-folded", () => setView("folded")],
@@ -129,13 +154,10 @@ if (data.large) {
 }
 
 setTab(document.querySelector("[role=tab][aria-selected=true]").id.slice(4));
-setView(document.body.dataset.view);
 byId("view-statements").hidden = !document.querySelector(".graph.statements");
-firstView();
-fillInSight();
+setView(document.body.dataset.view);
 for (const list of [regionButtons, all("#points .point"), all(".end")]) rove(list, list[0]);
 for (const list of all("#graph svg, #source .rows")) rove([], list.querySelector(".cell, .point"));
 all(".block > summary").forEach((summary, at) => { summary.tabIndex = at ? -1 : 0; });
-const address = location.hash; // before `show` writes it anew
-show();
-recall(address);
+recall(location.hash);
+window.addEventListener("popstate", () => recall(location.hash));

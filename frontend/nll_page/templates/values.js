@@ -30,8 +30,11 @@ function holds(region, element) {
 const isPoint = (element) => element < data.points;
 const regionName = (region) => `'${data.regions[region].name}`;
 
+// A point's name: its block and place in a MIR text, else its number.
+const pointName = (point) => (data.names ? data.names[point] : String(point));
+
 function elementName(element) {
-  return isPoint(element) ? `${element}` : `end(${regionName(element - data.points)})`;
+  return isPoint(element) ? pointName(element) : `end(${regionName(element - data.points)})`;
 }
 
 const returns = new Set(data.returns);

@@ -51,7 +51,7 @@ function elementWords(element) {
 // The point: its statement, its neighbours, the regions that hold it, what is asked from there on.
 function pointWords(point) {
   const where = data.lines[point] === null ? "" : `line ${data.lines[point]}`;
-  const part = make("section", "", make("h2", "", `Point ${point}`, make("span", "what", where)));
+  const part = make("section", "", make("h2", "", `Point ${pointName(point)}`, make("span", "what", where)));
   if (data.texts[point]) part.append(make("p", "", code(data.texts[point])));
   part.append(neighbourWords(point));
   part.append(holders(holdersOf(point).filter((region) => region >= data.universals)));
@@ -95,7 +95,7 @@ function holders(regions) {
 // Whether the region holds the element, and why.
 function bothWords(region, element, why) {
   const name = code(regionName(region));
-  const it = isPoint(element) ? `point ${element}` : code(elementName(element));
+  const it = isPoint(element) ? `point ${pointName(element)}` : code(elementName(element));
   const isOwn = isPoint(element) || element === data.points + region;
   const words = [];
   if (!holds(region, element)) words.push(name, " doesn’t hold ", it, ".");
@@ -105,7 +105,7 @@ function bothWords(region, element, why) {
   } else if (why) {
     words.push(name, " holds ", it, ...(why.at === ALL
       ? [": at all points it must hold what ", code(regionName(why.sub)), " holds."]
-      : [`: from point ${why.at} on it must hold what is reached inside `, code(regionName(why.sub)),
+      : [`: from point ${pointName(why.at)} on it must hold what is reached inside `, code(regionName(why.sub)),
         ...wayWords(why)]));
   }
   return make("section", "both", make("p", "", ...words));
@@ -134,7 +134,8 @@ function runs(points) {
 }
 
 function spanWords(spans) {
-  return spans.map(([first, last]) => (first === last ? `${first}` : `${first}–${last}`)).join(", ");
+  return spans.map(([first, last]) =>
+    (first === last ? pointName(first) : `${pointName(first)}–${pointName(last)}`)).join(", ");
 }
 
 // The same as nodes: of many runs the first, and a button for the rest.

@@ -21,7 +21,7 @@ function show(event) {
   now = Math.max(0, Math.min(last, event));
   for (const { node, from, to, leavesGhost } of spans) {
     const isGone = leavesGhost && now === to;
-    node.hidden = !(from <= now && now < to) && !isGone;
+    node.toggleAttribute("hidden", !(from <= now && now < to) && !isGone);
     node.classList.toggle("new", now === from && now > 0);
     node.classList.toggle("gone", isGone);
   }
@@ -85,14 +85,47 @@ function recall() {
   show(found ? Number(found[1]) : now);
 }
 
-const schemes = ["system", "light", "dark"];
+const themes = ["system", "light", "dark"];
 
-function nextScheme() {
-  const scheme = document.documentElement.dataset.scheme || "system";
-  const next = schemes[(schemes.indexOf(scheme) + 1) % schemes.length];
-  if (next === "system") delete document.documentElement.dataset.scheme;
-  else document.documentElement.dataset.scheme = next;
-  byId("scheme").querySelector("span").textContent = next;
+function nextTheme() {
+  const theme = document.documentElement.dataset.theme || "system";
+  const next = themes[(themes.indexOf(theme) + 1) % themes.length];
+  if (next === "system") delete document.documentElement.dataset.theme;
+  else document.documentElement.dataset.theme = next;
+  byId("theme").querySelector("span").textContent = next;
+}
+
+// Event after event, from the first one where the last one is shown; any other choice stops it.
+const PAUSE = 900;  // milliseconds
+let timer = null;
+
+function play() {
+  if (timer !== null) {
+    stop();
+    return;
+  }
+  if (now === last) go(0);
+  timer = setInterval(() => {
+    go(now + 1);
+    if (now === last) stop();
+  }, PAUSE);
+  showPlaying();
+}
+
+function stop() {
+  clearInterval(timer);
+  timer = null;
+  showPlaying();
+}
+
+function showPlaying() {
+  byId("play").setAttribute("aria-pressed", String(timer !== null));
+  byId("play").setAttribute("aria-label", timer === null ? "Play" : "Stop");
+}
+
+function choose(event) {
+  stop();
+  go(event);
 }
 
 function pointAt(link, event) {
@@ -104,16 +137,18 @@ function pointAt(link, event) {
 }
 
 const keys = {
-  ArrowLeft: () => go(now - 1),
-  ArrowRight: () => go(now + 1),
-  Home: () => go(0),
-  End: () => go(last),
+  ArrowLeft: () => choose(now - 1),
+  ArrowRight: () => choose(now + 1),
+  Home: () => choose(0),
+  End: () => choose(last),
+  " ": play,
   "?": () => byId("help").showModal(),
 };
 
 document.addEventListener("keydown", (event) => {
   if (event.altKey || event.ctrlKey || event.metaKey || byId("help").open) return;
-  if (event.target.matches("input") && event.key !== "?") return;
+  if (event.target.matches("input") && event.key !== "?" && event.key !== " ") return;
+  if (event.target.matches("button, a") && event.key === " ") return;
   const act = keys[event.key];
   if (!act) return;
   act();
@@ -125,16 +160,17 @@ document.addEventListener("click", (event) => {
   const link = event.target.closest("a.to");
   if (row) {
     event.preventDefault();
-    go(Number(row.dataset.event));
+    choose(Number(row.dataset.event));
   } else if (link) pointAt(link, event);
 });
 
-byId("first").addEventListener("click", () => go(0));
-byId("back").addEventListener("click", () => go(now - 1));
-byId("forward").addEventListener("click", () => go(now + 1));
-byId("last").addEventListener("click", () => go(last));
-byId("slider").addEventListener("input", () => go(Number(byId("slider").value)));
-byId("scheme").addEventListener("click", nextScheme);
+byId("first").addEventListener("click", () => choose(0));
+byId("back").addEventListener("click", () => choose(now - 1));
+byId("play").addEventListener("click", play);
+byId("forward").addEventListener("click", () => choose(now + 1));
+byId("last").addEventListener("click", () => choose(last));
+byId("slider").addEventListener("input", () => choose(Number(byId("slider").value)));
+byId("theme").addEventListener("click", nextTheme);
 byId("help-button").addEventListener("click", () => byId("help").showModal());
 window.addEventListener("hashchange", recall);
 recall();

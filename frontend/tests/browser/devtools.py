@@ -22,10 +22,17 @@ KEYS = {"Enter": (13, "\r"), "Escape": (27, ""), "Tab": (9, ""), " ": (32, " "),
         "End": (35, "")}
 
 
-class Browser:
-    """One process. It reads commands from descriptor 3 and answers on 4; a zero byte ends each."""
+FONTS = """<?xml version="1.0"?><!DOCTYPE fontconfig SYSTEM "fonts.dtd">
+<fontconfig>{}<cachedir>{}</cachedir></fontconfig>"""
 
-    def __init__(self):
+
+class Browser:
+    """One process. It reads commands from descriptor 3 and answers on 4; a zero byte ends each.
+
+    Where folders of fonts are given, it has these fonts and no others.
+    """
+
+    def __init__(self, fonts=()):
         program = next(filter(None, map(shutil.which, NAMES)), None)
         if program is None:
             raise SystemExit("no Chromium is found; Debian has it: apt-get install chromium")
@@ -38,13 +45,14 @@ class Browser:
             os.dup2(os.dup(to_browser), 3)
             os.dup2(os.dup(to_us), 4)
 
+        environment = {**os.environ, **self.only(fonts)}
         # The ends go to 3 and 4 by way of higher numbers, so that neither covers the other.
         to_browser, to_us = raised(to_browser), raised(to_us)
         self.process = subprocess.Popen(
             [program, "--headless=new", "--remote-debugging-pipe", "--no-sandbox", "--disable-gpu",
              "--hide-scrollbars", "--disable-dev-shm-usage", f"--user-data-dir={self.profile.name}",
              "about:blank"],
-            pass_fds=(3, 4, to_browser, to_us), preexec_fn=descriptors,
+            pass_fds=(3, 4, to_browser, to_us), preexec_fn=descriptors, env=environment,
             stdin=subprocess.DEVNULL, stdout=subprocess.DEVNULL, stderr=subprocess.DEVNULL)
         os.close(to_browser)
         os.close(to_us)
@@ -53,6 +61,15 @@ class Browser:
         self.count = 0
         self.rest = b""
         self.events = []
+
+    def only(self, fonts):
+        """The variable that names the fonts."""
+        if not fonts:
+            return {}
+        path = os.path.join(self.profile.name, "fonts.conf")
+        with open(path, "w", encoding="utf-8") as file:
+            file.write(FONTS.format("".join(f"<dir>{folder}</dir>" for folder in fonts), self.profile.name))
+        return {"FONTCONFIG_FILE": path}
 
     def __enter__(self):
         return self
@@ -63,6 +80,8 @@ class Browser:
         except (OSError, EOFError):
             pass
         self.process.wait(20)
+        self.writes.close()
+        self.reads.close()
         self.profile.cleanup()
 
     def message(self):
@@ -120,8 +139,7 @@ class Page:
         self.call("Runtime.enable")
         self.call("Emulation.setDeviceMetricsOverride", width=width, height=height,
                   deviceScaleFactor=1, mobile=False)
-        self.call("Emulation.setEmulatedMedia",
-                  features=[{"name": "prefers-color-scheme", "value": scheme}])
+        self.use(scheme)
         browser.events.clear()
         self.call("Page.navigate", url=address)
         browser.wait_for("Page.loadEventFired")
@@ -176,6 +194,13 @@ class Page:
         self.call("Input.dispatchKeyEvent", type="keyDown", **shared,
                   **({"text": text} if text else {}))
         self.call("Input.dispatchKeyEvent", type="keyUp", **shared)
+
+    def use(self, scheme):
+        """Light or dark, as the system would ask for it."""
+        self.call("Emulation.setEmulatedMedia", features=[{"name": "prefers-color-scheme", "value": scheme}])
+
+    def close(self):
+        self.browser.call("Target.closeTarget", targetId=self.target)
 
     def screenshot(self, path, clip=None):
         more = {"clip": {**clip, "scale": 1}} if clip else {}

@@ -23,7 +23,7 @@ from big_text import facts_text  # noqa: E402 (the paths stand above)
 from devtools import Browser  # noqa: E402
 
 from nll_page import nllc  # noqa: E402
-from nll_page.command import main as make_page  # noqa: E402
+from nll_page.texts import main as make_page  # noqa: E402
 from nll_page.facts import read_facts  # noqa: E402
 from nll_page.values import read_values  # noqa: E402
 
@@ -296,12 +296,9 @@ def drive(browser, path, folder, shots):
     with open(path, "rb") as file:
         text = file.read()
     report = nllc.run(text).values
-    report_path = os.path.join(folder, "report")
-    with open(report_path, "w", encoding="utf-8") as file:
-        file.write(report)
     out = os.path.join(folder, os.path.basename(path).removesuffix(".facts") + ".html")
     with contextlib.redirect_stdout(io.StringIO()):
-        if make_page([path, "--values", report_path, "-o", out]):
+        if make_page([path, "-o", folder]):
             return [f"{path}: no page"]
     facts = read_facts(text, path)
     values = read_values(report, facts, path)

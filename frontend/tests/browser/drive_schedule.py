@@ -140,9 +140,9 @@ class Drive:
         self.page.key("Escape")
         self.page.value("document.activeElement.blur()")
         for scheme in ("light", "dark", "system"):
-            self.page.click("#scheme")
+            self.page.click("#theme")
             self.expect(f"the button doesn't choose {scheme}",
-                        self.texts("#scheme span") == [scheme])
+                        self.texts("#theme span") == [scheme])
 
     def address(self):
         """The address of an event shows it in a fresh page."""

@@ -32,7 +32,7 @@ LEARNING = "running.mir"
 # A picture's name, the function, the scheme, and what is chosen: a step, or a region by its words
 # and perhaps the last point with these words.
 PICTURES = [
-    ("longer", "longer", "light", "step=2"),
+    ("longer", "longer", "light", "step=0"),
     ("news", "news", "light", "the borrow &draft"),
     ("news-point", "news", "dark", "the borrow &draft @ (*text)"),
     ("fixed", "fixed", "dark", "the type of text"),

@@ -75,6 +75,33 @@ const probe = {
 
   overflow: () => document.documentElement.scrollWidth - document.documentElement.clientWidth,
 
+  // The text nodes that can be read in the window now, each with the element that it stands in.
+  readable: () => {
+    const walker = document.createTreeWalker(document.body, NodeFilter.SHOW_TEXT);
+    const found = new Set();
+    for (let text = walker.nextNode(); text; text = walker.nextNode()) {
+      const node = text.parentElement;
+      if (found.has(node) || !text.data.trim()) continue;
+      const { left, top, right, bottom } = node.getBoundingClientRect();
+      const isInWindow = right > 0 && bottom > 0 && left < innerWidth && top < innerHeight && right - left > 1;
+      if (isInWindow && !node.matches("script, style, title, noscript, option") && isSeen(node)) found.add(node);
+    }
+    return [...found];
+  },
+
+  // The least size of letters there, in pixels of the screen, and what is written with them.
+  smallest: () => probe.readable().map((node) => [sizeOf(node), node.textContent.slice(0, 40)])
+    .sort(([a], [b]) => a - b)[0],
+
+  // Texts whose contrast with what is behind them is less.
+  faint: (least) => probe.readable().map((node) => [ratio(inkOf(node), groundOf(node)), nameOf(node)])
+    .filter(([found]) => found < least).map(([found, name]) => `${name}: ${found.toFixed(2)}`),
+
+  // What overflows its own box sideways, or the window.
+  wide: () => [...document.querySelectorAll("html, main, header, .lists, .pane, .fault, .step, .chosen, .card, table, aside, nav, dialog[open]")]
+    .filter((one) => one.scrollWidth > one.clientWidth + 1 && one.getClientRects().length > 0 && !scrolls(one))
+    .map((one) => `${one.className || one.localName}: ${one.scrollWidth} > ${one.clientWidth}`),
+
   // The contrast of the first node of each selector with what is behind it.
   contrast: (selectors) => selectors.flatMap((selector) => {
     const [node] = probe.nodes(selector);
@@ -83,6 +110,52 @@ const probe = {
     return [[selector, (Math.max(a, b) + 0.05) / (Math.min(a, b) + 0.05)]];
   }),
 };
+
+const scrolls = (node) => node.localName !== "html" && /auto|scroll/.test(getComputedStyle(node).overflowX);
+
+// Whether something of it is inside the window and all panes around it.
+function isSeen(node) {
+  const style = getComputedStyle(node);
+  if (style.visibility === "hidden" || style.display === "none") return false;
+  let { left, top, right, bottom } = node.getBoundingClientRect();
+  for (const pane of document.querySelectorAll(".scroll, .stage, aside, .pane, .lists, .chosen")) {
+    if (!pane.contains(node)) continue;
+    const box = pane.getBoundingClientRect();
+    [left, top] = [Math.max(left, box.left), Math.max(top, box.top)];
+    [right, bottom] = [Math.min(right, box.right), Math.min(bottom, box.bottom)];
+  }
+  return right - left > 1 && bottom - top > 1;
+}
+
+// The size of an element's letters; in a drawing as it is scaled.
+function sizeOf(node) {
+  const size = parseFloat(getComputedStyle(node).fontSize);
+  return node.getScreenCTM ? size * node.getScreenCTM().a : size;
+}
+
+const isDrawn = (node) => node instanceof SVGElement;
+const inkOf = (node) => luminance(colour(getComputedStyle(node)[isDrawn(node) ? "fill" : "color"]));
+const nameOf = (node) => `${node.getAttribute("class") || node.localName} "${node.textContent.slice(0, 30)}"`;
+const ratio = (a, b) => (Math.max(a, b) + 0.05) / (Math.min(a, b) + 0.05);
+
+// What is behind a text: in a drawing the shape of its group that was drawn last before it, else the pane.
+function groundOf(node) {
+  if (!isDrawn(node)) return luminance(ground(node));
+  const text = node.closest("text");
+  for (let group = text.parentElement; isDrawn(group) && group.localName !== "svg"; group = group.parentElement) {
+    const shapes = [...group.querySelectorAll(":scope > :is(rect, circle)")]
+      .filter((shape) => !text.matches(".words") || !shape.matches(".band:not(.held)")).filter((shape) => covers(shape, text));
+    const filled = shapes.map((shape) => colour(getComputedStyle(shape).fill)).filter((one) => one[3] === 255);
+    if (filled.length) return luminance(filled[filled.length - 1]);
+  }
+  return luminance(ground(node.closest("svg").parentElement));
+}
+
+function covers(shape, text) {
+  const [outer, inner] = [shape.getBoundingClientRect(), text.getBoundingClientRect()];
+  const middle = inner.top + inner.height / 2;
+  return outer.left <= inner.left + 2 && outer.top <= middle && outer.bottom >= middle;
+}
 
 const canvas = document.createElement("canvas").getContext("2d", { willReadFrequently: true });
 

@@ -1,0 +1,166 @@
+#!/usr/bin/env python3
+"""Compares what nllc's rules make of MIR texts with rustc's facts, for all functions of a crate or a file.
+
+    check/run rules --crate FOLDER ..    [--values] [-- OPTIONS OF CARGO CHECK]
+    check/run rules FILE.rs              [--values] [-- OPTIONS OF RUSTC]
+
+Of each function: base elements, constraints and values of the regions that both have. It prints a table of the classes
+of differences, and each difference that is in none. Status 1 where there is one. What a MIR text's problem is, the program
+of frontend/world_program.sh says, or that of the variable WORLD_PROGRAM.
+"""
+
+import argparse
+import os
+import pathlib
+import sys
+import tempfile
+from collections import Counter
+from concurrent.futures import ProcessPoolExecutor
+from dataclasses import dataclass, field
+
+HERE = pathlib.Path(__file__).resolve().parent
+sys.path[:0] = [str(HERE), str(HERE.parent.parent / "frontend")]
+
+from nll_facts.command import split_words  # noqa: E402 (the paths stand above)
+from nll_facts.refusal import Refusal  # noqa: E402
+from nll_facts.workers import keep_silent  # noqa: E402
+from nll_mir.command import dumps_of_crate, dumps_of_file  # noqa: E402
+from nll_mir.refusal import NotSaid  # noqa: E402
+from nll_mir.texts import texts_of  # noqa: E402
+from nll_page.refusal import Refusal as Unread  # noqa: E402
+from nll_page.texts import problem_of  # noqa: E402
+from nll_schedule.program import find as find_world  # noqa: E402
+
+from classes import UNEXPLAINED, differences  # noqa: E402
+from sides import Answering, Reading, both_of, differing  # noqa: E402
+
+
+@dataclass
+class Row:
+    """What came of a function: whether it borrows anything, why it has no text, how much is the same, what isn't."""
+
+    name: str
+    borrows: bool = False
+    reason: str = ""
+    failure: str = ""
+    same: Counter = field(default_factory=Counter)
+    found: list = field(default_factory=list)
+
+
+def main(words):
+    own, options = split_words(words)
+    parser = argparse.ArgumentParser(prog="check/run rules", description=__doc__,
+                                     formatter_class=argparse.RawDescriptionHelpFormatter)
+    parser.add_argument("file", nargs="?")
+    parser.add_argument("--crate", action="append", default=[], metavar="FOLDER")
+    parser.add_argument("--nllc", required=True)
+    parser.add_argument("--values", action="store_true",
+                        help="values alone, and the rest of functions in which a value differs: quicker")
+    parser.add_argument("--processes", type=int, help="how many; else one for each processor")
+    asked = parser.parse_args(own)
+    try:
+        rows = {}
+        for crate in asked.crate:
+            with tempfile.TemporaryDirectory(prefix="nll-rules.") as room:
+                units = dumps_of_crate(crate, room, options)
+                rows[crate] = [row for _, dumps in units for row in compared(dumps, room, asked)]
+        if asked.file:
+            with tempfile.TemporaryDirectory(prefix="nll-rules.") as room:
+                dumps, _ = dumps_of_file(asked.file, room, options or ["--edition=2021"])
+                rows[asked.file] = compared(dumps, room, asked)
+    except Refusal as refusal:
+        print(f"check/run rules: {refusal}", file=sys.stderr)
+        return 2
+    for name, found in rows.items():
+        tell(name, found)
+    everything = [row for found in rows.values() for row in found]
+    if len(rows) > 1:
+        tell("all", everything)
+    return tell_unexplained(everything)
+
+
+answering: Answering
+values_first: bool
+
+
+def begin(found, is_quick):
+    global answering, values_first
+    keep_silent()
+    answering, values_first = found, is_quick
+
+
+def compared(dumps, room, asked):
+    """A row for each function of one run of rustc."""
+    made = texts_of(dumps, asked.processes)
+    os.environ["WORLD_PROGRAM"] = find_world()[0]
+    own = (Answering(asked.nllc, room), asked.values)
+    with ProcessPoolExecutor(asked.processes, initializer=begin, initargs=own) as pool:
+        return list(pool.map(row_of, made, chunksize=4))
+
+
+def row_of(made):
+    row = Row(made.dump.name, borrows=borrows(made.dump), reason=made.reason)
+    if made.text:
+        try:
+            compare(made, row)
+        except (ValueError, KeyError, Refusal, Unread, NotSaid) as failure:
+            row.failure = f"{type(failure).__name__} {failure}"
+    return row
+
+
+def compare(made, row):
+    reading = Reading(made.dump)
+    values = reading.add_values(made.text, answering)
+    different = differing(values, reading.facts.values)
+    row.same["value"] = len(values) - len(different)
+    if values_first and not different:
+        return
+    said, _ = problem_of("a MIR text", made.text.encode())
+    both = both_of(reading, said)
+    both.rules.values = values
+    row.found = differences(both)
+    row.same["base"] = len(both.rules.bases & both.facts.bases)
+    row.same["constraint"] = len(both.rules.constraints & both.facts.constraints)
+
+
+def borrows(dump):
+    """Whether a statement of the function borrows."""
+    with open(dump.mir, encoding="utf-8") as file:
+        return " = &'?" in file.read()
+
+
+def tell(name, rows):
+    """A crate's lines: texts and why there is none, what is the same, and the classes of what isn't."""
+    texts = [row for row in rows if not row.reason]
+    borrowing = [row for row in rows if row.borrows]
+    told = sum(not row.reason for row in borrowing)
+    print(f"{name}: {len(rows)} functions, {len(texts)} with a text; of {len(borrowing)} that borrow, {told}")
+    for reason, count in Counter(row.reason for row in rows if row.reason).most_common():
+        print(f"  {count} without a text: {reason}")
+    same = sum((row.same for row in texts), Counter())
+    equal = sum(not row.found and not row.failure for row in texts)
+    print(f"  {equal} functions the same in all; the same: {same['base']} base elements, "
+          f"{same['constraint']} constraints, {same['value']} values")
+    for kind in ("base", "constraint", "value"):
+        by_class = Counter(one.class_of for row in texts for one in row.found if one.kind == kind)
+        for class_of, count in sorted(by_class.items()):
+            functions = sum(any((one.kind, one.class_of) == (kind, class_of) for one in row.found) for row in texts)
+            print(f"  {kind}: {count} in {functions} functions: {class_of}")
+    sys.stdout.flush()
+
+
+def tell_unexplained(rows):
+    status = 0
+    for row in rows:
+        if row.failure:
+            status = 1
+            print(f"{row.name}: {row.failure}")
+        found = [one for one in row.found if UNEXPLAINED in one.class_of]
+        for one in found[:5]:
+            status = 1
+            print(f"{row.name}: {one.kind} of '?{one.region}: {one.what}: {one.class_of}")
+    return status
+
+
+if __name__ == "__main__":
+    sys.exit(main(sys.argv[1:]))

@@ -1,0 +1,32 @@
+"""Work on many things side by side, on all cores."""
+
+import os
+import signal
+import sys
+from concurrent.futures import ProcessPoolExecutor
+from typing import Callable, Iterable, Iterator
+
+FEW = 8     # so few things are done sooner than other processes are started
+MOST_AT_ONCE = 16
+
+
+def side_by_side(work: Callable, things: Iterable, few: int = FEW) -> Iterator:
+    """What the work makes of each thing, in their order."""
+    things = list(things)
+    if len(things) <= few:
+        yield from map(work, things)
+        return
+    at_once = min(MOST_AT_ONCE, 1 + len(things) // (8 * (os.cpu_count() or 1)))
+    pool = ProcessPoolExecutor(initializer=keep_silent)
+    try:
+        yield from pool.map(work, things, chunksize=at_once)
+    finally:
+        pool.shutdown(wait=True, cancel_futures=True)
+
+
+def keep_silent() -> None:
+    """Leaves signals and the terminal to the first process."""
+    signal.signal(signal.SIGINT, signal.SIG_IGN)
+    for number in (signal.SIGTERM, signal.SIGHUP):
+        signal.signal(number, signal.SIG_DFL)
+    sys.stderr = open(os.devnull, "w", encoding="utf-8")

@@ -1,0 +1,27 @@
+"""What the user calls the command, nllc.sh in the repository and nllc in an installed copy; and its words."""
+
+import argparse
+import os
+import sys
+
+OF_CARGO = "cargo nllc"
+
+
+def called(*words):
+    """The command with these words, as the wrapper was called; one of cargo's goes by its own name."""
+    first = () if words[:1] == (OF_CARGO,) else (os.environ.get("NLLC_CALLED", "nllc.sh"),)
+    return " ".join((*first, *words))
+
+
+class Parser(argparse.ArgumentParser):
+    """A parser of what follows a word; a usage is what it says after that. Help that can't be written is an error like other output."""
+
+    def __init__(self, word, about, statuses=None, usage=None, **more):
+        super().__init__(prog=called(word), usage=usage and f"{called(word)} {usage}", description=about, epilog=statuses,
+                         allow_abbrev=False, **{"formatter_class": argparse.RawDescriptionHelpFormatter, **more})
+
+    def _print_message(self, message, file=None):
+        if file is sys.stdout:
+            file.write(message)
+        else:
+            super()._print_message(message, file)

@@ -1,0 +1,27 @@
+"""What rustc refuses and `nllc` doesn't: both answers, with the reason; moves and assignments; what nothing here judges."""
+
+from . import telling
+from .differences import differences, refused
+from .escaping import sentence, ticked
+
+
+def difference_list(content):
+    """The parts of the page; nothing where there is no difference, and nothing else that rustc refuses."""
+    moves = [telling.of_gone(content, one) for one in content.facts.remarks.beside.gone]
+    return part("Moves and assignments", [item(one.place.line, f"{one.code}: {sentence(one.head)}", sentence(one.cause))
+                                          for one in moves], "faults") \
+        + part("rustc refuses, nllc doesn’t", [item(line, ticked(said), f"nllc: no fault there; {sentence(why)}")
+                                               for line, _, said, why in differences(content)]) \
+        + part("rustc refuses, for what nllc doesn’t judge", [item(one.line, ticked(one.words), "nothing here judges this")
+                                                              for one in refused(content)])
+
+
+def part(title, items, kind="faults differs"):
+    if not items:
+        return ""
+    return f'<section class="{kind}" aria-label="{title}"><h2>{title}</h2>{"".join(items)}</section>'
+
+
+def item(line, said, why):
+    link = f'<a href="#line-{line}" data-line="{line}">line {line}</a>'
+    return f'<div class="fault"><p class="head">{link}: {said}</p><p class="where">{why}.</p></div>'

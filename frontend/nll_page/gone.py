@@ -1,0 +1,56 @@
+"""Errors of moves and assignments: what is used that was moved, or has no value yet, or gets one twice."""
+
+from . import words
+from .snippets import whole_line
+from .words import Code
+
+MOST_LINES = 6
+
+
+def head(content, one, error):
+    """What is wrong, with rustc's name of the place."""
+    what = Code(error.named() or one.what)
+    if one.code == "E0381":
+        return [what, " is used here, and may have no value yet"]
+    if one.code == "E0384":
+        return [what, " is assigned to here, may have a value already, and isn't ", Code("mut")]
+    part = " a part of it" if "partially" in error.words else " it"
+    by = ["an earlier turn of the loop"] if one.since == [one.point] else \
+        words.joined([[f"line {line}"] for line in lines_of(content.facts, one.since)], " or ")
+    return [what, " is used here, and ", *by, " may have moved", part]
+
+
+def cause(content, one, error):
+    """Since which lines, and the lines of a walk from there."""
+    facts = content.facts
+    made = words.joined([since(content, line) for line in lines_of(facts, one.since)], " or ")
+    walk = walk_words(facts, one)
+    if one.code == "E0381":
+        return ["a way leads here on which nothing is assigned to it", *walk]
+    if one.code == "E0384":
+        given = "argument" in error.words.partition("`")[0]
+        return ["the caller has given it one" if given else "it has one since ", *([] if given else made), *walk]
+    return [*made, " moves it, and a way leads from there to here on which it gets no new value", *walk]
+
+
+def lines_of(facts, points):
+    lines = dict.fromkeys(facts.remarks.point(point).line for point in points)
+    return [line for line in lines if line is not None]
+
+
+def since(content, line):
+    code = whole_line(content.source, line)
+    return [f"line {line}", *([" (", Code(code), ")"] if code else [])]
+
+
+def walk_words(facts, one):
+    """The lines of the walk, where there are further ones than those of its ends."""
+    lines = []
+    for point in one.walk:
+        line = facts.remarks.point(point).line
+        if line is not None and lines[-1:] != [line]:
+            lines.append(line)
+    if len(set(lines)) < 3:
+        return []
+    shown = lines if len(lines) <= MOST_LINES else [*lines[:MOST_LINES - 1], "..", lines[-1]]
+    return [" (by lines ", ", ".join(map(str, shown)), ")"]

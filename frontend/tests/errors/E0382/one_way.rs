@@ -1,0 +1,7 @@
+// moved on one way
+pub fn way(list: Vec<u32>, flag: bool) -> Vec<u32> {
+    if flag {
+        drop(list);
+    }
+    list
+}

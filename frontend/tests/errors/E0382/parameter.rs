@@ -1,0 +1,4 @@
+// of a parameter's type
+pub fn twice<T>(value: T) -> (T, T) {
+    (value, value)
+}

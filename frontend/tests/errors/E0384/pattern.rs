@@ -1,0 +1,6 @@
+// a pattern's variable
+pub fn pattern(pair: (u32, u32)) -> u32 {
+    let (left, right) = pair;
+    left = right;
+    left
+}

@@ -1,0 +1,6 @@
+// `+=` of a number reads it first
+pub fn twice(mut number: u32) -> u32 {
+    let slot = &mut number;
+    number += 1;
+    *slot
+}

@@ -1,0 +1,5 @@
+// out of a list
+pub fn list(list: &Vec<String>) -> String {
+    let first = list[0];
+    first
+}

@@ -1,0 +1,4 @@
+// out of an option behind a reference
+pub fn option(slot: &mut Option<String>) -> String {
+    slot.unwrap()
+}

@@ -1,0 +1,4 @@
+// out of an array
+pub fn array(words: [String; 2], at: usize) -> String {
+    words[at]
+}

@@ -1,0 +1,5 @@
+// out of a slice
+pub fn index(list: &[String]) -> String {
+    let first = list[0];
+    first
+}

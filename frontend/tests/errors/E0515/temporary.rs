@@ -1,0 +1,4 @@
+// the borrow of a temporary
+pub fn temporary<'a>() -> &'a String {
+    &String::new()
+}

@@ -1,0 +1,4 @@
+// behind a shared reference
+pub fn shared(list: &Vec<u32>) {
+    list.push(1);
+}

@@ -1,0 +1,5 @@
+// what must live forever
+fn forever(_: &'static String) {}
+pub fn give() {
+    forever(&String::new());
+}

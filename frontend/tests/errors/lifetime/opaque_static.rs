@@ -1,0 +1,4 @@
+// a result that lives forever
+pub fn forever<'a>(word: &'a str) -> impl Fn() -> usize + 'static {
+    move || word.len()
+}

@@ -1,0 +1,4 @@
+// the result lives forever
+pub fn forever(word: &str) -> &'static str {
+    word
+}

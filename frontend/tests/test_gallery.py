@@ -1,0 +1,102 @@
+"""The gallery: its cards, and the command that makes it."""
+
+import io
+import os
+import re
+import shutil
+import tempfile
+import unittest
+from contextlib import redirect_stderr, redirect_stdout
+from glob import glob
+from unittest import mock
+
+import page_support
+from test_page_glance import LOAN, SOURCE, content_of
+
+from nll_gallery import cards, command
+from nll_gallery.cards import Shown
+from nll_page.page import SCRIPTS, compact, template
+
+QUICK = os.path.join(page_support.HERE, "quick_nllc.py")
+SLOW = os.path.join(page_support.ROOT, "check", "reference", "reference_states.py")
+
+
+class Cards(unittest.TestCase):
+    def card(self, *lines):
+        content = content_of(*lines)
+        found = list(cards.of_functions([Shown("grow.html", "grow", content)]))
+        self.assertEqual(len(found), 1)
+        return found[0]
+
+    def test_sentence_and_source(self):
+        card = self.card(*LOAN)
+        self.assertEqual((card.name, card.sentence, card.code.first, card.code.lines), ("grow", "Grows.", 2, SOURCE[1:]))
+
+    def test_a_function_without_a_sentence_has_no_card(self):
+        content = content_of(*LOAN, source=SOURCE[1:], first=2)
+        self.assertEqual(list(cards.of_functions([Shown("grow.html", "grow", content)])), [])
+
+    def test_verdicts(self):
+        for more, wanted in (([], ["✕ 1 loan error", "✓ accepts"]),
+                             (["# rustc 4:5: E0506: cannot assign"], ["✕ 1 loan error", "✕ E0506"])):
+            made = cards.card_part(self.card(*LOAN, *more))
+            found = re.findall(r'<p class="verdict [a-z]+"><span aria-hidden="true">(.)</span> ([^<]*)<', made)
+            self.assertEqual([" ".join(one) for one in found], wanted)
+
+    def test_they_differ(self):
+        made = cards.card_part(self.card(*LOAN[:-3], "# rustc 4:5: E0506: cannot assign"))
+        self.assertEqual(re.findall(r"</span> ([^<]*)</p>", made), ["accepts", "E0506", "they differ"])
+        self.assertIn("Line 4: rustc: E0506: cannot assign; nllc: no fault there", made)
+
+    def test_labels_are_at_the_lines(self):
+        made = cards.card_part(self.card(*LOAN))
+        self.assertEqual(re.findall(r'<span class="label [a-z]+">([^<]*)<', made),
+                         ["borrowed here", "assigned here", "used here later"])
+
+
+class Kept(unittest.TestCase):
+    """What docs/ has of pages has the style and the script that pages have today; else run `frontend/run gallery`, and
+    frontend/tests/browser/pictures.py."""
+
+    def test_style_and_script(self):
+        style = compact(template("look.css") + template("code.css") + template("page.css"))
+        script = compact("\n".join(map(template, SCRIPTS)))
+        folder = os.path.join(page_support.ROOT, "docs")
+        for path in [*glob(os.path.join(folder, "gallery", "*.html")), *glob(os.path.join(folder, "pages", "*.html"))]:
+            made = page_support.file_bytes(path).decode()
+            if 'content="nll-page"' in made:
+                with self.subTest(path=path):
+                    self.assertTrue(style in made and script in made)
+
+
+class Command(unittest.TestCase):
+    def run_main(self, *words, **environment):
+        out, err = io.StringIO(), io.StringIO()
+        before = os.getcwd()
+        self.addCleanup(os.chdir, before)
+        with mock.patch.dict(os.environ, environment), redirect_stdout(out), redirect_stderr(err):
+            return command.main(list(words)), out.getvalue(), err.getvalue()
+
+    def test_words(self):
+        self.assertEqual(self.run_main("--help")[0::2], (0, ""))
+        status, out, err = self.run_main("a", "b")
+        self.assertEqual((status, out), (2, ""))
+        self.assertIn("usage: frontend/run gallery", err)
+
+    @unittest.skipUnless(shutil.which("rustc"), "no rustc")
+    def test_one_file_one_text_and_one_schedule(self):
+        with tempfile.TemporaryDirectory() as folder, \
+                mock.patch.multiple(command, FILES={"variance": "Variance"}, MIR_TEXTS={"drop": "A drop."},
+                                    SCHEDULES={"each_other": "Two owners."}):
+            status, out, err = self.run_main(folder, NLLC=QUICK, WORLD_PROGRAM=SLOW)
+            self.assertEqual((status, out, err), (0, os.path.join(folder, "index.html") + "\n", ""))
+            made = sorted(os.listdir(folder))
+            with open(os.path.join(folder, "index.html"), encoding="utf-8") as file:
+                whole = file.read()
+        self.assertIn("cell_is_invariant.html", made)
+        self.assertEqual(sorted({*re.findall(r'href="\./([^"]*)"', whole), "index.html"}), made)
+        self.assertEqual(whole.count('class="card faulty"'), 3)
+
+
+if __name__ == "__main__":
+    unittest.main()

@@ -1,0 +1,231 @@
+"""The gallery in a headless Chromium, where there is one: each page at its first view, in both themes, at three widths
+and with two sets of fonts; and every control of one page of each kind."""
+
+import os
+import shutil
+import sys
+import unittest
+import xml.etree.ElementTree as ElementTree
+
+from page_support import ROOT
+
+sys.path.insert(0, os.path.join(os.path.dirname(os.path.abspath(__file__)), "browser"))
+
+import devtools  # noqa: E402 (the path stands above)
+
+GALLERY = os.path.join(ROOT, "docs", "gallery")
+PAGES = sorted(name for name in os.listdir(GALLERY) if name.endswith(".html"))
+FOLDERS = "/usr/share/fonts/truetype"
+FONTS = {"noto": ("noto", "dejavu"), "dejavu": ("dejavu",)}
+WIDTHS = (1400, 768, 360)
+LEAST_LETTERS = 10
+LEAST_CONTRAST = 4.5
+
+
+def fonts_of(name):
+    return [os.path.join(FOLDERS, folder) for folder in FONTS[name]]
+
+
+@unittest.skipUnless(any(map(shutil.which, devtools.NAMES)), "there is no Chromium")
+class Gallery(unittest.TestCase):
+    def views(self, fonts, look):
+        """All pages with these fonts: letters and overflow, and what else is looked at; no word of the console."""
+        if not all(map(os.path.isdir, fonts_of(fonts))):
+            self.skipTest(f"there are no fonts in {', '.join(fonts_of(fonts))}")
+        with devtools.Browser(fonts_of(fonts)) as browser:
+            for name in PAGES:
+                shown = browser.open(os.path.join(GALLERY, name), 1400, 900)
+                with self.subTest(name=name, fonts=fonts):
+                    self.letters(shown)
+                    look(shown)
+                    for width in WIDTHS:
+                        shown.resize(width, 900)
+                        self.assertEqual(shown.probe("wide"), [], width)
+                    self.assertEqual(shown.complaints(), [])
+                shown.close()
+
+    def letters(self, shown):
+        size, words = shown.probe("smallest")
+        self.assertGreaterEqual(size, LEAST_LETTERS - 0.01, words)
+
+    def contrast(self, shown):
+        for scheme in ("light", "dark"):
+            shown.use(scheme)
+            self.assertEqual(shown.probe("faint", LEAST_CONTRAST), [], scheme)
+
+    def alone(self, shown):
+        """The page asks for nothing but itself."""
+        asked = shown.value("performance.getEntriesByType('resource').map((one) => one.name)")
+        self.assertEqual([name for name in asked if not name.startswith("data:")], [])
+
+    def test_with_noto(self):
+        self.views("noto", self.contrast)
+
+    def test_with_dejavu(self):
+        self.views("dejavu", self.alone)
+
+    def test_a_phone_s_first_view(self):
+        with devtools.Browser() as browser:
+            for name in PAGES[::4] + ["index.html", "late_hole.schedule.html"]:
+                shown = browser.open(os.path.join(GALLERY, name), 390, 844)
+                with self.subTest(name=name):
+                    self.letters(shown)
+                shown.close()
+
+
+@unittest.skipUnless(any(map(shutil.which, devtools.NAMES)), "there is no Chromium")
+class Controls(unittest.TestCase):
+    @classmethod
+    def setUpClass(cls):
+        cls.browser = cls.enterClassContext(devtools.Browser())
+
+    def opened(self, name, width=1400, height=900, address=""):
+        shown = self.browser.open(os.path.join(GALLERY, name), width, height, "light", address)
+        self.addCleanup(shown.close)
+        return shown
+
+    def test_every_control(self):
+        """Each button, summary, link into the page, field and tab is used; the console stays silent."""
+        for name in ("kept_and_used_later.html", "found_or_inserted.html", "asks_the_function_around.html",
+                     "lookup.mir.html", "late_hole.schedule.html"):
+            shown = self.opened(name)
+            with self.subTest(name=name):
+                used = shown.value("""(() => {
+                    let used = 0;
+                    for (const node of document.querySelectorAll(
+                        "button, summary, .cell, .words, .stub, .knot, a[href^='#'], [role=tab], input")) {
+                      if (node.closest("dialog form") || node.id === "save") continue;
+                      node.dispatchEvent(new MouseEvent("click", { bubbles: true, cancelable: true }));
+                      document.querySelector("dialog").close();
+                      used += 1;
+                    }
+                    return used;
+                })()""")
+                self.assertGreater(used, 30)
+                self.assertEqual(shown.complaints(), [])
+
+    def test_the_loan_is_seen_at_once(self):
+        """Its three lines are marked, its region is lit, and nothing is in the address."""
+        shown = self.opened("kept_and_used_later.html")
+        self.assertEqual(shown.value("probe.nodes('#source .label').map((one) => one.textContent)"),
+                         ["borrowed here", "conflicts here", "used here later"])
+        self.assertEqual(shown.value("data.regions[chosen.region].what"), "the borrow &mut letters, line 19")
+        self.assertTrue(shown.value("probe.nodes('#graph .cell.held').length > 0"))
+        self.assertEqual(shown.value("location.hash"), "")
+
+    def test_both_verdicts(self):
+        shown = self.opened("found_or_inserted.html")
+        self.assertEqual(shown.value("document.querySelector('.verdicts').innerText.split('\\n').filter(Boolean)"),
+                         ["◆ rustc refuses, nllc doesn’t", "rustc: E0499"])
+
+    def test_the_graph_begins_at_its_entry(self):
+        for name in ("found_or_inserted.html", "walk_down.html", "lookup.mir.html"):
+            shown = self.opened(name)
+            self.assertTrue(shown.value("isInside(document.querySelector('.graph.statements .cell[data-p=\"0\"]'), byId('graph'))"), name)
+
+    def test_each_view_has_its_scale(self):
+        shown = self.opened("found_or_inserted.html")
+        scales = []
+        for view in ("outlives", "folded", "statements"):
+            shown.click(f"#view-{view}")
+            scales.append(shown.value("scale"))
+            self.assertGreaterEqual(shown.probe("smallest")[0], LEAST_LETTERS - 0.01, view)
+        shown.value("zoomTo(2); setView('folded'); setView('statements')")
+        self.assertEqual(shown.value("scale"), 2)
+
+    def test_fit_never_has_small_letters(self):
+        shown = self.opened("found_or_inserted.html", 900, 900)
+        shown.click("#zoom-fit")
+        self.assertLess(shown.value("scale"), 0.92)
+        self.assertGreaterEqual(shown.probe("smallest")[0], LEAST_LETTERS - 0.01)
+
+    def test_back(self):
+        shown = self.opened("kept_and_used_later.html")
+        shown.click(".region[data-r='2']")
+        shown.click(".region[data-r='3']")
+        for address, region in (("#region=" + shown.value("data.regions[2].name"), 2), ("", None)):
+            shown.value("new Promise((done) => { addEventListener('popstate', () => done(), { once: true }); history.back(); })")
+            self.assertEqual(shown.value("location.hash"), address)
+            if region is not None:
+                self.assertEqual(shown.value("chosen.region"), region)
+        self.assertTrue(shown.value("chosen.isFirst"))
+
+    def test_a_link_to_a_line(self):
+        shown = self.opened("kept_and_used_later.html", address="#line=20")
+        self.assertTrue(shown.value("byId('line-20').open"))
+
+    def test_the_graph_as_a_file(self):
+        shown = self.opened("found_or_inserted.html")
+        shown.value("zoomTo(0.3)")
+        made = shown.value("""(() => {
+            let text = "";
+            const whole = window.Blob;
+            window.Blob = class extends whole { constructor(parts, kind) { super(parts, kind); text = parts.join(""); } };
+            document.addEventListener("click", (event) => { if (event.target.download) event.preventDefault(); }, { once: true });
+            byId("save").click();
+            window.Blob = whole;
+            return text;
+        })()""")
+        drawing = ElementTree.fromstring(made)
+        words = ["".join(node.itertext()) for node in drawing.iter("{http://www.w3.org/2000/svg}text")]
+        self.assertTrue(any("switchInt" in one for one in words))
+        self.assertNotIn("var(", made)
+        self.assertAlmostEqual(shown.value("scale"), 0.3)
+
+    def test_columns_are_dragged(self):
+        shown = self.opened("kept_and_used_later.html")
+        width = "document.querySelector('.lists').getBoundingClientRect().width"
+        before = shown.value(width)
+        x, y = shown.probe("middle", "#lists-divider")
+        for kind, at in (("mousePressed", x), ("mouseMoved", x + 60), ("mouseReleased", x + 60)):
+            shown.call("Input.dispatchMouseEvent", type=kind, x=at, y=y, button="left", buttons=1, clickCount=1)
+        self.assertAlmostEqual(shown.value(width), before + 60, delta=2)
+        shown.value("byId('lists-divider').focus()")
+        shown.key("ArrowLeft")
+        self.assertAlmostEqual(shown.value(width), before + 36, delta=2)
+
+    def test_a_phone(self):
+        """The source comes second; what is chosen covers the foot only after a choice, and is closed by its button."""
+        shown = self.opened("kept_and_used_later.html", 390, 844)
+        tops = shown.value("['#faults', '#text-pane', '#regions-part', '#graph-pane'].map("
+                           "(one) => document.querySelector(one).getBoundingClientRect().top)")
+        self.assertEqual(tops, sorted(tops))
+        self.assertEqual(shown.value("probe.nodes('.chosen').length"), 0)
+        shown.value("chooseRegion(2)")
+        self.assertEqual(shown.value("probe.nodes('.chosen').length"), 1)
+        shown.click("#clear")
+        self.assertEqual(shown.value("probe.nodes('.chosen').length"), 0)
+
+    def test_themes(self):
+        for name in ("kept_and_used_later.html", "late_hole.schedule.html"):
+            shown = self.opened(name)
+            for theme in ("light", "dark", "system"):
+                shown.click("#theme")
+                self.assertEqual(shown.value("document.querySelector('#theme span').textContent"), theme)
+
+    def test_print(self):
+        """On paper the parts stand one below the other, as wide as the page, and no tool is there."""
+        shown = self.opened("kept_and_used_later.html", 760, 1000)
+        shown.call("Emulation.setEmulatedMedia", media="print")
+        boxes = shown.value("['#faults', '#text-pane', '#graph-pane'].map((one) => "
+                            "document.querySelector(one).getBoundingClientRect()).map(({ top, bottom, width }) => [top, bottom, width])")
+        self.assertTrue(all(above[1] <= below[0] for above, below in zip(boxes, boxes[1:])), boxes)
+        self.assertTrue(all(width > 700 for _, _, width in boxes), boxes)
+        self.assertEqual(shown.value("probe.nodes('.tools, .zoom, .views, .divider, #save').length"), 0)
+
+    def test_a_schedule_plays(self):
+        shown = self.opened("late_hole.schedule.html")
+        shown.click("#play")
+        self.assertEqual(shown.value("byId('play').getAttribute('aria-label')"), "Stop")
+        shown.value("new Promise((done) => setTimeout(done, 2100))")
+        self.assertGreaterEqual(shown.value("now"), 1)
+        shown.click("#play")
+        at = shown.value("now")
+        shown.value("new Promise((done) => setTimeout(done, 1100))")
+        self.assertEqual(shown.value("now"), at)
+        shown.key("End")
+        self.assertEqual(shown.value("now"), shown.value("last"))
+
+
+if __name__ == "__main__":
+    unittest.main()

@@ -1,0 +1,80 @@
+"""`nllc.sh mir`, and `nllc.sh rust --from-mir`, which tells the same faults at the same lines by nllc's own rules."""
+
+import os
+import tempfile
+import unittest
+
+import facts_support as support
+
+RUN = os.path.join(support.FRONTEND, "run")
+STAND_INS = {"NLLC": os.path.join(support.HERE, "quick_nllc.py"),
+             "WORLD_PROGRAM": os.path.join(support.HERE, "quick_world.py")}
+
+
+def run(*words):
+    return support.run(RUN, *words, cwd=support.ROOT, env=os.environ | STAND_INS)
+
+
+@unittest.skipUnless(support.rustc_release().startswith(support.KNOWN), "rustc 1.95 isn't there")
+class FromMir(unittest.TestCase):
+    def both_ways(self, source):
+        with tempfile.TemporaryDirectory() as folder:
+            plain = run("rust", source, "-o", folder)
+            by_rules = run("rust", source, "--from-mir", "-o", folder)
+            self.assertEqual((by_rules.stdout, by_rules.stderr), (plain.stdout, ""))
+            self.assertEqual(by_rules.returncode, plain.returncode)
+            return plain.stdout, pages_in(folder)
+
+    def test_faults(self):
+        told, pages = self.both_ways("examples/three.rs")
+        self.assertIn("examples/three.rs:24:5: `'b` must outlive `'a`", told)
+        self.assertIn("nllc&#x27;s rules, of the function&#x27;s MIR text.", pages["longer.html"])
+
+    def test_loans(self):
+        told, _ = self.both_ways("examples/loans.rs")
+        self.assertIn("examples/loans.rs:8:5: E0499", told)
+
+
+def pages_in(folder):
+    found = {}
+    for name in os.listdir(folder):
+        if name.endswith(".html"):
+            with open(os.path.join(folder, name), encoding="utf-8") as file:
+                found[name] = file.read()
+    return found
+
+
+@unittest.skipUnless(support.rustc_release().startswith(support.KNOWN), "rustc 1.95 isn't there")
+class Texts(unittest.TestCase):
+    def test_a_file(self):
+        with tempfile.TemporaryDirectory() as folder:
+            done = run("mir", "frontend/tests/sources/forms.rs", "-o", folder)
+            self.assertEqual(len(done.stdout.splitlines()), 33)
+            self.assertEqual(done.stderr.splitlines(), [
+                "nllc.sh mir: waits::{closure#0}: a coroutine", "nllc.sh mir: 33 texts; without one 1 for a coroutine"])
+            self.assertEqual(sorted(os.listdir(folder)), sorted(map(os.path.basename, done.stdout.splitlines())))
+            self.assertEqual(done.returncode, 0)
+
+    def test_one_function(self):
+        with tempfile.TemporaryDirectory() as folder:
+            done = run("mir", "examples/three.rs", "longer", "-o", folder)
+            self.assertEqual((done.stdout, done.stderr), (f"{folder}/longer.mir\n", ""))
+
+    def test_a_crate(self):
+        with tempfile.TemporaryDirectory() as folder:
+            done = run("mir", "examples/shelf", "-o", folder, "--", "--quiet")
+            self.assertIn(f"{folder}/words-counted.mir", done.stdout.splitlines())
+            self.assertEqual(done.returncode, 0)
+
+    def test_refused(self):
+        for words, said in ((["nothing.rs"], "nothing.rs is no file that can be read; give the path of a Rust file"),
+                            (["examples"], "examples is in no Cargo project: give a Rust file, or the folder of a package"),
+                            (["examples/running.mir"], "examples/running.mir is a MIR text, not a Rust file")):
+            done = run("mir", *words)
+            with self.subTest(words=words):
+                self.assertIn(said, done.stderr)
+                self.assertEqual((done.stdout, done.returncode), ("", 2))
+
+
+if __name__ == "__main__":
+    unittest.main()

@@ -1,0 +1,135 @@
+"""The MIR texts of sources/forms.rs, made of rustc's stored dump: a line for each form.
+
+What is expected was written by hand, by the source and docs/FORMATS.md; regions are numbered in the order of the line.
+"""
+
+import os
+import shutil
+import tempfile
+import unittest
+
+import facts_support as support
+import mir_support as mir
+from nll_facts.mir import read_body
+from nll_mir.texts import NOT_READ, text_of
+
+# For each function lines of its text.
+LINES = {
+    "reborrow": ["universal 'a", "outlives 'b 'a", "let _1: &'1 mut &'2 mut int", "_3 = &'1 mut _1.*.*"],
+    "fields": ["struct Pair <'p1 =, 'p2 +> (&'p1 int, &'p2 mut Vec<'p1>)", "_3 = &'1 mut _1.*.1.*", "_4 = copy _1.*.0",
+               "_2 = call push(move _3: &'1 mut Vec<'2>, move _4: &'2 int): int -> bb1 unwind bb2"],
+    "make_pair": ["_0 = call Pair(move _3: &'1 int, move _4: &'2 mut Vec<'1>): Pair<'1, '2> where '1: '2 -> bb1"],
+    "variants": ["struct Shape <'p1 +> (int, &'p1 int, &'p1 int, &'p1 int)", "_3 = copy _1.0",
+                 "switch move _3 bb2 bb3 bb4 bb1", "_5 = copy _1.3", "_4 = call constant(): &'1 int -> bb7"],
+    "named": ["_0 = call Named(move _2: &'1 int, const: int): Shape<'1> -> bb1"],
+    "last": ["struct Node <'p1 +> (int, Option<'p1>)", "_10 = &'1 mut _1.*.1", "_7 = &'1 mut _8.*.0"],
+    "dropped": ["struct Loud <'p1 +> drop (&'p1 int)", "drop _2 -> bb11 unwind bb15"],
+    "maybe_dropped": ["_6 = call forget(move _7: Loud<'1>): int -> bb3 unwind bb7", "drop _3 -> bb6 unwind bb9"],
+    "first_of": ["_3 = copy _1.*.0", "_13 = &'1 _1.*.0", "_6 = call Lt(copy _4: int, copy _5: int): int -> bb2"],
+    "tuple": ["_5 = call array(move _6: &'1 int, move _7: &'1 int): (&'1 int) -> bb2",
+              "_0 = make (&'1 int, int, (&'2 int)) (move _3, move _4, move _5)"],
+    "captures": ["struct Closure0 <'p1 =, 'p2 =, 'p3 =, 'p4 => (&'p1 mut Vec<'p2>, &'p3 &'p4 int)", "_5 = &'1 _1"],
+    "pointers": ["struct MutPointer <'p1 => (&'static &'p1 int)",
+                 "_3 = call raw(copy _1.*: &'1 int): MutPointer<'1> -> bb1", "_5 = &'1 _3.0.*", "_6 = &'1 _2.*"],
+    "object": ["_2 = call Unsize(move _3: Box<'1>): Box_2<'2> where '1: '2 -> bb3"],
+    "function": ["_3 = call pointer(move _4: int, move _5: &'1 int): &'1 int -> bb1 unwind bb2"],
+    "constants": ["_2 = call constant(): &'1 &'2 int where '2: 'static -> bb1"],
+    "annotated": ["assert 'a : 'r4"],
+    "sums": ["_17 = call AddWithOverflow(copy _2: int, copy _15: int): int -> bb10", "_12 = copy _9.0",
+             "_9 = call next(move _10: &'1 mut Iter<'2>): Option<'3> where '2: '3 -> bb4 unwind bb12"],
+    "replaced": ["_5 = call drop(copy _1.*: Loud<'1>): int -> bb2 unwind bb3", "_1.* = move _3"],
+    "boxed": ["struct Box <'p1 +> ((&'p1 int, int))", "_3 = copy _1.0", "_0 = &'1 _3.0.*"],
+    "known": ["universal 'a", "universal 'b", "outlives 'a 'b"],
+    "uses_statics": ["struct Opaque0 <'p1 => drop ()", "_9 = call drop(move _10: Opaque0<'1>): int -> bb4 unwind bb8"],
+    "never": ["_2 = call panic_fmt(move _3: Arguments<'1>): int -> bb5"],
+}
+
+# What `nllc check` says of a text; of all others it is `ok`. What a closure needs is asked of the function around it.
+FAULTS = {"wrong": [("a", "b")], "captures::{closure#0}": [("r4", "r2")],
+          "iterated::{closure#0}": [("r1", "r2")], "opaque::{closure#0}": [("r1", "r2")]}
+WITHOUT = {"waits::{closure#0}": "a coroutine"}
+
+
+class Forms(unittest.TestCase):
+    def test_lines(self):
+        for function, wanted in LINES.items():
+            lines = [mir.shortened(line) for line in mir.lines_of(function)]
+            for line in wanted:
+                with self.subTest(function=function, line=line):
+                    self.assertIn(mir.shortened(line), lines)
+
+    def test_without_a_text(self):
+        found = {name: one.reason for name, one in mir.made().items() if not one.text}
+        self.assertEqual(found, WITHOUT)
+
+    def test_remarks(self):
+        text = mir.made()["boxed"].text
+        for remark in ("# function: boxed", "# source: sources/forms.rs", "# _1 is place, of line 131", "# line 133",
+                       "#   .0 is what it points to"):
+            self.assertIn(remark, text.splitlines())
+
+    def test_a_line_for_each_of_rustc(self):
+        """A text has one point for each location of rustc, in order."""
+        for name, one in mir.made().items():
+            if one.text:
+                with self.subTest(function=name):
+                    more = problem_of(one).points - locations(one.dump)
+                    self.assertIn(more, (0, 1), "one more is the stop behind a call that never returns")
+
+
+def problem_of(made):
+    """The problem of a text, by the slow reader, which knows nothing of this translation."""
+    return support.reference.Body(support.reference.said_in(made.text.encode()))
+
+
+def locations(dump):
+    with open(os.path.join(dump.facts, "cfg_edge.facts"), encoding="utf-8") as file:
+        return len({field.partition("(")[2] for line in file for field in line.strip().split("\t")})
+
+
+class Answers(unittest.TestCase):
+    def test_faults(self):
+        for name, one in mir.made().items():
+            if one.text:
+                with self.subTest(function=name):
+                    problem = problem_of(one)
+                    found = [(a.decode(), b.decode()) for a, b in
+                             support.reference.faults(problem, support.reference.solve(problem))]
+                    self.assertEqual(found, FAULTS.get(name, []))
+
+
+class BadDumps(unittest.TestCase):
+    """A dump of another form gives a reason, and no text."""
+
+    def changed(self, change):
+        with tempfile.TemporaryDirectory() as room:
+            shutil.copytree(mir.folder().name, room, dirs_exist_ok=True)
+            [dump] = [dump for dump in mir.dumps_in(room) if dump.name == "fields"]
+            with open(dump.mir, encoding="utf-8") as file:
+                text = change(file.read())
+            with open(dump.mir, "w", encoding="utf-8") as file:
+                file.write(text)
+            read_body.cache_clear()
+            return text_of(dump, mir.known())
+
+    def test_cut(self):
+        for at in ("bb1: {", "return;", "}\n}"):
+            with self.subTest(at=at):
+                made = self.changed(lambda text: text[:text.rindex(at)])
+                self.assertEqual((made.text, made.reason), ("", "a dump that isn't whole"))
+
+    def test_another_form(self):
+        self.assertEqual(self.changed(lambda text: "strange\n" + text).reason, NOT_READ)
+
+    def test_a_type_that_is_not_understood(self):
+        made = self.changed(lambda text: text.replace("&'?11 str", "strange(&'?11 str)"))
+        self.assertEqual((made.text, made.reason), ("", "a type that isn't understood"))
+
+    def test_without_regions(self):
+        """As a dump without -Zverbose-internals is."""
+        made = self.changed(lambda text: text.replace("&'?", "&'"))
+        self.assertEqual((made.text, bool(made.reason)), ("", True))
+
+
+if __name__ == "__main__":
+    unittest.main()
