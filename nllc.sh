@@ -1,64 +1,220 @@
 #!/bin/sh
 # Runs nllc on these words: the program that `./nllc.sh --prove` proved and built, while no source is newer.
 # Until then a build of the same sources that nothing has proved, with checks at run time and not optimised: it is
-# compiled once, in about a minute, and kept in out/; each run says so in one line on standard error.
-# The words `rust`, `facts`, `page` and `schedule` are those of other programs, in frontend/: they make facts texts of
-# Rust files, and pages, and have this program answer what they make.
-# Without words, and with `--help`, it names these on top of what the program says of itself.
-here=$(dirname -- "$(readlink -f -- "$0")")
-proved=$here/crates/nllc/out/nllc
-unproved=$here/out/nllc-unproved
+# compiled once, in about a minute, and kept in out/; a line on standard error says so, once an hour.
+# Newer sources are the code and the definitions of crates/, and crates.txt: a proof that changed changes no program.
+# Words such as `rust` and `page` are those of other programs, in frontend/: they make facts texts of Rust files, and
+# pages, and have nllc answer what they make. In an installed copy (tools/install.sh) all of it is in lib/nllc.
+called=${0##*/}
+self=$0
+[ ! -h "$self" ] || self=$(readlink -f -- "$self")
+case $self in */*) here=${self%/*} ;; *) here=. ;; esac
+if [ -e "$here/crates.txt" ]; then
+    home=$here proved=$here/crates/nllc/out/nllc unproved=$here/out/nllc-unproved
+    advice="$0 --prove makes the proved one"
+else
+    case $here in */bin) home=${here%/bin}/lib/nllc ;; *) home=$here/../lib/nllc ;; esac
+    proved=$home/nllc unproved=$home/nllc-unproved
+    advice="$called version says more"
+fi
+
+say() { echo "$called: $*" >&2; }
+
+# Ends with this status and a line.
+end() {
+    status=$1
+    shift
+    say "$@"
+    exit "$status"
+}
+
+python() {
+    command -v python3 >/dev/null || end 127 "python3, 3.10 or later, isn't on the PATH"
+    NLLC_CALLED=$called exec python3 "$@"
+}
+
+frontend() { python "$home/frontend/run" "$@"; }
+
+# Whether one of the files behind the program is newer.
+has_newer() {
+    than=$1
+    shift
+    for file; do
+        [ "$file" -nt "$than" ] && return
+    done
+    return 1
+}
 
 # Whether the program is there, and no source is newer.
 is_current() {
-    [ -x "$1" ] && [ -z "$(find "$here/crates" "$here/crates.txt" -name out -prune -o -newer "$1" \
-        \( -name '*.rt' -o -name '*.antt' -o -name crates.txt \) -print)" ]
+    [ -x "$1" ] || return
+    [ "$home" = "$here" ] || return 0
+    ! has_newer "$1" "$here"/crates.txt "$here"/crates/*/src/*.rt "$here"/crates/*/src/*/*.rt \
+        "$here"/crates/*/specs/*.antt
 }
 
-say() { echo "nllc.sh: $*" >&2; }
+# Finds the program that is there and current: its path and its standing.
+find_built() {
+    for program in "$proved" "$unproved"; do
+        is_current "$program" && return
+    done
+    program=''
+    return 1
+}
 
-needs_rt() {
-    command -v rt >/dev/null && return
-    say "rt, the command of the Rattle kit, isn't on the PATH"
-    exit 127
+is_proved() { [ "$program" = "$proved" ]; }
+
+# Says once an hour that the build isn't proved.
+tell_standing() {
+    told=$home/out/told
+    [ -w "$home/out" ] || told=${XDG_CACHE_HOME:-$HOME/.cache}/nllc-told
+    [ -z "$(find "$told" -mmin -60 2>/dev/null)" ] || return 0
+    { mkdir -p "${told%/*}" && : >"$told"; } 2>/dev/null
+    say "this build isn't proved, and is slow on large texts; $advice"
+}
+
+# Compiles a build that isn't proved, or waits until another run has done so, and prints this word and its path.
+compile() {
+    [ "$home" = "$here" ] || end 127 "there is no program in $home"
+    python "$here/tools/compile_unproved.py" --asks "$self" --says "$1" --program "$unproved" "$here/crates/nllc" check
+}
+
+# Prints whether the program is proved, and its path; the process itself compiles, so that it ends with its parent.
+print_which() {
+    find_built || compile unproved
+    if is_proved; then
+        echo "proved $program"
+    else
+        tell_standing
+        echo "unproved $program"
+    fi
+}
+
+# The program that answers: that of the variable NLLC, else the one that is current, which is compiled where there is none.
+find_program() {
+    if [ -n "$NLLC" ]; then
+        program=$(command -v -- "$NLLC") || end 127 "there is no program $NLLC, which the variable NLLC names"
+        unset NLLC
+        return
+    fi
+    find_built || { (compile unproved) >/dev/null && find_built; } || exit 127
+    is_proved || tell_standing
 }
 
 words() {
     cat <<END
-Words of this script; what answers them is in frontend/, and isn't proved:
-  $0 rust FILE.rs [FUNCTION]    why the borrow checker refuses a function; makes pages
-  $0 facts FILE.rs [FUNCTION]   makes a facts text of each function; of a crate with --crate FOLDER
-  $0 page FILE ..               makes a page of each facts text or MIR text
-  $0 schedule FILE SCHEDULE     makes a page of a schedule, event by event
-  $0 --prove                    proves nllc and builds it; until then a slow build runs
-The first four say more with --help. All other words are those of nllc itself:
+$called has these words of its own; what answers them is in frontend/, and isn't proved:
+  $called rust FILE.rs|FOLDER         why the borrow checker refuses functions; makes pages. FOLDER: a Cargo project
+  $called facts FILE.rs|FOLDER        makes a facts text of each function
+  $called mir FILE.rs|FOLDER          makes a MIR text of each function
+  $called page FILE ..                makes a page of each facts text or MIR text
+  $called json FILE ..                prints values and faults of each text for programs
+  $called schedule FILE SCHEDULE      makes a page of a schedule, event by event
+  $called explain FILE ..             says which token of a refused text is wrong, and why
+  $called check|values FILE ..        answers several texts, with the name before each line
+  $called help [WORD]                 help, also of one word
+  $called version                     which program this is, and whether it's proved
+  $called --which                     prints whether the program is proved, and its path
+END
+    [ "$home" != "$here" ] ||
+        echo "  $called --prove                     proves nllc and builds it; until then a slow build runs"
+    cat <<END
+A FILE of - is standard input. rust, facts, mir, page, json, schedule and explain say more with --help. All else goes to nllc:
 
 END
 }
 
-compile() { "$here/tools/compile_unproved.sh" "$here/crates/nllc" "$unproved" check; }
+help() {
+    case $1 in
+        '') ;;
+        rust | facts | mir | page | json | schedule | explain) frontend "$1" --help ;;
+        check | values | replay) find_program && exec "$program" "$1" --help ;;
+        *) end 2 "there is no word $1; $called help names all" ;;
+    esac
+    find_program
+    words 2>/dev/null || end 3 "standard output can't be written"
+    exec "$program" --help
+}
 
-if [ "$#" = 0 ]; then
-    words >&2
-elif [ "$#" = 1 ] && { [ "$1" = --help ] || [ "$1" = -h ]; }; then
-    words 2>/dev/null || { say "standard output can't be written"; exit 3; }
-fi
-case $1 in rust | facts | page | schedule) exec python3 "$here/frontend/run" "$@" ;; esac
-if [ "$#" = 1 ] && [ "$1" = --prove ]; then
-    needs_rt
-    say "proving the program and what it stands on takes some 35 minutes on four processors;" \
-        "$here/out/prove.log has what rt prints"
-    exec python3 "$here/tools/prove.py"
-elif is_current "$proved"; then
-    exec "$proved" "$@"
-elif is_current "$unproved"; then
-    say "this build isn't proved, and is hundreds of times slower; $0 --prove makes the proved one"
-    exec "$unproved" "$@"
-else
-    needs_rt
-    say "compiling for about a minute; this build isn't proved, and is hundreds of times slower;" \
-        "$0 --prove makes the proved one"
-    compile && exec "$unproved" "$@"
-    say "nothing was compiled: see $here/out/compile.log"
-    exit 127
-fi
+# The commit of the sources, and whether they were changed since.
+commit() {
+    [ "$home" = "$here" ] || { cat "$home/commit" && return; }
+    git -C "$home" log -1 --format='%h of %cs' 2>/dev/null || { echo unknown && return; }
+    git -C "$home" diff --quiet HEAD -- crates crates.txt frontend nllc.sh || echo "with changes"
+}
+
+# The kit that built the program, as its builder wrote it down, or the logic that a proved program names in itself.
+kit() { cat "$program.kit" 2>/dev/null || grep -aom1 'logic=[0-9a-f]\{16\}' "$program" || echo unknown; }
+
+version() {
+    find_program
+    case $program in
+        "$proved") standing="is proved" ;;
+        "$unproved") standing="isn't proved" ;;
+        *) standing="the variable NLLC names" ;;
+    esac
+    sum=$(sha256sum "$program")
+    printf '%s\n' "nllc, commit $(commit | paste -sd ' ')" "program: $program, which $standing" "kit: $(kit)" \
+        "sha256: ${sum%% *}" 2>/dev/null || end 3 "standard output can't be written"
+}
+
+# Has the program refuse these words, and says on a line of its own what else there is.
+refuse() {
+    find_program
+    "$program" "$@"
+    status=$?
+    say "there is no word $1; besides those there are rust, facts, mir, page, json, schedule, explain, help and version"
+    exit "$status"
+}
+
+# Has the program answer a command and its words, if these are one FILE and options. Of all others the frontend makes
+# several calls, or says what is wrong with them.
+answer() {
+    find_program
+    left=$# files=-1 wants='' ended='' form=plain    # the command itself isn't counted
+    while [ "$left" -gt 0 ]; do
+        word=$1 left=$((left - 1))
+        shift
+        [ "$word" != - ] || word=/dev/stdin
+        if [ "$wants" ]; then
+            wants=''
+        else
+            case $ended$word in
+                --owners | --deal | --cut | --mail | --schedule) wants=value ;;
+                --owners=* | --deal=* | --cut=* | --mail=* | --schedule=*) ;;
+                --help | -h) form=help ;;
+                --) ended=./ ;;
+                -* | *.rs) form=other ;;
+                *) files=$((files + 1)) ;;
+            esac
+        fi
+        set -- "$@" "$word"
+    done
+    case $form$files in
+        plain1 | help*) exec "$program" "$@" ;;
+    esac
+    command -v python3 >/dev/null || exec "$program" "$@"
+    export NLLC="$program"
+    frontend words "$@"
+}
+
+case $1 in
+    rust | facts | mir | page | json | schedule | explain) frontend "$@" ;;
+    check | values | replay) answer "$@" ;;
+    help) [ "$#" -le 2 ] && help "$2" ;;
+    --help | -h) help ;;
+    version | --version | --prove | --built | --which) [ "$#" = 1 ] || end 2 "$1 takes no other word" ;;
+    '') find_program && words >&2 && exec "$program" "$@" ;;
+esac
+case $1 in
+    version | --version) version ;;
+    --built) find_built && echo "$program" ;;
+    --which) print_which ;;
+    --prove)
+        [ "$home" = "$here" ] || end 2 "an installed copy proves nothing: do that in the repository, and install again"
+        say "proving the program and what it stands on takes some 35 minutes on four processors;" \
+            "$here/out/prove.log has what rt prints"
+        python "$here/tools/prove.py"
+        ;;
+    *) refuse "$@" ;;
+esac

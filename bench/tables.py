@@ -68,6 +68,9 @@ def take(folder, commit, machine):
 
 
 def main(words):
+    if words in (["--help"], ["-h"]):
+        print(__doc__)
+        return 0
     if words == ["--write"]:
         for path in shown_in():
             path.write_text(with_tables(path.read_text()))

@@ -2,29 +2,32 @@
 # Proves and builds a program that no crate of the gate has, as those of bench/programs, which are there for
 # measurements and comparisons alone, runs it once, and prints its path.
 #
-#   build_program.sh [--unproved PROGRAM] NAME BELOW USED WORD..
+#   build_program.sh NAME BELOW USED WORD..
+#   build_program.sh --tree FOLDER NAME BELOW USED
 #
 # NAME is a path: the source is NAME.rattle, and NAME.proofs, if there is one, has its written proofs, each after a
 # line `== PATH`. BELOW are the crates that it stands on, directly or not,
-# and USED those that it names, the kit's among them; the words are those of the run. With `--unproved` nothing
-# is proved, and the program is compiled to PROGRAM; it has to read a file that the words don't name, as its next
-# word (tools/compile_unproved.sh).
+# and USED those that it names, the kit's among them; the words are those of the run. With `--tree` nothing is proved
+# or built: FOLDER gets the sources of the program and of the crates below it (tools/compile_unproved.py).
 # Such a program is no crate of the gate, which takes no `.rt` file outside of one. It is built in
 # out/NAME, over copies of the crates below it with what was built of them, so that none of these is
 # proved again where it was proved before.
 set -eu
 here=$(cd "$(dirname "$0")" && pwd)
 root=$(dirname "$here")
+case ${1:---help} in
+    -h | --help) sed -n "2,/^set/{/^#/s/^# \\{0,1\\}//p}" "$0"; exit ;;
+esac
 to=
-if [ "$1" = --unproved ]; then
+if [ "$1" = --tree ]; then
     to=$2
     shift 2
 fi
 name=$(basename "$1") below=$2 used=$3
 folder=$(cd "$(dirname "$1")" && pwd)
 shift 3
-room=$root/out/$name${to:+-unproved.$$}
-rm -rf "$room"
+room=${to:-$root/out/$name}
+[ "$to" ] || rm -rf "$room"
 mkdir -p "$room/crates/$name/src"
 for crate in $below; do
     if [ "$to" ]; then
@@ -45,10 +48,6 @@ if [ -f "$folder/$name.proofs" ]; then
         awk -v path="$path" '/^== /{here = $2 == path; next} here' "$folder/$name.proofs" > "$path"
     done
 fi
-if [ "$to" ]; then
-    trap 'rm -rf "$room"' EXIT
-    "$root/tools/compile_unproved.sh" . "$to" "$@"
-    exit
-fi
+[ -z "$to" ] || exit 0
 rt run -- "$@" > "$room/build.log" 2>&1 || { cat "$room/build.log" >&2; exit 1; }
 echo "$room/crates/$name/out/$name"

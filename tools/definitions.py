@@ -25,7 +25,7 @@ ITEM = re.compile(r"^(?:abbrev pub|pub record|pub data) ([^\s:(\[{]+)")
 MUTUAL = re.compile(r"^  pub (?:record |data )?([^\s:(\[{]+)", re.M)
 USE = re.compile(r"^\s*(pub )?(?:ghost )?use Rattle\.(nll\w+)\.specs\.([\w.]+?)(?:\.\{([^}]*)\}| as (\w+)|);?$", re.M)
 TOKEN = re.compile(r"[^\s(){}\[\],;]+")
-WITHOUT_DEFINITIONS = ("_tests", "nll_worked_texts", "nll_worked_problems")
+WITHOUT_DEFINITIONS = ("_tests", "nll_worked")
 
 Definition = collections.namedtuple("Definition", "crate file names comment text")
 
@@ -113,7 +113,7 @@ def contract_of(root, crate, function):
     kind, _, name = function.rpartition("::")
     block = re.compile(rf"(?:pub )?(?:impl|trait)\b.*\b{kind}\b")
     head = re.compile(rf"{'    ' if kind else ''}(?:pub )?fn {name}\b")
-    for path in sorted((root / "crates" / crate / "src").glob("*.rt")):
+    for path in sorted((root / "crates" / crate / "src").rglob("*.rt")):
         lines, is_inside = path.read_text().split("\n"), not kind
         for at, line in enumerate(lines):
             is_inside = not kind or bool(block.match(line)) or is_inside and line != "}"

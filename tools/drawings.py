@@ -6,6 +6,7 @@
 What is lit is what check/reference/reference.py, the slow program, prints for the text.
 """
 
+import argparse
 import pathlib
 import re
 import subprocess
@@ -134,7 +135,9 @@ def drawing(name):
 
 
 def main(words):
-    folder = pathlib.Path(words[0]) if words else ROOT / "docs" / "pictures"
+    parser = argparse.ArgumentParser(description=__doc__, formatter_class=argparse.RawDescriptionHelpFormatter)
+    parser.add_argument("folder", metavar="FOLDER", nargs="?", type=pathlib.Path, default=ROOT / "docs" / "pictures")
+    folder = parser.parse_args(words).folder
     folder.mkdir(parents=True, exist_ok=True)
     for name in DRAWINGS:
         (folder / f"{name}.svg").write_text(drawing(name))

@@ -31,10 +31,9 @@ from processes import Watch, crate_of, is_edit, seconds_of
 
 ROOT = pathlib.Path(__file__).resolve().parents[1]
 
-# Seconds of their checks on that machine. Of nll_statements: those of a run of 1d7f5c2, 77, divided by 3.66, which
-# is how much slower the run's machine was by the checks of three other crates, which have changed since. Of the
-# others: those of a run in which nll_statements took 2.70 times as long, 75 and 47, divided by that.
-YARDSTICK = {"nll_statements": 21.1, "nll_sets": 27.8, "nll_cut": 17.4}
+# Seconds of their checks on that machine: of nll_sets and nll_cut those of a run, 75 and 47, that was 2.70 times as slow by a
+# third crate, which has changed since; of nll_mail those of a run of 6ab82314, 41, that was 2.29 times as slow by these two.
+YARDSTICK = {"nll_mail": 18.0, "nll_sets": 27.8, "nll_cut": 17.4}
 BUDGET = ROOT / "tools" / "gate_budget.csv"
 LAYER = re.compile(r"# ---- ([^:\n]*)")
 # Beyond this the yardstick's crates tell of different machines, so one of them isn't what it was.
@@ -151,7 +150,7 @@ def table(samples, whole):
         taken, wall = (whole["user"] + whole["system"]) / 60, clock(whole["wall"])
         user, system, beside = clock(whole["user"]), clock(whole["system"]), taken - every.all() / 60
         lines.append(f"{taken:.1f} core-minutes, user {user}, system {system}, wall {wall}; "
-                     f"{beside:.1f} of them beside the checks")
+                     f"{beside:.1f} of them not in checks")
     else:
         lines.append(f"{taken:.1f} core-minutes in checks; what the whole run took isn't known")
     if not factor:

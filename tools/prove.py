@@ -10,6 +10,7 @@ is kept, so that the next run has only the rest to do. Python 3.8 is enough, as 
 import contextlib
 import os
 import signal
+import subprocess
 import sys
 import tempfile
 import time
@@ -27,7 +28,7 @@ PAUSE = 0.1
 
 
 def say(text):
-    print("nllc.sh: " + text, file=sys.stderr, flush=True)
+    print("{}: {}".format(os.environ.get("NLLC_CALLED", "nllc.sh"), text), file=sys.stderr, flush=True)
 
 
 class Progress:
@@ -132,6 +133,12 @@ def build(folder, number, progress, log):
         return running.wait()
 
 
+def write_kit(program):
+    """Writes beside the program which kit built it."""
+    with open(program + ".kit", "w", encoding="utf-8") as kit:
+        subprocess.run(["rt", "version"], stdin=subprocess.DEVNULL, stdout=kit, check=False)
+
+
 def prove_and_build(root):
     folder, out = folder_of(root, PROGRAM), os.path.join(root, "out")
     path, program, began = os.path.join(out, "prove.log"), os.path.join(folder, "out", PROGRAM), time.time()
@@ -147,6 +154,7 @@ def prove_and_build(root):
         say("not proved: {}; see {}".format(failed, path))
         return 1
     progress.told(PROGRAM)
+    write_kit(program)
     os.utime(program, (began, began))  # rt leaves it as it is where no source has other words
     say("proved and built: " + program)
     return 0
@@ -161,7 +169,22 @@ def main(root=ROOT):
     except KeyboardInterrupt:
         say("stopped; what is proved is kept")
         return 130
+    except OSError as error:
+        say("{} can't be used: {}".format(error.filename or root, error.strerror))
+        return 3
+
+
+def refused(words):
+    """The status where words are given, of which only those that ask for help are known; else None."""
+    if not words:
+        return None
+    if words in (["--help"], ["-h"]):
+        print(__doc__)
+        return 0
+    print("tools/prove.py takes no arguments but --help", file=sys.stderr)
+    return 2
 
 
 if __name__ == "__main__":
-    sys.exit(main())
+    status = refused(sys.argv[1:])
+    sys.exit(main() if status is None else status)

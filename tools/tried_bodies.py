@@ -8,10 +8,10 @@ They stand in crates/*/tried-bodies, and each is an edit as those of must-fail/ 
 come of it, with the crate of tests that shows it:
 
     # wrong: a stop sets no flag that others see
-    # fails: nll_ledger_tests rows::all_stop
+    # fails: nll_shared_tests ledger_rows::all_stop
 
     # wrong: a post waits for a lock
-    # refused: nll_mail_tests: the trait bound `Global: Wait` is not satisfied
+    # refused: nll_shared_tests: the trait bound `Global: Wait` is not satisfied
 
 That crate and those below it are copied, and the edit is made in the copy. `rt try --test` then compiles the tests and
 runs them; it proves nothing, and needs no proof of anything. Of its tests the copy has the named one alone. It must
@@ -188,7 +188,8 @@ def main(words, root=ROOT):
     known = {*edits, *(edit.crate for edit in edits.values())}
     unknown = [name for name in asked.names if name not in known]
     if unknown:
-        print(f"{unknown[0]} is no crate with tried bodies, and none of them: {' '.join(edits)}", file=sys.stderr)
+        print(f"{unknown[0]} is neither a tried body nor a crate that has some; there are: {' '.join(edits)}",
+              file=sys.stderr)
         return 2
     wanted = [edit for name, edit in edits.items() if not asked.names or {name, edit.crate} & set(asked.names)]
     tried = try_all(root, wanted, asked.jobs or most_at_once(), asked.seconds)

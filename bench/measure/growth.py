@@ -71,7 +71,7 @@ def is_costly(small, steps):
 def main():
     parser = argparse.ArgumentParser(description=__doc__.split("\n", maxsplit=1)[0])
     parser.add_argument("--nllc", required=True, help="the program")
-    parser.add_argument("--words", nargs="*", default=[], help="words in front of the command, as +runs for --runs")
+    parser.add_argument("--words", nargs="*", default=[], help="arguments in front of the command, as +runs for --runs")
     parser.add_argument("--pairs", action="store_true", help="also grow each two dimensions together")
     parser.add_argument("--most", type=int, default=1 << 18, help="bytes of the largest text")
     parser.add_argument("--seconds", type=float, default=20.0, help="time limit of a run")

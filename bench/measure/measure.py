@@ -297,7 +297,7 @@ def main():
     parser.add_argument("--nllc", required=True)
     parser.add_argument("--baseline", help="the program to compare with; not for `line`")
     parser.add_argument("--most", type=float, default=8.0,
-                        help="MiB that a process may take beside the text of one line")
+                        help="MiB that a process may take besides the text of one line")
     parser.add_argument("--texts", help="folder of the texts to measure on")
     parser.add_argument("--sizes", default="8 64")
     parser.add_argument("--newer", action="store_true",
@@ -308,7 +308,7 @@ def main():
     parser.add_argument("--outputs", help="folder for the two outputs that are compared")
     parser.add_argument("--runs", type=int, default=5)
     parser.add_argument("--seconds", type=float, default=60.0, help="time limit of a run")
-    parser.add_argument("--commit", default="none", help="told beside the figures")
+    parser.add_argument("--commit", default="none", help="recorded with the figures")
     args = parser.parse_args()
     return 0 if WHAT[args.what](args) else 1
 

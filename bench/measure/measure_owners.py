@@ -132,7 +132,7 @@ def main():
                         help="how the program deals regions; the partner does in turns")
     parser.add_argument("--runs", type=int, default=3)
     parser.add_argument("--seconds", type=float, default=60.0, help="time limit of a run")
-    parser.add_argument("--commit", default="none", help="told beside the figures")
+    parser.add_argument("--commit", default="none", help="recorded with the figures")
     args = parser.parse_args()
     args.last = ""
     print(f"Owners on one thread, best of {args.runs} runs of each program; {machine(args)}")

@@ -96,7 +96,7 @@ def main():
     parser.add_argument("--count", type=int, help="growths, or rounds of all threads together")
     parser.add_argument("--runs", type=int, default=9)
     parser.add_argument("--seconds", type=float, default=60.0, help="time limit of a run")
-    parser.add_argument("--commit", default="none", help="told beside the figures")
+    parser.add_argument("--commit", default="none", help="recorded with the figures")
     args = parser.parse_args()
     print(f"{args.what}, millions a second, medians of {args.runs} runs of each program in turn; {machine(args)}")
     print("| threads | program | rate | slowest | quickest | ratio |\n|---|---|---|---|---|---|")

@@ -108,7 +108,7 @@ def main():
     parser.add_argument("--deal", choices=["round", "blocks"], default="round")
     parser.add_argument("--runs", type=int, default=3)
     parser.add_argument("--seconds", type=float, default=60.0, help="time limit of a run")
-    parser.add_argument("--commit", default="none", help="told beside the figures")
+    parser.add_argument("--commit", default="none", help="recorded with the figures")
     args = parser.parse_args()
     args.programs = {"nllc": shlex.split(args.nllc), "partner": shlex.split(args.baseline)}
     print(f"`replay` of `{os.path.basename(args.text)}`, {os.path.getsize(args.text) / (1 << 20):.2f} MiB, best wall "

@@ -246,7 +246,7 @@ def main():
     parser.add_argument("--deal", choices=["round", "blocks"], default="round")
     parser.add_argument("--runs", type=int, default=3)
     parser.add_argument("--seconds", type=float, default=60.0, help="time limit of a run")
-    parser.add_argument("--commit", default="none", help="told beside the figures")
+    parser.add_argument("--commit", default="none", help="recorded with the figures")
     args = parser.parse_args()
     args.programs = {"nllc": shlex.split(args.nllc), "partner": [args.baseline, "threads"]}
     args.counts = [ONE, *map(int, args.owners.split())]

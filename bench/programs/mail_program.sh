@@ -3,7 +3,8 @@
 # program:
 #
 #   bench/run mailboxes --program "$(bench/programs/mail_program.sh)"
+[ "$#" = 0 ] || { sed -n '2,/^\[/{/^#/s/^# \{0,1\}//p}' "$0"; exit; }
 set -eu
 here=$(cd "$(dirname "$0")" && pwd)
-"$here/../../tools/build_program.sh" "$here/mail_program" "nll_sets nll_problem nll_mail nll_mail_tests" \
-    "nll_sets nll_problem nll_mail nll_mail_tests anyhow thiserror" ring 1000
+"$here/../../tools/build_program.sh" "$here/mail_program" "nll_sets nll_problem nll_mail nll_ledger nll_shared_tests" \
+    "nll_sets nll_problem nll_mail nll_ledger nll_shared_tests anyhow thiserror" ring 1000

@@ -3,6 +3,7 @@
 # prints the path of the program:
 #
 #   bench/run owners --program "$(bench/programs/owner_program.sh)"
+[ "$#" = 0 ] || { sed -n '2,/^\[/{/^#/s/^# \{0,1\}//p}' "$0"; exit; }
 set -eu
 here=$(cd "$(dirname "$0")" && pwd)
 small=$(mktemp)

@@ -81,12 +81,12 @@ class Table(unittest.TestCase):
 
     def test_a_yardstick_that_lacks_a_crate_gives_no_units(self):
         told = gate_minutes.table(yardstick(3)[1:], None).splitlines()[-1]
-        self.assertEqual(told, "no units: the yardstick's nll_statements has no check in this run")
+        self.assertEqual(told, "no units: the yardstick's nll_mail has no check in this run")
 
     def test_a_yardstick_with_a_crate_that_changed_gives_no_units(self):
         told = gate_minutes.table(yardstick(3)[1:] + yardstick(7)[:1], None).splitlines()[-1]
         self.assertIn("no units: the yardstick's crates don't agree", told)
-        self.assertIn("nll_statements 7.00", told)
+        self.assertIn("nll_mail 7.00", told)
 
 
 class Budget(unittest.TestCase):
@@ -100,8 +100,8 @@ class Budget(unittest.TestCase):
         self.assertIn(by_layer, document.read_text())
 
     def test_a_crate_that_takes_more_is_told(self):
-        samples = yardstick(1) + [sample("nll_event", 60)]
-        self.assertIn("above its budget: `nll_event`, 1.0 of 0.2", gate_minutes.table(samples, None))
+        samples = yardstick(1) + [sample("nll_lists", 60)]
+        self.assertIn("above its budget: `nll_lists`, 1.0 of 0.6", gate_minutes.table(samples, None))
         self.assertNotIn("above", gate_minutes.table(yardstick(1), None))
 
 

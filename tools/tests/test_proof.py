@@ -18,7 +18,7 @@ MOST_APART = 0.05       # of counts, which change with each definition
 
 class Proof(unittest.TestCase):
     def test_quotations(self):
-        sources = [path.read_text() for kind in ("specs/*.antt", "src/*.rt")
+        sources = [path.read_text() for kind in ("specs/*.antt", "src/**/*.rt")
                    for path in sorted((ROOT / "crates").glob(f"*/{kind}"))]
         blocks = [re.sub(r"^    ", "", block, flags=re.M).strip("\n")
                   for block in re.findall(r"(?:^(?:    .*)?\n)+", TEXT, re.M) if block.strip()]

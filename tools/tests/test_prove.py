@@ -22,6 +22,7 @@ import proving  # noqa: E402
 
 # An `rt` that proves libraries, and makes a program.
 PROVES = """#!/bin/sh
+[ "$1" != version ] || {{ echo a kit; exit; }}
 echo "$@" in "${{PWD#{root}/}}" >> {said}
 mkdir -p out; echo "fn f: proved"; echo "logic=proved functions=1"
 if [ "$1" = lib ]; then
@@ -69,7 +70,7 @@ class Proving(unittest.TestCase):
         return subprocess.Popen([str(self.root / "nllc.sh"), *words], stdout=subprocess.PIPE, text=True,
                                 stderr=subprocess.PIPE, start_new_session=True,
                                 preexec_fn=lambda: signal.signal(signal.SIGINT, signal.SIG_DFL),
-                                env={**os.environ, "PATH": path})
+                                env={**os.environ, "PATH": path, "NLLC": ""})
 
     def start(self, rt, *words):
         """Starts the script with this `rt`."""
@@ -119,6 +120,17 @@ class Proving(unittest.TestCase):
         self.run_with(PROVES.replace("printf", "touch src/main.rt; sleep 0.05; printf"), "--prove")
         self.assertEqual(self.run_without_rt("check", "a"), 127)
 
+    def test_where_nothing_can_be_written(self):
+        (self.root / "out").write_text("")
+        status, out, told = self.run_with(PROVES, "--prove")
+        self.assertEqual((status, out), (3, ""))
+        self.assertEqual(told.splitlines()[1:], ["nllc.sh: /out can't be used: File exists"])
+
+    def test_the_kit_is_written_down(self):
+        self.run_with(PROVES, "--prove")
+        self.assertEqual((self.root / "crates/nllc/out/nllc.kit").read_text(), "a kit\n")
+        self.assertIn("kit: a kit\n", self.run_with(FAILS, "--version")[1])
+
     def test_the_crate_that_fails_is_told(self):
         status, _, told = self.run_with(FAILS, "--prove")
         self.assertEqual(status, 1)
@@ -161,6 +173,26 @@ class Proving(unittest.TestCase):
             self.assertFalse(is_running(int(self.said.read_text())))
             self.assertTrue((self.root / "crates/low/out/incremental/found").exists())
             self.assertFalse((self.root / "out/rooms").exists())
+
+
+class Words(unittest.TestCase):
+    """Words start no proof: those that ask for help get it, and others are refused."""
+
+    def run_with(self, *words):
+        ran = subprocess.run([sys.executable, ROOT / "tools/prove.py", *words], capture_output=True, text=True, timeout=60)
+        return ran.returncode, ran.stdout, ran.stderr
+
+    def test_help(self):
+        for word in ("--help", "-h"):
+            status, out, err = self.run_with(word)
+            self.assertEqual((status, err), (0, ""))
+            self.assertIn("nllc.sh --prove", out)
+
+    def test_other_words(self):
+        for words in (("nll_core",), ("--help", "nll_core")):
+            status, out, err = self.run_with(*words)
+            self.assertEqual((status, out), (2, ""))
+            self.assertEqual(err, "tools/prove.py takes no arguments but --help\n")
 
 
 class Reading(unittest.TestCase):

@@ -1,23 +1,26 @@
-"""README, the course and the page on proofs have no sentence of more than 30 words; documents and comments have plain
-words."""
+"""README, the course and the page on proofs have no sentence of more than 30 words; documents, comments and messages have
+plain words."""
 
+import ast
 import pathlib
 import re
+import tempfile
 import unittest
 
 ROOT = pathlib.Path(__file__).resolve().parents[2]
 DOCUMENTS = ("README.md", "docs/LEARNING.md", "docs/PROOF.md")
+SCRIPTS = ("frontend", "tools", "check", "bench")
 MOST_WORDS = 30
 # Turns of speech for which a document has plain words: appends; live; conflicts with; returned; out of memory; for
 # readers who; round-robin.
 REFUSED = ("behind the others", "in force", "goes against", "handed out", "want of memory", "for who ", "dealt in turns")
 # Of comments also: scratch space; in prose; separated by; follows; the error says.
-REFUSED_IN_COMMENTS = (*REFUSED, "for its own use", "the same in words", "parted by", "stands behind", "error tells")
+REFUSED_IN_COMMENTS = (*REFUSED, "for its own use", "the same in words", "parted by", "stands behind", "error tells",
+                       "No effect at run time")
+# Of messages also: return; give; conflict with; with.
+REFUSED_IN_MESSAGES = (*REFUSED, "hand out", "hands out", "hand in", "handed in", "go against", "beside the figures")
 # A comment that begins so leaves its reader to search for what it is like: "Like `f`, but ..".
 REFUSED_BEGINNING = re.compile(r"[Tt]he same(?=[,.]| (?:as|but|by|for|in|of|where|with)\b)")
-# Crates whose comments are still to be rewritten, and a file; take an entry out with its last such comment.
-UNWRITTEN = ("nll_core", "nll_cut", "nll_driver", "nll_model", "nll_owner", "nll_program_tests", "nll_report",
-             "nll_run_tests", "nll_tests/src/frontiers.rt", "nll_worker")
 COMMENT = {".rt": re.compile(r"\s*//[/!]? ?(.*)"), ".antt": re.compile(r"\s*-- ?(.*)")}
 APART = re.compile(r"\||#|!\[|    ")     # tables, headings, pictures and what is shown as code
 ITEM = re.compile(r"^(?:[-*]|\d+\.) ")
@@ -62,6 +65,24 @@ def comments(path):
             lines = []
 
 
+def messages(path):
+    """The strings of a script in Python, without what is said of its functions and of a module that isn't run."""
+    tree = ast.parse(path.read_text())
+    said = {id(node.body[0].value) for node in ast.walk(tree) if isinstance(node, (ast.FunctionDef, ast.ClassDef))
+            and isinstance(node.body[0], ast.Expr)}
+    if tree.body and isinstance(tree.body[0], ast.Expr) and not path.read_bytes().startswith(b"#!"):
+        said.add(id(tree.body[0].value))
+    return [node.value for node in ast.walk(tree)
+            if isinstance(node, ast.Constant) and isinstance(node.value, str) and id(node) not in said]
+
+
+def scripts():
+    """The scripts in Python, those of tests apart."""
+    paths = (path for folder in SCRIPTS for path in sorted((ROOT / folder).rglob("*")) if path.is_file())
+    return [path for path in paths if "tests" not in path.parts and "target" not in path.parts
+            and (path.suffix == ".py" or re.match(rb"#!.*python", path.read_bytes()[:60]))]
+
+
 def refused(comment):
     """The turns of speech in a comment for which there are plain words."""
     beginning = REFUSED_BEGINNING.match(comment)
@@ -89,11 +110,23 @@ class Sentences(unittest.TestCase):
         paths = sorted([*crates.glob("*/src/**/*.rt"), *crates.glob("*/specs/**/*.antt")])
         self.assertGreater(len(paths), 500)
         for path in paths:
-            place = path.relative_to(crates)
-            if place.parts[0] in UNWRITTEN or place.as_posix() in UNWRITTEN:
-                continue
             found = [(comment[:60], refused(comment)) for comment in comments(path) if refused(comment)]
             self.assertEqual(found, [], path)
+
+    def test_plain_messages(self):
+        """In what scripts print."""
+        self.assertGreater(len(scripts()), 100)
+        for path in scripts():
+            found = [(words, said[:60]) for said in messages(path) for words in REFUSED_IN_MESSAGES if words in said]
+            self.assertEqual(found, [], path)
+
+    def test_messages(self):
+        with tempfile.TemporaryDirectory() as folder:
+            path = pathlib.Path(folder) / "one.py"
+            path.write_text('"""One."""\ndef f():\n    """Two."""\n    print(f"three {4}", "five")\n')
+            self.assertEqual(sorted(messages(path)), ["five", "three "])
+            path.write_text("#!/usr/bin/env python3\n" + path.read_text())
+            self.assertEqual(sorted(messages(path)), ["One.", "five", "three "])
 
     def test_refused(self):
         self.assertEqual(refused("Puts a type behind the others."), ["behind the others"])

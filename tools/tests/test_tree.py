@@ -113,7 +113,7 @@ class Reading(unittest.TestCase):
         self.text = (ROOT / "docs" / "READING.md").read_text()
 
     def test_files_of_the_walks(self):
-        there = {path.name for path in (ROOT / "crates").glob("*/src/*.rt")}
+        there = {path.name for path in (ROOT / "crates").glob("*/src/**/*.rt")}
         for name in re.findall(r"`(\w+\.rt)`", self.text):
             with self.subTest(name=name):
                 self.assertIn(name, there)
@@ -138,7 +138,7 @@ def table(text, head):
 def variants(name):
     """The variants of an enum, in the one crate that has it."""
     head = re.compile(rf"^pub enum {name}\b.*\n((?:    .*\n)*)", re.MULTILINE)
-    bodies = [found[1] for path in sorted((ROOT / "crates").glob("*/src/*.rt")) for found in head.finditer(path.read_text())]
+    bodies = [found[1] for path in sorted((ROOT / "crates").glob("*/src/**/*.rt")) for found in head.finditer(path.read_text())]
     return [re.findall(r"^    (\w+)", body, re.MULTILINE) for body in bodies]
 
 

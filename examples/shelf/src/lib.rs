@@ -1,4 +1,4 @@
-//! A small crate for `nllc.sh facts --crate` (docs/FROM-RUST.md).
+//! A small crate for `nllc.sh rust FOLDER` (docs/FROM-RUST.md).
 
 pub mod words;
 

@@ -1,0 +1,16 @@
+# Completion of nllc for fish.
+set -l commands check values replay rust page json schedule facts mir explain help version
+complete -c nllc -n "not __fish_seen_subcommand_from $commands" -f -a "$commands"
+complete -c nllc -n "__fish_seen_subcommand_from help" -f -a "$commands"
+complete -c nllc -n "__fish_seen_subcommand_from check values replay schedule" -l owners -x -d "Threads that share the regions"
+complete -c nllc -n "__fish_seen_subcommand_from check values replay schedule" -l deal -x -a "round blocks" -d "How regions are dealt"
+complete -c nllc -n "__fish_seen_subcommand_from check values replay schedule" -l cut -r -d "Who owns which region"
+complete -c nllc -n "__fish_seen_subcommand_from check values" -l mail -x -a "queue ring" -d "How growths are sent"
+complete -c nllc -n "__fish_seen_subcommand_from replay" -l schedule -r -d "Events"
+complete -c nllc -n "__fish_seen_subcommand_from rust" -l explain -d "Step by step"
+complete -c nllc -n "__fish_seen_subcommand_from rust" -l all-points -d "Also with constraints at all points"
+complete -c nllc -n "__fish_seen_subcommand_from rust facts mir" -l edition -x -d "Of the language"
+complete -c nllc -n "__fish_seen_subcommand_from rust page schedule" -l open -d "Open the page"
+complete -c nllc -n "__fish_seen_subcommand_from rust page schedule facts mir" -s o -r -d "Where it goes"
+complete -c nllc -n "__fish_seen_subcommand_from rust" -l message-format -x -a "human json" -d "For programs"
+complete -c nllc -n "__fish_seen_subcommand_from rust facts mir" -s p -x -d "Package of a project"
