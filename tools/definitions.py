@@ -23,7 +23,7 @@ ABOVE = re.compile(r"--(?! ----)")                       # a comment that isn't 
 HEAD = re.compile(r"(?:abbrev |pub |mutual\b)(?!use |mod )")  # a definition's first line
 ITEM = re.compile(r"^(?:abbrev pub|pub record|pub data) ([^\s:(\[{]+)")
 MUTUAL = re.compile(r"^  pub (?:record |data )?([^\s:(\[{]+)", re.M)
-USE = re.compile(r"^\s*(pub )?(?:ghost )?use Rattle\.(nll\w+)\.specs\.([\w.]+?)(?:\.\{([^}]*)\}| as (\w+)|);?$", re.M)
+USE = re.compile(r"^\s*(pub )?(?:ghost )?use Rattle\.((?!std\.)\w+)\.specs\.([\w.]+?)(?:\.\{([^}]*)\}| as (\w+)|);?$", re.M)
 TOKEN = re.compile(r"[^\s(){}\[\],;]+")
 WITHOUT_DEFINITIONS = ("_tests", "nll_worked")
 

@@ -1,0 +1,6 @@
+pub mod Limits
+pub mod Rules
+pub mod Logs
+pub mod State
+pub mod Sums
+pub mod Finishing
