@@ -1,9 +1,10 @@
 """Where a closure uses what it borrows from the function around it."""
 
-import glob
 import os
 import re
-from typing import Collection, NamedTuple, Optional
+from bisect import bisect_left
+from functools import lru_cache
+from typing import Collection, Iterator, NamedTuple, Optional
 
 from .mir import Body, Span, Statement, read_body
 from .places import Place, read_place
@@ -60,7 +61,7 @@ def home_of(closure: str, span: Optional[Span]) -> Optional[Span]:
 
 def use_inside(mir: str, closure: str, index: Optional[int]) -> Use:
     """The first statement of the closure that names its field of this number; of one in it, what that uses."""
-    for path in glob.glob(glob.escape(mir.removesuffix(TAIL)) + "-*" + glob.escape(TAIL)):
+    for path in closures_of(mir):
         inner = read_body(path)
         own = inner.locals.get(1)
         if own and closure in own.type and os.path.isfile(path) and index is not None:
@@ -69,6 +70,22 @@ def use_inside(mir: str, closure: str, index: Optional[int]) -> Use:
             uses = [deeper(path, inner, said, rf"\(\*\(\*{field}") for said in named]
             return Use(uses[0].span, all(use.is_behind for use in uses)) if uses else Use()
     return Use()
+
+
+def closures_of(mir: str) -> Iterator[str]:
+    """The dumps of the closures inside the function of a dump."""
+    folder, name = os.path.split(mir)
+    begin, names = f"{name.removesuffix(TAIL)}-{{closure#", dumps_in(folder)
+    at = bisect_left(names, begin)
+    while at < len(names) and names[at].startswith(begin):
+        yield os.path.join(folder, names[at])
+        at += 1
+
+
+@lru_cache(4)   # a crate has ten thousand functions
+def dumps_in(folder: str) -> list[str]:
+    """The names of all dumps of a folder, ascending."""
+    return sorted(name for name in os.listdir(folder) if name.endswith(TAIL))
 
 
 def deeper(mir: str, body: Body, said: Statement, behind: str) -> Use:

@@ -152,7 +152,7 @@ def live_points(tables: Tables, body: Body, points: Points,
     """
     live: dict[int, set[int]] = defaultdict(set)
     for region, location in bases(tables):
-        if location in body.live.get(region, ()):
+        if location in body.live.at(region):
             live[regions.find(region)].add(points.number[location])
     for region in sorted(live):
         if not regions.is_universal(region):

@@ -3,11 +3,11 @@
 import os
 import re
 from dataclasses import dataclass, replace
-from functools import partial
+from functools import lru_cache, partial
 from typing import Callable, Optional
 
 from .destructors import DROP_FUNCTION, destroyed_by
-from .mir import Span, read_body
+from .mir import Span, read_body, read_outline
 
 IMPL_AT = re.compile(r"<impl at (.+?):(\d+):(\d+): (\d+):(\d+)>")
 HEADER = re.compile(r"(?:unsafe\s+)?impl\b")
@@ -66,28 +66,17 @@ def find_mir(mir: str, crate: str, folder: str) -> Optional[str]:
 
 def read_dump(paths: tuple[str, str], root: str) -> tuple[Dump, set[str]]:
     """The function of a folder of tables and a MIR dump, and the type that it destroys, if it is a destructor."""
-    return dump_of(*paths, root), destroyed_in(paths[1], root)
+    facts, mir = paths
+    outline = read_outline(mir)
+    name = IMPL_AT.sub(lambda found: impl_name(found, root), outline.path)
+    dump = Dump(name, file_name(os.path.basename(facts)), facts, mir, outline.span, outline.is_function)
+    return dump, destroyed_in(outline.path, mir, root)
 
 
-def dump_of(facts: str, mir_path: str, root: str) -> Dump:
-    body = read_body(mir_path)
-    result = body.locals.get(0)
-    head = result.span if result else None
-    lines = [span for span in body.spans() if head and span.file == head.file]
-    span = None
-    if lines:
-        first, column = min((s.first, s.column) for s in lines)
-        last, end = max((s.last, s.end) for s in lines)
-        span = Span(head.file, first, last, column, end)
-    name = IMPL_AT.sub(lambda found: impl_name(found, root), body.path)
-    return Dump(name, file_name(os.path.basename(facts)), facts, mir_path, span, body.is_function)
-
-
-def destroyed_in(mir_path: str, root: str) -> set[str]:
-    """The type whose destructor is the function of a dump, if it is one."""
-    body = read_body(mir_path)
-    found = IMPL_AT.search(body.path) if DROP_FUNCTION.fullmatch(body.path) else None
-    return destroyed_by(body, impl_header(found, root)) if found else set()
+def destroyed_in(path: str, mir_path: str, root: str) -> set[str]:
+    """The type whose destructor is the function of this path and dump, if it is one."""
+    found = IMPL_AT.search(path) if DROP_FUNCTION.fullmatch(path) else None
+    return destroyed_by(read_body(mir_path), impl_header(found, root)) if found else set()
 
 
 def file_name(folder: str) -> str:
@@ -103,17 +92,23 @@ def impl_name(found: re.Match, root: str) -> str:
 
 def impl_header(found: re.Match, root: str) -> Optional[str]:
     """How an `impl` begins, read from the source where rustc says only where it stands."""
-    try:
-        with open(os.path.join(root, found[1]), encoding="utf-8") as file:
-            lines = file.read().split("\n")[int(found[2]) - 1:int(found[4])]
-    except (OSError, UnicodeDecodeError):
-        return None
+    lines = lines_of(os.path.join(root, found[1]))[int(found[2]) - 1:int(found[4])]
     if not lines:
         return None
     last = len(lines) - 1
     lines[last] = lines[last][:int(found[5]) - 1]
     lines[0] = lines[0][int(found[3]) - 1:]
     return " ".join(lines)
+
+
+@lru_cache(16)  # a file has many functions
+def lines_of(path: str) -> list[str]:
+    """The lines of a file; none where it can't be read."""
+    try:
+        with open(path, encoding="utf-8") as file:
+            return file.read().split("\n")
+    except (OSError, UnicodeDecodeError):
+        return []
 
 
 def type_name(header: str) -> Optional[str]:

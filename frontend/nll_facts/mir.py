@@ -19,6 +19,9 @@ SPAN = re.compile(r"(?P<file>.+):(?P<line>\d+):(?P<column>\d+): (?P<last>\d+):(?
                   r"(?: \(#\d+\))?")
 CODE = re.compile(r"(?P<indent> +)(?P<code>\S.*?)\s+// (?:\S+ )*?in scope \d+ at (?P<span>.*)"
                   r"|        (?P<statement>\S.*);\s+// (?:bb\S+ )?scope \d+ at (?P<where>.*)")
+# Of the same lines without the code, where what is declared or done stands; names of variables stand elsewhere, too.
+SPOT = re.compile(r"^(?!        +debug |    debug \S+ => [^_]).*;\s+// (?:[^/]* )?scope \d+ at (.*)")
+RESULT = re.compile(r" +let (?:mut )?_0: .*;\s+// (?:\S+ )*?in scope \d+ at (.*)")
 LET = re.compile(r"let (mut )?_(\d+): (.*?)(?: as UserTypeProjection .*)?;")
 DEBUG = re.compile(r"debug (\S+) => _(\d+);")
 CAPTURED = re.compile(r"debug (\S+) => (\(.*\));")
@@ -77,6 +80,19 @@ class Local:
     is_mutable: bool = False
 
 
+class Live:
+    """At which locations a region is live, as the dump says it; what it says of a region is read once that is asked for."""
+
+    def __init__(self, said: dict[int, str]):
+        self.said = said
+        self.read: dict[int, set[Location]] = {}
+
+    def at(self, region: int) -> set[Location]:
+        if region not in self.read:
+            self.read[region] = set(locations(self.said.get(region, "")))
+        return self.read[region]
+
+
 @dataclass
 class Body:
     """The dump of one function."""
@@ -89,7 +105,7 @@ class Body:
     external: set[int] = field(default_factory=set)
     reasons: list[Reason] = field(default_factory=list)
     needs: list[tuple[int, int]] = field(default_factory=list)
-    live: dict[int, set[Location]] = field(default_factory=dict)
+    live: Live = field(default_factory=lambda: Live({}))
     captured: dict[Place, str] = field(default_factory=dict)
 
     def name_of(self, place: Place) -> Optional[str]:
@@ -106,19 +122,41 @@ class Body:
                 yield thing.span
 
 
-@lru_cache(128)  # a function's is asked for its name, for its problem, and by closures around it
+class Outline(NamedTuple):
+    """What is known of a function before its body is read: its path, whether it is one, its place in its file."""
+
+    path: str
+    is_function: bool
+    span: Optional[Span]
+
+
+def read_outline(mir_path: str) -> Outline:
+    """The outline of a `.mir` file, which takes a tenth of the time of `read_body`."""
+    lines = read_lines(mir_path)
+    path, begin = path_of(mir_path, lines), begin_of(lines)
+    end = lines.index("}", begin) if "}" in lines else len(lines)
+    written = [found[1] for found in map(SPOT.search, lines[begin:end]) if found]
+    result = next((span_of(found[1]) for found in map(RESULT.match, lines[begin:end]) if found), None)
+    return Outline(path, is_function(lines[begin]), extent(result.file, written) if result else None)
+
+
+def extent(file: str, places: list[str]) -> Optional[Span]:
+    """From the first to the last character of those of these places that are in the file."""
+    own = [span for span in map(span_of, dict.fromkeys(places)) if span and span.file == file]
+    if not own:
+        return None
+    first, column = min((span.first, span.column) for span in own)
+    last, end = max((span.last, span.end) for span in own)
+    return Span(file, first, last, column, end)
+
+
+@lru_cache(128)  # a function's is asked for its problem, and by closures around it
 def read_body(mir_path: str) -> Body:
     """The body of a `.mir` file; names and the order of constraints come from the graph of regions beside it."""
     lines = read_lines(mir_path)
-    title = TITLE.fullmatch(lines[0]) if lines else None
-    if not title:
-        raise Refusal(f"{mir_path} is no MIR dump that is known here; rustc 1.95 is known to work")
-    body = Body(path=title[1])
-    body.external = {int(found[1]) for found in map(EXTERNAL.match, lines) if found}
-    body.reasons = list(filter(None, map(reason_of, lines)))
-    body.live = {int(found[1]): set(locations(found[2])) for found in map(LIVE.fullmatch, lines) if found}
-    body.needs = [(int(found[1]), int(found[2])) for found in map(NEED.match, lines) if found]
-    begin = next((i for i, line in enumerate(lines[1:], 1) if line and line[0] not in "/|"), 1)
+    body = Body(path=path_of(mir_path, lines))
+    begin = begin_of(lines)
+    read_regions(body, lines[:begin])
     read_header(body, lines[begin])
     read_code(body, lines[begin + 1:])
     graph = read_lines(mir_path.removesuffix(".mir") + ".regioncx.all.dot")
@@ -126,6 +164,27 @@ def read_body(mir_path: str) -> Body:
     body.reasons = in_order(body.reasons, [(int(found[1]), int(found[2]))
                                            for found in map(EDGE.match, graph) if found])
     return body
+
+
+def path_of(mir_path: str, lines: list[str]) -> str:
+    """The path of the function, which the first line has."""
+    title = TITLE.fullmatch(lines[0]) if lines else None
+    if not title:
+        raise Refusal(f"{mir_path} is no MIR dump that is known here; rustc 1.95 is known to work")
+    return title[1]
+
+
+def begin_of(lines: list[str]) -> int:
+    """The line with which the function begins, below what is said of its regions."""
+    return next((i for i, line in enumerate(lines[1:], 1) if line and line[0] not in "/|"), 1)
+
+
+def read_regions(body: Body, lines: list[str]) -> None:
+    """Takes what stands above the function; of where regions are live no more than the text."""
+    body.external = {int(found[1]) for found in map(EXTERNAL.match, lines) if found}
+    body.reasons = list(filter(None, map(reason_of, lines)))
+    body.live = Live({int(found[1]): found[2] for found in map(LIVE.fullmatch, lines) if found})
+    body.needs = [(int(found[1]), int(found[2])) for found in map(NEED.match, lines) if found]
 
 
 def in_order(reasons: list[Reason], edges: list[tuple[int, int]]) -> list[Reason]:
@@ -165,7 +224,7 @@ def read_lines(path: str) -> list[str]:
 def read_header(body: Body, line: str) -> None:
     """Takes the parameters of `fn NAME(_1: T, ..) -> T {`; a constant has none."""
     begin = line.find("(_1: ")
-    body.is_function = line.startswith(("fn ", "unsafe fn ", "const fn "))
+    body.is_function = is_function(line)
     if begin < 0 or not body.is_function:
         return
     inside = line[begin + 1:closing(line, begin)]
@@ -173,6 +232,11 @@ def read_header(body: Body, line: str) -> None:
     for this, following in zip(found, [*found[1:], None]):
         end = following.start() if following else len(inside)
         body.locals[int(this[1])] = Local(inside[this.end():end])
+
+
+def is_function(line: str) -> bool:
+    """Whether the line with which a body begins is a function's, not a constant's."""
+    return line.startswith(("fn ", "unsafe fn ", "const fn "))
 
 
 def read_code(body: Body, lines: list[str]) -> None:

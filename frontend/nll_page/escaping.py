@@ -11,6 +11,9 @@ HIDDEN = re.compile("[\x00-\x08\x0b-\x1f\x7f-\x9f\u061c\u200b-\u200f"
                     "\u2028-\u202e\u2060-\u2069\ufeff\ufff9-\ufffb]")
 
 
+PLAIN = re.compile(r"[\w .,:;=()\[\]{}#/+*|!?–‹›-]*", re.ASCII)    # what most texts are of: nothing of it has a code
+
+
 def visible(text):
     """The text with a code in place of each hidden character, and blanks in place of tabs."""
     return HIDDEN.sub(lambda found: f"‹U+{ord(found[0]):04X}›", text.replace("\t", "    "))
@@ -18,7 +21,8 @@ def visible(text):
 
 def text(value):
     """A text as the content of an HTML element or of a quoted attribute."""
-    return html.escape(visible(str(value)))
+    value = str(value)
+    return value if PLAIN.fullmatch(value) else html.escape(visible(value))
 
 
 def sentence(parts):

@@ -15,6 +15,7 @@ from .refusal import Refusal
 from .remarks import Remarks, is_remark
 
 TOKEN = re.compile(r"'[A-Za-z0-9_]+|[A-Za-z0-9_]+")
+PLAIN = re.compile(r"[a-z]+(?: '?[A-Za-z0-9_]+)*")     # a line as nearly all are written
 NUMBER = re.compile(r"0|[1-9][0-9]{0,8}")
 
 # What stands behind each keyword: names of regions (r), numbers (n), and a place (p): a number or `all`.
@@ -133,6 +134,7 @@ class Reader:
         self.path = path
         self.may_be_everywhere = may_be_everywhere
         self.facts = Facts()
+        self.known = {}         # the numbers of a text come again and again
         self.numbers = {"static": 0}
         self.seen = set()
         self.ended = False
@@ -141,14 +143,11 @@ class Reader:
         if is_remark(line):
             self.facts.remarks.read(line)
             return
-        words = TOKEN.findall(line)
+        words = line.split(" ") if PLAIN.fullmatch(line) else self.tokens(number, line)
         if not words:
-            if line.strip(" \t\r"):
-                self.stop(number)
             return
         form = FORMS.get(words[0])
-        left = TOKEN.sub("", line).strip(" \t\r").replace(" ", "").replace("\t", "")
-        if form is None or left or len(words) != len(form) + 1 or self.ended:
+        if form is None or len(words) != len(form) + 1 or self.ended:
             self.stop(number)
         arguments = [self.argument(number, kind, word) for kind, word in zip(form, words[1:])]
         if words[0] in ("universal", "region"):
@@ -162,14 +161,20 @@ class Reader:
         raise Refusal(f"{self.path}, line {number}: no line of a facts text here; "
                       f"`nllc check {self.path}` says what is wrong with it")
 
+    def tokens(self, number, line):
+        """The tokens of a line however it is written; stops where there is something else."""
+        if TOKEN.sub("", line).strip(" \t\r").replace(" ", "").replace("\t", ""):
+            self.stop(number)
+        return TOKEN.findall(line)
+
     def argument(self, number, kind, word):
         """The name of a region, or a number."""
         if kind == "r" and word.startswith("'"):
             return word[1:]
         if kind == "p" and word == "all" and self.may_be_everywhere:
             return ALL
-        if kind in "np" and NUMBER.fullmatch(word):
-            return int(word)
+        if kind in "np" and (word in self.known or NUMBER.fullmatch(word)):
+            return self.known.setdefault(word, int(word))
         return self.stop(number)
 
     def resolved(self, number, form, arguments):

@@ -239,29 +239,44 @@ def middles(shape, width, free):
     count = len(width)
     above, below = neighbours(shape.paths, count)
     middle = [0.0] * count
-    for layer in shape.layers:
-        spread(layer, middle, width, free, [float(at) for at in range(len(layer))],
-               [1.0] * len(layer))
-    for sweep in range(PLACE_SWEEPS):
-        downwards = sweep % 2 == 0
-        for layer in shape.layers if downwards else reversed(shape.layers):
-            wishes, weights = [], []
-            for number in layer:
-                near = (above if downwards else below)[number]
-                wishes.append(average([middle[n] for n in near], middle[number]))
-                weights.append((1.0 if near else 0.1) * (4.0 if number >= shape.boxes else 1.0))
-            spread(layer, middle, width, free, wishes, weights)
+    offsets = [offsets_of(layer, width, free) for layer in shape.layers]
+    for layer, its in zip(shape.layers, offsets):
+        spread(layer, middle, its, [float(at) for at in range(len(layer))], [1.0] * len(layer))
+    downwards, upwards = ([(layer, its, [near[n] for n in layer], weights_of(layer, near, shape.boxes))
+                           for layer, its in zip(shape.layers, offsets)] for near in (above, below))
+    sweeps, earlier = 0, []
+    while sweeps < PLACE_SWEEPS:
+        # Where a sweep down and one up have moved nothing, none will, and one more down is the last.
+        sweeps = PLACE_SWEEPS if sweeps % 2 == 0 and middle == earlier else sweeps + 1
+        earlier = list(middle) if sweeps % 2 else earlier
+        for layer, its, near, weights in downwards if sweeps % 2 else upwards[::-1]:
+            wishes = [sum([middle[n] for n in towards]) / len(towards) if towards else middle[number]
+                      for number, towards in zip(layer, near)]
+            spread(layer, middle, its, wishes, weights)
     left = min((middle[n] - width[n] / 2 for n in range(count)), default=0)
     return [m - left + MARGIN for m in middle]
 
 
-def spread(layer, middle, width, free, wishes, weights):
-    """Sets the middles of a layer as near to the wishes as its order allows (least squares)."""
+def weights_of(layer, near, boxes):
+    """How much the wish of each place counts: a box's less than an edge's, and one without neighbours little."""
+    return [(1.0 if near[n] else 0.1) * (4.0 if n >= boxes else 1.0) for n in layer]
+
+
+def offsets_of(layer, width, free):
+    """How far the middles of a layer are from its first one where they stand as close as they may."""
     offsets, at = [], 0.0
     for before, number in zip([None, *layer], layer):
         if before is not None:
             at += (width[before] + width[number]) / 2 + free[before] + GAP_X
         offsets.append(at)
+    return offsets
+
+
+def spread(layer, middle, offsets, wishes, weights):
+    """Sets the middles of a layer as near to the wishes as its order allows (least squares)."""
+    if len(layer) == 1:
+        middle[layer[0]] = wishes[0]
+        return
     groups = []  # mean, weight and size of runs that stand as close as they may
     for wish, weight, offset in zip(wishes, weights, offsets):
         mean, size = wish - offset, 1

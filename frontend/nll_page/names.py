@@ -56,6 +56,8 @@ def body_kind(facts):
 
 def region_text(facts, text):
     """What a remark says of a region, with the outer function's name for the function around a closure."""
+    if "around this closure" not in text:
+        return text
     outer = "::".join(part for part in split_path(facts.remarks.function) if not CLOSURE.match(part))
 
     def named(found):

@@ -6,6 +6,7 @@ import subprocess
 import sys
 import tempfile
 import time
+from contextlib import ExitStack
 from functools import cache
 from typing import NamedTuple
 
@@ -76,59 +77,56 @@ def program_of(found):
 def run(text):
     """Runs `values` and `check` on the text, side by side."""
     program, standing = program_of(find())
-    with tempfile.TemporaryDirectory(prefix="nll-page.") as folder:
-        copy = os.path.join(folder, "text.facts")
-        with open(copy, "wb") as file:
-            file.write(text)
-        values = Run(program, "values", copy, folder)
-        check = Run(program, "check", copy, folder)
-        try:
+    with tempfile.NamedTemporaryFile(prefix="nll-page.", suffix=".facts") as copy:
+        copy.write(text)
+        copy.flush()
+        with ExitStack() as started:
+            values, check = (Run(program, command, copy.name) for command in ("values", "check"))
+            for one in (values, check):
+                one.start()
+                started.callback(one.stop)
             wait([values, check])
-        finally:
-            values.stop()
-            check.stop()
-        values.judge((0,))
-        check.judge((0, 1))
-        return Report(values.text("out"), fault_lines(check.text("out")), shown(program), standing)
+    values.judge((0,))
+    check.judge((0, 1))
+    return Report(values.out, fault_lines(check.out), shown(program), standing)
 
 
 class Run:
-    """One process; its streams go to files, so that none of them fills up."""
+    """One process, and what it writes."""
 
-    def __init__(self, program, command, path, folder):
+    def __init__(self, program, command, path):
         self.program = program
-        self.files = {stream: os.path.join(folder, f"{command}.{stream}")
-                      for stream in ("out", "err")}
-        try:
-            with open(self.files["out"], "wb") as out, open(self.files["err"], "wb") as err:
-                self.process = subprocess.Popen([program, command, path], stdin=subprocess.DEVNULL,
-                                                stdout=out, stderr=err)
-        except OSError as error:
-            raise Refusal(f"{program} can't be run: {error.strerror}") from None
+        self.words = [program, command, path]
+        self.process = None
+        self.out = self.err = ""
 
-    def text(self, stream):
-        with open(self.files[stream], encoding="utf-8", errors="replace") as file:
-            return file.read()
+    def start(self):
+        try:
+            self.process = subprocess.Popen(self.words, stdin=subprocess.DEVNULL, stdout=subprocess.PIPE,
+                                            stderr=subprocess.PIPE, encoding="utf-8", errors="replace")
+        except OSError as error:
+            raise Refusal(f"{self.program} can't be run: {error.strerror}") from None
 
     def is_ended(self, patience):
-        """Whether the process has ended, or does so in so many seconds."""
+        """Whether the process has ended, or does so in so many seconds; what it wrote is kept then."""
         try:
-            self.process.wait(patience)
+            self.out, self.err = self.process.communicate(timeout=patience)
         except subprocess.TimeoutExpired:
             return False
         return True
 
     def stop(self):
-        if self.process.poll() is None:
-            self.process.terminate()
-            self.process.wait()
+        """Ends it where it runs still."""
+        with self.process:
+            if self.process.poll() is None:
+                self.process.terminate()
 
     def judge(self, statuses):
         """Refuses with the line of `nllc` where it didn't answer."""
         status = self.process.returncode
         if status in statuses:
             return
-        said = self.text("err").strip().splitlines()
+        said = self.err.strip().splitlines()
         if status == 2:
             raise Refusal(f"nllc refuses the text: {said[-1] if said else 'it says not why'}")
         last = said[-1] if said else "it said nothing"

@@ -2,6 +2,7 @@
 
 import os
 import re
+from functools import cache
 from typing import NamedTuple, Optional
 
 from . import drawing, layout, lines, words
@@ -95,6 +96,7 @@ def page(content):
     })
 
 
+@cache
 def template(name):
     with open(os.path.join(TEMPLATES, name), encoding="utf-8") as file:
         return file.read()
@@ -105,6 +107,7 @@ MOST_HEAD = 20      # lines, among which a function's head is looked for
 COMMENT = re.compile(r"/\*.*?\*/|^\s*//.*?$", re.DOTALL | re.MULTILINE)
 
 
+@cache
 def compact(text):
     """Style or script without comments and indents, which nobody reads in a page."""
     return "".join(f"{line.strip()}\n" for line in COMMENT.sub("", text).split("\n") if line.strip())

@@ -66,6 +66,8 @@ def code_part(source, line, labels):
 
 def runs(piece, start, marked):
     """The parts of a piece that are marked alike."""
+    if not marked:
+        return [(None, piece)]
     found = []
     for at, letter in enumerate(piece, start):
         if found and found[-1][0] == marked.get(at):

@@ -13,6 +13,7 @@ constraints are asked, `beside` reads.
 
 import re
 from dataclasses import dataclass, field
+from functools import lru_cache
 from typing import NamedTuple, Optional
 
 from .beside import Beside
@@ -36,12 +37,18 @@ class Remark(NamedTuple):
 
     def spot(self):
         """Block, place in it and half of a point, where the words end with them; else None."""
-        found = SPOT.search(self.text)
-        return found.groups() if found else None
+        return cut(self.text)[1]
 
     def statement(self):
         """The words without the place."""
-        return SPOT.sub("", self.text)
+        return cut(self.text)[0]
+
+
+@lru_cache(4096)    # a page asks for each many times
+def cut(text):
+    """The words of a remark without the place with which they end, and that place."""
+    found = SPOT.search(text)
+    return (text[:found.start()], found.groups()) if found else (text, None)
 
 
 NOTHING = Remark(None, "")

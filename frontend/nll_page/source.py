@@ -2,6 +2,7 @@
 
 import os
 import re
+from functools import lru_cache
 from typing import NamedTuple
 
 from .called import called
@@ -53,16 +54,12 @@ def find(facts, facts_path, given):
 def read(path, facts):
     """The lines of the file round those that the points' remarks name; all, where none is named."""
     try:
-        with open(path, encoding="utf-8") as file:
-            text = file.read(MOST_BYTES + 1)
+        found = os.stat(path)
+        lines = lines_of(path, found.st_mtime_ns, found.st_size)
     except OSError as error:
         raise Refusal(f"{path} can't be read: {error.strerror}") from None
     except UnicodeDecodeError:
         raise Refusal(f"{path} isn't UTF-8, so it is no Rust file") from None
-    if len(text) > MOST_BYTES:
-        raise Refusal(f"{path} is longer than 4 MiB; leave it out, and the page lists the "
-                      "points instead")
-    lines = text.replace("\r\n", "\n").removesuffix("\n").split("\n")
     named = [r.line for r in [*facts.remarks.points.values(), *facts.remarks.regions.values()]
              if r.line]
     if named and max(named) > len(lines):
@@ -71,6 +68,17 @@ def read(path, facts):
                       f"was the file changed? `{called('facts')}` makes a new text")
     first, last = window(lines, named) if named else (1, len(lines))
     return Source(path, first, lines[first - 1:last])
+
+
+@lru_cache(16)
+def lines_of(path, _changed, _size):
+    """The lines of the file as it is since then; it is read once for all of its functions."""
+    with open(path, encoding="utf-8") as file:
+        text = file.read(MOST_BYTES + 1)
+    if len(text) > MOST_BYTES:
+        raise Refusal(f"{path} is longer than 4 MiB; leave it out, and the page lists the "
+                      "points instead")
+    return text.replace("\r\n", "\n").removesuffix("\n").split("\n")
 
 
 def window(lines, named):

@@ -31,7 +31,8 @@ def read_values(report, facts, source):
     """The values that a report gives, where it is one of these facts; `source` names it."""
     ends = {f"end('{name})": facts.end_of(number)
             for number, name in enumerate(facts.names[:facts.universals])}
-    elements = ends | {name: point for point, name in facts.point_names.items()}
+    points = {str(point): point for point in range(facts.points)}
+    elements = points | ends | {name: point for point, name in facts.point_names.items()}
     rows = []
     for number, line in enumerate(report.splitlines(), 1):
         found = LINE.fullmatch(line)
@@ -40,8 +41,7 @@ def read_values(report, facts, source):
                           f"`nllc values FACTS > FILE` writes one")
         if number > len(facts.names) or found[1] != facts.names[number - 1]:
             raise foreign(source)
-        rows.append([elements.get(word, int(word) if word.isdigit() else -1)
-                     for word in found[2].split()])
+        rows.append([elements.get(word, -1) for word in found[2].split()])
     if len(rows) != len(facts.names) or not all(fits(facts, *row) for row in enumerate(rows)):
         raise foreign(source)
     return Values(rows)
@@ -55,9 +55,9 @@ def foreign(source):
 def fits(facts, region, row):
     """Whether a row may be the value of the region, by its form and its first elements."""
     last = facts.points + facts.universals - 1
-    if any(a >= b for a, b in zip(row, row[1:])) or row and not 0 <= row[0] <= row[-1] <= last:
-        return False
     held = set(row)
+    if row != sorted(held) or row and not 0 <= row[0] <= row[-1] <= last:
+        return False
     if facts.is_universal(region):
-        return facts.end_of(region) in held and all(p in held for p in range(facts.points))
+        return facts.end_of(region) in held and held.issuperset(range(facts.points))
     return facts.bases[region] <= held

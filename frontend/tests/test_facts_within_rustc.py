@@ -47,9 +47,9 @@ class SameLiveness(unittest.TestCase):
         for sup, sub, spot in tables.subset_base.located:
             mentioned[sup].add(spot.location)
             mentioned[sub].add(spot.location)
-        for region in {*own, *printed} - set(tables.universal_region):
-            self.assertLessEqual(own[region], printed.get(region, set()), region)
-            self.assertLessEqual(printed.get(region, set()) - own[region], mentioned[region], region)
+        for region in {*own, *printed.said} - set(tables.universal_region):
+            self.assertLessEqual(own[region], printed.at(region), region)
+            self.assertLessEqual(printed.at(region) - own[region], mentioned[region], region)
         return sum(map(len, own.values()))
 
 
