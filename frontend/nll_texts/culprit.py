@@ -1,12 +1,15 @@
 """The token of a refused line that the kind of its fault is about, and what is wrong with it."""
 
 import re
+import sys
 from typing import NamedTuple
 
 from .forms import FACTS, FACTS_ORDER, KINDS, MIR, MIR_ORDER, PLACE
+from .shapes import Misfit, Shapes
 
 TOKEN = re.compile(r"'?[A-Za-z0-9_]+|->|[=&()<>,:.*+?-]")
 NUMBER = re.compile(r"0|[1-9][0-9]{0,8}")
+DEEPEST = 20_000    # calls, for types of 4,096 nodes inside one another
 
 
 class Culprit(NamedTuple):
@@ -23,11 +26,13 @@ class Before:
         self.names, self.universals = {"'static": 0}, {"'static"}
         self.structs, self.variables, self.begun = {}, 0, 0
         self.points = self.blocks = None
+        self.typed = []     # the lines that declare structs and variables
         self.last = ""
         for number, line in enumerate(lines, 1):
             words = TOKEN.findall(line)
             if number > 1 and words and not line.lstrip(" \t\r").startswith("#"):
                 self.add(number, *words)
+                self.typed += [line] if words[0] in ("struct", "let") else []
 
     def add(self, number, first, second="", *_):
         if first in ("universal", "region"):
@@ -48,8 +53,13 @@ class Before:
 def culprit(kind, lines):
     """Of the last of these lines, which the program refuses with a fault of this kind."""
     line, before, is_mir = lines[-1], Before(lines[:-1]), lines[0].split()[:1] == ["nll-mir"]
-    find = {"syntax": syntax, "unknown": unknown, "duplicate": duplicate, "range": out_of_range}.get(kind)
+    find = {"syntax": syntax, "unknown": unknown, "duplicate": duplicate, "range": out_of_range, "shape": misfit,
+            "type size": misfit, "limit points": too_many, "limit edges": too_many, "limit constraints": too_many,
+            "limit universals": too_many, "limit regions": too_many, "limit variables": too_many,
+            "limit structs": too_many}.get(kind)
     found = find(line, [*TOKEN.finditer(line)], before, is_mir) if find else None
+    if found and find is too_many:
+        return found._replace(why=f"{found.why}: {KINDS[kind]}")
     return found or Culprit(0, KINDS.get(kind, "see docs/FORMATS.md"))
 
 
@@ -89,6 +99,7 @@ def fits(tokens):
 def unknown(_, tokens, before, is_mir):
     own = own_names(tokens) if tokens[0][0] == "struct" else set()
     declared = {"let": 2, "struct": 2}.get(tokens[0][0], 0)    # a line may name what it declares
+    called = next((word.start() for call, word in zip(tokens, tokens[1:]) if call[0] == "call"), -1)
     for token in tokens[declared:]:
         word = token[0]
         if word.startswith("'") and word not in before.names and word not in own:
@@ -97,7 +108,7 @@ def unknown(_, tokens, before, is_mir):
             return at(token, f"is no universal region; line {before.names[word]} declares it as one of the others")
         if is_mir and re.fullmatch(r"_[0-9]+", word) and int(word[1:]) >= before.variables:
             return at(token, "is no variable that a `let` line declares")
-        if is_mir and word[0].isupper() and word not in before.structs and word not in own:
+        if is_mir and word[0].isupper() and word not in before.structs and word not in own and token.start() != called:
             return at(token, "is no struct that an earlier line declares")
     return None
 
@@ -140,3 +151,26 @@ def first_above(tokens, prefix, count, noun):
         if token[0].startswith(prefix) and NUMBER.fullmatch(number) and int(number) >= count:
             return at(token, f"is no {noun}: {noun}s are {prefix}0 to {prefix}{count - 1}")
     return None
+
+
+def misfit(_, tokens, before, __):
+    """Where types don't fit, or one is too large."""
+    sys.setrecursionlimit(max(sys.getrecursionlimit(), DEEPEST))
+    shapes = Shapes()
+    for line in before.typed:
+        shapes.declare([*TOKEN.finditer(line)])
+    try:
+        shapes.judge(tokens)
+    except Misfit as found:
+        return at(found.token, found.why)
+    return None
+
+
+def too_many(_, tokens, __, ___):
+    """What a line adds past a limit."""
+    first = tokens[0][0]
+    if first in ("points", "blocks"):
+        return at(tokens[1], "is too many")
+    if first in ("universal", "region", "let", "struct"):
+        return at(tokens[1], "is one too many")
+    return at(tokens[0], "adds one too many")

@@ -21,6 +21,8 @@ Says of each text that `nllc check` refuses which line and token is wrong, and w
 says. Status 0: no fault; 1: faults; 2: a text or the words were refused; 3: failed."""
 
 REFUSED = re.compile(r"nllc: line (\d+): (.*)")
+OF_NO_LINE = {"nllc: limit constraints": "limit constraints: all lines together ask for more constraints than the "
+                                         "1,048,576 that there may be"}
 MOST_SHOWN = 200    # letters of a line
 
 
@@ -47,7 +49,7 @@ def explain(path):
     elif status in (0, 1):
         lines = [f"{shown}: {line}" for line in out.splitlines()]
     else:
-        lines = [f"{shown}: {said}"]
+        lines = [f"{shown}: {OF_NO_LINE.get(said, said)}"]
     for line in lines:
         print(visible(line))
     return status

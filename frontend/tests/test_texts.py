@@ -17,6 +17,11 @@ from nll_texts.explain import refused  # noqa: E402
 RUN = [sys.executable, os.path.join(ROOT, "frontend", "run")]
 HEAD = "nll-facts 1\npoints 3\n"
 BODY = "nll-mir 1\nlet _0: int\nblocks 2\nblock bb0\n"
+TYPES = "nll-mir 1\nregion 'r\nstruct Pair <'a +, T +> (&'a T, int)\nlet _0: int\nlet _1: Pair<'r, int>\n"
+USED = TYPES + "let _2: (int, &'r int)\nblocks 2\nblock bb0\n"
+DEEP = "&'r " * 4096 + "int"                # 4,097 nodes
+WIDE = "(" + ", ".join(["int"] * 70) + ")"  # 71 nodes
+TWICE = f"nll-mir 1\nregion 'r\nstruct D <T +> (({', '.join(['T'] * 70)}))\nlet _0: D<{WIDE}>\n"   # a field of 1 + 70 * 71
 
 
 class Texts(unittest.TestCase):
@@ -112,6 +117,51 @@ class Explain(Texts):
         (BODY + "_0 = &'r _0\n", "5:7: unknown: `'r` is no region that an earlier line declares\n    _0 = &'r _0"),
         (BODY + "return\nblock bb0\n", "6:7: range: `bb0` isn't the next block, which is bb1\n    block bb0"),
         (BODY + "return\nend\n", "6:1: range: `end` comes too early: of 2 blocks there are 1\n    end"),
+        (TYPES + "let _2: Pair<int>\n", "6:9: shape: `Pair` takes <'a, T>, in this order; here it has 1 type\n"
+         "    let _2: Pair<int>"),
+        (TYPES + "let _2: (int, Pair<int, 'r>)\n", "6:15: shape: `Pair` takes <'a, T>, in this order; here it has 1 region and "
+         "1 type\n    let _2: (int, Pair<int, 'r>)"),
+        (TYPES + "let _2: Pair\n", "6:9: shape: `Pair` takes <'a, T>, in this order; here it has none\n    let _2: Pair"),
+        (TYPES + "struct One <T +> (int, T<int>)\n", "6:24: shape: `T` takes no arguments; here it has 1 type\n"
+         "    struct One <T +> (int, T<int>)"),
+        (USED + "_0 = copy _1\n", "9:6: shape: `copy` doesn't fit: the operand is of type Pair<int>, and the place of int\n"
+         "    _0 = copy _1"),
+        (USED + "_2.1 = &'r mut _0\n", "9:8: shape: `&` doesn't fit: the borrow is of type &mut int, and the place of &int\n"
+         "    _2.1 = &'r mut _0"),
+        (USED + "read _1.0.0\n", "9:11: shape: `0` asks for a part 0, and `_1.0` is &int\n    read _1.0.0"),
+        (USED + "_0 = copy _0.*\n", "9:14: shape: `*` asks for a reference, and `_0` is int\n    _0 = copy _0.*"),
+        (USED + "_2 = make (int, &'r int) (const)\n", "9:6: shape: `make` has 1 operands, and the type (int, &int) has 2 parts\n"
+         "    _2 = make (int, &'r int) (const)"),
+        (USED + "_2 = make (int, &'r int) (const, const)\n", "9:34: shape: `const` doesn't fit: the operand is of type int, and "
+         "part 1 of (int, &int) of &int\n    _2 = make (int, &'r int) (const, const)"),
+        (USED + "_0 = make int ()\n", "9:6: shape: `make` has 0 operands, and the type int has no parts\n    _0 = make int ()"),
+        (USED + "_0 = make () ()\n", "9:6: shape: `make` doesn't fit: what is made is of type (), and the place of int\n"
+         "    _0 = make () ()"),
+        (USED + "switch copy _1 bb0\n", "9:8: shape: `copy` doesn't fit: the operand is of type Pair<int>, and what a switch "
+         "takes of int\n    switch copy _1 bb0"),
+        (USED + "_0 = call F (const: int, copy _0: (int)): int -> bb1\n", "9:26: shape: `copy` doesn't fit: the operand is of type "
+         "int, and the type after it of (int)\n    _0 = call F (const: int, copy _0: (int)): int -> bb1"),
+        ("nll-mir 2\nlet _0: int\nblocks 1\nblock bb0\n_0 = call where (): fn(int) -> int -> bb0 unwind bb0\n", "5:1: shape: `_0` "
+         "doesn't fit: the place is of type int, and the result of fn(int) -> int\n"
+         "    _0 = call where (): fn(int) -> int -> bb0 unwind bb0"),
+        (f"nll-mir 1\nregion 'r\nlet _0: {DEEP}\n", "3:9: type size: `&` begins a type of 4,097 nodes, and a type may have 4,096\n"
+         f"    {f'let _0: {DEEP}'[:200]}"),
+        (TWICE + "blocks 1\nblock bb0\nread _0.0\n", "7:9: type size: `0` leads to a type of 4,971 nodes, and a type may have 4,096\n"
+         "    read _0.0"),
+        (TWICE + f"blocks 1\nblock bb0\n_0 = make D<{WIDE}> (const)\n", "7:6: type size: `make` makes a part 0 with a type of more "
+         f"than 4,096 nodes\n    {f'_0 = make D<{WIDE}> (const)'[:200]}"),
+        ("nll-facts 1\npoints 1048577\n", "2:8: limit points: `1048577` is too many: there may be 1,048,576 points\n    points 1048577"),
+        (HEAD + "universal 'a\n", "3:11: limit universals: `'a` is one too many: there may be 256 universal regions, 'static included\n"
+         "    universal 'a"),
+        (HEAD + "region 'a\n", "3:8: limit regions: `'a` is one too many: there may be 65,536 regions\n    region 'a"),
+        (HEAD + "next 0 1\n", "3:1: limit edges: `next` adds one too many: there may be 4,194,304 edges\n    next 0 1"),
+        (HEAD + "constraint 'static 'static 1\n", "3:1: limit constraints: `constraint` adds one too many: there may be 1,048,576 "
+         "constraints\n    constraint 'static 'static 1"),
+        (BODY + "nop\n", "5:1: limit points: `nop` adds one too many: there may be 1,048,576 points\n    nop"),
+        (BODY + "goto bb1\n", "5:1: limit edges: `goto` adds one too many: there may be 4,194,304 edges\n    goto bb1"),
+        ("nll-mir 1\nlet _0: int\n", "2:5: limit variables: `_0` is one too many: there may be 65,536 variables\n    let _0: int"),
+        ("nll-mir 1\nstruct S ()\n", "2:8: limit structs: `S` is one too many: there may be 1,024 structs\n    struct S ()"),
+        (HEAD, "1: limit text: the text has more than 67,108,864 bytes\n    nll-facts 1"),
     )
 
     def test_the_token_and_why(self):
@@ -125,6 +175,25 @@ class Explain(Texts):
         path = self.write("text", self.ROWS[0][0])
         done = self.run_words("explain", path)
         self.assertEqual((done.returncode, done.stdout, done.stderr), (2, f"{path}:{self.ROWS[0][1]}\n", ""))
+
+    def test_by_what_the_program_says_of_types_and_limits(self):
+        lines = [f"universal 'a{n}" for n in range(256)]
+        path = self.write("many", "\n".join([HEAD.strip(), *lines]))
+        self.assertEqual(self.run_words("explain", path).stdout, f"{path}:258:11: limit universals: `'a255` is one too many: there "
+                         "may be 256 universal regions, 'static included\n    universal 'a255\n")
+        path = self.write("types", USED + "_0 = copy _1\n")
+        self.assertEqual(self.run_words("explain", path).stdout, f"{path}:9:6: shape: `copy` doesn't fit: the operand is of type "
+                         "Pair<int>, and the place of int\n    _0 = copy _1\n")
+        path = self.write("deep", f"nll-mir 1\nregion 'r\nlet _0: {DEEP}\n")
+        self.assertIn(":3:9: type size: `&` begins a type of 4,097 nodes", self.run_words("explain", path).stdout)
+
+    def test_constraints_of_no_line(self):
+        program = self.write("full", "#!/bin/sh\necho 'nllc: limit constraints' >&2\nexit 2\n")
+        os.chmod(program, 0o755)
+        self.environment["NLLC"] = program
+        done = self.run_words("explain", self.write("body", BODY))
+        self.assertEqual((done.returncode, done.stdout), (2, f"{self.room}/body: limit constraints: all lines together ask for more "
+                                                          "constraints than the 1,048,576 that there may be\n"))
 
     def test_bytes(self):
         path = os.path.join(self.room, "bytes")
