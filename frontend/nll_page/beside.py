@@ -31,7 +31,7 @@ FORMS = {
     "uses": re.compile(r"# uses '(\w+): ([\d ]+)"),
     "drops": re.compile(r"# drops '(\w+): ([\d ]+)"),
     "needs": re.compile(r"# needs '(\w+) '(\w+)"),
-    "gone": re.compile(r"# gone (\d+), (\d+):(\d+), (E\d+) of (\w+), by ([\d ]+):([\d ]*)"),
+    "gone": re.compile(r"# gone (\d+), (\d+):(\d+), (E038[124]) of (\w+), by ([\d ]+):([\d ]*)"),
     "rustc": re.compile(r"# rustc (\d+):(\d+): (.*)"),
     "help:": re.compile(r"# help: (.*)"),
     "note:": re.compile(r"# note: (.*)"),

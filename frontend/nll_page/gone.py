@@ -5,19 +5,20 @@ from .snippets import whole_line
 from .words import Code
 
 MOST_LINES = 6
+EARLIER = "an earlier statement"    # one whose line no remark says
 
 
 def head(content, one, error):
-    """What is wrong, with rustc's name of the place."""
-    what = Code(error.named() or one.what)
+    """What is wrong, with rustc's name of the place where the text has its error."""
+    what = Code(error and error.named() or one.what)
     if one.code == "E0381":
         return [what, " is used here, and may have no value yet"]
     if one.code == "E0384":
         return [what, " is assigned to here, may have a value already, and isn't ", Code("mut")]
-    part = " a part of it" if "partially" in error.words else " it"
+    part = " a part of it" if error and "partially" in error.words else " it"
     by = ["an earlier turn of the loop"] if one.since == [one.point] else \
         words.joined([[f"line {line}"] for line in lines_of(content.facts, one.since)], " or ")
-    return [what, " is used here, and ", *by, " may have moved", part]
+    return [what, " is used here, and ", *(by or [EARLIER]), " may have moved", part]
 
 
 def cause(content, one, error):
@@ -28,9 +29,10 @@ def cause(content, one, error):
     if one.code == "E0381":
         return ["a way leads here on which nothing is assigned to it", *walk]
     if one.code == "E0384":
-        given = "argument" in error.words.partition("`")[0]
-        return ["the caller has given it one" if given else "it has one since ", *([] if given else made), *walk]
-    return [*made, " moves it, and a way leads from there to here on which it gets no new value", *walk]
+        given = "argument" in error.words.partition("`")[0] if error else not one.since
+        return ["the caller has given it one" if given else "it has one since ",
+                *([] if given else made or [EARLIER]), *walk]
+    return [*(made or [EARLIER]), " moves it, and a way leads from there to here on which it gets no new value", *walk]
 
 
 def lines_of(facts, points):

@@ -72,6 +72,9 @@ class Commands(Folder):
         with mock.patch.dict(os.environ, {"NLLC": self.path("nllc")}):
             return command.answered(self.path("pick.facts"), file_bytes(SAMPLES, "pick.facts"), True)
 
+    # The help has three ways out. The first is that of rustc 1.95, which refuses pick.rs with "consider adding the following bound:
+    # `'b: 'a`"; the second is docs/FROM-RUST.md's "give both arguments one lifetime". With either one rustc takes pick.rs. The third
+    # is the one that is left where the caller can promise neither.
     def test_faults_in_words(self):
         self.assertEqual(self.answered()["lines"], [
             f"{self.folder}/pick.rs:7: `'b` must outlive `'a`, which the signature doesn't say",

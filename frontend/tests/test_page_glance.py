@@ -112,6 +112,27 @@ class Labels(unittest.TestCase):
         rows = [("a.html", index.row_of(content, "grow"))]
         self.assertIn("1 function with errors of moves<", index.whole_verdict(rows))
 
+    def test_moves_of_a_text_without_errors_of_rustc(self):
+        for gone, said in (
+                ("E0382 of a, by 1 2 3: 1", ("`a` is used here, and line 3 may have moved it", "line 3 (`let a = &mut v;`) moves it, and "
+                                             "a way leads from there to here on which it gets no new value (by lines 3, 4, 5)")),
+                ("E0382 of a, by 3:", ("`a` is used here, and an earlier statement may have moved it", "an earlier statement moves it, "
+                                       "and a way leads from there to here on which it gets no new value")),
+                ("E0381 of a, by 0 3:", ("`a` is used here, and may have no value yet", "a way leads here on which nothing is assigned "
+                                         "to it")),
+                ("E0384 of a, by 3: 1", ("`a` is assigned to here, may have a value already, and isn't `mut`",
+                                         "it has one since line 3 (`let a = &mut v;`)")),
+                ("E0384 of a, by 3:", ("`a` is assigned to here, may have a value already, and isn't `mut`",
+                                       "the caller has given it one"))):
+            with self.subTest(gone=gone):
+                content = content_of(*LOAN[:-5], f"# gone 3, 5:5, {gone}")
+                told, = telling.all_of(content)
+                self.assertEqual(tuple(plain(words) for words in (told.head, told.cause)), said)
+                self.assertIn('aria-label="Moves and assignments">', page(content))
+
+    def test_a_remark_of_another_error_is_for_the_reader(self):
+        self.assertEqual(telling.all_of(content_of(*LOAN[:-5], "# gone 3, 5:5, E0596 of a, by 1 2 3: 1")), [])
+
     def test_words_that_are_marked(self):
         made = code_part(Source("g.rs", 1, SOURCE), SOURCE[2], labels.labels_of(content_of(*LOAN))[3])
         self.assertEqual("".join(re.findall(r'<span class="[^"]*at made">([^<]*)<', made)), "&amp;mut v")
