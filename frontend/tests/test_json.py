@@ -7,6 +7,7 @@ import subprocess
 import unittest
 
 import facts_support as support
+from nll_facts.rustc import find_rustc
 from schema_checker import errors
 from test_facts_command import RUST, Room, needs_known
 from test_project import QUICK
@@ -36,6 +37,21 @@ pub fn idle() {
     let mut unused = 1;
 }
 """
+
+
+# What may be null, by the published shape: rustc's book, "JSON output".
+NULLABLE = [(key,) for key in ("code", "explanation", "label", "suggested_replacement", "suggestion_applicability", "expansion",
+                               "rendered")]
+
+
+def kinds_in(thing, path=(), found=None):
+    """For each place in a value the kinds of what stands there: a key's place is its name, all items of a list have one."""
+    found = {} if found is None else found
+    found.setdefault(path, set()).add(type(thing).__name__)
+    for key, one in thing.items() if isinstance(thing, dict) else [("[]", one) for one in thing] if isinstance(thing, list) else ():
+        inside = path[:path.index("children")] if key == "[]" and "children" in path else (*path, key)   # a child is a diagnostic
+        kinds_in(one, inside, found)
+    return found
 
 
 def with_schema():
@@ -68,6 +84,31 @@ class OfRust(Room):
         for part in ("spans", "children"):
             self.assertEqual(own[part][0].keys(), theirs[part][0].keys())
         self.assertEqual(own["spans"][0]["text"][0].keys(), theirs["spans"][0]["text"][0].keys())
+
+    def test_each_key_has_what_rustc_has_there(self):
+        """What rustc prints for the same file, and what cargo hands on as the `message` of a `compiler-message`: editors read that."""
+        path = self.write("a.rs", FAULTS)
+        plain = subprocess.run([find_rustc(), "--crate-type=lib", "--edition=2021", "--error-format=json", "--emit=metadata",
+                                f"--out-dir={self.room}", path], capture_output=True, check=False, encoding="utf-8", cwd=self.room)
+        theirs = [json.loads(line) for line in plain.stderr.splitlines()]
+        known = {}
+        for one in theirs:
+            kinds_in(one, found=known)
+        _, lines = self.rust(path)
+        own = [one for one in lines if one["rendered"].startswith("error") and one["rendered"] not in
+               [their["rendered"] for their in theirs]]
+        self.assertEqual(len(own), 3)
+        for line in lines:
+            for place, kinds in kinds_in(line).items():
+                self.assertLessEqual(kinds, known.get(place, set()) | ({"NoneType"} if place[-1:] in NULLABLE else set()), place)
+            self.assertEqual(line.keys(), theirs[0].keys())
+            for span in line["spans"]:
+                self.assertEqual(span.keys(), theirs[0]["spans"][0].keys())
+                self.assertLess(span["byte_start"], span["byte_end"])
+                self.assertEqual(len(span["text"]), span["line_end"] - span["line_start"] + 1)
+            self.assertIn(line["level"], ("error", "warning"))
+            self.assertLessEqual({one["level"] for one in line["children"]}, {"note", "help"})
+            self.assertEqual(line["$message_type"], "diagnostic")
 
     def test_places_and_labels(self):
         _, lines = self.rust(self.write("a.rs", FAULTS), "grow")
