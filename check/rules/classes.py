@@ -12,9 +12,7 @@ UNEXPLAINED = "unexplained"
 BEFORE_ELABORATION = "drops before elaboration"
 LEAVES_BY_PANIC = "a panic leaves by return"
 BOUND_OF_ALIAS = "bounds of impl Trait"
-BIVARIANT = "arguments without a sign"
 IN_THE_DUMP = "impl Trait in the dump alone"
-CLASSES = (BEFORE_ELABORATION, LEAVES_BY_PANIC, BOUND_OF_ALIAS, BIVARIANT, IN_THE_DUMP, UNEXPLAINED)
 
 
 class Difference(NamedTuple):
@@ -61,7 +59,7 @@ def of_bounds(both: Both) -> set[tuple[int, int]]:
     """Where a variable is live, and rustc says that a region of its type isn't: a bound names those that are."""
     live = both.function.body.live
     return numbered(both, ((region, location) for region, location in bases(both.tables)
-                           if location not in live.get(region, ())))
+                           if location not in live.at(region)))
 
 
 def of_panics(both: Both) -> set[tuple[int, int]]:

@@ -6,12 +6,15 @@
 
 Of each function: base elements, constraints and values of the regions that both have. It prints a table of the classes
 of differences, and each difference that is in none. Status 1 where there is one. What a MIR text's problem is, the program
-of frontend/world_program.sh says, or that of the variable WORLD_PROGRAM.
+of frontend/world_program.sh says, or that of the variable WORLD_PROGRAM. The folder debian/ beside this file is a project
+that depends on crates of Debian's packages; `-p NAME` chooses one.
 """
 
 import argparse
 import os
 import pathlib
+import resource
+import subprocess
 import sys
 import tempfile
 from collections import Counter
@@ -58,25 +61,38 @@ def main(words):
                         help="values alone, and the rest of functions in which a value differs: quicker")
     parser.add_argument("--processes", type=int, help="how many; else one for each processor")
     asked = parser.parse_args(own)
+    rows, seconds = [], 0
     try:
-        rows = {}
-        for crate in asked.crate:
-            with tempfile.TemporaryDirectory(prefix="nll-rules.") as room:
-                units = dumps_of_crate(crate, room, options)
-                rows[crate] = [row for _, dumps in units for row in compared(dumps, room, asked)]
-        if asked.file:
-            with tempfile.TemporaryDirectory(prefix="nll-rules.") as room:
-                dumps, _ = dumps_of_file(asked.file, room, options or ["--edition=2021"])
-                rows[asked.file] = compared(dumps, room, asked)
+        for name, dumps, room in all_dumps(asked, options):
+            begun = seconds_so_far()
+            found = compared(dumps, room, asked)
+            seconds += seconds_so_far() - begun
+            tell(name, found)
+            rows += found
     except Refusal as refusal:
         print(f"check/run rules: {refusal}", file=sys.stderr)
         return 2
-    for name, found in rows.items():
-        tell(name, found)
-    everything = [row for found in rows.values() for row in found]
-    if len(rows) > 1:
-        tell("all", everything)
-    return tell_unexplained(everything)
+    tell("all", rows)
+    print(f"  {seconds:.0f} s of a processor, rustc's time aside")
+    return tell_unexplained(rows)
+
+
+def all_dumps(asked, options):
+    """The name and the functions of each crate, and of the file, with the folder in which they are."""
+    for folder in asked.crate:
+        with tempfile.TemporaryDirectory(prefix="nll-rules.") as room:
+            # A crate that a build script needs, too, is checked twice; once is enough.
+            for name, dumps in dict(dumps_of_crate(folder, room, options)).items():
+                yield name, dumps, room
+    if asked.file:
+        with tempfile.TemporaryDirectory(prefix="nll-rules.") as room:
+            yield asked.file, dumps_of_file(asked.file, room, options or ["--edition=2021"])[0], room
+
+
+def seconds_so_far():
+    """The time that a processor was at work for this process and those that have ended below it."""
+    used = [resource.getrusage(who) for who in (resource.RUSAGE_SELF, resource.RUSAGE_CHILDREN)]
+    return sum(one.ru_utime + one.ru_stime for one in used)
 
 
 answering: Answering
@@ -103,7 +119,7 @@ def row_of(made):
     if made.text:
         try:
             compare(made, row)
-        except (ValueError, KeyError, Refusal, Unread, NotSaid) as failure:
+        except (ValueError, KeyError, Refusal, Unread, NotSaid, subprocess.TimeoutExpired) as failure:
             row.failure = f"{type(failure).__name__} {failure}"
     return row
 

@@ -133,7 +133,7 @@ class Outline(NamedTuple):
 def read_outline(mir_path: str) -> Outline:
     """The outline of a `.mir` file, which takes a tenth of the time of `read_body`."""
     lines = read_lines(mir_path)
-    path, begin = path_of(mir_path, lines), begin_of(lines)
+    path, begin = path_of(mir_path, lines), begin_of(mir_path, lines)
     end = lines.index("}", begin) if "}" in lines else len(lines)
     written = [found[1] for found in map(SPOT.search, lines[begin:end]) if found]
     result = next((span_of(found[1]) for found in map(RESULT.match, lines[begin:end]) if found), None)
@@ -155,7 +155,7 @@ def read_body(mir_path: str) -> Body:
     """The body of a `.mir` file; names and the order of constraints come from the graph of regions beside it."""
     lines = read_lines(mir_path)
     body = Body(path=path_of(mir_path, lines))
-    begin = begin_of(lines)
+    begin = begin_of(mir_path, lines)
     read_regions(body, lines[:begin])
     read_header(body, lines[begin])
     read_code(body, lines[begin + 1:])
@@ -170,13 +170,20 @@ def path_of(mir_path: str, lines: list[str]) -> str:
     """The path of the function, which the first line has."""
     title = TITLE.fullmatch(lines[0]) if lines else None
     if not title:
-        raise Refusal(f"{mir_path} is no MIR dump that is known here; rustc 1.95 is known to work")
+        raise unknown(mir_path)
     return title[1]
 
 
-def begin_of(lines: list[str]) -> int:
+def begin_of(mir_path: str, lines: list[str]) -> int:
     """The line with which the function begins, below what is said of its regions."""
-    return next((i for i, line in enumerate(lines[1:], 1) if line and line[0] not in "/|"), 1)
+    begin = next((i for i, line in enumerate(lines[1:], 1) if line and line[0] not in "/|"), None)
+    if begin is None:
+        raise unknown(mir_path)
+    return begin
+
+
+def unknown(mir_path: str) -> Refusal:
+    return Refusal(f"{mir_path} is no MIR dump that is known here; rustc 1.95 is known to work")
 
 
 def read_regions(body: Body, lines: list[str]) -> None:
@@ -219,6 +226,8 @@ def read_lines(path: str) -> list[str]:
     except OSError:
         raise Refusal(f"{path} isn't there: this rustc's MIR dumps have another form; "
                       f"1.95 is known to work") from None
+    except UnicodeDecodeError:
+        raise Refusal(f"{path} isn't UTF-8: this rustc's MIR dumps have another form; 1.95 is known to work") from None
 
 
 def read_header(body: Body, line: str) -> None:

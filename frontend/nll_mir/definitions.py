@@ -44,6 +44,8 @@ def own_signs(type: Type) -> list[Optional[str]]:
         return ["+"] * count
     if type.form == "fn":
         return ["-"] * (count - 1) + ["+"]
+    if type.form == "function":
+        return ["=", "+"]     # what the signature doesn't name is invariant
     if type.form == "dyn":
         return ["="] * (count - 1) + ["+"]
     if type.form == "adt" or is_opaque(type):

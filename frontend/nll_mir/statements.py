@@ -20,7 +20,7 @@ CAST = re.compile(r" \((?:PointerCoercion\((\w+)[^()]*(?:\([^()]*\))?[^()]*\)|(\
 FAKE_READ = re.compile(r"FakeRead\(\w+(?:\(\w+\))?, ")
 VALUE = re.compile(r"ConstValue\([A-Za-z]+(?:\([^()]*\)| \{[^{}]*\})?: ")
 OPERAND = ("copy ", "move ", "const ", "ConstValue(", "_")
-NOTHING = ("AscribeUserType(", "Coverage", "nop", "ConstEvalCounter", "BackwardIncompatibleDropHint", "assume(")
+NOTHING = ("Coverage", "nop", "ConstEvalCounter", "BackwardIncompatibleDropHint", "assume(")
 
 
 class Step(NamedTuple):
@@ -253,9 +253,7 @@ def read_statement(text: str):
     if text.startswith(NOTHING):
         return Nothing()
     reader = Lines(simplified(text))
-    if reader.match(FAKE_READ):
-        return Read(reader.place())
-    if reader.takes("PlaceMention("):
+    if reader.match(FAKE_READ) or reader.takes("PlaceMention(") or reader.takes("AscribeUserType("):
         return Read(reader.place())
     if not text.startswith(("_", "(")):
         raise NotSaid("a statement that isn't understood", text[:60])

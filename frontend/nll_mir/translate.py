@@ -274,7 +274,19 @@ class Translator:
         kinds = {"use": self.use, "ref": self.borrow, "mut": self.borrow, "fake": self.borrow, "raw": self.raw,
                  "cast": self.cast, "pair": self.pair, "tuple": self.tuple, "array": self.array, "repeat": self.array,
                  "make": self.make}
-        kinds[line.kind](line, paths)
+        (self.hide if self.hides(line) else kinds[line.kind])(line, paths)
+
+    def hides(self, line: Assign) -> bool:
+        """Whether the place is of an `impl Trait` and the value of another type, which it hides."""
+        target = self.walk(line.place).type
+        if not is_opaque(target) or self.structs.is_int(target):
+            return False
+        return line.kind != "use" or not self.fits(self.operand(line.operands[0])[1], target)
+
+    def hide(self, line: Assign, paths: Paths) -> None:
+        self.approximate("a value that an `impl Trait` hides, by what rustc asks of both types")
+        operands = [(operand, self.operand(operand)[1]) for operand in line.operands]
+        self.call(line.place, "hide", operands, self.walk(line.place).type, paths.pairs())
 
     def use(self, line: Assign, paths: Paths) -> None:
         operand, = line.operands
@@ -385,11 +397,6 @@ class Translator:
             return
         if line.type is None:
             parts = target.type.parts[0].parts if target.type.form in ("closure", "coroutine") else ()
-            if is_opaque(target.type):
-                self.approximate("a closure whose type isn't printed, by what rustc asks of the type that hides it")
-                operands = [(operand, self.operand(operand)[1]) for operand in line.operands]
-                self.call(line.place, "closure", operands, target.type, paths.pairs())
-                return
             if len(parts) != len(line.operands):
                 raise NotSaid("a coroutine")
             self.call(line.place, "closure", list(zip(line.operands, parts)), target.type, paths.bounds() | paths.needs())

@@ -239,7 +239,9 @@ class Reader:
             return Type("fn", "", tuple(parts))
         path = self.path()
         self.must("}")
-        return Type("function", path.name, (Type("path", "", path.parts), Type("fn", "", tuple(parts))))
+        signature = Type("fn", "", tuple(parts))
+        others = set(path.regions()) - set(signature.regions())
+        return Type("function", path.name, (Type("path", "", tuple(one for one in path.regions() if one in others)), signature))
 
     def listed(self, closer: str) -> Iterator[Type]:
         while not self.takes(closer):
@@ -314,10 +316,13 @@ class Reader:
             form = "alias"
             self.qualified(names, parts)
             self.must("::")
+        before = len(names)
         while True:
             self.segment(names, parts)
             if not self.takes("::"):
                 break
+        if len(names) > before + 1:     # of a struct inside a method: `<T as Trait>::method::Struct<..>`
+            form = "adt"
         if not parts and form == "adt":
             form = "plain"
         return Type(form, "::".join(names), tuple(parts))

@@ -58,6 +58,8 @@ class Planted(unittest.TestCase):
         "an operand": ("variants", "_6 = copy _1.1", "_6 = copy _7"),
         "a drop": ("dropped", "drop _2 ->", "switch const"),
         "a bound": ("make_pair", " where 'r6: 'r7", ""),
+        "a function's argument": ("wrapped", ", 'r5: 'r4", ", 'r4: 'r5, 'r5: 'r4"),
+        "a pattern's type": ("Maybe::taken", "read _3.*", "nop"),
         "a mark": ("dropped", "struct Loud <'p1 +> drop (", "struct Loud <'p1 + ?> drop ("),
     }
 

@@ -41,6 +41,10 @@ LINES = {
     "boxed": ["struct Box <'p1 +> ((&'p1 int, int))", "_3 = copy _1.0", "_0 = &'1 _3.0.*"],
     "known": ["universal 'a", "universal 'b", "outlives 'a 'b"],
     "uses_statics": ["struct Opaque0 <'p1 => drop ()", "_9 = call drop(move _10: Opaque0<'1>): int -> bb4 unwind bb8"],
+    "hidden": ["_0 = call hide(move _8: &'1 int, move _9: int): Opaque0<'2> where '1: '3 -> bb6"],
+    "wrapped": ["_0 = call map(move _3: int): Option<'1> where '1: '2, '2: '1, '3: '2 -> bb1 unwind bb2"],
+    "Maybe::taken": ["_3 = &'1 _1.*", "read _3", "read _3.*"],
+    "Loud::next": ["struct Kept <'p1 +> (&'p1 int)", "_2 = call Kept(move _3: &'1 int): Kept<'1> -> bb1"],
     "never": ["_2 = call panic_fmt(move _3: Arguments<'1>): int -> bb5"],
 }
 
@@ -105,10 +109,10 @@ class BadDumps(unittest.TestCase):
         with tempfile.TemporaryDirectory() as room:
             shutil.copytree(mir.folder().name, room, dirs_exist_ok=True)
             [dump] = [dump for dump in mir.dumps_in(room) if dump.name == "fields"]
-            with open(dump.mir, encoding="utf-8") as file:
-                text = change(file.read())
-            with open(dump.mir, "w", encoding="utf-8") as file:
-                file.write(text)
+            with open(dump.mir, "rb") as file:
+                text = change(file.read().decode())
+            with open(dump.mir, "wb") as file:
+                file.write(text if isinstance(text, bytes) else text.encode())
             read_body.cache_clear()
             return text_of(dump, mir.known())
 
@@ -119,7 +123,12 @@ class BadDumps(unittest.TestCase):
                 self.assertEqual((made.text, made.reason), ("", "a dump that isn't whole"))
 
     def test_another_form(self):
-        self.assertEqual(self.changed(lambda text: "strange\n" + text).reason, NOT_READ)
+        for what, change in (("another title", "strange\n".__add__), ("nothing", lambda text: ""),
+                             ("a title alone", lambda text: text[:text.index("fn ")]),
+                             ("another encoding", lambda text: text.encode("utf-16"))):
+            with self.subTest(what=what):
+                made = self.changed(change)
+                self.assertEqual((made.text, made.reason), ("", NOT_READ))
 
     def test_a_type_that_is_not_understood(self):
         made = self.changed(lambda text: text.replace("&'?11 str", "strange(&'?11 str)"))

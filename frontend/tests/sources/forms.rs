@@ -164,3 +164,40 @@ pub fn uses_statics(mut text: String) -> usize {
     drop(kept);
     text.len()
 }
+
+pub fn hidden<'a>(text: &'a str, is_first: bool) -> impl Sized + use<'a> {
+    if is_first {
+        drop(hidden(text, false));
+    }
+    (text, is_first)
+}
+
+pub fn wrapped<'a>(number: Option<u32>, _error: &'a str) -> Option<Result<u32, &'a str>> {
+    number.map(Ok)
+}
+
+pub enum Maybe<T> {
+    Done(T),
+    Gone,
+}
+
+impl<T> Maybe<T> {
+    pub fn taken(&mut self) -> bool {
+        match &*self {
+            Self::Done(_) => {}
+            Self::Gone => return false,
+        }
+        *self = Self::Gone;
+        true
+    }
+}
+
+impl<'a> Iterator for Loud<'a> {
+    type Item = &'a str;
+
+    fn next(&mut self) -> Option<&'a str> {
+        struct Kept<'k>(&'k str);
+        let kept = Kept(self.0);
+        Some(kept.0)
+    }
+}
