@@ -392,7 +392,8 @@ class Translator:
 
     def make(self, line: Assign, paths: Paths) -> None:
         target = self.walk(line.place)
-        if self.structs.is_int(target.type) and target.text:
+        is_plain = all(self.structs.is_int(self.operand(operand)[1]) for operand in line.operands)
+        if is_plain and self.structs.is_int(target.type) and target.text:
             self.plain(line, target.text)
             return
         if line.type is None:
