@@ -1,7 +1,7 @@
 //! Tests of mailboxes and of ledgers, which the threads of owners share, by their public calls
 //! alone, in one thread and in two. Expected values are found by hand.
 //!
-//! Reading order: `exchange`, `settlement`, `mail_one_thread`, `rings`, `mail_rounds`;
+//! Reading order: `exchange`, `settlement`, `mail_one_thread`, `messages`, `rings`, `mail_rounds`;
 //! `two_owners`, `many_owners`, `two_threads`, `ledger_rows`, `ledger_rounds`.
 #![tactic(auto)]
 
@@ -25,5 +25,7 @@ mod ledger_rows;
 mod mail_one_thread;
 #[cfg(test)]
 mod mail_rounds;
+#[cfg(test)]
+mod messages;
 #[cfg(test)]
 mod rings;

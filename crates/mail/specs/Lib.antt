@@ -1,0 +1,4 @@
+pub mod Channel
+pub mod Limits
+pub mod Order
+pub mod Rings
