@@ -60,6 +60,7 @@ class Planted(unittest.TestCase):
         "a bound": ("make_pair", " where 'r6: 'r7", ""),
         "a function's argument": ("wrapped", ", 'r5: 'r4", ", 'r4: 'r5, 'r5: 'r4"),
         "a pattern's type": ("Maybe::taken", "read _3.*", "nop"),
+        "a field's type": ("holder", "move _2: Option<'static>", "move _2: Option<'r5>"),
         "a mark": ("dropped", "struct Loud <'p1 +> drop (", "struct Loud <'p1 + ?> drop ("),
     }
 

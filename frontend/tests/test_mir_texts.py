@@ -45,6 +45,7 @@ LINES = {
     "wrapped": ["_0 = call map(move _3: int): Option<'1> where '1: '2, '2: '1, '3: '2 -> bb1 unwind bb2"],
     "Maybe::taken": ["_3 = &'1 _1.*", "read _3", "read _3.*"],
     "Loud::next": ["struct Kept <'p1 +> (&'p1 int)", "_2 = call Kept(move _3: &'1 int): Kept<'1> -> bb1"],
+    "holder": ["_0 = call Holder(move _2: Option<'static>): int -> bb2"],
     "never": ["_2 = call panic_fmt(move _3: Arguments<'1>): int -> bb5"],
 }
 

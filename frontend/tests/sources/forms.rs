@@ -201,3 +201,11 @@ impl<'a> Iterator for Loud<'a> {
         Some(kept.0)
     }
 }
+
+pub struct Holder {
+    pub kept: Option<&'static str>,
+}
+
+pub fn holder(word: &'static str) -> Holder {
+    Holder { kept: Some(word) }
+}
