@@ -12,6 +12,7 @@ and each of rustc's errors has to be told as the suite of frontend/tests/errors 
 
 import argparse
 import collections
+import glob
 import os
 import random
 import re
@@ -73,6 +74,8 @@ class Changed:
     def __init__(self, crate, folder, seed):
         self.crate, self.folder, self.draw = crate, folder, random.Random(f"{crate.name} {seed}")
         shutil.copytree(os.path.join(crate.folder, "src"), os.path.join(folder, "src"))
+        for text in glob.glob(os.path.join(crate.folder, "*.md")):
+            shutil.copy(text, folder)
         self.texts = {file: self.read(file) for file in self.files()}
         self.functions = {(file, number): function for file, text in self.texts.items()
                           for number, function in enumerate(functions_of(text))}

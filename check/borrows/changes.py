@@ -13,6 +13,7 @@ HELD = "held_here"
 COPIES = ("clone", "to_owned", "to_vec", "to_string", "cloned", "copied", "into_owned")
 MUTABLE = {"iter": "iter_mut", "get": "get_mut", "as_ref": "as_mut", "values": "values_mut", "last": "last_mut",
            "first": "first_mut", "chunks": "chunks_mut", "as_slice": "as_mut_slice", "as_deref": "as_deref_mut"}
+LEAVING = re.compile(r"\b(let|return|break|continue|use|fn|const|static|macro_rules|yield|await)\b|\?")
 # What changes name: a call of what must live forever, and a type with a destructor. They end the crate's root.
 NAMED = """
 #[doc(hidden)]
@@ -225,6 +226,49 @@ def less_mutable(function: Function, text: str, draw: Random) -> list[Edit]:
     return [draw.choice(found)] if found else []
 
 
+def other_move(function: Function, text: str, draw: Random) -> list[Edit]:
+    """A closure's `move` is taken out, or a closure gets one."""
+    tokens = [token for token in function.tokens if token.begin > function.body.begin]
+    found = [Edit(one.begin, two.begin, "") for one, two in zip(tokens, tokens[1:]) if one.text == "move"]
+    found += [Edit(two.begin, two.begin, "move ") for one, two in zip(tokens, tokens[1:])
+              if two.text == "|" and two.kind == "sign" and one.text in ("(", ",", "=", "return")]
+    return [draw.choice(found)] if found else []
+
+
+def in_a_loop(function: Function, text: str, draw: Random) -> list[Edit]:
+    """A statement that declares nothing is done twice."""
+    return around_a_statement(function, text, draw, " for _ in 0..2 {", " }")
+
+
+def in_a_closure(function: Function, text: str, draw: Random) -> list[Edit]:
+    """A closure does a statement that declares nothing, at once or later."""
+    begin, end = draw.choice([(" (|| {", " })();"), (f" let mut {HELD} = || {{", f" }}; {HELD}();"),
+                              (" (move || {", " })();")])
+    return around_a_statement(function, text, draw, begin, end)
+
+
+def around_a_statement(function: Function, text: str, draw: Random, begin: str, end: str) -> list[Edit]:
+    """Puts something around a statement that declares nothing and doesn't leave the function."""
+    spans = [(first, last) for block in function.blocks for first, last in zip([block.begin, *block.ends], block.ends)]
+    found = [(first, last) for first, last in spans if not LEAVING.search(text[first:last])]
+    if not found:
+        return []
+    first, last = draw.choice(found)
+    return [Edit(first, first, begin), Edit(last, last, end)]
+
+
+def used_again(function: Function, text: str, draw: Random) -> list[Edit]:
+    """A variable is looked at once more, behind a statement that may have moved it."""
+    blocks = [block for block in function.blocks if block.ends]
+    block = draw.choice(blocks) if blocks else None
+    known = variables(function, block) if block else []
+    if not known:
+        return []
+    variable = draw.choice(known)
+    ends = [end for end in block.ends if end >= variable.known_from]
+    return [Edit(ends[-1], ends[-1], f" let _ = &{variable.name};")] if ends else []
+
+
 def own_result(function: Function, text: str, draw: Random) -> list[Edit]:
     """In place of a borrow of the caller's the function gives back one of its own copy."""
     head = "".join(token.text for token in function.head)
@@ -237,7 +281,7 @@ def own_result(function: Function, text: str, draw: Random) -> list[Edit]:
 
 CHANGES: tuple[Callable[[Function, str, Random], list[Edit]], ...] = (
     *[held] * 4, *[held_by_closure] * 3, held_to_the_end, given_away, forever, *[out_of_block] * 3, *[without_copy] * 2,
-    *[moved_behind] * 2, *[other_lifetime] * 2, *[without_name] * 2, without_bound, more_mutable, less_mutable,
+    *[moved_behind] * 2, other_move, *[in_a_loop] * 2, *[in_a_closure] * 2, used_again, *[other_lifetime] * 2, *[without_name] * 2, without_bound, more_mutable, less_mutable,
     *[own_result] * 2)
 
 

@@ -3,20 +3,24 @@
 `nllc` skips all of it. It is what faults are told by, in the words of the source.
 """
 
+import os
 from collections import deque
 from typing import Iterable, Iterator, Optional
 
 from .blame import Blame, word_of
+from .captures import captures
 from .desugarings import Desugarings
 from .dumps import Dump
+from .liveness import table_of
 from .loans import Loan, Loans
 from .mir import Body, Reason, Span
 from .moves import MOVES, Moved
 from .places import Place
 from .points import Points
 from .regions import STATIC, Regions
-from .rustc import Error
+from .rustc import Error, Label
 from .tables import Location, Tables
+
 
 class Inside:
     """The constraints between regions that are equal everywhere, for which a text has one name."""
@@ -59,7 +63,7 @@ class Beside:
         own = Loans(self.dump, self.tables, self.body)
         errors = list(errors)
         return [*self.loan_lines(own), *self.reason_lines(), *self.blame_lines(own), *self.use_lines(),
-                *self.need_lines(), *self.gone_lines(errors), *self.rustc_lines(errors)]
+                *self.called_lines(), *self.captured_lines(), *self.need_lines(), *self.gone_lines(errors), *self.rustc_lines(errors)]
 
     def name(self, region: int) -> Optional[str]:
         """The name of the region's class with its `'`, where the text has it."""
@@ -150,6 +154,23 @@ class Beside:
                 if locations:
                     yield f"{word} {self.name(region)}: {self.numbers(locations)}"
 
+    def called_lines(self) -> Iterator[str]:
+        """Where the function stands that a statement over several lines calls, if that is in another line."""
+        for location, statement in sorted(self.body.statements.items()):
+            span = statement.span
+            function = self.body.function_span(location) if span and span.first != span.last else None
+            if function and location in self.number and self.place(function) != "elsewhere" and function.first != span.first:
+                yield f"called {self.number[location]}, {self.place(function)}"
+
+    def captured_lines(self) -> Iterator[str]:
+        """Where a closure over several lines uses what it takes of a region, if that is in another line than its begin."""
+        regions = table_of(self.tables.use_of_var_derefs_origin)
+        for location, variable, use in captures(self.dump, self.body):
+            begin = self.body.statements[location].span
+            if use and begin and location in self.number and self.place(use) != "elsewhere" and use.first != begin.first:
+                names = {self.name(region) for region in regions.get(variable, ())} - {None}
+                yield from (f"captured {self.number[location]} {name}, {self.place(use)}" for name in sorted(names))
+
     def need_lines(self) -> Iterator[str]:
         """What a closure or coroutine needs of lifetimes of the function around it."""
         for sup, sub in self.body.needs:
@@ -172,6 +193,12 @@ class Beside:
             yield f"rustc {error.line}:{error.column}: {error.words()}"
             for label in error.labels:
                 if label.file == self.source:
-                    yield f"label {label.line}:{label.column}-{label.last}:{label.end}: {label.text}".rstrip(": ")
+                    yield f"label {place_words(label)}: {label.text}".rstrip(": ")
+            if error.within:
+                yield f"within {os.path.join(error.root, error.within.file)}, {place_words(error.within)}"
             yield from (f"note: {note}" for note in error.notes)
             yield from (f"help: {one}" for one in error.helps)
+
+
+def place_words(label: Label) -> str:
+    return f"{label.line}:{label.column}-{label.last}:{label.end}"

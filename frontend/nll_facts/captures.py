@@ -13,6 +13,7 @@ from .tables import Location
 MADE = re.compile(r" = (\{(?:closure|coroutine|async|gen)[^{}]*\})(?: \{(.*)\})?")
 OPERAND = re.compile(r"(?:^ ?|, )\w+: (?:copy|move) ")
 BEGIN = re.compile(r"@.*?:(\d+):(\d+): \d+:\d+")
+BORROW = re.compile(r"_(\d+) = &(?:mut )?\(*\**_(\d+)\b")
 TARGET = re.compile(r"(_\d+) = ")
 TAIL = ".-------.nll.0.mir"
 
@@ -22,14 +23,16 @@ class Use(NamedTuple):
 
     span: Optional[Span] = None
     is_behind: bool = False
+    is_of_async: bool = False
 
 
 class Capture(NamedTuple):
-    """That a closure takes a variable: where the closure stands, and how it uses that."""
+    """That a closure takes a variable: where the closure stands, how it uses that, and whether it is an async one."""
 
     home: Optional[Span]
     use: Optional[Span]
     is_behind: bool
+    is_async: bool = False
 
 
 def capture_of(dump, body: Body, variable: Optional[int], uses: Collection[Location]) -> Optional[Capture]:
@@ -38,6 +41,21 @@ def capture_of(dump, body: Body, variable: Optional[int], uses: Collection[Locat
         if body.locals[variable].name is None and MADE.search(body.statements[location].text):
             return capture_at(dump.mir, body.statements[location], Place(variable))
     return None
+
+
+def captures(dump, body: Body) -> Iterator[tuple[Location, int, Optional[Span]]]:
+    """Each statement that takes a variable into a closure or borrows it for one, with the use in there."""
+    borrows = {int(found[1]): (location, int(found[2])) for location, said in body.statements.items()
+               if (found := BORROW.match(said.text))}
+    for location, said in sorted(body.statements.items()):
+        made = MADE.search(said.text)
+        for one in OPERAND.finditer(made[2] or "") if made else ():
+            taken = read_place(made[2], one.end())
+            if taken:
+                use = capture_at(dump.mir, said, taken[0]).use
+                yield location, taken[0].local, use
+                if taken[0].local in borrows:
+                    yield (*borrows[taken[0].local], use)
 
 
 def capture_at(mir: str, said: Statement, place: Place) -> Capture:
@@ -64,11 +82,12 @@ def use_inside(mir: str, closure: str, index: Optional[int]) -> Use:
     for path in closures_of(mir):
         inner = read_body(path)
         own = inner.locals.get(1)
-        if own and closure in own.type and os.path.isfile(path) and index is not None:
+        is_async = own is not None and closure.replace("{", "{async ", 1) in own.type
+        if own and (closure in own.type or is_async) and os.path.isfile(path) and index is not None:
             field = rf"\((?:\(\*_1\)|_1)\.{index}: "
             named = [said for _, said in sorted(inner.statements.items()) if re.search(field, said.text)]
             uses = [deeper(path, inner, said, rf"\(\*\(\*{field}") for said in named]
-            return Use(uses[0].span, all(use.is_behind for use in uses)) if uses else Use()
+            return Use(uses[0].span, all(use.is_behind for use in uses), is_async) if uses else Use(is_of_async=is_async)
     return Use()
 
 

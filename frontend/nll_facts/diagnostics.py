@@ -44,6 +44,8 @@ def of_fault(path: str, told: Said, notes: list[str]) -> Said:
     whole = (place[0], 0, place[0], 0) if place else None
     own = labels.pop(tuple(place), labels.pop(whole, None)) if place else None
     spans = [span(path, place, own, True)] if place else []
+    if told["within"]:
+        spans = [span(*told["within"], own, True), span(path, place, "in this macro invocation", False)]
     spans += [span(path, other, label, False) for other, label in labels.items()]
     children = [child("note", note) for note in notes] + [child("help", one) for one in told["helps"]]
     return {"$message_type": "diagnostic", "message": told["message"],
@@ -102,7 +104,8 @@ def child(level: str, message: str) -> Said:
 def rendered(path: str, told: Said, children: list[Said]) -> str:
     """The same for a person, as rustc lays it out."""
     code = f"[{told['code']}]" if told["code"] else ""
-    place = f" --> {path}:{told['place'][0]}:{told['place'][1] or 1}\n" if told["place"] else ""
+    where, (line, column, *_) = told["within"] or (path, told["place"] or (0, 0))
+    place = f" --> {where}:{line}:{column or 1}\n" if line else ""
     notes = "".join(f"  = {one['level']}: {one['message']}\n" for one in children)
     return f"error{code}: {told['message']}\n{place}{notes}\n"
 
@@ -112,7 +115,7 @@ def others(checked: Checked, answers: list[Said]) -> Iterator[Said]:
     told = {mark for said in answers for mark in marks(said, "errors")}
     differing = {mark: error[3] for said in answers
                  for mark, error in zip(marks(said, "differences"), said["differences"])}
-    told -= {mark for said in answers for kind in ("differences", "refused") for mark in marks(said, kind)}
+    told -= {mark for said in answers for kind in ("differences", "further", "refused") for mark in marks(said, kind)}
     own = {mark_of(error) for error in (*checked.errors, *checked.unanswered)}
     for unit in checked.units:
         for diagnostic in unit.diagnostics():

@@ -27,10 +27,19 @@ def has_answer(dump: Dump, errors: list[Error]) -> bool:
     return dump.is_function or any(error.places and dump.is_inside(*error.places[0], error.column) for error in errors)
 
 
+def is_around(dump: Dump, other: Dump) -> bool:
+    """Whether another function, which is no closure, is declared inside a function."""
+    outer, inner = dump.span, other.span
+    return not other.is_closure and outer is not None and inner is not None and outer.file == inner.file \
+        and (outer.first, outer.column) < (inner.first, inner.column) and (inner.last, inner.end) < (outer.last, outer.end)
+
+
 def is_own(dump: Dump, dumps: list[Dump], error: Error) -> bool:
     if not error.places or not dump.has(error.places[0]):
         return False
     file, line = error.places[0]
+    if any(is_around(dump, other) and other.is_inside(file, line, error.column) for other in dumps):
+        return False
     closures = [other for other in dumps if other.is_closure and other.is_inside(file, line, error.column)]
     if dump.is_closure:
         return dump in closures and not any(other.name.startswith(f"{dump.name}::") for other in closures)

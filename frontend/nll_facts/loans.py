@@ -29,7 +29,7 @@ class Loan:
     """A borrow. `home` is where a temporary is made, or where a closure uses what it borrows.
 
     A closure borrows uniquely what it writes through a variable that isn't `mut` itself, and a variable of which it
-    uses only what is behind it.
+    uses only what is behind it. To rustc what an async closure borrows is as if it were borrowed where it stands.
     """
 
     region: int
@@ -84,7 +84,7 @@ class Loans:
                           if loan.kind == "mut" and loan.target is not None}
 
     def loan(self, dump: Dump, region: int, location: Location) -> Loan:
-        text, span = self.body.statements[location]
+        text, span, _ = self.body.statements[location]
         target, end = read_place(text) or (None, 0)
         way = BORROW.search(text, end)
         kind = (way[1] or "shared").split()[0]
@@ -92,13 +92,14 @@ class Loans:
         variable = target.local if target and not target.steps else None
         capture = capture_of(dump, self.body, variable, self.uses.get(variable, ()))
         root = self.body.locals.get(place.local)
-        home = capture.use if capture else root.span if root and not root.name else None
+        is_of_closure = capture is not None and not capture.is_async
+        home = capture.use if is_of_closure else root.span if root and not root.name else None
         path = path_to(text, way.end(), lambda number: self.body.locals[number].type)
         is_unique = capture is not None and kind == "mut" and root is not None \
             and (not root.is_mutable or capture.is_behind and path.type.startswith("&mut ")) \
             and not ENVIRONMENT.search(root.type)
         return Loan(region, location, kind, place, variable, capture.home if capture else span, path, home,
-                    capture is not None, is_unique)
+                    is_of_closure, is_unique)
 
     @cached_property
     def against(self) -> list[Against]:

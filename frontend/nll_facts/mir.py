@@ -23,10 +23,13 @@ CODE = re.compile(r"(?P<indent> +)(?P<code>\S.*?)\s+// (?:\S+ )*?in scope \d+ at
 SPOT = re.compile(r"^(?!        +debug |    debug \S+ => [^_]).*;\s+// (?:[^/]* )?scope \d+ at (.*)")
 RESULT = re.compile(r" +let (?:mut )?_0: .*;\s+// (?:\S+ )*?in scope \d+ at (.*)")
 LET = re.compile(r"let (mut )?_(\d+): (.*?)(?: as UserTypeProjection .*)?;")
+NO_CALLS = ("drop(", "assert(", "switchInt(", "falseEdge", "falseUnwind")
 DEBUG = re.compile(r"debug (\S+) => _(\d+);")
 CAPTURED = re.compile(r"debug (\S+) => (\(.*\));")
 BLOCK = re.compile(r"    bb(\d+)(?: \(cleanup\))?: \{")
 STATEMENT = re.compile(r" {8}[^\s/]")
+CONSTANT = " " * 41 + "// + span: "
+CALL = re.compile(r"(?:.*? = )?(?:(?:move|copy) _(\d+)|.*?)\(.*\) -> ")
 PARAMETER = re.compile(r"(?:^|, )_(\d+): ")
 REASON = re.compile(r"\| '\?(\d+): '\?(\d+) due to (\w+)(.*) at "
                     r"(?:All\(.*\)|Single\(bb(\d+)\[(\d+)\]\)) \((.*) \(#(\d+)\)")
@@ -64,10 +67,11 @@ class Reason(NamedTuple):
 
 
 class Statement(NamedTuple):
-    """A statement or terminator as rustc prints it."""
+    """A statement or terminator as rustc prints it, and where its first constant stands, such as a function's name."""
 
     text: str
     span: Optional[Span]
+    constant: Optional[Span] = None
 
 
 @dataclass
@@ -114,6 +118,15 @@ class Body:
         names = (name for captured, name in self.captured.items()
                  if captured.local == place.local and captured.steps == place.steps[:len(captured.steps)])
         return root.name if root and root.name else next(names, None)
+
+    def function_span(self, location: Location) -> Optional[Span]:
+        """Where the function stands that is called there: its name, or else the temporary that has it."""
+        text, span, constant = self.statements[location]
+        found = CALL.match(text)
+        if not found or text.startswith(NO_CALLS):
+            return None
+        local = self.locals.get(int(found[1])) if found[1] else None
+        return constant if not found[1] else local.span if local and not local.name else span
 
     def spans(self) -> Iterator[Span]:
         """The places in the source that the dump names."""
@@ -258,7 +271,9 @@ def read_code(body: Body, lines: list[str]) -> None:
         if line == "}":
             return
         line, begun = f"{begun} {line.strip()}" if begun else line, ""
-        if found := BLOCK.fullmatch(line):
+        if line.startswith(CONSTANT) and index:
+            add_constant(body.statements, Location(block, index - 1), span_of(line.removeprefix(CONSTANT)))
+        elif found := BLOCK.fullmatch(line):
             block, index = int(found[1]), 0
         elif not (found := CODE.fullmatch(line)):
             begun = line if block is not None and STATEMENT.match(line) else ""
@@ -268,6 +283,13 @@ def read_code(body: Body, lines: list[str]) -> None:
             index += 1
         elif found["code"] and block is None:
             read_declaration(body, found["code"], span_of(found["span"]))
+
+
+def add_constant(statements: dict[Location, Statement], location: Location, span: Optional[Span]) -> None:
+    """Takes the place of a statement's first constant."""
+    statement = statements[location]
+    if statement.constant is None:
+        statements[location] = statement._replace(constant=span)
 
 
 def read_declaration(body: Body, code: str, span: Optional[Span]) -> None:

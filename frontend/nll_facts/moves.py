@@ -4,6 +4,7 @@ E0382: a place is accessed that may be moved out of, E0381: that may have no val
 `mut` gets a value where it may have one. Only what rustc says, too, is told.
 """
 
+import re
 from collections import deque
 from typing import Iterable, Iterator, NamedTuple, Optional
 
@@ -14,7 +15,7 @@ from .rustc import Error
 from .tables import Location, Spot, Tables
 
 MOVES = ("E0381", "E0382", "E0384")
-ENTRY = Location(0, 0)
+NAMED = re.compile(r"`(\w+)[^`]*`")
 
 
 class Gone(NamedTuple):
@@ -51,16 +52,30 @@ class Moved:
     def of_one(self, error: Error) -> Optional[Gone]:
         table = ((path, spot) for path in self.assigned for spot in self.assigned[path]) \
             if error.code == "E0384" else self.accessed
-        for path, spot in sorted(table, key=lambda row: row[1]):
-            if self.begins_at(spot.location, error):
-                found = self.assigned_before(path, spot) if error.code == "E0384" else self.gone_at(path, spot)
-                if found and found.code == error.code:
-                    return found
+        rows = sorted(table, key=lambda row: row[1])
+        there = [row for row in rows if self.begins_at(row[1].location, error)]
+        for path, spot in there or [row for row in rows if self.is_of_macro(*row, error)]:
+            found = self.assigned_before(path, spot) if error.code == "E0384" else self.gone_at(path, spot)
+            if found and found.code == error.code:
+                return found
         return None
+
+    def is_of_macro(self, path: int, spot: Spot, error: Error) -> bool:
+        """Whether a macro of another file has the statement, and the variable is the one that the error names."""
+        span, local = self.body.statements[spot.location].span, self.body.locals.get(self.root_of(path))
+        named = NAMED.search(error.message)
+        return span is not None and span.file != error.places[0][0] \
+            and local is not None and local.name is not None and named is not None and named[1] == local.name
+
+    def root_of(self, path: int) -> int:
+        """The variable of which a path is a part."""
+        while path in self.parent:
+            path = self.parent[path]
+        return self.variable.get(path, 0)
 
     def begins_at(self, location: Location, error: Error) -> bool:
         """Whether a statement, or the closure that it makes, begins where the error is."""
-        text, span = self.body.statements[location]
+        text, span, _ = self.body.statements[location]
         if span is None or (span.file, span.first) > (error.places[0][0], error.line):
             return False
         made = MADE.search(text) or self.made_of(text)
@@ -97,9 +112,7 @@ class Moved:
         while at is not None:
             walk.append(at.location)
             at = came_by[at]
-        while path in self.parent:
-            path = self.parent[path]
-        return Gone(spot.location, self.body.statements[spot.location].span, code, self.variable.get(path, 0),
+        return Gone(spot.location, self.body.statements[spot.location].span, code, self.root_of(path),
                     list(dict.fromkeys(one.location for one in since)), list(dict.fromkeys(walk)))
 
     def back(self, spot: Spot, stops: set[Spot]) -> dict[Spot, Optional[Spot]]:

@@ -9,7 +9,7 @@ import webbrowser
 from contextlib import contextmanager
 from dataclasses import dataclass, field
 from functools import partial
-from typing import Any, Iterable, Iterator, Sequence
+from typing import Any, Iterable, Iterator, Optional, Sequence
 
 from nll_page import nllc
 from nll_page.called import OF_CARGO, Parser
@@ -216,7 +216,7 @@ def tell_all(checked: Checked, answers: list[Answer]) -> None:
     told_of = {(answer.said["source"], *error) for answer in answers for error in answer.said.get("errors", ())}
     for error in checked.errors:
         if error.places and (error.path, error.line, error.column, " ".join(error.words().split())) not in told_of:
-            print(f"{error.path}:{error.line}:{error.column}: {version()}: {error.words()}\n"
+            print(f"{error.where()}: {version()}: {error.words()}\n"
                   f"    of what is no function, so that it has no answer here")
 
 
@@ -242,25 +242,44 @@ def verdict(said: dict[str, Any]) -> str:
 def told(said: dict[str, Any], places: set[tuple], errors: list[Error], shown: set[tuple]) -> list[str]:
     """A function's lines; `places` are those of all functions' faults, the errors are rustc's.
 
-    An error of rustc that is of a closure and of the function around it is shown once.
+    An error of rustc that is of a closure and of the function around it is shown once; of several with the same words
+    at one place each is.
     """
     lines, source = [*said["lines"], *said["explained"], *said["everywhere"]], said["source"]
     if said["asked_to_explain"]:
         lines += [f"needs of the function around it that {need}" for need in said["needs"]]
-    for line, column, words, why in said["differences"]:
-        if (source, line, column) not in places and (source, line, column, words) not in shown:
-            shown.add((source, line, column, words))
-            lines += [f"{source}:{line}:{column}: {version()}: {words}; nllc: no fault there",
-                      f"    {why}"]
-    for line, column, words in said["refused"]:
-        if (source, line, column, words) not in shown:
-            shown.add((source, line, column, words))
-            lines += [f"{source}:{line}:{column}: {version()}: {words}",
-                      f"    rustc refuses this for {UNJUDGED.get(words[:5], OTHERS)}, which nothing here judges"]
+    within = {(line, column, words): where for line, column, words, where in said["within"]}
+    for number, (line, column, words, why) in numbered(said["differences"]):
+        if (source, line, column) not in places and (source, line, column, words, number) not in shown:
+            shown.add((source, line, column, words, number))
+            lines += of_rustc(source, line, column, f"{words}; nllc: no fault there", why,
+                              within.get((line, column, words)))
+    for number, (line, column, words, why) in numbered(said["further"]):
+        if (source, line, column) not in places and (source, line, column, words, number) not in shown:
+            shown.add((source, line, column, words, number))
+            lines += of_rustc(source, line, column, words, why, within.get((line, column, words)))
+    for number, (line, column, words) in numbered(said["refused"]):
+        if (source, line, column, words, number) not in shown:
+            shown.add((source, line, column, words, number))
+            why = f"rustc refuses this for {UNJUDGED.get(words[:5], OTHERS)}, which nothing here judges"
+            lines += of_rustc(source, line, column, words, why, within.get((line, column, words)))
     for line, column in said["unnamed"]:
         if not is_named(errors, source, line, column):
             lines.append(f"{source}:{line}:{column}: {version()} names no error there")
     return lines
+
+
+def numbered(rows: list[list[Any]]) -> Iterator[tuple[int, list[Any]]]:
+    """Each row with the count of equal ones before it."""
+    for at, row in enumerate(rows):
+        yield rows[:at].count(row), row
+
+
+def of_rustc(source: str, line: int, column: int, words: str, why: str, within: Optional[str]) -> list[str]:
+    """An error of rustc at its place, which may be within a macro of another file, and a sentence on it."""
+    used = f"{source}:{line}:{column}"
+    macro = [f"    in this macro invocation: {used}"] if within else []
+    return [f"{within or used}: {version()}: {words}", f"    {why}", *macro]
 
 
 def is_named(errors: list[Error], source: str, line: int, column: int) -> bool:

@@ -7,19 +7,21 @@ import shutil
 import subprocess
 from dataclasses import dataclass, field
 from functools import cache
-from typing import NamedTuple
+from typing import NamedTuple, Optional
 
 from nll_page.called import called
 
 from .refusal import Refusal
 
 CRATE = "input"
+NAMED = re.compile(r'^#!\[crate_name\s*=\s*"(\w+)"\s*\]', re.MULTILINE)
 COLOUR = re.compile(r"\x1b\[[0-9;]*m")
 NO_RUSTC = ("there is no rustc: install one (https://rustup.rs), "
             "or name it by the variable RUSTC")
 TEXTS = {b"nll-facts": "facts", b"nll-mir": "MIR"}
 VARIANCE = re.compile(r"requirement occurs because of|invariant over")
 SEE = re.compile(r"see <")
+ARROW = re.compile(r"--> (.*):(\d+):(\d+)")
 # `-Zpolonius=next`: without it rustc leaves out which regions the drop of a variable uses
 # whose regions all outlive a named lifetime; it takes those regions to hold everywhere.
 FLAGS = ("-Znll-facts", "-Zdump-mir=nll", "-Zpolonius=next")
@@ -40,7 +42,8 @@ class Label(NamedTuple):
 class Error:
     """An error of rustc: as it would print it, and the files and lines that it is about.
 
-    rustc names its files relatively to the folder in which it ran, which is `root`.
+    rustc names its files relatively to the folder in which it ran, which is `root`. What a macro of another file makes
+    is about the macro's use, and `within` is the place in the macro, which rustc names.
     """
 
     rendered: str
@@ -52,6 +55,7 @@ class Error:
     notes: list[str] = field(default_factory=list)
     helps: list[str] = field(default_factory=list)
     root: str = ""
+    within: Optional[Label] = None
 
     @property
     def path(self) -> str:
@@ -63,6 +67,12 @@ class Error:
 
     def words(self) -> str:
         return f"{self.code}: {self.message}" if self.code else self.message
+
+    def where(self) -> str:
+        """The place that rustc names."""
+        if self.within:
+            return f"{os.path.join(self.root, self.within.file)}:{self.within.line}:{self.within.column}"
+        return f"{self.path}:{self.line}:{self.column}"
 
 
 def flags(folder: str) -> list[str]:
@@ -78,6 +88,16 @@ def find_rustc() -> str:
     if not found:
         raise Refusal(NO_RUSTC)
     return found
+
+
+def crate_name(file: str) -> str:
+    """The name that a file gives its crate, by which rustc has to call it; that of others."""
+    try:
+        with open(file, encoding="utf-8") as opened:
+            found = NAMED.search(opened.read())
+    except (OSError, UnicodeDecodeError):
+        found = None
+    return found[1] if found else CRATE
 
 
 def refuse_others(file: str) -> None:
@@ -126,7 +146,8 @@ def without_colours(text: str) -> str:
 
 def error_of(said: dict, root: str) -> Error:
     """The error of a diagnostic, of whichever level that is."""
-    spans = [at_home(span, root) for span in said.get("spans", ()) if span.get("is_primary")]
+    primary = [span for span in said.get("spans", ()) if span.get("is_primary")]
+    spans = [at_home(span, root) for span in primary]
     places = [(span["file_name"], span["line_start"]) for span in spans]
     column = spans[0]["column_start"] if spans else 0
     code = (said.get("code") or {}).get("code", "")
@@ -134,7 +155,17 @@ def error_of(said: dict, root: str) -> Error:
     below = said.get("children", ())
     notes = [child["message"] for child in below if child["level"] == "note" and VARIANCE.search(child["message"])]
     helps = [help_of(child) for child in below if child["level"] == "help" and not SEE.match(child["message"])]
-    return Error(said["rendered"], places, column, code, said.get("message", ""), labels, notes, helps, root)
+    return Error(said["rendered"], places, column, code, said.get("message", ""), labels, notes, helps, root,
+                 within_macro(primary[0], spans[0], said["rendered"]) if spans else None)
+
+
+def within_macro(own: dict, home: dict, rendered: str) -> Optional[Label]:
+    """The place of an error, where it is in a macro of another file and rustc shows it there."""
+    shown = ARROW.search(without_colours(rendered))
+    if own["file_name"] == home["file_name"] or not shown:
+        return None
+    place = place_of(own)
+    return place if shown.groups() == (place.file, str(place.line), str(place.column)) else None
 
 
 def help_of(child: dict) -> str:
@@ -156,9 +187,11 @@ def changed(spans: list[dict]) -> str:
 
 
 def label_of(span: dict, root: str) -> Label:
-    home = at_home(span, root)
-    return Label(home["file_name"], home["line_start"], home["column_start"], home["line_end"],
-                 home["column_end"], span.get("label") or "")
+    return place_of(at_home(span, root))._replace(text=span.get("label") or "")
+
+
+def place_of(span: dict) -> Label:
+    return Label(span["file_name"], span["line_start"], span["column_start"], span["line_end"], span["column_end"], "")
 
 
 def at_home(span: dict, root: str) -> dict:

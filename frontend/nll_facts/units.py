@@ -11,7 +11,7 @@ from dataclasses import dataclass, field
 from typing import Callable, Optional
 
 from .refusal import Refusal
-from .rustc import CRATE, NO_RUSTC, Error, errors_in, find_rustc, flags, judge, refuse_others
+from .rustc import NO_RUSTC, Error, crate_name, errors_in, find_rustc, flags, judge, refuse_others
 
 NOTE = "unit.json"
 PLAIN = "plain.json"        # what rustc says as it is
@@ -45,12 +45,12 @@ def check_file(file: str, folder: str, options: list[str], lints: str = "allow",
     """Checks a file as a library; all that rustc makes goes to the folder."""
     refuse_others(file)
     form = ["--json=diagnostic-rendered-ansi"] if in_colour else []
-    rustc = find_rustc()
-    words = [rustc, "--crate-type=lib", f"--crate-name={CRATE}", f"--cap-lints={lints}", "--error-format=json",
+    rustc, name = find_rustc(), crate_name(file)
+    words = [rustc, "--crate-type=lib", f"--crate-name={name}", f"--cap-lints={lints}", "--error-format=json",
              *form, "--emit=metadata", *options, file]
     plain = [*words, f"--out-dir={os.path.join(folder, 'plain')}"]
     try:
-        status = run_both(plain, [*words, f"--out-dir={folder}"], folder, CRATE, RUSTC_BOOTSTRAP="1")
+        status = run_both(plain, [*words, f"--out-dir={folder}"], folder, name, RUSTC_BOOTSTRAP="1")
     except OSError as error:
         raise Refusal(f"{rustc} can't be run: {error.strerror}; {NO_RUSTC}") from None
     if status == 0 and not glob.glob(os.path.join(glob.escape(folder), "plain", "*.rmeta")):

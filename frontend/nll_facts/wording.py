@@ -74,7 +74,7 @@ class Wording:
 
     def line_of(self, location: Location) -> Optional[int]:
         """The line of a statement; a `goto` that spans several, a whole loop or `if`, has none."""
-        text, span = self.body.statements[location]
+        text, span, _ = self.body.statements[location]
         if span is None or span.first == span.last:
             return self.line(span)
         if text.startswith("goto"):

@@ -53,7 +53,7 @@ def of_loan(content, fault):
         return BY_CODE[fault.code]
     if facts.is_universal(fault.cause.region):
         return ["don’t let the borrow go out of the function: return a copy, an index or a key"]
-    use = None if fault.cause.use is None else facts.remarks.point(fault.cause.use).line
+    use = None if fault.cause.use is None else fault.cause.line(facts)
     here = fault.place.line if fault.place else None
     if use is None or here is None or use <= here or fault.against.way in loans.ENDING:
         return ["end the borrow before; ", IN_THE_WAY]

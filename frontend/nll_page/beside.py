@@ -5,9 +5,11 @@
     # killed N: P ..                      # against P, PLACE, WAY of WHAT after P: N ..
     # asked 'R 'R at P, PLACE: WORD       # uses 'R: P ..      # drops 'R: P ..
     # blamed 'R 'R, PLACE: WORD           # blamed N 'R, PLACE: WORD of a closure
+    # called P, PLACE                     # captured P 'R, PLACE
     # needs 'R 'R                         # gone P, L:C, CODE of WHAT, by P ..: P ..
     # rustc LINE:COLUMN: WORDS            # label PLACE: WORDS
-    # note: WORDS                         # help: WORDS
+    # within PATH, PLACE                  # note: WORDS
+    # help: WORDS
 
 A place is `L:C-L:C` or `elsewhere`. docs/FROM-RUST.md says what each means.
 """
@@ -30,11 +32,14 @@ FORMS = {
     "blamed": re.compile(rf"# blamed ('\w+|\d+) '(\w+), {PLACE}: (\w+)( of a closure)?"),
     "uses": re.compile(r"# uses '(\w+): ([\d ]+)"),
     "drops": re.compile(r"# drops '(\w+): ([\d ]+)"),
+    "called": re.compile(rf"# called (\d+), {PLACE}"),
+    "captured": re.compile(rf"# captured (\d+) '(\w+), {PLACE}"),
     "needs": re.compile(r"# needs '(\w+) '(\w+)"),
     "gone": re.compile(r"# gone (\d+), (\d+):(\d+), (E038[124]) of (\w+), by ([\d ]+):([\d ]*)"),
     "rustc": re.compile(r"# rustc (\d+):(\d+): (.*)"),
     "help:": re.compile(r"# help: (.*)"),
     "note:": re.compile(r"# note: (.*)"),
+    "within": re.compile(rf"# within (.*), {PLACE}"),
     "label": re.compile(rf"# label {PLACE}(?:: (.*))?"),
 }
 
@@ -100,8 +105,18 @@ class Label(NamedTuple):
     words: str
 
 
+class Within(NamedTuple):
+    """A place in a macro of another file, which the function uses."""
+
+    path: str
+    place: Place
+
+
 class Error(NamedTuple):
-    """An error of rustc in the function, with what it says at places, on variance, and as help."""
+    """An error of rustc in the function, with what it says at places, on variance, and as help.
+
+    Of what a macro of another file makes the place is that of the macro's use, and rustc names the one within the macro.
+    """
 
     line: int
     column: int
@@ -109,6 +124,7 @@ class Error(NamedTuple):
     labels: list
     notes: list
     helps: list
+    within: Optional[Within] = None
 
     def code(self):
         """`E0499`; nothing of an error that has none."""
@@ -151,6 +167,8 @@ class Beside:
     blamed: dict = field(default_factory=dict)
     uses: dict = field(default_factory=dict)
     drops: dict = field(default_factory=dict)
+    called: dict = field(default_factory=dict)
+    captured: dict = field(default_factory=dict)
     needs: set = field(default_factory=set)
     gone: list = field(default_factory=list)
     rustc: list = field(default_factory=list)
@@ -190,6 +208,12 @@ class Beside:
     def take_drops(self, region, points):
         self.drops[region] = set(numbers(points))
 
+    def take_called(self, point, place):
+        self.called[int(point)] = place_of(place)
+
+    def take_captured(self, point, region, place):
+        self.captured[int(point), region] = place_of(place)
+
     def take_needs(self, sup, sub):
         self.needs.add((sup, sub))
 
@@ -206,6 +230,10 @@ class Beside:
 
     def take_rustc(self, line, column, words):
         self.rustc.append(Error(int(line), int(column), words, [], [], []))
+
+    def take_within(self, path, place):
+        if self.rustc:
+            self.rustc[-1] = self.rustc[-1]._replace(within=Within(path, place_of(place)))
 
     def take_note(self, words):
         if self.rustc:

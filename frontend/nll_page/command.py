@@ -134,7 +134,11 @@ def answer(content, in_full):
         "unnamed": [one.place[:2] for one in told if one.place and not counterpart(content, one)],
         "differences": [[line, column, visible(said), visible(words.plain(why))]
                         for line, column, said, why in differences.differences(content)],
+        "further": [[line, column, visible(said), visible(words.plain(why))]
+                    for line, column, said, why in differences.further(content)],
         "refused": [[one.line, one.column, visible(one.words)] for one in differences.refused(content)],
+        "within": [[one.line, one.column, visible(one.words), visible(telling.where(*one.within))]
+                   for one in content.facts.remarks.beside.rustc if one.within],
         "errors": [[one.line, one.column, one.words] for one in content.facts.remarks.beside.rustc],
         "loans": len(content.loans),
         "moves": len(content.facts.remarks.beside.gone),
@@ -145,7 +149,7 @@ def answer(content, in_full):
 def parts_of(content, told):
     """The parts of a telling, each as text."""
     return {
-        "place": told.place, "code": told.code, **telling.parts(told),
+        "place": told.place, "within": told.within, "code": told.code, **telling.parts(told),
         "labels": [{"place": label.place, "line": label.line, "words": visible(label.words)}
                    for label in labels.of(content, told.fault)],
     }

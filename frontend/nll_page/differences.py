@@ -1,8 +1,11 @@
 """Where rustc of today refuses a function and `nllc` doesn't: both answers side by side."""
 
 from . import telling
-from .counterparts import nearness
+from .counterparts import FAR, nearness
 from .words import Code
+
+FURTHER = ["rustc names what an error above is of here once more; nllc has no fault on this way, since what is asked at a "
+           "point holds from there on"]
 
 
 def differences(content):
@@ -11,6 +14,17 @@ def differences(content):
     return [(error.line, error.column, error.words, reason(content, error))
             for error in content.facts.remarks.beside.rustc
             if error.is_judged() and all(nearness(content, one, error) is None for one in told)]
+
+
+def further(content):
+    """rustc's errors that are of the same loan or lifetimes as a fault, which is another error of rustc; with a sentence."""
+    errors = [error for error in content.facts.remarks.beside.rustc if error.is_judged()]
+    levels = [[nearness(content, one, error) for error in errors] for one in telling.all_of(content)]
+    levels = [[FAR + 1 if level is None else level for level in of_fault] for of_fault in levels]
+    for number, error in enumerate(errors):
+        near = [of_fault for of_fault in levels if of_fault[number] <= FAR]
+        if near and all(min(of_fault) < of_fault[number] for of_fault in near):
+            yield error.line, error.column, error.words, FURTHER
 
 
 def refused(content):

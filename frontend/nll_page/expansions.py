@@ -1,18 +1,40 @@
-"""The place of a loan of what a macro of another file makes: rustc's error says where the macro is used."""
+"""The places of what a macro of another file makes: rustc's error says where the macro is used."""
 
+import re
+
+LATER = re.compile(r"later (used|stored|captured|borrowed)|might be used here|in later iteration")
 
 
 def placed(facts, found):
     """The faults, with the places of rustc's errors in place of those whose column isn't known."""
-    known = {one.place[:2] for one in found if one.place}
-    left = [error for error in facts.remarks.beside.rustc if (error.line, error.column) not in known]
+    left = without_known(facts.remarks.beside.rustc, found)
     for one in found:
         error = None if one.place and one.place.column else nearest(facts, one, left)
         if error:
             left.remove(error)
             place = error.place()
-            one = one._replace(place=place, loan=one.loan._replace(place=one.loan.place or place))
-        yield one
+            against = one.against._replace(place=one.against.place or place)
+            one = one._replace(place=place, loan=one.loan._replace(place=one.loan.place or place), against=against)
+        yield with_place_of_use(facts, one)
+
+
+def without_known(errors, found):
+    """The errors without one for each fault whose place is known; of several that begin there the one that ends there, too."""
+    left = list(errors)
+    for place in (one.place for one in found if one.place and one.place.column):
+        there = [error for error in left if (error.line, error.column) == place[:2]]
+        if there:
+            left.remove(min(there, key=lambda error: error.place() != place))
+    return left
+
+
+def with_place_of_use(facts, one):
+    """The fault with the place of the later use, where that is in such a macro."""
+    if one.cause.use is None or one.place is None or one.cause.line(facts) is not None:
+        return one
+    errors = (error for error in facts.remarks.beside.rustc if (error.line, error.column) == one.place[:2])
+    place = next((label.place for error in errors for label in error.labels if LATER.search(label.words)), None)
+    return one._replace(cause=one.cause._replace(place=place))
 
 
 def nearest(facts, one, errors):

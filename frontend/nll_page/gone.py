@@ -17,14 +17,14 @@ def head(content, one, error):
         return [what, " is assigned to here, may have a value already, and isn't ", Code("mut")]
     part = " a part of it" if error and "partially" in error.words else " it"
     by = ["an earlier turn of the loop"] if one.since == [one.point] else \
-        words.joined([[f"line {line}"] for line in lines_of(content.facts, one.since)], " or ")
+        words.joined([[f"line {line}"] for line in lines_since(content.facts, one, error)], " or ")
     return [what, " is used here, and ", *(by or [EARLIER]), " may have moved", part]
 
 
 def cause(content, one, error):
     """Since which lines, and the lines of a walk from there."""
     facts = content.facts
-    made = words.joined([since(content, line) for line in lines_of(facts, one.since)], " or ")
+    made = words.joined([since(content, line) for line in lines_since(facts, one, error)], " or ")
     walk = walk_words(facts, one)
     if one.code == "E0381":
         return ["a way leads here on which nothing is assigned to it", *walk]
@@ -33,6 +33,12 @@ def cause(content, one, error):
         return ["the caller has given it one" if given else "it has one since ",
                 *([] if given else made or [EARLIER]), *walk]
     return [*(made or [EARLIER]), " moves it, and a way leads from there to here on which it gets no new value", *walk]
+
+
+def lines_since(facts, one, error):
+    """The lines of what was done before; of what a macro of another file does the macro's use, which rustc names."""
+    labels = error.labels if error else ()
+    return lines_of(facts, one.since) or sorted({label.place.line for label in labels if "moved" in label.words})
 
 
 def lines_of(facts, points):

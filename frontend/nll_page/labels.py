@@ -50,7 +50,7 @@ def of_loan(content, fault):
     if facts.is_universal(fault.cause.region) and fault.code not in GONE:
         yield from outgoing(content, fault.cause.steps)
     elif fault.cause.use is not None:
-        yield from at(facts, None, fault.cause.use, "later", later(facts, fault))
+        yield from at(facts, fault.cause.place, fault.cause.use, "later", later(facts, fault))
 
 
 def later(facts, fault):

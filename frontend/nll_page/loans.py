@@ -15,7 +15,9 @@ from .facts import ALL, grouped
 
 ENDING = ("ends", "drops", "leaves", "destroys")
 BORROWING = ("mut", "unique", "late", "shared")
-UNWIND = re.compile(r"\bunwind: (bb\d+)")
+STATIC = 0
+NUMBERED = re.compile(r"r\d+|_+")      # how regions are called that have no name
+UNWIND = re.compile(r"\bunwind: (bb\d+)|\) -> (bb\d+)$")   # a call that never returns has the second form
 CODES = {"moves": "E0505", "assigns": "E0506", "reads": "E0503", "looks": "E0503"}
 
 
@@ -23,13 +25,19 @@ class Cause(NamedTuple):
     """Why the loan's region holds the point, and the steps from there to the loan.
 
     `region` is live at the point since a variable of it is used (or dropped) at `use`; or it is a
-    universal one, which outlives the function.
+    universal one, which outlives the function. `place` is that of the use, where it isn't the statement's line: of a
+    macro of another file, of a function that is called, or of a use in a closure.
     """
 
     region: int
     use: Optional[int]
     is_drop: bool
     steps: list     # the first one's constraint has `region` at its smaller side
+    place: Optional[Place] = None
+
+    def line(self, facts):
+        """The line of the use, where it is known."""
+        return self.place.line if self.place else facts.remarks.point(self.use).line
 
 
 class LoanFault(NamedTuple):
@@ -59,7 +67,7 @@ def loan_faults(facts, values):
             if one.point in points and one.begun not in points:
                 cause = why(facts, values, region, one.point)
                 found.append(fault(facts, number, loan, one, cause))
-    told = list(each_once(sorted(first_of_each_access(found), key=order)))
+    told = list(each_once(beside, sorted(first_of_each_access(found), key=order)))
     return sorted(expansions.placed(facts, told), key=order)
 
 
@@ -90,17 +98,31 @@ def first_of_each_access(found):
         seen.add(access)
 
 
-def each_once(found):
+def each_once(beside, found):
     """Without what rustc wouldn't say again: of the same loan's end, of the same access, of a borrow's second phase."""
-    told, begun = set(), {one.against.what for one in found if one.against.way in ("mut", "unique")}
+    told, first_phases = set(), points_of_first_phases(beside, found)
     for one in found:
-        if one.against.way == "late" and one.against.what and one.against.what in begun:
+        if one.against.way == "late" and first_phases.get(one.against.what, one.against.point) < one.against.point:
             continue
         marks = marks_of_end(one) if one.against.way in ENDING else \
             marks_of_access(one)
         if told.isdisjoint(marks):
             yield one
         told |= marks
+
+
+def points_of_first_phases(beside, found):
+    """For each place the first point at which a borrow in two phases of it begins against a loan.
+
+    A place whose types have lifetimes is to rustc another one wherever it is written.
+    """
+    begun = {one.begun for one in beside.against}
+    points = {}
+    for one in found:
+        point, what = one.against.point, one.against.what
+        if one.against.way == "mut" and point in begun and what and not what.endswith("'"):
+            points[what] = min(point, points.get(what, point))
+    return points
 
 
 def marks_of_access(one):
@@ -115,7 +137,8 @@ def marks_of_end(one):
     loan = one.loan
     is_use = loan.by_closure and loan.home and one.code != "E0373"
     place = loan.home if is_use else loan.place
-    return {("end", one.number), *([("end", loan.what.lstrip("*"), place)] if place else [])}
+    variable = one.against.what.split(".")[0] if loan.is_of_temporary() else loan.what.lstrip("*")
+    return {("end", one.number), *([("end", variable, place)] if place else [])}
 
 
 def fault(facts, number, loan, against, cause):
@@ -177,7 +200,9 @@ def why(facts, values, region, point):
     while todo:
         sup = todo.popleft()
         if facts.is_universal(sup):
-            return Cause(sup, None, False, backwards(came_by, sup))
+            goal = upper_bound(facts, values, region, sup)
+            steps = backwards(came_by, sup) if goal == sup else chains.chain(facts, values, region, goal)
+            return Cause(goal, None, False, steps)
         if point in facts.bases[sup] and not outlives_caller(facts, values, sup):
             return used(facts, sup, point, backwards(came_by, sup))
         for constraint in by_sup.get(sup, ()):
@@ -192,6 +217,20 @@ def why(facts, values, region, point):
     if ends:
         return Cause(ends[0], None, False, chains.chain(facts, values, region, ends[0]))
     return used(facts, region, point, [])
+
+
+def upper_bound(facts, values, region, nearest):
+    """The universal region that rustc names of those that a region must outlive: one that outlives all of them.
+
+    Where it knows none, it takes the last one that has a name, else the first.
+    """
+    ends = [element - facts.points for element in values.elements(region) if element >= facts.points]
+    bound = STATIC if STATIC in ends else None
+    for one in ends if bound is None else ():
+        is_known = bound is not None and (bound, one) in facts.outlives
+        if bound is None or not is_known and ((one, bound) in facts.outlives or not NUMBERED.fullmatch(facts.names[one])):
+            bound = one
+    return nearest if bound is None else bound
 
 
 def backwards(came_by, region):
@@ -216,7 +255,8 @@ def used(facts, region, point, steps):
     """
     for onwards in (partial(without_unwinding, facts), facts.successors.__getitem__):
         if found := nearest_use(facts, region, point, onwards):
-            return Cause(region, *found, steps)
+            beside, name = facts.remarks.beside, facts.names[region]
+            return Cause(region, *found, steps, beside.called.get(found[0]) or beside.captured.get((found[0], name)))
     return Cause(region, None, False, steps)
 
 
@@ -239,8 +279,8 @@ def nearest_use(facts, region, point, onwards):
 
 def without_unwinding(facts, point):
     """The points that follow where nothing panics."""
-    found = UNWIND.search(facts.remarks.point(point).text)
+    found = UNWIND.search(facts.remarks.point(point).statement())
     if not found:
         return facts.successors[point]
     return [one for one in facts.successors[point]
-            if (facts.remarks.point(one).spot() or ("",))[0] != found[1]]
+            if (facts.remarks.point(one).spot() or ("",))[0] != (found[1] or found[2])]

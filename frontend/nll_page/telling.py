@@ -6,8 +6,8 @@ A telling is a place, and two sentences; a sentence is a list of strings, as in 
 import re
 from typing import NamedTuple, Optional
 
-from . import advice, blame, gone, loans, words
-from .beside import Place
+from . import advice, blame, chains, gone, loans, words
+from .beside import Place, Within
 from .counterparts import are_same, counterpart, pair_of
 from .escaping import visible
 from .lifetimes import Lifetimes
@@ -61,6 +61,7 @@ class Telling(NamedTuple):
     cause: list
     fault: object
     more: list = []
+    within: Optional[Within] = None
 
 
 def of_fault(content, fault, further=()):
@@ -74,7 +75,8 @@ def of_fault(content, fault, further=()):
     head = [*lifetimes.name(fault.sup), " must outlive ", *words.joined(shorter),
             ", which the signature doesn't say", asker]
     more = [lifetimes.places(fault.sup, *(one.sub for one in (fault, *further))), *notes(content, fault, error)]
-    return told._replace(head=head, cause=way_of(content, fault, lifetimes), more=list(filter(None, more)))
+    return told._replace(head=head, cause=way_of(content, fault, lifetimes), more=list(filter(None, more)),
+                         within=within(told, error))
 
 
 def of_faults(content):
@@ -159,7 +161,13 @@ def of_loan(content, fault):
     regions = [fault.cause.region] if content.facts.is_universal(fault.cause.region) else []
     more = [lifetimes.places(*regions), *notes(content, fault, error)]
     return told._replace(head=loan_head(content, fault, error if is_same else None),
-                         cause=loan_cause(content, fault, lifetimes), more=list(filter(None, more)))
+                         cause=loan_cause(content, fault, lifetimes), more=list(filter(None, more)),
+                         within=within(told, error))
+
+
+def within(told, error):
+    """The place in a macro of another file that rustc names for that of a telling."""
+    return error.within if error and told.place and (error.line, error.column) == told.place[:2] else None
 
 
 def place_of_loan(content, fault):
@@ -308,7 +316,7 @@ def since(content, fault, lifetimes=None):
         return ["it must outlive ", *lifetimes.name(cause.region), *by]
     if cause.use is None:
         return ["it is in the type of a variable that is used later"]
-    line = facts.remarks.point(cause.use).line
+    line = cause.line(facts)
     deed = drop_words(facts, cause.use) if cause.is_drop else [" uses it"]
     later = " in a later turn of the loop" if is_later_turn(facts, fault) else ""
     if line is None:
@@ -328,9 +336,10 @@ def drop_words(facts, point):
 
 
 def is_later_turn(facts, fault):
-    """Whether the use stands before what goes against the loan, so that a loop leads back to it."""
-    use, here = (facts.remarks.point(point).line for point in (fault.cause.use, fault.against.point))
-    return use is not None and here is not None and (use, fault.cause.use) < (here, fault.against.point)
+    """Whether the use stands before what goes against the loan, and a loop leads back to it."""
+    use, here = fault.cause.line(facts), facts.remarks.point(fault.against.point).line
+    return use is not None and here is not None and (use, fault.cause.use) < (here, fault.against.point) \
+        and fault.cause.use in chains.ways_to(facts, range(facts.points), [fault.against.point])
 
 
 def where_made(content, loan):
@@ -355,7 +364,7 @@ def of_gone(content, one):
     """What is used that was moved or has no value, or is assigned again."""
     error = content.facts.remarks.beside.error_of(one)
     return Telling(one.place, one.code, gone.head(content, one, error), gone.cause(content, one, error), one,
-                   notes(content, one, error))
+                   notes(content, one, error), error.within if error else None)
 
 
 def all_of(content):
@@ -376,10 +385,15 @@ def parts(told):
 def lines(content, telling):
     """The lines for a terminal: what it is, how it comes about, what else is said, and what to do about it."""
     path = content.source.path if content.source else content.facts.remarks.source
-    where = [path] if path else []
-    if telling.place:
-        where += [str(telling.place.line)] + ([str(telling.place.column)] if telling.place.column else [])
+    used = where(path, telling.place)
+    named = where(*telling.within) if telling.within else used
     code = f"{telling.code}: " if telling.code else ""
-    head = f"{':'.join(where)}: {code}{words.plain(telling.head)}" if where else \
-        f"{code}{words.plain(telling.head)}"
-    return [head, *(f"    {words.plain(one)}" for one in (telling.cause, *telling.more))]
+    head = f"{named}: {code}{words.plain(telling.head)}" if named else f"{code}{words.plain(telling.head)}"
+    macro = [words.of_macro(used, path)] if telling.within else []
+    return [head, *(f"    {words.plain(one)}" for one in (telling.cause, *macro, *telling.more))]
+
+
+def where(path, place):
+    """`a.rs:3:5`, as far as it is known."""
+    line, column = place[:2] if place else (0, 0)
+    return ":".join(str(part) for part in (path, line, column) if part)

@@ -42,6 +42,11 @@ def joined(pieces, last=" and ", between=", "):
     return parts
 
 
+def of_macro(used, path):
+    """Where a macro of another file is used, in whose lines something is told."""
+    return [f"in this macro invocation: {used}; the lines named here are of {path}"]
+
+
 def plural(count, noun):
     return f"{count:,} {noun}" if count == 1 else f"{count:,} {noun}s"
 

@@ -24,20 +24,21 @@ sys.path[:0] = [FRONTEND, HERE]
 from nll_facts import functions, rust  # noqa: E402 (the path stands above)
 from nll_facts.errors import LIFETIMES, LOANS  # noqa: E402
 from nll_facts.moves import MOVES  # noqa: E402
-from nll_facts.rustc import find_rustc  # noqa: E402
+from nll_facts.rustc import crate_name, find_rustc  # noqa: E402
 from nll_page import command, faults, nllc  # noqa: E402
 from nll_page.facts import read_facts  # noqa: E402
 from quick_solver import quick_values  # noqa: E402
 
 EDITION = re.compile(r"// edition: (\d+)\n")
 WHERE = re.compile(r"--> (.*):(\d+):(\d+)$", re.MULTILINE)
-FN = re.compile(r"\s*(?:pub )?(?:async )?fn (\w+)")
+FN = re.compile(r"\s*(?:pub )?(?:async |const |unsafe )*fn (\w+)")
 # By which words of rustc a label is that of the loan, and that of what keeps it in force.
 LOAN = re.compile(r"borrow (of `.*` )?occurs here|is borrowed here|construct(ed|ion occurs) here"
                   r"|immutable in match guard|borrowed here in the previous iteration")
+CAPTURED = re.compile(r"value captured here")
 LATER = re.compile(r"later (used|stored|captured|borrowed)|might be used here|in later iteration"
                    r"|requires that .* is borrowed for|requires that borrow lasts")
-LOAN_ITSELF = ("E0597", "E0716", "E0713", "E0373")      # these stand where the loan is made
+LOAN_ITSELF = ("E0597", "E0716", "E0713", "E0373")      # these stand where the loan is made, if no closure makes it
 
 PLACED = re.compile(r"\s*(\S+?):(\d+)(?::(\d+))?: (?:(E\d{4}): )?(.*)")
 UNPLACED = re.compile(r"  (\S+\.rs): (?:(E\d{4}): )?(.*)")
@@ -103,8 +104,8 @@ def rustc_says(file, folder, options):
     """rustc's messages of a file, by its JSON; the folder is that in which it runs."""
     with tempfile.TemporaryDirectory(dir=MEMORY) as room:
         done = subprocess.run(
-            [find_rustc(), "--crate-type=lib", "--crate-name=input", "--cap-lints=allow", "--emit=metadata",
-             "--error-format=json", f"--out-dir={room}", *options, file],
+            [find_rustc(), "--crate-type=lib", f"--crate-name={crate_name(os.path.join(folder, file))}",
+             "--cap-lints=allow", "--emit=metadata", "--error-format=json", f"--out-dir={room}", *options, file],
             cwd=folder, stdin=subprocess.DEVNULL, capture_output=True, text=True, check=False,
             env=os.environ | {"RUSTC_BOOTSTRAP": "1"})
     return [json.loads(line) for line in done.stderr.splitlines() if line.startswith("{")]
@@ -121,7 +122,7 @@ def row_of(said, file):
     if said["level"] != "error" or not where or where[1] != file:
         return None
     code = (said["code"] or {}).get("code", "")
-    loan = int(where[2]) if code in LOAN_ITSELF else line_of_label(said, LOAN)
+    loan = line_of_label(said, CAPTURED) or int(where[2]) if code in LOAN_ITSELF else line_of_label(said, LOAN)
     return Row(int(where[2]), int(where[3]), code, loan, line_of_label(said, LATER))
 
 
@@ -133,10 +134,11 @@ def line_of_label(said, pattern):
 
 
 def at_home(span):
-    """The use of the outermost macro that a place comes from."""
-    while span["expansion"]:
-        span = span["expansion"]["span"]
-    return span
+    """The place; of what a macro of another file makes the use of the outermost macro."""
+    home = span
+    while home["expansion"]:
+        home = home["expansion"]["span"]
+    return span if span["file_name"] == home["file_name"] else home
 
 
 def quick_report(text):
@@ -294,11 +296,14 @@ def standing_of(row, told, denied):
 
 
 def function_finder(path):
-    """For a file, what gives the name of the function that has a line."""
+    """For a file, what gives the name of the function that has a line: the nearest one above that is less indented."""
     with open(path, encoding="utf-8") as file:
         lines = file.read().split("\n")
 
+    def indent(number):
+        return len(lines[number - 1]) - len(lines[number - 1].lstrip())
+
     def function_at(line):
-        return next((found[1] for number in range(line, 0, -1)
-                     if (found := FN.match(lines[number - 1]))), "")
+        return next((found[1] for number in range(line, 0, -1) if (found := FN.match(lines[number - 1]))
+                     and (number == line or indent(number) < indent(line))), "")
     return function_at

@@ -69,6 +69,18 @@ def answer_of_file(source):
     return support.read_answer(*support.answer_of(source, support.edition_of(source)), source)
 
 
+def both_of_files(texts):
+    """What rustc says of the file lib.rs beside others, and what is printed of it."""
+    with tempfile.TemporaryDirectory(dir=support.MEMORY) as room:
+        os.chdir(room)
+        for name, text in texts.items():
+            with open(name, "w", encoding="utf-8") as file:
+                file.write(text)
+        messages = support.rustc_says("lib.rs", room, ["--edition=2021"])
+        support.in_one_process()
+        return messages, support.answer_of("lib.rs", "2021")[1]
+
+
 def first_files():
     """The first file of each folder."""
     return [next(group) for _, group in itertools.groupby(support.sources(), os.path.dirname)]
@@ -123,6 +135,51 @@ class Answers(unittest.TestCase):
         for source, found in all_differences().items():
             with self.subTest(source=source):
                 self.assertEqual(found, {row[1] for row in known if row[0] == source})
+
+
+@needs_known
+class MacroOfAnotherFile(unittest.TestCase):
+    """An error within a macro of another file has rustc's place there; the macro's use is said."""
+
+    MACROS = """
+macro_rules! next {
+    ($list:ident) => {
+        { $list.pop() }
+    };
+}
+macro_rules! taken {
+    ($text:ident) => {
+        drop($text)
+    };
+}
+"""
+    USES = """
+#[macro_use]
+mod macros;
+pub fn grow(list: &mut Vec<u32>) -> u32 {
+    let first = &mut list[0];
+    next!(list);
+    *first
+}
+pub fn again(text: String) {
+    taken!(text);
+    taken!(text);
+}
+pub fn behind(text: &String) {
+    let own = text;
+    taken!(own);
+    let list = *text;
+    taken!(list);
+}
+"""
+
+    def test_places(self):
+        [(messages, text)] = support.side_by_side(both_of_files, [{"macros.rs": self.MACROS, "lib.rs": self.USES}])
+        for file, codes in (("macros.rs", ["E0382", "E0499"]), ("lib.rs", ["E0507"])):
+            rows = support.rows_of(messages, file)
+            self.assertEqual(sorted(row.code for row in rows), codes)
+            self.assertEqual(support.differences(rows, support.read_answer(0, text, file)), [])
+        self.assertIn("in this macro invocation: lib.rs:6:5; the lines named here are of lib.rs", text)
 
 
 class Reading(unittest.TestCase):

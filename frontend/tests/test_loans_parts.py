@@ -1,5 +1,8 @@
 """The parts by which loans are found and told, on small made-up inputs."""
 
+import json
+import os
+import tempfile
 import unittest
 
 import page_support
@@ -10,8 +13,8 @@ from nll_facts.dumps import Dump
 from nll_facts.errors import own_errors
 from nll_facts.mir import Body, Local, Span, reason_of
 from nll_facts.places import Place, overlap, read_place
-from nll_facts.rustc import Error, read_error
-from nll_page import blame, chains, lifetimes, loans, telling
+from nll_facts.rustc import Error, crate_name, read_error
+from nll_page import blame, chains, differences, lifetimes, loans, telling
 from nll_page.facts import Constraint
 from nll_page.page import Content, Fault
 from nll_page.snippets import snippet, whole_line
@@ -120,6 +123,14 @@ class RustcsWords(unittest.TestCase):
         self.assertEqual((found.category, found.location), ("BoringNoLocation", None))
         self.assertIsNone(reason_of("| '?1 live at {bb0[0]}"))
 
+    def test_the_name_of_a_crate(self):
+        with tempfile.TemporaryDirectory() as folder:
+            path = os.path.join(folder, "a.rs")
+            for text, name in (('#![no_std]\n#![crate_name = "other"]\n', "other"), ("fn f() {}\n", "input")):
+                with open(path, "w", encoding="utf-8") as file:
+                    file.write(text)
+                self.assertEqual(crate_name(path), name)
+
     def test_errors_in_macros(self):
         inner = '{"file_name": "/rustc/none/macros.rs", "line_start": 1, "column_start": 1, ' \
                 '"is_primary": true, "label": "is gone", "expansion": {"span": {"file_name": "a.rs", ' \
@@ -128,6 +139,16 @@ class RustcsWords(unittest.TestCase):
                              f'"spans": [{inner}]}}')
         self.assertEqual((error.places, error.column, error.words()), ([("a.rs", 7)], 5, "E0716: m"))
         self.assertEqual(error.labels, [("a.rs", 7, 5, 7, 9, "is gone")])
+        self.assertEqual((error.within, error.where()), (None, "a.rs:7:5"))
+
+    def test_errors_in_macros_of_another_file_of_the_crate(self):
+        used = {"file_name": "a.rs", "line_start": 7, "column_start": 5, "line_end": 7, "column_end": 9, "expansion": None}
+        inner = {"file_name": "macros.rs", "line_start": 2, "column_start": 3, "line_end": 2, "column_end": 4,
+                 "is_primary": True, "label": "is gone", "expansion": {"span": used}}
+        said = {"level": "error", "rendered": "error\n  --> macros.rs:2:3\n", "message": "m", "code": None, "spans": [inner]}
+        [error] = read_error(json.dumps(said), "sub")
+        self.assertEqual((error.places, error.column), ([("a.rs", 7)], 5))
+        self.assertEqual((error.within[:3], error.where()), (("macros.rs", 2, 3), "sub/macros.rs:2:3"))
 
     def test_whose_errors(self):
         outer = Dump("f", "f", "", "", Span("a.rs", 1, 9, 1, 2))
@@ -139,6 +160,13 @@ class RustcsWords(unittest.TestCase):
         self.assertEqual([e.code for e in own_errors(outer, dumps, errors)],
                          ["E0499", "E0505", "E0597", "E0382"])
         self.assertEqual([e.code for e in own_errors(closure, dumps, errors)], ["E0502", "E0597"])
+
+    def test_whose_errors_of_functions_in_functions(self):
+        outer = Dump("f", "f", "", "", Span("a.rs", 1, 9, 1, 2))
+        inner = Dump("f::g", "f-g", "", "", Span("a.rs", 3, 5, 5, 6))
+        errors = [Error("", [("a.rs", line)], 9, code) for line, code in ((2, "E0499"), (4, "E0384"), (4, "E0597"))]
+        self.assertEqual([e.code for e in own_errors(outer, [outer, inner], errors)], ["E0499"])
+        self.assertEqual([e.code for e in own_errors(inner, [outer, inner], errors)], ["E0384", "E0597"])
 
 
 TEXT = ("region 'x", "region 'y", "next 0 1", "next 1 2", "next 2 3", "return 3",
@@ -176,6 +204,30 @@ class Loans(unittest.TestCase):
         [fault] = self.content(*lines, "# against 1, 2:5-2:6, mut: 0", late).loans
         self.assertEqual((fault.code, fault.against.point), ("E0499", 1))
 
+    def test_second_phases_of_a_place_whose_first_phase_is_told(self):
+        lines = [line for line in TEXT if not line.startswith("# against")]
+        for begun, late, count in (("mut of a", "a after 1", 1), ("mut of a", "a after 0", 2), ("unique of a", "a after 0", 2),
+                                   ("mut of a.0", "a after 0", 2), ("mut of a'", "a' after 0", 2)):
+            found = self.content(*lines, f"# against 1, 2:5-2:6, {begun}: 0", f"# against 2, 2:1-2:9, late of {late}: 0").loans
+            self.assertEqual(len(found), count, (begun, late))
+
+    def test_a_use_in_another_line_than_its_statement(self):
+        for line in ("# called 2, 3:5-3:9", "# captured 2 'y, 3:5-3:9"):
+            [one] = telling.all_of(self.content(*TEXT, line))
+            self.assertIn("since line 3 uses it (`show(y);`)", telling.words.plain(one.cause))
+        [one] = telling.all_of(self.content(*TEXT, "# captured 2 'x, 3:5-3:9"))
+        self.assertIn("since the same line uses it", telling.words.plain(one.cause))
+
+    def test_a_call_that_never_returns_uses_nothing_later(self):
+        lines = ("region 'x", "next 0 1", "next 1 2", "next 1 3", "next 2 4", "next 3 5", "return 4", "return 5",
+                 "# loan 0: 'x at 0, 1:9-1:11, mut of a", "# against 1, 2:5-2:6, assigns: 0", "# uses 'x: 5",
+                 "# drops 'x: 2", *(f"base 'x {point}" for point in range(6)), "# point 0: line 1: y = &mut a (bb0[0])",
+                 "# point 3: line 2: nop (bb2[0])", "# point 2: line 3: drop(y) (bb1[0])", "# point 5: line 3: show (bb2[1])")
+        for text, use in (("f() -> bb1", 5), ("f() -> [return: bb1, unwind: bb9]", 2)):
+            facts = page_support.facts_of(6, *lines, f"# point 1: line 2: {text} (bb0[1])")
+            [fault] = loans.loan_faults(facts, quick_values(facts))
+            self.assertEqual(fault.cause.use, use)
+
     def test_an_earlier_turn(self):
         [fault] = self.content("region 'x", "next 0 1", "next 1 0", "next 1 2", "return 2", "base 'x 0",
                                "base 'x 1", "# loan 0: 'x at 0, 1:9-1:11, mut of a",
@@ -183,6 +235,25 @@ class Loans(unittest.TestCase):
         told = telling.of_loan(self.content(), fault)
         self.assertEqual(telling.words.plain(told.head), "`&a` borrows `a` as mutable, which it has borrowed as "
                          "mutable in an earlier turn of the loop")
+
+    def test_what_a_loan_must_outlive(self):
+        lines = ("universal 'a", "universal 'r7", "universal 'c", "region 'x", "return 0", "# loan 0: 'x at 0, 1:9-1:11, mut of a")
+        for more, name in ((("constraint 'x 'a 0",), "a"), (("constraint 'x 'a 0", "constraint 'x 'r7 0"), "a"),
+                           (("constraint 'x 'a 0", "constraint 'x 'c 0"), "c"),
+                           (("outlives 'a 'c", "constraint 'x 'a 0", "constraint 'x 'c 0"), "a"),
+                           (("constraint 'x 'a 0", "constraint 'a 'static 0"), "static")):
+            facts = page_support.facts_of(1, *lines, *more)
+            values = quick_values(facts)
+            region = facts.names.index("x")
+            self.assertEqual(facts.names[loans.why(facts, values, region, 0).region], name, more)
+
+    def test_what_rustc_names_of_a_loan_once_more(self):
+        here, there = "# rustc 2:5: E0506: cannot assign", "# rustc 3:1: E0515: cannot return"
+        label = "# label 1:9-1:11: `a` is borrowed here"
+        self.assertEqual(list(differences.further(self.content(*TEXT, here, label))), [])
+        self.assertEqual(list(differences.further(self.content(*TEXT, there, label))), [])
+        [found] = differences.further(self.content(*TEXT, here, label, there, label))
+        self.assertEqual(found[:3], (3, 1, "E0515: cannot return"))
 
     def test_closures_that_borrow_uniquely(self):
         for kind, way, code in (("unique", "unique", "E0524"), ("mut", "unique", "E0500"),
