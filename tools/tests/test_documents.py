@@ -61,7 +61,7 @@ class Documents(unittest.TestCase):
 
     def test_named_wrong_bodies(self):
         """Each wrong body that the claims name stands in the folder that was named last."""
-        named = re.findall(r"`(?:(nll_\w+/[\w-]+)/)?(\w+)\.edit`", (ROOT / "docs/dev/CLAIMS.md").read_text())
+        named = re.findall(r"`(?:(\w+/[\w-]+)/)?(\w+)\.edit`", (ROOT / "docs/dev/CLAIMS.md").read_text())
         self.assertTrue(named)
         folder = None
         for of, edit in named:

@@ -1,0 +1,70 @@
+-- What the lists for other owners have.
+use Rattle.std.proofs.Common.{◌≡◌, ◌≢◌, ℕ, ◌+◌, ◌<◌, Bool, true, false, cond, List, [], ◌∷◌, ◌++◌, length, take, get_or, sym, ap, ◌∙◌, subst, ⊎_elim, arith, append-nil}
+use Rattle.std.proofs.lemmas.Bool.{cases_eq}
+use Rattle.std.proofs.lemmas.List.{get_or-set_same, get_or-set_other, length-set}
+use Rattle.std.proofs.lemmas.List.Elements.{filter-append}
+use Rattle.std.proofs.Math.Seq.{take-append_seam}
+use Rattle.fixpoint.specs.Rules.{Rules}
+use Rattle.fixpoint.specs.Logs.{part}
+use Rattle.fixpoint.specs.declared.growth.Growth.{Growth}
+use Rattle.keeper.specs.Keeping.{AreDealt, AreParts, with_growth}
+
+module _ {A F : Type 0} (rules : Rules A F) (a : A) (g : Growth F) where
+  part_one : (j : ℕ) (b : Bool) → rules.reads a j g.fact ≡ b → part rules a j (g ∷ []) ≡ cond b (g ∷ []) []
+  part_one j b is = ap (λ t. cond t (g ∷ []) []) is
+
+  module _ (old new : List (List (Growth F))) (i : ℕ) (dealt : AreDealt rules a g i old new) (low : i < length
+      old) where
+    -- owner i reads the growth and gets it
+    pub dealt_push : rules.reads a i g.fact ≡ true → AreDealt rules a g (i + 1) old (with_growth new i g)
+    dealt_push reads = record {
+      counted = length-set new i (get_or new i [] ++ g ∷ []) ∙ dealt.counted;
+      got = λ j below within. ⊎_elim
+          (λ (same : j ≡ i). subst (λ k. get_or (with_growth new i g) k [] ≡ get_or old k [] ++ part rules a k (g ∷ []))
+          (sym same)
+          (get_or-set_same new i (get_or new i [] ++ g ∷ []) [] (omega (arith, dealt.counted, low))
+          ∙ (ap (λ xs. xs ++ g ∷ []) (dealt.left i (omega arith))
+          ∙ ap (λ xs. get_or old i [] ++ xs) (sym (part_one i true reads)))))
+          (λ (other : j ≢ i). get_or-set_other new i j (get_or new i [] ++ g ∷ []) [] other
+          ∙ dealt.got j (omega (arith, below, other)) within)
+          (cases_eq j i);
+      left = λ j above. get_or-set_other new i j (get_or new i [] ++ g ∷ []) [] (λ same. omega (arith, above, same))
+          ∙ dealt.left j (omega (arith, above));
+    }
+
+    -- owner i doesn't read it
+    pub dealt_pass : rules.reads a i g.fact ≡ false → AreDealt rules a g (i + 1) old new
+    dealt_pass reads = record {
+      counted = dealt.counted;
+      got = λ j below within. ⊎_elim
+          (λ (same : j ≡ i). subst (λ k. get_or new k [] ≡ get_or old k [] ++ part rules a k (g ∷ []))
+          (sym same)
+          (dealt.left i (omega arith)
+          ∙ (sym (append-nil (get_or old i []))
+          ∙ ap (λ xs. get_or old i [] ++ xs) (sym (part_one i false reads)))))
+          (λ (other : j ≢ i). dealt.got j (omega (arith, below, other)) within)
+          (cases_eq j i);
+      left = λ j above. dealt.left j (omega (arith, above));
+    }
+
+  -- what each owner receives of a log with this growth behind
+  pub parts_more : (log : List (Growth F)) (old new : List (List (Growth F))) → AreParts rules a log old
+      → AreDealt rules a g (length old) old new → AreParts rules a (log ++ g ∷ []) new
+  parts_more log old new parts dealt = record {
+    counted = dealt.counted ∙ parts.counted;
+    each = λ j low. dealt.got j (omega (arith, low, parts.counted)) (omega (arith, low, parts.counted))
+        ∙ (ap (λ xs. xs ++ part rules a j (g ∷ [])) (parts.each j low)
+        ∙ sym (filter-append (λ (h : Growth F). rules.reads a j h.fact) log (g ∷ [])));
+  }
+
+module _ {A F : Type 0} (rules : Rules A F) (b a : A) (system : a ≡ b) (lists : List (List (Growth F))) where
+  -- what the lists had of the log they have of the beginning of a longer one
+  pub parts_front : (old log rest : List (Growth F)) (place : ℕ) → log ≡ old ++ rest → place ≡ length old
+      → AreParts rules b old lists → AreParts rules a (take place log) lists
+  parts_front old log rest place more all parts =
+      subst (λ xs. AreParts rules a xs lists)
+      (sym (ap (take place) more ∙ (ap (λ n. take n (old ++ rest)) all ∙ take-append_seam old rest)))
+      (subst (λ x. AreParts rules x old lists) (sym system) parts)
+
+  pub parts_same : (log : List (Growth F)) → AreParts rules a log lists → AreParts rules b log lists
+  parts_same log parts = subst (λ x. AreParts rules x log lists) system parts

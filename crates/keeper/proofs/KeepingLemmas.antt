@@ -1,0 +1,565 @@
+-- What a part has after a step.
+use Rattle.std.proofs.Common.{◌≡◌, ◌≢◌, ℕ, suc, max, ◌+◌, ◌<◌, ◌≤◌, Bool, true, false, cond, ◌||◌, List, [], ◌∷◌, ◌++◌, length, map, set, replicate, Contains, AllPairs, IsTrue, get_or, eqb, refl, sym, ap, ◌∙◌, subst, inl, inr, ◌⊎◌, ⊎_elim, arith, length-append}
+use Rattle.std.specs.List.{filter}
+use Rattle.std.specs.Prelude.{Result, Ok, Err, OnOk, OnErr}
+use Rattle.std.proofs.lemmas.Bool.{cases_eq, cases_lt, false≢true}
+use Rattle.std.proofs.lemmas.List.{get_or-map, length-map, map-set, get_or_default, get_or-replicate, get_or_past, get_or-set_same, get_or-set_other, length-set, length-replicate}
+use Rattle.std.proofs.lemmas.List.Elements.{Contains-append_left, Contains-push, Contains-push_cases, filter-append}
+use Rattle.std.proofs.lemmas.List.Quantifiers.{all_pairs_push}
+use Rattle.std.proofs.Math.Seq.{map-set_same}
+use Rattle.fixpoint.specs.Limits.{most_growths}
+use Rattle.fixpoint.specs.Rules.{Rules, AreLawful}
+use Rattle.fixpoint.specs.Logs.{IsTold, IsWellFormed, IsWellSupported, tells, tells_before, part}
+use Rattle.fixpoint.specs.State.{State, IsSound, IsNoted, Passes, list_in, received_from, part_for, given_to, first_state}
+use Rattle.fixpoint.specs.declared.growth.Growth.{Growth}
+use Rattle.fixpoint.proofs.LogLemmas.{list_own, list_other, tells_from, tells_to, before_from, before_to}
+use Rattle.keeper.specs.Engine.{IsFound, with_fact}
+use Rattle.keeper.specs.Keeping.{IsKept, has, with_growth}
+
+-- two truth values that follow from each other are one
+pub same_truth : (a b : Bool) → (a ≡ true → b ≡ true) → (b ≡ true → a ≡ true) → a ≡ b
+same_truth true b to from = sym (to refl)
+same_truth false true to from = from refl
+same_truth false false to from = refl
+
+pub or_cases : (a b : Bool) → (a || b) ≡ true → (a ≡ true) ⊎ (b ≡ true)
+or_cases true b h = inl refl
+or_cases false b h = inr h
+
+pub or_left : (a b : Bool) → a ≡ true → (a || b) ≡ true
+or_left true b h = refl
+or_left false b h = absurd (false≢true h)
+
+pub or_right : (a b : Bool) → b ≡ true → (a || b) ≡ true
+or_right true b h = refl
+or_right false b h = h
+
+-- all that is in one list is in the other
+abbrev pub IsIn : {X : Type 0} → List X → List X → Type 0
+IsIn {X} xs ys = (x : X) → Contains xs x → Contains ys x
+
+module _ {A F : Type 0} (rules : Rules A F) (lawful : AreLawful rules) where
+  -- what follows from facts follows from more of them
+  pub derives_more : (a : A) → rules.valid a → (known more : F → Bool) → ((f : F) → IsTrue (known f) → IsTrue (more f))
+      → (f : F) → rules.derives a known f → rules.derives a more f
+  derives_more a ok known more each f h = lawful.local a ok known more f (λ g sees k. each g k) h
+
+  told_in : (xs ys : List (Growth F)) → IsIn xs ys → (f : F) → IsTold xs f → IsTold ys f
+  told_in xs ys more f h = (h.0, more h.0 h.1, h.2)
+
+  tells_in : (xs ys : List (Growth F)) → IsIn xs ys → (f : F) → IsTrue (tells rules xs f) → IsTrue (tells rules ys f)
+  tells_in xs ys more f h =
+      tells_to rules lawful.same_tells ys f (told_in xs ys more f (tells_from rules lawful.same_tells xs f h))
+
+  before_in : (xs ys : List (Growth F)) → IsIn xs ys → (rank : ℕ) (f : F) → IsTrue (tells_before rules rank xs f)
+      → IsTrue (tells_before rules rank ys f)
+  before_in xs ys more rank f h =
+      let t = before_from rules lawful.same_tells rank xs f h in
+      before_to rules lawful.same_tells rank ys f t.0 (more t.0 t.1) t.2 t.3
+
+  supported_in : (a : A) → rules.valid a → (old new : F → List (Growth F)) → ((f : F) → IsIn (old f) (new f))
+      → (log : List (Growth F)) → IsWellSupported rules a old log → IsWellSupported rules a new log
+  supported_in a ok old new more log h g at =
+      derives_more a ok (λ f. tells_before rules g.rank (old f) f) (λ f. tells_before rules g.rank (new f) f)
+      (λ f t. before_in (old f) (new f) (more f) g.rank f t) g.fact (h g at)
+
+  -- a list of growths of different facts is short
+  few_in : (a : A) → rules.valid a → (log : List (Growth F))
+      → ((g : Growth F) → Contains log g → rules.proper a g.fact)
+      → AllPairs (λ (g h : Growth F). g.fact ≡ h.fact → ⊥) log → length log < most_growths
+  few_in a ok log proper once =
+      let few = lawful.few_facts a ok (map fact_of log) (record { each = each; once = apart }) in
+      omega (arith, few, length-map log fact_of)
+    where
+      fact_of : Growth F → F
+      fact_of g = g.fact
+
+      some : F → Growth F
+      some f = record { fact = f; rank = 0 }
+
+      each : (f : F) → Contains (map fact_of log) f → rules.proper a f
+      each f (k, l, h) =
+          let low : k < length log = omega (arith, l, length-map log fact_of) in
+          let g = get_or log k (some f) in
+          subst (λ (x : F). rules.proper a x) (sym (get_or-map fact_of log k (some f) f low) ∙ h)
+          (proper g (k, low, get_or_default log k g (some f) low))
+
+      apart : AllPairs (λ (f g : F). f ≡ g → ⊥) (map fact_of log)
+      apart i j d before l same =
+          let low : j < length log = omega (arith, l, length-map log fact_of) in
+          once i j (some d) before low
+          (sym (get_or-map fact_of log i (some d) d (omega (arith, before, low)))
+          ∙ (same ∙ get_or-map fact_of log j (some d) d low))
+
+  -- ---- an own fact grows
+
+  module _ (o : State A F) (clock : ℕ) (kept : IsKept rules o clock) (fact : F)
+      (found : IsFound rules o.system o.me (has rules o) fact)
+      (lacks : IsTrue (has rules o fact) → ⊥) where
+    abbrev growth : Growth F
+    growth = record { fact = fact; rank = clock + 1 }
+
+    abbrev pub grown : State A F
+    grown = record o { log = o.log ++ growth ∷ [] }
+
+    longer : (f : F) → IsIn (list_in rules o f) (list_in rules grown f)
+    longer f = go (eqb (rules.owner o.system f) o.me)
+      where
+        go : (t : Bool) → IsIn (cond t o.log (received_from o (rules.owner o.system f)))
+            (cond t (o.log ++ growth ∷ []) (received_from o (rules.owner o.system f)))
+        go true g h = Contains-append_left o.log (growth ∷ []) g h
+        go false g h = h
+
+    rank_low : (f : F) (g : Growth F) → Contains (list_in rules o f) g → g.rank < clock + 1
+    rank_low f g at = ⊎_elim
+        (λ same. let l = kept.own_ranks g
+        (subst (λ xs. Contains xs g) (list_own rules o.system o.me o.log (received_from o) f same) at) in
+        omega (arith, l))
+        (λ other. let l = kept.heard_ranks (rules.owner o.system f) g
+        (subst (λ xs. Contains xs g) (list_other rules o.system o.me o.log (received_from o) f other) at) in
+        omega (arith, l))
+        (cases_eq (rules.owner o.system f) o.me)
+
+    -- all that the part has knows below the next rank
+    below : (f : F) → IsTrue (has rules o f) → IsTrue (tells_before rules (clock + 1) (list_in rules grown f) f)
+    below f h =
+        let t = tells_from rules lawful.same_tells (list_in rules o f) f h in
+        before_to rules lawful.same_tells (clock + 1) (list_in rules grown f) f t.0 (longer f t.0 t.1) t.2
+        (rank_low f t.0 t.1)
+
+    own_list : (p : State A F) → p.system ≡ o.system → p.me ≡ o.me → list_in rules p fact ≡ p.log
+    own_list p system me = list_own rules p.system p.me p.log (received_from p) fact
+        (subst (λ (x : A). rules.owner x fact ≡ p.me) (sym system) (found.own ∙ sym me))
+
+    fresh : (g : Growth F) → Contains o.log g → g.fact ≡ fact → ⊥
+    fresh g at is =
+        lacks (tells_to rules lawful.same_tells (list_in rules o fact) fact
+        (g, subst (λ xs. Contains xs g) (sym (own_list o refl refl)) at, is))
+
+    grown_well_formed : IsWellFormed rules o.system o.me (o.log ++ growth ∷ [])
+    grown_well_formed = record {
+      own = λ g h. ⊎_elim (λ old. kept.sound.well_formed.own g old)
+          (λ is. subst (λ (g : Growth F). rules.owner o.system g.fact ≡ o.me) is found.own)
+          (Contains-push_cases o.log growth g h);
+      once = all_pairs_push (λ (g h : Growth F). g.fact ≡ h.fact → ⊥) o.log growth kept.sound.well_formed.once
+          (λ k d l same. fresh (get_or o.log k d) (k, l, get_or_default o.log k (get_or o.log k d) d l) same);
+      rising = all_pairs_push (λ (g h : Growth F). g.rank < h.rank) o.log growth kept.sound.well_formed.rising
+          (λ k d l. let r = kept.own_ranks (get_or o.log k d) (k, l, get_or_default o.log k (get_or o.log k d) d l) in
+          omega (arith, r));
+      from_one = λ g h. ⊎_elim (λ old. kept.sound.well_formed.from_one g old)
+          (λ is. subst (λ (g : Growth F). 1 ≤ g.rank) is (omega arith)) (Contains-push_cases o.log growth g h);
+    }
+
+    grown_supported : IsWellSupported rules o.system (list_in rules grown) (o.log ++ growth ∷ [])
+    grown_supported g h = ⊎_elim
+        (λ old. supported_in o.system kept.sound.valid (list_in rules o) (list_in rules grown) longer o.log
+        kept.sound.supported g old)
+        (λ is. subst (λ (g : Growth F).
+        rules.derives o.system (λ f. tells_before rules g.rank (list_in rules grown f) f) g.fact) is
+        (derives_more o.system kept.sound.valid (has rules o)
+        (λ f. tells_before rules (clock + 1) (list_in rules grown f) f) below fact found.follows))
+        (Contains-push_cases o.log growth g h)
+
+    grown_proper : (g : Growth F) → Contains (o.log ++ growth ∷ []) g → rules.proper o.system g.fact
+    grown_proper g h = ⊎_elim (λ old. kept.sound.proper g old)
+        (λ is. subst (λ (g : Growth F). rules.proper o.system g.fact) is found.proper)
+        (Contains-push_cases o.log growth g h)
+
+    grown_few : length (o.log ++ growth ∷ []) < most_growths
+    grown_few = few_in o.system kept.sound.valid (o.log ++ growth ∷ []) grown_proper grown_well_formed.once
+
+    part_longer : (j : ℕ) → part_for rules grown j ≡ part_for rules o j ++ part rules o.system j (growth ∷ [])
+    part_longer j = filter-append _ o.log (growth ∷ [])
+
+    known_still : (h : Growth F) → IsNoted o h → IsNoted grown h
+    known_still h k =
+        ⊎_elim (λ (a : Contains o.log h). inl (Contains-append_left o.log (growth ∷ []) h a))
+        (λ (b : (j : ℕ) × Contains (received_from o j) h). inr b) k
+
+    pub grown_sound : IsSound rules grown
+    grown_sound = record {
+      valid = kept.sound.valid;
+      me = kept.sound.me;
+      well_formed = grown_well_formed;
+      supported = grown_supported;
+      proper = grown_proper;
+      few = grown_few;
+      senders = kept.sound.senders;
+      heard = kept.sound.heard;
+      steps = λ g h more. ⊎_elim
+          (λ old. let x = kept.sound.steps g old more in (x.0, known_still x.0 x.1, x.2))
+          (λ is. ⊎_elim
+          (λ (none : clock ≡ 0). absurd (let r = ap (λ (x : Growth F). x.rank) is in omega (arith, r, none, more)))
+          (λ (t : (h : Growth F) × IsNoted o h × (h.rank ≡ clock)).
+          (t.0, known_still t.0 t.1, (let r = ap (λ (x : Growth F). x.rank) is in let e = t.2 in omega (arith, r, e))))
+          kept.top)
+          (Contains-push_cases o.log growth g h);
+      receivers = kept.sound.receivers;
+      given = λ j. omega (
+        arith,
+        kept.sound.given j,
+        ap length (part_longer j),
+        length-append (part_for rules o j) (part rules o.system j (growth ∷ [])),
+      );
+    }
+
+    pub grown_kept : IsKept rules grown (clock + 1)
+    grown_kept = record {
+      sound = grown_sound;
+      own_ranks = λ g h. ⊎_elim (λ old. (let l = kept.own_ranks g old in omega (arith, l)))
+          (λ is. subst (λ (g : Growth F). g.rank ≤ clock + 1) is (omega arith))
+          (Contains-push_cases o.log growth g h);
+      heard_ranks = λ j g h. (let l = kept.heard_ranks j g h in omega (arith, l));
+      top = inr (growth, inl (Contains-push o.log growth), refl);
+      early = omega (arith, kept.early, length-append o.log (growth ∷ []));
+    }
+
+    pub grown_has : (f : F) → has rules grown f ≡ with_fact rules fact (has rules o) f
+    grown_has f = same_truth (has rules grown f) (with_fact rules fact (has rules o) f) to from
+      where
+        to : has rules grown f ≡ true → with_fact rules fact (has rules o) f ≡ true
+        to h =
+            let t = tells_from rules lawful.same_tells (list_in rules grown f) f h in
+            ⊎_elim
+            (λ same. ⊎_elim
+            (λ (old : Contains o.log t.0). or_right (rules.same fact f) (has rules o f)
+            (tells_to rules lawful.same_tells (list_in rules o f) f (
+              t.0,
+              subst (λ xs. Contains xs t.0) (sym (list_own rules o.system o.me o.log (received_from o) f same)) old,
+              t.2,
+            )))
+            (λ (is : growth ≡ t.0). or_left (rules.same fact f) (has rules o f)
+            ((lawful.same_tells fact f).1 (ap (λ (x : Growth F). x.fact) is ∙ t.2)))
+            (Contains-push_cases o.log growth t.0
+            (subst (λ xs. Contains xs t.0)
+            (list_own rules o.system o.me (o.log ++ growth ∷ []) (received_from o) f same) t.1)))
+            (λ other. or_right (rules.same fact f) (has rules o f)
+            (tells_to rules lawful.same_tells (list_in rules o f) f (
+              t.0,
+              subst (λ xs. Contains xs t.0)
+                  (list_other rules o.system o.me (o.log ++ growth ∷ []) (received_from o) f other
+                  ∙ sym (list_other rules o.system o.me o.log (received_from o) f other)) t.1,
+              t.2,
+            )))
+            (cases_eq (rules.owner o.system f) o.me)
+
+        from : with_fact rules fact (has rules o) f ≡ true → has rules grown f ≡ true
+        from h = ⊎_elim
+            (λ same. let is = (lawful.same_tells fact f).0 same in
+            subst (λ g. has rules grown g ≡ true) is
+            (tells_to rules lawful.same_tells (list_in rules grown fact) fact (
+              growth,
+              subst (λ xs. Contains xs growth) (sym (own_list grown refl refl)) (Contains-push o.log
+                  growth),
+              refl,
+            )))
+            (λ old. tells_in (list_in rules o f) (list_in rules grown f) (longer f) f old)
+            (or_cases (rules.same fact f) (has rules o f) h)
+
+  -- ---- a growth is received
+
+  module _ (o : State A F) (clock : ℕ) (kept : IsKept rules o clock) (from : ℕ) (g : Growth F)
+      (passes : Passes rules o.system o.me from g) where
+    abbrev pub told_of : State A F
+    told_of = record o { received = with_growth o.received from g }
+
+    told_other : rules.owner o.system g.fact ≢ o.me
+    told_other = (lawful.others o.system kept.sound.valid o.me g.fact passes.read).1
+
+    pub from_in : from < length o.received
+    from_in =
+        let l = (lawful.others o.system kept.sound.valid o.me g.fact passes.read).0 in
+        omega (arith, l, passes.sender, kept.sound.senders)
+
+    received_here : received_from told_of from ≡ received_from o from ++ g ∷ []
+    received_here = get_or-set_same o.received from (received_from o from ++ g ∷ []) [] from_in
+
+    received_other : (j : ℕ) → j ≢ from → received_from told_of j ≡ received_from o j
+    received_other j h = get_or-set_other o.received from j (received_from o from ++ g ∷ []) [] h
+
+    received_cases : (j : ℕ) (h : Growth F) → Contains (received_from told_of j) h
+        → Contains (received_from o j) h ⊎ ((j ≡ from) × (g ≡ h))
+    received_cases j h at = ⊎_elim
+        (λ same. ⊎_elim
+        (λ old. inl (subst (λ i. Contains (received_from o i) h) (sym same) old))
+        (λ is. inr (same, is))
+        (Contains-push_cases (received_from o from) g h
+        (subst (λ xs. Contains xs h) received_here (subst (λ i. Contains (received_from told_of i) h) same at))))
+        (λ differs. inl (subst (λ xs. Contains xs h) (received_other j differs) at))
+        (cases_eq j from)
+
+    received_more : (j : ℕ) → IsIn (received_from o j) (received_from told_of j)
+    received_more j h at = ⊎_elim
+        (λ same. subst (λ i. Contains (received_from told_of i) h) (sym same)
+        (subst (λ xs. Contains xs h) (sym received_here)
+        (Contains-append_left (received_from o from) (g ∷ []) h
+        (subst (λ i. Contains (received_from o i) h) same at))))
+        (λ differs. subst (λ xs. Contains xs h) (sym (received_other j differs)) at)
+        (cases_eq j from)
+
+    told_longer : (f : F) → IsIn (list_in rules o f) (list_in rules told_of f)
+    told_longer f = go (eqb (rules.owner o.system f) o.me)
+      where
+        go : (t : Bool) → IsIn (cond t o.log (received_from o (rules.owner o.system f)))
+            (cond t o.log (received_from told_of (rules.owner o.system f)))
+        go true h at = at
+        go false h at = received_more (rules.owner o.system f) h at
+
+    told_known : (h : Growth F) → IsNoted o h → IsNoted told_of h
+    told_known h k =
+        ⊎_elim (λ (a : Contains o.log h). inl a)
+        (λ (b : (j : ℕ) × Contains (received_from o j) h). inr (b.0, received_more b.0 h b.1)) k
+
+    pub told_sound : IsSound rules told_of
+    told_sound = record {
+      valid = kept.sound.valid;
+      me = kept.sound.me;
+      well_formed = kept.sound.well_formed;
+      supported = supported_in o.system kept.sound.valid (list_in rules o) (list_in rules told_of) told_longer o.log
+          kept.sound.supported;
+      proper = kept.sound.proper;
+      few = kept.sound.few;
+      senders = length-set o.received from (received_from o from ++ g ∷ []) ∙ kept.sound.senders;
+      heard = λ j h at. ⊎_elim (λ old. kept.sound.heard j h old)
+          (λ (is : (j ≡ from) × (g ≡ h)). subst
+          (λ (x : Growth F). (rules.owner o.system x.fact ≡ j) × (rules.reads o.system o.me x.fact ≡ true)) is.1
+          (passes.sender ∙ sym is.0, passes.read)) (received_cases j h at);
+      steps = λ h at more. let x = kept.sound.steps h at more in (x.0, told_known x.0 x.1, x.2);
+      receivers = kept.sound.receivers;
+      given = kept.sound.given;
+    }
+
+    pub told_kept : IsKept rules told_of (max clock g.rank)
+    told_kept = record {
+      sound = told_sound;
+      own_ranks = λ h at. (let l = kept.own_ranks h at in omega (arith, l));
+      heard_ranks = λ j h at. ⊎_elim (λ old. (let l = kept.heard_ranks j h old in omega (arith, l)))
+          (λ (is : (j ≡ from) × (g ≡ h)). subst (λ (x : Growth F). x.rank ≤ max clock g.rank) is.1 (omega arith))
+          (received_cases j h at);
+      top = ⊎_elim
+          (λ (same : max clock g.rank ≡ clock). ⊎_elim
+          (λ (none : clock ≡ 0). inl (same ∙ none))
+          (λ (t : (h : Growth F) × IsNoted o h × (h.rank ≡ clock)).
+          inr (t.0, told_known t.0 t.1, t.2 ∙ sym same))
+          kept.top)
+          (λ (is : max clock g.rank ≡ g.rank). inr (
+            g,
+            inr (from, subst (λ xs. Contains xs g) (sym received_here) (Contains-push (received_from o from) g)),
+            sym is,
+          ))
+          either;
+      early = omega (arith, kept.early, passes.rank);
+    }
+      where
+        either : (max clock g.rank ≡ clock) ⊎ (max clock g.rank ≡ g.rank)
+        either = ⊎_elim (λ l. inr (omega (arith, l))) (λ l. inl (omega (arith, l))) (cases_lt clock g.rank)
+
+    pub told_has : (f : F) → has rules told_of f ≡ with_fact rules g.fact (has rules o) f
+    told_has f = same_truth (has rules told_of f) (with_fact rules g.fact (has rules o) f) to from_it
+      where
+        to : has rules told_of f ≡ true → with_fact rules g.fact (has rules o) f ≡ true
+        to h =
+            let t = tells_from rules lawful.same_tells (list_in rules told_of f) f h in
+            ⊎_elim
+            (λ same. or_right (rules.same g.fact f) (has rules o f)
+            (tells_to rules lawful.same_tells (list_in rules o f) f (
+              t.0,
+              subst (λ xs. Contains xs t.0)
+                  (list_own rules o.system o.me o.log (received_from told_of) f same
+                  ∙ sym (list_own rules o.system o.me o.log (received_from o) f same)) t.1,
+              t.2,
+            )))
+            (λ differs. ⊎_elim
+            (λ old. or_right (rules.same g.fact f) (has rules o f)
+            (tells_to rules lawful.same_tells (list_in rules o f) f (
+              t.0,
+              subst (λ xs. Contains xs t.0)
+                  (sym (list_other rules o.system o.me o.log (received_from o) f differs)) old,
+              t.2,
+            )))
+            (λ (is : (rules.owner o.system f ≡ from) × (g ≡ t.0)). or_left (rules.same g.fact f) (has rules o f)
+            ((lawful.same_tells g.fact f).1 (ap (λ (x : Growth F). x.fact) is.1 ∙ t.2)))
+            (received_cases (rules.owner o.system f) t.0
+            (subst (λ xs. Contains xs t.0) (list_other rules o.system o.me o.log (received_from told_of) f
+            differs) t.1)))
+            (cases_eq (rules.owner o.system f) o.me)
+
+        from_it : with_fact rules g.fact (has rules o) f ≡ true → has rules told_of f ≡ true
+        from_it h = ⊎_elim
+            (λ same. let is = (lawful.same_tells g.fact f).0 same in
+            subst (λ x. has rules told_of x ≡ true) is
+            (tells_to rules lawful.same_tells (list_in rules told_of g.fact) g.fact (
+              g,
+              subst (λ xs. Contains xs g)
+                  (sym (list_other rules o.system o.me o.log (received_from told_of) g.fact told_other
+                  ∙ (ap (received_from told_of) passes.sender ∙ received_here)))
+                  (Contains-push (received_from o from) g),
+              refl,
+            )))
+            (λ old. tells_in (list_in rules o f) (list_in rules told_of f) (told_longer f) f old)
+            (or_cases (rules.same g.fact f) (has rules o f) h)
+
+  -- ---- the marks of a call
+
+  pub marked_kept : (o : State A F) (clock : ℕ) (is_loaded is_broken : Bool) → IsKept rules o clock
+      → IsKept rules (record o { loaded = is_loaded; broken = is_broken }) clock
+  marked_kept o clock is_loaded is_broken k = record {
+    sound = record {
+      valid = k.sound.valid;
+      me = k.sound.me;
+      well_formed = k.sound.well_formed;
+      supported = k.sound.supported;
+      proper = k.sound.proper;
+      few = k.sound.few;
+      senders = k.sound.senders;
+      heard = k.sound.heard;
+      steps = k.sound.steps;
+      receivers = k.sound.receivers;
+      given = k.sound.given;
+    };
+    own_ranks = k.own_ranks;
+    heard_ranks = k.heard_ranks;
+    top = k.top;
+    early = k.early;
+  }
+
+  -- ---- giving out
+
+  module _ (o : State A F) (clock : ℕ) (kept : IsKept rules o clock) (to n : ℕ) (to_in : to < rules.parts o.system)
+      (n_is : given_to o to ≡ n) (more : given_to o to < length (part_for rules o to)) where
+    abbrev pub given_of : State A F
+    given_of = record o { given = set o.given to (n + 1) }
+
+    here : given_to given_of to ≡ n + 1
+    here = get_or-set_same o.given to (n + 1) 0 (omega (arith, kept.sound.receivers, to_in))
+
+    there_other : (j : ℕ) → j ≢ to → given_to given_of j ≡ given_to o j
+    there_other j h = get_or-set_other o.given to j (n + 1) 0 h
+
+    pub given_kept : IsKept rules given_of clock
+    given_kept = record {
+      sound = record {
+        valid = kept.sound.valid;
+        me = kept.sound.me;
+        well_formed = kept.sound.well_formed;
+        supported = kept.sound.supported;
+        proper = kept.sound.proper;
+        few = kept.sound.few;
+        senders = kept.sound.senders;
+        heard = kept.sound.heard;
+        steps = kept.sound.steps;
+        receivers = length-set o.given to (n + 1) ∙ kept.sound.receivers;
+        given = λ j. ⊎_elim
+            (λ same. subst (λ i. given_to given_of i ≤ length (part_for rules o i)) (sym same)
+            (omega (arith, here, n_is, more)))
+            (λ differs. (let f = kept.sound.given j in omega (arith, f, there_other j differs)))
+            (cases_eq j to);
+      };
+      own_ranks = kept.own_ranks;
+      heard_ranks = kept.heard_ranks;
+      top = kept.top;
+      early = kept.early;
+    }
+
+  -- ---- a part that has done nothing yet
+
+  module _ (a : A) (ok : rules.valid a) (i : ℕ) (me : i < rules.parts a) where
+    abbrev first : State A F
+    first = first_state rules a i
+
+    no_growth : (g : Growth F) → Contains [] g → ⊥
+    no_growth g h = omega (arith, h.1)
+
+    none_heard : (j : ℕ) (g : Growth F) → Contains (received_from first j) g → ⊥
+    none_heard j g h = no_growth g (subst (λ (xs : List (Growth F)). Contains xs g) none h)
+      where
+        none : received_from first j ≡ []
+        none = ⊎_elim
+            (λ within. get_or-replicate (rules.parts a) j [] [] within)
+            (λ past. get_or_past (replicate (rules.parts a) []) j []
+            (omega (arith, past, length-replicate {A = List (Growth F)} (rules.parts a) [])))
+            (cases_lt j (rules.parts a))
+
+    zero_at : (j : ℕ) → ◌≡◌ {A = ℕ} (get_or (replicate (rules.parts a) 0) j 0) 0
+    zero_at j = ⊎_elim
+        (λ within. get_or-replicate (rules.parts a) j 0 0 within)
+        (λ past. get_or_past (replicate (rules.parts a) 0) j 0
+        (omega (arith, past, length-replicate {A = ℕ} (rules.parts a) 0)))
+        (cases_lt j (rules.parts a))
+
+    pub first_kept : IsKept rules first 0
+    first_kept = record {
+      sound = record {
+        valid = ok;
+        me = me;
+        well_formed =
+            record {
+              own = λ g h. absurd (no_growth g h);
+              once = λ j k d l h. absurd (omega (arith, h));
+              rising = λ j k d l h. absurd (omega (arith, h));
+              from_one = λ g h. absurd (no_growth g h);
+            };
+        supported = λ g h. absurd (no_growth g h);
+        proper = λ g h. absurd (no_growth g h);
+        few = omega arith;
+        senders = length-replicate (rules.parts a) [];
+        heard = λ j g h. absurd (none_heard j g h);
+        steps = λ g h. absurd (no_growth g h);
+        receivers = length-replicate (rules.parts a) 0;
+        given = λ j. omega (arith, zero_at j);
+      };
+      own_ranks = λ g h. absurd (no_growth g h);
+      heard_ranks = λ j g h. absurd (none_heard j g h);
+      top = inl refl;
+      early = omega arith;
+    }
+
+    pub first_has : (f : F) → has rules first f ≡ false
+    first_has f = same_truth (has rules first f) false
+        (λ h. let t = tells_from rules lawful.same_tells (list_in rules first f) f h in
+        absurd (⊎_elim
+        (λ own. no_growth t.0 (subst (λ (xs : List (Growth F)). Contains xs t.0)
+        (list_own rules a i [] (received_from first) f own) t.1))
+        (λ other. none_heard (rules.owner a f) t.0 (subst (λ (xs : List (Growth F)). Contains xs t.0)
+        (list_other rules a i [] (received_from first) f other) t.1))
+        (cases_eq (rules.owner a f) i)))
+        (λ h. absurd (false≢true h))
+
+-- ---- lists that vectors hold, of which one is read at a place
+
+module _ {V G : Type 0} (f : V → List G) (lists : List V) (p : ℕ) (v : V) (within : p < length (map f lists))
+    (is : v ≡ get_or lists p v) where
+  place : p < length lists
+  place = omega (arith, within, length-map lists f)
+
+  pub list_at : f v ≡ get_or (map f lists) p []
+  list_at = sym (get_or-map f lists p v [] place ∙ ap f (sym is))
+
+  pub lists_kept : (kept : V) → f kept ≡ f v → map f (set lists p kept) ≡ map f lists
+  lists_kept kept same = map-set_same f lists p kept v (same ∙ ap f is)
+
+  pub lists_pushed : (pushed : V) (g : G) → f pushed ≡ f v ++ g ∷ []
+      → map f (set lists p pushed) ≡ with_growth (map f lists) p g
+  lists_pushed pushed g more = map-set f lists p pushed
+      ∙ ap (set (map f lists) p) (more ∙ ap (λ xs. xs ++ g ∷ []) list_at)
+
+pub filter_le : {X : Type 0} (p : X → Bool) (xs : List X) → length (filter p xs) ≤ length xs
+filter_le p [] = omega arith
+filter_le {X} p (x ∷ xs) = go (p x) (filter_le p xs)
+  where
+    go : (b : Bool) → length (filter p xs) ≤ length xs
+        → length (cond b (x ∷ filter p xs) (filter p xs)) ≤ suc (length xs)
+    go true h = omega arith
+    go false h = omega arith
+
+pub on_err_always : {T E P : Type 0} (r : Result T E) → P → OnErr r P
+on_err_always (Ok x) p = tt
+on_err_always (Err e) p = p
+
+pub on_ok_always : {T E P : Type 0} (r : Result T E) → P → OnOk r P
+on_ok_always (Ok x) p = p
+on_ok_always (Err e) p = tt
+
+pub on_ok_two : {T E P Q R : Type 0} (r : Result T E) → (P → Q → R) → OnOk r P → OnOk r Q → OnOk r R
+on_ok_two (Ok x) f p q = f p q
+on_ok_two (Err e) f p q = tt

@@ -1,0 +1,5 @@
+pub mod KeepingLemmas
+pub mod ReceivingLemmas
+pub mod DealingLemmas
+pub mod DueLemmas
+pub mod WholeLemmas

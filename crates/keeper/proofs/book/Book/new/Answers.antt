@@ -1,0 +1,14 @@
+use Rattle.keeper.proofs.KeepingLemmas.{first_kept}
+use Rattle.keeper.proofs.book.Book.new.Goals as goal
+
+pub invariant_of-result : goal.invariant_of-result
+invariant_of-result g c =
+    rw (
+      c.new.ensures.items,
+      c.in_ok-received.ensures,
+      c.in_ok-given.ensures.items_if_clones_equal (λ y e. e),
+      c.parts-owners.ensures.count,
+    )
+    (first_kept g.A.Rules.rules
+    (g.met.A.Rules g.world.𝓛 g.world.𝓜 g.world.𝓡 ((λ s x. x), (λ x. x), (λ x. x), λ x. x)).lawful
+    c.args.system c.parts-owners.ensures.valid c.args.me c.requires)
