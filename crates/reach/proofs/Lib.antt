@@ -1,0 +1,3 @@
+pub mod ReachLemmas
+pub mod FindLemmas
+pub mod ReachFinds

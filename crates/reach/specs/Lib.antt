@@ -1,0 +1,3 @@
+pub mod Find
+pub mod Reach
+pub mod Lawful
