@@ -15,7 +15,8 @@ REGION = re.compile(r"'(r\d+|new\d+)")
 
 
 def dumps_in(folder):
-    return [dump for dump in find_dumps(os.path.join(folder, "facts"), os.path.join(folder, "mir"), CRATE)
+    """The functions of a dump; rustc ran in the folder of the tests, so the names of files start there."""
+    return [dump for dump in find_dumps(os.path.join(folder, "facts"), os.path.join(folder, "mir"), CRATE, support.HERE)
             if dump.is_function]
 
 
