@@ -154,7 +154,7 @@ def answers_of(asked: argparse.Namespace, functions: list[Function], has_page: b
                by_mir: dict[str, Any]) -> list[Answer]:
     """Has all functions answered, side by side, with a bar where somebody looks."""
     find_program()
-    work = partial(answer_one, in_full=asked.explain, everywhere=asked.everywhere, has_page=has_page)
+    work = partial(answer_finally, in_full=asked.explain, everywhere=asked.everywhere, has_page=has_page)
     bar = Bar(len(functions))
     answers = []
     with Progress(bar.words):
@@ -167,6 +167,16 @@ def answers_of(asked: argparse.Namespace, functions: list[Function], has_page: b
 def find_program() -> None:
     """Finds the program once, for all functions."""
     nllc.program_of(nllc.find())
+
+
+def answer_finally(one: tuple[Function, Any], **how: bool) -> Answer:
+    """The same, and rustc's tables are removed: all processes together do that sooner than one of them at the end."""
+    answer = answer_one(one, **how)
+    folder = one[0].dump.facts
+    for name in os.listdir(folder):
+        os.unlink(os.path.join(folder, name))
+    os.rmdir(folder)
+    return answer
 
 
 def answer_one(one: tuple[Function, Any], in_full: bool, everywhere: bool, has_page: bool) -> Answer:

@@ -4,7 +4,6 @@ import os
 import shutil
 import subprocess
 import sys
-import tempfile
 import time
 from contextlib import ExitStack
 from functools import cache
@@ -77,32 +76,44 @@ def program_of(found):
 def run(text):
     """Runs `values` and `check` on the text, side by side."""
     program, standing = program_of(find())
-    with tempfile.NamedTemporaryFile(prefix="nll-page.", suffix=".facts") as copy:
-        copy.write(text)
-        copy.flush()
-        with ExitStack() as started:
-            values, check = (Run(program, command, copy.name) for command in ("values", "check"))
-            for one in (values, check):
-                one.start()
-                started.callback(one.stop)
-            wait([values, check])
+    values, check = both = [Run(program, command) for command in ("values", "check")]
+    run_on(text, both)
     values.judge((0,))
     check.judge((0, 1))
     return Report(values.out, fault_lines(check.out), shown(program), standing)
 
 
+def has_faults(text):
+    """Whether `check` finds faults in the text."""
+    check = Run(program_of(find()).path, "check")
+    run_on(text, [check])
+    check.judge((0, 1))
+    return check.process.returncode == 1
+
+
+def run_on(text, runs):
+    """Runs all on the text, which stands in memory, and waits for them."""
+    with open(os.memfd_create("text"), "wb") as copy, ExitStack() as started:
+        copy.write(text)
+        copy.flush()
+        for one in runs:
+            one.start(copy)
+            started.callback(one.stop)
+        wait(runs)
+
+
 class Run:
     """One process, and what it writes."""
 
-    def __init__(self, program, command, path):
-        self.program = program
-        self.words = [program, command, path]
+    def __init__(self, program, command):
+        self.program, self.command = program, command
         self.process = None
         self.out = self.err = ""
 
-    def start(self):
+    def start(self, text):
+        """Starts it; the text is its standard input, which it opens by its name, so from the beginning on."""
         try:
-            self.process = subprocess.Popen(self.words, stdin=subprocess.DEVNULL, stdout=subprocess.PIPE,
+            self.process = subprocess.Popen([self.program, self.command, "/dev/stdin"], stdin=text, stdout=subprocess.PIPE,
                                             stderr=subprocess.PIPE, encoding="utf-8", errors="replace")
         except OSError as error:
             raise Refusal(f"{self.program} can't be run: {error.strerror}") from None

@@ -168,6 +168,7 @@ def side_by_side(work, things, chunk=4, processes=None):
 def in_one_process():
     """Has `nllc.sh rust` answer here: by the quick solver, without other processes, without pages."""
     nllc.run = quick_report
+    nllc.has_faults = lambda text: bool(quick_report(text).faults)
     command.page = lambda content: ""
     rust.MOST_NAMES = sys.maxsize
     rust.find_program = lambda: None

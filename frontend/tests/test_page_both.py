@@ -1,5 +1,6 @@
 """Constraints at all points in texts and on pages, and both answers side by side."""
 
+import argparse
 import os
 import re
 import unittest
@@ -141,6 +142,24 @@ class Command(Folder):
             said = command.answered(self.write(f"{name}.facts", text), text, False, has_page=False)
             self.assertEqual("page" in said, has_page)
             self.assertEqual(os.path.exists(self.path(f"{name}.html")), has_page)
+
+    def test_of_which_nothing_is_told_is_known_without_values(self):
+        """Of all stored texts: what is said of one without reading it is what is said of it when it is read."""
+        from errors_support import quick_report
+        from nll_page import command, nllc
+        self.enterContext(unittest.mock.patch.object(nllc, "run", quick_report))
+        self.enterContext(unittest.mock.patch.object(nllc, "has_faults", lambda text: bool(quick_report(text).faults)))
+        golden = os.path.join(os.path.dirname(os.path.abspath(__file__)), "golden")
+        paths = [os.path.join(folder, name) for folder, _, names in os.walk(golden) for name in names if name.endswith(".facts")]
+        silent = 0
+        for path in sorted(paths):
+            with self.subTest(path=path), open(path, "rb") as file:
+                text = file.read()
+                if command.is_silent(text):
+                    silent += 1
+                    asked = argparse.Namespace(facts=path, source=None, values=None)
+                    self.assertEqual(command.silent(text), command.answer(command.content_from(text, asked), False))
+        self.assertGreater(silent, 10)
 
 
 if __name__ == "__main__":
