@@ -148,15 +148,14 @@ class Calls(unittest.TestCase):
     def test_one_crate_each(self):
         """No two crates hand out a call of one name; what a crate hands on of another isn't its own.
 
-        The crates for fixed points count by themselves: those of the owners have calls of the same names.
+        The crates for any analysis, those without `nll`, count by themselves: those of the owners have calls of the same names.
         """
-        [apart] = [names for title, _, names in layers() if title == "Fixed points"]
         handed = re.compile(r"^pub use (?!nll_)\w+::(\{[^}]*\}|\w+);", re.MULTILINE)
         crates = {}
         for path in sorted((ROOT / "crates").glob("*/src/lib.rt")):
             for names in handed.findall(path.read_text()):
                 for name in re.findall(r"\b[a-z]\w*", names):
-                    crates.setdefault((name, path.parts[-3] in apart), []).append(path.parts[-3])
+                    crates.setdefault((name, not path.parts[-3].startswith("nll")), []).append(path.parts[-3])
         self.assertIn(("solve", False), crates)
         self.assertEqual({name: where for name, where in crates.items() if len(where) > 1}, {})
 

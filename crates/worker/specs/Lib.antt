@@ -1,0 +1,5 @@
+pub mod Mailboxes
+pub mod Hearing
+pub mod Tallies
+pub mod Turning
+pub mod Finishing

@@ -1,0 +1,80 @@
+-- What a worker has between its steps. Only private contracts cite this file. Source: project's
+-- choice.
+use Rattle.std.specs.Prelude.{◌≡◌, ◌^◌, ℕ, ◌+◌, ◌<◌, ◌≤◌, true, false, List, length, take, min}
+use Rattle.std.specs.Prelude.{Contains}
+use Rattle.fixpoint.specs.Rules.{Rules}
+use Rattle.fixpoint.specs.Logs.{log_of}
+use Rattle.fixpoint.specs.State.{State, IsSound, IsDone, received_from, part_for, given_to}
+use Rattle.fixpoint.specs.Finishing.{HasStray}
+use Rattle.fixpoint.specs.Sums.{sum_to}
+use Rattle.fixpoint.specs.declared.growth.Growth.{Growth}
+use Rattle.worker.specs.Tallies.{IsCounted, due_of}
+use Rattle.worker.specs.declared.tally.Tally.{Tally}
+use Rattle.worker.specs.declared.inbox.Heard.{Heard}
+use Rattle.worker.specs.declared.inbox.Heard.TheVariants.{Nothing, Growths, Stray, Memory}
+
+-- the worker needn't end now
+abbrev pub GoesOn : Heard → Type 0
+GoesOn Nothing = Unit {0}
+GoesOn Growths = Unit {0}
+GoesOn Stray = ⊥
+GoesOn Memory = ⊥
+
+module _ {A F : Type 0} (rules : Rules A F) where
+  -- Exactly what was given to each owner was posted to it.
+  pub record HasPosted (o : State A F) (posts : List (List (Growth F))) : Type 0 where
+    pub count : length posts ≡ rules.parts o.system
+    pub front :
+        (j : ℕ) → j < rules.parts o.system
+        → log_of posts j ≡ take (given_to o j) (part_for rules o j)
+
+  -- of the part for owner j, this many more growths were given, or all that were left
+  abbrev pub HasGivenOn : ℕ → ℕ → State A F → State A F → Type 0
+  HasGivenOn most j old new =
+      given_to new j ≡ min (given_to old j + most) (length (part_for rules old j))
+
+  -- so of each of the first this many parts
+  abbrev pub HasGivenMore : ℕ → ℕ → State A F → State A F → Type 0
+  HasGivenMore most owners old new = (j : ℕ) → j < owners → HasGivenOn most j old new
+
+  -- The part is loaded and has nothing left to do. It owes 1 for its load and for each growth that
+  -- another owner reads, posted or not.
+  pub record IsWorking (o : State A F) (owed : ℕ) : Type 0 where
+    pub sound : IsSound rules o
+    pub whole : o.broken ≡ false
+    pub loaded : o.loaded ≡ true
+    pub done : IsDone rules o
+    pub owes : owed ≡ 1 + due_of rules o
+
+  -- What was taken was received; all of it and the load are cleared, except this many items.
+  pub record HasTaken (o : State A F) (taken : List (List (Growth F))) (cleared items : ℕ)
+      : Type 0 where
+    pub count : length taken ≡ rules.parts o.system
+    pub heard : (j : ℕ) → j < rules.parts o.system → log_of taken j ≡ received_from o j
+    pub few : (j : ℕ) → j < rules.parts o.system → length (log_of taken j) ≤ 2 ^ 37
+    pub clears :
+        cleared + items ≡ 1 + sum_to (rules.parts o.system) (λ j. length (log_of taken j))
+
+  -- Between two turns all that grew is owed for and counted, and all that was taken is cleared.
+  -- There were no more turns than cleared items.
+  pub record IsAtRest (o : State A F) (taken : List (List (Growth F))) (owed cleared : ℕ)
+      (t : Tally) : Type 0 where
+    pub working : IsWorking o owed
+    pub taking : HasTaken o taken cleared 0
+    pub counted : IsCounted rules o t
+    pub cleared_is : t.cleared ≡ cleared
+    pub turns : t.turns ≤ cleared
+
+  -- all that the part received was taken
+  abbrev pub HasTakenAll : State A F → List (List (Growth F)) → Type 0
+  HasTakenAll o taken =
+      (j : ℕ) (g : Growth F) → j < rules.parts o.system → Contains (received_from o j) g
+      → Contains (log_of taken j) g
+
+  -- the outcome of a turn
+  abbrev pub ComesTo : State A F → List (List (Growth F)) → ℕ → ℕ → Tally → Heard → Type 0
+  ComesTo o taken owed cleared t Nothing = IsAtRest o taken owed cleared t
+  ComesTo o taken owed cleared t Growths = IsAtRest o taken owed cleared t
+  ComesTo o taken owed cleared t Stray =
+      HasStray rules o.system o.me (log_of taken) × HasTakenAll o taken
+  ComesTo o taken owed cleared t Memory = HasTakenAll o taken

@@ -1,0 +1,54 @@
+//! The sending ends of a worker's mailboxes.
+
+ghost use Rattle.std.specs.Prelude.{◌≡◌, ◌≤◌, [], vec_len, vec_capacity};
+ghost use Rattle.worker.specs.Mailboxes.{Alike, Both, Shuts};
+
+use fixpoint::{Analysis, Growth};
+use mail::Mail;
+use std::collections::VecDeque;
+
+/// The sending ends of a worker's mailboxes, one for each other owner. Dropping one closes it.
+pub struct Outbox<A: Analysis, M: Mail<Growth<A::Fact>>> {
+    /// The ends, by the owner to whom they lead; none leads to the worker's own owner.
+    pub senders: Vec<Option<M::S>>,
+}
+
+// Closes an end, if there is one.
+fn shut<A: Analysis, M: Mail<Growth<A::Fact>>>(sender: Option<M::S>) -> Option<M::Closed>
+    ensures { Both (Shuts M.Mail) sender result }
+{
+    match sender {
+        Some(sender) => Some(M::close(sender)),
+        None => None,
+    }
+}
+
+impl<A: Analysis, M: Mail<Growth<A::Fact>>> Drop for Outbox<A, M> {
+    fn drop(self) {
+        let Outbox { mut senders } = self;
+        while let Some(sender) = senders.pop() {
+            match sender {
+                Some(sender) => drop(M::close(sender)),
+                None => {}
+            }
+        }
+        senders.destroy_empty();
+    }
+}
+
+impl<A: Analysis, M: Mail<Growth<A::Fact>>> Outbox<A, M> {
+    /// Closes the ends, and puts each at its index of a list that has room for them.
+    pub fn close_all(self, room: Vec<Option<M::Closed>>) -> Vec<Option<M::Closed>>
+        requires { (room.items ≡ []) × (vec_len self.senders ≤ vec_capacity room) }
+        ensures { Alike (Both (Shuts M.Mail)) self.senders.items result.items }
+    {
+        let Outbox { senders } = self;
+        let mut senders = VecDeque::from(senders);
+        let mut closed = room;
+        while let Some(sender) = senders.pop_front() {
+            closed.push_reserved(shut::<A, M>(sender));
+        }
+        senders.destroy_empty();
+        closed
+    }
+}

@@ -1,0 +1,205 @@
+//! What a worker posts: at most a given number to each owner at once. The rest, and what a full
+//! mailbox refuses, is tried again later.
+
+ghost use Rattle.std.specs.Prelude.{◌≡◌, ◌≢◌, ◌+◌, ◌<◌, ◌≤◌, ℕ, List, length, map, take, min};
+ghost use Rattle.std.specs.Prelude.{OnOk, false, slice_set, vec_len, None};
+ghost use Rattle.fixpoint.specs.declared.growth.Growth.{Growth as TheGrowth};
+ghost use Rattle.fixpoint.specs.Logs.{log_of};
+ghost use Rattle.fixpoint.specs.State.{IsSound, part_for, given_to};
+ghost use Rattle.worker.specs.Mailboxes.{Alike, Both, HasEnds, Stays, through};
+ghost use Rattle.worker.specs.Tallies.{IsCounted};
+ghost use Rattle.worker.specs.Turning.{HasPosted, HasGivenOn, HasGivenMore, GoesOn, ComesTo};
+
+use crate::inbox::Heard;
+use crate::tally::{Tally, unsent_count};
+use fixpoint::{Analysis, Growth};
+use mail::{Mail, PostError};
+
+// Posts what isn't given yet of the part of the log that another owner reads, until its mailbox is
+// full or the number for one time is reached.
+fn post_part<A: Analysis, M: Mail<Growth<A::Fact>>>(
+    part: &mut A::Part,
+    sender: &mut M::S,
+    to: u16,
+    most: u64,
+) -> Result<(), PostError<Growth<A::Fact>>>
+    requires sound { IsSound A.rules (A.state part.old) }
+    requires whole { (A.state part.old).broken ≡ false }
+    requires to { to < A.rules.parts (A.state part.old).system }
+    requires sent { let o = A.state part.old in M.sent sender.old
+        ≡ take (given_to o to) (part_for A.rules o to) }
+    ensures sent { M.sent sender.new
+        ≡ take (given_to (A.state part.new) to) (part_for A.rules (A.state part.old) to) }
+    ensures many { M.is_bounded ≡ false → OnOk result
+        (HasGivenOn A.rules most to (A.state part.old) (A.state part.new)) }
+    ensures others { A.state part.new
+        ≡ record (A.state part.old) { given = (A.state part.new).given } }
+    ensures other_given { (j : ℕ) → j ≢ to
+        → given_to (A.state part.new) j ≡ given_to (A.state part.old) j }
+    ensures pair { (r : M.R) → M.pairs sender.old r → M.pairs sender.new r }
+    ensures sound { IsSound A.rules (A.state part.new) }
+{
+    let mut posted = 0;
+    while let Some(growth) = A::next_for(part, to) {
+        if posted >= most {
+            return Ok(());
+        }
+        match M::post(sender, growth) {
+            Ok(()) => A::outgoing(part, to),
+            Err(PostError::Full(_)) => return Ok(()),
+            Err(error) => return Err(error),
+        };
+        posted += 1;
+    }
+    Ok(())
+}
+
+// Like `post_part`, if there is a mailbox: there is none from the owner to itself.
+fn post_if<A: Analysis, M: Mail<Growth<A::Fact>>>(
+    part: &mut A::Part,
+    sender: &mut Option<M::S>,
+    to: u16,
+    most: u64,
+) -> Result<(), PostError<Growth<A::Fact>>>
+    requires sound { IsSound A.rules (A.state part.old) }
+    requires whole { (A.state part.old).broken ≡ false }
+    requires to { to < A.rules.parts (A.state part.old).system }
+    requires end { sender.old ≡ None → to ≡ (A.state part.old).me }
+    requires sent { through M.sent sender.old
+        ≡ take (given_to (A.state part.old) to) (part_for A.rules (A.state part.old) to) }
+    ensures sent { through M.sent sender.new
+        ≡ take (given_to (A.state part.new) to) (part_for A.rules (A.state part.old) to) }
+    ensures many { M.is_bounded ≡ false → OnOk result
+        (HasGivenOn A.rules most to (A.state part.old) (A.state part.new)) }
+    ensures others { A.state part.new
+        ≡ record (A.state part.old) { given = (A.state part.new).given } }
+    ensures other_given { (j : ℕ) → j ≢ to
+        → given_to (A.state part.new) j ≡ given_to (A.state part.old) j }
+    ensures pair { Both (Stays M.Mail) sender.old sender.new }
+    ensures sound { IsSound A.rules (A.state part.new) }
+{
+    match sender {
+        Some(sender) => post_part::<A, M>(part, sender, to, most),
+        None => Ok(()),
+    }
+}
+
+// Like `post_if`, for the sender that leads to this owner.
+fn post_to<A: Analysis, M: Mail<Growth<A::Fact>>>(
+    part: &mut A::Part,
+    senders: &mut Vec<Option<M::S>>,
+    to: u16,
+    most: u64,
+) -> Result<(), PostError<Growth<A::Fact>>>
+    requires sound { IsSound A.rules (A.state part.old) }
+    requires whole { (A.state part.old).broken ≡ false }
+    requires to { to < A.rules.parts (A.state part.old).system }
+    requires ends { HasEnds (A.state part.old).me senders.old.items }
+    requires posts { HasPosted A.rules (A.state part.old) (map (through M.sent) senders.old.items) }
+    ensures posts { HasPosted A.rules (A.state part.new) (map (through M.sent) senders.new.items) }
+    ensures many { M.is_bounded ≡ false → OnOk result
+        (HasGivenOn A.rules most to (A.state part.old) (A.state part.new)) }
+    ensures others { A.state part.new
+        ≡ record (A.state part.old) { given = (A.state part.new).given } }
+    ensures other_given { (j : ℕ) → j ≢ to
+        → given_to (A.state part.new) j ≡ given_to (A.state part.old) j }
+    ensures pairs { Alike (Both (Stays M.Mail)) senders.old.items senders.new.items }
+    ensures sound { IsSound A.rules (A.state part.new) }
+{
+    post_if::<A, M>(part, &mut senders[to as usize], to, most)
+}
+
+// Posts what isn't given yet, to all owners that read it and whose mailboxes aren't full: to each
+// at most the number for one time.
+fn post_all<A: Analysis, M: Mail<Growth<A::Fact>>>(
+    part: &mut A::Part,
+    senders: &mut Vec<Option<M::S>>,
+    most: u64,
+) -> Result<(), PostError<Growth<A::Fact>>>
+    requires sound { IsSound A.rules (A.state part.old) }
+    requires whole { (A.state part.old).broken ≡ false }
+    requires ends { HasEnds (A.state part.old).me senders.old.items }
+    requires posts { HasPosted A.rules (A.state part.old) (map (through M.sent) senders.old.items) }
+    ensures posts { HasPosted A.rules (A.state part.new) (map (through M.sent) senders.new.items) }
+    ensures many { M.is_bounded ≡ false
+        → OnOk result (HasGivenMore A.rules most (A.rules.parts (A.state part.old).system)
+        (A.state part.old) (A.state part.new)) }
+    ensures others { A.state part.new
+        ≡ record (A.state part.old) { given = (A.state part.new).given } }
+    ensures pairs { Alike (Both (Stays M.Mail)) senders.old.items senders.new.items }
+    ensures sound { IsSound A.rules (A.state part.new) }
+{
+    for to in 0..A::owners(part) {
+        post_to::<A, M>(part, senders, to, most)?;
+    }
+    Ok(())
+}
+
+// Posts what waits, if something does, and counts what is left.
+fn post_waiting<A: Analysis, M: Mail<Growth<A::Fact>>>(
+    part: &mut A::Part,
+    senders: &mut Vec<Option<M::S>>,
+    tally: &mut Tally,
+    most: u64,
+) -> Result<(), PostError<Growth<A::Fact>>>
+    requires sound { IsSound A.rules (A.state part.old) }
+    requires whole { (A.state part.old).broken ≡ false }
+    requires ends { HasEnds (A.state part.old).me senders.old.items }
+    requires posts { HasPosted A.rules (A.state part.old) (map (through M.sent) senders.old.items) }
+    requires counted { IsCounted A.rules (A.state part.old) tally.old }
+    ensures posts { HasPosted A.rules (A.state part.new) (map (through M.sent) senders.new.items) }
+    ensures counted { IsCounted A.rules (A.state part.new) tally.new }
+    ensures same { (tally.new.turns ≡ tally.old.turns)
+        × (tally.new.cleared ≡ tally.old.cleared) }
+    ensures many { M.is_bounded ≡ false
+        → OnOk result (HasGivenMore A.rules most (A.rules.parts (A.state part.old).system)
+        (A.state part.old) (A.state part.new)) }
+    ensures others { A.state part.new
+        ≡ record (A.state part.old) { given = (A.state part.new).given } }
+    ensures pairs { Alike (Both (Stays M.Mail)) senders.old.items senders.new.items }
+    ensures sound { IsSound A.rules (A.state part.new) }
+{
+    if tally.waiting == 0 {
+        return Ok(());
+    }
+    let posted = post_all::<A, M>(part, senders, most);
+    tally.waiting = unsent_count::<A>(part);
+    posted
+}
+
+/// Posts what waits, unless the worker has to end: returns what it heard, or why it has to end now.
+pub fn share_out<A: Analysis, M: Mail<Growth<A::Fact>>>(
+    heard: Heard,
+    part: &mut A::Part,
+    senders: &mut Vec<Option<M::S>>,
+    tally: &mut Tally,
+    most: u64,
+) -> Heard
+    requires sound { IsSound A.rules (A.state part.old) }
+    requires came { (taken : List (List (TheGrowth A.Fact))) × (owed : ℕ) × (cleared : ℕ)
+        × ComesTo A.rules (A.state part.old) taken owed cleared tally.old heard }
+    requires ends { HasEnds (A.state part.old).me senders.old.items }
+    requires posts { HasPosted A.rules (A.state part.old) (map (through M.sent) senders.old.items) }
+    ensures posts { HasPosted A.rules (A.state part.new) (map (through M.sent) senders.new.items) }
+    ensures comes { (taken : List (List (TheGrowth A.Fact))) (owed cleared : ℕ)
+        → ComesTo A.rules (A.state part.old) taken owed cleared tally.old heard
+        → ComesTo A.rules (A.state part.new) taken owed cleared tally.new result }
+    ensures many { M.is_bounded ≡ false → GoesOn result
+        → HasGivenMore A.rules most (A.rules.parts (A.state part.old).system)
+        (A.state part.old) (A.state part.new) }
+    ensures others { A.state part.new
+        ≡ record (A.state part.old) { given = (A.state part.new).given } }
+    ensures pairs { Alike (Both (Stays M.Mail)) senders.old.items senders.new.items }
+    ensures sound { IsSound A.rules (A.state part.new) }
+{
+    match heard {
+        Heard::Stray => return heard,
+        Heard::Memory => return heard,
+        Heard::Growths => {}
+        Heard::Nothing => {}
+    }
+    match post_waiting::<A, M>(part, senders, tally, most) {
+        Ok(()) => heard,
+        Err(_) => Heard::Memory,
+    }
+}

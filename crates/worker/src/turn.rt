@@ -1,0 +1,202 @@
+//! A worker's turns.
+
+ghost use Rattle.std.specs.Prelude.{◌≡◌, ◌+◌, ◌<◌, ◌≤◌, ℕ, List, map};
+ghost use Rattle.fixpoint.specs.declared.growth.Growth.{Growth as TheGrowth};
+ghost use Rattle.fixpoint.specs.State.{State, IsSound, first_state};
+ghost use Rattle.worker.specs.Mailboxes.{Alike, AreAllEmpty, Both, Keeps, through};
+ghost use Rattle.worker.specs.Finishing.{IsFresh, IsOpenStill};
+ghost use Rattle.worker.specs.Tallies.{HasGrown, none_counted};
+ghost use Rattle.worker.specs.declared.tally.Tally.{Tally as TheTally};
+ghost use Rattle.worker.specs.Turning.{IsAtRest, ComesTo};
+
+use crate::account::{Account, keep_book};
+use crate::gate::Gate;
+use crate::inbox::{Heard, Inbox, hear_from};
+use crate::pace::Pace;
+use fixpoint::{Analysis, Growth};
+use mail::Mail;
+use nll_ledger::Ledger;
+
+// At most this many rounds follow each other.
+const MOST_ROUNDS: u64 = 32;
+
+/// The first turn: the part is loaded, and the book is kept of it.
+pub fn first_turn<A: Analysis, L: Ledger, G: Gate>(
+    pace: &Pace<'_, G>,
+    account: &mut Account<'_, L>,
+    part: &mut A::Part,
+) -> Heard
+    requires first { let o = A.state part.old in o ≡ first_state A.rules o.system o.me }
+    requires fresh { IsFresh L.Ledger account.old.book.now (A.state part.old).me
+        account.old.share }
+    requires uncounted { account.old.tally ≡ none_counted }
+    ensures grows { HasGrown (A.state part.old) (A.state part.new) }
+    ensures sound { IsSound A.rules (A.state part.new) }
+    ensures still { IsOpenStill L.Ledger account.old.book.now account.old.share
+        account.new.book.now account.new.share }
+    ensures comes { (taken : List (List (TheGrowth A.Fact)))
+        → AreAllEmpty (A.rules.parts (A.state part.old).system) taken
+        → ComesTo A.rules (A.state part.new) taken (L.owed account.new.share)
+        (L.cleared account.new.share) account.new.tally result }
+{
+    pace.gate.enter(A::me(part) as usize, 1);
+    match A::load(part) {
+        Ok(()) => {}
+        Err(_) => return Heard::Memory,
+    }
+    keep_book::<A, L>(account, part, 1);
+    Heard::Growths
+}
+
+// A turn, if one of the mailboxes has growths: the part receives them, at most as many as a turn
+// may receive, and the book is kept of them.
+fn turn<A: Analysis, M: Mail<Growth<A::Fact>>, L: Ledger, G: Gate>(
+    pace: &Pace<'_, G>,
+    account: &mut Account<'_, L>,
+    part: &mut A::Part,
+    inbox: &mut Inbox<A, M>,
+    from: u16,
+) -> Heard
+    requires from { from < A.rules.parts (A.state part.old).system }
+    requires book { L.belongs account.old.book.now account.old.share }
+    requires rests { let a = account.old in IsAtRest A.rules (A.state part.old)
+        (map (through M.received) inbox.old.receivers.items)
+        (L.owed a.share) (L.cleared a.share) a.tally }
+    ensures grows { HasGrown (A.state part.old) (A.state part.new) }
+    ensures sound { IsSound A.rules (A.state part.new) }
+    ensures still { IsOpenStill L.Ledger account.old.book.now account.old.share
+        account.new.book.now account.new.share }
+    ensures comes { let a = account.new in ComesTo A.rules (A.state part.new)
+        (map (through M.received) inbox.new.receivers.items)
+        (L.owed a.share) (L.cleared a.share) a.tally result }
+    ensures most { L.cleared account.new.share ≤ L.cleared account.old.share + pace.now.taken }
+    ensures keeps { Alike (Both (Keeps M.Mail)) inbox.old.receivers.items
+        inbox.new.receivers.items }
+{
+    let turn = account.tally.turns + 1;
+    match hear_from::<A, M, G>(pace, turn, part, inbox, from) {
+        Heard::Nothing => Heard::Nothing,
+        Heard::Stray => Heard::Stray,
+        Heard::Memory => Heard::Memory,
+        Heard::Growths => {
+            keep_book::<A, L>(account, part, inbox.batch.len() as u64);
+            Heard::Growths
+        }
+    }
+}
+
+// The owner whose mailbox is looked into first after this many turns: with each turn the next one.
+fn first_after(turns: u64, owners: u16) -> u16
+    requires { 0 < owners }
+    ensures { result < owners }
+{
+    (turns % owners as u64) as u16
+}
+
+// The owner that comes this many after the first; after the last comes owner 0.
+fn owner_behind(first: u16, step: u16, owners: u16) -> u16
+    requires first { first < owners }
+    requires step { step < owners }
+    ensures { result < owners }
+{
+    let rest = owners - first;
+    if step < rest {
+        first + step
+    } else {
+        step - rest
+    }
+}
+
+/// One look into each mailbox, or up to the first growth if a turn receives at most one. Returns
+/// whether the part received growths, or why the worker has to end.
+pub fn round<A: Analysis, M: Mail<Growth<A::Fact>>, L: Ledger, G: Gate>(
+    pace: &Pace<'_, G>,
+    account: &mut Account<'_, L>,
+    part: &mut A::Part,
+    inbox: &mut Inbox<A, M>,
+) -> Heard
+    requires book { L.belongs account.old.book.now account.old.share }
+    requires rests { let a = account.old in IsAtRest A.rules (A.state part.old)
+        (map (through M.received) inbox.old.receivers.items)
+        (L.owed a.share) (L.cleared a.share) a.tally }
+    ensures grows { HasGrown (A.state part.old) (A.state part.new) }
+    ensures sound { IsSound A.rules (A.state part.new) }
+    ensures still { IsOpenStill L.Ledger account.old.book.now account.old.share
+        account.new.book.now account.new.share }
+    ensures comes { let a = account.new in ComesTo A.rules (A.state part.new)
+        (map (through M.received) inbox.new.receivers.items)
+        (L.owed a.share) (L.cleared a.share) a.tally result }
+    ensures keeps { Alike (Both (Keeps M.Mail)) inbox.old.receivers.items
+        inbox.new.receivers.items }
+{
+    let owners = A::owners(part);
+    let first = first_after(account.tally.turns, owners);
+    let mut any = false;
+    for step in 0..owners {
+        let from = owner_behind(first, step, owners);
+        let heard = turn::<A, M, L, G>(pace, account, part, inbox, from);
+        match heard {
+            Heard::Nothing => {}
+            Heard::Growths => {
+                if pace.taken == 1 {
+                    return Heard::Growths;
+                }
+                any = true;
+            }
+            Heard::Stray => return Heard::Stray,
+            Heard::Memory => return Heard::Memory,
+        }
+    }
+    if any { Heard::Growths } else { Heard::Nothing }
+}
+
+// The outcome of rounds of which the last one heard this, and those before it growths.
+fn behind_a_growth<A: Analysis>(heard: Heard) -> Heard
+    ensures { (o : State A A.Fact) (taken : List (List (TheGrowth A.Fact))) (owed cleared : ℕ)
+        (t : TheTally)
+        → ComesTo A.rules o taken owed cleared t heard
+        → ComesTo A.rules o taken owed cleared t result }
+{
+    match heard {
+        Heard::Nothing => Heard::Growths,
+        _ => heard,
+    }
+}
+
+/// Looks into each mailbox, and again as long as growths are heard and fewer items were cleared
+/// than `until`. Returns whether the part received growths, or why the worker has to end.
+pub fn rounds<A: Analysis, M: Mail<Growth<A::Fact>>, L: Ledger, G: Gate>(
+    pace: &Pace<'_, G>,
+    account: &mut Account<'_, L>,
+    part: &mut A::Part,
+    inbox: &mut Inbox<A, M>,
+    until: u64,
+) -> Heard
+    requires book { L.belongs account.old.book.now account.old.share }
+    requires rests { let a = account.old in IsAtRest A.rules (A.state part.old)
+        (map (through M.received) inbox.old.receivers.items)
+        (L.owed a.share) (L.cleared a.share) a.tally }
+    ensures grows { HasGrown (A.state part.old) (A.state part.new) }
+    ensures sound { IsSound A.rules (A.state part.new) }
+    ensures still { IsOpenStill L.Ledger account.old.book.now account.old.share
+        account.new.book.now account.new.share }
+    ensures comes { let a = account.new in ComesTo A.rules (A.state part.new)
+        (map (through M.received) inbox.new.receivers.items)
+        (L.owed a.share) (L.cleared a.share) a.tally result }
+    ensures keeps { Alike (Both (Keeps M.Mail)) inbox.old.receivers.items
+        inbox.new.receivers.items }
+{
+    let mut heard = round::<A, M, L, G>(pace, account, part, inbox);
+    for _ in 1..MOST_ROUNDS {
+        match heard {
+            Heard::Growths => {}
+            _ => return heard,
+        }
+        if account.tally.cleared >= until {
+            return heard;
+        }
+        let next = round::<A, M, L, G>(pace, account, part, inbox);
+        heard = behind_a_growth::<A>(next);
+    }
+    heard
+}
