@@ -13,6 +13,8 @@ use Rattle.fixpoint.specs.declared.ending.Ending.{Ending}
 use Rattle.fixpoint.specs.declared.ending.Ending.TheVariants.{Quiet, Stopped, Unstarted, NoOwner}
 use Rattle.fixpoint.specs.declared.ending.Ending.TheVariants.{Forbidden}
 use Rattle.fixpoint.specs.declared.growth.Growth.{Growth}
+use Rattle.worker.specs.declared.crew.Start.{Start}
+use Rattle.worker.specs.declared.crew.Start.TheVariants.{Made, Failed, Refused}
 use Rattle.worker.specs.Mailboxes.{Alike, AreAllEmpty, Both, HasEnds, Keeps, through}
 
 -- The part is of this system and number.
@@ -25,6 +27,12 @@ abbrev pub WasStarted : Ending → Type 0
 WasStarted Forbidden = ⊥
 WasStarted Unstarted = ⊥
 WasStarted _ = Unit {0}
+
+-- how a worker ends, by what became of its start
+abbrev pub EndsAs : Start → Ending → Type 0
+EndsAs Made e = WasStarted e
+EndsAs Failed e = e ≡ Unstarted
+EndsAs Refused e = e ≡ Forbidden
 
 -- the worker could make its part
 abbrev pub WasMade : Ending → Type 0

@@ -5,11 +5,10 @@ use fixpoint::Analysis;
 use nll_ledger::Ledger;
 use std::alloc::Global;
 
-/// What all workers of a run share: by what they wait, what they analyse, the gate that they enter,
-/// and the ledger's book.
+/// What all workers of a run share: what they analyse, the gate that they enter, and the ledger's
+/// book.
 #[derive(Drop)]
-pub struct Site<'x, A: Analysis, L: Ledger, G: Gate, R> {
-    pub rt: &'x R,
+pub struct Site<'x, A: Analysis, L: Ledger, G: Gate> {
     pub alloc: Global,
     pub analysis: &'x A,
     pub gate: &'x G,

@@ -16,9 +16,7 @@ use fixpoint::{Analysis, Ending, Growth};
 use mail::Mail;
 use nll_ledger::Ledger;
 use std::alloc::Global;
-use std::snapshot::Snapshot;
 use std::sync::Wait;
-use std::thread::Promise;
 
 /// What a worker owns: its number, its share of the ledger's book, the ends of its mailboxes by the
 /// other owner, none at its own index, room for its senders once they are closed, and what it
@@ -45,35 +43,10 @@ pub struct Finished<A: Analysis, M: Mail<Growth<A::Fact>>, L: Ledger> {
     pub ending: Ending,
 }
 
-/// What a worker was given when its thread was started. It costs nothing at run time.
-#[derive(Drop)]
-pub struct Given<A: Analysis, M: Mail<Growth<A::Fact>>, L: Ledger> {
-    pub worker: Snapshot<Worker<A, M, L>>,
-    pub book: Snapshot<L::Book>,
-    pub analysis: Snapshot<A>,
-}
-
-/// What the thread of a worker returns: what the worker gives back, or the worker as it was.
-pub type Back<A: Analysis, M: Mail<Growth<A::Fact>>, L: Ledger> = Result<
-    Finished<A, M, L>,
-    Worker<A, M, L>,
->;
-
-impl<A: Analysis, M: Mail<Growth<A::Fact>>, L: Ledger> Promise<Back<A, M, L>> for Given<A, M, L> {
-    ghost use Rattle.std.specs.Prelude.{◌≡◌, IfErr, IfOk};
-    ghost use Rattle.worker.specs.Finishing.{IsEnded, WasStarted};
-
-    ghost kept_by = { λ given back. IfOk back (λ done. IsEnded L.Ledger A.rules A.yields M.Mail
-        given.analysis.value given.book.value given.worker.value.me
-        given.worker.value.outbox.senders.items given.worker.value.receivers.items
-        done.log.items done.yielded done.left done.closed.items done.receivers.items done.ending
-        × WasStarted done.ending)
-        × IfErr back (λ worker. worker ≡ given.worker.value) };
-}
-
 /// Runs one worker from its start to its end.
 pub fn work<A: Analysis, M: Mail<Growth<A::Fact>>, L: Ledger, G: Gate, R: Wait>(
-    site: &Site<'_, A, L, G, R>,
+    rt: &R,
+    site: &Site<'_, A, L, G>,
     worker: Worker<A, M, L>,
 ) -> Finished<A, M, L>
     requires given { let w = worker in IsGiven L.Ledger M.Mail
@@ -86,14 +59,15 @@ pub fn work<A: Analysis, M: Mail<Growth<A::Fact>>, L: Ledger, G: Gate, R: Wait>(
     ensures started { WasStarted result.ending }
 {
     match site.analysis.part(site.alloc, worker.me) {
-        Ok(part) => with_part::<A, M, L, G, R>(site, part, worker),
+        Ok(part) => with_part::<A, M, L, G, R>(rt, site, part, worker),
         Err(_) => call_off::<A, M, L>(site.alloc, site.book, worker, Ending::NoOwner),
     }
 }
 
 // Works with the part that was made for the worker.
 fn with_part<A: Analysis, M: Mail<Growth<A::Fact>>, L: Ledger, G: Gate, R: Wait>(
-    site: &Site<'_, A, L, G, R>,
+    rt: &R,
+    site: &Site<'_, A, L, G>,
     part: A::Part,
     worker: Worker<A, M, L>,
 ) -> Finished<A, M, L>
@@ -126,7 +100,7 @@ fn with_part<A: Analysis, M: Mail<Growth<A::Fact>>, L: Ledger, G: Gate, R: Wait>
         tally: Tally::none(),
     };
     let (left, ending) = work_on::<A, M, L, G, R>(
-        site.rt,
+        rt,
         &pace,
         account,
         &mut part,
