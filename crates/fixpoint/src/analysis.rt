@@ -20,11 +20,11 @@ use std::alloc::Global;
 ///
 /// A contract sees a part as its lists (`state`): the log, what it received from each owner, and
 /// how much it gave to each.
-pub trait Analysis: Rules + Sync {
+pub trait Analysis: Rules {
     /// The part of one owner.
-    type Part: Send + Drop;
+    type Part: Drop;
     /// What a part returns in the end, beside its log.
-    type Yield: Send + Drop;
+    type Yield: Drop;
 
     /// A part as contracts see it.
     ghost state: { Self.Part → State Self Self.Fact };

@@ -4,9 +4,9 @@ ghost use Rattle.std.specs.Prelude.{◌≡◌};
 ghost use Rattle.fixpoint.specs.Rules as spec;
 
 /// The rules of an analysis: who owns which fact, who reads which, and which follow from which.
-pub trait Rules: Sync {
+pub trait Rules {
     /// What may come to hold.
-    type Fact: Copy + Send;
+    type Fact: Copy;
 
     /// What the analysis says.
     ghost rules: { spec.Rules Self Self.Fact };

@@ -25,15 +25,15 @@ pub enum PostError<T> {
 /// # Threads
 /// The two ends of a mailbox may live in two threads. That a `take` finds what another thread has
 /// posted is not promised.
-pub trait Mail<T>: Sync {
+pub trait Mail<T> {
     /// The end that posts. It is used up by `close`, and can't be let go.
-    type S: Send;
+    type S;
     /// The end that takes.
-    type R: Send + Drop;
+    type R: Drop;
     /// A sender that posts no more.
-    type Closed: Send + Drop;
+    type Closed: Drop;
     /// A settled mailbox.
-    type Post: Send + Drop;
+    type Post: Drop;
 
     /// Its room is bounded: a post may find it full, and asks for no memory.
     ghost is_bounded: { Bool };

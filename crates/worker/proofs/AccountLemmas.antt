@@ -1,6 +1,6 @@
 -- Shares that stay open.
 use Rattle.std.proofs.Common.{refl, ◌∙◌}
-use Rattle.nll_ledger.specs.declared.ledger.Ledger as Ledger
+use Rattle.ledger.specs.declared.ledger.Ledger as Ledger
 use Rattle.worker.specs.Finishing.{IsOpenStill}
 
 module _ {L B H E : Type 0} (ledger : Ledger.Ghosts L B H E) where

@@ -6,4 +6,4 @@ pub mod TurnLemmas
 pub mod FinishLemmas
 pub mod StartLemmas
 pub mod AccountLemmas
-pub mod CrewLemmas
+pub mod JobLemmas

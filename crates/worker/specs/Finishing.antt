@@ -3,7 +3,7 @@
 use Rattle.std.specs.Prelude.{◌≡◌, ◌≢◌, ℕ, ◌<◌, ◌≤◌, true, false, List, [], length, map}
 use Rattle.std.specs.Prelude.{Option}
 use Rattle.mail.specs.declared.mail.Mail as Mail
-use Rattle.nll_ledger.specs.declared.ledger.Ledger as Ledger
+use Rattle.ledger.specs.declared.ledger.Ledger as Ledger
 use Rattle.fixpoint.specs.Limits.{most_owners}
 use Rattle.fixpoint.specs.Rules.{Rules}
 use Rattle.fixpoint.specs.Logs.{log_of}
@@ -13,8 +13,8 @@ use Rattle.fixpoint.specs.declared.ending.Ending.{Ending}
 use Rattle.fixpoint.specs.declared.ending.Ending.TheVariants.{Quiet, Stopped, Unstarted, NoOwner}
 use Rattle.fixpoint.specs.declared.ending.Ending.TheVariants.{Forbidden}
 use Rattle.fixpoint.specs.declared.growth.Growth.{Growth}
-use Rattle.worker.specs.declared.crew.Start.{Start}
-use Rattle.worker.specs.declared.crew.Start.TheVariants.{Made, Failed, Refused}
+use Rattle.worker.specs.declared.job.Start.{Start}
+use Rattle.worker.specs.declared.job.Start.TheVariants.{Made, Failed, Refused}
 use Rattle.worker.specs.Mailboxes.{Alike, AreAllEmpty, Both, HasEnds, Keeps, through}
 
 -- The part is of this system and number.

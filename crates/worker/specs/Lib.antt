@@ -3,4 +3,4 @@ pub mod Hearing
 pub mod Tallies
 pub mod Turning
 pub mod Finishing
-pub mod Crews
+pub mod Jobs

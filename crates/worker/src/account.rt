@@ -7,7 +7,7 @@ ghost use Rattle.worker.specs.Tallies.{HasGrown, IsCounted, due_of};
 
 use crate::tally::{Tally, count_new};
 use fixpoint::Analysis;
-use nll_ledger::Ledger;
+use ledger::Ledger;
 
 /// The ledger's book, a worker's share of it, and what the worker counts.
 #[derive(Drop)]

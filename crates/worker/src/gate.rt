@@ -8,7 +8,7 @@
 /// this added, for 0 if there are none; it clears 1; and it posts what is owed for and not yet
 /// posted, except what a full mailbox refuses, which is tried again after the next turn. Only then
 /// is the gate entered for the next turn.
-pub trait Gate: Sync {
+pub trait Gate {
     /// Lets the owner of this number begin this turn. Turn 1 is the load, and the numbers go up by
     /// one.
     fn enter(&self, owner: usize, turn: u64);

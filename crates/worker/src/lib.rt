@@ -1,33 +1,33 @@
 //! Workers: the part of one owner at work, from its start to its end.
 //!
 //! Read `gate`, `pace`, `inbox` and `posts` (what a worker does at its mailboxes), `tally`,
-//! `account`, `turn`, `work_loop`, `outbox`, `site` and `worker`; then `crew`, `permit` and
-//! `threads` (workers of any kind, each in a thread), and `starts` (the workers of a run).
+//! `account`, `turn`, `work_loop`, `outbox`, `site` and `worker`; then `job`, `permit` and
+//! `threads` (jobs of any kind, each in a thread), and `task` (a worker as a job).
 //! The definitions are in specs/: `Finishing` first, which has what a worker promises.
 #![tactic(auto)]
 
 mod account;
-mod crew;
 mod gate;
 mod inbox;
+mod job;
 mod outbox;
 mod pace;
 mod permit;
 mod posts;
 mod site;
-mod starts;
 mod tally;
+mod task;
 mod threads;
 mod turn;
 mod work_loop;
 mod worker;
 
-pub use crew::{Comes, Crew, Given, Start};
 pub use gate::{Gate, NoGate};
 pub use inbox::Heard;
+pub use job::{Back, Given, Job, Start};
 pub use outbox::Outbox;
 pub use permit::{AlwaysStart, Permit};
 pub use site::Site;
-pub use starts::run_all;
-pub use threads::work_all;
+pub use task::Task;
+pub use threads::run_jobs;
 pub use worker::{Finished, Worker, call_off, work};

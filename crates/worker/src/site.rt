@@ -2,7 +2,7 @@
 
 use crate::gate::Gate;
 use fixpoint::Analysis;
-use nll_ledger::Ledger;
+use ledger::Ledger;
 use std::alloc::Global;
 
 /// What all workers of a run share: what they analyse, the gate that they enter, and the ledger's

@@ -15,7 +15,7 @@ use crate::inbox::{Heard, Inbox, hear_from};
 use crate::pace::Pace;
 use fixpoint::{Analysis, Growth};
 use mail::Mail;
-use nll_ledger::Ledger;
+use ledger::Ledger;
 
 // At most this many rounds follow each other.
 const MOST_ROUNDS: u64 = 32;

@@ -1,7 +1,7 @@
 //! One worker, from its start until its share has left.
 
 ghost use Rattle.std.specs.Prelude.{◌≡◌, map, true, false};
-ghost use Rattle.nll_ledger.specs.Leaving.{IfLeft, IfOpen, IfQuiet, IfStopped};
+ghost use Rattle.ledger.specs.Leaving.{IfLeft, IfOpen, IfQuiet, IfStopped};
 ghost use Rattle.fixpoint.specs.Finishing.{Finishes};
 ghost use Rattle.fixpoint.specs.Logs.{log_of};
 ghost use Rattle.fixpoint.specs.State.{first_state};
@@ -20,7 +20,7 @@ use crate::turn::{first_turn, rounds};
 use crossbeam_utils::Backoff;
 use fixpoint::{Analysis, Ending, Growth};
 use mail::Mail;
-use nll_ledger::{Leave, Ledger};
+use ledger::{Leave, Ledger};
 use std::sync::Wait;
 
 /// Sets the stop flag, and leaves.

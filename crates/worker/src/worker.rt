@@ -14,7 +14,7 @@ use crate::tally::Tally;
 use crate::work_loop::{halt, work_on};
 use fixpoint::{Analysis, Ending, Growth};
 use mail::Mail;
-use nll_ledger::Ledger;
+use ledger::Ledger;
 use std::alloc::Global;
 use std::sync::Wait;
 

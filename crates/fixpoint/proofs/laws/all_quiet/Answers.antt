@@ -4,7 +4,7 @@ use Rattle.fixpoint.proofs.laws.all_quiet.Goals as goal
 pub returns : goal.returns
 returns g c = λ a state logs sent got rest owed cleared ending ok counted log_is ends quiet tied sums.
     let rules = g.A.Rules.rules in
-    let lawful = (g.met.A.Rules g.world.𝓛 g.world.𝓜 g.world.𝓡 ((λ s x. x), (λ x. x), (λ x. x), λ x. x)).lawful in
+    let lawful = g.met.A.Rules.lawful in
     let all = concludes rules lawful a ok state sent got rest owed cleared ending ends tied logs counted log_is quiet
     sums in (
       all.0,

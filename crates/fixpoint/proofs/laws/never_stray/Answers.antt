@@ -5,6 +5,6 @@ use Rattle.fixpoint.proofs.laws.never_stray.Goals as goal
 pub returns : goal.returns
 returns g c = λ a state sent got rest owed cleared ending ends tied i low.
     not_stray g.A.Rules.rules
-    (g.met.A.Rules g.world.𝓛 g.world.𝓜 g.world.𝓡 ((λ s x. x), (λ x. x), (λ x. x), λ x. x)).lawful a
+    g.met.A.Rules.lawful a
     (subst g.A.Rules.rules.valid (ends i low).system (ends i low).sound.valid) state sent got rest owed cleared ending
     ends tied i low

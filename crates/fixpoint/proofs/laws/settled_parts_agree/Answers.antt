@@ -4,5 +4,5 @@ use Rattle.fixpoint.proofs.laws.settled_parts_agree.Goals as goal
 pub returns : goal.returns
 returns g c = λ a logs received ok sound settled.
     least_exact g.A.Rules.rules
-    (g.met.A.Rules g.world.𝓛 g.world.𝓜 g.world.𝓡 ((λ s x. x), (λ x. x), (λ x. x), λ x. x)).lawful a ok
+    g.met.A.Rules.lawful a ok
     logs received sound settled

@@ -13,7 +13,7 @@ returns-in_err-receive-clause-perhaps g c =
 pub returns-then-known-clause-due : goal.returns-then-known-clause-due
 returns-then-known-clause-due g c =
     let r = g.E.Rules.rules in
-    let law = (g.met.E.Rules g.world.𝓛 g.world.𝓜 g.world.𝓡 ((λ s x. x), (λ x. x), (λ x. x), λ x. x)).lawful in
+    let law = g.met.E.Rules.lawful in
     let o = c.args.book.now in
     let ok = c.in_ok-receive.ensures.ok in
     due_at r c.receive.new.self.system o.system c.receive.new.self.me o.me _ _
@@ -36,7 +36,7 @@ returns-clause-store g c =
 pub returns-clause-due : goal.returns-clause-due
 returns-clause-due g c =
     let r = g.E.Rules.rules in
-    let law = (g.met.E.Rules g.world.𝓛 g.world.𝓜 g.world.𝓡 ((λ s x. x), (λ x. x), (λ x. x), λ x. x)).lawful in
+    let law = g.met.E.Rules.lawful in
     let o = c.args.book.now in
     let ok = c.in_ok-receive.ensures.ok in
     on_ok_two c.enter.result

@@ -8,7 +8,7 @@ use Rattle.keeper.proofs.pursue.load_all.Goals as goal
 pub settle-requires-clause-due : goal.settle-requires-clause-due
 settle-requires-clause-due g c κs within =
     let r = g.E.Rules.rules in
-    let law = (g.met.E.Rules g.world.𝓛 g.world.𝓜 g.world.𝓡 ((λ s x. x), (λ x. x), (λ x. x), λ x. x)).lawful in
+    let law = g.met.E.Rules.lawful in
     let o = c.args.book.now in
     due_first r law o.system c.requires.sound.valid o.me (has r o)
     c.args.due.now.items c.begin.new.found.items c.requires.fresh c.requires.quiet.none_due

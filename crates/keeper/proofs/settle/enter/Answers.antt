@@ -7,7 +7,7 @@ use Rattle.keeper.proofs.settle.enter.Goals as goal
 pub returns-clause-due : goal.returns-clause-due
 returns-clause-due g c =
     let r = g.E.Rules.rules in
-    let law = (g.met.E.Rules g.world.𝓛 g.world.𝓜 g.world.𝓡 ((λ s x. x), (λ x. x), (λ x. x), λ x. x)).lawful in
+    let law = g.met.E.Rules.lawful in
     let o = c.args.book.now in
     let grown = c.in_ok-grow.ensures.ok in
     on_ok_two c.enter.result

@@ -5,6 +5,6 @@ use Rattle.keeper.proofs.settle.settle.Goals as goal
 pub returns-clause-done : goal.returns-clause-done
 returns-clause-done g c =
     done_now g.E.Rules.rules
-    (g.met.E.Rules g.world.𝓛 g.world.𝓜 g.world.𝓡 ((λ s x. x), (λ x. x), (λ x. x), λ x. x)).lawful
+    g.met.E.Rules.lawful
     c.loop-fact.book c.loop-fact.due.items
     c.loop-fact.invariant.due (search rules)

@@ -6,7 +6,7 @@ pub owe-requires-clause-few : goal.owe-requires-clause-few
 owe-requires-clause-few g c =
     let w = c.requires.grew in
     let more = c.count_new-count.ensures.more w.0 w.1 w.2 in
-    let lawful = (g.met.A.Rules g.world.𝓛 g.world.𝓜 g.world.𝓡 ((λ s x. x), (λ x. x), (λ x. x), λ x. x)).lawful in
+    let lawful = g.met.A.Rules.lawful in
     let small = due_small g.A.Rules.rules (g.A.Analysis.state c.args.part.now) c.requires.sound
     (lawful.few _ c.requires.sound.valid).1 in
     (omega (arith, more, small), omega (arith, more, small, w.3))

@@ -48,7 +48,7 @@ looks_in rules j old new before after gs Stray e h = (e, h)
 looks_in rules j old new before after gs Memory e h = (e, h)
 
 pub hand_in-requires-clause-passes : goal.hand_in-requires-clause-passes
-hand_in-requires-clause-passes g c κs within = λ h at.
+hand_in-requires-clause-passes g c = λ h at.
     c.take_batch.ensures.passes c.if-not-take_batch.false h
     (subst (λ (xs : List (Growth _)). Contains xs h) c.deref.ensures.value at)
 

@@ -16,7 +16,7 @@ loop-to-init g c = record {
 }
 
 pub post_to-requires-clause-ends : goal.post_to-requires-clause-ends
-post_to-requires-clause-ends g c κs within =
+post_to-requires-clause-ends g c =
     subst (λ (o : State _ _). HasEnds o.me c.loop-to.senders.items) (sym c.loop-to.invariant.others)
     (ends_kept (Stays g.M.Mail) (g.A.Analysis.state c.args.part.now).me _ _ c.loop-to.invariant.pairs c.requires.ends)
 

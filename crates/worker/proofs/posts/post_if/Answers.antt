@@ -3,6 +3,6 @@ use Rattle.worker.proofs.posts.post_if.Goals as goal
 
 pub returns-in-None-clause-many : goal.returns-in-None-clause-many
 returns-in-None-clause-many g c = λ unbounded.
-    let lawful = (g.met.A.Rules g.world.𝓛 g.world.𝓜 g.world.𝓡 ((λ s x. x), (λ x. x), (λ x. x), λ x. x)).lawful in
+    let lawful = g.met.A.Rules.lawful in
     given_own g.A.Rules.rules lawful (g.A.Analysis.state c.args.part.now) c.args.to c.args.most c.requires.sound
     (c.requires.end c.in-None.is)

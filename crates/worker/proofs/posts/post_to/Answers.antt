@@ -5,7 +5,7 @@ use Rattle.worker.proofs.PostLemmas.{posted_on}
 use Rattle.worker.proofs.posts.post_to.Goals as goal
 
 pub post_if-requires-clause-sent : goal.post_if-requires-clause-sent
-post_if-requires-clause-sent g c κs within =
+post_if-requires-clause-sent g c =
     let xs = c.args.senders.now.items in
     let lt : c.args.to < length xs =
     omega (arith, map_length (through g.M.Mail.sent) xs, c.requires.posts.count, c.requires.to) in
@@ -13,7 +13,7 @@ post_if-requires-clause-sent g c κs within =
     ∙ c.requires.posts.front c.args.to c.requires.to
 
 pub post_if-requires-clause-end : goal.post_if-requires-clause-end
-post_if-requires-clause-end g c κs within = λ none.
+post_if-requires-clause-end g c = λ none.
     let xs = c.args.senders.now.items in
     let lt : c.args.to < length xs =
     omega (arith, map_length (through g.M.Mail.sent) xs, c.requires.posts.count, c.requires.to) in

@@ -1,4 +1,4 @@
-use Rattle.std.proofs.Common.{length, ap, arith}
+use Rattle.std.proofs.Common.{arith}
 use Rattle.worker.proofs.TallyLemmas.{counted_same, due_none, waiting_grows, due_more}
 use Rattle.worker.proofs.tally.count_new.Goals as goal
 

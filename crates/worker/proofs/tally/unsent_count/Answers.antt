@@ -5,7 +5,7 @@ use Rattle.worker.proofs.tally.unsent_count.Goals as goal
 
 pub overflow_add-count : goal.overflow_add-count
 overflow_add-count g c =
-    let lawful = (g.met.A.Rules g.world.𝓛 g.world.𝓜 g.world.𝓡 ((λ s x. x), (λ x. x), (λ x. x), λ x. x)).lawful in
+    let lawful = g.met.A.Rules.lawful in
     let few = part_few g.A.Rules.rules (g.A.Analysis.state c.args.part.now) c.loop-to.to c.unsent-count.ensures.sound in
     let inside : c.loop-to.to < (g.A.Rules.rules.parts (g.A.Analysis.state c.args.part.now).system) =
     omega (arith, c.loop-to-test.true, c.owners-to-end.ensures.value) in

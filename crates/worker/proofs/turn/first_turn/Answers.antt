@@ -1,4 +1,4 @@
-use Rattle.std.proofs.Common.{refl, sym, ap, ◌∙◌, subst, arith}
+use Rattle.std.proofs.Common.{sym, ap, ◌∙◌, subst, arith}
 use Rattle.worker.proofs.TurnLemmas.{first_counted, first_grows, first_takes, first_due, none_taken}
 use Rattle.worker.specs.Tallies.{IsCounted}
 use Rattle.worker.specs.declared.tally.Tally.{Tally}
@@ -18,7 +18,7 @@ returns-in-Err g c = record {
 }
 
 pub keep_book-requires-clause-grew : goal.keep_book-requires-clause-grew
-keep_book-requires-clause-grew g c κs within = (
+keep_book-requires-clause-grew g c = (
   (g.A.Analysis.state c.args.part.now),
   first_grows g.A.Rules.rules _ _ (g.A.Analysis.state c.args.part.now) (g.A.Analysis.state c.load.new.part)
       c.requires.first c.load.ensures.others c.load.ensures.begins,
@@ -55,9 +55,9 @@ returns-clause-comes g c = λ taken none. record {
 }
 
 pub keep_book-requires-clause-cleared : goal.keep_book-requires-clause-cleared
-keep_book-requires-clause-cleared g c κs within =
+keep_book-requires-clause-cleared g c =
     ap (λ (t : Tally). t.cleared) c.requires.uncounted ∙ sym c.requires.fresh.cleared_is
 
 pub keep_book-requires-clause-turns : goal.keep_book-requires-clause-turns
-keep_book-requires-clause-turns g c κs within = let none = ap (λ (t : Tally). t.turns) c.requires.uncounted in
+keep_book-requires-clause-turns g c = let none = ap (λ (t : Tally). t.turns) c.requires.uncounted in
     omega (arith, none)

@@ -1,4 +1,4 @@
-use Rattle.std.proofs.Common.{map, refl, ap, ◌∙◌, arith}
+use Rattle.std.proofs.Common.{map, refl, ap, arith}
 use Rattle.worker.specs.Mailboxes.{Keeps, Both, through}
 use Rattle.worker.specs.Turning.{IsAtRest}
 use Rattle.worker.proofs.ListLemmas.{alike_refl, keeps_on, both_refl}
@@ -17,13 +17,13 @@ loop-step-init g c = record {
 }
 
 pub turn-heard-requires-clause-from : goal.turn-heard-requires-clause-from
-turn-heard-requires-clause-from g c κs within =
+turn-heard-requires-clause-from g c =
     let same = ap g.A.Rules.rules.parts c.loop-step.invariant.grows.system in
     omega (arith, same, c.owner_behind-from.ensures, c.owners-owners.ensures.value)
 
 pub first_after-first-requires : goal.first_after-first-requires
 first_after-first-requires g c =
-    let lawful = (g.met.A.Rules g.world.𝓛 g.world.𝓜 g.world.𝓡 ((λ s x. x), (λ x. x), (λ x. x), λ x. x)).lawful in
+    let lawful = g.met.A.Rules.lawful in
     omega (arith, c.owners-owners.ensures.value, (lawful.few _ c.owners-owners.ensures.sound.valid).0)
 
 pub returns-then-pace-eq1-clause-grows : goal.returns-then-pace-eq1-clause-grows

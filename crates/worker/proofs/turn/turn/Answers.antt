@@ -10,7 +10,7 @@ use Rattle.worker.proofs.turn.turn.Goals as goal
 
 pub overflow_add-turn : goal.overflow_add-turn
 overflow_add-turn g c =
-    let lawful = (g.met.A.Rules g.world.𝓛 g.world.𝓜 g.world.𝓡 ((λ s x. x), (λ x. x), (λ x. x), λ x. x)).lawful in
+    let lawful = g.met.A.Rules.lawful in
     let few =
     cleared_small g.A.Rules.rules (g.A.Analysis.state c.args.part.now) _ _ 0
     (lawful.few _ c.requires.rests.working.sound.valid).1 c.requires.rests.taking
@@ -18,11 +18,11 @@ overflow_add-turn g c =
     omega (arith, few, c.requires.rests.turns)
 
 pub keep_book-requires-clause-whole : goal.keep_book-requires-clause-whole
-keep_book-requires-clause-whole g c κs within = ap (λ (o : State _ _). o.broken) c.in-Growths.ensures.hears.1.4
+keep_book-requires-clause-whole g c = ap (λ (o : State _ _). o.broken) c.in-Growths.ensures.hears.1.4
     ∙ c.requires.rests.working.whole
 
 pub keep_book-requires-clause-grew : goal.keep_book-requires-clause-grew
-keep_book-requires-clause-grew g c κs within =
+keep_book-requires-clause-grew g c =
     let h = c.in-Growths.ensures.hears in (
       (g.A.Analysis.state c.args.part.now),
       grown_some g.A.Rules.rules (g.A.Analysis.state c.args.part.now) (g.A.Analysis.state c.hear_from.new.part)
@@ -32,8 +32,8 @@ keep_book-requires-clause-grew g c κs within =
     )
 
 pub keep_book-requires-clause-small : goal.keep_book-requires-clause-small
-keep_book-requires-clause-small g c κs within =
-    let lawful = (g.met.A.Rules g.world.𝓛 g.world.𝓜 g.world.𝓡 ((λ s x. x), (λ x. x), (λ x. x), λ x. x)).lawful in
+keep_book-requires-clause-small g c =
+    let lawful = g.met.A.Rules.lawful in
     let rests = c.requires.rests in
     let h = c.in-Growths.ensures.hears in
     let cleared = cleared_small g.A.Rules.rules (g.A.Analysis.state c.args.part.now) _ _ 0

@@ -31,7 +31,7 @@ loop-init g c =
     )
 
 pub share_out-heard-requires-clause-ends : goal.share_out-heard-requires-clause-ends
-share_out-heard-requires-clause-ends g c κs within =
+share_out-heard-requires-clause-ends g c =
     let l = c.loop.invariant in
     subst (λ i. HasEnds i c.loop.senders.items) (sym l.2.me)
     (ends_kept (Stays g.M.Mail) (g.A.Analysis.state c.args.part.now).me _ _ l.7 c.requires.ends)
@@ -102,7 +102,7 @@ pub returns-in-Stopped-clause-pairs : goal.returns-in-Stopped-clause-pairs
 returns-in-Stopped-clause-pairs g c = stays_on g.M.Mail _ _ _ c.loop.invariant.7 c.share_out-heard.ensures.pairs
 
 pub rounds-heard-requires-clause-rests : goal.rounds-heard-requires-clause-rests
-rounds-heard-requires-clause-rests g c κs within =
+rounds-heard-requires-clause-rests g c =
     let l = c.loop.invariant in
     let s = c.share_out-heard in
     let rest : IsAtRest g.A.Rules.rules (g.A.Analysis.state s.new.part) (map
@@ -142,4 +142,4 @@ loop-preserved g c =
     )
 
 pub share_out-heard-requires-clause-came : goal.share_out-heard-requires-clause-came
-share_out-heard-requires-clause-came g c κs within = (_, _, _, c.loop.invariant.5)
+share_out-heard-requires-clause-came g c = (_, _, _, c.loop.invariant.5)

@@ -6,8 +6,8 @@ use Rattle.worker.proofs.FinishLemmas.{finished_as}
 use Rattle.worker.proofs.ListLemmas.{alike_length, shut_lists, shut_on}
 use Rattle.worker.proofs.worker.with_part.Goals as goal
 
-pub close_all-closed-requires-after_bounds : goal.close_all-closed-requires-after_bounds
-close_all-closed-requires-after_bounds g c κs within =
+pub close_all-closed-requires : goal.close_all-closed-requires
+close_all-closed-requires g c =
     let same = alike_length (Both (Stays g.M.Mail)) _ _ c.work_on-left.ensures.pairs in
     (c.requires.given.none_kept, omega (arith, same, c.requires.given.space))
 

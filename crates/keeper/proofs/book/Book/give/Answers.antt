@@ -18,7 +18,7 @@ pub invariant_of-self : goal.invariant_of-self
 invariant_of-self g c =
     let to_in = rw (← c.self.view_is) at c.requires.to in
     given_kept g.A.Rules.rules
-    (g.met.A.Rules g.world.𝓛 g.world.𝓜 g.world.𝓡 ((λ s x. x), (λ x. x), (λ x. x), λ x. x)).lawful
+    g.met.A.Rules.lawful
     _ _ c.self.invariant c.args.to c.index_mut.result.now to_in
     (get_or_default c.self.inside.given.items c.args.to 0 c.index_mut.result.now
     (omega (arith, to_in, c.self.invariant.sound.receivers)) ∙ sym c.index_mut.ensures.value)
@@ -37,7 +37,7 @@ pub returns-clause-sound : goal.returns-clause-sound
 returns-clause-sound g c =
     let to_in = rw (← c.self.view_is) at c.requires.to in
     (given_kept g.A.Rules.rules
-    (g.met.A.Rules g.world.𝓛 g.world.𝓜 g.world.𝓡 ((λ s x. x), (λ x. x), (λ x. x), λ x. x)).lawful
+    g.met.A.Rules.lawful
     _ _ c.self.invariant c.args.to c.index_mut.result.now to_in
     (get_or_default c.self.inside.given.items c.args.to 0 c.index_mut.result.now
     (omega (arith, to_in, c.self.invariant.sound.receivers)) ∙ sym c.index_mut.ensures.value)

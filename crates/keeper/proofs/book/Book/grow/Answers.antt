@@ -6,7 +6,7 @@ pub invariant_of-self-2 : goal.invariant_of-self-2
 invariant_of-self-2 g c =
     rw c.in_ok-push.ensures.items
     (grown_kept g.A.Rules.rules
-    (g.met.A.Rules g.world.𝓛 g.world.𝓜 g.world.𝓡 ((λ s x. x), (λ x. x), (λ x. x), λ x. x)).lawful
+    g.met.A.Rules.lawful
     _ _ c.self.invariant c.args.fact (rw (← c.self.view_is) at c.requires.found)
     (rw (← c.self.view_is) at c.requires.lacks))
 
@@ -21,7 +21,7 @@ pub returns-clause-sound : goal.returns-clause-sound
 returns-clause-sound g c =
     rw c.in_ok-push.ensures.items
     (grown_kept g.A.Rules.rules
-    (g.met.A.Rules g.world.𝓛 g.world.𝓜 g.world.𝓡 ((λ s x. x), (λ x. x), (λ x. x), λ x. x)).lawful
+    g.met.A.Rules.lawful
     _ _ c.self.invariant c.args.fact (rw (← c.self.view_is) at c.requires.found)
     (rw (← c.self.view_is) at c.requires.lacks)).sound
 
@@ -29,6 +29,6 @@ pub returns-clause-has : goal.returns-clause-has
 returns-clause-has g c =
     rw (← c.self.view_is, c.in_ok-push.ensures.items)
     (grown_has g.A.Rules.rules
-    (g.met.A.Rules g.world.𝓛 g.world.𝓜 g.world.𝓡 ((λ s x. x), (λ x. x), (λ x. x), λ x. x)).lawful
+    g.met.A.Rules.lawful
     _ _ c.self.invariant c.args.fact (rw (← c.self.view_is) at c.requires.found)
     (rw (← c.self.view_is) at c.requires.lacks))

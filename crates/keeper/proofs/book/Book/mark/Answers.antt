@@ -3,10 +3,10 @@ use Rattle.keeper.proofs.book.Book.mark.Goals as goal
 
 pub invariant_of-self : goal.invariant_of-self
 invariant_of-self g c = marked_kept g.A.Rules.rules
-    (g.met.A.Rules g.world.𝓛 g.world.𝓜 g.world.𝓡 ((λ s x. x), (λ x. x), (λ x. x), λ x. x)).lawful
+    g.met.A.Rules.lawful
     _ _ _ _ c.self.invariant
 
 pub returns-clause-sound : goal.returns-clause-sound
 returns-clause-sound g c = (marked_kept g.A.Rules.rules
-    (g.met.A.Rules g.world.𝓛 g.world.𝓜 g.world.𝓡 ((λ s x. x), (λ x. x), (λ x. x), λ x. x)).lawful
+    g.met.A.Rules.lawful
     _ _ c.args.loaded c.args.broken c.self.invariant).sound

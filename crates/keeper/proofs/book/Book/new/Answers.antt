@@ -10,5 +10,5 @@ invariant_of-result g c =
       c.parts-owners.ensures.count,
     )
     (first_kept g.A.Rules.rules
-    (g.met.A.Rules g.world.𝓛 g.world.𝓜 g.world.𝓡 ((λ s x. x), (λ x. x), (λ x. x), λ x. x)).lawful
+    g.met.A.Rules.lawful
     c.args.system c.parts-owners.ensures.valid c.args.me c.requires)

@@ -8,7 +8,7 @@ index_mut-list-requires g c =
     omega (
       arith,
       (from_in g.A.Rules.rules
-          (g.met.A.Rules g.world.𝓛 g.world.𝓜 g.world.𝓡 ((λ s x. x), (λ x. x), (λ x. x), λ x. x)).lawful
+          g.met.A.Rules.lawful
           _ _ c.self.invariant c.args.from c.args.growth (rw (← c.self.view_is) at c.requires)),
       length-map
           c.self.inside.received.items (λ list. list.items),
@@ -18,7 +18,7 @@ pub invariant_of-self : goal.invariant_of-self
 invariant_of-self g c =
     rw (lists_kept (λ list. list.items) c.self.inside.received.items c.args.from c.index_mut-list.result.now
     (from_in g.A.Rules.rules
-    (g.met.A.Rules g.world.𝓛 g.world.𝓜 g.world.𝓡 ((λ s x. x), (λ x. x), (λ x. x), λ x. x)).lawful
+    g.met.A.Rules.lawful
     _ _ c.self.invariant c.args.from c.args.growth (rw (← c.self.view_is) at c.requires))
     c.index_mut-list.ensures.value c.push.new.self c.in_err-push.ensures.items) c.self.invariant
 
@@ -28,7 +28,7 @@ returns-in_err-push-clause-err g c =
       ← c.self.view_is,
       (lists_kept (λ list. list.items) c.self.inside.received.items c.args.from c.index_mut-list.result.now
           (from_in g.A.Rules.rules
-          (g.met.A.Rules g.world.𝓛 g.world.𝓜 g.world.𝓡 ((λ s x. x), (λ x. x), (λ x. x), λ x. x)).lawful
+          g.met.A.Rules.lawful
           _ _ c.self.invariant c.args.from c.args.growth (rw (← c.self.view_is) at c.requires))
           c.index_mut-list.ensures.value c.push.new.self c.in_err-push.ensures.items),
     ) refl)
@@ -37,7 +37,7 @@ pub returns-in_err-push-clause-sound : goal.returns-in_err-push-clause-sound
 returns-in_err-push-clause-sound g c =
     rw (lists_kept (λ list. list.items) c.self.inside.received.items c.args.from c.index_mut-list.result.now
     (from_in g.A.Rules.rules
-    (g.met.A.Rules g.world.𝓛 g.world.𝓜 g.world.𝓡 ((λ s x. x), (λ x. x), (λ x. x), λ x. x)).lawful
+    g.met.A.Rules.lawful
     _ _ c.self.invariant c.args.from c.args.growth (rw (← c.self.view_is) at c.requires))
     c.index_mut-list.ensures.value c.push.new.self c.in_err-push.ensures.items) c.self.invariant.sound
 
@@ -46,13 +46,13 @@ invariant_of-self-2 g c =
     rw (
       (lists_pushed (λ list. list.items) c.self.inside.received.items c.args.from c.index_mut-list.result.now
           (from_in g.A.Rules.rules
-          (g.met.A.Rules g.world.𝓛 g.world.𝓜 g.world.𝓡 ((λ s x. x), (λ x. x), (λ x. x), λ x. x)).lawful
+          g.met.A.Rules.lawful
           _ _ c.self.invariant c.args.from c.args.growth (rw (← c.self.view_is) at c.requires))
           c.index_mut-list.ensures.value c.push.new.self c.args.growth c.in_ok-push.ensures.items),
       c.max-clock.ensures,
     )
     (told_kept g.A.Rules.rules
-    (g.met.A.Rules g.world.𝓛 g.world.𝓜 g.world.𝓡 ((λ s x. x), (λ x. x), (λ x. x), λ x. x)).lawful
+    g.met.A.Rules.lawful
     _ _ c.self.invariant c.args.from c.args.growth (rw (← c.self.view_is) at c.requires))
 
 pub returns-clause-ok : goal.returns-clause-ok
@@ -61,7 +61,7 @@ returns-clause-ok g c =
       ← c.self.view_is,
       (lists_pushed (λ list. list.items) c.self.inside.received.items c.args.from c.index_mut-list.result.now
           (from_in g.A.Rules.rules
-          (g.met.A.Rules g.world.𝓛 g.world.𝓜 g.world.𝓡 ((λ s x. x), (λ x. x), (λ x. x), λ x. x)).lawful
+          g.met.A.Rules.lawful
           _ _ c.self.invariant c.args.from c.args.growth (rw (← c.self.view_is) at c.requires))
           c.index_mut-list.ensures.value c.push.new.self c.args.growth c.in_ok-push.ensures.items),
     ) refl
@@ -70,11 +70,11 @@ pub returns-clause-sound : goal.returns-clause-sound
 returns-clause-sound g c =
     rw (lists_pushed (λ list. list.items) c.self.inside.received.items c.args.from c.index_mut-list.result.now
     (from_in g.A.Rules.rules
-    (g.met.A.Rules g.world.𝓛 g.world.𝓜 g.world.𝓡 ((λ s x. x), (λ x. x), (λ x. x), λ x. x)).lawful
+    g.met.A.Rules.lawful
     _ _ c.self.invariant c.args.from c.args.growth (rw (← c.self.view_is) at c.requires))
     c.index_mut-list.ensures.value c.push.new.self c.args.growth c.in_ok-push.ensures.items)
     (told_kept g.A.Rules.rules
-    (g.met.A.Rules g.world.𝓛 g.world.𝓜 g.world.𝓡 ((λ s x. x), (λ x. x), (λ x. x), λ x. x)).lawful
+    g.met.A.Rules.lawful
     _ _ c.self.invariant c.args.from c.args.growth (rw (← c.self.view_is) at c.requires)).sound
 
 pub returns-clause-has : goal.returns-clause-has
@@ -83,10 +83,10 @@ returns-clause-has g c =
       ← c.self.view_is,
       (lists_pushed (λ list. list.items) c.self.inside.received.items c.args.from c.index_mut-list.result.now
           (from_in g.A.Rules.rules
-          (g.met.A.Rules g.world.𝓛 g.world.𝓜 g.world.𝓡 ((λ s x. x), (λ x. x), (λ x. x), λ x. x)).lawful
+          g.met.A.Rules.lawful
           _ _ c.self.invariant c.args.from c.args.growth (rw (← c.self.view_is) at c.requires))
           c.index_mut-list.ensures.value c.push.new.self c.args.growth c.in_ok-push.ensures.items),
     )
     (told_has g.A.Rules.rules
-    (g.met.A.Rules g.world.𝓛 g.world.𝓜 g.world.𝓡 ((λ s x. x), (λ x. x), (λ x. x), λ x. x)).lawful
+    g.met.A.Rules.lawful
     _ _ c.self.invariant c.args.from c.args.growth (rw (← c.self.view_is) at c.requires))

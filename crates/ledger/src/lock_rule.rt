@@ -1,0 +1,199 @@
+//! The rule of a ledger's lock.
+//!
+//! The lock is a queue of one place that has the state of a book: its balance and its stop flag. A
+//! hold of the lock begins with a pop of the state and ends with a push of it. Each pass of the
+//! queue knows the figures of its shares; the state is at all times what the figures of all passes
+//! say (`specs/Lock.antt`).
+
+ghost use Rattle.std.specs.Prelude.{⊤};
+
+use crate::figures::Figures;
+use crossbeam_queue::protocol::{Join, Lesson, Outcome, Protocol, Split};
+use crossbeam_queue::{Pass, RuledArrayQueue};
+
+/// The state of a book: its balance, kept 2^62 higher, and whether the stop flag is set.
+#[derive(Clone, Copy)]
+pub struct State {
+    pub balance: u64,
+    pub flag: bool,
+}
+
+/// What a pass knows: the figures of its shares, whether it holds the lock, and the state that it
+/// found when it last took the lock. No value of it is made.
+pub struct Known {
+    pub figures: Figures,
+    pub holds: bool,
+    pub held: State,
+}
+
+/// The rule of a lock.
+pub struct HeldByOne;
+
+impl Protocol<State, Known> for HeldByOne {
+    ghost use Rattle.ledger.specs.Lock.{IsHeldByOne, first};
+
+    ghost holds = { IsHeldByOne };
+
+    ghost first = { first };
+}
+
+/// A lock.
+pub type Lock = RuledArrayQueue<State, Known, HeldByOne>;
+
+/// A pass of a lock.
+pub type LockPass = Pass<State, Known>;
+
+/// A pop: a hold begins. The balance is far from the ends of its type.
+pub struct Grabs;
+
+impl Outcome<State, Known> for Grabs {
+    ghost use Rattle.std.specs.Prelude.{◌≡◌, ◌<◌, ◌^◌};
+    ghost use Rattle.ledger.specs.Lock.{holding};
+
+    ghost then = { λ old found new. (new ≡ holding old found)
+        × (2 ^ 61 < found.balance) × (found.balance < 2 ^ 63) };
+}
+
+impl Lesson<State, Known> for Grabs {
+    ghost use Rattle.std.specs.Prelude.{⊤};
+
+    ghost fact = { λ old items. ⊤ };
+}
+
+/// A push: a hold ends. What the share owes grew by as much as the balance.
+pub struct Raises;
+
+impl Outcome<State, Known> for Raises {
+    ghost use Rattle.std.specs.Prelude.{◌≡◌, ◌-◌};
+    ghost use Rattle.ledger.specs.Figures.{owing};
+    ghost use Rattle.ledger.specs.Lock.{released};
+
+    ghost then = { λ old put new.
+        new ≡ released old (owing old.figures (put.balance - old.held.balance)) };
+}
+
+impl Lesson<State, Known> for Raises {
+    ghost use Rattle.std.specs.Prelude.{⊤};
+
+    ghost fact = { λ old items. ⊤ };
+}
+
+/// A push: a hold ends. What the share cleared grew by as much as the balance fell.
+pub struct Lowers;
+
+impl Outcome<State, Known> for Lowers {
+    ghost use Rattle.std.specs.Prelude.{◌≡◌, ◌-◌};
+    ghost use Rattle.ledger.specs.Figures.{clearing};
+    ghost use Rattle.ledger.specs.Lock.{released};
+
+    ghost then = { λ old put new.
+        new ≡ released old (clearing old.figures (old.held.balance - put.balance)) };
+}
+
+impl Lesson<State, Known> for Lowers {
+    ghost use Rattle.std.specs.Prelude.{⊤};
+
+    ghost fact = { λ old items. ⊤ };
+}
+
+/// A push: a hold ends. The share set the flag.
+pub struct Sets;
+
+impl Outcome<State, Known> for Sets {
+    ghost use Rattle.std.specs.Prelude.{◌≡◌};
+    ghost use Rattle.ledger.specs.Figures.{setting};
+    ghost use Rattle.ledger.specs.Lock.{released};
+
+    ghost then = { λ old put new. new ≡ released old (setting old.figures) };
+}
+
+impl Lesson<State, Known> for Sets {
+    ghost use Rattle.std.specs.Prelude.{⊤};
+
+    ghost fact = { λ old items. ⊤ };
+}
+
+/// A push: a hold ends. The share found the flag set.
+pub struct Finds;
+
+impl Outcome<State, Known> for Finds {
+    ghost use Rattle.std.specs.Prelude.{◌≡◌};
+    ghost use Rattle.ledger.specs.Figures.{finding};
+    ghost use Rattle.ledger.specs.Lock.{released};
+
+    ghost then = { λ old put new. new ≡ released old (finding old.figures) };
+}
+
+impl Lesson<State, Known> for Finds {
+    ghost use Rattle.std.specs.Prelude.{⊤};
+
+    ghost fact = { λ old items. ⊤ };
+}
+
+/// A push: a hold ends. The share left on quiet.
+pub struct Quiets;
+
+impl Outcome<State, Known> for Quiets {
+    ghost use Rattle.std.specs.Prelude.{◌≡◌};
+    ghost use Rattle.ledger.specs.Figures.{quieting};
+    ghost use Rattle.ledger.specs.Lock.{released};
+
+    ghost then = { λ old put new. new ≡ released old (quieting old.figures) };
+}
+
+impl Lesson<State, Known> for Quiets {
+    ghost use Rattle.std.specs.Prelude.{⊤};
+
+    ghost fact = { λ old items. ⊤ };
+}
+
+/// A push: a hold ends, and nothing changed.
+pub struct Returns;
+
+impl Outcome<State, Known> for Returns {
+    ghost use Rattle.std.specs.Prelude.{◌≡◌};
+    ghost use Rattle.ledger.specs.Lock.{released};
+
+    ghost then = { λ old put new. new ≡ released old old.figures };
+}
+
+impl Lesson<State, Known> for Returns {
+    ghost use Rattle.std.specs.Prelude.{⊤};
+
+    ghost fact = { λ old items. ⊤ };
+}
+
+/// A share is cut off, and shares are put together.
+pub struct Parts;
+
+impl Split<Known> for Parts {
+    ghost use Rattle.std.specs.Prelude.{false};
+    ghost use Rattle.ledger.specs.Figures.{fewer, fresh};
+    ghost use Rattle.ledger.specs.Lock.{known};
+
+    ghost left = { λ old. known (fewer old.figures) old.holds old.held };
+
+    ghost right = { λ old. known fresh false old.held };
+}
+
+impl Join<Known> for Parts {
+    ghost use Rattle.std.specs.Prelude.{false};
+    ghost use Rattle.ledger.specs.Figures.{together};
+    ghost use Rattle.ledger.specs.Lock.{known, spent};
+
+    ghost both = { λ one other. known (together one.figures other.figures) false one.held };
+
+    ghost spent = { spent };
+}
+
+/// A look by a pass that has all parts. Where all of them left on quiet, as much was cleared as was
+/// owed; where a share knows that the flag is set, a share set it.
+pub struct Whole;
+
+impl Lesson<State, Known> for Whole {
+    ghost use Rattle.std.specs.Prelude.{◌≡◌, ◌<◌};
+
+    ghost fact = { λ all items.
+        (all.figures.quiets ≡ all.figures.parts → all.figures.owed ≡ all.figures.cleared)
+        × (0 < all.figures.finds → 0 < all.figures.calls) };
+}

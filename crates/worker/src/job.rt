@@ -1,0 +1,51 @@
+//! Jobs: what is done in threads.
+
+use std::snapshot::Snapshot;
+use std::thread::Promise;
+use std::sync::Wait;
+
+/// What became of the start of a job's thread.
+#[derive(Clone, Copy, Debug, PartialEq, Eq)]
+pub enum Start {
+    /// The thread was started.
+    Made,
+    /// The permit allowed it, and it couldn't be started.
+    Failed,
+    /// The permit refused it.
+    Refused,
+}
+
+/// What is done in a thread of its own.
+pub trait Job: Send + Drop + Sized {
+    ghost use Rattle.worker.specs.declared.job.Start.{Start};
+
+    /// What the job returns.
+    type Done: Send + Drop;
+
+    /// The job may be run.
+    ghost is_ready: { Self → Type 0 };
+    /// This comes of the job, by what became of its start.
+    ghost comes: { Self → Start → Self.Done → Type 0 };
+
+    /// Does the job, or ends it where its thread wasn't started.
+    fn run<R: Wait>(self, rt: &R, start: Start) -> Self::Done
+        requires { is_ready self }
+        ensures { comes self start result };
+}
+
+/// What a job was when its thread was started. It costs nothing at run time.
+#[derive(Drop)]
+pub struct Given<J: Job> {
+    pub job: Snapshot<J>,
+}
+
+/// What the thread of a job returns: what the job returns, or the job as it was.
+pub type Back<J: Job> = Result<J::Done, J>;
+
+impl<J: Job> Promise<Back<J>> for Given<J> {
+    ghost use Rattle.std.specs.Prelude.{◌≡◌, IfErr, IfOk};
+    ghost use Rattle.worker.specs.declared.job.Start.TheVariants.{Made};
+
+    ghost kept_by = { λ given back. IfOk back (λ done. J.comes given.job.value Made done)
+        × IfErr back (λ job. job ≡ given.job.value) };
+}
