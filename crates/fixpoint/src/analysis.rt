@@ -156,3 +156,6 @@ pub trait Analysis: Rules {
     /// What is returned where there is no part.
     fn none(alloc: Global) -> Self::Yield;
 }
+
+/// An analysis that threads share, each with a part of its own.
+pub trait ThreadAnalysis: Rules<Fact: Send> + Analysis<Part: Send, Yield: Send> + Sync {}

@@ -11,7 +11,7 @@ mod growth;
 mod laws;
 mod rules;
 
-pub use analysis::Analysis;
+pub use analysis::{Analysis, ThreadAnalysis};
 pub use ending::Ending;
 pub use error::PartError;
 pub use growth::Growth;

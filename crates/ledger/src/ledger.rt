@@ -37,10 +37,6 @@ pub struct Totals {
 /// is what all shares owed less what they cleared; what ties it to the shares is known once all of
 /// them have left, in `gather`.
 ///
-/// # Threads
-/// The shares may live in as many threads. That a share finds what another thread owed, cleared
-/// or stopped is not promised.
-///
 /// # Source
 /// Project's choice.
 pub trait Ledger {
@@ -160,3 +156,7 @@ pub trait Ledger {
             → (other : ℕ) × (caller : Self.Left)
             × (slice_get lefts.items other ≡ Some caller) × (left_called caller ≡ true) };
 }
+
+/// A kind of ledger whose shares may live in as many threads. That a share finds what another
+/// thread owed, cleared or stopped is not promised.
+pub trait ThreadLedger: Ledger<Book: Sync, Share: Send, Left: Send> + Sync {}

@@ -15,7 +15,7 @@ ghost use Rattle.ledger.specs.declared.word_book.WordShare.{WordShare};
 ghost use Rattle.fixpoint.specs.Limits.{most_owners};
 
 use crate::figures::{Account, NOTHING_OWED};
-use crate::ledger::{Leave, Ledger, Totals};
+use crate::ledger::{Leave, Ledger, ThreadLedger, Totals};
 use crate::word_book::{WordBook, WordLeft, WordShare};
 use crate::word_rule::{
     BALANCE, Clears, Concludes, Deals, FLAG, Gathers, Leaves, Looks, Owes, Stops, WordSeat, Words,
@@ -305,3 +305,5 @@ impl Ledger for WordLedger {
         add_up(&book, lefts)
     }
 }
+
+impl ThreadLedger for WordLedger {}

@@ -9,6 +9,6 @@ mod mail;
 mod queue_mail;
 mod ring_mail;
 
-pub use mail::{Mail, PostError};
+pub use mail::{Mail, PostError, ThreadMail};
 pub use queue_mail::{QueueClosed, QueueMail, QueuePost, QueueReceiver, QueueSender};
 pub use ring_mail::{RingClosed, RingMail, RingPost, RingReceiver, RingSender};

@@ -21,10 +21,6 @@ pub enum PostError<T> {
 ///
 /// A mailbox has two ends, and each of them knows only its own list: the sender what was sent, the
 /// receiver what was received. What ties the two lists is known once both ends meet, in `settle`.
-///
-/// # Threads
-/// The two ends of a mailbox may live in two threads. That a `take` finds what another thread has
-/// posted is not promised.
 pub trait Mail<T> {
     /// The end that posts. It is used up by `close`, and can't be let go.
     type S;
@@ -114,3 +110,7 @@ pub trait Mail<T> {
     fn count(post: &Self::Post) -> u64
         ensures { result ≡ length (post_received post.now) };
 }
+
+/// A kind of mailbox whose two ends may live in two threads. That a `take` finds what another
+/// thread has posted is not promised.
+pub trait ThreadMail<T>: Mail<T, S: Send, R: Send, Closed: Send, Post: Send> + Sync {}

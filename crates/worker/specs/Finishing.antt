@@ -1,7 +1,7 @@
 -- What a worker is given, and what it gives back.
 -- Source: project's choice.
 use Rattle.std.specs.Prelude.{◌≡◌, ◌≢◌, ℕ, ◌<◌, ◌≤◌, true, false, List, [], length, map}
-use Rattle.std.specs.Prelude.{Option}
+use Rattle.std.specs.Prelude.{Bool, Option}
 use Rattle.mail.specs.declared.mail.Mail as Mail
 use Rattle.ledger.specs.declared.ledger.Ledger as Ledger
 use Rattle.fixpoint.specs.Limits.{most_owners}
@@ -33,6 +33,11 @@ abbrev pub EndsAs : Start → Ending → Type 0
 EndsAs Made e = WasStarted e
 EndsAs Failed e = e ≡ Unstarted
 EndsAs Refused e = e ≡ Forbidden
+
+-- the answer of the permit for a worker that ended so
+abbrev pub IsAnswered : (Bool → Type 0) → Ending → Type 0
+IsAnswered permits Forbidden = permits false
+IsAnswered permits _ = permits true
 
 -- the worker could make its part
 abbrev pub WasMade : Ending → Type 0

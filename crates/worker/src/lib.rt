@@ -2,7 +2,7 @@
 //!
 //! Read `gate`, `pace`, `inbox` and `posts` (what a worker does at its mailboxes), `tally`,
 //! `account`, `turn`, `work_loop`, `outbox`, `site` and `worker`; then `job`, `permit` and
-//! `threads` (jobs of any kind, each in a thread), and `task` (a worker as a job).
+//! `threads` (jobs of any kind, each in a thread), and `starts` (the workers of a run).
 //! The definitions are in specs/: `Finishing` first, which has what a worker promises.
 #![tactic(auto)]
 
@@ -15,19 +15,19 @@ mod pace;
 mod permit;
 mod posts;
 mod site;
+mod starts;
 mod tally;
-mod task;
 mod threads;
 mod turn;
 mod work_loop;
 mod worker;
 
-pub use gate::{Gate, NoGate};
+pub use gate::{Gate, NoGate, ThreadGate};
 pub use inbox::Heard;
 pub use job::{Back, Given, Job, Start};
 pub use outbox::Outbox;
 pub use permit::{AlwaysStart, Permit};
 pub use site::Site;
-pub use task::Task;
+pub use starts::run_all;
 pub use threads::run_jobs;
 pub use worker::{Finished, Worker, call_off, work};

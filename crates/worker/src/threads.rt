@@ -16,12 +16,14 @@ use std::thread;
 use std::thread::{PromisedHandle, Scope, Threads};
 
 // The outcome of a start: the thread, or what its job returned.
-type Started<J: Job> = Result<PromisedHandle<Back<J>, Given<J>>, J::Done>;
+type Started<S, J: Job<S>> = Result<PromisedHandle<Back<S, J>, Given<S, J>>, J::Done>;
 
-// What all threads share: by what they wait, and the number of the job whose start failed last.
+// What all threads share: by what they wait, the site, and the number of the job whose start failed
+// last.
 #[derive(Drop)]
-struct Crew<'x, R> {
+struct Crew<'x, S, R> {
     rt: &'x R,
+    site: &'x S,
     unstarted: AtomicUsize,
 }
 
@@ -34,63 +36,66 @@ struct Crew<'x, R> {
 ///
 /// # Errors
 /// - `AllocError`: out of memory. No job was run.
-pub fn run_jobs<J: Job, P: Permit, R: Threads + Wait + Sync>(
+pub fn run_jobs<S: Sync, J: Job<S>, P: Permit, R: Threads + Wait + Sync>(
     rt: &R,
     alloc: Global,
+    site: &S,
     permit: &P,
     jobs: VecDeque<J>,
 ) -> Result<Vec<J::Done>, AllocError>
-    requires { AllOf J.is_ready jobs.items }
-    ensures { IfOk result (λ all. AlikeFrom 0 (λ n j d. Becomes (J.comes j)
+    requires { AllOf (J.is_ready site.now) jobs.items }
+    ensures { IfOk result (λ all. AlikeFrom 0 (λ n j d. Becomes (J.comes site.now j)
         (P.permits permit.now n) d) jobs.items all.items) }
 {
     let room = VecDeque::with_capacity(alloc, jobs.len())?;
     let crew = Crew {
         rt,
+        site,
         // The number of no job.
         unstarted: AtomicUsize::new(usize::MAX),
     };
-    let finished = run_together::<J, P, R>(&crew, permit, jobs, room);
+    let finished = run_together::<S, J, P, R>(&crew, permit, jobs, room);
     Ok(finished.into_vec())
 }
 
 // Like `run_jobs`, into a list that has room.
-fn run_together<'x, J: Job + 'x, P: Permit, R: Threads + Wait + Sync>(
-    crew: &'x Crew<'x, R>,
+fn run_together<'x, S: Sync + 'x, J: Job<S> + 'x, P: Permit, R: Threads + Wait + Sync>(
+    crew: &'x Crew<'x, S, R>,
     permit: &'x P,
     jobs: VecDeque<J>,
     room: VecDeque<J::Done>,
 ) -> VecDeque<J::Done>
-    requires ready { AllOf J.is_ready jobs.items }
+    requires ready { AllOf (J.is_ready crew.now.site.now) jobs.items }
     requires room { (room.items ≡ []) × (deque_len jobs ≤ deque_capacity room) }
-    ensures { AlikeFrom 0 (λ n j d. Becomes (J.comes j) (P.permits permit.now n) d)
+    ensures { AlikeFrom 0 (λ n j d. Becomes (J.comes crew.now.site.now j) (P.permits permit.now n) d)
         jobs.items result.items }
 {
     thread::scope(
         thread::scope_env(),
         crew.rt,
         move |scope| -> VecDeque<J::Done>
-            requires { AllOf J.is_ready jobs.items × (room.items ≡ [])
+            requires { AllOf (J.is_ready crew.now.site.now) jobs.items × (room.items ≡ [])
                 × (deque_len jobs ≤ deque_capacity room) }
-            ensures { AlikeFrom 0 (λ n j d. Becomes (J.comes j) (P.permits permit.entry.now n) d)
+            ensures { AlikeFrom 0 (λ n j d. Becomes (J.comes crew.entry.now.site.now j)
+                (P.permits permit.entry.now n) d)
                 jobs.items result.items }
-        { run_each::<J, P, R>(scope, crew, permit, 0, jobs, room) },
+        { run_each::<S, J, P, R>(scope, crew, permit, 0, jobs, room) },
     )
 }
 
 // Starts a thread for each job that the permit allows, before any of them is joined. What the first
 // job returns comes before what those after it do.
-fn run_each<'s, 'x: 's, J: Job + 'x, P: Permit, R: Threads + Wait + Sync>(
+fn run_each<'s, 'x: 's, S: Sync + 'x, J: Job<S> + 'x, P: Permit, R: Threads + Wait + Sync>(
     scope: &'s Scope<'s, &'x ()>,
-    crew: &'x Crew<'x, R>,
+    crew: &'x Crew<'x, S, R>,
     permit: &'x P,
     number: usize,
     jobs: VecDeque<J>,
     room: VecDeque<J::Done>,
 ) -> VecDeque<J::Done>
-    requires ready { AllOf J.is_ready jobs.items }
+    requires ready { AllOf (J.is_ready crew.now.site.now) jobs.items }
     requires room { (room.items ≡ []) × (number + deque_len jobs ≤ deque_capacity room) }
-    ensures done { AlikeFrom number (λ n j d. Becomes (J.comes j) (P.permits permit.now n) d)
+    ensures done { AlikeFrom number (λ n j d. Becomes (J.comes crew.now.site.now j) (P.permits permit.now n) d)
         jobs.items result.items }
     ensures room { (deque_capacity result ≡ deque_capacity room)
         × (deque_len result ≡ deque_len jobs) }
@@ -102,97 +107,102 @@ fn run_each<'s, 'x: 's, J: Job + 'x, P: Permit, R: Threads + Wait + Sync>(
             room
         }
         Some(job) => {
-            let start = start_if_allowed::<J, P, R>(scope, crew, permit, number, job);
-            let mut finished = run_each::<J, P, R>(scope, crew, permit, number + 1, jobs, room);
-            finished.push_front_reserved(join::<J, R>(crew.rt, start));
+            let start = start_if_allowed::<S, J, P, R>(scope, crew, permit, number, job);
+            let mut finished = run_each::<S, J, P, R>(scope, crew, permit, number + 1, jobs, room);
+            finished.push_front_reserved(join::<S, J, R>(crew, start));
             finished
         }
     }
 }
 
 // Starts a thread for a job if the permit allows it; otherwise the job ends.
-fn start_if_allowed<'s, 'x: 's, J: Job + 'x, P: Permit, R: Threads + Wait + Sync>(
+fn start_if_allowed<'s, 'x: 's, S: Sync + 'x, J: Job<S> + 'x, P: Permit, R: Threads + Wait + Sync>(
     scope: &'s Scope<'s, &'x ()>,
-    crew: &'x Crew<'x, R>,
+    crew: &'x Crew<'x, S, R>,
     permit: &'x P,
     number: usize,
     job: J,
-) -> Started<J>
-    requires { J.is_ready job }
+) -> Started<S, J>
+    requires { J.is_ready crew.now.site.now job }
     ensures started { IfOk result (λ h. (h.promise.job.value ≡ job)
+        × (h.promise.site.value ≡ crew.now.site.now)
         × P.permits permit.now number true) }
-    ensures refused { IfErr result (λ d. Becomes (J.comes job) (P.permits permit.now number) d) }
+    ensures refused { IfErr result (λ d. Becomes (J.comes crew.now.site.now job) (P.permits permit.now number) d) }
 {
     if permit.may_start(number) {
-        start_one::<J, R>(scope, crew, number, job)
+        start_one::<S, J, R>(scope, crew, number, job)
     } else {
-        Err(job.run(crew.rt, Start::Refused))
+        Err(job.run(crew.rt, crew.site, Start::Refused))
     }
 }
 
 // Starts a thread for a job; if that fails, the job comes back, and ends.
-fn start_one<'s, 'x: 's, J: Job + 'x, R: Threads + Wait + Sync>(
+fn start_one<'s, 'x: 's, S: Sync + 'x, J: Job<S> + 'x, R: Threads + Wait + Sync>(
     scope: &'s Scope<'s, &'x ()>,
-    crew: &'x Crew<'x, R>,
+    crew: &'x Crew<'x, S, R>,
     number: usize,
     job: J,
-) -> Started<J>
-    requires { J.is_ready job }
-    ensures started { IfOk result (λ h. h.promise.job.value ≡ job) }
-    ensures refused { IfErr result (λ d. J.comes job Made d ⊎ J.comes job Failed d) }
+) -> Started<S, J>
+    requires { J.is_ready crew.now.site.now job }
+    ensures started { IfOk result (λ h. (h.promise.job.value ≡ job)
+        × (h.promise.site.value ≡ crew.now.site.now)) }
+    ensures refused { IfErr result (λ d. J.comes crew.now.site.now job Made d ⊎ J.comes crew.now.site.now job Failed d) }
 {
     let given = Given {
+        site: Snapshot::of(crew.site),
         job: Snapshot::of(&job),
     };
     match scope.spawn_with(
         given,
-        move || -> Back<J>
-            requires { J.is_ready job }
-            ensures { IfOk result (λ d. J.comes job Made d) × IfErr result (λ j. j ≡ job) }
-        { run_if_started::<J, R>(crew, number, job) },
+        move || -> Back<S, J>
+            requires { J.is_ready crew.now.site.now job }
+            ensures { IfOk result (λ d. J.comes crew.entry.now.site.now job Made d)
+                × IfErr result (λ j. j ≡ job) }
+        { run_if_started::<S, J, R>(crew, number, job) },
     ) {
         Ok(handle) => Ok(handle),
         Err(refused) => {
             crew.unstarted.store(number, Ordering::SeqCst);
-            Err(finish::<J, R>(crew.rt, (refused.value)()))
+            Err(finish::<S, J, R>(crew, (refused.value)()))
         }
     }
 }
 
 // Does a job that wasn't marked by its number; otherwise it comes back as it was.
-fn run_if_started<J: Job, R: Wait>(crew: &Crew<'_, R>, number: usize, job: J) -> Back<J>
-    requires { J.is_ready job }
-    ensures done { IfOk result (λ d. J.comes job Made d) }
+fn run_if_started<S, J: Job<S>, R: Wait>(crew: &Crew<'_, S, R>, number: usize, job: J) -> Back<S, J>
+    requires { J.is_ready crew.now.site.now job }
+    ensures done { IfOk result (λ d. J.comes crew.now.site.now job Made d) }
     ensures back { IfErr result (λ j. j ≡ job) }
 {
     if crew.unstarted.load(Ordering::SeqCst) == number {
         Err(job)
     } else {
-        Ok(job.run(crew.rt, Start::Made))
+        Ok(job.run(crew.rt, crew.site, Start::Made))
     }
 }
 
 // What a job returns; one that came back as it was wasn't started, and ends.
-fn finish<J: Job, R: Wait>(rt: &R, back: Back<J>) -> J::Done
-    requires { IfErr back (λ job. J.is_ready job) }
+fn finish<S, J: Job<S>, R: Wait>(crew: &Crew<'_, S, R>, back: Back<S, J>) -> J::Done
+    requires { IfErr back (λ job. J.is_ready crew.now.site.now job) }
     ensures done { IfOk back (λ d. result ≡ d) }
-    ensures unstarted { IfErr back (λ job. J.comes job Failed result) }
+    ensures unstarted { IfErr back (λ job. J.comes crew.now.site.now job Failed result) }
 {
     match back {
         Ok(done) => done,
-        Err(job) => job.run(rt, Start::Failed),
+        Err(job) => job.run(crew.rt, crew.site, Start::Failed),
     }
 }
 
 // What one job returns, once its thread has ended.
-fn join<J: Job, R: Threads + Wait>(rt: &R, start: Started<J>) -> J::Done
-    requires { IfOk start (λ h. J.is_ready h.promise.job.value) }
-    ensures joined { IfOk start (λ h. J.comes h.promise.job.value Made result
-        ⊎ J.comes h.promise.job.value Failed result) }
+fn join<S, J: Job<S>, R: Threads + Wait>(crew: &Crew<'_, S, R>, start: Started<S, J>) -> J::Done
+    requires { IfOk start (λ h. (h.promise.site.value ≡ crew.now.site.now)
+        × J.is_ready crew.now.site.now h.promise.job.value) }
+    ensures joined { IfOk start (λ h. J.comes crew.now.site.now h.promise.job.value Made result
+        ⊎ J.comes crew.now.site.now h.promise.job.value Failed result) }
     ensures over { IfErr start (λ d. result ≡ d) }
 {
     match start {
-        Ok(handle) => finish::<J, R>(rt, handle.join(rt)),
+        Ok(handle) => finish::<S, J, R>(crew, handle.join(crew.rt)),
         Err(done) => done,
     }
 }

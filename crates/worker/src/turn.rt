@@ -14,8 +14,8 @@ use crate::gate::Gate;
 use crate::inbox::{Heard, Inbox, hear_from};
 use crate::pace::Pace;
 use fixpoint::{Analysis, Growth};
-use mail::Mail;
 use ledger::Ledger;
+use mail::Mail;
 
 // At most this many rounds follow each other.
 const MOST_ROUNDS: u64 = 32;

@@ -19,8 +19,8 @@ use crate::tally::Tally;
 use crate::turn::{first_turn, rounds};
 use crossbeam_utils::Backoff;
 use fixpoint::{Analysis, Ending, Growth};
-use mail::Mail;
 use ledger::{Leave, Ledger};
+use mail::Mail;
 use std::sync::Wait;
 
 /// Sets the stop flag, and leaves.

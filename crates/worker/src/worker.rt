@@ -13,8 +13,8 @@ use crate::site::Site;
 use crate::tally::Tally;
 use crate::work_loop::{halt, work_on};
 use fixpoint::{Analysis, Ending, Growth};
-use mail::Mail;
 use ledger::Ledger;
+use mail::Mail;
 use std::alloc::Global;
 use std::sync::Wait;
 

@@ -1,0 +1,35 @@
+use Rattle.std.proofs.Common.{◌+◌, ◌<◌, List, map, length, slice_set, sym, subst, ap, ◌∙◌, arith, rules}
+use Rattle.run.specs.Table.{AreEnds, AreNewEnds, IsPartRow}
+use Rattle.run.proofs.PlaceLemmas.{list_read, map_set, map_size}
+use Rattle.run.proofs.TableLemmas.{part_more}
+use Rattle.run.proofs.mailboxes.make_row.Goals as goal
+
+pub loop-to-preserved : goal.loop-to-preserved
+loop-to-preserved g c =
+    let m = g.M.Mail in let inv = c.loop-to.invariant.1 in let to = c.loop-to.to in
+    let now = c.loop-to.columns.items in
+    let lists = map (λ x. x.items) now in
+    let inside : to < length now =
+    omega (
+      arith,
+      c.loop-to-test.true,
+      c.requires.columns,
+      inv.column_count,
+      map_size (λ x. x.items) now,
+      map_size (λ x. x.items) c.args.columns.now.items,
+    ) in
+    let inside' : to < length lists = omega (arith, inside, map_size (λ x. x.items) now) in
+    let p = c.in_ok-sender.ensures in
+    let s = c.in_ok-sender.sender in let r = c.in_ok-sender.receiver in
+    let more =
+    part_more (AreEnds (AreNewEnds m) m.ends) to c.args.from c.loop-to.row.senders.items
+    (map (λ x. x.items) c.args.columns.now.items) lists s r c.index_mut.result.now.items inv inside'
+    (list_read (λ x. x.items) now to c.index_mut.result.now inside c.index_mut.ensures.value)
+    p in
+    let columns = map_set (λ x. x.items) now to c.push.new.self
+    ∙ ap (λ l. slice_set lists to l) c.in_ok-push.ensures.items in (
+      search rules,
+      subst (λ (y : List _ × List (List _)). IsPartRow (AreEnds (AreNewEnds m) m.ends) (to + 1) c.args.from y.0
+          (map (λ x. x.items) c.args.columns.now.items) y.1)
+          (λ i. (sym c.push_reserved.ensures.items i, sym columns i)) more,
+    )

@@ -1,0 +1,5 @@
+pub mod Delivery
+pub mod Outcome
+pub mod Table
+pub mod Settling
+pub mod Refusing
