@@ -1,7 +1,7 @@
 -- What stands at a place of a list.
 use Rattle.std.proofs.Common.{◌≡◌, ◌≢◌, ◌+◌, ◌<◌, ℕ, zero, suc, List, [], ◌∷◌, ◌++◌, length, map, drop, slice_index_or, slice_set, slice_get, Some, Contains, refl, ap, sym, ◌∙◌, subst, inl, inr, ◌⊎◌, ⊎_elim, arith}
 use Rattle.run.specs.Table.{list_at}
-use Rattle.worker.specs.Starting.{AllOf}
+use Rattle.worker.specs.Jobs.{AllOf}
 use Rattle.worker.specs.Mailboxes.{Alike}
 
 -- something stands at each place
@@ -146,7 +146,7 @@ drop_none [] = refl
 drop_none (x ∷ xs) = refl
 
 pub all_of : {W : Type 0} (P : W → Type 0) (ws : List W) → ((k : ℕ) (w : W) → slice_get ws k ≡ Some w → P w)
-    → AllOf ws P
+    → AllOf P ws
 all_of P [] f = tt
 all_of P (w ∷ ws) f = (f 0 w refl, all_of P ws (λ k v e. f (suc k) v e))
 

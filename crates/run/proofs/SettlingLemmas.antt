@@ -103,7 +103,7 @@ pub settled_as : {M T S R C P : Type 0} (m : Mail.Ghosts M T S R C P) (out into 
     (done : ℕ → ℕ → Type 0) (posts : List P)
     → ((i j : ℕ) → done i j → out i j ≡ out' i j) → ((i j : ℕ) → done i j → into i j ≡ into' i j)
     → ArePostsOf m out into done posts → ArePostsOf m out' into' done posts
-settled_as m out into out' into' done posts same_out same_into a = record {
+settled_as {M} {T} {S} {R} {C} {P} m out into out' into' done posts same_out same_into a = record {
   prefix =
       λ i j d. subst (λ (y : List T × List T). IsPrefix y.0 y.1) (λ k. (same_into i j d k, same_out i j d k))
       (a.prefix i j d);

@@ -17,15 +17,15 @@ use crate::mailboxes::{make_columns, make_rows, make_workers};
 use crate::outcome::Outcome;
 use crate::parts::{Parts, reason_of, take_apart};
 use crate::settlement::settle_all;
-use fixpoint::{Analysis, Growth};
-use mail::Mail;
-use ledger::Ledger;
+use fixpoint::{Analysis, Growth, ThreadAnalysis};
+use ledger::{Ledger, ThreadLedger};
+use mail::{Mail, ThreadMail};
 use nll_sets::Memory;
 use std::alloc::Global;
 use std::collections::VecDeque;
 use std::sync::Wait;
 use std::thread::Threads;
-use worker::{AlwaysStart, Finished, Gate, Permit, Site, Worker, run_all};
+use worker::{AlwaysStart, Finished, Permit, Site, ThreadGate, Worker, run_all};
 
 /// Runs the parts of an analysis, each in a thread of its own, until nothing is left to do anywhere.
 ///
@@ -41,10 +41,10 @@ use worker::{AlwaysStart, Finished, Gate, Permit, Site, Worker, run_all};
 /// The work of the parts, and for each growth that is received some two holds of the ledger, a
 /// post and a take (not proved). There is a mailbox for each ordered pair of different owners.
 pub fn run<
-    A: Analysis,
-    M: Mail<Growth<A::Fact>>,
-    L: Ledger,
-    G: Gate,
+    A: ThreadAnalysis,
+    M: ThreadMail<Growth<A::Fact>>,
+    L: ThreadLedger,
+    G: ThreadGate,
     R: Threads + Wait + Sync,
 >(
     rt: &R,
@@ -70,10 +70,10 @@ pub fn run<
 ///   before that.
 /// - `Memory`, where no start failed.
 pub fn run_with<
-    A: Analysis,
-    M: Mail<Growth<A::Fact>>,
-    L: Ledger,
-    G: Gate,
+    A: ThreadAnalysis,
+    M: ThreadMail<Growth<A::Fact>>,
+    L: ThreadLedger,
+    G: ThreadGate,
     P: Permit,
     R: Threads + Wait + Sync,
 >(
@@ -96,13 +96,12 @@ pub fn run_with<
     let (book, workers) = prepare::<A, M, L>(alloc, mail, ledger, owners)?;
     let outcome = {
         let site = Site {
-            rt,
             alloc,
             analysis,
             gate,
             book: &book,
         };
-        run_all::<A, M, L, G, P, R>(&site, permit, workers)
+        run_all::<A, M, L, G, P, R>(rt, &site, permit, workers)
     };
     match outcome {
         Ok(finished) => conclude::<A, M, L>(alloc, analysis, book, finished),

@@ -6,8 +6,8 @@ ghost use Rattle.std.specs.VecDeque.{deque_len};
 ghost use Rattle.run.specs.Table.{AreEnds, AreNewEnds, IsTable, IsPartRow};
 
 use fixpoint::{Analysis, Growth};
-use mail::Mail;
 use ledger::Ledger;
+use mail::Mail;
 use nll_sets::Memory;
 use std::alloc::Global;
 use std::collections::VecDeque;
@@ -17,7 +17,10 @@ use worker::{Outbox, Worker};
 ///
 /// # Errors
 /// - `Memory`.
-pub fn make_columns<T, M: Mail<T>>(alloc: Global, owners: u16) -> Result<Vec<Vec<Option<M::R>>>, Memory>
+pub fn make_columns<T, M: Mail<T>>(
+    alloc: Global,
+    owners: u16,
+) -> Result<Vec<Vec<Option<M::R>>>, Memory>
     ensures { IfOk result (λ columns.
         map (λ c. c.items) columns.items ≡ replicate owners []) }
 {

@@ -5,8 +5,8 @@ ghost use Rattle.run.specs.Refusing.{IsReason};
 
 use crate::error::RunError;
 use fixpoint::{Analysis, Ending, Growth};
-use mail::Mail;
 use ledger::Ledger;
+use mail::Mail;
 use nll_sets::Memory;
 use std::alloc::Global;
 use std::collections::VecDeque;
@@ -24,7 +24,9 @@ pub struct Parts<A: Analysis, M: Mail<Growth<A::Fact>>, L: Ledger> {
 
 /// Why the run is refused, if it is: because a worker wasn't started, or else because one was out
 /// of memory.
-pub fn reason_of<A: Analysis, M: Mail<Growth<A::Fact>>, L: Ledger>(finished: &[Finished<A, M, L>]) -> Option<RunError>
+pub fn reason_of<A: Analysis, M: Mail<Growth<A::Fact>>, L: Ledger>(
+    finished: &[Finished<A, M, L>],
+) -> Option<RunError>
     ensures { IsReason (map (λ d. d.ending) finished.now) result }
 {
     let mut reason = None;

@@ -38,11 +38,11 @@ returns-clause-ok g c =
     (InRows y.1.1 y.1.1) c.settle_all.new.posts.items)
     (λ i. (rows i, (columns i, c.parts-owners.ensures.count i))) c.in_ok-settle_all.ensures.posts in
     let rules = g.A.Rules.rules in
-    let lawful = (g.met.A.Rules g.world.𝓛 g.world.𝓜 g.world.𝓡 ((λ s x. x), (λ x. x), (λ x. x), λ x. x)).lawful in
-    subst (λ (y : List (List _) × List _). IsOutcome rules g.A.yields m c.args.analysis.now y.0 y.1
+    let lawful = g.met.A.Rules.lawful in
+    subst (λ (y : List (List _) × List _). IsOutcome rules g.A.Analysis.yields m c.args.analysis.now y.0 y.1
     c.settle_all.new.posts.items)
     (λ i. (sym grown i, sym yields i))
-    (says_least rules g.A.yields lawful m b c.args.book
+    (says_least rules g.A.Analysis.yields lawful m b c.args.book
     (λ d. d.log.items) (λ d. d.yielded) (λ d. d.left) (λ d. d.closed.items) (λ d. d.receivers.items)
     (λ d. d.ending) c.args.analysis.now c.parts-owners.ensures.valid ds count c.requires.leaves c.requires.finishes
     (λ k d e. subst (λ xs. IsReason (map (λ d. d.ending) xs) None) c.deref.ensures.value c.in_default.ensures k d.ending

@@ -1,4 +1,4 @@
-use Rattle.std.proofs.Common.{◌<◌, true, [], map, sym, subst, ◌∙◌, arith, vec_capacity}
+use Rattle.std.proofs.Common.{◌<◌, [], map, sym, subst, ◌∙◌, arith, vec_capacity}
 use Rattle.fixpoint.specs.Logs.{log_of}
 use Rattle.worker.specs.Finishing.{IsGiven, IsFresh, Leaves, FinishedAs}
 use Rattle.worker.specs.Mailboxes.{HasEnds, through}
@@ -7,8 +7,8 @@ use Rattle.run.proofs.PlaceLemmas.{place, within, mapped, map_size, all_of}
 use Rattle.run.proofs.EndingLemmas.{table_then, empty_row, whole_row, empty_column, answer_of, if_ok_map, started_answer}
 use Rattle.run.proofs.coordinator.run_with.Goals as goal
 
-pub run_all-requires-clause-given : goal.run_all-requires-clause-given
-run_all-requires-clause-given g c κs within' =
+pub run_all-outcome-requires-clause-given : goal.run_all-outcome-requires-clause-given
+run_all-outcome-requires-clause-given g c κs within' =
     let m = g.M.Mail in let b = g.L.Ledger in
     let p = c.in_ok-book.ensures in
     let n = c.parts-owners.ensures.count in
@@ -27,7 +27,8 @@ run_all-requires-clause-given g c κs within' =
     (mapped (λ y. y.receivers.items) ws k w [] e) in
     record {
       me_in = omega (arith, l, n, x.0);
-      few = c.parts-owners.ensures.sound.owner_limit;
+      few = ((g.met.A.Rules g.world.𝓛 g.world.𝓜 g.world.𝓡 ((λ s x. x), (λ x. x), (λ x. x), λ x. x)).lawful.few
+          c.args.analysis.now c.parts-owners.ensures.valid).1;
       fresh = subst (λ i. IsFresh b c.in_ok-book.book i w.share) (sym x.0) s;
       ends = subst (λ i. HasEnds i w.outbox.senders.items) (sym x.0)
           (whole_row m c.parts-owners.result _ _ p.table k w.outbox.senders.items l
@@ -39,7 +40,7 @@ run_all-requires-clause-given g c κs within' =
     })
 
 pub conclude-requires-clause-table : goal.conclude-requires-clause-table
-conclude-requires-clause-table g c κs within' =
+conclude-requires-clause-table g c =
     let m = g.M.Mail in
     let each = c.in-Ok.ensures.ended in
     let table =
@@ -51,7 +52,7 @@ conclude-requires-clause-table g c κs within' =
     (map (λ d. d.receivers.items) c.in-Ok.finished.items)) c.parts-owners.ensures.count table
 
 pub conclude-requires-clause-leaves : goal.conclude-requires-clause-leaves
-conclude-requires-clause-leaves g c κs within' = λ k d e.
+conclude-requires-clause-leaves g c = λ k d e.
     let b = g.L.Ledger in
     let each = c.in-Ok.ensures.ended in
     let w = place c.in_ok-book.workers.items k
@@ -60,12 +61,12 @@ conclude-requires-clause-leaves g c κs within' = λ k d e.
     (each.at k w.0 d w.1 e).leaves
 
 pub conclude-requires-clause-finishes : goal.conclude-requires-clause-finishes
-conclude-requires-clause-finishes g c κs within' = λ k d e made.
+conclude-requires-clause-finishes g c = λ k d e made.
     let m = g.M.Mail in let b = g.L.Ledger in
     let each = c.in-Ok.ensures.ended in
     let w = place c.in_ok-book.workers.items k
     (let h = within c.in-Ok.finished.items k d e in omega (arith, h, each.len)) in
-    subst (λ i. FinishedAs g.A.Rules.rules g.A.yields c.args.analysis.now i (log_of (map (through m.all_sent) d.closed.items))
+    subst (λ i. FinishedAs g.A.Rules.rules g.A.Analysis.yields c.args.analysis.now i (log_of (map (through m.all_sent) d.closed.items))
     (log_of (map (through m.received) d.receivers.items)) (b.left_owed d.left) (b.left_cleared d.left)
     d.ending d.log.items
     d.yielded)
@@ -79,9 +80,8 @@ returns-in-Ok-clause-permitted g c =
     (let n = c.parts-owners.ensures.count in let z = c.in_ok-book.ensures.count in omega (arith, l, n, z)) in
     let d = place c.in-Ok.finished.items k
     (let h = within c.in_ok-book.workers.items k w.0 w.1 in omega (arith, h, answered.len)) in
-    subst (λ i. g.P.Permit.permits c.args.permit.now i true) (c.in_ok-book.ensures.each k w.0 w.1).0
-    (started_answer (g.P.Permit.permits c.args.permit.now w.0.me) d.0.ending (started k d.0 d.1)
-    (answered.at k w.0 d.0 w.1 d.1)))
+    started_answer (g.P.Permit.permits c.args.permit.now k) d.0.ending (started k d.0 d.1)
+    (answered.at k w.0 d.0 w.1 d.1))
     c.conclude.ensures.started
 
 pub returns-in-Ok-clause-thread : goal.returns-in-Ok-clause-thread
@@ -90,9 +90,8 @@ returns-in-Ok-clause-thread g c = λ is.
     let x = c.conclude.ensures.thread is in
     let w = place c.in_ok-book.workers.items x.0
     (let h = within c.in-Ok.finished.items x.0 x.1 x.2 in omega (arith, h, answered.len)) in
-    let a = answer_of (g.P.Permit.permits c.args.permit.now w.0.me) x.1.ending (answered.at x.0 w.0 x.1 w.1 x.2) in
+    let a = answer_of (g.P.Permit.permits c.args.permit.now x.0) x.1.ending (answered.at x.0 w.0 x.1 w.1 x.2) in
     let l = within c.in_ok-book.workers.items x.0 w.0 w.1 in
-    let k = (c.in_ok-book.ensures.each x.0 w.0 w.1).0 in
     let n = c.parts-owners.ensures.count in
     let z = c.in_ok-book.ensures.count in
-    (w.0.me, a.0, omega (arith, l, k, n, z), a.1)
+    (x.0, a.0, omega (arith, l, n, z), a.1)

@@ -19,7 +19,7 @@ settle_row-requires-clause-row g c =
     search rules
 
 pub settle_row-requires-clause-heads : goal.settle_row-requires-clause-heads
-settle_row-requires-clause-heads g c κs within = λ j l.
+settle_row-requires-clause-heads g c = λ j l.
     let m = g.M.Mail in
     let rows = map (λ x. x.items) c.args.rows.items in
     let front =

@@ -42,8 +42,8 @@ unreachable-requires-in_default-pop_front g c =
     let none : length c.index_mut.result.now.items ≡ 0 = search rules in
     absurd (omega (arith, none, ap length column))
 
-pub settle_ends-requires-clause-ends : goal.settle_ends-requires-clause-ends
-settle_ends-requires-clause-ends g c κs within =
+pub settle_ends-requires : goal.settle_ends-requires
+settle_ends-requires g c =
     let m = g.M.Mail in let inv = c.loop-to.invariant in
     let h = c.requires.heads c.loop-to.to c.loop-to-test.true in
     let inside : c.loop-to.to < length c.loop-to.columns.items =
@@ -57,14 +57,17 @@ settle_ends-requires-clause-ends g c κs within =
     ) in
     let column = sym (inv.others c.loop-to.to (omega arith))
     ∙ (list_read (λ x. x.items) c.loop-to.columns.items c.loop-to.to c.index_mut.result.now inside
-    c.index_mut.ensures.value ∙ c.in-Some-pop_front.ensures.items) in (
-      c.args.from,
-      c.loop-to.to,
-      (settle_cell (AreEnds m.closes m.ends) c.args.from c.loop-to.to c.args.row.items
-          c.pop_front.new.self.items
-          (list_at (map (λ x. x.items) c.args.columns.now.items) c.loop-to.to) c.pop_front-in-loop-to.new.self.items
-          c.in-Some.closed c.in-Some-pop_front.receiver h (sym inv.row ∙ c.in-Some.ensures.items) column).1,
-    )
+    c.index_mut.ensures.value ∙ c.in-Some-pop_front.ensures.items) in
+    record {
+      ends = (
+        c.args.from,
+        c.loop-to.to,
+        (settle_cell (AreEnds m.closes m.ends) c.args.from c.loop-to.to c.args.row.items
+            c.pop_front.new.self.items
+            (list_at (map (λ x. x.items) c.args.columns.now.items) c.loop-to.to) c.pop_front-in-loop-to.new.self.items
+            c.in-Some.closed c.in-Some-pop_front.receiver h (sym inv.row ∙ c.in-Some.ensures.items) column).1,
+      );
+    }
 
 pub loop-to-preserved : goal.loop-to-preserved
 loop-to-preserved g c =
