@@ -10,9 +10,9 @@ use std::alloc::Global;
 
 /// What says of a new fact which facts of an owner follow. It keeps the known facts of that owner
 /// in a store, in whatever form it looks them up.
-pub trait Engine: Rules + Sync {
+pub trait Engine: Rules {
     /// The facts that are known.
-    type Store: Send + Drop;
+    type Store: Drop;
 
     /// Whether a store has a fact.
     ghost has: { Self.Store → Self.Fact → Bool };

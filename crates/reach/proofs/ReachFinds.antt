@@ -1,5 +1,5 @@
 -- What searches find is what follows.
-use Rattle.std.proofs.Common.{◌≡◌, ◌⊎◌, ⊎_elim, inl, inr, ℕ, ◌%◌, Bool, false, IsTrue, List, Contains, refl, sym, ◌∙◌}
+use Rattle.std.proofs.Common.{◌≡◌, ⊎_elim, inl, inr, ℕ, Bool, IsTrue, List, Contains, refl, sym, ◌∙◌}
 use Rattle.std.proofs.lemmas.Bool.{false≢true, eq-eqb, eqb-true}
 use Rattle.keeper.specs.Engine.{Finds, nothing, with_fact}
 use Rattle.keeper.proofs.KeepingLemmas.{or_cases, or_left}

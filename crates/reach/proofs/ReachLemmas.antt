@@ -1,10 +1,10 @@
 -- Settled logs tell what is reached.
-use Rattle.std.proofs.Common.{◌≡◌, ◌↔◌, ◌⊎◌, ℕ, Bool, List, Contains, IsTrue, subst, inl, inr, ⊎_elim}
+use Rattle.std.proofs.Common.{◌↔◌, ℕ, Bool, List, Contains, IsTrue, subst, inl, inr, ⊎_elim}
 use Rattle.fixpoint.specs.Rules.{IsClosed}
 use Rattle.fixpoint.specs.Logs.{AreSound, AreSettled, IsTold, log_of}
 use Rattle.fixpoint.specs.declared.growth.Growth.{Growth}
 use Rattle.fixpoint.proofs.LawLemmas.{each_holds, least_exact, in_range}
-use Rattle.reach.specs.Reach.{System, HasEdge, IsReached, rules, owner_of, follows}
+use Rattle.reach.specs.Reach.{System, HasEdge, IsReached, rules, owner_of}
 use Rattle.reach.specs.Reach.IsReached.{root, step}
 use Rattle.reach.specs.Lawful.{reach_lawful, sees}
 

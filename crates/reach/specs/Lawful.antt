@@ -1,15 +1,14 @@
 -- The rules of reaching are lawful.
-use Rattle.std.proofs.Common.{◌≡◌, ◌≢◌, ◌↔◌, ◌⊎◌, ℕ, ◌^◌, ◌%◌, ◌<◌, ◌≤◌, Bool, true, false, not, eqb, ◌&&◌, List, length, Contains, IsTrue, refl, sym, ap, ◌∙◌, subst, inl, inr, ⊎_elim, arith}
-use Rattle.std.specs.List.{list_any}
+use Rattle.std.proofs.Common.{◌≡◌, ◌≢◌, ℕ, ◌^◌, ◌≤◌, Bool, true, false, not, eqb, ◌&&◌, List, length, IsTrue, sym, ap, ◌∙◌, inl, inr, ⊎_elim, arith}
 use Rattle.std.proofs.lemmas.Bool.{eqb-true, eq-eqb, false≢true, cases_eq}
 use Rattle.std.proofs.lemmas.Map.Made.{IsDistinct-from_AllPairs}
 use Rattle.std.proofs.lemmas.Map.Steps.{length-le_from_distinct_below}
 use Rattle.std.proofs.lemmas.Map.Views.{Contains-from_any}
 use Rattle.std.proofs.Math.Nat.{mod-lt}
 use Rattle.std.proofs.lemmas.Bool.Decides.{eqb_tells}
-use Rattle.fixpoint.specs.Rules.{Rules, Sees, AreLawful, AreDifferent}
+use Rattle.fixpoint.specs.Rules.{Sees, AreLawful, AreDifferent}
 use Rattle.fixpoint.proofs.ListLemmas.{both, and_both, any_to}
-use Rattle.reach.specs.Reach.{System, HasEdge, rules, owner_of, reads, follows}
+use Rattle.reach.specs.Reach.{System, HasEdge, rules, owner_of, follows}
 use Rattle.reach.specs.declared.graph.Edge.{Edge}
 
 not_eqb : (m n : ℕ) → m ≢ n → not (eqb m n) ≡ true

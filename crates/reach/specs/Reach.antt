@@ -1,6 +1,6 @@
 -- Which nodes of a graph are reached from its roots, and the rules by which owners find it out.
 -- Source: project's choice.
-use Rattle.std.specs.Prelude.{◌≡◌, ◌⊎◌, ◌^◌, ℕ, ◌%◌, ◌<◌, ◌≤◌, Bool, not, ◌==◌, ◌&&◌, List, Contains}
+use Rattle.std.specs.Prelude.{◌⊎◌, ◌^◌, ℕ, ◌%◌, ◌<◌, ◌≤◌, Bool, not, ◌==◌, ◌&&◌, List, Contains}
 use Rattle.std.specs.Prelude.{IsTrue}
 use Rattle.std.specs.List.{list_any}
 use Rattle.fixpoint.specs.Rules.{Rules}

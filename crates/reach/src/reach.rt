@@ -8,7 +8,7 @@ ghost use Rattle.reach.specs.Lawful.{reach_lawful};
 
 use crate::find::{leads, own_ends, own_nodes};
 use crate::graph::Edge;
-use fixpoint::{Analysis, Growth, PartError, Rules};
+use fixpoint::{Analysis, Growth, PartError, Rules, ThreadAnalysis};
 use keeper::{Engine, Keeper};
 use nll_sets::Memory;
 use std::alloc::Global;
@@ -165,3 +165,5 @@ impl<'q> Analysis for Reach<'q> {
 
     fn none(_alloc: Global) {}
 }
+
+impl<'q> ThreadAnalysis for Reach<'q> {}

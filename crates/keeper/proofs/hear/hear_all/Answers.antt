@@ -5,7 +5,7 @@ use Rattle.keeper.proofs.ReceivingLemmas.{got_next, with_more, take_next, receiv
 use Rattle.keeper.proofs.hear.hear_all.Goals as goal
 
 pub hear-requires-clause-passes : goal.hear-requires-clause-passes
-hear-requires-clause-passes g c κs within =
+hear-requires-clause-passes g c =
     subst (λ o. Passes g.E.Rules.rules o.system o.me c.args.from c.growth-item.result)
     (sym c.loop-growth.invariant.others)
     (c.requires.passes c.growth-item.result

@@ -6,7 +6,7 @@ use Rattle.keeper.proofs.DueLemmas.{due_first, begins_same}
 use Rattle.keeper.proofs.pursue.load_all.Goals as goal
 
 pub settle-requires-clause-due : goal.settle-requires-clause-due
-settle-requires-clause-due g c κs within =
+settle-requires-clause-due g c =
     let r = g.E.Rules.rules in
     let law = g.met.E.Rules.lawful in
     let o = c.args.book.now in
@@ -16,7 +16,7 @@ settle-requires-clause-due g c κs within =
     c.system-engine.ensures c.me.ensures.value c.args.due.now.items c.begin.new.found.items c.in_ok-begin.ensures)
 
 pub take_up-requires-clause-parts : goal.take_up-requires-clause-parts
-take_up-requires-clause-parts g c κs within =
+take_up-requires-clause-parts g c =
     parts_front g.E.Rules.rules c.args.book.now.system c.system.result.now
     (c.system.ensures ∙ ap (λ o. o.system) c.settle.ensures.grows.others)
     (map (λ list. list.items) c.args.boxes.now.lists.items) c.args.book.now.log c.entries.result.now

@@ -9,7 +9,7 @@ returns-in_err-hear_all-clause-begins g c =
     ([], ap (λ o. o.log) c.hear_all.ensures.others ∙ sym (append-nil c.args.book.now.log))
 
 pub take_up-requires-clause-parts : goal.take_up-requires-clause-parts
-take_up-requires-clause-parts g c κs within =
+take_up-requires-clause-parts g c =
     parts_front g.E.Rules.rules c.args.book.now.system c.system.result.now
     (c.system.ensures ∙ (ap (λ o. o.system) c.settle.ensures.grows.others
     ∙ ap (λ o. o.system) c.hear_all.ensures.others))

@@ -3,10 +3,10 @@ use Rattle.keeper.proofs.WholeLemmas.{whole_after, done_after}
 use Rattle.keeper.proofs.keeper.Keeper.load.Goals as goal
 
 pub load_all-told-requires-clause-quiet : goal.load_all-told-requires-clause-quiet
-load_all-told-requires-clause-quiet g c κs within = (c.self.invariant.1 (sym c.if-is_broken.ensures)).quiet
+load_all-told-requires-clause-quiet g c = (c.self.invariant.1 (sym c.if-is_broken.ensures)).quiet
 
 pub load_all-told-requires-clause-fresh : goal.load_all-told-requires-clause-fresh
-load_all-told-requires-clause-fresh g c κs within =
+load_all-told-requires-clause-fresh g c =
     (c.self.invariant.1 (sym c.if-is_broken.ensures)).fresh
     ((rw (← c.self.view_is) at c.requires) (sym c.if-is_broken.ensures))
 

@@ -3,15 +3,15 @@ use Rattle.keeper.proofs.WholeLemmas.{whole_after, done_after}
 use Rattle.keeper.proofs.keeper.Keeper.receive_all.Goals as goal
 
 pub take_in-told-requires-clause-quiet : goal.take_in-told-requires-clause-quiet
-take_in-told-requires-clause-quiet g c κs within = (c.self.invariant.1 (sym c.if-is_broken.ensures)).quiet
+take_in-told-requires-clause-quiet g c = (c.self.invariant.1 (sym c.if-is_broken.ensures)).quiet
 
 pub take_in-told-requires-clause-done : goal.take_in-told-requires-clause-done
-take_in-told-requires-clause-done g c κs within =
+take_in-told-requires-clause-done g c =
     (c.self.invariant.1 (sym c.if-is_broken.ensures)).done
     ((rw (← c.self.view_is) at c.requires.ready) (sym c.if-is_broken.ensures))
 
 pub take_in-told-requires-clause-passes : goal.take_in-told-requires-clause-passes
-take_in-told-requires-clause-passes g c κs within = rw (← c.self.view_is) at c.requires.passes
+take_in-told-requires-clause-passes g c = rw (← c.self.view_is) at c.requires.passes
 
 pub invariant_of-self : goal.invariant_of-self
 invariant_of-self g c = (
