@@ -103,7 +103,7 @@ def crate_name(file: str) -> str:
 def refuse_others(file: str) -> None:
     """Refuses what is no Rust file, and says what a text of `nllc`'s own is."""
     if not os.path.isfile(file):
-        raise Refusal(f"{file} is no file that can be read; give the path of a Rust file")
+        raise Refusal(f"{file} can't be read as a file; give the path of a Rust file")
     try:
         with open(file, "rb") as opened:
             begin = opened.read(64).split(b"\n")[0].split()
@@ -211,7 +211,7 @@ def judge(status: int, errors: list[Error], rustc: str) -> None:
                if re.search(r"unknown (unstable|debugging|codegen)? ?option|Unrecognized option"
                             r"|only accepted on the nightly|incorrect value", error.rendered)]
     if unknown:
-        raise Refusal(f"{rustc} doesn't take what it was given ({unknown[0].splitlines()[0]}); "
+        raise Refusal(f"{rustc} doesn't accept its arguments ({unknown[0].splitlines()[0]}); "
                       f"1.95 knows all flags: `rustup update stable`, or name one by RUSTC")
     if status != 0 and not errors:
-        raise Refusal(f"{rustc} ended with status {status} and says not why; run it by itself")
+        raise Refusal(f"{rustc} ended with status {status} and gave no reason; run it by itself")

@@ -32,8 +32,8 @@ FILES = {"problem_cases": "The problem cases of RFC 2094", "variance": "Variance
 MIR_TEXTS = {
     "running": "The running example of RFC 2094: the region of p has a hole where p gets its second value.",
     "lookup": "Problem case 3: the region of the first borrow ends where nothing was found.",
-    "two_universals": "One named lifetime is returned as another, which the text doesn't know it to outlive.",
-    "invariant": "Behind a mut reference both regions must hold the same from there on.",
+    "two_universals": "One named lifetime is returned as another, though the text doesn't declare that it outlives that one.",
+    "invariant": "Two regions behind a mut reference must be equal from there on.",
     "drop": "A destructor that may look behind its reference is a use of it.",
 }
 

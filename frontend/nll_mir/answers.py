@@ -24,7 +24,7 @@ from .translate import names_of
 from .types import STATIC
 
 NUMBERED = re.compile(r"r(\d+)")
-MADE_HERE = Remark(None, "of a signature that is made fresh at a call")
+MADE_HERE = Remark(None, "of a signature, new at each call")
 STOP = Remark(None, "stop, behind a call that never returns")
 
 

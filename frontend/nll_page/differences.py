@@ -4,8 +4,8 @@ from . import telling
 from .counterparts import FAR, nearness
 from .words import Code
 
-FURTHER = ["rustc names what an error above is of here once more; nllc has no fault on this way, since what is asked at a "
-           "point holds from there on"]
+FURTHER = ["rustc reports the loan or lifetime of an error above once more here; nllc has no fault on this path, since it "
+           "applies a constraint only from its point on"]
 
 
 def differences(content):
@@ -37,15 +37,15 @@ def refused(content):
 def reason(content, error):
     """Why `nllc` has no fault there."""
     if error.is_of_lifetimes():
-        return ["what is asked at a point holds from there on, inside the smaller region; to rustc it holds "
-                "at all points"]
+        return ["nllc applies a constraint only from the statement that causes it, inside the smaller region; rustc "
+                "applies it at all points"]
     loan = handed_out(content, error.line, error.column)
     if loan:
         return ["problem case 3 of RFC 2094: the loan of ", *telling.where_made(content, loan),
-                " (", Code(f"'{loan.region}"), ") is returned on another path alone; rustc treats it as live "
-                "on this one, too"]
-    return ["the loan isn't live there, since what is asked at a point holds from there on; to rustc it "
-            "holds at all points"]
+                " (", Code(f"'{loan.region}"), ") is returned on another path alone, but rustc treats it as "
+                "live on this one, too"]
+    return ["the loan isn't live there: nllc applies a constraint only from the statement that causes it, rustc at all "
+            "points"]
 
 
 def handed_out(content, line, column):

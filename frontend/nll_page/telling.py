@@ -19,13 +19,13 @@ DEEDS = {"return": "returned", "yield": "yielded", "constant": "used as a consta
          "annotation": "written as a type", "generic": "written as a type", "cast": "cast",
          "object": "made a trait object", "argument": "given as an argument", "bound": "bound by its type",
          "assignment": "assigned", "use": "used", "capture": "captured by a closure",
-         "predicate": "asked by a bound", "opaque": "returned as an impl type"}
+         "predicate": "required by a bound", "opaque": "returned as an impl type"}
 # And what asks for it there.
-ASKERS = {"return": "what is returned here", "yield": "what is yielded here", "constant": "this constant",
-          "annotation": "the type that is written here", "generic": "the type that is written here",
+ASKERS = {"return": "the value returned here", "yield": "the value yielded here", "constant": "this constant",
+          "annotation": "the type written here", "generic": "the type written here",
           "cast": "this cast", "object": "this trait object", "argument": "this call",
           "bound": "a bound of this type", "assignment": "this assignment", "use": "this use",
-          "capture": "what the closure captures here", "predicate": "a bound of what is called here",
+          "capture": "what the closure captures here", "predicate": "a bound of the function called here",
           "opaque": "the impl type of the result"}
 ACTS = {"mut": "borrows as mutable", "unique": "borrows as mutable", "late": "borrows as mutable",
         "shared": "borrows", "moves": "moves", "assigns": "assigns to", "reads": "uses", "looks": "looks at"}
@@ -37,7 +37,7 @@ PATH = re.compile(r"\**[A-Za-z_]\w*(?:\.\w+)*")
 
 DROPPED = re.compile(r"drop\((\w+)")
 DESTRUCTOR = re.compile(r"here, drop of `(.*)` needs exclusive access to `(.*)`, because the type `(.*)` implements")
-EARLIER = "in an earlier turn of the loop"
+EARLIER = "in an earlier iteration of the loop"
 MOST_HELPS = 2
 
 # What takes a borrow that is made at a statement, by the statements of MIR.
@@ -70,10 +70,10 @@ def of_fault(content, fault, further=()):
     told = Telling(place_of_fault(content.facts, fault, named), "", [], [], fault)
     error = counterpart(content, told)
     lifetimes = Lifetimes(content, fault, error)
-    asker = f": {ASKERS[named.word]} needs it" if named and named.word in ASKERS else ""
+    asker = f": {ASKERS[named.word]} requires it" if named and named.word in ASKERS else ""
     shorter = [lifetimes.name(one.sub) for one in (fault, *further)]
     head = [*lifetimes.name(fault.sup), " must outlive ", *words.joined(shorter),
-            ", which the signature doesn't say", asker]
+            ", but the signature doesn't declare it", asker]
     more = [lifetimes.places(fault.sup, *(one.sub for one in (fault, *further))), *notes(content, fault, error)]
     return told._replace(head=head, cause=way_of(content, fault, lifetimes), more=list(filter(None, more)),
                          within=within(told, error))
@@ -116,8 +116,8 @@ def way_of(content, fault, lifetimes):
     stops = stops_of(content, fault.steps[::-1])
     name = lifetimes.name(fault.sup)
     if not stops:
-        return [*name, " is asked to by constraints that no line of the source is known for"]
-    return ["what lives for ", *name, " comes to ", *lifetimes.name(fault.sub), " by ",
+        return ["no line of the source is known for the constraints that require it"]
+    return ["data that lives for ", *name, " flows into ", *lifetimes.name(fault.sub), " at ",
             *words.joined(stops)]
 
 
@@ -199,7 +199,7 @@ def path_head(content, fault, path):
     done = [Code(path), " ", SUFFERED[fault.against.way], ", and "]
     if loan.kind == "fake":
         return [*done, "the ", Code("match"), " is looking at it"]
-    by = ["an earlier turn of the loop"] if is_of_earlier_turn(fault) else where_made(content, loan)
+    by = ["an earlier iteration of the loop"] if is_of_earlier_turn(fault) else where_made(content, loan)
     return [*done, *by, f" has borrowed it{as_mutable(loan)}"]
 
 
@@ -318,7 +318,7 @@ def since(content, fault, lifetimes=None):
         return ["it is in the type of a variable that is used later"]
     line = cause.line(facts)
     deed = drop_words(facts, cause.use) if cause.is_drop else [" uses it"]
-    later = " in a later turn of the loop" if is_later_turn(facts, fault) else ""
+    later = " in a later iteration of the loop" if is_later_turn(facts, fault) else ""
     if line is None:
         return [f"point {cause.use}", *deed, later]
     if line == line_of(facts, fault.against):

@@ -184,9 +184,9 @@ class OneCommand(Room):
         into, out = self.line("differ", "        r = y;"), self.line("differ", "    r // holds: r")
         self.assertEqual(done.stdout.splitlines(), [
             "longer: 1 fault",
-            f"  sources/differ.rs:{out}:5: `'b` must outlive `'a`, which the signature doesn't say: what is "
-            "returned here needs it",
-            f"      what lives for `'b` comes to `'a` by line {into} (assigned: `r = y`) and line {out} "
+            f"  sources/differ.rs:{out}:5: `'b` must outlive `'a`, but the signature doesn't declare it: the value "
+            "returned here requires it",
+            f"      data that lives for `'b` flows into `'a` at line {into} (assigned: `r = y`) and line {out} "
             "(returned: `r`)",
             "      help: consider adding the following bound: `'b: 'a`",
             f"pages: {self.path('o', 'index.html')}"])
@@ -264,7 +264,7 @@ pub fn keeps<'a>(list: &mut Vec<&'a str>, text: &'a str) {
         self.assertEqual(done.returncode, 1)
         self.assertEqual(done.stdout.splitlines()[:5], [
             "f: 1 move error", f"  {path}:3:5: E0382: `text` is used here, and line 2 may have moved it",
-            "      line 2 (`drop(text);`) moves it, and a way leads from there to here on which it gets no new value",
+            "      line 2 (`drop(text);`) moves it, and a path leads from there to here on which it gets no new value",
             "      help: consider cloning the value if the performance cost is acceptable: `drop(text.clone());`",
             "no fault: g"])
 

@@ -77,14 +77,14 @@ class Commands(Folder):
     # is the one that is left where the caller can promise neither.
     def test_faults_in_words(self):
         self.assertEqual(self.answered()["lines"], [
-            f"{self.folder}/pick.rs:7: `'b` must outlive `'a`, which the signature doesn't say",
-            "    what lives for `'b` comes to `'a` by line 7 (`best = second;`) and line 9 (`best`)",
+            f"{self.folder}/pick.rs:7: `'b` must outlive `'a`, but the signature doesn't declare it",
+            "    data that lives for `'b` flows into `'a` at line 7 (`best = second;`) and line 9 (`best`)",
             "    help: consider adding the bound `'b: 'a` to the signature; or write `'a` in place of `'b`; "
             "or return an owned value"])
 
     def test_faults_step_by_step(self):
         self.assertEqual(self.answered()["explained"], [
-            "`'b` must outlive `'a`, which the signature doesn't say:",
+            "`'b` must outlive `'a`, but the signature doesn't declare it:",
             "    `end('a)` comes",
             "    to `'best`, the type of best: after `_0 = copy best` (line 9), inside `'a` by 8",
             "    to `'b`, 'b of the signature: after `best = copy second` (line 7), inside `'best` "

@@ -95,7 +95,7 @@ class Labels(unittest.TestCase):
         content = with_fault(*FOLDED)
         found = labels.labels_of(content)
         self.assertEqual([(line, one.words) for line, its in sorted(found.items()) for one in its],
-                         [(2, "'b comes in here"), (3, "'a is wanted here")])
+                         [(2, "'b enters here"), (3, "'a is required here")])
         self.assertEqual(start(content), {"step": 0})
 
     def test_where_rustc_alone_refuses(self):
@@ -115,10 +115,10 @@ class Labels(unittest.TestCase):
     def test_moves_of_a_text_without_errors_of_rustc(self):
         for gone, said in (
                 ("E0382 of a, by 1 2 3: 1", ("`a` is used here, and line 3 may have moved it", "line 3 (`let a = &mut v;`) moves it, and "
-                                             "a way leads from there to here on which it gets no new value (by lines 3, 4, 5)")),
+                                             "a path leads from there to here on which it gets no new value (by lines 3, 4, 5)")),
                 ("E0382 of a, by 3:", ("`a` is used here, and an earlier statement may have moved it", "an earlier statement moves it, "
-                                       "and a way leads from there to here on which it gets no new value")),
-                ("E0381 of a, by 0 3:", ("`a` is used here, and may have no value yet", "a way leads here on which nothing is assigned "
+                                       "and a path leads from there to here on which it gets no new value")),
+                ("E0381 of a, by 0 3:", ("`a` is used here, and may have no value yet", "a path leads here on which nothing is assigned "
                                          "to it")),
                 ("E0384 of a, by 3: 1", ("`a` is assigned to here, may have a value already, and isn't `mut`",
                                          "it has one since line 3 (`let a = &mut v;`)")),

@@ -16,7 +16,7 @@ class Sentences(unittest.TestCase):
 
     def test_the_fault(self):
         self.assertEqual(plain(words.fault_head(self.facts, 2, 1)),
-                         "`'b` must outlive `'a`, which the signature doesn't say")
+                         "`'b` must outlive `'a`, but the signature doesn't declare it")
 
     def test_each_step(self):
         self.assertEqual([plain(words.step_sentence(self.facts, step, 1)) for step in self.steps], [

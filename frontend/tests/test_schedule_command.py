@@ -123,7 +123,7 @@ class Commands(unittest.TestCase):
         self.refused("can't be run", self.facts, self.schedule, world="none", status=3)
         self.program("other", f'"{sys.executable}" "{REFERENCE}" "$1" "$2" {self.facts} "$4"')
         other = self.write("other.facts", example("each_other")[0].replace(b"base '1 0", b"base '1 1"))
-        self.refused("don't follow from .*other.facts: nothing asks for element", other, self.schedule,
+        self.refused("don't follow from .*other.facts: nothing requires element", other, self.schedule,
                      world="other", status=3)
 
     def test_what_is_too_large(self):

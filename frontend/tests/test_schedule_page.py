@@ -197,7 +197,7 @@ class Pages(unittest.TestCase):
     def test_a_taken_growth_leads_to_its_constraint(self):
         part = event_part(example_content("each_other"), 18)
         self.assertIn("Owner 0 has it since event 13: <a class=\"to\" href=\"#constraint-0\"", part)
-        self.assertIn("asks for it, by the walk <code>0 → 1</code> inside <code>&#x27;2</code>", part)
+        self.assertIn("requires it, by the walk <code>0 → 1</code> inside <code>&#x27;2</code>", part)
 
     def test_spans(self):
         """A growth moves from part to part of its lane."""
