@@ -88,7 +88,7 @@ class Refused(Room):
 
     def test_no_such_file(self):
         done = support.run(*FACTS, self.path("none.rs"), "-o", self.path("o"))
-        self.refused(done, "none.rs is no file that can be read; give the path of a Rust file")
+        self.refused(done, "none.rs isn't a readable file; give the path of a Rust file")
 
     def test_types_that_do_not_fit(self):
         done = self.convert('fn f() -> u8 {\n    "a"\n}\n')
@@ -137,11 +137,11 @@ class Refused(Room):
 
     def test_a_rustc_that_compiles_nothing(self):
         done = self.convert("fn f() {}\n", env=os.environ | {"RUSTC": shutil.which("true")})
-        self.refused(done, "true says that all is well, but has compiled nothing: is it rustc?")
+        self.refused(done, "true reports success but has compiled nothing: is it rustc?")
 
     def test_unknown_flags(self):
         done = self.convert("fn f() {}\n", "--", "-Znone-such")
-        self.refused(done, "doesn't take what it was given")
+        self.refused(done, "doesn't accept its arguments")
 
     def test_folder_that_cannot_be_made(self):
         done = support.run(*FACTS, self.write("a.rs", "fn f() {}\n"), "-o", self.path("a.rs", "o"))
@@ -156,7 +156,7 @@ class Refused(Room):
         self.refused(self.convert("fn f() {}\n", "-p", "one"), "is a file, and -p is for projects")
         done = support.run(*FACTS, os.path.join(support.ROOT, "examples", "shelf"), "--edition", "2024", "-o",
                            self.path("o"))
-        self.refused(done, "a project says its edition itself: leave out --edition")
+        self.refused(done, "a project states its own edition: leave out --edition")
 
 
 @needs_known
@@ -318,7 +318,7 @@ pub fn keeps<'a>(list: &mut Vec<&'a str>, text: &'a str) {
     def test_refusal(self):
         done = self.rust("none.rs")
         self.assertEqual(done.returncode, 2)
-        self.assertEqual(done.stderr, "nllc.sh rust: none.rs is no file that can be read; "
+        self.assertEqual(done.stderr, "nllc.sh rust: none.rs isn't a readable file; "
                          "give the path of a Rust file\n")
 
 

@@ -35,13 +35,13 @@ class Sentences(unittest.TestCase):
             facts = facts_of(1, f"# region 'a: {remark}", "universal 'a", "universal 'b")
             return plain(words.conclusion(facts, 1, 2)).partition("chooses. ")[2]
 
-        self.assertEqual(said("'a of the signature"), "The signature may ask that of its callers, "
+        self.assertEqual(said("'a of the signature"), "The signature may require that of its callers, "
                          "by `where 'a: 'b`; it doesn't.")
         self.assertEqual(said("a lifetime of the signature without a name"),
-                         "The signature may ask that of its callers, with names in place of `'a` "
+                         "The signature may require that of its callers, with names in place of `'a` "
                          "and `'b`, by `where 'a: 'b`; it doesn't.")
         self.assertEqual(said("'a of the function around this closure"),
-                         "A closure may need that: it is the function around it that has to keep it.")
+                         "A closure may need that: the function around it has to ensure it.")
 
     def test_the_lines(self):
         self.assertEqual(words.arising(self.facts, self.steps), [7, 9])

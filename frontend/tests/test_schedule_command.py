@@ -128,7 +128,7 @@ class Commands(unittest.TestCase):
 
     def test_what_is_too_large(self):
         large = self.write("large.facts", text(250))
-        self.refused("has 251 elements, and a page of more than 200", large, self.schedule)
+        self.refused("has 251 elements, and a page shows at most 200", large, self.schedule)
         many = self.write("many.facts", text(1, *(f"region '{n}" for n in range(70))))
         self.refused("has 71 regions", many, self.schedule)
         long = self.write("long.schedule", schedule(*["load 0"] * 2001))

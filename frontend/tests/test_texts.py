@@ -98,7 +98,7 @@ class Answering(Texts):
 class Explain(Texts):
     ROWS = (
         (HEAD + "region 'x\nnext 1 3\nend\n", "4:8: range: `3` is no point: points are 0 to 2\n    next 1 3"),
-        ("nll-facts 1\npoints 0\n", "2:8: range: `0` is too few: there is one of the points at least\n    points 0"),
+        ("nll-facts 1\npoints 0\n", "2:8: range: `0` is too few: at least one of the points is needed\n    points 0"),
         (HEAD + "region 'x\nregion 'x\n", "4:8: duplicate: `'x` is declared already, in line 3\n    region 'x"),
         (HEAD + "region 'static\n", "3:8: duplicate: `'static` is declared already, from the start\n    region 'static"),
         (HEAD + "  base 'y 0\n", "3:8: unknown: `'y` is no region that an earlier line declares\n    base 'y 0"),
