@@ -1,5 +1,5 @@
 #!/usr/bin/env python3
-"""The definitions of specs/, as their comments say them and as they stand.
+"""The definitions of specs/, with their comments.
 
     tools/definitions.py                        every definition with its comment, crate by crate
     tools/definitions.py CRATE | FILE ..        those of a crate (nll_problem), or of a file of specs/ (Solution)
