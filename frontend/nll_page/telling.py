@@ -199,7 +199,7 @@ def path_head(content, fault, path):
     done = [Code(path), " ", SUFFERED[fault.against.way], ", and "]
     if loan.kind == "fake":
         return [*done, "the ", Code("match"), " is looking at it"]
-    by = ["an earlier iteration of the loop"] if is_of_earlier_turn(fault) else where_made(content, loan)
+    by = ["an earlier iteration of the loop"] if is_of_earlier_turn(fault) else where_made(content, loan, fault.place)
     return [*done, *by, f" has borrowed it{as_mutable(loan)}"]
 
 
@@ -211,7 +211,7 @@ def deed_head(content, fault, code, what):
         return [*does, "the ", Code("match"), " is looking at"]
     if is_of_earlier_turn(fault):
         return [*does, f"it has borrowed{as_mutable(loan)} {EARLIER}"]
-    return [*does, *where_made(content, loan), f" has borrowed{as_mutable(loan)}"]
+    return [*does, *where_made(content, loan, fault.place), f" has borrowed{as_mutable(loan)}"]
 
 
 def act(way, what):
@@ -267,7 +267,7 @@ def loan_cause(content, fault, lifetimes):
     here = line_of(facts, fault.against)
     holds = [" is live: its region ", region, " holds ",
              f"line {here}" if here is not None else f"point {fault.against.point}"]
-    return ["the loan of ", *where_made(content, loan), *made_by(content, loan), *holds, ", since ",
+    return ["the loan of ", *where_made(content, loan, fault.place), *made_by(content, loan), *holds, ", since ",
             *since(content, fault, lifetimes)]
 
 
@@ -342,10 +342,12 @@ def is_later_turn(facts, fault):
         and fault.cause.use in chains.ways_to(facts, range(facts.points), [fault.against.point])
 
 
-def where_made(content, loan):
-    """The line of a borrow; of one that a macro makes, no more than that."""
+def where_made(content, loan, here=None):
+    """The line of a borrow, with its column where this place is of the same line; of one that a macro makes, no more
+    than that."""
     line = loan.place.line if loan.place else content.facts.remarks.point(loan.at).line
-    return [f"line {line}"] if line is not None else ["a macro"]
+    column = f":{loan.place.column}" if loan.place and here and here.line == line and loan.place.column else ""
+    return [f"line {line}{column}"] if line is not None else ["a macro"]
 
 
 def line_of(facts, against):
