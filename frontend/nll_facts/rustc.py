@@ -22,6 +22,7 @@ TEXTS = {b"nll-facts": "facts", b"nll-mir": "MIR"}
 VARIANCE = re.compile(r"requirement occurs because of|invariant over")
 SEE = re.compile(r"see <")
 ARROW = re.compile(r"--> (.*):(\d+):(\d+)")
+INVOCATION = "in this macro invocation"
 # `-Zpolonius=next`: without it rustc leaves out which regions the drop of a variable uses
 # whose regions all outlive a named lifetime; it takes those regions to hold everywhere.
 FLAGS = ("-Znll-facts", "-Zdump-mir=nll", "-Zpolonius=next")
@@ -151,7 +152,7 @@ def error_of(said: dict, root: str) -> Error:
     places = [(span["file_name"], span["line_start"]) for span in spans]
     column = spans[0]["column_start"] if spans else 0
     code = (said.get("code") or {}).get("code", "")
-    labels = [label_of(span, root) for span in said.get("spans", ())]
+    labels = [label_of(span, root) for span in said.get("spans", ())] + used_macro(primary[0] if primary else {}, root)
     below = said.get("children", ())
     notes = [child["message"] for child in below if child["level"] == "note" and VARIANCE.search(child["message"])]
     helps = [help_of(child) for child in below if child["level"] == "help" and not SEE.match(child["message"])]
@@ -166,6 +167,16 @@ def within_macro(own: dict, home: dict, rendered: str) -> Optional[Label]:
         return None
     place = place_of(own)
     return place if shown.groups() == (place.file, str(place.line), str(place.column)) else None
+
+
+def used_macro(own: dict, root: str) -> list[Label]:
+    """Where a macro of the user's file is used, in whose lines a place is; of other macros that is the place itself."""
+    home = at_home(own, root) if own else own
+    while home.get("expansion"):
+        home = home["expansion"]["span"]
+        if not home.get("expansion"):
+            return [place_of(home)._replace(text=INVOCATION)]
+    return []
 
 
 def help_of(child: dict) -> str:

@@ -50,6 +50,7 @@ OPERATORS = {"Deref": ["its type's ", Code("Deref")], "DerefMut": ["its type's "
              "Index": ["an index"], "IndexMut": ["an index"]}
 MOST_STATEMENTS = 12
 HELP = "help: "
+INVOCATION = "in this macro invocation"
 
 
 class Telling(NamedTuple):
@@ -99,8 +100,15 @@ def is_of_rustc(content, fault):
 def notes(content, fault, error):
     """Why no other lifetime will do, and what rustc advises; where it advises nothing, the usual ways out."""
     why = [["invariant: ", *words.ticked("; ".join(error.notes))]] if error and error.notes else []
+    why += used_macro(content, error) if error else []
     helps = [words.ticked(one) for one in error.helps[:MOST_HELPS]] if error else []
     return why + [[HELP, *one] for one in helps or [advice.of(content, fault)]]
+
+
+def used_macro(content, error):
+    """Where a macro of the same file is used, in whose lines an error is."""
+    lines = [label.place.line for label in error.labels if label.words == INVOCATION]
+    return [[f"{INVOCATION}: ", *line_stop(content, line)] for line in lines]
 
 
 def place_of_fault(facts, fault, named):

@@ -208,6 +208,26 @@ pub fn keeps<'a>(list: &mut Vec<&'a str>, text: &'a str) {
 }
 """
 
+    def test_a_macro_of_the_same_file_and_a_loan_of_the_same_line(self):
+        path = self.write("a.rs", """macro_rules! push { ($v:expr) => { $v.push(1) } }
+pub fn first(v: &mut Vec<u8>) -> u8 { let a = &v[0]; push!(v); *a }
+pub fn second(v: &mut Vec<u8>) -> u8 {
+    let a = &v[0];
+    push!(v);
+    *a
+}
+pub fn third(v: &mut Vec<u8>) -> u8 { let a = &v[0]; v.push(1); *a }
+""")
+        said = self.rust(path).stdout
+        lines = [line.strip() for line in said.splitlines() if "macro" in line or "has borrowed" in line or "help" in line]
+        ways_out = "help: end the borrow before; or clone what is needed; or keep an index or a key in place of the reference"
+        self.assertEqual(lines, [
+            f"{path}:1:36: E0502: `$v.push(1)` borrows `*v` as mutable, which line 2 has borrowed",
+            "in this macro invocation: line 2 (`pub fn first(v: &mut Vec<u8>) -> u8 { let a = & ..`)", ways_out,
+            f"{path}:1:36: E0502: `$v.push(1)` borrows `*v` as mutable, which line 4 has borrowed",
+            "in this macro invocation: line 5 (`push!(v);`)", ways_out,
+            f"{path}:8:54: E0502: `v.push(1)` borrows `*v` as mutable, which line 8:48 has borrowed", ways_out])
+
     def test_loan_in_two_lines_and_step_by_step(self):
         path = self.write("a.rs", self.LOANS)
         done = self.rust(path, "wrong", "--explain")
