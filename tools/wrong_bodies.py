@@ -30,6 +30,7 @@ import concurrent.futures
 import pathlib
 import re
 import shutil
+import signal
 import sys
 import tempfile
 
@@ -241,4 +242,5 @@ def main(words, root=ROOT):
 
 
 if __name__ == "__main__":
+    signal.signal(signal.SIGPIPE, signal.SIG_DFL)    # a reader such as `head` may stop early
     sys.exit(main(sys.argv[1:]))
