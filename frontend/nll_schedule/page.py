@@ -88,7 +88,7 @@ def provenance(content):
     rest = "nothing else of this page is proved" if content.standing == PROVED else \
         "nothing that this page says beyond them is proved"
     return (f"States from <code>{text(content.origin)}</code>, {standing}. "
-            f'<span class="hint">Made by <code>nll-schedule</code>; {rest}.</span>')
+            f'<span class="hint">Made by <code>frontend/nll_schedule</code>; {rest}.</span>')
 
 
 def data(run):
