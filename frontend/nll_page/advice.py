@@ -19,7 +19,7 @@ BY_CODE = {
 # Of what is moved, has no value, or gets a second one.
 MOVES = {
     "E0382": ["borrow it in place of moving it; or ", Code("clone"), " it before; or give it a new value after the move"],
-    "E0381": ["give it a value on each way that leads here"],
+    "E0381": ["give it a value on each path that leads here"],
     "E0384": ["declare it ", Code("mut"), "; or declare another variable"],
 }
 
