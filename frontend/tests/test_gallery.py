@@ -86,7 +86,7 @@ class Command(unittest.TestCase):
     @unittest.skipUnless(shutil.which("rustc"), "no rustc")
     def test_one_file_one_text_and_one_schedule(self):
         with tempfile.TemporaryDirectory() as folder, \
-                mock.patch.multiple(command, FILES={"variance": "Variance"}, MIR_TEXTS={"drop": "A drop."},
+                mock.patch.multiple(command, FILES={"variance": "Variance"}, MIR_TEXTS={"drop": ("w", "A drop.")},
                                     SCHEDULES={"each_other": "Two owners."}):
             status, out, err = self.run_main(folder, NLLC=QUICK, WORLD_PROGRAM=SLOW)
             self.assertEqual((status, out, err), (0, os.path.join(folder, "index.html") + "\n", ""))
@@ -94,7 +94,8 @@ class Command(unittest.TestCase):
             with open(os.path.join(folder, "index.html"), encoding="utf-8") as file:
                 whole = file.read()
         self.assertIn("cell_is_invariant.html", made)
-        self.assertEqual(sorted({*re.findall(r'href="\./([^"]*)"', whole), "index.html"}), made)
+        self.assertEqual(sorted({*re.findall(r'href="\./([^"#]*)', whole), "index.html"}), made)
+        self.assertIn('href="./drop.mir.html#region=w"', whole)
         self.assertEqual(whole.count('class="card faulty"'), 3)
 
 

@@ -197,6 +197,14 @@ class More(unittest.TestCase):
                          ["<b>rustc’s help</b>: consider <code>&#x27;a</code>.",
                           "<b>Invariance</b>: behind <code>&amp;mut</code>.", "Line 3 with names: <code>x</code>."])
 
+    def test_help_that_is_advised_already(self):
+        """rustc's help is there once, and nothing is taken for rustc's that it doesn't say."""
+        for helps, shown in (("", 0), ("# help: consider adding the following bound: `'b: 'a`", 0),
+                             ("# help: consider `'static`", 1)):
+            content = with_fault("# rustc 3:5: lifetime may not live long enough", *[helps] * bool(helps), *FOLDED)
+            self.assertEqual(fault_list(content).count("rustc’s help"), shown, helps)
+        self.assertNotIn("rustc’s help", loan_list(content_of(*LOAN)))
+
     def test_a_region_that_outlives_the_function(self):
         self.assertIn("<code>&#x27;a</code> holds line 4: it outlives the function.", loan_list(content_of(*OUTGOING)))
 

@@ -15,7 +15,7 @@ function rove(members, member) {
 }
 
 // Whether the parts stand one below the other, so that the document scrolls and not they alone.
-const isDocument = () => matchMedia("(max-width: 720px)").matches;
+const isDocument = () => matchMedia("(max-width: 860px)").matches;
 
 function focusOn(place) {
   if (!place) return;
