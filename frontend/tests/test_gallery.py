@@ -93,6 +93,8 @@ class Command(unittest.TestCase):
             made = sorted(os.listdir(folder))
             with open(os.path.join(folder, "index.html"), encoding="utf-8") as file:
                 whole = file.read()
+            with open(os.path.join(folder, "each_other.schedule.html"), encoding="utf-8") as file:
+                self.assertIn('<a class="back" href="./index.html">', file.read())
         self.assertIn("cell_is_invariant.html", made)
         self.assertEqual(sorted({*re.findall(r'href="\./([^"#]*)', whole), "index.html"}), made)
         self.assertIn('href="./drop.mir.html#region=w"', whole)

@@ -91,6 +91,14 @@ class Labels(unittest.TestCase):
     def test_the_loan_is_lit_at_first(self):
         self.assertEqual(start(content_of(*LOAN)), {"region": 1})
 
+    def test_the_variable_is_lit_at_first(self):
+        """Where rustc alone has one lifetime come to another: the first variable on the way."""
+        refused = ["# rustc 3:5: lifetime may not live long enough", "# label 3:5-3:9: `'b` must outlive `'a`"]
+        content = with_fault(*FOLDED, *refused)._replace(faults=[])
+        self.assertEqual(start(content), {"region": content.facts.names.index("r4")})
+        content = with_fault(*FOLDED, refused[0])._replace(faults=[])
+        self.assertEqual(start(content), {})
+
     def test_a_fault(self):
         content = with_fault(*FOLDED)
         found = labels.labels_of(content)
@@ -218,6 +226,14 @@ class Heads(unittest.TestCase):
     def test_what_a_row_says(self):
         row = index.row_of(content_of(*LOAN), "grow")
         self.assertEqual((row.line, row.kind, row.said, row.told[0][0]), (2, "faulty", "1 loan error", 4))
+
+    def test_rows_without_lines_and_with_equal_names(self):
+        row = index.Row("last", "a.facts", None, 1, 1, 0, None)
+        rows = [("a.html", row), ("b.html", row._replace(source="b.facts")), ("c.html", row._replace(name="c", source="c.facts"))]
+        made = index.index_page(rows, "{{lacks}}{{rows}}", "")
+        self.assertTrue(made.startswith("no-line no-rustc<tbody>"))
+        self.assertEqual(re.findall(r'<span class="file">(.*?)<', made), ["a", "b"])
+        self.assertTrue(index.index_page([("a.html", row._replace(line=3, rustc="E0499"))], "{{lacks}}|", "").startswith("|"))
 
     def test_title_and_icon(self):
         content = content_of(*LOAN)
