@@ -104,7 +104,8 @@ def index_page(rows, template, style, older=()):
     rows = [*rows]
     shown = [row for _, row in [*rows, *older]]
     lacks = [f"no-{name}" for name, has in (("line", any(row.line is not None for row in shown)),
-                                            ("rustc", any(row.rustc is not None for row in shown))) if not has]
+                                            ("rustc", any(row.rustc is not None for row in shown)),
+                                            ("said", any(row.told for row in shown))) if not has]
     sources = by_source(rows)
     groups = [(source, its) for source, its in sources.items()] if 1 < len(sources) < len(rows) else [("", rows)]
     groups += [("Made before", [*older])] if older else []

@@ -231,9 +231,9 @@ class Heads(unittest.TestCase):
         row = index.Row("last", "a.facts", None, 1, 1, 0, None)
         rows = [("a.html", row), ("b.html", row._replace(source="b.facts")), ("c.html", row._replace(name="c", source="c.facts"))]
         made = index.index_page(rows, "{{lacks}}{{rows}}", "")
-        self.assertTrue(made.startswith("no-line no-rustc<tbody>"))
+        self.assertTrue(made.startswith("no-line no-rustc no-said<tbody>"))
         self.assertEqual(re.findall(r'<span class="file">(.*?)<', made), ["a", "b"])
-        self.assertTrue(index.index_page([("a.html", row._replace(line=3, rustc="E0499"))], "{{lacks}}|", "").startswith("|"))
+        self.assertTrue(index.index_page([("a.html", row._replace(line=3, rustc="E0499", told=[[3, "x"]]))], "{{lacks}}|", "").startswith("|"))
 
     def test_title_and_icon(self):
         content = content_of(*LOAN)
