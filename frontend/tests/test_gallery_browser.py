@@ -184,6 +184,11 @@ class Controls(unittest.TestCase):
         shown.value("byId('lists-divider').focus()")
         shown.key("ArrowLeft")
         self.assertAlmostEqual(shown.value(width), before + 36, delta=2)
+        graph = "byId('graph-pane').getBoundingClientRect().width"
+        before = shown.value(graph)
+        shown.value("byId('graph-divider').focus()")
+        shown.key("ArrowLeft")
+        self.assertAlmostEqual(shown.value(graph), before + 24, delta=2)
 
     def test_a_phone(self):
         """The source comes second; what is chosen covers the foot only after a choice, and is closed by its button."""
@@ -266,6 +271,19 @@ class Controls(unittest.TestCase):
         self.assertEqual(shown.value("[ticks.length, now]"), [1, 0])
         shown.key("ArrowRight")
         self.assertEqual(shown.value("[ticks.length, now]"), [0, 1])
+
+    def test_the_events_of_a_schedule(self):
+        """The slider, a row of the list, and the keys come to the same event."""
+        shown = self.opened("late_hole.schedule.html")
+        for act in ("byId('slider').value = 3; byId('slider').dispatchEvent(new Event('input'))",
+                    "all('#events a')[3].click()"):
+            shown.value("choose(0)")
+            shown.value(act)
+            self.assertEqual(shown.value("[now, location.hash, byId('where').textContent]"), [3, "#event=3", "3"])
+        shown.key("End")
+        self.assertTrue(shown.value("now === last"))
+        shown.key("ArrowLeft")
+        self.assertTrue(shown.value("now === last - 1"))
 
     def test_who_waits_for_whom(self):
         """What is drawn is said, too; `not now` has its reason at the event."""
