@@ -151,6 +151,15 @@ class Controls(unittest.TestCase):
                 self.assertEqual(shown.value("chosen.region"), region)
         self.assertTrue(shown.value("chosen.isFirst"))
 
+    def test_a_key_that_is_held(self):
+        """It adds to the history where it begins and where it is let go."""
+        shown = self.opened("found_or_inserted.html")
+        shown.key("Escape")
+        before = shown.value("history.length")
+        shown.hold("]", 5)
+        self.assertEqual(shown.value("[chosen.region, history.length]"), [5, before + 2])
+        self.assertEqual(shown.value("location.hash"), "#region=" + shown.value("data.regions[5].name"))
+
     def test_a_link_to_a_line(self):
         shown = self.opened("kept_and_used_later.html", address="#line=20")
         self.assertTrue(shown.value("byId('line-20').open"))

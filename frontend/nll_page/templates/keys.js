@@ -87,9 +87,18 @@ function actOf(event) {
   return event.target.matches("input") ? null : keys[event.key] || null;
 }
 
+let isHeld = false;
+
 document.addEventListener("keydown", (event) => {
   const act = actOf(event);
   if (!act) return;
+  isHeld = event.repeat;
   act();
   event.preventDefault();
+});
+
+document.addEventListener("keyup", () => {
+  if (!isHeld) return;
+  isHeld = false;
+  remember();
 });

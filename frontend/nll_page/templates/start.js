@@ -33,8 +33,9 @@ function nextTheme() {
 let isRecalling = false;
 
 // Writes what is chosen into the address, so that a link can point at it, and Back leads to what was chosen before.
+// While a key is held down, what it passes by is left out.
 function remember() {
-  if (isRecalling) return;
+  if (isRecalling || isHeld) return;
   const words = new URLSearchParams();
   if (chosen.region !== null) words.set("region", data.regions[chosen.region].name);
   if (chosen.element !== null) words.set("point", elementName(chosen.element));

@@ -217,6 +217,12 @@ class Page:
                   **({"text": text} if text else {}))
         self.call("Input.dispatchKeyEvent", type="keyUp", **shared)
 
+    def hold(self, name, more):
+        """A key that is pressed, and comes again so many times before it is let go."""
+        for time in range(1 + more):
+            self.call("Input.dispatchKeyEvent", type="keyDown", key=name, text=name, autoRepeat=time > 0)
+        self.call("Input.dispatchKeyEvent", type="keyUp", key=name)
+
     def use(self, scheme):
         """Light or dark, as the system would ask for it."""
         self.call("Emulation.setEmulatedMedia", features=[{"name": "prefers-color-scheme", "value": scheme}])
