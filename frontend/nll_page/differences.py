@@ -6,8 +6,8 @@ from .facts import grouped
 from .names import is_inner
 from .words import Code
 
-FURTHER = ["rustc names what an error above is of here once more; nllc has no fault on this way, since what is asked at a "
-           "point holds from there on"]
+FURTHER = ["rustc names what an error above is of here once more; nllc has no fault on this way, since it applies a "
+           "constraint from its statement on"]
 
 
 def differences(content):
@@ -39,15 +39,15 @@ def refused(content):
 def reason(content, error):
     """Why `nllc` has no fault there."""
     if error.is_of_lifetimes():
-        return ["what is asked at a point holds from there on, inside the smaller region; to rustc it holds "
-                "at all points"]
+        return ["nllc applies a constraint from its statement on, inside the smaller region; rustc applies it in the "
+                "whole function"]
     loan = handed_out(content, error.line, error.column)
     if loan:
         return ["problem case 3 of RFC 2094: the loan of ", *telling.where_made(content, loan),
                 " (", Code(f"'{loan.region}"), ") is returned on another path alone; rustc treats it as live "
                 "on this one, too"]
-    return ["the loan isn't live there, since what is asked at a point holds from there on; to rustc it "
-            "holds at all points"]
+    return ["the loan isn't live there, since nllc applies a constraint from its statement on; rustc applies it in the "
+            "whole function"]
 
 
 def handed_out(content, line, column):
