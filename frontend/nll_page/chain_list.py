@@ -39,9 +39,16 @@ def names_of(content, fault):
 HEADS = {"help": "rustc’s help", "invariant": "Invariance"}
 
 
-def more_part(told):
-    """What else is said of a fault: where lifetimes without a name stand, variance, and rustc's advice."""
-    return "".join(f'<p class="more">{more_line(sentence(parts))}.</p>' for parts in told.more)
+def more_part(told, advised=()):
+    """What else is said of a fault: where lifetimes without a name stand, variance, and rustc's help."""
+    return "".join(f'<p class="more">{more_line(sentence(parts))}.</p>' for parts in told.more
+                   if not is_advised(parts, advised))
+
+
+def is_advised(parts, advised):
+    """Whether a help is what is advised already, or its code, such as a bound, is there."""
+    codes = [part for part in parts if isinstance(part, words.Code)]
+    return parts[0] == telling.HELP and (parts[1:] == [*advised] or bool(codes) and all(one in advised for one in codes))
 
 
 def more_line(said):

@@ -161,7 +161,7 @@ class Differences(unittest.TestCase):
     def test_a_constraint_holds_from_its_point_on(self):
         [(line, _, why)] = self.told("last")
         self.assertEqual(line, 14)
-        self.assertIn("nllc applies a constraint only from the statement that causes it", why)
+        self.assertIn("nllc applies a constraint from its statement on", why)
 
     def test_where_both_refuse(self):
         content = content_of(support.golden_text("differ", "longer"))

@@ -30,18 +30,10 @@ class Sentences(unittest.TestCase):
             "returns, and on to "
             "`end('a)`, which `'best` holds; so `'b` holds it too."])
 
-    def test_what_would_make_it_known(self):
-        def said(remark):
-            facts = facts_of(1, f"# region 'a: {remark}", "universal 'a", "universal 'b")
-            return plain(words.conclusion(facts, 1, 2)).partition("chooses. ")[2]
-
-        self.assertEqual(said("'a of the signature"), "The signature may require that of its callers, "
-                         "by `where 'a: 'b`; it doesn't.")
-        self.assertEqual(said("a lifetime of the signature without a name"),
-                         "The signature may require that of its callers, with names in place of `'a` "
-                         "and `'b`, by `where 'a: 'b`; it doesn't.")
-        self.assertEqual(said("'a of the function around this closure"),
-                         "A closure may need that: the function around it has to ensure it.")
+    def test_what_it_means(self):
+        facts = facts_of(1, "universal 'a", "universal 'b")
+        self.assertEqual(plain(words.conclusion(facts, 1, 2)),
+                         "So `'a` would have to last as long as `'b`, whatever the caller chooses.")
 
     def test_the_lines(self):
         self.assertEqual(words.arising(self.facts, self.steps), [7, 9])
