@@ -1,9 +1,9 @@
 #!/bin/sh
-# Runs nllc on these words: the program that `./nllc.sh --prove` proved and built, while no source is newer.
+# Runs nllc with these arguments: the program that `./nllc.sh --prove` proved and built, while no source is newer.
 # Until then a build of the same sources that nothing has proved, with checks at run time and not optimised: it is
 # compiled once, in about a minute, and kept in out/; a line on standard error says so, once an hour.
 # Newer sources are the code and the definitions of crates/, and crates.txt: a proof that changed changes no program.
-# Words such as `rust` and `page` are those of other programs, in frontend/: they make facts texts of Rust files, and
+# Commands such as `rust` and `page` are those of other programs, in frontend/: they make facts texts of Rust files, and
 # pages, and have nllc answer what they make. In an installed copy (tools/install.sh) all of it is in lib/nllc.
 called=${0##*/}
 self=$0
@@ -101,25 +101,25 @@ find_program() {
     is_proved || tell_standing
 }
 
-words() {
+commands() {
     cat <<END
-$called has these words of its own; what answers them is in frontend/, and isn't proved:
-  $called rust FILE.rs|FOLDER         why the borrow checker refuses functions; makes pages. FOLDER: a Cargo project
+$called has these commands of its own. Their programs are in frontend/, and aren't proved:
+  $called rust FILE.rs|FOLDER         says why the borrow checker refuses functions; makes pages. FOLDER: a Cargo project
   $called facts FILE.rs|FOLDER        makes a facts text of each function
   $called mir FILE.rs|FOLDER          makes a MIR text of each function
   $called page FILE ..                makes a page of each facts text or MIR text
   $called json FILE ..                prints values and faults of each text for programs
   $called schedule FILE SCHEDULE      makes a page of a schedule, event by event
   $called explain FILE ..             says which token of a refused text is wrong, and why
-  $called check|values FILE ..        answers several texts, with the name before each line
-  $called help [WORD]                 help, also of one word
+  $called check|values FILE ..        answers several texts, with the file's name before each line
+  $called help [COMMAND]              help, also of one command
   $called version                     which program this is, and whether it's proved
   $called --which                     prints whether the program is proved, and its path
 END
     [ "$home" != "$here" ] ||
         echo "  $called --prove                     proves nllc and builds it; until then a slow build runs"
     cat <<END
-A FILE of - is standard input. rust, facts, mir, page, json, schedule and explain say more with --help. All else goes to nllc:
+A FILE of - is standard input. rust, facts, mir, page, json, schedule and explain have --help. All else goes to nllc:
 
 END
 }
@@ -129,10 +129,10 @@ help() {
         '') ;;
         rust | facts | mir | page | json | schedule | explain) frontend "$1" --help ;;
         check | values | replay) find_program && exec "$program" "$1" --help ;;
-        *) end 2 "there is no word $1; $called help names all" ;;
+        *) end 2 "there is no command $1; $called help names all" ;;
     esac
     find_program
-    words 2>/dev/null || end 3 "standard output can't be written"
+    commands 2>/dev/null || end 3 "standard output can't be written"
     exec "$program" --help
 }
 
@@ -158,30 +158,52 @@ version() {
         "sha256: ${sum%% *}" 2>/dev/null || end 3 "standard output can't be written"
 }
 
-# Has the program refuse these words, and says on a line of its own what else there is.
+# Has the program refuse these arguments, and says on a line of its own which commands there are.
 refuse() {
     find_program
     "$program" "$@"
     status=$?
-    say "there is no word $1; besides those there are rust, facts, mir, page, json, schedule, explain, help and version"
+    say "there is no command $1; further commands are rust, facts, mir, page, json, schedule, explain, help and version"
     exit "$status"
 }
 
-# Has the program answer a command and its words, if these are one FILE and options. Of all others the frontend makes
-# several calls, or says what is wrong with them.
+# Notes an option and its value, and is true unless the program refuses them for certain.
+note_option() {
+    case " $options " in *" ${1%%=*} "*) return 1 ;; esac
+    options="$options ${1%%=*}"
+    case $1 in
+        --owners=[1-9] | --owners=[1-5][0-9] | --owners=6[0-4] | --deal=round | --deal=blocks) ;;
+        --mail=queue | --mail=ring | --cut=* | --schedule=*) ;;
+        *) return 1 ;;
+    esac
+}
+
+# Whether these options and the command fit together.
+are_fitting() {
+    case $options in *--deal*--cut* | *--cut*--deal*) return 1 ;; esac
+    case $1$options in
+        replay*--mail*) return 1 ;;
+        replay*--schedule*) ;;
+        replay* | *--schedule*) return 1 ;;
+    esac
+}
+
+# Has the program answer a command, if its arguments are one FILE and right options. Otherwise the frontend makes several
+# calls, or has the program refuse them and says what is wrong.
 answer() {
     find_program
-    left=$# files=-1 wants='' ended='' form=plain    # the command itself isn't counted
+    left=$# files=-1 wants='' ended='' form=plain options='' command=$1    # the command itself isn't counted
     while [ "$left" -gt 0 ]; do
         word=$1 left=$((left - 1))
         shift
         [ "$word" != - ] || word=/dev/stdin
         if [ "$wants" ]; then
+            note_option "$wants=$word" || form=other
             wants=''
         else
             case $ended$word in
-                --owners | --deal | --cut | --mail | --schedule) wants=value ;;
-                --owners=* | --deal=* | --cut=* | --mail=* | --schedule=*) ;;
+                --owners | --deal | --cut | --mail | --schedule) wants=$word ;;
+                --owners=* | --deal=* | --cut=* | --mail=* | --schedule=*) note_option "$word" || form=other ;;
                 --help | -h) form=help ;;
                 --) ended=./ ;;
                 -* | *.rs) form=other ;;
@@ -190,6 +212,9 @@ answer() {
         fi
         set -- "$@" "$word"
     done
+    if [ "$form" = plain ]; then
+        [ -z "$wants" ] && are_fitting "$command" || form=other
+    fi
     case $form$files in
         plain1 | help*) exec "$program" "$@" ;;
     esac
@@ -203,8 +228,8 @@ case $1 in
     check | values | replay) answer "$@" ;;
     help) [ "$#" -le 2 ] && help "$2" ;;
     --help | -h) help ;;
-    version | --version | --prove | --built | --which) [ "$#" = 1 ] || end 2 "$1 takes no other word" ;;
-    '') find_program && words >&2 && exec "$program" "$@" ;;
+    version | --version | --prove | --built | --which) [ "$#" = 1 ] || end 2 "$1 takes no argument" ;;
+    '') find_program && commands >&2 && exec "$program" "$@" ;;
 esac
 case $1 in
     version | --version) version ;;

@@ -3,8 +3,8 @@
 
     check/run soak [--nllc PATH] --minutes M [--jobs N] [--seed S] [--save FOLDER] [FILE..]
 
-Of small random texts, and of each FILE, the program answers `values` and `check` with 1 to 16 owners, dealt
-in turns, in blocks or by a random cut file, over queues or rings; as many runs at once as `--jobs`, by default
+Of small random texts, and of each FILE, the program answers `values` and `check` with 1 to 16 owners, assigned
+round-robin, in blocks or by a random cut file, over queues or rings; as many runs at once as `--jobs`, by default
 three times the processors. One run in three has a growth of memory refused (`refuse.c`), one in six little
 memory to address. Each run is to end by itself as a run on one thread does, byte by byte; where memory is
 refused it may also answer `nllc: memory` or `nllc: thread`, with status 3 and nothing on standard output. None

@@ -10,7 +10,7 @@ pub fn grow(scores: &mut Vec<u32>) -> u32 {
     *first
 }
 
-/// What is found is handed out; what isn't is put in. This is RFC 2094's third problem case.
+/// What is found is returned; what isn't is put in. This is RFC 2094's third problem case.
 pub fn get_default<'r>(map: &'r mut HashMap<u32, u32>, key: u32) -> &'r mut u32 {
     match map.get_mut(&key) {
         Some(value) => value,

@@ -1,4 +1,4 @@
-//! A variable is given a new value before it is handed out. rustc 1.95 refuses `last`, since its constraints hold
+//! A variable is given a new value before it is returned. rustc 1.95 refuses `last`, since its constraints hold
 //! at all points; from their points on there is no fault (docs/LEARNING.md).
 
 static ZERO: u8 = 0;

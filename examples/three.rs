@@ -15,7 +15,7 @@ pub fn news(mut draft: String, done: bool) -> String {
     draft
 }
 
-/// One lifetime is handed out as another.
+/// One lifetime is returned as another.
 pub fn longer<'a, 'b>(first: &'a str, second: &'b str) -> &'a str {
     let mut best = first;
     if second.len() > best.len() {

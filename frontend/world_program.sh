@@ -56,7 +56,7 @@ case $#$1 in
     1--prove) prove ;;
     1--help | 1-h) sed -n '2,/^here/{/^#/s/^# \{0,1\}//p}' "$0" ;;
     *)
-        say "--built, --prove or --help, and no other word"
+        say "it takes --built, --prove or --help, and no other argument"
         exit 2
         ;;
 esac

@@ -1,12 +1,12 @@
 #!/usr/bin/env python3
 """Checks what a change can have broken: tools/check_changed.py [--since COMMIT] [--jobs N]
 
-These are the crates that aren't as they were at the commit (HEAD, where none is named), those that stand on
-one which says something else since (tools/changes.py tells which do), and the tests that stand on a changed
+These are the crates that aren't as they were at the commit (HEAD, where none is named), those that depend on
+one which says something else since (tools/changes.py finds them), and the tests that depend on a changed
 one. It works in place, by `rt fmt` in the changed crates, since the gate refuses another layout, then by
 `rt all check` in the highest of them and by `rt test`, so that what it proves is kept; libraries between are
 built too, which over kept work takes little. Each crate has a line as it ends, with its seconds of processor
-time. At the end it says what the gate does beside. Ends with 0 where all is proved and passed.
+time. At the end it says what else the gate does. Ends with 0 where all is proved and passed.
 """
 
 import argparse

@@ -1,5 +1,5 @@
 #!/usr/bin/env python3
-"""The definitions of specs/, as their comments say them and as they stand.
+"""The definitions of specs/, with their comments.
 
     tools/definitions.py                        every definition with its comment, crate by crate
     tools/definitions.py CRATE | FILE ..        those of a crate (nll_problem), or of a file of specs/ (Solution)
@@ -16,6 +16,7 @@ import collections
 import functools
 import pathlib
 import re
+import signal
 import sys
 
 ROOT = pathlib.Path(__file__).resolve().parents[1]
@@ -181,4 +182,5 @@ def main(words, root=ROOT):
 
 
 if __name__ == "__main__":
+    signal.signal(signal.SIGPIPE, signal.SIG_DFL)    # a reader such as `head` may stop early
     sys.exit(main(sys.argv[1:]))

@@ -1,16 +1,16 @@
 #!/usr/bin/env python3
 """What the gate takes, crate by crate: tools/gate_minutes.py [--log FILE] | --read FILE | --budget
 
-Runs `rt ci` at the top of the repository, with the environment as it is (RT_JOBS ..), and hands on what it
+Runs `rt ci` at the top of the repository, with the environment as it is (RT_JOBS ..), and passes on what it
 prints. Then comes a table: for each crate the seconds of processor time of its check, its tests and its
 edits, and how many these are; a crate of several edits has one more check in them, of the crate as it is.
-Below it stands what the whole run took. `--log` writes what was measured, and `--read` prints the table of
+Below it is what the whole run took. `--log` writes what was measured, and `--read` prints the table of
 such a file again; where it has units, it ends with the crates that are above their budgets. `--budget` prints these
 budgets, of each layer of crates.txt and of each crate (tools/gate_budget.csv). Ends with the status of `rt ci`; with
 `--read` and `--budget` with 0.
 
 A unit is a minute of a processor of the machine on which the first rows of docs/dev/GATE.md were measured. How
-much slower this one is, tell the checks of three crates that hardly change, the yardstick, in the same run.
+much slower this one is, the checks of three crates that hardly change, the yardstick, show in the same run.
 """
 
 import argparse

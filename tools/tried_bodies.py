@@ -3,8 +3,8 @@
 
     tools/tried_bodies.py [--jobs N] [--seconds N] [CRATE | CRATE/EDIT ..]
 
-They stand in crates/*/tried-bodies, and each is an edit as those of must-fail/ are: lines `file: PATH`, `old: TEXT` and
-`new: TEXT`. A text may go on in lines that begin with `| `. Above them stand two remarks: what is wrong, and what must
+They are in crates/*/tried-bodies, and each is an edit as those of must-fail/ are: lines `file: PATH`, `old: TEXT` and
+`new: TEXT`. A text may go on in lines that begin with `| `. Above them are two remarks: what is wrong, and what must
 come of it, with the crate of tests that shows it:
 
     # wrong: a stop sets no flag that others see
@@ -15,7 +15,7 @@ come of it, with the crate of tests that shows it:
 
 That crate and those below it are copied, and the edit is made in the copy. `rt try --test` then compiles the tests and
 runs them; it proves nothing, and needs no proof of anything. Of its tests the copy has the named one alone. It must
-fail, or not end within the limit (`--seconds`, 20 unless told; more where the machine is busy). Where an edit must be
+fail, or not end within the limit (`--seconds`, 20 by default; more where the machine is busy). Where an edit must be
 refused, the crate may be any that sees it, and each error that the compiler prints must have the message. Each edit
 takes about a minute of processor time where it's compiled, and a few seconds where it's refused.
 

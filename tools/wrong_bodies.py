@@ -4,12 +4,12 @@
     tools/wrong_bodies.py [--all] [--since COMMIT] [--jobs N] [CRATE ..]
     tools/wrong_bodies.py --list [CRATE ..]
 
-They stand in crates/*/wrong-bodies, and each is an edit as those of must-fail/ are. In a copy of the
+They are in crates/*/wrong-bodies, and each is an edit as those of must-fail/ are. In a copy of the
 repository they take the place of these, and `rt must-fail` tries them, several crates side by side; the
 libraries below are proved first, where the working tree keeps no proof of them. The copy takes next to no
-disk: its libraries are second names of the tree's, and what else checks kept `rt` takes from where it stands.
+disk: its libraries are second names of the tree's, and what else checks kept `rt` takes from where it is.
 `--all` tries the edits of must-fail/ too, before a release. `--since` leaves out the crates that are as they
-were at that commit and stand on none that says something else since; tools/changes.py tells which do. Where
+were at that commit and depend on none that says something else since; tools/changes.py finds them. Where
 crates are named, no others are tried.
 
 For each edit it prints the seconds of processor time that its check took, and what refused it:
@@ -30,6 +30,7 @@ import concurrent.futures
 import pathlib
 import re
 import shutil
+import signal
 import sys
 import tempfile
 
@@ -241,4 +242,5 @@ def main(words, root=ROOT):
 
 
 if __name__ == "__main__":
+    signal.signal(signal.SIGPIPE, signal.SIG_DFL)    # a reader such as `head` may stop early
     sys.exit(main(sys.argv[1:]))

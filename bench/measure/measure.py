@@ -297,7 +297,7 @@ def main():
     parser.add_argument("--nllc", required=True)
     parser.add_argument("--baseline", help="the program to compare with; not for `line`")
     parser.add_argument("--most", type=float, default=8.0,
-                        help="MiB that a process may take besides the text of one line")
+                        help="MiB that a process may take in addition to the text of one line")
     parser.add_argument("--texts", help="folder of the texts to measure on")
     parser.add_argument("--sizes", default="8 64")
     parser.add_argument("--newer", action="store_true",

@@ -1,5 +1,5 @@
 #!/usr/bin/env python3
-"""Times owners over rings beside the same owners over queues, and prints a Markdown table.
+"""Times owners over rings, compared with the same owners over queues, and prints a Markdown table.
 
     measure_mails.py --nllc PATH --texts FOLDER --outputs FOLDER [--owners "COUNT .."] [--deal DEAL] [--runs N]
 

@@ -1,9 +1,9 @@
 #!/usr/bin/env python3
-"""Times solving by owners, beside the solver and the partner's owners, and prints a Markdown table.
+"""Times solving by owners, compared with the solver and the partner's owners, and prints a Markdown table.
 
     measure_owners.py --program PATH --baseline PATH --texts FOLDER [--inputs FOLDER]
 
-owners.sh calls it. The seconds are the processor time that the programs tell of themselves: of
+owners.sh calls it. The seconds are the processor time that the programs report of themselves: of
 owners, to make them, to load them, and all of their turns. The bar is twice the solver's seconds, 60
 nanoseconds for each growth that is grown and 250 for each that is received.
 """
@@ -129,7 +129,7 @@ def main():
     parser.add_argument("--order", choices=["owners", "turns"], default="owners",
                         help="whether an owner posts after it received all, or after each growth")
     parser.add_argument("--deal", default="round",
-                        help="how the program deals regions; the partner does in turns")
+                        help="how the program assigns regions; the partner does so round-robin")
     parser.add_argument("--runs", type=int, default=3)
     parser.add_argument("--seconds", type=float, default=60.0, help="time limit of a run")
     parser.add_argument("--commit", default="none", help="recorded with the figures")

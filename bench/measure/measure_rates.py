@@ -1,5 +1,5 @@
 #!/usr/bin/env python3
-"""Times calls between threads, beside plain Rust, and prints a Markdown table.
+"""Times calls between threads, compared with plain Rust, and prints a Markdown table.
 
     measure_rates.py mailboxes --program PATH --baseline PATH --processors 0,1
     measure_rates.py ledgers --program PATH --baseline PATH

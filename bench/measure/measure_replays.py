@@ -1,12 +1,12 @@
 #!/usr/bin/env python3
-"""Times `replay` of long schedules over one text, beside the partner's, and prints Markdown tables.
+"""Times `replay` of long schedules over one text, compared with the partner's, and prints Markdown tables.
 
     measure_replays.py --nllc PATH --baseline PATH --text FILE --schedules FOLDER [--owners "COUNT .."]
                        [--events "COUNT .."] [--deal DEAL] [--runs N]
 
 replays.sh calls it. The folder has for each number of owners and of events a schedule, and the same one with a last
 line that is refused; outputs go there too. Times are best wall times of some runs, for which all schedules and
-programs take turns. Words may stand behind PATH.
+programs take turns. Arguments may follow PATH.
 """
 
 import argparse

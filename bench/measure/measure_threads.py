@@ -1,11 +1,11 @@
 #!/usr/bin/env python3
-"""Times owners in threads, beside one thread and beside the partner's owners, and prints Markdown tables.
+"""Times owners in threads, compared with one thread and with the partner's owners, and prints Markdown tables.
 
     measure_threads.py --nllc PATH --baseline PATH --texts FOLDER --outputs FOLDER [--inputs FOLDER]
 
-threads.sh calls it. Beside each text stands, in the folder `refused`, the same one with a last line that is
+threads.sh calls it. Next to each text the folder `refused` has the same one with a last line that is
 refused. The seconds are those of `check`, less those of the refused text: best wall times of some runs, for
-which the programs take turns. Words may stand behind PATH.
+which the programs take turns. Arguments may follow PATH.
 """
 
 import argparse
@@ -169,7 +169,7 @@ def judge(name, found, owners):
         most = ISLANDS[2] * found[1].seconds["nllc"]
         verdicts["a part of one owner's time"] = judged(seconds["nllc"], most, 2 * noise)
     if owners == MANY[0] and 1 in found:
-        verdicts["memory beside one owner"] = judge_many(found)
+        verdicts["memory compared with one owner"] = judge_many(found)
     return verdicts
 
 
@@ -219,7 +219,7 @@ WANTED = {
             f"is grown and {RECEIVED_SECONDS * 1e9:.0f} ns for each that is received"),
     "a part of one owner's time": (f"{ISLANDS[1]} owners of `{ISLANDS[0]}` at most {ISLANDS[2]} of the seconds of "
                                    "one owner"),
-    "memory beside one owner": (f"{MANY[0]} owners at most {MANY[1]} times the memory of one, and {MANY[2]} bytes "
+    "memory compared with one owner": (f"{MANY[0]} owners at most {MANY[1]} times the memory of one, and {MANY[2]} bytes "
                                 "for each growth that is received"),
 }
 

@@ -1,5 +1,5 @@
 #!/usr/bin/env python3
-"""Measures `nllc.sh rust` on the files of frontend/tests/errors, with their pages, beside rustc on the same files.
+"""Measures `nllc.sh rust` on the files of frontend/tests/errors, with their pages, compared with rustc on the same files.
 
     bench/run rust --nllc PATH [--every N]
 

@@ -4,9 +4,9 @@
     check/run errors [--seeds N] [--seed S] [--crates NAME ..] [--save FOLDER]
 
 Each function of a crate is changed at random so that its types are as before: a borrow is held over what follows, a
-`.clone()` is taken out, a statement put behind others, a lifetime dropped, .. (changes.py). Changes that rustc refuses
+`.clone()` is taken out, a statement moved after others, a lifetime dropped, .. (changes.py). Changes that rustc refuses
 before it checks borrows are drawn anew. Then one run of the command answers all changed functions of the crate,
-and each of rustc's errors has to be told as the suite of frontend/tests/errors has it. Needs rustc 1.95, and packages
+and each of rustc's errors has to be reported as the suite of frontend/tests/errors has it. Needs rustc 1.95, and packages
 (`apt-get install librust-NAME-dev`; sources.py has the names). A crate on which answers differ is kept in FOLDER.
 """
 

@@ -4,7 +4,7 @@
     check/run turns [--program PATH] [--count N] [--seed S] [--save FOLDER]
 
 PATH is what bench/programs/owner_program.sh builds. A text is a small one of generate.py, or one of up to a hundred
-regions. Its regions are dealt to 1 to 64 owners, mostly at random, and then the owners take random
+regions. Its regions are assigned to 1 to 64 owners, mostly at random, and then the owners take random
 turns before they settle. Counts of elements and digests of the values are compared. Saves each text
 on which they differ, and ends with `N compared, M differ`; status 1 where M isn't 0.
 """

@@ -9,10 +9,10 @@ round-robin, in blocks or by a cut file, and a random schedule: wholly random ev
 a beginning of these, with events strewn in that are mostly not possible. Some cut files and schedules are hostile.
 Standard output, status and standard error must be those of the model (`reference_world.py`), byte by byte, whose
 owners grow in the order of the program; and at the balance 0 the value lines must be those of `nllc values`. Each
-text is also asked for with words that are refused: a usage line.
+text is also asked for with arguments that are refused: a usage line.
 
 With `--model` the model is compared with itself: see `ModelComparison`. Saves what differs, cut down to the events
-and lines that matter, and ends with `N compared, M differ`; status 1 where M isn't 0. Words may stand behind PATH.
+and lines that matter, and ends with `N compared, M differ`; status 1 where M isn't 0. Arguments may follow PATH.
 """
 
 import argparse

@@ -6,10 +6,10 @@
 Of each text, a small facts or MIR text of which every third is changed, the program answers `values` and `check`
 with random owners, round-robin, in blocks or by a cut file. Standard output, status and standard error must be
 those of `nllc` without owners, of the baseline and of the reference, byte by byte. A text without a fault whose
-cut file is refused has the refusal that the slow reader `reference_cut` tells. Some cut files are hostile: other
+cut file is refused has the refusal of the slow reader `reference_cut`. Some cut files are hostile: other
 headers, faulty lines, changed bytes, another length, owners that there aren't, no file at all. Each text is also
 asked for with a number of owners, a deal or mail that there isn't, or two of an option: a usage line. Saves what
-differs, and ends with `N compared, M differ`; status 1 where M isn't 0. Words may stand behind PATH.
+differs, and ends with `N compared, M differ`; status 1 where M isn't 0. Arguments may follow PATH.
 """
 
 import argparse

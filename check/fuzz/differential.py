@@ -5,13 +5,13 @@
     check/run facts|mir [--nllc PATH] --every FILE | --limits
     check/run mir [--nllc PATH] --hostile [--reference]
 
-Runs `PATH values FILE` and `PATH check FILE` beside the baseline and compares standard output,
+Runs `PATH values FILE` and `PATH check FILE`, and the baseline, and compares standard output,
 status and standard error byte by byte. With `--reference` the slow reference is compared too;
 with `--nllc ''` it alone, and then on the counts of `read` and `problem` as well. The first half
 of the texts has no change. `--every` takes each small change of a text in place of random texts;
 `--limits` takes the texts at the limits of the format, `--hostile` MIR texts whose types are deep
 or would grow without end. A text on which two answers differ is saved, after lines that don't
-matter were taken out of it. Behind PATH may stand words, as in `--baseline 'PATH --runs'`.
+matter were taken out of it. Arguments may follow PATH, as in `--baseline 'PATH --runs'`.
 Ends with `N compared, M differ`; status 1 where M isn't 0.
 """
 

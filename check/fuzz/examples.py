@@ -4,7 +4,7 @@
     check/run worked [--nllc PATH] [--formats facts mir] [--large]
 
 Runs `PATH values FILE` or `PATH check FILE` on each and compares output, status and the line on
-standard error. Behind PATH may stand words, as in `'PATH --runs'`. `--large` adds the texts at the
+standard error. Arguments may follow PATH, as in `'PATH --runs'`. `--large` adds the texts at the
 limits of the formats (up to 64 MiB each).
 Prints each example that differs, then `N examples, M differ`; status 1 where M isn't 0.
 """

@@ -8,7 +8,7 @@ Every text depends on its arguments and its seed alone.
     generate.py random [--seed S]                                 a small problem
     generate.py mutations FILE --into DIR                         each small change of a text
     generate.py limits --into DIR                                 texts at the limits of the format
-    generate.py line KIND MIB                                     one long line behind the header
+    generate.py line KIND MIB                                     one long line after the header
     generate.py family NAME                                       a big problem to measure solving
 
 All but `mutations` and `limits` write to standard output. `differential.py` uses the functions of this file.

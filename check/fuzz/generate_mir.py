@@ -6,7 +6,7 @@ Every text depends on its arguments and its seed alone.
     generate_mir.py body POINTS VARIABLES [--refused] [--seed S]   a big body of many blocks
     generate_mir.py ranges POINTS VARIABLES      one block, variables with short live ranges
     generate_mir.py wide REGIONS POINTS          a variable with many regions, live everywhere
-    generate_mir.py line KIND MIB                one long line behind the header
+    generate_mir.py line KIND MIB                one long line after the header
     generate_mir.py random [--seed S] [--version V]   a small body, of version 1 or 2
     generate_mir.py worked --into DIR            the worked texts
     generate_mir.py mutations FILE --into DIR    each small change of a text

@@ -1,11 +1,11 @@
 #!/usr/bin/env python3
 """A slow reader and solver of facts texts and MIR texts, straight from the definitions.
 
-It is the second reference beside `baseline/`: it cuts a text into lines, a line into tokens, and
+It is the second reference, next to `baseline/`: it cuts a text into lines, a line into tokens, and
 grows sets of integers in whole rounds until a round adds nothing. Only for small texts.
 
     reference.py read|problem|values|check FILE     prints and ends as the baseline does
-    reference.py body FILE                          what is said at each point of a MIR text
+    reference.py body FILE                          what each point of a MIR text says
 
 Reading order: `reference_text`, `reference_facts`, `reference_solve`; for MIR texts then
 `reference_grammar`, `reference_types`, `reference_mir`, `reference_body`.

@@ -3,7 +3,7 @@
 
     reference_states.py OWNERS round|blocks|cut FILE SCHEDULE [CUT]
 
-Only for small texts. It may stand in for the program where pages of schedules are made:
+Only for small texts. It may replace the program where pages of schedules are made:
 
     WORLD_PROGRAM=check/reference/reference_states.py ./nllc.sh schedule FILE SCHEDULE
 """

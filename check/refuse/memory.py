@@ -10,8 +10,8 @@ the last one that the run asks for. Each run is to end by itself, either as ever
 3, nothing on standard output and the line `nllc: memory` on standard error. Where owners are
 asked for, it may be the line `nllc: thread`: the C library asks for memory to start a thread.
 
-With `--options` the words of each of them stand before FILE in place of none; with `--command`
-these words are run alone, `replay FILE --schedule FILE` say. With `--count` so many growths are
+With `--options` the arguments in each of them come before FILE; with `--command`
+these arguments are run alone, `replay FILE --schedule FILE` say. With `--count` so many growths are
 refused, spread over the run.
 
 No run may keep more blocks of memory to its end than the one that is refused nothing.

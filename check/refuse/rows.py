@@ -5,7 +5,7 @@
 
 Of each problem the program answers `values` on one thread, and by two owners over queues and over rings. The tests
 `repeated_runs` run each of them by one owner and by two, over both kinds of mailboxes and of ledgers. The program and
-the tests are those that `rt ci` built, unless told. `refuse.c` refuses the first growth of memory of a run, then the
+the tests are those that `rt ci` built, by default. `refuse.c` refuses the first growth of memory of a run, then the
 second, and so on, until a run meets no refusal.
 
 A run of the program is to give the whole right answer, or status 3, nothing on standard output and `nllc: memory`, or
@@ -13,8 +13,8 @@ with owners `nllc: thread`: the C library asks for memory to start a thread. It 
 its end than runs that are refused nothing. A run of a test is to pass: where a run in it is refused, the test runs the
 same problem, cut, mailboxes, ledger and gate again, and compares what comes of it.
 
-Prints each run that ends otherwise, and a line for each problem and test. What isn't tried after `--seconds` (100 unless
-told) is skipped, spread over all growths, and the line says how many. Last stands a line as `rt ci` prints one,
+Prints each run that ends otherwise, and a line for each problem and test. What isn't tried after `--seconds` (100 by
+default) is skipped, spread over all growths, and the line says how many. The last line is as `rt ci` prints one,
 with what that passed and failed (`--before`) added; status 1 where anything failed.
 """
 

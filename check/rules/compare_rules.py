@@ -6,7 +6,7 @@
 
 Of each function: base elements, constraints and values of the regions that both have. It prints a table of the classes
 of differences, and each difference that is in none. Status 1 where there is one. What a MIR text's problem is, the program
-of frontend/world_program.sh says, or that of the variable WORLD_PROGRAM. The folder debian/ beside this file is a project
+of frontend/world_program.sh says, or that of the variable WORLD_PROGRAM. The folder debian/ next to this file is a project
 that depends on crates of Debian's packages; `-p NAME` chooses one.
 """
 

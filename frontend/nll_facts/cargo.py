@@ -45,9 +45,9 @@ def check_project(folder: str, packages: list[str], options: list[str], room: st
     units = units_in(room)
     show_others(done.stdout, units, is_json=lints != "allow")
     if done.returncode != 0 and not any(unit.errors for unit in units):
-        raise Refusal(f"cargo can't check {folder}: mend what it says above")
+        raise Refusal(f"cargo can't check {folder}: fix the errors above")
     if not units:
-        raise Refusal(f"{folder} has no package of its own that is asked for: -p names packages of the project")
+        raise Refusal(f"{folder} has no such package of its own: -p names packages of the project")
     return units
 
 
@@ -63,7 +63,7 @@ def target_of(cargo: str, folder: str) -> str:
     done = subprocess.run([cargo, "metadata", "--no-deps", "--format-version=1"], cwd=folder, check=False,
                           stdin=subprocess.DEVNULL, stdout=subprocess.PIPE)
     if done.returncode != 0:
-        raise Refusal(f"cargo can't read the project of {folder}: mend what it says above")
+        raise Refusal(f"cargo can't read the project of {folder}: fix the errors above")
     return json.loads(done.stdout)["target_directory"]
 
 

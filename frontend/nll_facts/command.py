@@ -65,15 +65,15 @@ def add_words(parser: argparse.ArgumentParser, use_of_folder: str, is_of_cargo: 
     if not is_of_cargo:
         parser.add_argument("path", metavar="FILE.rs|FOLDER",
                             help="a Rust file (- is standard input), or the folder of a Cargo package or workspace")
-        parser.add_argument("--edition", help="of the language, for FILE.rs; 2021")
+        parser.add_argument("--edition", help="the language edition of FILE.rs (default 2021)")
     parser.set_defaults(path=os.curdir, edition=None)
     parser.add_argument("functions", metavar="FUNCTION", nargs="*",
-                        help="these alone: a name (pick, module::pick, Type::pick) or a line (12, src/lib.rs:12)")
+                        help="only these: a name (pick, module::pick, Type::pick) or a line (12, src/lib.rs:12)")
     parser.add_argument("-o", dest="out", metavar="FOLDER",
-                        help=f"{use_of_folder}; it is made where it isn't there. Without it "
-                        f"{FOLDER}/NAME, NAME being the file's or project's")
+                        help=f"{use_of_folder}; created where it is missing (default {FOLDER}/NAME, "
+                        "with the name of the file or project)")
     parser.add_argument("-p", "--package", dest="packages", metavar="PACKAGE", action="append", default=[],
-                        help="of a project, this package; it may be given several times")
+                        help="only this package of a project; may be given several times")
 
 
 def write_texts(asked: argparse.Namespace) -> int:
@@ -118,7 +118,7 @@ def check(asked: argparse.Namespace, room: str, folder: str, is_for_people: bool
     lints = "allow" if is_for_people else "warn"
     if is_project(asked.path):
         if asked.edition:
-            raise Refusal("a project says its edition itself: leave out --edition")
+            raise Refusal("a project states its own edition: leave out --edition")
         units = check_project(project_of(asked.path), asked.packages, asked.options, room, lints, in_colour)
     else:
         if asked.packages:
@@ -142,7 +142,7 @@ def refuse_nothing(path: str, found: Checked) -> None:
 
 def without_functions(path: str, found: Checked) -> Refusal:
     if any(unit.errors for unit in found.units):
-        return Refusal(f"rustc refuses {path} before it checks borrows: mend what it says above")
+        return Refusal(f"rustc refuses {path} before it checks borrows: fix the errors above")
     return Refusal(f"{path} has no function with a body: nothing in it has regions to solve")
 
 

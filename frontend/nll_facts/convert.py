@@ -62,8 +62,8 @@ class Problem:
 
 def refuse_past(function: str, what: str, count: int, most: int) -> None:
     if count > most:
-        raise Refusal(f"{function}: {count} {what}, and nllc takes {most}; "
-                      f"cut the function into smaller ones")
+        raise Refusal(f"{function}: {count} {what}, and nllc takes at most {most}; "
+                      f"split the function into smaller ones")
 
 
 def convert(dump: Dump, root: str = "", errors: Iterable[Error] = ()) -> Problem:

@@ -33,7 +33,7 @@ def faults(answers: list[Said]) -> Iterator[Said]:
         unnamed = [tuple(place) for place in said["unnamed"]]
         for told in said["tellings"]:
             is_unnamed = told["place"] and tuple(told["place"][:2]) in unnamed
-            notes = [f"{version()} names no error there"] if is_unnamed else []
+            notes = [f"{version()} reports no error there"] if is_unnamed else []
             yield of_fault(said["source"], told, [*told["notes"], *notes])
 
 

@@ -69,22 +69,22 @@ def read_words(words: Sequence[str], is_of_cargo: bool = False) -> argparse.Name
         about="Says why the borrow checker refuses the functions of a Rust file, or of a Cargo project: "
         "lifetimes that would have to outlive others, and loans that something conflicts with while they are "
         "live. Makes a facts text and a page of each function. OPTIONS are those of rustc, or of cargo check. "
-        "Status 0: no fault, and rustc takes it all; 1: faults; 2: refused, all or in part; 3: failed; 4: no "
-        "fault, and rustc refuses it all the same, for what nothing here judges or where nllc and rustc differ.")
+        "Status 0: no fault, and rustc accepts all of it; 1: faults; 2: refused, all or in part; 3: failed; 4: no "
+        "fault, but rustc refuses it, for a reason that nllc doesn't check or because nllc and rustc differ.")
     add_words(parser, "where texts and pages go", is_of_cargo)
     parser.add_argument("--explain", action="store_true",
                         help="what rustc says, and how each fault comes about, step by step")
     parser.add_argument("--all-points", dest="everywhere", action="store_true",
                         help="also answer with every constraint at all points, as rustc's own solver "
-                             "takes them; the status is that of the answer without")
+                             "does; it doesn't change the status")
     parser.add_argument("--from-mir", dest="from_mir", action="store_true",
                         help="by MIR texts and nllc's own rules in place of rustc's constraints")
     parser.add_argument("--all-pages", action="store_true",
-                        help=f"a page of each function; of more than {MOST_PAGES:,} functions without it those of "
-                             "which something is told")
+                        help=f"a page of each function; without it, of more than {MOST_PAGES:,} functions only those "
+                             "with something to report")
     parser.add_argument("--open", action="store_true", help="open the page in the browser")
     parser.add_argument("--message-format", dest="format", choices=("human", "json"), default="human",
-                        help="json: faults as rustc's own JSON, a line each, and what else rustc says; no pages")
+                        help="json: faults as rustc's own JSON, a line each, with rustc's other diagnostics; no pages")
     asked = parser.parse_args(own)
     asked.options = options
     take_input(asked)
@@ -227,7 +227,7 @@ def tell_all(checked: Checked, answers: list[Answer]) -> None:
     for error in checked.errors:
         if error.places and (error.path, error.line, error.column, " ".join(error.words().split())) not in told_of:
             print(f"{error.where()}: {version()}: {error.words()}\n"
-                  f"    of what is no function, so that it has no answer here")
+                  f"    not inside a function, so it has no answer here")
 
 
 def outermost(function: str) -> str:
@@ -257,7 +257,7 @@ def told(said: dict[str, Any], places: set[tuple], errors: list[Error], shown: s
     """
     lines, source = [*said["lines"], *said["explained"], *said["everywhere"]], said["source"]
     if said["asked_to_explain"]:
-        lines += [f"needs of the function around it that {need}" for need in said["needs"]]
+        lines += [f"requires of the enclosing function that {need}" for need in said["needs"]]
     within = {(line, column, words): where for line, column, words, where in said["within"]}
     for number, (line, column, words, why) in numbered(said["differences"]):
         if (source, line, column) not in places and (source, line, column, words, number) not in shown:
@@ -271,11 +271,11 @@ def told(said: dict[str, Any], places: set[tuple], errors: list[Error], shown: s
     for number, (line, column, words) in numbered(said["refused"]):
         if (source, line, column, words, number) not in shown:
             shown.add((source, line, column, words, number))
-            why = f"rustc refuses this for {UNJUDGED.get(words[:5], OTHERS)}, which nothing here judges"
+            why = f"rustc refuses this for {UNJUDGED.get(words[:5], OTHERS)}, which nllc doesn't check"
             lines += of_rustc(source, line, column, words, why, within.get((line, column, words)))
     for line, column in said["unnamed"]:
         if not is_named(errors, source, line, column):
-            lines.append(f"{source}:{line}:{column}: {version()} names no error there")
+            lines.append(f"{source}:{line}:{column}: {version()} reports no error there")
     return lines
 
 

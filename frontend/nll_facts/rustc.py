@@ -22,6 +22,7 @@ TEXTS = {b"nll-facts": "facts", b"nll-mir": "MIR"}
 VARIANCE = re.compile(r"requirement occurs because of|invariant over")
 SEE = re.compile(r"see <")
 ARROW = re.compile(r"--> (.*):(\d+):(\d+)")
+INVOCATION = "in this macro invocation"
 # `-Zpolonius=next`: without it rustc leaves out which regions the drop of a variable uses
 # whose regions all outlive a named lifetime; it takes those regions to hold everywhere.
 FLAGS = ("-Znll-facts", "-Zdump-mir=nll", "-Zpolonius=next")
@@ -103,7 +104,7 @@ def crate_name(file: str) -> str:
 def refuse_others(file: str) -> None:
     """Refuses what is no Rust file, and says what a text of `nllc`'s own is."""
     if not os.path.isfile(file):
-        raise Refusal(f"{file} is no file that can be read; give the path of a Rust file")
+        raise Refusal(f"{file} isn't a readable file; give the path of a Rust file")
     try:
         with open(file, "rb") as opened:
             begin = opened.read(64).split(b"\n")[0].split()
@@ -151,7 +152,7 @@ def error_of(said: dict, root: str) -> Error:
     places = [(span["file_name"], span["line_start"]) for span in spans]
     column = spans[0]["column_start"] if spans else 0
     code = (said.get("code") or {}).get("code", "")
-    labels = [label_of(span, root) for span in said.get("spans", ())]
+    labels = [label_of(span, root) for span in said.get("spans", ())] + used_macro(primary[0] if primary else {}, root)
     below = said.get("children", ())
     notes = [child["message"] for child in below if child["level"] == "note" and VARIANCE.search(child["message"])]
     helps = [help_of(child) for child in below if child["level"] == "help" and not SEE.match(child["message"])]
@@ -166,6 +167,16 @@ def within_macro(own: dict, home: dict, rendered: str) -> Optional[Label]:
         return None
     place = place_of(own)
     return place if shown.groups() == (place.file, str(place.line), str(place.column)) else None
+
+
+def used_macro(own: dict, root: str) -> list[Label]:
+    """Where a macro of the user's file is used, in whose lines a place is; of other macros that is the place itself."""
+    home = at_home(own, root) if own else own
+    while home.get("expansion"):
+        home = home["expansion"]["span"]
+        if not home.get("expansion"):
+            return [place_of(home)._replace(text=INVOCATION)]
+    return []
 
 
 def help_of(child: dict) -> str:
@@ -211,7 +222,7 @@ def judge(status: int, errors: list[Error], rustc: str) -> None:
                if re.search(r"unknown (unstable|debugging|codegen)? ?option|Unrecognized option"
                             r"|only accepted on the nightly|incorrect value", error.rendered)]
     if unknown:
-        raise Refusal(f"{rustc} doesn't take what it was given ({unknown[0].splitlines()[0]}); "
+        raise Refusal(f"{rustc} doesn't accept its arguments ({unknown[0].splitlines()[0]}); "
                       f"1.95 knows all flags: `rustup update stable`, or name one by RUSTC")
     if status != 0 and not errors:
-        raise Refusal(f"{rustc} ended with status {status} and says not why; run it by itself")
+        raise Refusal(f"{rustc} ended with status {status} and gave no reason; run it by itself")

@@ -24,7 +24,7 @@ def facts_text(problem: Problem) -> str:
     text = "\n".join(lines(problem)) + "\n"
     if len(text.encode()) > MOST_BYTES:
         raise Refusal(f"{problem.function}: a text of more than {MOST_BYTES} bytes, and nllc takes "
-                      f"no more; cut the function into smaller ones")
+                      f"no more; split the function into smaller ones")
     return text
 
 

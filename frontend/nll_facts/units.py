@@ -54,7 +54,7 @@ def check_file(file: str, folder: str, options: list[str], lints: str = "allow",
     except OSError as error:
         raise Refusal(f"{rustc} can't be run: {error.strerror}; {NO_RUSTC}") from None
     if status == 0 and not glob.glob(os.path.join(glob.escape(folder), "plain", "*.rmeta")):
-        raise Refusal(f"{rustc} says that all is well, but has compiled nothing: is it rustc? {NO_RUSTC}")
+        raise Refusal(f"{rustc} reports success but has compiled nothing: is it rustc? {NO_RUSTC}")
     return read_unit(folder)
 
 

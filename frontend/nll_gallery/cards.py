@@ -29,6 +29,7 @@ class Card(NamedTuple):
     sentence: str
     shown: list
     code: Source
+    lit: str = ""   # the region that its page has lit at first
 
 
 def gravest(shown):
@@ -48,7 +49,7 @@ def gravity(one):
 
 def card_part(card):
     verdict = verdict_of_card(card)
-    address = text(f"./{card.shown[0].file}")
+    address = text(f"./{card.shown[0].file}" + (f"#region={card.lit}" if card.lit else ""))
     others = "".join(f'<a href="./{text(one.file)}">{text(one.name)}</a>' for one in card.shown[1:])
     told = "".join(f"<li>{ticked(said)}</li>" for one in card.shown for _, said in lines_told(one.content))
     return (f'<article class="card {verdict.kind}" id="{text(card.name)}">'
@@ -123,9 +124,9 @@ def sentence_of(source) -> tuple[str, Optional[int]]:
     return visible(" ".join(words)), number
 
 
-def of_text(one, sentence):
+def of_text(one, lit, sentence):
     """The card of a text: its remarks at the head have the Rust that it stands for."""
     lines = one.content.source.lines
     head = [line.removeprefix("#") for line in lines[1:next(at for at, line in enumerate(lines) if at and line[:1] != "#")]]
     code = [line.strip() and line for line in head if line.startswith("     ")]
-    return Card(one.name, sentence, [one], Source("head.rs", 1, [line.removeprefix("     ") for line in code]))
+    return Card(one.name, sentence, [one], Source("head.rs", 1, [line.removeprefix("     ") for line in code]), lit)

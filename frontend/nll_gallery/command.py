@@ -16,7 +16,8 @@ from nll_page.icon import icon
 from nll_page.page import STANDINGS, compact, name_of, page, template
 from nll_page.refusal import Refusal
 from nll_page.streams import guarded
-from nll_schedule.command import main as make_schedule
+from nll_schedule import command as schedules
+from nll_schedule.page import page as schedule_page
 
 from .cards import Shown, card_part, of_functions, of_text
 
@@ -28,13 +29,14 @@ EXAMPLES = "examples"
 FILES = {"problem_cases": "The problem cases of RFC 2094", "variance": "Variance", "drops": "Drop",
          "closures": "Closures and async"}
 
-# MIR texts, which go the proved way from the statements on.
+# MIR texts, which go the proved way from the statements on: the region that is lit at first, and a sentence. A fault
+# has its own first step.
 MIR_TEXTS = {
-    "running": "The running example of RFC 2094: the region of p has a hole where p gets its second value.",
-    "lookup": "Problem case 3: the region of the first borrow ends where nothing was found.",
-    "two_universals": "One named lifetime is returned as another, which the text doesn't know it to outlive.",
-    "invariant": "Behind a mut reference both regions must hold the same from there on.",
-    "drop": "A destructor that may look behind its reference is a use of it.",
+    "running": ("p", "The running example of RFC 2094: the region of p has a hole where p gets its second value."),
+    "lookup": ("found", "Problem case 3: the region of the first borrow ends where nothing was found."),
+    "two_universals": ("", "One named lifetime is returned as another, which the text doesn't know it to outlive."),
+    "invariant": ("2", "Behind a mut reference both regions must hold the same from there on."),
+    "drop": ("w", "A destructor that may look behind its reference is a use of it."),
 }
 
 # Schedules of runs with several owners.
@@ -59,7 +61,7 @@ def make(folder):
         if name.endswith(".html"):
             os.unlink(os.path.join(folder, name))
     cards = {title: list(of_functions(functions(name))) for name, title in FILES.items()}
-    cards["Bodies written as MIR"] = [of_text(mir_text(name), said) for name, said in MIR_TEXTS.items()]
+    cards["Bodies written as MIR"] = [of_text(mir_text(name), *told) for name, told in MIR_TEXTS.items()]
     made = {one.file: one.content for its in cards.values() for card in its for one in card.shown}
     for name, content in made.items():
         command.write(os.path.join(folder, name), page(content._replace(index="index.html")))
@@ -102,9 +104,8 @@ def mir_text(name):
 def schedule_card(folder, name, said):
     """The page of a schedule, and its card."""
     paths = [os.path.join(EXAMPLES, f"{name}.{kind}") for kind in ("facts", "schedule")]
-    with contextlib.redirect_stdout(io.StringIO()):
-        if make_schedule([*paths, "-o", os.path.join(folder, f"{name}.schedule.html")]):
-            raise Refusal(f"{paths[1]} has no page", 3)
+    content = schedules.content_of(schedules.words_of(paths))
+    command.write(os.path.join(folder, f"{name}.schedule.html"), schedule_page(content, "index.html"))
     return (f'<article class="card" id="{name}"><h3><a href="./{name}.schedule.html"><code>{name}.schedule</code></a></h3>'
             f"<p>{text(said)}</p></article>")
 

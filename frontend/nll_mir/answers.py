@@ -24,8 +24,8 @@ from .translate import names_of
 from .types import STATIC
 
 NUMBERED = re.compile(r"r(\d+)")
-MADE_HERE = Remark(None, "of a signature that is made fresh at a call")
-STOP = Remark(None, "stop, behind a call that never returns")
+MADE_HERE = Remark(None, "of a signature, new at each call")
+STOP = Remark(None, "stop, after a call that never returns")
 
 
 def problem_by_rules(made: Made, told: Problem) -> Problem:

@@ -31,7 +31,7 @@ def read_words(words: Sequence[str]) -> argparse.Namespace:
     own, options = split_words(words)
     parser = Parser(
         "mir", "Writes a MIR text of each function of a Rust file or a Cargo project, by what rustc dumps of them, "
-        "and prints their paths. A function that a MIR text can't say gets a line on standard error. Needs rustc 1.95. "
+        "and prints their paths. A function without a MIR text gets a line with the reason on standard error. Needs rustc 1.95. "
         "Status 0: some were written; 2: none was, or refused, all or in part; 3: failed.",
         usage="FILE.rs|FOLDER [FUNCTION ..] [-o FOLDER] [-p PACKAGE] [--edition E] [-- OPTIONS]",
         formatter_class=argparse.HelpFormatter)
@@ -63,7 +63,7 @@ def texts_by_path(asked: argparse.Namespace, room: str, folder: str) -> dict[str
         if one.text:
             texts[f"{path.removesuffix('.mir')}.facts"] = one
         else:
-            print(f"{called('rust')}: {one.dump.name}: there is no MIR text: {one.reason}; by rustc's facts", file=sys.stderr)
+            print(f"{called('rust')}: {one.dump.name}: no MIR text: {one.reason}; rustc's facts answer it", file=sys.stderr)
     return texts
 
 

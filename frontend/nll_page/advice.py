@@ -19,7 +19,7 @@ BY_CODE = {
 # Of what is moved, has no value, or gets a second one.
 MOVES = {
     "E0382": ["borrow it in place of moving it; or ", Code("clone"), " it before; or give it a new value after the move"],
-    "E0381": ["give it a value on each way that leads here"],
+    "E0381": ["give it a value on each path that leads here"],
     "E0384": ["declare it ", Code("mut"), "; or declare another variable"],
 }
 
@@ -54,8 +54,8 @@ def of_loan(content, fault):
     if facts.is_universal(fault.cause.region):
         return ["don’t let the borrow go out of the function: return a copy, an index or a key"]
     use = None if fault.cause.use is None else fault.cause.line(facts)
-    here = fault.place.line if fault.place else None
-    if use is None or here is None or use <= here or fault.against.way in loans.ENDING:
+    here, made = (place.line if place else None for place in (fault.place, fault.loan.place))
+    if use is None or here is None or use <= here or made and made > here or fault.against.way in loans.ENDING:
         return ["end the borrow before; ", IN_THE_WAY]
     clone = "; or clone it, or lend it in place of moving it" if fault.against.way == "moves" else f"; {IN_THE_WAY}"
     return [f"move the use in line {use} above line {here}", clone]

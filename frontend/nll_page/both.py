@@ -1,7 +1,7 @@
 """Two answers side by side: each constraint from its point on, and each of them at all points.
 
-rustc's own solver takes a constraint to hold at all points. What the points buy is what stands in the second
-answer alone.
+rustc's own solver takes a constraint to hold at all points. What is in the second answer alone is precision gained
+by points.
 """
 
 import re
@@ -61,7 +61,7 @@ def both(content):
     rows += [row(place_of(one), "–", sentence(one.head)) for one in only_second]
     return ('<section class="answers" aria-label="Both answers"><h2>Constraints from points on, or at all points</h2>'
             "<p>On the left each constraint holds from a point on. On the right each one holds at all points, as "
-            "rustc’s own solver takes them. What is only on the right is what the points buy.</p>"
+            "rustc’s own solver takes them. Whatever is only on the right is precision gained by points.</p>"
             '<table><thead><tr><td></td><th scope="col">from points on</th><th scope="col">at all points</th></tr>'
             f'</thead><tbody>{"".join(rows)}</tbody></table><p>{regions_words(differing(content))}</p></section>')
 

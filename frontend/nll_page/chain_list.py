@@ -17,17 +17,17 @@ def told(content, fault):
     """The fault in one sentence, by the lines of the source where its chain begins and ends."""
     sup, sub = (sentence(name) for name in names_of(content, fault))
     lines = [line for step in reversed(fault.steps) for line in words.arising(content.facts, [step])]
-    lives = f"What lives for {sup}"
-    unsaid = f"nothing says that {sup} outlives {sub}."
+    lives = f"Data that lives for {sup}"
+    unsaid = f"nothing declares that {sup} outlives {sub}."
     if not lines:
         return unplaced(content) or \
-            f'<p class="told">{lives} is wanted for {sub}; {unsaid}</p>'
+            f'<p class="told">{lives} has to live for {sub}; {unsaid}</p>'
     first, last = lines[0], lines[-1]
     if first == last:
-        return (f'<p class="told">{lives} is wanted for {sub} at '
+        return (f'<p class="told">{lives} has to live for {sub} at '
                 f"{placed(content, last)}; {unsaid}</p>")
-    return (f'<p class="told">{lives} comes in at {placed(content, first)}, and at '
-            f"{placed(content, last)}, it is wanted for {sub}; {unsaid}</p>")
+    return (f'<p class="told">{lives} enters at {placed(content, first)}, and at '
+            f"{placed(content, last)}, it has to live for {sub}; {unsaid}</p>")
 
 
 def names_of(content, fault):
@@ -39,9 +39,16 @@ def names_of(content, fault):
 HEADS = {"help": "rustc’s help", "invariant": "Invariance"}
 
 
-def more_part(told):
-    """What else is said of a fault: where lifetimes without a name stand, variance, and rustc's advice."""
-    return "".join(f'<p class="more">{more_line(sentence(parts))}.</p>' for parts in told.more)
+def more_part(told, advised=()):
+    """What else is said of a fault: where lifetimes without a name stand, variance, and rustc's help."""
+    return "".join(f'<p class="more">{more_line(sentence(parts))}.</p>' for parts in told.more
+                   if not is_advised(parts, advised))
+
+
+def is_advised(parts, advised):
+    """Whether a help is what is advised already, or its code, such as a bound, is there."""
+    codes = [part for part in parts if isinstance(part, words.Code)]
+    return parts[0] == telling.HELP and (parts[1:] == [*advised] or bool(codes) and all(one in advised for one in codes))
 
 
 def more_line(said):
@@ -137,7 +144,7 @@ def step_item(content, step, before, universal):
     """
     facts = content.facts
     sup, sub = step.constraint.sup, step.constraint.sub
-    said = sentence([words.end(facts, universal), " comes to ", words.tick(facts, sup), ". ",
+    said = sentence([words.end(facts, universal), " reaches ", words.tick(facts, sup), ". ",
                      *words.step_sentence(facts, step, universal)])
     return step_part(lights(step, universal), step_line(content, step, before), outlives_words(facts, sup, sub),
                      f"<p>{said}</p>")

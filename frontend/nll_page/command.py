@@ -50,8 +50,8 @@ def content_from(text, asked, most=MOST_POINTS):
 
 def look_small(path, facts, most):
     if facts.points > most:
-        raise Refusal(f"{path} has {facts.points:,} points, and a page of more than {most:,} is no "
-                      "use to anybody; `nllc values` and `nllc check` answer it")
+        raise Refusal(f"{path} has {facts.points:,} points, and a page shows at most {most:,}; "
+                      "`nllc values` and `nllc check` answer it")
 
 
 def explained(facts, values, found, origin):

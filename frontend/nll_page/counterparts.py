@@ -11,10 +11,14 @@ FAR = 3     # the level at which a fault and an error are of the same loan or li
 
 
 def counterpart(content, told):
-    """The error of rustc that a fault is, the nearest one; None where there is none."""
-    found = [(level, number) for number, error in enumerate(content.facts.remarks.beside.rustc)
+    """The error of rustc that a fault is, the nearest one; None where there is none.
+
+    Several functions that use a macro may have errors at one place in it: of these it is the one of the same loan.
+    """
+    found = [(level, isinstance(told.fault, LoanFault) and not is_of_same(content, told.fault, error), number)
+             for number, error in enumerate(content.facts.remarks.beside.rustc)
              if (level := nearness(content, told, error)) is not None]
-    return content.facts.remarks.beside.rustc[min(found)[1]] if found else None
+    return content.facts.remarks.beside.rustc[min(found)[2]] if found else None
 
 
 def nearness(content, told, error):

@@ -12,7 +12,7 @@ def difference_list(content):
                                           for one in moves], "faults") \
         + part("rustc refuses, nllc doesn’t", [item(line, ticked(said), f"nllc: no fault there; {sentence(why)}")
                                                for line, _, said, why in differences(content)]) \
-        + part("rustc refuses, for what nllc doesn’t judge", [item(one.line, ticked(one.words), "nothing here judges this")
+        + part("rustc refuses for a reason that nllc doesn’t check", [item(one.line, ticked(one.words), "nllc doesn’t check this")
                                                               for one in refused(content)])
 
 

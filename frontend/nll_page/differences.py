@@ -1,11 +1,13 @@
 """Where rustc of today refuses a function and `nllc` doesn't: both answers side by side."""
 
 from . import telling
-from .counterparts import FAR, nearness
+from .counterparts import FAR, is_called, nearness, pair_of
+from .facts import grouped
+from .names import is_inner
 from .words import Code
 
-FURTHER = ["rustc names what an error above is of here once more; nllc has no fault on this way, since what is asked at a "
-           "point holds from there on"]
+FURTHER = ["rustc reports the loan or lifetime of an error above once more here; nllc has no fault on this path, since it "
+           "applies a constraint from its statement on"]
 
 
 def differences(content):
@@ -37,15 +39,15 @@ def refused(content):
 def reason(content, error):
     """Why `nllc` has no fault there."""
     if error.is_of_lifetimes():
-        return ["what is asked at a point holds from there on, inside the smaller region; to rustc it holds "
-                "at all points"]
+        return ["nllc applies a constraint from its statement on, inside the smaller region; rustc applies it in the "
+                "whole function"]
     loan = handed_out(content, error.line, error.column)
     if loan:
         return ["problem case 3 of RFC 2094: the loan of ", *telling.where_made(content, loan),
                 " (", Code(f"'{loan.region}"), ") is returned on another path alone; rustc treats it as live "
                 "on this one, too"]
-    return ["the loan isn't live there, since what is asked at a point holds from there on; to rustc it "
-            "holds at all points"]
+    return ["the loan isn't live there, since nllc applies a constraint from its statement on; rustc applies it in the "
+            "whole function"]
 
 
 def handed_out(content, line, column):
@@ -59,3 +61,21 @@ def handed_out(content, line, column):
                 if elements and elements[-1] >= facts.points:
                     return loan
     return None
+
+
+def passed_by(content, line, column):
+    """The region of a variable by way of which a lifetime would come to another, as rustc has it; None without one."""
+    facts = content.facts
+    pair = next((pair for error in facts.remarks.beside.rustc if (error.line, error.column) == (line, column)
+                 and (pair := pair_of(error))), None)
+    first, last = [{region for region in range(facts.universals) if is_called(facts, region, name)} for name in pair or ("", "")]
+    subs, before, found = grouped((one.sup, one.sub) for one in facts.constraints), dict.fromkeys(first), [*first]
+    for region in found:
+        for sub in subs.get(region, ()):
+            if sub not in before:
+                before[sub] = region
+                found.append(sub)
+    way = [region for region in found if region in last][:1]
+    while way and before[way[-1]] is not None:
+        way.append(before[way[-1]])
+    return next((region for region in way[::-1] if not facts.is_universal(region) and not is_inner(facts, region)), None)

@@ -9,7 +9,7 @@ def lines(content):
     facts = content.facts
     for fault in content.faults:
         yield words.plain(words.fault_head(facts, fault.sup, fault.sub)) + ":"
-        yield f"    {words.plain([words.end(facts, fault.sub), ' comes'])}"
+        yield f"    {words.plain([words.end(facts, fault.sub), ' reaches'])}"
         for step in fault.steps:
             yield f"    {words.plain(words.step_brief(facts, step))}"
     for fault in content.loans:

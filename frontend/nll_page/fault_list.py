@@ -15,7 +15,8 @@ def fault_list(content):
 
 def fault_item(content, fault, is_open):
     said = telling.of_fault(content, fault)
+    advised = advice.of_fault(content, fault)
     so = sentence(words.conclusion(content.facts, fault.sup, fault.sub))
     return (f'<details class="fault"{" open" if is_open else ""}><summary>{sentence(said.head)}</summary>'
-            f"{told(content, fault)}{advice_part(advice.of_fault(content, fault))}{more_part(said)}{chain_list(content, fault)}"
+            f"{told(content, fault)}{advice_part(advised)}{more_part(said, advised)}{chain_list(content, fault)}"
             f'<p class="so">{so}</p></details>')

@@ -16,7 +16,7 @@ def head(content, one, error):
     if one.code == "E0384":
         return [what, " is assigned to here, may have a value already, and isn't ", Code("mut")]
     part = " a part of it" if error and "partially" in error.words else " it"
-    by = ["an earlier turn of the loop"] if one.since == [one.point] else \
+    by = ["an earlier iteration of the loop"] if one.since == [one.point] else \
         words.joined([[f"line {line}"] for line in lines_since(content.facts, one, error)], " or ")
     return [what, " is used here, and ", *(by or [EARLIER]), " may have moved", part]
 
@@ -27,12 +27,12 @@ def cause(content, one, error):
     made = words.joined([since(content, line) for line in lines_since(facts, one, error)], " or ")
     walk = walk_words(facts, one)
     if one.code == "E0381":
-        return ["a way leads here on which nothing is assigned to it", *walk]
+        return ["a path leads here on which nothing is assigned to it", *walk]
     if one.code == "E0384":
         given = "argument" in error.words.partition("`")[0] if error else not one.since
         return ["the caller has given it one" if given else "it has one since ",
                 *([] if given else made or [EARLIER]), *walk]
-    return [*(made or [EARLIER]), " moves it, and a way leads from there to here on which it gets no new value", *walk]
+    return [*(made or [EARLIER]), " moves it, and a path leads from there to here on which it gets no new value", *walk]
 
 
 def lines_since(facts, one, error):

@@ -15,7 +15,7 @@ Prints a line of JSON for each text, a facts text or a MIR text: the values of i
 and each fault with its chain of constraints. docs/answer.schema.json describes the line."""
 
 STATUSES = """\
-status 0: no text has a fault; 1: one has; 2: words, a file or a text was refused; 3: nllc gave no answer, or standard
+status 0: no text has a fault; 1: one has; 2: the arguments, a file or a text was refused; 3: nllc gave no answer, or standard
 output can't be written"""
 
 

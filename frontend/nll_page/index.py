@@ -102,13 +102,17 @@ def rows_in(folder):
 def index_page(rows, template, style, older=()):
     """The page of an index, of file names with their rows; older ones come last, under a head of their own."""
     rows = [*rows]
+    shown = [row for _, row in [*rows, *older]]
+    lacks = [f"no-{name}" for name, has in (("line", any(row.line is not None for row in shown)),
+                                            ("rustc", any(row.rustc is not None for row in shown)),
+                                            ("said", any(row.told for row in shown))) if not has]
     sources = by_source(rows)
-    groups = [group(source if 1 < len(sources) < len(rows) else "", its) for source, its in sources.items()]
-    groups += [group("Made before", [*older])] if older else []
+    groups = [(source, its) for source, its in sources.items()] if 1 < len(sources) < len(rows) else [("", rows)]
+    groups += [("Made before", [*older])] if older else []
     parts = {"title": text(title_of([*sources])), "css": style, "verdict": whole_verdict(rows),
              "about": text(plural(len(rows), noun_of(rows))), "noun": noun_of(rows).capitalize(),
-             "icon": icon(whole_kind(rows)),
-             "rows": "".join(groups)}
+             "icon": icon(whole_kind(rows)), "lacks": " ".join(lacks),
+             "rows": "".join(group(*one) for one in groups)}
     return re.sub(r"\{\{(\w+)\}\}", lambda found: parts[found[1]], template)
 
 
@@ -155,17 +159,19 @@ def whole_verdict(rows):
 
 
 def group(head, rows):
-    """The rows of a source, under its name where that tells them apart."""
+    """The rows of a source, under its name where that tells them apart; of equal names each has its file's, too."""
+    names = [row.name for _, row in rows]
     first = f'<tr class="source"><th colspan="6" scope="rowgroup">{text(head)}</th></tr>' if head else ""
-    return f'<tbody>{first}{"".join(row_part(name, row) for name, row in rows)}</tbody>'
+    return f'<tbody>{first}{"".join(row_part(name, row, names.count(row.name) > 1) for name, row in rows)}</tbody>'
 
 
-def row_part(name, row):
+def row_part(name, row, is_twin=False):
     address = text(href(name))
+    file = f' <span class="file">{text(name.removesuffix(".html"))}</span>' if is_twin else ""
     rustc = "–" if row.rustc is None else text(row.rustc)
     line = "" if row.line is None else f'<span class="label">line </span>{row.line}'
     told = "".join(f"<li>{told_part(address, *one)}</li>" for one in row.told)
-    return (f'<tr><th scope="row"><a href="{address}">{text(row.name)}</a></th><td class="number">{line}</td>'
+    return (f'<tr><th scope="row"><a href="{address}">{text(row.name)}</a>{file}</th><td class="number line">{line}</td>'
             f'<td class="answer">{badge(row.kind, row.said)}</td>'
             f'<td class="rustc"><span class="label">rustc: </span>{rustc}</td>'
             f'<td class="said">{f"<ul>{told}</ul>" if told else ""}</td>'

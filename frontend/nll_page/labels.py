@@ -55,7 +55,7 @@ def of_loan(content, fault):
 
 def later(facts, fault):
     deed = "dropped" if fault.cause.is_drop else "used"
-    return f"{deed} in the next turn" if telling.is_later_turn(facts, fault) else f"{deed} here later"
+    return f"{deed} in the next iteration" if telling.is_later_turn(facts, fault) else f"{deed} here later"
 
 
 def outgoing(content, steps):
@@ -77,10 +77,10 @@ def of_fault(content, fault):
     sup, sub = ("".join(name) for name in names_of(content, fault))
     (first, begin), (last, end) = places[0], places[-1]
     if first == last:
-        yield Label(last, "against", f"{sup} is wanted for {sub} here", end)
+        yield Label(last, "against", f"{sup} must outlive {sub} here", end)
     else:
-        yield Label(first, "made", f"{sup} comes in here", begin)
-        yield Label(last, "against", f"{sub} is wanted here", end)
+        yield Label(first, "made", f"{sup} enters here", begin)
+        yield Label(last, "against", f"{sub} is required here", end)
 
 
 # Of an error of moves and assignments what its earlier points did, and what it does itself.

@@ -17,7 +17,7 @@ def loan_list(content):
 
 def loan_item(content, fault, is_open):
     """A loan with its steps, from where its region is needed back to the borrow."""
-    told = telling.of_loan(content, fault)
+    told, advised = telling.of_loan(content, fault), advice.of_loan(content, fault)
     line = f'<a href="#line-{told.place.line}" data-line="{told.place.line}">line {told.place.line}</a>: ' \
         if told.place else ""
     steps = first_step(content, fault)
@@ -28,7 +28,7 @@ def loan_item(content, fault, is_open):
     steps += last_step(content, fault)
     return (f'<details class="fault"{" open" if is_open else ""}>'
             f"<summary>{text(fault.code)}: {sentence(told.head)}</summary>"
-            f'<p class="where">{line}{sentence(told.cause)}.</p>{advice_part(advice.of_loan(content, fault))}{more_part(told)}'
+            f'<p class="where">{line}{sentence(told.cause)}.</p>{advice_part(advised)}{more_part(told, advised)}'
             f'<ol class="chain">{steps}</ol></details>')
 
 

@@ -48,7 +48,7 @@ def find():
     beside = (os.path.join(ROOT, name) for name in ("nllc.sh", *INSTALLED))
     found = next((path for path in beside if os.access(path, os.X_OK)), None) or shutil.which("nllc")
     if not found:
-        raise Refusal("no nllc is found: neither beside the folder frontend/ nor on the PATH; name one "
+        raise Refusal("no nllc is found: neither next to the folder frontend/ nor on the PATH; name one "
                       "by the variable NLLC")
     return found
 
@@ -139,7 +139,7 @@ class Run:
             return
         said = self.err.strip().splitlines()
         if status == 2:
-            raise Refusal(f"nllc refuses the text: {said[-1] if said else 'it says not why'}")
+            raise Refusal(f"nllc refuses the text: {said[-1] if said else 'it gave no reason'}")
         last = said[-1] if said else "it said nothing"
         raise Refusal(f"{shown(self.program)} ended with status {status}: {last}", 3)
 

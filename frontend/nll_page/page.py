@@ -8,7 +8,7 @@ from typing import NamedTuple, Optional
 from . import drawing, layout, lines, words
 from .both import both
 from .difference_list import difference_list
-from .differences import differences, handed_out
+from .differences import differences, handed_out, passed_by
 from .escaping import script_data, text, visible
 from .fault_list import fault_list
 from .icon import icon
@@ -177,14 +177,15 @@ def data(content, found, large=None):
 
 
 def start(content):
-    """What is lit at first: the first step of a fault, or the region of the first loan that is spoken of."""
+    """What is lit at first: the first step of a fault, the region of a loan, or that of a variable."""
     if content.faults:
         return {"step": 0}
-    regions = [fault.loan.region for fault in content.loans]
+    number = content.facts.names.index
+    regions = [number(fault.loan.region) for fault in content.loans]
     for line, column, _, _ in [] if regions else differences(content):
         loan = handed_out(content, line, column)
-        regions += [loan.region] if loan else []
-    return {"region": content.facts.names.index(regions[0])} if regions else {}
+        regions += [number(loan.region) if loan else passed_by(content, line, column)]
+    return next(({"region": region} for region in regions if region is not None), {})
 
 
 def region_data(content, region):

@@ -19,13 +19,13 @@ DEEDS = {"return": "returned", "yield": "yielded", "constant": "used as a consta
          "annotation": "written as a type", "generic": "written as a type", "cast": "cast",
          "object": "made a trait object", "argument": "given as an argument", "bound": "bound by its type",
          "assignment": "assigned", "use": "used", "capture": "captured by a closure",
-         "predicate": "asked by a bound", "opaque": "returned as an impl type"}
+         "predicate": "required by a bound", "opaque": "returned as an impl type"}
 # And what asks for it there.
-ASKERS = {"return": "what is returned here", "yield": "what is yielded here", "constant": "this constant",
-          "annotation": "the type that is written here", "generic": "the type that is written here",
+ASKERS = {"return": "the value returned here", "yield": "the value yielded here", "constant": "this constant",
+          "annotation": "the type written here", "generic": "the type written here",
           "cast": "this cast", "object": "this trait object", "argument": "this call",
           "bound": "a bound of this type", "assignment": "this assignment", "use": "this use",
-          "capture": "what the closure captures here", "predicate": "a bound of what is called here",
+          "capture": "what the closure captures here", "predicate": "a bound of the function called here",
           "opaque": "the impl type of the result"}
 ACTS = {"mut": "borrows as mutable", "unique": "borrows as mutable", "late": "borrows as mutable",
         "shared": "borrows", "moves": "moves", "assigns": "assigns to", "reads": "uses", "looks": "looks at"}
@@ -37,7 +37,7 @@ PATH = re.compile(r"\**[A-Za-z_]\w*(?:\.\w+)*")
 
 DROPPED = re.compile(r"drop\((\w+)")
 DESTRUCTOR = re.compile(r"here, drop of `(.*)` needs exclusive access to `(.*)`, because the type `(.*)` implements")
-EARLIER = "in an earlier turn of the loop"
+EARLIER = "in an earlier iteration of the loop"
 MOST_HELPS = 2
 
 # What takes a borrow that is made at a statement, by the statements of MIR.
@@ -50,6 +50,7 @@ OPERATORS = {"Deref": ["its type's ", Code("Deref")], "DerefMut": ["its type's "
              "Index": ["an index"], "IndexMut": ["an index"]}
 MOST_STATEMENTS = 12
 HELP = "help: "
+INVOCATION = "in this macro invocation"
 
 
 class Telling(NamedTuple):
@@ -70,10 +71,10 @@ def of_fault(content, fault, further=()):
     told = Telling(place_of_fault(content.facts, fault, named), "", [], [], fault)
     error = counterpart(content, told)
     lifetimes = Lifetimes(content, fault, error)
-    asker = f": {ASKERS[named.word]} needs it" if named and named.word in ASKERS else ""
+    asker = f": {ASKERS[named.word]} requires it" if named and named.word in ASKERS else ""
     shorter = [lifetimes.name(one.sub) for one in (fault, *further)]
     head = [*lifetimes.name(fault.sup), " must outlive ", *words.joined(shorter),
-            ", which the signature doesn't say", asker]
+            ", but the signature doesn't declare it", asker]
     more = [lifetimes.places(fault.sup, *(one.sub for one in (fault, *further))), *notes(content, fault, error)]
     return told._replace(head=head, cause=way_of(content, fault, lifetimes), more=list(filter(None, more)),
                          within=within(told, error))
@@ -99,8 +100,15 @@ def is_of_rustc(content, fault):
 def notes(content, fault, error):
     """Why no other lifetime will do, and what rustc advises; where it advises nothing, the usual ways out."""
     why = [["invariant: ", *words.ticked("; ".join(error.notes))]] if error and error.notes else []
+    why += used_macro(content, error) if error else []
     helps = [words.ticked(one) for one in error.helps[:MOST_HELPS]] if error else []
     return why + [[HELP, *one] for one in helps or [advice.of(content, fault)]]
+
+
+def used_macro(content, error):
+    """Where a macro of the same file is used, in whose lines an error is."""
+    lines = [label.place.line for label in error.labels if label.words == INVOCATION]
+    return [[f"{INVOCATION}: ", *line_stop(content, line)] for line in lines]
 
 
 def place_of_fault(facts, fault, named):
@@ -116,8 +124,8 @@ def way_of(content, fault, lifetimes):
     stops = stops_of(content, fault.steps[::-1])
     name = lifetimes.name(fault.sup)
     if not stops:
-        return [*name, " is asked to by constraints that no line of the source is known for"]
-    return ["what lives for ", *name, " comes to ", *lifetimes.name(fault.sub), " by ",
+        return ["no line of the source is known for the constraints that require it"]
+    return ["data that lives for ", *name, " flows into ", *lifetimes.name(fault.sub), " at ",
             *words.joined(stops)]
 
 
@@ -199,7 +207,7 @@ def path_head(content, fault, path):
     done = [Code(path), " ", SUFFERED[fault.against.way], ", and "]
     if loan.kind == "fake":
         return [*done, "the ", Code("match"), " is looking at it"]
-    by = ["an earlier turn of the loop"] if is_of_earlier_turn(fault) else where_made(content, loan)
+    by = ["an earlier iteration of the loop"] if is_of_earlier_turn(fault) else where_made(content, loan, fault.place)
     return [*done, *by, f" has borrowed it{as_mutable(loan)}"]
 
 
@@ -211,7 +219,7 @@ def deed_head(content, fault, code, what):
         return [*does, "the ", Code("match"), " is looking at"]
     if is_of_earlier_turn(fault):
         return [*does, f"it has borrowed{as_mutable(loan)} {EARLIER}"]
-    return [*does, *where_made(content, loan), f" has borrowed{as_mutable(loan)}"]
+    return [*does, *where_made(content, loan, fault.place), f" has borrowed{as_mutable(loan)}"]
 
 
 def act(way, what):
@@ -267,7 +275,7 @@ def loan_cause(content, fault, lifetimes):
     here = line_of(facts, fault.against)
     holds = [" is live: its region ", region, " holds ",
              f"line {here}" if here is not None else f"point {fault.against.point}"]
-    return ["the loan of ", *where_made(content, loan), *made_by(content, loan), *holds, ", since ",
+    return ["the loan of ", *where_made(content, loan, fault.place), *made_by(content, loan), *holds, ", since ",
             *since(content, fault, lifetimes)]
 
 
@@ -318,7 +326,7 @@ def since(content, fault, lifetimes=None):
         return ["it is in the type of a variable that is used later"]
     line = cause.line(facts)
     deed = drop_words(facts, cause.use) if cause.is_drop else [" uses it"]
-    later = " in a later turn of the loop" if is_later_turn(facts, fault) else ""
+    later = " in a later iteration of the loop" if is_later_turn(facts, fault) else ""
     if line is None:
         return [f"point {cause.use}", *deed, later]
     if line == line_of(facts, fault.against):
@@ -342,10 +350,12 @@ def is_later_turn(facts, fault):
         and fault.cause.use in chains.ways_to(facts, range(facts.points), [fault.against.point])
 
 
-def where_made(content, loan):
-    """The line of a borrow; of one that a macro makes, no more than that."""
+def where_made(content, loan, here=None):
+    """The line of a borrow, with its column where this place is of the same line; of one that a macro makes, no more
+    than that."""
     line = loan.place.line if loan.place else content.facts.remarks.point(loan.at).line
-    return [f"line {line}"] if line is not None else ["a macro"]
+    column = f":{loan.place.column}" if loan.place and here and here.line == line and loan.place.column else ""
+    return [f"line {line}{column}"] if line is not None else ["a macro"]
 
 
 def line_of(facts, against):

@@ -26,8 +26,8 @@ FOLDER = os.path.join("out", "pages")
 ABOUT = """\
 Writes a page of each text, a facts text or a MIR text (docs/FORMATS.md), and an index.html of all pages of
 the folder; prints their paths. The values are those of the nllc that is found: the program in the variable NLLC,
-nllc.sh beside the folder frontend/, or the nllc on the PATH. The problem of a MIR text is told by
-frontend/world_program.rattle, a small program over the proved reader, which is compiled for about a minute at
+nllc.sh next to the folder frontend/, or the nllc on the PATH. The problem of a MIR text comes from
+frontend/world_program.rattle, a small program over the proved reader. It is compiled for about a minute at
 the first such page."""
 
 STATUSES = """\

@@ -27,7 +27,7 @@ def verdict_of(content):
     if not is_refused and other:
         said = "rustc refuses, nllc doesn’t"
     elif not is_refused and unjudged:
-        said = "rustc refuses, for what nllc doesn’t judge"
+        said = "rustc refuses for a reason that nllc doesn’t check"
     if content.everywhere is not None:
         said += f" · {counted(len(content.everywhere.faults), len(content.everywhere.loans))} at all points"
     return Verdict(kind, said, answer_of_rustc(content))

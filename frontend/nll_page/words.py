@@ -53,7 +53,7 @@ def plural(count, noun):
 
 def fault_head(facts, sup, sub):
     return [tick(facts, sup), " must outlive ", tick(facts, sub),
-            ", which the signature doesn't say"]
+            ", but the signature doesn't declare it"]
 
 
 def spans(elements):
@@ -124,7 +124,7 @@ def beginning(facts, universal):
 
 
 def step_head(facts, step, universal):
-    return [end(facts, universal), " comes to ", tick(facts, step.constraint.sup)]
+    return [end(facts, universal), " reaches ", tick(facts, step.constraint.sup)]
 
 
 def region_words(facts, region, most=90):
@@ -206,14 +206,5 @@ def walk_text(facts, points, most=7):
 
 
 def conclusion(facts, sup, sub):
-    """What the end in the value means, and what would make it known."""
-    said = [facts.remarks.region(facts.names[region]).text for region in (sup, sub)]
-    so = ["So ", tick(facts, sup), " would have to last as long as ", tick(facts, sub),
-          ", whatever the caller chooses. "]
-    if any("around this closure" in text for text in said):
-        return [*so, "A closure may need that: it is the function around it that has to keep it."]
-    names = ["with names in place of ", tick(facts, sup), " and ", tick(facts, sub), ", "] \
-        if any("without a name" in text for text in said) else []
-    wish = Code(f"where '{facts.names[sup]}: '{facts.names[sub]}")
-    return [*so, "The signature may ask that of its callers, ", *names, "by ", wish,
-            "; it doesn't."]
+    """What the end in the value means."""
+    return ["So ", tick(facts, sup), " would have to last as long as ", tick(facts, sub), ", whatever the caller chooses."]

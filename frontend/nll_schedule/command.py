@@ -46,13 +46,13 @@ def words_of(arguments):
     parser.add_argument("facts", metavar="FILE", help="a facts text or a MIR text")
     parser.add_argument("schedule", metavar="SCHEDULE", help="a schedule of its owners")
     parser.add_argument("--owners", metavar="N", type=int, choices=range(1, MOST_OWNERS + 1),
-                        help="how many owners there are (otherwise as many as the schedule names)")
+                        help="number of owners (default: as many as the schedule names)")
     dealing = parser.add_mutually_exclusive_group()
     dealing.add_argument("--deal", choices=("round", "blocks"),
-                         help="regions go to the owners in turns (as otherwise), or in blocks")
+                         help="assign regions round-robin (the default), or in blocks")
     dealing.add_argument("--cut", metavar="FILE", help="a cut file, which lists the owner of each region")
     parser.add_argument("-o", metavar="OUT.html", dest="out",
-                        help="the page (otherwise SCHEDULE with .html behind it)")
+                        help="the page (default: SCHEDULE with .html appended)")
     parser.add_argument("--open", action="store_true", help="open the page in the browser")
     return parser.parse_args(arguments)
 
@@ -115,5 +115,5 @@ def look_small_problem(path, facts):
 def look_small(path, count, most, noun):
     """Refuses what is too large for a page."""
     if count > most:
-        raise Refusal(f"{path} has {count:,} {noun}, and a page of more than {most:,} is no use to "
-                      "anybody; `nllc replay` answers it")
+        raise Refusal(f"{path} has {count:,} {noun}, and a page shows at most {most:,}; "
+                      "`nllc replay` answers it")

@@ -60,7 +60,7 @@ class Content:
             return f"a base element, entered at event {self.came[owner, one]}"
         names = [f"{telling.constraint_name(self.facts, number)} by {telling.walk_name(self.facts, walk)}"
                  for number, walk in asked]
-        return f"since event {self.came[owner, one]}, asked for by {' and '.join(names)}"
+        return f"since event {self.came[owner, one]}, required by {' and '.join(names)}"
 
     def reads(self, owner, region):
         """Whether an owner keeps a copy of a region of another one."""

@@ -92,7 +92,7 @@ def reading_words(content, reading):
     sup, sub, at = facts.constraints[reading.constraint]
     named = [Link(reading.constraint), ": "]
     if not reading.reached:
-        return [*named, "it asks for nothing yet, since walks begin at ", Code(facts.point_name(at)), ", which ",
+        return [*named, "it requires nothing yet, since walks begin at ", Code(facts.point_name(at)), ", which ",
                 tick(facts, sub), " lacks."]
     has = [tick(facts, sub), " has "] if at == ALL else ["inside ", tick(facts, sub), " walks reach "]
     reached = [*named, *has, Code(telling.elements_name(facts, reading.reached))]
@@ -145,11 +145,11 @@ def asked_words(content, owner, one):
 
 
 def way_words(facts, constraint, walk):
-    """By which walk a constraint asks for a growth, or that it asks for all that its smaller region has."""
+    """By which walk a constraint asks for a growth, or that it requires all that its smaller region has."""
     sub = tick(facts, constraint.sub)
     if constraint.at == ALL:
-        return [" asks for all that ", sub, " has"]
-    return [" asks for it, by the walk ", Code(telling.walk_name(facts, walk)), " inside ", sub]
+        return [" requires all that ", sub, " has"]
+    return [" requires it, by the walk ", Code(telling.walk_name(facts, walk)), " inside ", sub]
 
 
 # Constraints

@@ -20,8 +20,8 @@ TEMPLATES = os.path.join(os.path.dirname(os.path.abspath(__file__)), "templates"
 MOST_EDGES = 60     # of more edges none is written out
 
 
-def page(content):
-    """The whole page, as one text."""
+def page(content, index=""):
+    """The whole page, as one text; with the page of all pages, a link back to it."""
     run = content.run
     return fill("schedule.html", {
         "title": text(name_of(content)),
@@ -29,7 +29,7 @@ def page(content):
         "css": region_page.compact(region_page.template("look.css") + template("schedule.css")),
         "js": region_page.compact(template("schedule.js")),
         "name": text(name_of(content)),
-        "about": about(content),
+        "about": (f'<a class="back" href="./{text(index)}">‹ all pages</a>' if index else "") + about(content),
         "last": str(len(run.states) - 1),
         "balances": balances(run),
         "events": event_list(content),
@@ -88,7 +88,7 @@ def provenance(content):
     rest = "nothing else of this page is proved" if content.standing == PROVED else \
         "nothing that this page says beyond them is proved"
     return (f"States from <code>{text(content.origin)}</code>, {standing}. "
-            f'<span class="hint">Made by <code>nll-schedule</code>; {rest}.</span>')
+            f'<span class="hint">Made by <code>frontend/nll_schedule</code>; {rest}.</span>')
 
 
 def data(run):

@@ -44,7 +44,7 @@ def run(words):
             out = process.stdout.read(MOST_BYTES + 1)
             if len(out) > MOST_BYTES:
                 process.kill()
-                raise Refusal("the states take more than 64 MiB; a page of so many is no use to anybody")
+                raise Refusal("the states take more than 64 MiB: too many for a page")
             said = process.stderr.read().decode("utf-8", "replace").strip().splitlines()
     except OSError as error:
         raise Refusal(f"{path} can't be run: {error.strerror}", 3) from None

@@ -48,7 +48,7 @@ def reasons(facts, seat, growth):
             if walk:
                 found.append(Asked(number, walk))
     if not found:
-        raise Broken(f"nothing asks for element {growth.element} of region {growth.region}")
+        raise Broken(f"nothing requires element {growth.element} of region {growth.region}")
     return found
 
 

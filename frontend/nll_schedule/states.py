@@ -139,7 +139,7 @@ class Reader:
     def add_seat(self, number, loaded, item, place):
         seats = self.states[-1].seats
         if int(number) != len(seats) or item not in ("nothing", "fresh", "owed"):
-            raise Broken(f"seat {number} stands out of order")
+            raise Broken(f"seat {number} is out of order")
         self.seat = Seat(loaded == "loaded", item, place == "left")
         seats.append(self.seat)
 

@@ -36,7 +36,26 @@ def wait_part(content):
                 parts += waits(content, reader, sender, places)
     for owner in range(owners):
         parts += node(content, owner, places[owner])
-    return "".join(parts) + "</svg>"
+    return "".join(parts) + "</svg>" + wait_words(content)
+
+
+def wait_words(content):
+    """The same in words, one sentence for each run of states."""
+    return "".join(f"<p {attributes(span)}>{text(said)}</p>"
+                   for said, span in values(content.run.states, lambda state: said_of(content, state)))
+
+
+def said_of(content, state):
+    """Which owners wait, and for which."""
+    owners = range(content.run.owners)
+    said = [f"owner {reader} waits for " + " and ".join(f"owner {one}" for one in senders)
+            for reader in owners if is_waiting(content, state, reader)
+            and (senders := [one for one in owners if content.tells(one, reader)])]
+    return f"{'; '.join(said) or 'nobody waits'}.".capitalize()
+
+
+def is_waiting(content, state, reader):
+    return state.balance > 0 and standing(content, state, reader) == "waiting"
 
 
 def place(number, owners, ring):
@@ -80,10 +99,7 @@ def messages(content, sender, reader, places):
 
 def waits(content, reader, sender, places):
     """A dashed arrow from an owner that waits to one that may still tell it something."""
-    def is_waiting(state):
-        return state.balance > 0 and standing(content, state, reader) == "waiting"
-
-    for waiting, span in values(content.run.states, is_waiting):
+    for waiting, span in values(content.run.states, lambda state: is_waiting(content, state, reader)):
         if waiting:
             yield (f'<g class="wait" {attributes(span)}><title>owner {reader} waits for owner {sender}</title>'
                    f"{arrow(places[reader], places[sender])}</g>")

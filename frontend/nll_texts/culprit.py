@@ -70,13 +70,13 @@ def at(token, why):
 def syntax(line, tokens, before, is_mir):
     other = re.search(r"[^ \t\r]", TOKEN.sub(lambda found: " " * len(found[0]), line))
     if other:
-        return Culprit(other.start() + 1, f"`{other[0]}` is of no token")
+        return Culprit(other.start() + 1, f"`{other[0]}` is part of no token")
     form = form_of(tokens[0][0], is_mir)
     if not form:
         known = ", ".join(MIR if is_mir else FACTS)
-        return at(tokens[0], f"begins no line; those that do are {known}" + (", or a place" if is_mir else ""))
+        return at(tokens[0], f"begins no line; a line begins with {known}" + (", or a place" if is_mir else ""))
     if not is_mir and fits(tokens):
-        return at(tokens[0], f"stands out of order: {FACTS_ORDER}")
+        return at(tokens[0], f"is out of order: {FACTS_ORDER}")
     if not is_mir:
         return at(tokens[0], f"lines are written {form}")
     return at(tokens[0], f"begins a line that isn't written {form}, or is out of order: {MIR_ORDER}")
@@ -131,7 +131,7 @@ def duplicate(_, tokens, before, __):
 def out_of_range(_, tokens, before, is_mir):
     first = tokens[0][0]
     if first in ("points", "blocks"):
-        return at(tokens[1], f"is too few: there is one of the {first} at least")
+        return at(tokens[1], f"is too few: at least one of the {first} is needed")
     if not is_mir:
         return first_above(tokens[1:], "", before.points, "point")
     if first == "let":

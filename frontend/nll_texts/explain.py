@@ -18,7 +18,7 @@ from .culprit import culprit
 
 ABOUT = """\
 Says of each text that `nllc check` refuses which line and token is wrong, and why; of each other text, what `check`
-says. Status 0: no fault; 1: faults; 2: a text or the words were refused; 3: failed."""
+says. Status 0: no fault; 1: faults; 2: a text or the arguments were refused; 3: failed."""
 
 REFUSED = re.compile(r"nllc: line (\d+): (.*)")
 OF_NO_LINE = {"nllc: limit constraints": "limit constraints: all lines together ask for more constraints than the "

@@ -43,7 +43,7 @@ MIR_ORDER = ("`universal`, `outlives`, `region`, `assert`, `struct` and `let` li
 KINDS = {
     "not utf-8": "the line isn't UTF-8",
     "header": "line 1 has to be `nll-facts 1`, `nll-facts 2`, `nll-mir 1` or `nll-mir 2`",
-    "syntax": "the line has none of the forms, or stands out of order",
+    "syntax": "the line has none of the forms, or is out of order",
     "unknown": "a name that no earlier line declares",
     "duplicate": "a name that is declared already",
     "range": "a number that isn't allowed in its place",

@@ -203,7 +203,7 @@ def read_answer(status, text, file, module=""):
 def take(answer, line, column, code, words, following):
     """Takes in a line that has a place, with the one below it."""
     of_rustc = OF_RUSTC.fullmatch(words)
-    if "names no error there" in words:
+    if "reports no error there" in words:
         answer.doubted.append((line, column))
     elif of_rustc and "nllc: no fault there" in words:
         answer.denied.append(Row(line, column, of_rustc[1] or ""))

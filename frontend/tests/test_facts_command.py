@@ -88,7 +88,7 @@ class Refused(Room):
 
     def test_no_such_file(self):
         done = support.run(*FACTS, self.path("none.rs"), "-o", self.path("o"))
-        self.refused(done, "none.rs is no file that can be read; give the path of a Rust file")
+        self.refused(done, "none.rs isn't a readable file; give the path of a Rust file")
 
     def test_types_that_do_not_fit(self):
         done = self.convert('fn f() -> u8 {\n    "a"\n}\n')
@@ -137,11 +137,11 @@ class Refused(Room):
 
     def test_a_rustc_that_compiles_nothing(self):
         done = self.convert("fn f() {}\n", env=os.environ | {"RUSTC": shutil.which("true")})
-        self.refused(done, "true says that all is well, but has compiled nothing: is it rustc?")
+        self.refused(done, "true reports success but has compiled nothing: is it rustc?")
 
     def test_unknown_flags(self):
         done = self.convert("fn f() {}\n", "--", "-Znone-such")
-        self.refused(done, "doesn't take what it was given")
+        self.refused(done, "doesn't accept its arguments")
 
     def test_folder_that_cannot_be_made(self):
         done = support.run(*FACTS, self.write("a.rs", "fn f() {}\n"), "-o", self.path("a.rs", "o"))
@@ -156,7 +156,7 @@ class Refused(Room):
         self.refused(self.convert("fn f() {}\n", "-p", "one"), "is a file, and -p is for projects")
         done = support.run(*FACTS, os.path.join(support.ROOT, "examples", "shelf"), "--edition", "2024", "-o",
                            self.path("o"))
-        self.refused(done, "a project says its edition itself: leave out --edition")
+        self.refused(done, "a project states its own edition: leave out --edition")
 
 
 @needs_known
@@ -184,9 +184,9 @@ class OneCommand(Room):
         into, out = self.line("differ", "        r = y;"), self.line("differ", "    r // holds: r")
         self.assertEqual(done.stdout.splitlines(), [
             "longer: 1 fault",
-            f"  sources/differ.rs:{out}:5: `'b` must outlive `'a`, which the signature doesn't say: what is "
-            "returned here needs it",
-            f"      what lives for `'b` comes to `'a` by line {into} (assigned: `r = y`) and line {out} "
+            f"  sources/differ.rs:{out}:5: `'b` must outlive `'a`, but the signature doesn't declare it: the value "
+            "returned here requires it",
+            f"      data that lives for `'b` flows into `'a` at line {into} (assigned: `r = y`) and line {out} "
             "(returned: `r`)",
             "      help: consider adding the following bound: `'b: 'a`",
             f"pages: {self.path('o', 'index.html')}"])
@@ -207,6 +207,26 @@ pub fn keeps<'a>(list: &mut Vec<&'a str>, text: &'a str) {
     keep(text);
 }
 """
+
+    def test_a_macro_of_the_same_file_and_a_loan_of_the_same_line(self):
+        path = self.write("a.rs", """macro_rules! push { ($v:expr) => { $v.push(1) } }
+pub fn first(v: &mut Vec<u8>) -> u8 { let a = &v[0]; push!(v); *a }
+pub fn second(v: &mut Vec<u8>) -> u8 {
+    let a = &v[0];
+    push!(v);
+    *a
+}
+pub fn third(v: &mut Vec<u8>) -> u8 { let a = &v[0]; v.push(1); *a }
+""")
+        said = self.rust(path).stdout
+        lines = [line.strip() for line in said.splitlines() if "macro" in line or "has borrowed" in line or "help" in line]
+        ways_out = "help: end the borrow before; or clone what is needed; or keep an index or a key in place of the reference"
+        self.assertEqual(lines, [
+            f"{path}:1:36: E0502: `$v.push(1)` borrows `*v` as mutable, which line 2 has borrowed",
+            "in this macro invocation: line 2 (`pub fn first(v: &mut Vec<u8>) -> u8 { let a = & ..`)", ways_out,
+            f"{path}:1:36: E0502: `$v.push(1)` borrows `*v` as mutable, which line 4 has borrowed",
+            "in this macro invocation: line 5 (`push!(v);`)", ways_out,
+            f"{path}:8:54: E0502: `v.push(1)` borrows `*v` as mutable, which line 8:48 has borrowed", ways_out])
 
     def test_loan_in_two_lines_and_step_by_step(self):
         path = self.write("a.rs", self.LOANS)
@@ -264,7 +284,7 @@ pub fn keeps<'a>(list: &mut Vec<&'a str>, text: &'a str) {
         self.assertEqual(done.returncode, 1)
         self.assertEqual(done.stdout.splitlines()[:5], [
             "f: 1 move error", f"  {path}:3:5: E0382: `text` is used here, and line 2 may have moved it",
-            "      line 2 (`drop(text);`) moves it, and a way leads from there to here on which it gets no new value",
+            "      line 2 (`drop(text);`) moves it, and a path leads from there to here on which it gets no new value",
             "      help: consider cloning the value if the performance cost is acceptable: `drop(text.clone());`",
             "no fault: g"])
 
@@ -318,7 +338,7 @@ pub fn keeps<'a>(list: &mut Vec<&'a str>, text: &'a str) {
     def test_refusal(self):
         done = self.rust("none.rs")
         self.assertEqual(done.returncode, 2)
-        self.assertEqual(done.stderr, "nllc.sh rust: none.rs is no file that can be read; "
+        self.assertEqual(done.stderr, "nllc.sh rust: none.rs isn't a readable file; "
                          "give the path of a Rust file\n")
 
 

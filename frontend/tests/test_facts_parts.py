@@ -198,7 +198,7 @@ class Limits(unittest.TestCase):
 
     def test_named_lifetimes(self):
         self.problem(255).check_limits()
-        with self.assertRaisesRegex(Refusal, "f: 257 named lifetimes, and nllc takes 256; cut"):
+        with self.assertRaisesRegex(Refusal, "f: 257 named lifetimes, and nllc takes at most 256; split"):
             self.problem(256).check_limits()
 
 

@@ -1,6 +1,7 @@
 """The gallery: its cards, and the command that makes it."""
 
 import io
+import json
 import os
 import re
 import shutil
@@ -13,6 +14,7 @@ from unittest import mock
 import page_support
 from test_page_glance import LOAN, SOURCE, content_of
 
+from nll_facts.rustc import version
 from nll_gallery import cards, command
 from nll_gallery.cards import Shown
 from nll_page.page import SCRIPTS, compact, template
@@ -69,6 +71,16 @@ class Kept(unittest.TestCase):
                     self.assertTrue(style in made and script in made)
 
 
+    def test_links(self):
+        """Each page is linked from the gallery's own, and links back to it."""
+        folder = os.path.join(page_support.ROOT, "docs", "gallery")
+        whole = page_support.file_bytes(os.path.join(folder, "index.html")).decode()
+        names = sorted(name for name in os.listdir(folder) if name != "index.html")
+        self.assertEqual(sorted({*re.findall(r'href="\./([^"#]*)', whole)}), names)
+        for name in names:
+            self.assertIn('<a class="back" href="./index.html">', page_support.file_bytes(os.path.join(folder, name)).decode())
+
+
 class Command(unittest.TestCase):
     def run_main(self, *words, **environment):
         out, err = io.StringIO(), io.StringIO()
@@ -84,17 +96,40 @@ class Command(unittest.TestCase):
         self.assertIn("usage: frontend/run gallery", err)
 
     @unittest.skipUnless(shutil.which("rustc"), "no rustc")
+    def test_the_kept_gallery_is_today_s(self):
+        """docs/gallery is what the command makes, but for what made the answers; else run `frontend/run gallery`."""
+        kept = os.path.join(page_support.ROOT, "docs", "gallery")
+        if f"rustc {version().split()[1]}" not in page_support.file_bytes(os.path.join(kept, "index.html")).decode():
+            self.skipTest("docs/gallery is of another rustc")
+        with tempfile.TemporaryDirectory() as folder:
+            self.assertEqual(self.run_main(folder, NLLC=QUICK, WORLD_PROGRAM=SLOW)[0], 0)
+            self.assertEqual(sorted(os.listdir(folder)), sorted(os.listdir(kept)))
+            for name in os.listdir(folder):
+                with self.subTest(name=name):
+                    made, there = (self.settled(page_support.file_bytes(os.path.join(where, name)).decode())
+                                   for where in (folder, kept))
+                    self.assertTrue(made == there)
+
+    def settled(self, page):
+        """A page without its foot, and with its constraints in order: they are a set."""
+        return re.sub(r'"constraints":(\[\[.*?\]\])', lambda found: str(sorted(json.loads(found[1]))),
+                      re.sub(r"<footer>.*?</footer>", "", page))
+
+    @unittest.skipUnless(shutil.which("rustc"), "no rustc")
     def test_one_file_one_text_and_one_schedule(self):
         with tempfile.TemporaryDirectory() as folder, \
-                mock.patch.multiple(command, FILES={"variance": "Variance"}, MIR_TEXTS={"drop": "A drop."},
+                mock.patch.multiple(command, FILES={"variance": "Variance"}, MIR_TEXTS={"drop": ("w", "A drop.")},
                                     SCHEDULES={"each_other": "Two owners."}):
             status, out, err = self.run_main(folder, NLLC=QUICK, WORLD_PROGRAM=SLOW)
             self.assertEqual((status, out, err), (0, os.path.join(folder, "index.html") + "\n", ""))
             made = sorted(os.listdir(folder))
             with open(os.path.join(folder, "index.html"), encoding="utf-8") as file:
                 whole = file.read()
+            with open(os.path.join(folder, "each_other.schedule.html"), encoding="utf-8") as file:
+                self.assertIn('<a class="back" href="./index.html">', file.read())
         self.assertIn("cell_is_invariant.html", made)
-        self.assertEqual(sorted({*re.findall(r'href="\./([^"]*)"', whole), "index.html"}), made)
+        self.assertEqual(sorted({*re.findall(r'href="\./([^"#]*)', whole), "index.html"}), made)
+        self.assertIn('href="./drop.mir.html#region=w"', whole)
         self.assertEqual(whole.count('class="card faulty"'), 3)
 
 

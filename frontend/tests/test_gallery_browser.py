@@ -54,9 +54,9 @@ class Gallery(unittest.TestCase):
             self.assertEqual(shown.probe("faint", LEAST_CONTRAST), [], scheme)
 
     def alone(self, shown):
-        """The page asks for nothing but itself."""
-        asked = shown.value("performance.getEntriesByType('resource').map((one) => one.name)")
-        self.assertEqual([name for name in asked if not name.startswith("data:")], [])
+        """The page loads itself and nothing else."""
+        self.assertEqual([url for url in shown.asked_for() if not url.startswith("data:")],
+                         [shown.value("location.href")])
 
     def test_with_noto(self):
         self.views("noto", self.contrast)
@@ -66,10 +66,11 @@ class Gallery(unittest.TestCase):
 
     def test_a_phone_s_first_view(self):
         with devtools.Browser() as browser:
-            for name in PAGES[::4] + ["index.html", "late_hole.schedule.html"]:
+            for name in PAGES:
                 shown = browser.open(os.path.join(GALLERY, name), 390, 844)
                 with self.subTest(name=name):
                     self.letters(shown)
+                    self.assertEqual(shown.probe("overlapping"), [])
                 shown.close()
 
 
@@ -150,6 +151,15 @@ class Controls(unittest.TestCase):
                 self.assertEqual(shown.value("chosen.region"), region)
         self.assertTrue(shown.value("chosen.isFirst"))
 
+    def test_a_key_that_is_held(self):
+        """It adds to the history where it begins and where it is let go."""
+        shown = self.opened("found_or_inserted.html")
+        shown.key("Escape")
+        before = shown.value("history.length")
+        shown.hold("]", 5)
+        self.assertEqual(shown.value("[chosen.region, history.length]"), [5, before + 2])
+        self.assertEqual(shown.value("location.hash"), "#region=" + shown.value("data.regions[5].name"))
+
     def test_a_link_to_a_line(self):
         shown = self.opened("kept_and_used_later.html", address="#line=20")
         self.assertTrue(shown.value("byId('line-20').open"))
@@ -183,6 +193,11 @@ class Controls(unittest.TestCase):
         shown.value("byId('lists-divider').focus()")
         shown.key("ArrowLeft")
         self.assertAlmostEqual(shown.value(width), before + 36, delta=2)
+        graph = "byId('graph-pane').getBoundingClientRect().width"
+        before = shown.value(graph)
+        shown.value("byId('graph-divider').focus()")
+        shown.key("ArrowLeft")
+        self.assertAlmostEqual(shown.value(graph), before + 24, delta=2)
 
     def test_a_phone(self):
         """The source comes second; what is chosen covers the foot only after a choice, and is closed by its button."""
@@ -190,6 +205,9 @@ class Controls(unittest.TestCase):
         tops = shown.value("['#faults', '#text-pane', '#regions-part', '#graph-pane'].map("
                            "(one) => document.querySelector(one).getBoundingClientRect().top)")
         self.assertEqual(tops, sorted(tops))
+        shown.resize(768, 900)
+        self.assertEqual(shown.probe("overlapping"), [])
+        shown.resize(390, 844)
         self.assertEqual(shown.value("probe.nodes('.chosen').length"), 0)
         shown.value("chooseRegion(2)")
         self.assertEqual(shown.value("probe.nodes('.chosen').length"), 1)
@@ -212,19 +230,79 @@ class Controls(unittest.TestCase):
         self.assertTrue(all(above[1] <= below[0] for above, below in zip(boxes, boxes[1:])), boxes)
         self.assertTrue(all(width > 700 for _, _, width in boxes), boxes)
         self.assertEqual(shown.value("probe.nodes('.tools, .zoom, .views, .divider, #save').length"), 0)
+        self.assertEqual(shown.probe("overlapping"), [])
+        self.assertEqual(shown.value("probe.nodes('.pane, .scroll').filter((one) => one.scrollHeight > one.clientHeight + 1)"
+                                     ".map((one) => one.id)"), [])
+
+    def test_keys(self):
+        """Each key of the legend, and what is chosen after it."""
+        shown = self.opened("found_or_inserted.html")
+        shown.key("Escape")
+        for key, wanted in (("]", [0, None]), ("]", [1, None]), ("[", [0, None]), ("n", [0, 0]), ("Escape", [None, None])):
+            shown.key(key)
+            self.assertEqual(shown.value("[chosen.region, chosen.element]"), wanted, key)
+        shown.value("chooseRegion(2)")
+        runs = shown.value("data.regions[2].holds.map(([first]) => first)")
+        for key, wanted in (("n", runs[0]), ("n", runs[1]), ("p", runs[0])):
+            shown.key(key)
+            self.assertEqual(shown.value("chosen.element"), wanted)
+        shown.value("zoomTo(1)")
+        for key, wanted in (("+", 1.25), ("-", 1), ("-", 0.8), ("0", 1)):
+            shown.key(key)
+            self.assertAlmostEqual(shown.value("scale"), wanted)
+        for view in ("folded", "statements"):
+            shown.key("f")
+            self.assertEqual(shown.value("document.body.dataset.view"), view)
+        shown.key("?", shift=True)
+        self.assertTrue(shown.value("byId('help').open"))
+        shown.key("Escape")
+        self.assertFalse(shown.value("byId('help').open"))
+        shown.key("/")
+        shown.key("x")
+        self.assertEqual(shown.value("byId('filter').value"), "x")
+        self.assertEqual(shown.complaints(), [])
 
     def test_a_schedule_plays(self):
+        """An event at each tick of the clock, up to the last one; a choice stops it."""
         shown = self.opened("late_hole.schedule.html")
+        shown.value("{ window.ticks = []; window.setInterval = (act) => ticks.push(act);"
+                    " window.clearInterval = () => ticks.pop(); }")
+        label = "byId('play').getAttribute('aria-label')"
         shown.click("#play")
-        self.assertEqual(shown.value("byId('play').getAttribute('aria-label')"), "Stop")
-        shown.value("new Promise((done) => setTimeout(done, 2100))")
-        self.assertGreaterEqual(shown.value("now"), 1)
+        self.assertEqual(shown.value(f"[{label}, ticks.length, now]"), ["Stop", 1, 0])
+        self.assertEqual(shown.value("ticks[0](), ticks[0](), now"), 2)
         shown.click("#play")
-        at = shown.value("now")
-        shown.value("new Promise((done) => setTimeout(done, 1100))")
-        self.assertEqual(shown.value("now"), at)
+        self.assertEqual(shown.value(f"[{label}, ticks.length, now]"), ["Play", 0, 2])
+        shown.click("#play")
+        shown.value("while (ticks.length) ticks[0]()")
+        self.assertEqual(shown.value(f"[{label}, now === last]"), ["Play", True])
+        shown.key(" ")
+        self.assertEqual(shown.value("[ticks.length, now]"), [1, 0])
+        shown.key("ArrowRight")
+        self.assertEqual(shown.value("[ticks.length, now]"), [0, 1])
+
+    def test_the_events_of_a_schedule(self):
+        """The slider, a row of the list, and the keys come to the same event."""
+        shown = self.opened("late_hole.schedule.html")
+        for act in ("byId('slider').value = 3; byId('slider').dispatchEvent(new Event('input'))",
+                    "all('#events a')[3].click()"):
+            shown.value("choose(0)")
+            shown.value(act)
+            self.assertEqual(shown.value("[now, location.hash, byId('where').textContent]"), [3, "#event=3", "3"])
         shown.key("End")
-        self.assertEqual(shown.value("now"), shown.value("last"))
+        self.assertTrue(shown.value("now === last"))
+        shown.key("ArrowLeft")
+        self.assertTrue(shown.value("now === last - 1"))
+
+    def test_who_waits_for_whom(self):
+        """What is drawn is said, too; `not now` has its reason at the event."""
+        shown = self.opened("each_other.schedule.html", address="#event=18")
+        self.assertEqual(shown.value("probe.nodes('.waiting > p').map((one) => one.textContent)"), ["Owner 0 waits for owner 1."])
+        self.assertEqual(shown.value("probe.nodes('.wait').map((one) => one.querySelector('title').textContent)"), ["owner 0 waits for owner 1"])
+        shown.key("Home")
+        self.assertEqual(shown.value("probe.nodes('.waiting > p').map((one) => one.textContent)"), ["Nobody waits."])
+        self.assertEqual(shown.value("probe.nodes('#events .why').map((one) => one.textContent)[0]"),
+                         "The box from owner 1 to owner 0 is empty.")
 
 
 if __name__ == "__main__":

@@ -84,7 +84,7 @@ class Moves(unittest.TestCase):
         [one] = telling.all_of(content)
         self.assertEqual([telling.words.plain(one.head), telling.words.plain(one.cause)], [
             "`text` is used here, and line 20 may have moved it",
-            "line 20 (`drop(text);`) moves it, and a way leads from there to here on which it gets no new value "
+            "line 20 (`drop(text);`) moves it, and a path leads from there to here on which it gets no new value "
             "(by lines 20, 21, 22)"])
 
 
@@ -161,7 +161,7 @@ class Differences(unittest.TestCase):
     def test_a_constraint_holds_from_its_point_on(self):
         [(line, _, why)] = self.told("last")
         self.assertEqual(line, 14)
-        self.assertIn("what is asked at a point holds from there on", why)
+        self.assertIn("nllc applies a constraint from its statement on", why)
 
     def test_where_both_refuse(self):
         content = content_of(support.golden_text("differ", "longer"))

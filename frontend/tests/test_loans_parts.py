@@ -234,7 +234,7 @@ class Loans(unittest.TestCase):
                                "# against 0, 1:9-1:11, mut: 0", "# point 0: line 1: y = &mut a").loans
         told = telling.of_loan(self.content(), fault)
         self.assertEqual(telling.words.plain(told.head), "`&a` borrows `a` as mutable, which it has borrowed as "
-                         "mutable in an earlier turn of the loop")
+                         "mutable in an earlier iteration of the loop")
 
     def test_what_a_loan_must_outlive(self):
         lines = ("universal 'a", "universal 'r7", "universal 'c", "region 'x", "return 0", "# loan 0: 'x at 0, 1:9-1:11, mut of a")
@@ -322,8 +322,8 @@ class Lifetimes(unittest.TestCase):
             "# help: consider this: `fn f<'a>()`")
         values = quick_values(facts)
         [one] = telling.all_of(Content(facts, values, [Fault(1, 2, chains.chain(facts, values, 1, 2))], "TEXT", source, "", ""))
-        self.assertEqual(telling.words.plain(one.head), "`'1` must outlive `'2`, which the signature doesn't say: "
-                         "this call needs it")
+        self.assertEqual(telling.words.plain(one.head), "`'1` must outlive `'2`, but the signature doesn't declare it: "
+                         "this call requires it")
         self.assertEqual([telling.words.plain(line) for line in one.more],
                          ["line 1 with names: `fn f(list: &mut Vec<&u8>, one: &'1 u8, all: &mut Names<'_>) {`; "
                           "the type of `all` is `Names<'2>`",
@@ -338,8 +338,8 @@ class Lifetimes(unittest.TestCase):
         values = quick_values(facts)
         faults = [Fault(1, sub, chains.chain(facts, values, 1, sub)) for sub in (2, 3)]
         [one] = telling.all_of(Content(facts, values, faults, "TEXT", SOURCE, "", ""))
-        self.assertEqual(telling.words.plain(one.head), "`'a` must outlive `'c` and `'b`, which the signature doesn't "
-                         "say: this call needs it")
+        self.assertEqual(telling.words.plain(one.head), "`'a` must outlive `'c` and `'b`, but the signature doesn't "
+                         "declare it: this call requires it")
 
     def test_names_in_a_line(self):
         place = loans.Place(1, 8, 1, 10)

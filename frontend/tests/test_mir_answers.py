@@ -67,7 +67,7 @@ class Texts(unittest.TestCase):
             self.assertEqual(done.returncode, 0)
 
     def test_refused(self):
-        for words, said in ((["nothing.rs"], "nothing.rs is no file that can be read; give the path of a Rust file"),
+        for words, said in ((["nothing.rs"], "nothing.rs isn't a readable file; give the path of a Rust file"),
                             (["examples"], "examples is in no Cargo project: give a Rust file, or the folder of a package"),
                             (["examples/running.mir"], "examples/running.mir is a MIR text, not a Rust file")):
             done = run("mir", *words)

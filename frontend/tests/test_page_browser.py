@@ -1,6 +1,7 @@
 """Pages in a headless Chromium, where there is one: at many widths, and of many points."""
 
 import os
+import re
 import shutil
 import sys
 import tempfile
@@ -8,6 +9,7 @@ import unittest
 from unittest import mock
 
 from page_support import EXAMPLES, SAMPLES, file_bytes, solved
+from test_page_glance import LOAN, SOURCE, content_of as loan_content
 
 sys.path.insert(0, os.path.join(os.path.dirname(os.path.abspath(__file__)), "browser"))
 
@@ -24,7 +26,6 @@ from nll_page.source import Source  # noqa: E402
 from nll_page.values import Values  # noqa: E402
 
 WIDTHS = (320, 414, 768, 1280, 1920)
-MOST_SECONDS = 2.0
 OVERFLOWING = """[...document.querySelectorAll("html, main, .lists, .fault, .step, .chosen, table")]
     .filter((one) => one.scrollWidth > one.clientWidth && one.getClientRects().length > 0)
     .map((one) => one.className || one.localName)"""
@@ -51,9 +52,9 @@ def long_words():
     return content_of(read, values, Source(f"{name}.rs", 1, [f"{name}({name});"]))
 
 
-def large():
-    """20,000 points, and values as they may be: what each region is live at, and its own end."""
-    facts = read_facts(facts_text(20_000, 1).encode(), "TEXT")
+def large(points=20_000):
+    """So many points, and values as they may be: what each region is live at, and its own end."""
+    facts = read_facts(facts_text(points, 1).encode(), "TEXT")
     rows = [sorted(bases) for bases in facts.bases]
     for region in range(facts.universals):
         rows[region] = [*range(facts.points), facts.end_of(region)]
@@ -106,6 +107,19 @@ class Browser(unittest.TestCase):
             shown.value(choice)
             self.assertEqual(shown.value("scrollY"), 0, choice)
 
+    def test_the_labels_of_a_long_function_are_in_sight(self):
+        def moved(found):
+            return f"{found[1]}{int(found[2]) + 150}{found[3]}"
+
+        lines = [re.sub(r"([ -])(\d+)(:\d)", moved, re.sub(r"(line )(\d+)(:)", moved, line)) for line in LOAN]
+        content = loan_content(*lines, source=[*SOURCE[:2], *["    step();"] * 150, *SOURCE[2:-1], *["    step();"] * 99, "}"])
+        path = self.write("long.html", page(content))
+        for width, height in ((1400, 900), (1000, 800), (768, 900), (390, 844)):
+            shown = self.browser.open(path, width, height)
+            self.assertEqual(shown.value("all('#source .label').map((one) => isInside(one, byId('source')))"), [True] * 3, width)
+            self.assertEqual(shown.value("scrollY"), 0)
+            shown.close()
+
     def test_hovering_shows_what_a_click_fixes(self):
         shown = self.browser.open(self.write("pick.html", page(sample())), 1440, 900)
         shown.value("clear()")
@@ -127,11 +141,9 @@ class Browser(unittest.TestCase):
         return shown.value(lit)
 
     def test_20_000_points(self):
-        """The main thread's own time: what else the machine does is not the page's."""
-        path = self.write("large.html", page(large()))
-        shown = self.browser.open(path, 1440, 900, metrics=True)
-        shown.value("document.body.getBoundingClientRect().height")
-        self.assertLess(shown.seconds(), MOST_SECONDS)
+        """Few nodes are made at first, on which its time depends (`opening.py` measures it); the others are there in time."""
+        shown = self.browser.open(self.write("large.html", page(large())), 1440, 900)
+        self.assertLess(shown.value("document.getElementsByTagName('*').length"), 20_000)
         self.assertTrue(shown.value("probe.inSight(\"#graph .cell[data-p='0']\")"))
         region = shown.value("data.regions.length - 1")
         shown.value(f"chooseRegion({region})")
@@ -149,8 +161,8 @@ class Browser(unittest.TestCase):
         said = []
         for name, made in (("small.html", small), ("large.html", as_large)):
             shown = self.browser.open(self.write(name, made), 1440, 900)
-            shown.value("setView('folded'); setTab('points'); for (const one of all('details')) one.open = true;")
-            shown.value("new Promise((done) => setTimeout(done, 50))")
+            shown.value("setView('folded'); setTab('points'); Promise.all(all('details:not([open])').map((one) => "
+                        "new Promise((done) => { one.addEventListener('toggle', done, { once: true }); one.open = true; })))")
             shown.value("chooseRegion(3)")
             said.append((shown.value("byId('points').innerText"),
                          shown.value("all('.line').map((one) => one.textContent).join()"),

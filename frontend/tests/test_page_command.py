@@ -49,8 +49,8 @@ class Commands(Folder):
         status, out, err = self.run_main(self.path("pick.facts"))
         self.assertEqual((status, out.splitlines(), err), (0, [self.path("pick.html"), self.path("index.html")], ""))
         page = self.page()
-        self.assertIn("<code>&#x27;b</code> must outlive <code>&#x27;a</code>, which the signature "
-                      "doesn&#x27;t say", page)
+        self.assertIn("<code>&#x27;b</code> must outlive <code>&#x27;a</code>, but the signature "
+                      "doesn&#x27;t declare it", page)
         self.assertIn('data-walk="6,7,8"', page)
         self.assertIn('id="line-7"', page)       # the source, by the text's own remark
         self.assertNotIn("next_one", page)       # and of it this function alone
@@ -77,15 +77,15 @@ class Commands(Folder):
     # is the one that is left where the caller can promise neither.
     def test_faults_in_words(self):
         self.assertEqual(self.answered()["lines"], [
-            f"{self.folder}/pick.rs:7: `'b` must outlive `'a`, which the signature doesn't say",
-            "    what lives for `'b` comes to `'a` by line 7 (`best = second;`) and line 9 (`best`)",
+            f"{self.folder}/pick.rs:7: `'b` must outlive `'a`, but the signature doesn't declare it",
+            "    data that lives for `'b` flows into `'a` at line 7 (`best = second;`) and line 9 (`best`)",
             "    help: consider adding the bound `'b: 'a` to the signature; or write `'a` in place of `'b`; "
             "or return an owned value"])
 
     def test_faults_step_by_step(self):
         self.assertEqual(self.answered()["explained"], [
-            "`'b` must outlive `'a`, which the signature doesn't say:",
-            "    `end('a)` comes",
+            "`'b` must outlive `'a`, but the signature doesn't declare it:",
+            "    `end('a)` reaches",
             "    to `'best`, the type of best: after `_0 = copy best` (line 9), inside `'a` by 8",
             "    to `'b`, 'b of the signature: after `best = copy second` (line 7), inside `'best` "
             "by 6 → 7 → 8"])

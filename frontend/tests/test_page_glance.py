@@ -91,11 +91,19 @@ class Labels(unittest.TestCase):
     def test_the_loan_is_lit_at_first(self):
         self.assertEqual(start(content_of(*LOAN)), {"region": 1})
 
+    def test_the_variable_is_lit_at_first(self):
+        """Where rustc alone has one lifetime come to another: the first variable on the way."""
+        refused = ["# rustc 3:5: lifetime may not live long enough", "# label 3:5-3:9: `'b` must outlive `'a`"]
+        content = with_fault(*FOLDED, *refused)._replace(faults=[])
+        self.assertEqual(start(content), {"region": content.facts.names.index("r4")})
+        content = with_fault(*FOLDED, refused[0])._replace(faults=[])
+        self.assertEqual(start(content), {})
+
     def test_a_fault(self):
         content = with_fault(*FOLDED)
         found = labels.labels_of(content)
         self.assertEqual([(line, one.words) for line, its in sorted(found.items()) for one in its],
-                         [(2, "'b comes in here"), (3, "'a is wanted here")])
+                         [(2, "'b enters here"), (3, "'a is required here")])
         self.assertEqual(start(content), {"step": 0})
 
     def test_where_rustc_alone_refuses(self):
@@ -115,10 +123,10 @@ class Labels(unittest.TestCase):
     def test_moves_of_a_text_without_errors_of_rustc(self):
         for gone, said in (
                 ("E0382 of a, by 1 2 3: 1", ("`a` is used here, and line 3 may have moved it", "line 3 (`let a = &mut v;`) moves it, and "
-                                             "a way leads from there to here on which it gets no new value (by lines 3, 4, 5)")),
+                                             "a path leads from there to here on which it gets no new value (by lines 3, 4, 5)")),
                 ("E0382 of a, by 3:", ("`a` is used here, and an earlier statement may have moved it", "an earlier statement moves it, "
-                                       "and a way leads from there to here on which it gets no new value")),
-                ("E0381 of a, by 0 3:", ("`a` is used here, and may have no value yet", "a way leads here on which nothing is assigned "
+                                       "and a path leads from there to here on which it gets no new value")),
+                ("E0381 of a, by 0 3:", ("`a` is used here, and may have no value yet", "a path leads here on which nothing is assigned "
                                          "to it")),
                 ("E0384 of a, by 3: 1", ("`a` is assigned to here, may have a value already, and isn't `mut`",
                                          "it has one since line 3 (`let a = &mut v;`)")),
@@ -197,6 +205,14 @@ class More(unittest.TestCase):
                          ["<b>rustc’s help</b>: consider <code>&#x27;a</code>.",
                           "<b>Invariance</b>: behind <code>&amp;mut</code>.", "Line 3 with names: <code>x</code>."])
 
+    def test_help_that_is_advised_already(self):
+        """rustc's help is there once, and nothing is taken for rustc's that it doesn't say."""
+        for helps, shown in (("", 0), ("# help: consider adding the following bound: `'b: 'a`", 0),
+                             ("# help: consider `'static`", 1)):
+            content = with_fault("# rustc 3:5: lifetime may not live long enough", *[helps] * bool(helps), *FOLDED)
+            self.assertEqual(fault_list(content).count("rustc’s help"), shown, helps)
+        self.assertNotIn("rustc’s help", loan_list(content_of(*LOAN)))
+
     def test_a_region_that_outlives_the_function(self):
         self.assertIn("<code>&#x27;a</code> holds line 4: it outlives the function.", loan_list(content_of(*OUTGOING)))
 
@@ -210,6 +226,14 @@ class Heads(unittest.TestCase):
     def test_what_a_row_says(self):
         row = index.row_of(content_of(*LOAN), "grow")
         self.assertEqual((row.line, row.kind, row.said, row.told[0][0]), (2, "faulty", "1 loan error", 4))
+
+    def test_rows_without_lines_and_with_equal_names(self):
+        row = index.Row("last", "a.facts", None, 1, 1, 0, None)
+        rows = [("a.html", row), ("b.html", row._replace(source="b.facts")), ("c.html", row._replace(name="c", source="c.facts"))]
+        made = index.index_page(rows, "{{lacks}}{{rows}}", "")
+        self.assertTrue(made.startswith("no-line no-rustc no-said<tbody>"))
+        self.assertEqual(re.findall(r'<span class="file">(.*?)<', made), ["a", "b"])
+        self.assertTrue(index.index_page([("a.html", row._replace(line=3, rustc="E0499", told=[[3, "x"]]))], "{{lacks}}|", "").startswith("|"))
 
     def test_title_and_icon(self):
         content = content_of(*LOAN)

@@ -92,8 +92,8 @@ class Lines(unittest.TestCase):
     def test_the_fault(self):
         made = fault_list(self.content)
         self.assertEqual("".join(bare(re.search(r'<p class="told">.*?</p>', made)[0])),
-                         "What lives for &#x27;b comes in at line 7, best = second, and at line 9, best, it "
-                         "is wanted for &#x27;a; nothing says that &#x27;b outlives &#x27;a.")
+                         "Data that lives for &#x27;b enters at line 7, best = second, and at line 9, best, it "
+                         "has to live for &#x27;a; nothing declares that &#x27;b outlives &#x27;a.")
         self.assertIn('<a href="#line-7" data-line="7">', made)
 
     def test_steps_from_the_cause_to_the_end(self):
@@ -109,7 +109,7 @@ class Lines(unittest.TestCase):
                                     "constraint 'a 'static 1"))
         fault = Fault(1, 0, chain(facts, values, 1, 0))
         said = "".join(bare(told(content(facts, values, [fault], Source("x.rs", 3, ["x // out"])), fault)))
-        self.assertEqual(said, "What lives for &#x27;a is wanted for &#x27;static at line 3, x; nothing says "
+        self.assertEqual(said, "Data that lives for &#x27;a has to live for &#x27;static at line 3, x; nothing declares "
                                "that &#x27;a outlives &#x27;static.")
 
 

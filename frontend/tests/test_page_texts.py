@@ -117,11 +117,11 @@ class Index(Command):
         self.assertEqual(re.findall(r'<a href="\./([^"]*)"', made),
                          ["drop.mir.html", "pick.html", "pick.html#line=7"])
         rows = dict(index.rows_in(self.path("pages")))
-        said = [7, "`'b` must outlive `'a`, which the signature doesn't say"]
+        said = [7, "`'b` must outlive `'a`, but the signature doesn't declare it"]
         self.assertEqual(rows["pick.html"], ("pick", self.path("pick.rs"), 4, 9, 4, 1, None, "faulty", "1 fault",
                                              None, [said], True))
         self.assertIsNone(rows["drop.mir.html"].line)
-        self.assertIn(">line 7</a>: <code>&#x27;b</code> must outlive <code>&#x27;a</code>, which", made)
+        self.assertIn(">line 7</a>: <code>&#x27;b</code> must outlive <code>&#x27;a</code>, but", made)
         self.assertIn("2 pages", made)
 
     def test_pages_of_an_earlier_run_come_last(self):

@@ -16,7 +16,7 @@ class Sentences(unittest.TestCase):
 
     def test_the_fault(self):
         self.assertEqual(plain(words.fault_head(self.facts, 2, 1)),
-                         "`'b` must outlive `'a`, which the signature doesn't say")
+                         "`'b` must outlive `'a`, but the signature doesn't declare it")
 
     def test_each_step(self):
         self.assertEqual([plain(words.step_sentence(self.facts, step, 1)) for step in self.steps], [
@@ -30,18 +30,10 @@ class Sentences(unittest.TestCase):
             "returns, and on to "
             "`end('a)`, which `'best` holds; so `'b` holds it too."])
 
-    def test_what_would_make_it_known(self):
-        def said(remark):
-            facts = facts_of(1, f"# region 'a: {remark}", "universal 'a", "universal 'b")
-            return plain(words.conclusion(facts, 1, 2)).partition("chooses. ")[2]
-
-        self.assertEqual(said("'a of the signature"), "The signature may ask that of its callers, "
-                         "by `where 'a: 'b`; it doesn't.")
-        self.assertEqual(said("a lifetime of the signature without a name"),
-                         "The signature may ask that of its callers, with names in place of `'a` "
-                         "and `'b`, by `where 'a: 'b`; it doesn't.")
-        self.assertEqual(said("'a of the function around this closure"),
-                         "A closure may need that: it is the function around it that has to keep it.")
+    def test_what_it_means(self):
+        facts = facts_of(1, "universal 'a", "universal 'b")
+        self.assertEqual(plain(words.conclusion(facts, 1, 2)),
+                         "So `'a` would have to last as long as `'b`, whatever the caller chooses.")
 
     def test_the_lines(self):
         self.assertEqual(words.arising(self.facts, self.steps), [7, 9])

@@ -68,7 +68,7 @@ class OnePackage(Project):
         self.write("a/src/lib.rs", "")
         done = self.rust("a", ".")
         self.assertEqual((done.returncode, done.stdout), (2, ""))
-        self.assertIn("/a: mend what it says above", done.stderr)
+        self.assertIn("/a: fix the errors above", done.stderr)
 
 
 @needs_known
@@ -89,9 +89,9 @@ class Workspace(Project):
         self.assertEqual(done.returncode, 1, done.stderr)
         self.assertEqual(self.lines(done), [
             "two::bad: 1 fault",
-            "  ws/two/src/main.rs:5:5: `'a` must outlive `'static`, which the signature doesn't say: what is returned here "
-            "needs it",
-            "      what lives for `'a` comes to `'static` by line 5 (returned: `x`)",
+            "  ws/two/src/main.rs:5:5: `'a` must outlive `'static`, but the signature doesn't declare it: the value returned here "
+            "requires it",
+            "      data that lives for `'a` flows into `'static` at line 5 (returned: `x`)",
             "      help: ask for `'static` in the signature; or pass an owned value",
             "two::worse: 1 loan error",
             "  ws/two/src/main.rs:9:5: E0506: `x = 3` assigns to `x`, which line 8 has borrowed",

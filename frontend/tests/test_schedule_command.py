@@ -123,12 +123,12 @@ class Commands(unittest.TestCase):
         self.refused("can't be run", self.facts, self.schedule, world="none", status=3)
         self.program("other", f'"{sys.executable}" "{REFERENCE}" "$1" "$2" {self.facts} "$4"')
         other = self.write("other.facts", example("each_other")[0].replace(b"base '1 0", b"base '1 1"))
-        self.refused("don't follow from .*other.facts: nothing asks for element", other, self.schedule,
+        self.refused("don't follow from .*other.facts: nothing requires element", other, self.schedule,
                      world="other", status=3)
 
     def test_what_is_too_large(self):
         large = self.write("large.facts", text(250))
-        self.refused("has 251 elements, and a page of more than 200", large, self.schedule)
+        self.refused("has 251 elements, and a page shows at most 200", large, self.schedule)
         many = self.write("many.facts", text(1, *(f"region '{n}" for n in range(70))))
         self.refused("has 71 regions", many, self.schedule)
         long = self.write("long.schedule", schedule(*["load 0"] * 2001))

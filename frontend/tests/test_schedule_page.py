@@ -147,6 +147,12 @@ class Waits(unittest.TestCase):
     def test_the_one_that_it_waits_for_is_not_loaded(self):
         self.assertEqual(self.at("late_hole", 12)[0], "owner 1 waits for owner 0")
 
+    def test_in_words(self):
+        for name, number, wanted in (("each_other", 0, "Nobody waits."), ("each_other", 18, "Owner 0 waits for owner 1."),
+                                     ("each_other", 26, "Nobody waits."), ("late_hole", 12, "Owner 1 waits for owner 0.")):
+            found = re.findall(r'<p data-from="(\d+)"(?: data-to="(\d+)")?>([^<]*)</p>', wait_part(example_content(name)))
+            self.assertEqual([said for first, end, said in found if int(first) <= number < int(end or 10 ** 9)], [wanted])
+
     def test_too_many_owners(self):
         content = content_of(text(1, "return 0"), schedule(), 17)
         self.assertEqual(wait_part(content), '<p class="none">17 owners, too many for a picture.</p>')
@@ -197,7 +203,7 @@ class Pages(unittest.TestCase):
     def test_a_taken_growth_leads_to_its_constraint(self):
         part = event_part(example_content("each_other"), 18)
         self.assertIn("Owner 0 has it since event 13: <a class=\"to\" href=\"#constraint-0\"", part)
-        self.assertIn("asks for it, by the walk <code>0 → 1</code> inside <code>&#x27;2</code>", part)
+        self.assertIn("requires it, by the walk <code>0 → 1</code> inside <code>&#x27;2</code>", part)
 
     def test_spans(self):
         """A growth moves from part to part of its lane."""

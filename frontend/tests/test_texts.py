@@ -98,15 +98,15 @@ class Answering(Texts):
 class Explain(Texts):
     ROWS = (
         (HEAD + "region 'x\nnext 1 3\nend\n", "4:8: range: `3` is no point: points are 0 to 2\n    next 1 3"),
-        ("nll-facts 1\npoints 0\n", "2:8: range: `0` is too few: there is one of the points at least\n    points 0"),
+        ("nll-facts 1\npoints 0\n", "2:8: range: `0` is too few: at least one of the points is needed\n    points 0"),
         (HEAD + "region 'x\nregion 'x\n", "4:8: duplicate: `'x` is declared already, in line 3\n    region 'x"),
         (HEAD + "region 'static\n", "3:8: duplicate: `'static` is declared already, from the start\n    region 'static"),
         (HEAD + "  base 'y 0\n", "3:8: unknown: `'y` is no region that an earlier line declares\n    base 'y 0"),
         (HEAD + "base 'x\n", "3:1: syntax: `base` lines are written base 'x P\n    base 'x"),
-        (HEAD + "end;\n", "3:4: syntax: `;` is of no token\n    end;"),
-        (HEAD + "points 3\n", "3:1: syntax: `points` stands out of order: one `points` line, then `universal`, `outlives` and "
+        (HEAD + "end;\n", "3:4: syntax: `;` is part of no token\n    end;"),
+        (HEAD + "points 3\n", "3:1: syntax: `points` is out of order: one `points` line, then `universal`, `outlives` and "
          "`region` lines, then all others, then `end`\n    points 3"),
-        (HEAD + "bas 'x 0\n", "3:1: syntax: `bas` begins no line; those that do are points, universal, outlives, region, next, "
+        (HEAD + "bas 'x 0\n", "3:1: syntax: `bas` begins no line; a line begins with points, universal, outlives, region, next, "
          "return, base, constraint, end\n    bas 'x 0"),
         (HEAD, "2: end: the text stops before its `end` line\n    points 3"),
         ("fn f\n", "1: header: line 1 has to be `nll-facts 1`, `nll-facts 2`, `nll-mir 1` or `nll-mir 2`\n    fn f"),

@@ -69,7 +69,7 @@ class Words(Wrapper):
             self.assertTrue(done.stdout.startswith(f"usage: nllc.sh {word} "), done.stdout)
         done = self.run_script("help", "chek")
         self.assertEqual((done.returncode, done.stdout), (2, ""))
-        self.assertEqual(done.stderr, "nllc.sh: there is no word chek; nllc.sh help names all\n")
+        self.assertEqual(done.stderr, "nllc.sh: there is no command chek; nllc.sh help names all\n")
 
     def test_no_words(self):
         done = self.run_script()
@@ -80,14 +80,14 @@ class Words(Wrapper):
     def test_a_word_that_is_none(self):
         done = self.run_script("chek", "F")
         self.assertEqual((done.returncode, done.stdout), (2, ""))
-        self.assertEqual(done.stderr, "usage: nllc\nnllc.sh: there is no word chek; besides those there are rust, facts, "
+        self.assertEqual(done.stderr, "usage: nllc\nnllc.sh: there is no command chek; further commands are rust, facts, "
                                       "mir, page, json, schedule, explain, help and version\n")
 
     def test_a_word_too_many(self):
         for word in ("--version", "version", "--prove", "--built", "--which"):
             done = self.run_script(word, "x")
             self.assertEqual((done.returncode, done.stdout, done.stderr),
-                             (2, "", f"nllc.sh: {word} takes no other word\n"))
+                             (2, "", f"nllc.sh: {word} takes no argument\n"))
 
     def test_nowhere_to_write(self):
         for word in ("--help", "--version"):
@@ -107,6 +107,23 @@ class Words(Wrapper):
             done = self.run_script(*words)
             self.assertEqual((done.returncode, done.stdout, done.stderr), (0, f"own words: {' '.join(words)}\n", ""))
 
+    def test_wrong_values(self):
+        """What the program certainly refuses comes back with a line that says what is wrong."""
+        self.program("crates/nllc/out/nllc", "#!/bin/sh\necho usage: nllc >&2\nexit 2\n")
+        for words, said in ((("check", "F", "--owners", "65"), "--owners takes a number from 1 to 64, not 65"),
+                            (("values", "F", "--owners=0"), "--owners takes a number from 1 to 64, not 0"),
+                            (("check", "F", "--owners"), "--owners needs a value"),
+                            (("check", "F", "--mail=post"), "--mail takes queue or ring, not post"),
+                            (("check", "F", "--owners", "2", "--owners=3"), "--owners is given twice"),
+                            (("check", "F", "--cut", "C", "--deal", "round"), "--deal and --cut don't go together"),
+                            (("check", "F", "--schedule", "S"), "check has no --schedule"),
+                            (("replay", "F"), "replay needs one FILE, and --schedule FILE"),
+                            (("replay", "F", "--schedule", "S", "--mail", "ring"), "replay has no --mail")):
+            with self.subTest(words=words):
+                done = self.run_script(*words)
+                self.assertEqual((done.returncode, done.stdout, done.stderr),
+                                 (2, "", f"usage: nllc\nnllc.sh {words[0]}: {said}\n"))
+
     def test_a_hyphen_is_standard_input(self):
         for words in (("check", "-"), ("values", "--owners", "2", "-")):
             done = self.run_script(*words, input="a text")
@@ -115,7 +132,7 @@ class Words(Wrapper):
     def test_its_name_is_the_one_that_was_called(self):
         os.symlink(self.path("nllc.sh"), self.path("nllc"))
         done = self.run_script("--version", "x", script="nllc")
-        self.assertEqual(done.stderr, "nllc: --version takes no other word\n")
+        self.assertEqual(done.stderr, "nllc: --version takes no argument\n")
         self.assertTrue(self.run_script("page", "--help", script="nllc").stdout.startswith("usage: nllc page "))
 
     def test_the_program_of_the_variable(self):

@@ -17,8 +17,11 @@ REFUSED = ("behind the others", "in force", "goes against", "handed out", "want 
 # Of comments also: scratch space; in prose; separated by; follows; the error says.
 REFUSED_IN_COMMENTS = (*REFUSED, "for its own use", "the same in words", "parted by", "stands behind", "error tells",
                        "No effect at run time")
-# Of messages also: return; give; conflict with; with.
-REFUSED_IN_MESSAGES = (*REFUSED, "hand out", "hands out", "hand in", "handed in", "go against", "beside the figures")
+# Of messages also: return; give; conflict with; with; follow; is out of; gave no reason; shows at most; fix; data that
+# lives for; required; by default.
+REFUSED_IN_MESSAGES = (*REFUSED, "hand out", "hands out", "hand in", "handed in", "go against", "beside the figures",
+                       "may stand", "stands out of", "not why", "no use to anybody", "mend what", "What lives for", "what lives for",
+                       "is wanted for", "unless told")
 # A comment that begins so leaves its reader to search for what it is like: "Like `f`, but ..".
 REFUSED_BEGINNING = re.compile(r"[Tt]he same(?=[,.]| (?:as|but|by|for|in|of|where|with)\b)")
 COMMENT = {".rt": re.compile(r"\s*//[/!]? ?(.*)"), ".antt": re.compile(r"\s*-- ?(.*)")}

@@ -123,10 +123,23 @@ class Reading(unittest.TestCase):
     def test_calls_of_the_walks(self):
         """A call that is named with its file stands there, in some crate."""
         text = re.sub(r"\s+", " ", self.text)
-        for call, file in re.findall(r"`(?:\w+::)?((?!nll)[a-z]\w+)` (?:of `nll\w*` )?\(`(\w+\.rt)`", text):
+        for call, file in re.findall(r"`(?:\w+::)?((?!nll)[a-z]\w+)` (?:of `nll\w*` )?\(\[?`(\w+\.rt)`", text):
             with self.subTest(call=call, file=file):
                 found = [path.read_text() for path in (ROOT / "crates").glob(f"*/src/{file}")]
                 self.assertTrue(any(re.search(rf"\bfn {call}\b", one) for one in found))
+
+
+    def test_links_of_the_walks(self):
+        """A file that is named is linked, to a file of that name; a call that is named with it stands there."""
+        text = re.sub(r"\s+", " ", self.text)
+        for name, path in re.findall(r"\[`([\w/.-]+)`\]\(\.\./([\w/.-]+)\)", text):
+            with self.subTest(name=name):
+                self.assertTrue((ROOT / path).is_file() and f"/{path}".endswith(f"/{name}"))
+        linked = re.findall(r"`(?:\w+::)?((?!nll)[a-z]\w+)` (?:of `nll\w*` )?\(\[`\w+\.rt`\]\(\.\./([\w/.-]+)\)", text)
+        self.assertGreater(len(linked), 30)
+        for call, path in linked:
+            with self.subTest(call=call, path=path):
+                self.assertRegex((ROOT / path).read_text(), rf"\bfn {call}\b")
 
 
 def table(text, head):

@@ -67,6 +67,7 @@ function firstView(graph) {
   const first = firstBox() || graph.svg.querySelector(".box .frame")?.getBoundingClientRect();
   if (!first) return;
   const left = first.x - pane.getBoundingClientRect().x;
+  if (left + first.width <= pane.clientWidth) return;
   pane.scrollLeft = Math.min(left - 8, left + first.width / 2 - pane.clientWidth / 2 + 4);
 }
 

@@ -15,7 +15,7 @@ function rove(members, member) {
 }
 
 // Whether the parts stand one below the other, so that the document scrolls and not they alone.
-const isDocument = () => matchMedia("(max-width: 720px)").matches;
+const isDocument = () => matchMedia("(max-width: 860px)").matches;
 
 function focusOn(place) {
   if (!place) return;
@@ -87,9 +87,18 @@ function actOf(event) {
   return event.target.matches("input") ? null : keys[event.key] || null;
 }
 
+let isHeld = false;
+
 document.addEventListener("keydown", (event) => {
   const act = actOf(event);
   if (!act) return;
+  isHeld = event.repeat;
   act();
   event.preventDefault();
+});
+
+document.addEventListener("keyup", () => {
+  if (!isHeld) return;
+  isHeld = false;
+  remember();
 });

@@ -33,8 +33,9 @@ function nextTheme() {
 let isRecalling = false;
 
 // Writes what is chosen into the address, so that a link can point at it, and Back leads to what was chosen before.
+// While a key is held down, what it passes by is left out.
 function remember() {
-  if (isRecalling) return;
+  if (isRecalling || isHeld) return;
   const words = new URLSearchParams();
   if (chosen.region !== null) words.set("region", data.regions[chosen.region].name);
   if (chosen.element !== null) words.set("point", elementName(chosen.element));
@@ -57,13 +58,29 @@ function recall(address) {
   isRecalling = false;
 }
 
-// At first the first step of a fault is lit, or the region of a loan: nothing is scrolled for it.
+// At first the first step of a fault is lit, or the region of a loan, and the source is at the lines with labels.
 function begin() {
   const step = data.start.step === undefined ? null : all(".step")[data.start.step];
   const region = step ? Number(step.dataset.r) : data.start.region ?? null;
   Object.assign(chosen, { step, region, element: null, isFirst: region !== null });
   show();
   if (region !== null) reveal(regionButtons.find((one) => Number(one.dataset.r) === region));
+  revealLabels();
+}
+
+// Scrolls the source to its labels: to as many as fit around the first line at which something is wrong.
+function revealLabels() {
+  const pane = byId("source");
+  const lines = all(".line", pane).filter((line) => line.querySelector(".label"));
+  if (!lines.length || !isThere(pane)) return;
+  const boxes = lines.map((line) => line.getBoundingClientRect());
+  let first = Math.max(0, lines.findIndex((line) => line.querySelector(".label:is(.against, .rustc)")));
+  let last = first;
+  const fits = (from, to) => boxes[to].bottom - boxes[from].top <= pane.clientHeight - 16;
+  while (first > 0 && fits(first - 1, last)) first -= 1;
+  while (last + 1 < boxes.length && fits(first, last + 1)) last += 1;
+  const top = pane.getBoundingClientRect().top;
+  if (boxes[last].bottom > top + pane.clientHeight) pane.scrollTop = boxes[first].top - top - Math.min(66, pane.clientHeight / 4);
 }
 
 function chooseBy(words) {

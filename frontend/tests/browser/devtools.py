@@ -9,12 +9,14 @@
 import base64
 import json
 import os
+import select
 import shutil
 import subprocess
 import tempfile
 
 PROBES = os.path.join(os.path.dirname(os.path.abspath(__file__)), "probes.js")
 NAMES = ("chromium", "chromium-browser", "google-chrome")
+PATIENCE = 600      # seconds after which a browser that says nothing has hung
 
 KEYS = {"Enter": (13, "\r"), "Escape": (27, ""), "Tab": (9, ""), " ": (32, " "),
         "ArrowLeft": (37, ""),
@@ -50,14 +52,14 @@ class Browser:
         to_browser, to_us = raised(to_browser), raised(to_us)
         self.process = subprocess.Popen(
             [program, "--headless=new", "--remote-debugging-pipe", "--no-sandbox", "--disable-gpu",
-             "--hide-scrollbars", "--disable-dev-shm-usage", f"--user-data-dir={self.profile.name}",
+             "--hide-scrollbars", "--disable-dev-shm-usage", "--disable-ipc-flooding-protection", f"--user-data-dir={self.profile.name}",
              "about:blank"],
             pass_fds=(3, 4, to_browser, to_us), preexec_fn=descriptors, env=environment,
             stdin=subprocess.DEVNULL, stdout=subprocess.DEVNULL, stderr=subprocess.DEVNULL)
         os.close(to_browser)
         os.close(to_us)
         self.writes = os.fdopen(from_us, "wb", buffering=0)
-        self.reads = os.fdopen(from_browser, "rb")
+        self.reads = os.fdopen(from_browser, "rb", buffering=0)
         self.count = 0
         self.rest = b""
         self.events = []
@@ -79,14 +81,21 @@ class Browser:
             self.call("Browser.close")
         except (OSError, EOFError):
             pass
-        self.process.wait(20)
+        try:
+            self.process.wait(60)
+        except subprocess.TimeoutExpired:
+            self.process.kill()
+            self.process.wait()
         self.writes.close()
         self.reads.close()
         self.profile.cleanup()
 
     def message(self):
         while b"\0" not in self.rest:
-            piece = self.reads.read1(1 << 16)
+            if not select.select([self.reads], [], [], PATIENCE)[0]:
+                self.process.kill()
+                raise EOFError("the browser hung")
+            piece = os.read(self.reads.fileno(), 1 << 16)
             if not piece:
                 raise EOFError("the browser ended")
             self.rest += piece
@@ -108,8 +117,13 @@ class Browser:
                 return answer.get("result", {})
             self.events.append(answer)
 
-    def wait_for(self, method):
-        while not any(event.get("method") == method for event in self.events):
+    def wait_for_load(self, loader):
+        """Waits until this document is loaded: not the empty one before it, whose event may come late."""
+        def is_it(event):
+            told = event.get("params", {})
+            return (event.get("method"), told.get("name"), told.get("loaderId")) == ("Page.lifecycleEvent", "load", loader)
+
+        while not any(map(is_it, self.events)):
             self.events.append(self.message())
 
     def open(self, path, width=1440, height=900, scheme="light", fragment="", metrics=False):
@@ -135,14 +149,17 @@ class Page:
     def __init__(self, browser, session, address, width, height, scheme):
         self.browser = browser
         self.session = session
-        self.call("Page.enable")
-        self.call("Runtime.enable")
+        for domain in ("Page", "Runtime", "Log", "Network"):
+            self.call(f"{domain}.enable")
+        self.call("Page.setLifecycleEventsEnabled", enabled=True)
         self.call("Emulation.setDeviceMetricsOverride", width=width, height=height,
                   deviceScaleFactor=1, mobile=False)
         self.use(scheme)
         browser.events.clear()
-        self.call("Page.navigate", url=address)
-        browser.wait_for("Page.loadEventFired")
+        answer = self.call("Page.navigate", url=address)
+        if "errorText" in answer:
+            raise RuntimeError(f"{address}: {answer['errorText']}")
+        browser.wait_for_load(answer["loaderId"])
         with open(PROBES, encoding="utf-8") as file:
             self.value(file.read())
 
@@ -162,6 +179,11 @@ class Page:
         """The main thread's time for the page so far, where `metrics` were asked for."""
         found = {metric["name"]: metric["value"] for metric in self.call("Performance.getMetrics")["metrics"]}
         return found["TaskDuration"]
+
+    def asked_for(self):
+        """The addresses of what was loaded so far."""
+        return [event["params"]["request"]["url"] for event in self.browser.events
+                if event.get("method") == "Network.requestWillBeSent"]
 
     def complaints(self):
         """What the page's script raised and its console told, so far."""
@@ -194,6 +216,12 @@ class Page:
         self.call("Input.dispatchKeyEvent", type="keyDown", **shared,
                   **({"text": text} if text else {}))
         self.call("Input.dispatchKeyEvent", type="keyUp", **shared)
+
+    def hold(self, name, more):
+        """A key that is pressed, and comes again so many times before it is let go."""
+        for time in range(1 + more):
+            self.call("Input.dispatchKeyEvent", type="keyDown", key=name, text=name, autoRepeat=time > 0)
+        self.call("Input.dispatchKeyEvent", type="keyUp", key=name)
 
     def use(self, scheme):
         """Light or dark, as the system would ask for it."""

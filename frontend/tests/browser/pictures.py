@@ -3,11 +3,13 @@
 picture of docs/MESSAGES.md.
 
     pictures.py [--schedule] [FOLDER]
+    pictures.py --beside PAGES [FOLDER]
 
 The pictures are of examples/three.rs in a headless Chromium, and of one of its schedules. Needs rustc,
 Chromium and an `nllc`; with `--schedule` it makes the last picture alone, for which Chromium and a
 `world_program` suffice. Run by hand where the page's look or an example has changed; FOLDER is docs/
-otherwise.
+otherwise. With `--beside` it makes pictures of old pages beside today's; PAGES has those that an older
+commit made of examples/three.rs, loans.rs and lookup.mir.
 """
 
 import os
@@ -37,6 +39,13 @@ PICTURES = [
     ("news-point", "news", "dark", "the borrow &draft @ (*text)"),
     ("fixed", "fixed", "dark", "the type of text"),
 ]
+
+
+# Pages that stand beside old ones, with what is chosen in both.
+BESIDE = [("longer", ""), ("grow", ""), ("get_default", ""), ("lookup.mir", "#region=found")]
+SHEET = """<!doctype html><style>body {{ display: flex; gap: 14px; margin: 0; padding: 8px; background: #666; }}
+h1 {{ margin: 0 0 2px; font: 600 16px sans-serif; color: #fff; }} img {{ width: 1000px; display: block; }}</style>{}"""
+HALF = "<div><h1>{}</h1><img src='data:image/png;base64,{}'></div>"
 
 
 def fragment(text, chosen):
@@ -80,6 +89,25 @@ def take_schedule(folder):
         save(page, os.path.join(folder, "pictures", "schedule.png"))
 
 
+def take_beside(old, folder):
+    """Pictures of old pages, with today's to their right."""
+    with tempfile.TemporaryDirectory() as pages, Browser() as browser:
+        for words in (["rust", "examples/three.rs"], ["rust", "examples/loans.rs"], ["page", "examples/lookup.mir"]):
+            subprocess.run(["./nllc.sh", *words, "-o", pages], cwd=ROOT, stdout=subprocess.DEVNULL,
+                           stderr=subprocess.DEVNULL, check=False)
+        for name, chosen in BESIDE:
+            halves = ""
+            for told, where in (("before", old), ("after", pages)):
+                page = browser.open(os.path.join(where, f"{name}.html"), 1400, 900, "light", chosen)
+                taken = page.call("Page.captureScreenshot", format="png")["data"]
+                halves += HALF.format(told, taken)
+            sheet = os.path.join(pages, "sheet.html")
+            with open(sheet, "w", encoding="utf-8") as file:
+                file.write(SHEET.format(halves))
+            both = browser.open(sheet, 2030, 684)
+            save(both, os.path.join(folder, "pictures", f"{name.removesuffix('.mir')}-before-after.png"))
+
+
 def take(browser, pages, folder, name, function, scheme, chosen):
     """One picture."""
     with open(os.path.join(pages, f"{function}.facts"), "rb") as file:
@@ -99,8 +127,12 @@ def save(page, picture):
 
 if __name__ == "__main__":
     words = sys.argv[1:]
-    alone = words[:1] == ["--schedule"]
-    where = os.path.abspath((words[alone:] or [os.path.join(ROOT, "docs")])[0])
-    if not alone:
-        main(where)
-    take_schedule(where)
+    kind = words.pop(0) if words[:1] in (["--schedule"], ["--beside"]) else ""
+    old = os.path.abspath(words.pop(0)) if kind == "--beside" else ""
+    where = os.path.abspath((words or [os.path.join(ROOT, "docs")])[0])
+    if old:
+        take_beside(old, where)
+    else:
+        if not kind:
+            main(where)
+        take_schedule(where)

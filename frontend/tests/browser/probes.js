@@ -97,6 +97,15 @@ const probe = {
   faint: (least) => probe.readable().map((node) => [ratio(inkOf(node), groundOf(node)), nameOf(node)])
     .filter(([found]) => found < least).map(([found, name]) => `${name}: ${found.toFixed(2)}`),
 
+  // Parts of the page that lie over one another.
+  overlapping: () => {
+    const parts = probe.nodes("header, #faults, #text-pane, #regions-part, #regions, #graph-pane, .owner, .lane, .card, footer")
+      .filter((one) => one.textContent.trim()).map((one) => [one, one.getBoundingClientRect()]);
+    return parts.flatMap(([a, boxA]) => parts.filter(([b, boxB]) => a !== b && !a.contains(b) && !b.contains(a)
+      && boxA.top < boxB.bottom - 1 && boxB.top < boxA.bottom - 1 && boxA.left < boxB.right - 1 && boxB.left < boxA.right - 1)
+      .map(([b]) => `${a.id || a.className || a.localName} and ${b.id || b.className || b.localName}`));
+  },
+
   // What overflows its own box sideways, or the window.
   wide: () => [...document.querySelectorAll("html, main, header, .lists, .pane, .fault, .step, .chosen, .card, table, aside, nav, dialog[open]")]
     .filter((one) => one.scrollWidth > one.clientWidth + 1 && one.getClientRects().length > 0 && !scrolls(one))
