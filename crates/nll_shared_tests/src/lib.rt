@@ -28,4 +28,6 @@ mod mail_rounds;
 #[cfg(test)]
 mod messages;
 #[cfg(test)]
+mod reached;
+#[cfg(test)]
 mod rings;

@@ -103,7 +103,8 @@ module _ {A F Y D M S R C P L B H E : Type 0} (rules : Rules A F) (yields : A �
     (why_of : D → Ending) (a : A) (ok : rules.valid a) (ds : List D) (count : length ds ≡ rules.parts a)
     (leaves : (k : ℕ) (d : D) → slice_get ds k ≡ Some d → Leaves b book k (left d) (why_of d))
     (finishes : (k : ℕ) (d : D) → slice_get ds k ≡ Some d → WasMade (why_of d)
-    → FinishedAs rules yields a k (log_of (map (through m.all_sent) (closed d))) (log_of (map (through m.received) (kept d)))
+    → FinishedAs rules yields a k (log_of (map (through m.all_sent) (closed d)))
+    (log_of (map (through m.received) (kept d)))
     (b.left_owed (left d)) (b.left_cleared (left d)) (why_of d) (log d)
     (given d))
     (calm : (k : ℕ) (d : D) → slice_get ds k ≡ Some d → IsCalm (why_of d)) where
@@ -163,7 +164,8 @@ module _ {A F Y D M S R C P L B H E : Type 0} (rules : Rules A F) (yields : A �
   abbrev state : ℕ → State A F
   state i = (chosen i (cases_lt i (rules.parts a))).0
 
-  ends : (i : ℕ) → i < rules.parts a → Finishes rules a i (state i) (sent i) (λ j. got j i) (owed i) (cleared i) (ending i)
+  ends : (i : ℕ) → i < rules.parts a
+      → Finishes rules a i (state i) (sent i) (λ j. got j i) (owed i) (cleared i) (ending i)
   ends i l = ((chosen i (cases_lt i (rules.parts a))).1 l).1
 
   log_is : (i : ℕ) → i < rules.parts a → log_of logs i ≡ (state i).log
@@ -253,14 +255,16 @@ module _ {A F Y D M S R C P L B H E : Type 0} (rules : Rules A F) (yields : A �
           → (sent i j ≡ part rules a j (log_of logs i)) × (got i j ≡ sent i j) × (rest i j ≡ []))
           × AreSound rules a logs (λ i j. part rules a i (log_of logs j))
           × SayLeast rules a logs
-      law = concludes rules lawful a ok state sent got rest owed cleared ending ends tied logs log_count log_is quiet sums
-
-      ranked : AreRanked rules a logs
-      ranked = are_ranked rules lawful a ok state sent got rest owed cleared ending ends tied logs log_count log_is quiet
+      law = concludes rules lawful a ok state sent got rest owed cleared ending ends tied logs log_count log_is quiet
           sums
 
+      ranked : AreRanked rules a logs
+      ranked = are_ranked rules lawful a ok state sent got rest owed cleared ending ends tied logs log_count log_is
+          quiet sums
+
       -- what is said of one post
-      said : (p : P) → Contains posts p → (m.post_sent p ≡ part rules a (m.post_ends p).1 (log_of logs (m.post_ends p).0))
+      said : (p : P) → Contains posts p
+          → (m.post_sent p ≡ part rules a (m.post_ends p).1 (log_of logs (m.post_ends p).0))
           × (m.post_received p ≡ m.post_sent p) × (m.post_rest p ≡ [])
       said p h =
           let x = settled.only p h in
@@ -272,7 +276,8 @@ module _ {A F Y D M S R C P L B H E : Type 0} (rules : Rules A F) (yields : A �
             no_rest (m.post_sent p) (m.post_received p) (m.post_rest p) s.whole received_all,
           )
 
-      pub says_least : AllPairs IsPairBefore (map m.post_ends posts) → IsOutcome rules yields m a logs (map given ds) posts
+      pub says_least : AllPairs IsPairBefore (map m.post_ends posts)
+          → IsOutcome rules yields m a logs (map given ds) posts
       says_least in_order = record {
         delivered = record {
           pairs = λ x. (

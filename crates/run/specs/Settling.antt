@@ -33,8 +33,8 @@ module _ {M T S R C P : Type 0} (mail : Mail.Ghosts M T S R C P) (out into : ℕ
     AddsPosts done old new = (more : List P) × (new ≡ old ++ more) × ArePostsOf done more
 
 -- the settled mailbox of these two ends was appended, if there is one
-abbrev pub AddsPost : {M T S R C P : Type 0} → Mail.Ghosts M T S R C P → Option C → Option R → List P
-    → List P → Type 0
+abbrev pub AddsPost : {M T S R C P : Type 0} → Mail.Ghosts M T S R C P → Option C → Option R
+    → List P → List P → Type 0
 AddsPost mail None r old new = new ≡ old
 AddsPost mail (Some z) None old new = ⊥
 AddsPost {M} {T} {S} {R} {C} {P} mail (Some z) (Some r) old new =

@@ -27,10 +27,11 @@ use std::sync::Wait;
 use std::thread::Threads;
 use worker::{AlwaysStart, Finished, Permit, Site, ThreadGate, Worker, run_all};
 
-/// Runs the parts of an analysis, each in a thread of its own, until nothing is left to do anywhere.
+/// Runs the parts of an analysis, each in a thread of its own, until nothing is left to do
+/// anywhere.
 ///
-/// Each owner receives from each other exactly the growths of the facts that it reads, once each and
-/// in the order in which they grew, and none is left behind; the logs tell the least solution.
+/// Each owner receives from each other exactly the growths of the facts that it reads, once each
+/// and in the order in which they grew, and none is left behind; the logs tell the least solution.
 ///
 /// # Errors
 /// All threads are joined and all senders closed, and what was borrowed is as it was.

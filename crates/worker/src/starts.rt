@@ -18,8 +18,8 @@ use std::collections::VecDeque;
 use std::sync::Wait;
 use std::thread::Threads;
 
-// If its thread isn't started, a worker ends as `Forbidden` if the permit refused that, otherwise as
-// `Unstarted`: the stop flag is set by its share, and its senders are closed.
+// If its thread isn't started, a worker ends as `Forbidden` if the permit refused that, otherwise
+// as `Unstarted`: the stop flag is set by its share, and its senders are closed.
 impl<'x, A: ThreadAnalysis, M: ThreadMail<Growth<A::Fact>>, L: ThreadLedger, G: ThreadGate> Job<
     Site<'x, A, L, G>,
 > for Worker<A, M, L> {

@@ -67,8 +67,8 @@ fn run_together<'x, S: Sync + 'x, J: Job<S> + 'x, P: Permit, R: Threads + Wait +
 ) -> VecDeque<J::Done>
     requires ready { AllOf (J.is_ready crew.now.site.now) jobs.items }
     requires room { (room.items ≡ []) × (deque_len jobs ≤ deque_capacity room) }
-    ensures { AlikeFrom 0 (λ n j d. Becomes (J.comes crew.now.site.now j) (P.permits permit.now n) d)
-        jobs.items result.items }
+    ensures { AlikeFrom 0 (λ n j d. Becomes (J.comes crew.now.site.now j)
+        (P.permits permit.now n) d) jobs.items result.items }
 {
     thread::scope(
         thread::scope_env(),
@@ -95,8 +95,8 @@ fn run_each<'s, 'x: 's, S: Sync + 'x, J: Job<S> + 'x, P: Permit, R: Threads + Wa
 ) -> VecDeque<J::Done>
     requires ready { AllOf (J.is_ready crew.now.site.now) jobs.items }
     requires room { (room.items ≡ []) × (number + deque_len jobs ≤ deque_capacity room) }
-    ensures done { AlikeFrom number (λ n j d. Becomes (J.comes crew.now.site.now j) (P.permits permit.now n) d)
-        jobs.items result.items }
+    ensures done { AlikeFrom number (λ n j d. Becomes (J.comes crew.now.site.now j)
+        (P.permits permit.now n) d) jobs.items result.items }
     ensures room { (deque_capacity result ≡ deque_capacity room)
         × (deque_len result ≡ deque_len jobs) }
 {
@@ -127,7 +127,8 @@ fn start_if_allowed<'s, 'x: 's, S: Sync + 'x, J: Job<S> + 'x, P: Permit, R: Thre
     ensures started { IfOk result (λ h. (h.promise.job.value ≡ job)
         × (h.promise.site.value ≡ crew.now.site.now)
         × P.permits permit.now number true) }
-    ensures refused { IfErr result (λ d. Becomes (J.comes crew.now.site.now job) (P.permits permit.now number) d) }
+    ensures refused { IfErr result (λ d. Becomes (J.comes crew.now.site.now job)
+        (P.permits permit.now number) d) }
 {
     if permit.may_start(number) {
         start_one::<S, J, R>(scope, crew, number, job)
@@ -146,7 +147,8 @@ fn start_one<'s, 'x: 's, S: Sync + 'x, J: Job<S> + 'x, R: Threads + Wait + Sync>
     requires { J.is_ready crew.now.site.now job }
     ensures started { IfOk result (λ h. (h.promise.job.value ≡ job)
         × (h.promise.site.value ≡ crew.now.site.now)) }
-    ensures refused { IfErr result (λ d. J.comes crew.now.site.now job Made d ⊎ J.comes crew.now.site.now job Failed d) }
+    ensures refused { IfErr result (λ d. J.comes crew.now.site.now job Made d
+        ⊎ J.comes crew.now.site.now job Failed d) }
 {
     let given = Given {
         site: Snapshot::of(crew.site),

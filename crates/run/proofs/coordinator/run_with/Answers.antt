@@ -13,8 +13,8 @@ run_all-outcome-requires-clause-given g c κs within' =
     let p = c.in_ok-book.ensures in
     let n = c.parts-owners.ensures.count in
     let ws = c.in_ok-book.workers.items in
-    all_of (λ w. IsGiven b m (g.A.Rules.rules.parts c.args.analysis.now) c.in_ok-book.book w.me w.share w.outbox.senders.items w.receivers.items
-    w.room.items (vec_capacity w.room)) ws (λ k w e.
+    all_of (λ w. IsGiven b m (g.A.Rules.rules.parts c.args.analysis.now) c.in_ok-book.book w.me w.share
+    w.outbox.senders.items w.receivers.items w.room.items (vec_capacity w.room)) ws (λ k w e.
     let x = p.each k w e in let s = p.shares k w e in
     let l : k < c.parts-owners.result =
     (let h = within ws k w e in let r = p.table.row_count in let z = map_size (λ y. y.outbox.senders.items) ws in
@@ -66,7 +66,8 @@ conclude-requires-clause-finishes g c = λ k d e made.
     let each = c.in-Ok.ensures.ended in
     let w = place c.in_ok-book.workers.items k
     (let h = within c.in-Ok.finished.items k d e in omega (arith, h, each.len)) in
-    subst (λ i. FinishedAs g.A.Rules.rules g.A.Analysis.yields c.args.analysis.now i (log_of (map (through m.all_sent) d.closed.items))
+    subst (λ i. FinishedAs g.A.Rules.rules g.A.Analysis.yields c.args.analysis.now i
+    (log_of (map (through m.all_sent) d.closed.items))
     (log_of (map (through m.received) d.receivers.items)) (b.left_owed d.left) (b.left_cleared d.left)
     d.ending d.log.items
     d.yielded)
