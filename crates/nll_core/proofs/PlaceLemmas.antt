@@ -43,7 +43,7 @@ all_nowhere place points p is h = no_all (p ∷ points) (subst (λ (x : At). Con
 pub none_before_all : (place : At) (points : List ℕ) → ((x : At) → Contains (behind place points) x → at_rank x < 0) → ⊥
 none_before_all place points before = let less = before place (0, omega arith, refl) in omega (arith, less)
 
--- a point behind the others
+-- an appended point
 pub pushed_behind : (place : At) (old new : List ℕ) (p : ℕ) → new ≡ old ++ p ∷ []
     → behind place new ≡ behind place old ++ Point p ∷ []
 pushed_behind place old new p is = ap (behind place) is

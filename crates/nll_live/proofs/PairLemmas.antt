@@ -22,7 +22,7 @@ pair_right a b c d h = ap (λ (x : ℕ × ℕ). x.1) h
 same_pair : (a b c d : ℕ) → a ≡ c → b ≡ d → ◌≡◌ {A = ℕ × ℕ} (a, b) (c, d)
 same_pair a b c d h k = cc
 
--- the points from `first` up to `point` were put behind the others
+-- the points from `first` up to `point` were appended
 pub record Pushing (region first end : ℕ) (old : List (ℕ × ℕ)) (point : ℕ) (new : List (ℕ × ℕ)) : Type 0 where
   pub begun : first ≤ point
   pub upto : (point ≡ first) ⊎ (point ≤ end)

@@ -80,7 +80,7 @@ row_more front row row' t e =
     ∙ append_assoc front (begin_row ∷ row) (steps t ++ add_type ∷ [])
     ∙ ap (λ (ps : List Piece). front ++ begin_row ∷ ps) (sym e) ∙ sym (append-nil (front ++ begin_row ∷ row'))
 
--- The code came to other frames and to another type: it put pieces behind the others, and the same
+-- The code came to other frames and to another type: it appended pieces, and the same
 -- types come out.
 comes_so : (s s' : State) (frames frames' : List Frame) (t t' : WrittenType) (ts ts' : List Token)
     (ps ps' row : List TypePiece) (os os' : List Open) → AreRead s frames t ps os → ps' ≡ ps ++ row

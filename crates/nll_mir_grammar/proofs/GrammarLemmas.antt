@@ -358,7 +358,7 @@ put_behind g t value after ts rest old new (Ok None) e h = (behind_none g t ts r
 put_behind g t value after ts rest old new (Ok (Some p)) e h = (h.0, h.1, behind_found g t ts rest h.0 (after p) e h.2)
 put_behind g t value after ts rest old new (Err x) e h = tt
 
--- a value that was read, and put behind the others
+-- a value that was read, and appended
 pub put_found : {A V R : Type 0} (g : Grammar A) (value : V → A) (after : R → List Token) (ts : List Token)
     (old new : List V) (v : V) (rest : R) → new ≡ old ++ v ∷ [] → Begins g ts (value v) (after rest)
     → Puts g value after ts old new (Some rest)
@@ -372,7 +372,7 @@ put_first g value after ts old new r e p =
     let same = p.1 ∙ ap (λ l. map value l ++ p.0 ∷ []) e in
     subst (λ xs. HasListed g ts xs (after r)) (sym same) (first_listed g ts (after r) p.0 p.2)
 
--- The next one was put behind the others.
+-- The next one was appended.
 pub put_next : {A V R : Type 0} (g : Grammar A) (value : V → A) (after : R → List Token) (ts mid : List Token)
     (old new : List V) (r : R) → HasListed g ts (map value old) mid
     → Puts (behind (sign 44) g) value after mid old new (Some r) → HasListed g ts (map value new) (after r)

@@ -31,7 +31,7 @@ type_marks_from ps i d within =
     type_marks_more (parameter_of (get_or ps i d)) (map parameter_of (drop (i + 1) ps))
     ∙ sym (at_drop_more (λ (qs : List ParameterText). type_marks (map parameter_of qs)) ps i d within)
 
--- what came behind the others, and what is still to come
+-- what came after the others, and what is still to come
 pub moved : {X : Type 0} (old new all one rest : List X) → new ≡ old ++ one → old ++ (one ++ rest) ≡ all
     → new ++ rest ≡ all
 moved old new all one rest h k = ap (λ xs. xs ++ rest) h ∙ (append_assoc old one rest ∙ k)

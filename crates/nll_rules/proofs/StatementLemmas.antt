@@ -172,7 +172,7 @@ pub adds_both : (structs : List Struct) (one other : Option TypeTree) (t u : Typ
     → AddsPairs (SubtypeAsks structs t u) a b → AddsPairs (BothAsk structs one other) a b
 adds_both structs one other t u a b e d h = rw (e, d) (adds_same _ _ a b (both_there structs t u) h)
 
--- the pairs that are put behind the others are those
+-- the pairs that are appended are those
 pub adds_list : (old new pairs : List (ℕ × ℕ)) → new ≡ old ++ pairs → AddsPairs (Contains pairs) old new
 adds_list old new pairs e =
     rw e (record {

@@ -36,7 +36,7 @@ same_at pieces whole s front b =
     ap (λ (ps : List Piece). statement_at (drop s ps)) front.1
     ∙ (read_at (pieces ++ front.0) s (begins_more pieces front.0 s b) ∙ sym (read_at pieces s b))
 
--- the pieces of a statement, put behind the others
+-- the pieces of a statement, appended
 begins_behind : (pieces : List Piece) (i : Statement ℕ TypeTree)
     → Begins (pieces ++ statement_pieces i) (length pieces)
 begins_behind pieces i = record {
