@@ -91,7 +91,7 @@ fn told<M: ThreadMail<fixpoint::Growth<u32>>, L: ThreadLedger, R: Threads + Wait
 fn owners_reach_what_a_search_reaches(rt: HostRuntime) -> Result<(), Fail> {
     let alloc = rt.alloc();
     let mut state = 1;
-    for _ in 0..60 {
+    for _ in 0..12 {
         let edges = random_edges(alloc, &mut state)?;
         let root = next_number(&mut state) % NODES;
         let owners = 1 + (next_number(&mut state) % 64) as u16;
