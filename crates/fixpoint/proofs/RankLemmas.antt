@@ -7,7 +7,6 @@ use Rattle.std.proofs.lemmas.List.Kept.{AllPairs-cons}
 use Rattle.fixpoint.specs.Limits.{most_growths}
 use Rattle.fixpoint.specs.Rules.{Rules, AreLawful, AreDifferent}
 use Rattle.fixpoint.specs.State.{State, IsSound, received_from}
-use Rattle.fixpoint.specs.declared.growth.Growth.{Growth}
 use Rattle.fixpoint.proofs.ListLemmas.{contains_cases}
 
 -- what stands in a list of pairs that R relates is the same, or R relates it
@@ -26,54 +25,54 @@ pair_cases {X} R xs x y pairs (i, li, hi) (j, lj, hj) = ⊎_elim
     there = get_or_default xs j x y lj ∙ hj
 
 -- Sound parts of one system, by the numbers of their owners.
-module _ {A F : Type 0} (rules : Rules A F) (lawful : AreLawful rules) (a : A) (ok : rules.valid a)
-    (part : ℕ → State A F) (sound : (i : ℕ) → i < rules.parts a → IsSound rules (part i))
+module _ {A F G : Type 0} (rules : Rules A F G) (lawful : AreLawful rules) (a : A) (ok : rules.valid a)
+    (part : ℕ → State A G) (sound : (i : ℕ) → i < rules.parts a → IsSound rules (part i))
     (systems : (i : ℕ) → i < rules.parts a → (part i).system ≡ a)
     (numbers : (i : ℕ) → i < rules.parts a → (part i).me ≡ i) where
   -- a growth that stands in the log of an owner
-  abbrev IsLogged : Growth F → Type 0
+  abbrev IsLogged : G → Type 0
   IsLogged g = (i : ℕ) × (i < rules.parts a) × Contains (part i).log g
 
-  owner_is : (g : Growth F) (at : IsLogged g) → rules.owner a g.fact ≡ at.0
+  owner_is : (g : G) (at : IsLogged g) → rules.owner a (rules.fact g) ≡ at.0
   owner_is g (i, low, at) =
-      subst (λ (x : A). rules.owner x g.fact ≡ i) (systems i low)
+      subst (λ (x : A). rules.owner x (rules.fact g) ≡ i) (systems i low)
       ((sound i low).well_formed.own g at ∙ numbers i low)
 
-  proper_at : (g : Growth F) → IsLogged g → rules.proper a g.fact
-  proper_at g (i, low, at) = subst (λ (x : A). rules.proper x g.fact) (systems i low) ((sound i low).proper g at)
+  proper_at : (g : G) → IsLogged g → rules.proper a (rules.fact g)
+  proper_at g (i, low, at) = subst (λ (x : A). rules.proper x (rules.fact g)) (systems i low) ((sound i low).proper g at)
 
   -- growths of different ranks are of different facts, whichever logs they stand in
-  apart : (g h : Growth F) → IsLogged g → IsLogged h → h.rank < g.rank → g.fact ≡ h.fact → ⊥
+  apart : (g h : G) → IsLogged g → IsLogged h → rules.rank h < rules.rank g → rules.fact g ≡ rules.fact h → ⊥
   apart g h (i, li, here) (j, lj, there) lower same =
       let one : j ≡ i = sym (owner_is h (j, lj, there))
       ∙ (ap (rules.owner a) (sym same) ∙ owner_is g (i, li, here)) in
       let with_it = subst (λ k. Contains (part k).log h) one there in
       ⊎_elim
-      (λ (is : g ≡ h). let e = ap (λ (x : Growth F). x.rank) is in omega (arith, e, lower))
-      (⊎_elim (λ (differ : g.fact ≡ h.fact → ⊥). absurd (differ same))
-      (λ (differ : h.fact ≡ g.fact → ⊥). absurd (differ (sym same))))
-      (pair_cases (λ (x y : Growth F). x.fact ≡ y.fact → ⊥) (part i).log g h (sound i li).well_formed.once here with_it)
+      (λ (is : g ≡ h). let e = ap (λ (x : G). rules.rank x) is in omega (arith, e, lower))
+      (⊎_elim (λ (differ : (rules.fact g) ≡ rules.fact h → ⊥). absurd (differ same))
+      (λ (differ : (rules.fact h) ≡ rules.fact g → ⊥). absurd (differ (sym same))))
+      (pair_cases (λ (x y : G). rules.fact x ≡ rules.fact y → ⊥) (part i).log g h (sound i li).well_formed.once here with_it)
 
   -- what an owner received is of another owner, and of one that there is
-  pub of_another : (i j : ℕ) (h : Growth F) → i < rules.parts a → Contains (received_from (part i) j) h → i ≢ j
+  pub of_another : (i j : ℕ) (h : G) → i < rules.parts a → Contains (received_from (part i) j) h → i ≢ j
   of_another i j h low at same =
       let told = (sound i low).heard j h at in
-      (lawful.others (part i).system (sound i low).valid (part i).me h.fact told.1).1
+      (lawful.others (part i).system (sound i low).valid (part i).me (rules.fact h) told.1).1
       (told.0 ∙ (sym same ∙ sym (numbers i low)))
 
-  pub of_owner : (i j : ℕ) (h : Growth F) → i < rules.parts a → Contains (received_from (part i) j) h
+  pub of_owner : (i j : ℕ) (h : G) → i < rules.parts a → Contains (received_from (part i) j) h
       → j < rules.parts a
   of_owner i j h low at =
       let told = (sound i low).heard j h at in
-      let inside = (lawful.others (part i).system (sound i low).valid (part i).me h.fact told.1).0 in
+      let inside = (lawful.others (part i).system (sound i low).valid (part i).me (rules.fact h) told.1).0 in
       subst (λ (x : A). j < rules.parts x) (systems i low)
       (subst (λ k. k < rules.parts (part i).system) told.0 inside)
 
   -- Where they received only what stands in each other's logs, no rank is above the number of facts.
-  module _ (heard : (i j : ℕ) (g : Growth F) → i < rules.parts a → j < rules.parts a → i ≢ j
+  module _ (heard : (i j : ℕ) (g : G) → i < rules.parts a → j < rules.parts a → i ≢ j
       → Contains (received_from (part i) j) g → Contains (part j).log g) where
     -- below a rank above 1 there is the one before it
-    before : (g : Growth F) → IsLogged g → 1 < g.rank → (h : Growth F) × IsLogged h × (h.rank + 1 ≡ g.rank)
+    before : (g : G) → IsLogged g → 1 < rules.rank g → (h : G) × IsLogged h × (rules.rank h + 1 ≡ rules.rank g)
     before g (i, low, at) more =
         let s = (sound i low).steps g at more in (
           s.0,
@@ -90,7 +89,7 @@ module _ {A F : Type 0} (rules : Rules A F) (lawful : AreLawful rules) (a : A) (
     record AreFacts (k : ℕ) (facts : List F) : Type 0 where
       pub count : length facts ≡ k
       pub once : AllPairs (λ f g. f ≡ g → ⊥) facts
-      pub each : (f : F) → Contains facts f → (g : Growth F) × IsLogged g × (g.rank ≤ k) × (g.fact ≡ f)
+      pub each : (f : F) → Contains facts f → (g : G) × IsLogged g × (rules.rank g ≤ k) × (rules.fact g ≡ f)
 
     no_facts : AreFacts 0 []
     no_facts = record {
@@ -99,33 +98,33 @@ module _ {A F : Type 0} (rules : Rules A F) (lawful : AreLawful rules) (a : A) (
       each = λ f h. absurd (omega (arith, h.1));
     }
 
-    with_fact : (k : ℕ) (g : Growth F) → IsLogged g → g.rank ≡ suc k → (facts : List F) → AreFacts k facts
-        → AreFacts (suc k) (g.fact ∷ facts)
+    with_fact : (k : ℕ) (g : G) → IsLogged g → rules.rank g ≡ suc k → (facts : List F) → AreFacts k facts
+        → AreFacts (suc k) (rules.fact g ∷ facts)
     with_fact k g at is facts less = record {
       count = ap suc less.count;
-      once = AllPairs-cons (λ (e f : F). e ≡ f → ⊥) g.fact facts (λ i d l.
+      once = AllPairs-cons (λ (e f : F). e ≡ f → ⊥) (rules.fact g) facts (λ i d l.
           let h = less.each (get_or facts i d) (Contains-get_or facts i d l) in
           (λ same. apart g h.0 at h.1 (omega (arith, is, h.2)) (same ∙ sym h.3))) less.once;
       each = λ f h. ⊎_elim
-          (λ (same : g.fact ≡ f). (g, at, omega (arith, is), same))
+          (λ (same : (rules.fact g) ≡ f). (g, at, omega (arith, is), same))
           (λ (other : Contains facts f).
           let w = less.each f other in
           (w.0, w.1, omega (arith, w.2), w.3))
-          (contains_cases g.fact facts f h);
+          (contains_cases (rules.fact g) facts f h);
     }
 
     -- there are as many facts as the rank says
-    as_many : (k : ℕ) (g : Growth F) → IsLogged g → g.rank ≡ k → (facts : List F) × AreFacts k facts
+    as_many : (k : ℕ) (g : G) → IsLogged g → rules.rank g ≡ k → (facts : List F) × AreFacts k facts
     as_many zero g at is = ([], no_facts)
-    as_many (suc zero) g at is = (g.fact ∷ [], with_fact 0 g at is [] no_facts)
+    as_many (suc zero) g at is = (rules.fact g ∷ [], with_fact 0 g at is [] no_facts)
     as_many (suc (suc k)) g at is =
         let h = before g at (omega (arith, is)) in
         let less = as_many (suc k) h.0 h.1 (omega (arith, is, h.2)) in
-        (g.fact ∷ less.0, with_fact (suc k) g at is less.0 less.1)
+        (rules.fact g ∷ less.0, with_fact (suc k) g at is less.0 less.1)
 
-    pub ranks_low : (i : ℕ) (g : Growth F) → i < rules.parts a → Contains (part i).log g → g.rank < most_growths
+    pub ranks_low : (i : ℕ) (g : G) → i < rules.parts a → Contains (part i).log g → rules.rank g < most_growths
     ranks_low i g low at =
-        let list = as_many g.rank g (i, low, at) refl in
+        let list = as_many (rules.rank g) g (i, low, at) refl in
         let different : AreDifferent rules a list.0 = record {
           each = λ f h.
               let w = list.1.each f h in

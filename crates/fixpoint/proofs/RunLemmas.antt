@@ -8,7 +8,6 @@ use Rattle.fixpoint.specs.Logs.{IsWellFormed, part, IsTold, tells, tells_before,
 use Rattle.fixpoint.specs.State.{State, Passes, list_in, received_from, part_for}
 use Rattle.fixpoint.specs.Sums.{sum_to}
 use Rattle.fixpoint.specs.Finishing.{Finishes, AreRanked}
-use Rattle.fixpoint.specs.declared.growth.Growth.{Growth}
 use Rattle.fixpoint.specs.declared.ending.Ending.{Ending}
 use Rattle.fixpoint.specs.declared.ending.Ending.TheVariants.{Quiet, Stray}
 use Rattle.fixpoint.proofs.ListLemmas.{filter_from}
@@ -17,8 +16,8 @@ use Rattle.fixpoint.proofs.LawLemmas.{least_exact}
 use Rattle.fixpoint.proofs.RankLemmas.{ranks_low, of_another, of_owner}
 use Rattle.fixpoint.proofs.SumLemmas.{delivered}
 
-module _ {A F : Type 0} (rules : Rules A F) (lawful : AreLawful rules) (a : A) (ok : rules.valid a)
-    (state : ℕ → State A F) (sent got rest : ℕ → ℕ → List (Growth F)) (owed cleared : ℕ → ℕ) (ending : ℕ → Ending)
+module _ {A F G : Type 0} (rules : Rules A F G) (lawful : AreLawful rules) (a : A) (ok : rules.valid a)
+    (state : ℕ → State A G) (sent got rest : ℕ → ℕ → List G) (owed cleared : ℕ → ℕ) (ending : ℕ → Ending)
     (ends : (i : ℕ) → i < rules.parts a
     → Finishes rules a i (state i) (sent i) (λ j. got j i) (owed i) (cleared i) (ending i))
     (tied : (i j : ℕ) → i < rules.parts a → j < rules.parts a → sent i j ≡ got i j ++ rest i j) where
@@ -26,7 +25,7 @@ module _ {A F : Type 0} (rules : Rules A F) (lawful : AreLawful rules) (a : A) (
   part_is i j l = ap (λ (x : A). part rules x j (state i).log) (ends i l).system
 
   -- what was taken stands in its sender's log
-  logged : (i j : ℕ) (g : Growth F) → i < rules.parts a → j < rules.parts a → Contains (got j i) g
+  logged : (i j : ℕ) (g : G) → i < rules.parts a → j < rules.parts a → Contains (got j i) g
       → Contains (part rules a i (state j).log) g
   logged i j g li lj h =
       let f = (ends j lj).front i li in
@@ -35,31 +34,31 @@ module _ {A F : Type 0} (rules : Rules A F) (lawful : AreLawful rules) (a : A) (
       subst (λ xs. Contains xs g) (part_is j i lj) in_part
 
   -- no rank of a log reaches 2 ^ 37
-  low : (j : ℕ) (g : Growth F) → j < rules.parts a → Contains (state j).log g → g.rank < most_growths
+  low : (j : ℕ) (g : G) → j < rules.parts a → Contains (state j).log g → rules.rank g < most_growths
   low j g lj h =
       ranks_low rules lawful a ok state (λ i l. (ends i l).sound) (λ i l. (ends i l).system) (λ i l. (ends i l).me)
       (λ i k w li lk differ at. (filter_from _ (state k).log w (logged i k w li lk ((ends i li).taken k w lk at))).0) j
       g lj h
 
   -- each growth that was taken can be its sender's
-  passes : (i j : ℕ) (g : Growth F) → i < rules.parts a → j < rules.parts a → Contains (got j i) g
+  passes : (i j : ℕ) (g : G) → i < rules.parts a → j < rules.parts a → Contains (got j i) g
       → Passes rules a i j g
   passes i j g li lj h =
       let x = filter_from _ (state j).log g (logged i j g li lj h) in
       record {
         sender =
-            subst (λ (y : A). rules.owner y g.fact ≡ j) (ends j lj).system
-            (subst (λ k. rules.owner (state j).system g.fact ≡ k) (ends j lj).me
+            subst (λ (y : A). rules.owner y (rules.fact g) ≡ j) (ends j lj).system
+            (subst (λ k. rules.owner (state j).system (rules.fact g) ≡ k) (ends j lj).me
             ((ends j lj).sound.well_formed.own g x.0));
         read = x.1;
-        proper = subst (λ (y : A). rules.proper y g.fact) (ends j lj).system ((ends j lj).sound.proper g x.0);
+        proper = subst (λ (y : A). rules.proper y (rules.fact g)) (ends j lj).system ((ends j lj).sound.proper g x.0);
         rank = (let l = low j g lj x.0 in omega (arith, l));
       }
 
   pub not_stray : (i : ℕ) → i < rules.parts a → ending i ≢ Stray
   not_stray i l is = let b = (ends i l).stray is in b.4 (passes i b.0 b.1 l b.2 b.3)
 
-  module _ (logs : List (List (Growth F))) (counted : length logs ≡ rules.parts a)
+  module _ (logs : List (List G)) (counted : length logs ≡ rules.parts a)
       (log_is : (i : ℕ) → i < rules.parts a → log_of logs i ≡ (state i).log)
       (quiet : (i : ℕ) → i < rules.parts a → ending i ≡ Quiet)
       (sums : sum_to (rules.parts a) owed ≡ sum_to (rules.parts a) cleared) where
@@ -72,7 +71,7 @@ module _ {A F : Type 0} (rules : Rules A F) (lawful : AreLawful rules) (a : A) (
     sent_whole i j li lj = (ends i li).whole (quiet i li) j lj
         ∙ (part_is i j li ∙ ap (part rules a j) (sym (log_is i li)))
 
-    abbrev told : ℕ → ℕ → List (Growth F)
+    abbrev told : ℕ → ℕ → List G
     told i j = part rules a i (log_of logs j)
 
     -- what an owner received is what it is told
@@ -108,12 +107,12 @@ module _ {A F : Type 0} (rules : Rules A F) (lawful : AreLawful rules) (a : A) (
       counted = counted;
       well_formed = well_formed;
       supported = λ i l g h.
-          let own : rules.owner a g.fact ≡ i = (well_formed i l).own g h in
-          lawful.local a ok (λ f. tells_before rules g.rank (list_in rules (state i) f) f)
-          (λ f. tells_before rules g.rank (list_of rules a i (log_of logs i) (told i) f) f) g.fact
-          (λ f sees t. subst (λ xs. IsTrue (tells_before rules g.rank xs f))
+          let own : rules.owner a (rules.fact g) ≡ i = (well_formed i l).own g h in
+          lawful.local a ok (λ f. tells_before rules (rules.rank g) (list_in rules (state i) f) f)
+          (λ f. tells_before rules (rules.rank g) (list_of rules a i (log_of logs i) (told i) f) f) (rules.fact g)
+          (λ f sees t. subst (λ xs. IsTrue (tells_before rules (rules.rank g) xs f))
           (list_is i l f (seen_owned i f l (subst (λ k. Sees rules a k f) own sees))) t)
-          (subst (λ (x : A). rules.derives x (λ f. tells_before rules g.rank (list_in rules (state i) f) f) g.fact)
+          (subst (λ (x : A). rules.derives x (λ f. tells_before rules (rules.rank g) (list_in rules (state i) f) f) (rules.fact g))
           (ends i l).system
           ((ends i l).sound.supported g (subst (λ xs. Contains xs g) (log_is i l) h)));
       heard = λ i j li lj differ g h. (filter_from _ (log_of logs j) g h).0;
@@ -123,7 +122,7 @@ module _ {A F : Type 0} (rules : Rules A F) (lawful : AreLawful rules) (a : A) (
     logs_settled = record {
       saturated = λ i l f own h.
           let inside : rules.owner a f < rules.parts a = subst (λ n. n < rules.parts a) (sym own) l in
-          subst (λ xs. IsTold xs f) (list_is i l f inside)
+          subst (λ xs. IsTold rules xs f) (list_is i l f inside)
           ((ends i l).done (quiet i l) f
           (subst (λ (x : A). rules.owner x f ≡ (state i).me) (sym (ends i l).system) (own ∙ sym (ends i l).me))
           (subst (λ (x : A). rules.derives x (λ g. tells rules (list_in rules (state i) g) g) f) (sym (ends i l).system)

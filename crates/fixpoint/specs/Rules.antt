@@ -5,11 +5,12 @@ use Rattle.std.specs.Prelude.{◌≡◌, ◌≢◌, ◌⊎◌, ◌↔◌, ℕ, �
 use Rattle.std.specs.Prelude.{Contains, AllPairs}
 use Rattle.fixpoint.specs.Limits.{most_owners, most_growths}
 
--- The rules of an analysis. A value of A is what is analysed, and a value of F a fact about it.
--- They say which values are valid; how many owners there are; who owns a fact; whether an owner
--- reads a fact of another; whether a fact follows from known ones; which facts may come to hold;
--- and whether two facts are the same.
-pub record Rules (A F : Type 0) : Type 1 where
+-- The rules of an analysis. A value of A is what is analysed, a value of F a fact about it, and a
+-- value of G a growth: a fact that came to hold, at a rank. They say which values are valid; how
+-- many owners there are; who owns a fact; whether an owner reads a fact of another; whether a fact
+-- follows from known ones; which facts may come to hold; whether two facts are the same; and which
+-- fact and rank a growth has.
+pub record Rules (A F G : Type 0) : Type 1 where
   pub valid : A → Type 0
   pub parts : A → ℕ
   pub owner : A → F → ℕ
@@ -17,8 +18,10 @@ pub record Rules (A F : Type 0) : Type 1 where
   pub derives : A → (F → Bool) → F → Type 0
   pub proper : A → F → Type 0
   pub same : F → F → Bool
+  pub fact : G → F
+  pub rank : G → ℕ
 
-module _ {A F : Type 0} (rules : Rules A F) where
+module _ {A F G : Type 0} (rules : Rules A F G) where
   -- owner i sees the fact: it owns it or reads it
   abbrev pub Sees : A → ℕ → F → Type 0
   Sees a i f = (rules.owner a f ≡ i) ⊎ (rules.reads a i f ≡ true)

@@ -7,10 +7,8 @@ ghost use Rattle.nll_sets.specs.Prefix.{IsPrefix};
 ghost use Rattle.fixpoint.specs.State.{State, IsSound, IsDone, IsReady, Passes, first_state};
 ghost use Rattle.fixpoint.specs.State.{part_for, given_to, with_growths, GotBeginning};
 ghost use Rattle.fixpoint.specs.declared.error.PartError.TheVariants.{Broken};
-ghost use Rattle.fixpoint.specs.declared.growth.Growth.{Growth as TheGrowth};
 
 use crate::error::PartError;
-use crate::growth::Growth;
 use crate::rules::Rules;
 use nll_sets::Memory;
 use std::alloc::Global;
@@ -27,9 +25,9 @@ pub trait Analysis: Rules {
     type Yield: Drop;
 
     /// A part as contracts see it.
-    ghost state: { Self.Part → State Self Self.Fact };
+    ghost state: { Self.Part → State Self Self.Growth };
     /// What the part of this number returns says what its log tells.
-    ghost yields: { Self → ℕ → List (TheGrowth Self.Fact) → Self.Yield → Type 0 };
+    ghost yields: { Self → ℕ → List Self.Growth → Self.Yield → Type 0 };
 
     /// A part that has done nothing yet.
     ///
@@ -79,10 +77,10 @@ pub trait Analysis: Rules {
     fn receive_all(
         part: &mut Self::Part,
         from: u16,
-        growths: &[Growth<Self::Fact>],
+        growths: &[Self::Growth],
     ) -> Result<(), PartError>
         requires ready { IsReady (state part.old) }
-        requires passes { (g : TheGrowth Self.Fact) → Contains growths.now g
+        requires passes { (g : Self.Growth) → Contains growths.now g
             → Passes Self.rules (state part.old).system (state part.old).me from g }
         ensures begins { IsPrefix (state part.old).log (state part.new).log }
         ensures others { state part.new ≡ record (state part.old) {
@@ -103,12 +101,12 @@ pub trait Analysis: Rules {
         ensures sound { IsSound Self.rules (state part.new) };
 
     /// Whether the part may receive a growth from another owner.
-    fn passes(part: &Self::Part, from: u16, growth: &Growth<Self::Fact>) -> bool
+    fn passes(part: &Self::Part, from: u16, growth: &Self::Growth) -> bool
         ensures { IsTrue result
             ↔ Passes Self.rules (state part.now).system (state part.now).me from growth.now };
 
     /// The growth that `outgoing` gives next. None if that gives none.
-    fn next_for(part: &Self::Part, to: u16) -> Option<Growth<Self::Fact>>
+    fn next_for(part: &Self::Part, to: u16) -> Option<Self::Growth>
         ensures some { IfSome result (λ growth. ((state part.now).broken ≡ false)
             × (slice_get (part_for Self.rules (state part.now) to) (given_to (state part.now) to)
             ≡ Some growth)) }
@@ -120,7 +118,7 @@ pub trait Analysis: Rules {
 
     /// The next growth of the part of the log that another owner reads; this call gives it. None if
     /// all of it was given, if `to` is no other owner, and after an error.
-    fn outgoing(part: &mut Self::Part, to: u16) -> Option<Growth<Self::Fact>>
+    fn outgoing(part: &mut Self::Part, to: u16) -> Option<Self::Growth>
         ensures some { IfSome result (λ growth. ((state part.old).broken ≡ false)
             × (slice_get (part_for Self.rules (state part.old) to) (given_to (state part.old) to)
             ≡ Some growth)
@@ -149,7 +147,7 @@ pub trait Analysis: Rules {
         ensures { result ≡ length (state part.now).log };
 
     /// Returns the log, and what the part says beside it.
-    fn into_parts(part: Self::Part, alloc: Global) -> (Vec<Growth<Self::Fact>>, Self::Yield)
+    fn into_parts(part: Self::Part, alloc: Global) -> (Vec<Self::Growth>, Self::Yield)
         ensures log { result.0.items ≡ (state part).log }
         ensures yields { yields (state part).system (state part).me (state part).log result.1 };
 
@@ -158,4 +156,4 @@ pub trait Analysis: Rules {
 }
 
 /// An analysis that threads share, each with a part of its own.
-pub trait ThreadAnalysis: Rules<Fact: Send> + Analysis<Part: Send, Yield: Send> + Sync {}
+pub trait ThreadAnalysis: Rules<Growth: Send> + Analysis<Part: Send, Yield: Send> + Sync {}

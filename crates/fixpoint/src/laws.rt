@@ -8,23 +8,22 @@ ghost use Rattle.fixpoint.specs.Sums.{sum_to};
 ghost use Rattle.fixpoint.specs.Finishing.{Finishes, AreRanked};
 ghost use Rattle.fixpoint.specs.declared.ending.Ending.{Ending};
 ghost use Rattle.fixpoint.specs.declared.ending.Ending.TheVariants.{Quiet, Stray};
-ghost use Rattle.fixpoint.specs.declared.growth.Growth.{Growth};
 
 use crate::rules::Rules;
 
 /// States that at every moment each growth of a log is of the least solution.
 pub fn sound_parts_are_right<A: Rules>()
-    ensures { (a : A) (logs : List (List (Growth A.Fact)))
-        (received : ℕ → ℕ → List (Growth A.Fact))
+    ensures { (a : A) (logs : List (List A.Growth))
+        (received : ℕ → ℕ → List A.Growth)
         → A.rules.valid a → AreSound A.rules a logs received
-        → (i : ℕ) (g : Growth A.Fact) → i < A.rules.parts a → Contains (log_of logs i) g
-        → Least A.rules a g.fact }
+        → (i : ℕ) (g : A.Growth) → i < A.rules.parts a → Contains (log_of logs i) g
+        → Least A.rules a (A.rules.fact g) }
 {}
 
 /// States that the logs of settled owners say exactly the least solution.
 pub fn settled_parts_agree<A: Rules>()
-    ensures { (a : A) (logs : List (List (Growth A.Fact)))
-        (received : ℕ → ℕ → List (Growth A.Fact))
+    ensures { (a : A) (logs : List (List A.Growth))
+        (received : ℕ → ℕ → List A.Growth)
         → A.rules.valid a → AreSound A.rules a logs received → AreSettled A.rules a logs received
         → SayLeast A.rules a logs }
 {}
@@ -32,8 +31,8 @@ pub fn settled_parts_agree<A: Rules>()
 /// States that no worker takes a growth that can't be its sender's: `got i j` and `rest i j` are
 /// what was taken and what was left of what owner i posted to owner j.
 pub fn never_stray<A: Rules>()
-    ensures { (a : A) (state : ℕ → State A A.Fact)
-        (sent got rest : ℕ → ℕ → List (Growth A.Fact)) (owed cleared : ℕ → ℕ)
+    ensures { (a : A) (state : ℕ → State A A.Growth)
+        (sent got rest : ℕ → ℕ → List A.Growth) (owed cleared : ℕ → ℕ)
         (ending : ℕ → Ending)
         → ((i : ℕ) → i < A.rules.parts a → Finishes A.rules a i (state i) (sent i)
         (λ j. got j i) (owed i) (cleared i) (ending i))
@@ -46,8 +45,8 @@ pub fn never_stray<A: Rules>()
 /// received its whole part of each other log, no rank is left out or reaches 2^37, and the logs say
 /// exactly the least solution.
 pub fn all_quiet<A: Rules>()
-    ensures { (a : A) (state : ℕ → State A A.Fact) (logs : List (List (Growth A.Fact)))
-        (sent got rest : ℕ → ℕ → List (Growth A.Fact)) (owed cleared : ℕ → ℕ)
+    ensures { (a : A) (state : ℕ → State A A.Growth) (logs : List (List A.Growth))
+        (sent got rest : ℕ → ℕ → List A.Growth) (owed cleared : ℕ → ℕ)
         (ending : ℕ → Ending) → A.rules.valid a → length logs ≡ A.rules.parts a
         → ((i : ℕ) → i < A.rules.parts a → log_of logs i ≡ (state i).log)
         → ((i : ℕ) → i < A.rules.parts a → Finishes A.rules a i (state i) (sent i)

@@ -7,9 +7,12 @@ ghost use Rattle.fixpoint.specs.Rules as spec;
 pub trait Rules {
     /// What may come to hold.
     type Fact: Copy;
+    /// What owners tell each other: a fact that came to hold, at a rank. `Growth` serves where
+    /// nothing else is wanted.
+    type Growth: Copy;
 
     /// What the analysis says.
-    ghost rules: { spec.Rules Self Self.Fact };
+    ghost rules: { spec.Rules Self Self.Fact Self.Growth };
 
     /// How many owners there are.
     fn parts(&self) -> u16
