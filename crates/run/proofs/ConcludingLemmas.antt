@@ -3,7 +3,6 @@ use Rattle.std.proofs.Common.{length-append, ◌≡◌, ◌≢◌, ◌+◌, ◌<
 use Rattle.std.specs.List.{sum_by}
 use Rattle.std.proofs.lemmas.Bool.{cases_lt}
 use Rattle.std.proofs.lemmas.List.Sums.{sum_by-cons}
-use Rattle.fixpoint.specs.declared.growth.Growth.{Growth}
 use Rattle.nll_sets.specs.Prefix.{IsPrefix}
 use Rattle.fixpoint.specs.Rules.{AreLawful, Rules}
 use Rattle.fixpoint.specs.Logs.{AreSound, SayLeast, log_of, part}
@@ -96,9 +95,9 @@ error_bad endings.Forbidden t e = absurd t
 error_bad endings.Unstarted t e = absurd t
 error_bad endings.NoOwner t e = absurd t
 
-module _ {A F Y D M S R C P L B H E : Type 0} (rules : Rules A F) (yields : A → ℕ → List (Growth F) → Y → Type 0)
-    (lawful : AreLawful rules) (m : Mail.Ghosts M (Growth F) S R C P) (b : Ledger.Ghosts L B H E) (book : B)
-    (log : D → List (Growth F)) (given : D → Y) (left : D → E) (closed : D → List (Option C))
+module _ {A F G Y D M S R C P L B H E : Type 0} (rules : Rules A F G) (yields : A → ℕ → List G → Y → Type 0)
+    (lawful : AreLawful rules) (m : Mail.Ghosts M G S R C P) (b : Ledger.Ghosts L B H E) (book : B)
+    (log : D → List G) (given : D → Y) (left : D → E) (closed : D → List (Option C))
     (kept : D → List (Option R))
     (why_of : D → Ending) (a : A) (ok : rules.valid a) (ds : List D) (count : length ds ≡ rules.parts a)
     (leaves : (k : ℕ) (d : D) → slice_get ds k ≡ Some d → Leaves b book k (left d) (why_of d))
@@ -108,13 +107,13 @@ module _ {A F Y D M S R C P L B H E : Type 0} (rules : Rules A F) (yields : A �
     (b.left_owed (left d)) (b.left_cleared (left d)) (why_of d) (log d)
     (given d))
     (calm : (k : ℕ) (d : D) → slice_get ds k ≡ Some d → IsCalm (why_of d)) where
-  abbrev sent : ℕ → ℕ → List (Growth F)
+  abbrev sent : ℕ → ℕ → List G
   sent i j = sent_by m.all_sent (map closed ds) i j
 
-  abbrev got : ℕ → ℕ → List (Growth F)
+  abbrev got : ℕ → ℕ → List G
   got i j = got_by m.received (map kept ds) i j
 
-  abbrev logs : List (List (Growth F))
+  abbrev logs : List (List G)
   logs = map log ds
 
   abbrev owed : ℕ → ℕ
@@ -129,10 +128,10 @@ module _ {A F Y D M S R C P L B H E : Type 0} (rules : Rules A F) (yields : A �
   done : (i : ℕ) → i < rules.parts a → (d : D) × (slice_get ds i ≡ Some d)
   done i l = place ds i (omega (arith, l, count))
 
-  abbrev Ends : ℕ → State A F → Type 0
+  abbrev Ends : ℕ → State A G → Type 0
   Ends i o = (o.log ≡ log_of logs i) × Finishes rules a i o (sent i) (λ j. got j i) (owed i) (cleared i) (ending i)
 
-  ends_at : (i : ℕ) → i < rules.parts a → (o : State A F) × Ends i o
+  ends_at : (i : ℕ) → i < rules.parts a → (o : State A G) × Ends i o
   ends_at i l =
       let d = done i l in
       let f = finishes i d.0 d.1 (made (why_of d.0) (calm i d.0 d.1)) in (
@@ -157,11 +156,11 @@ module _ {A F Y D M S R C P L B H E : Type 0} (rules : Rules A F) (yields : A �
         ),
       )
 
-  chosen : (i : ℕ) → (i < rules.parts a) ⊎ (rules.parts a ≤ i) → (o : State A F) × (i < rules.parts a → Ends i o)
+  chosen : (i : ℕ) → (i < rules.parts a) ⊎ (rules.parts a ≤ i) → (o : State A G) × (i < rules.parts a → Ends i o)
   chosen i (inl l) = ((ends_at i l).0, λ _. (ends_at i l).1)
   chosen i (inr l) = (first_state rules a i, λ m. absurd (omega (arith, l, m)))
 
-  abbrev state : ℕ → State A F
+  abbrev state : ℕ → State A G
   state i = (chosen i (cases_lt i (rules.parts a))).0
 
   ends : (i : ℕ) → i < rules.parts a
@@ -179,7 +178,7 @@ module _ {A F Y D M S R C P L B H E : Type 0} (rules : Rules A F) (yields : A �
   given_at i y l at =
       let d = done i l in
       let f = finishes i d.0 d.1 (made (why_of d.0) (calm i d.0 d.1)) in
-      subst (λ (x : List (Growth F) × Y). yields a i x.0 x.1)
+      subst (λ (x : List G × Y). yields a i x.0 x.1)
       (λ j. (
         sym (mapped log ds i d.0 [] d.1) j,
         same_place (map given ds) i (given d.0) y (map_place given ds i d.0 d.1) at j,
@@ -192,7 +191,7 @@ module _ {A F Y D M S R C P L B H E : Type 0} (rules : Rules A F) (yields : A �
   module _ (posts : List P)
       (settled : ArePostsOf m (sent_by m.all_sent (map closed ds)) (got_by m.received (map kept ds))
       (InRows (rules.parts a) (rules.parts a)) posts) where
-    abbrev rest : ℕ → ℕ → List (Growth F)
+    abbrev rest : ℕ → ℕ → List G
     rest i j = drop (length (got i j)) (sent i j)
 
     tied : (i j : ℕ) → i < rules.parts a → j < rules.parts a → sent i j ≡ got i j ++ rest i j

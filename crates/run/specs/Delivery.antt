@@ -3,7 +3,6 @@
 use Rattle.std.specs.Prelude.{◌≡◌, ◌≢◌, ◌⊎◌, ◌↔◌, ℕ, ◌<◌, List, map, Contains}
 use Rattle.fixpoint.specs.Rules.{Rules}
 use Rattle.fixpoint.specs.Logs.{log_of, part}
-use Rattle.fixpoint.specs.declared.growth.Growth.{Growth}
 
 -- the pair is of two different owners
 abbrev pub IsPair : ℕ → ℕ × ℕ → Type 0
@@ -15,8 +14,8 @@ IsPairBefore pair other = (pair.0 < other.0) ⊎ ((pair.0 ≡ other.0) × (pair.
 
 -- There is a settled mailbox for each ordered pair of different owners, and no other; what was sent
 -- through it is the part of the sender's log that the receiver reads; and all of it was received.
-pub record AreDelivered {A F P : Type 0} (rules : Rules A F) (ends : P → ℕ × ℕ)
-    (sent received : P → List (Growth F)) (a : A) (logs : List (List (Growth F)))
+pub record AreDelivered {A F G P : Type 0} (rules : Rules A F G) (ends : P → ℕ × ℕ)
+    (sent received : P → List G) (a : A) (logs : List (List G))
     (posts : List P) : Type 0 where
   pub pairs : (pair : ℕ × ℕ) → Contains (map ends posts) pair ↔ IsPair (rules.parts a) pair
   pub whole_part :

@@ -4,13 +4,12 @@ use Rattle.std.specs.Prelude.{slice_get}
 use Rattle.fixpoint.specs.Rules.{Rules}
 use Rattle.fixpoint.specs.Logs.{AreSound, SayLeast, log_of, part}
 use Rattle.fixpoint.specs.Finishing.{AreRanked}
-use Rattle.fixpoint.specs.declared.growth.Growth.{Growth}
 use Rattle.mail.specs.declared.mail.Mail as Mail
 use Rattle.run.specs.Delivery.{AreDelivered, IsPairBefore}
 
 -- Each owner's part gave out one thing, which says what the owner's log tells.
-pub record AreYields {A F Y : Type 0} (parts : A → ℕ)
-    (yields : A → ℕ → List (Growth F) → Y → Type 0) (a : A) (grown : List (List (Growth F)))
+pub record AreYields {A G Y : Type 0} (parts : A → ℕ)
+    (yields : A → ℕ → List G → Y → Type 0) (a : A) (grown : List (List G))
     (given : List Y) : Type 0 where
   pub counted : length given ≡ parts a
   pub each :
@@ -18,9 +17,9 @@ pub record AreYields {A F Y : Type 0} (parts : A → ℕ)
 
 -- Each owner received from each other exactly the growths of the facts that it reads, once each and
 -- in the order in which they grew, and none was left in a mailbox. The logs say the least solution.
-pub record IsOutcome {A F Y : Type 0} (rules : Rules A F)
-    (yields : A → ℕ → List (Growth F) → Y → Type 0) {M S R C P : Type 0}
-    (mail : Mail.Ghosts M (Growth F) S R C P) (a : A) (grown : List (List (Growth F)))
+pub record IsOutcome {A F G Y : Type 0} (rules : Rules A F G)
+    (yields : A → ℕ → List G → Y → Type 0) {M S R C P : Type 0}
+    (mail : Mail.Ghosts M G S R C P) (a : A) (grown : List (List G))
     (given : List Y) (posts : List P) : Type 0 where
   -- a settled mailbox for each ordered pair of different owners, and no other, by sender and then
   -- by receiver; the sender's part for the receiver was sent through it, and all of it was received

@@ -17,7 +17,7 @@ use crate::mailboxes::{make_columns, make_rows, make_workers};
 use crate::outcome::Outcome;
 use crate::parts::{Parts, reason_of, take_apart};
 use crate::settlement::settle_all;
-use fixpoint::{Analysis, Growth, ThreadAnalysis};
+use fixpoint::{Analysis, ThreadAnalysis};
 use ledger::{Ledger, ThreadLedger};
 use mail::{Mail, ThreadMail};
 use nll_sets::Memory;
@@ -43,7 +43,7 @@ use worker::{AlwaysStart, Finished, Permit, Site, ThreadGate, Worker, run_all};
 /// post and a take (not proved). There is a mailbox for each ordered pair of different owners.
 pub fn run<
     A: ThreadAnalysis,
-    M: ThreadMail<Growth<A::Fact>>,
+    M: ThreadMail<A::Growth>,
     L: ThreadLedger,
     G: ThreadGate,
     R: Threads + Wait + Sync,
@@ -72,7 +72,7 @@ pub fn run<
 /// - `Memory`, where no start failed.
 pub fn run_with<
     A: ThreadAnalysis,
-    M: ThreadMail<Growth<A::Fact>>,
+    M: ThreadMail<A::Growth>,
     L: ThreadLedger,
     G: ThreadGate,
     P: Permit,
@@ -111,7 +111,7 @@ pub fn run_with<
 }
 
 // The book and the workers, each with a fresh share and the ends of its mailboxes.
-fn prepare<A: Analysis, M: Mail<Growth<A::Fact>>, L: Ledger>(
+fn prepare<A: Analysis, M: Mail<A::Growth>, L: Ledger>(
     alloc: Global,
     mail: &M,
     ledger: &L,
@@ -128,7 +128,7 @@ fn prepare<A: Analysis, M: Mail<Growth<A::Fact>>, L: Ledger>(
     ensures shares { IfOk result (λ p. (k : ℕ) (w : _) → slice_get p.1.items k ≡ Some w
         → IsFresh L.Ledger p.0 k w.share) }
 {
-    let mut columns = make_columns::<Growth<A::Fact>, M>(alloc, owners)?;
+    let mut columns = make_columns::<A::Growth, M>(alloc, owners)?;
     let rows = make_rows::<A, M>(alloc, mail, owners, &mut columns)?;
     let (book, shares) = ledger.open(alloc, owners)?;
     let workers = make_workers::<A, M, L>(
@@ -142,7 +142,7 @@ fn prepare<A: Analysis, M: Mail<Growth<A::Fact>>, L: Ledger>(
 }
 
 // Settles the mailboxes and gathers the ledger.
-fn conclude<A: Analysis, M: Mail<Growth<A::Fact>>, L: Ledger>(
+fn conclude<A: Analysis, M: Mail<A::Growth>, L: Ledger>(
     alloc: Global,
     analysis: &A,
     book: L::Book,
@@ -183,7 +183,7 @@ fn conclude<A: Analysis, M: Mail<Growth<A::Fact>>, L: Ledger>(
     let _ = L::gather(book, lefts);
     let mut columns = columns;
     let mut posts = Vec::new(alloc);
-    settle_all::<Growth<A::Fact>, M>(VecDeque::from(rows), &mut columns, owners, &mut posts)?;
+    settle_all::<A::Growth, M>(VecDeque::from(rows), &mut columns, owners, &mut posts)?;
     Ok(Outcome {
         yields,
         grown,

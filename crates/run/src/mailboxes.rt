@@ -5,7 +5,7 @@ ghost use Rattle.std.specs.Prelude.{vec_len, vec_capacity};
 ghost use Rattle.std.specs.VecDeque.{deque_len};
 ghost use Rattle.run.specs.Table.{AreEnds, AreNewEnds, IsTable, IsPartRow};
 
-use fixpoint::{Analysis, Growth};
+use fixpoint::Analysis;
 use ledger::Ledger;
 use mail::Mail;
 use nll_sets::Memory;
@@ -35,7 +35,7 @@ pub fn make_columns<T, M: Mail<T>>(
 ///
 /// # Errors
 /// - `Memory`.
-pub fn make_rows<A: Analysis, M: Mail<Growth<A::Fact>>>(
+pub fn make_rows<A: Analysis, M: Mail<A::Growth>>(
     alloc: Global,
     mail: &M,
     owners: u16,
@@ -70,7 +70,7 @@ fn make_ends<T, M: Mail<T>>(
 }
 
 // One sender for each other owner; the receivers are appended to the columns.
-fn make_row<A: Analysis, M: Mail<Growth<A::Fact>>>(
+fn make_row<A: Analysis, M: Mail<A::Growth>>(
     alloc: Global,
     mail: &M,
     from: u16,
@@ -86,7 +86,7 @@ fn make_row<A: Analysis, M: Mail<Growth<A::Fact>>>(
         senders: Vec::with_capacity(alloc, owners as usize)?,
     };
     for to in 0..owners {
-        let (sender, receiver) = make_ends::<Growth<A::Fact>, M>(alloc, mail, from, to)?;
+        let (sender, receiver) = make_ends::<A::Growth, M>(alloc, mail, from, to)?;
         row.senders.push_reserved(sender);
         columns[to as usize].push(receiver)?;
     }
@@ -97,7 +97,7 @@ fn make_row<A: Analysis, M: Mail<Growth<A::Fact>>>(
 ///
 /// # Errors
 /// - `Memory`.
-pub fn make_workers<A: Analysis, M: Mail<Growth<A::Fact>>, L: Ledger>(
+pub fn make_workers<A: Analysis, M: Mail<A::Growth>, L: Ledger>(
     alloc: Global,
     owners: u16,
     rows: VecDeque<Outbox<A, M>>,

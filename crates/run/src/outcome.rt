@@ -1,6 +1,6 @@
 //! The outcome of a run.
 
-use fixpoint::{Analysis, Growth};
+use fixpoint::Analysis;
 
 /// The outcome of a run.
 ///
@@ -13,7 +13,7 @@ pub struct Outcome<A: Analysis, P: Drop> {
     /// What the parts returned.
     pub yields: Vec<A::Yield>,
     /// All growths of each owner's facts, in the order of their ranks.
-    pub grown: Vec<Vec<Growth<A::Fact>>>,
+    pub grown: Vec<Vec<A::Growth>>,
     /// The settled mailboxes.
     pub posts: Vec<P>,
 }

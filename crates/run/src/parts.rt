@@ -4,7 +4,7 @@ ghost use Rattle.std.specs.Prelude.{◌≡◌, map, IfOk};
 ghost use Rattle.run.specs.Refusing.{IsReason};
 
 use crate::error::RunError;
-use fixpoint::{Analysis, Ending, Growth};
+use fixpoint::{Analysis, Ending};
 use ledger::Ledger;
 use mail::Mail;
 use nll_sets::Memory;
@@ -14,9 +14,9 @@ use worker::Finished;
 
 /// What the workers gave back, by kind.
 #[derive(Drop)]
-pub struct Parts<A: Analysis, M: Mail<Growth<A::Fact>>, L: Ledger> {
+pub struct Parts<A: Analysis, M: Mail<A::Growth>, L: Ledger> {
     pub lefts: Vec<L::Left>,
-    pub grown: Vec<Vec<Growth<A::Fact>>>,
+    pub grown: Vec<Vec<A::Growth>>,
     pub yields: Vec<A::Yield>,
     pub rows: Vec<VecDeque<Option<M::Closed>>>,
     pub columns: Vec<VecDeque<Option<M::R>>>,
@@ -24,7 +24,7 @@ pub struct Parts<A: Analysis, M: Mail<Growth<A::Fact>>, L: Ledger> {
 
 /// Why the run is refused, if it is: because a worker wasn't started, or else because one was out
 /// of memory.
-pub fn reason_of<A: Analysis, M: Mail<Growth<A::Fact>>, L: Ledger>(
+pub fn reason_of<A: Analysis, M: Mail<A::Growth>, L: Ledger>(
     finished: &[Finished<A, M, L>],
 ) -> Option<RunError>
     ensures { IsReason (map (λ d. d.ending) finished.now) result }
@@ -48,7 +48,7 @@ pub fn reason_of<A: Analysis, M: Mail<Growth<A::Fact>>, L: Ledger>(
 ///
 /// # Errors
 /// - `Memory`.
-pub fn take_apart<A: Analysis, M: Mail<Growth<A::Fact>>, L: Ledger>(
+pub fn take_apart<A: Analysis, M: Mail<A::Growth>, L: Ledger>(
     alloc: Global,
     finished: VecDeque<Finished<A, M, L>>,
 ) -> Result<Parts<A, M, L>, Memory>

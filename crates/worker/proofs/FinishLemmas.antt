@@ -2,7 +2,6 @@
 use Rattle.std.proofs.Common.{◌≡◌, ◌≢◌, ℕ, ◌+◌, ◌<◌, List, length, sym, ap, ◌∙◌, subst, arith}
 use Rattle.fixpoint.specs.Logs.{log_of}
 use Rattle.fixpoint.specs.State.{State, IsSound, part_for}
-use Rattle.fixpoint.specs.declared.growth.Growth.{Growth}
 use Rattle.fixpoint.specs.declared.ending.Ending.{Ending}
 use Rattle.fixpoint.specs.declared.ending.Ending.TheVariants.{Quiet, Stray}
 use Rattle.worker.specs.declared.tally.Tally.{Tally}
@@ -16,21 +15,21 @@ use Rattle.worker.proofs.PostLemmas.{posts_front, posts_all}
 use Rattle.worker.proofs.TurnLemmas.{taken_all}
 use Rattle.fixpoint.specs.Rules.{Rules}
 
-module _ {A F : Type 0} (rules : Rules A F) where
+module _ {A F G : Type 0} (rules : Rules A F G) where
   -- it is of the same problem, cut and number after it gave out more, or grew
-  pub is_given : (a : A) (i : ℕ) (old new : State A F) → new ≡ record old { given = new.given }
+  pub is_given : (a : A) (i : ℕ) (old new : State A G) → new ≡ record old { given = new.given }
       → IsPartOf a i old → IsPartOf a i new
   is_given a i old new others is =
       record {
-        system = ap (λ (o : State A F). o.system) others ∙ is.system;
-        me = ap (λ (o : State A F). o.me) others ∙ is.me;
+        system = ap (λ (o : State A G). o.system) others ∙ is.system;
+        me = ap (λ (o : State A G). o.me) others ∙ is.me;
       }
 
-  pub is_grown : (a : A) (i : ℕ) (old new : State A F) → HasGrown old new → IsPartOf a i old
+  pub is_grown : (a : A) (i : ℕ) (old new : State A G) → HasGrown old new → IsPartOf a i old
       → IsPartOf a i new
   is_grown a i old new h is = record { system = h.system ∙ is.system; me = h.me ∙ is.me }
 
-  module _ (a : A) (i : ℕ) (o : State A F) (posts taken : List (List (Growth F))) (owed cleared : ℕ)
+  module _ (a : A) (i : ℕ) (o : State A G) (posts taken : List (List G)) (owed cleared : ℕ)
       (is : IsPartOf a i o) (posted : HasPosted rules o posts) where
     inside : (j : ℕ) → j < (rules.parts a) → j < (rules.parts o.system)
     inside j l = subst (λ (k : A). j < rules.parts k) (sym is.system) l
@@ -101,22 +100,22 @@ module _ {A F : Type 0} (rules : Rules A F) where
         quiet_is_not_stray : Quiet ≡ Stray → ⊥
         quiet_is_not_stray e = cc
 
-  pub finishes_left : (a : A) (i : ℕ) (o : State A F) (sent got : ℕ → List (Growth F))
+  pub finishes_left : (a : A) (i : ℕ) (o : State A G) (sent got : ℕ → List G)
       (owed cleared owed' cleared' : ℕ) (ending : Ending) → owed' ≡ owed → cleared' ≡ cleared
       → Finishes rules a i o sent got owed cleared ending → Finishes rules a i o sent got owed' cleared' ending
   finishes_left a i o sent got owed cleared owed' cleared' ending p r f =
       subst (λ (y : ℕ × ℕ). Finishes rules a i o sent got y.0 y.1 ending) (λ k. (sym p k, sym r k)) f
 
   -- what a worker gives back whose part rules handed out its log and what it says
-  pub finished_as : {Y : Type 0} (yields : A → ℕ → List (Growth F) → Y → Type 0) (a : A) (i : ℕ) (o : State A F)
-      (sent got : ℕ → List (Growth F)) (owed cleared : ℕ)
-      (ending : Ending) (log : List (Growth F)) (yielded : Y) → log ≡ o.log
+  pub finished_as : {Y : Type 0} (yields : A → ℕ → List G → Y → Type 0) (a : A) (i : ℕ) (o : State A G)
+      (sent got : ℕ → List G) (owed cleared : ℕ)
+      (ending : Ending) (log : List G) (yielded : Y) → log ≡ o.log
       → Finishes rules a i o sent got owed cleared ending → yields o.system o.me o.log yielded
       → FinishedAs rules yields a i sent got owed cleared ending log yielded
   finished_as {Y} yields a i o sent got owed cleared ending log yielded is f values = (
     o,
     sym is,
     f,
-    subst (λ (y : A × ℕ × List (Growth F)). yields y.0 y.1 y.2 yielded)
+    subst (λ (y : A × ℕ × List G). yields y.0 y.1 y.2 yielded)
         (λ k. (f.system k, f.me k, sym is k)) values,
   )

@@ -4,7 +4,6 @@ use Rattle.std.specs.Prelude.{Bool, true, Option, Some, None, IfSome, IfNone}
 use Rattle.std.proofs.lemmas.Bool.{cases_eq}
 use Rattle.std.proofs.lemmas.Option.{slice_get_within}
 use Rattle.std.proofs.lemmas.List.{get_or-set_same, get_or-set_other, take-append-drop}
-use Rattle.fixpoint.specs.declared.growth.Growth.{Growth}
 use Rattle.fixpoint.specs.Logs.{log_of}
 use Rattle.nll_sets.specs.Prefix.{IsPrefix}
 use Rattle.fixpoint.specs.State.{State, IsSound, part_for, given_to, first_state}
@@ -36,10 +35,10 @@ take_within zero xs ys l = take_none (xs ++ ys) ∙ sym (take_none xs)
 take_within (suc n) [] ys l = absurd (omega (arith, l))
 take_within (suc n) (x ∷ xs) ys l = ap (λ zs. x ∷ zs) (take_within n xs ys (omega (arith, l)))
 
-module _ {A F : Type 0} (rules : Rules A F) where
+module _ {A F G : Type 0} (rules : Rules A F G) where
   -- the growth that comes next is the one that is given out
-  pub gives_next : (old new : State A F) (to : ℕ) (r : Option (Growth F))
-      (g : Growth F) → old.broken ≡ false → to < (rules.parts old.system)
+  pub gives_next : (old new : State A G) (to : ℕ) (r : Option G)
+      (g : G) → old.broken ≡ false → to < (rules.parts old.system)
       → slice_get (part_for rules old to) (given_to old to) ≡ Some g
       → IfSome r (λ growth. (old.broken ≡ false) × (slice_get (part_for rules old to) (given_to old to) ≡ Some growth)
       × (new ≡ record old { given = slice_set old.given to (given_to old to + 1) }))
@@ -54,31 +53,31 @@ module _ {A F : Type 0} (rules : Rules A F) where
         none.1 whole to_in,
       ))
 
-  module _ (old next : State A F) (before after : List (List (Growth F))) (to : ℕ) (p : HasPosted rules old before)
+  module _ (old next : State A G) (before after : List (List G)) (to : ℕ) (p : HasPosted rules old before)
       (others : next ≡ record old { given = next.given })
       (other_given : (j : ℕ) → j ≢ to → given_to next j ≡ given_to old j)
       (sent : log_of after to ≡ take (given_to next to) (part_for rules old to))
       (rest : after ≡ slice_set before to (log_of after to)) where
     part_was : (j : ℕ) → part_for rules next j ≡ part_for rules old j
-    part_was j = ap (λ (o : State A F). part_for rules o j) others
+    part_was j = ap (λ (o : State A G). part_for rules o j) others
 
     pub posted_on : HasPosted rules next after
     posted_on = record {
       count = ap length rest ∙ (set_length before to (log_of after to)
-          ∙ (p.count ∙ sym (ap (λ (o : State A F). rules.parts o.system) others)));
+          ∙ (p.count ∙ sym (ap (λ (o : State A G). rules.parts o.system) others)));
       front = λ j l. ⊎_elim
           (λ (here : j ≡ to). ap (log_of after) here
           ∙ (sent ∙ (ap (take (given_to next to)) (sym (part_was to))
           ∙ ap (λ k. take (given_to next k) (part_for rules next k)) (sym here))))
           (λ (other : j ≢ to). ap (λ xs. log_of xs j) rest
           ∙ (other_read before to j (log_of after to) [] other
-          ∙ (p.front j (subst (λ (o : State A F). j < (rules.parts o.system)) others l)
+          ∙ (p.front j (subst (λ (o : State A G). j < (rules.parts o.system)) others l)
           ∙ (ap (λ n. take n (part_for rules old j)) (sym (other_given j other))
           ∙ ap (take (given_to next j)) (sym (part_was j))))))
           (cases_eq j to);
     }
 
-  pub posts_grown : (old new : State A F) (posts : List (List (Growth F))) → HasGrown old new → IsSound rules old →
+  pub posts_grown : (old new : State A G) (posts : List (List G)) → HasGrown old new → IsSound rules old →
       HasPosted rules old posts
       → HasPosted rules new posts
   posts_grown old new posts h sound p = record {
@@ -92,18 +91,18 @@ module _ {A F : Type 0} (rules : Rules A F) where
   }
 
   -- an owner that has done nothing but grow has given out nothing, and nothing was posted
-  pub posts_first : (a : A) (i : ℕ) (old new : State A F) (posts : List (List (Growth F)))
+  pub posts_first : (a : A) (i : ℕ) (old new : State A G) (posts : List (List G))
       → old ≡ first_state rules a i → HasGrown old new → AreAllEmpty (rules.parts a) posts → HasPosted rules new posts
   posts_first a i old new posts first h none = record {
-    count = none.0 ∙ sym (ap (λ (k : A). rules.parts k) h.system ∙ ap (λ (o : State A F). rules.parts o.system) first);
+    count = none.0 ∙ sym (ap (λ (k : A). rules.parts k) h.system ∙ ap (λ (o : State A G). rules.parts o.system) first);
     front = λ j l.
-        let given = given_same rules old new h j ∙ (ap (λ (o : State A F). given_to o j) first ∙ read_replicate
+        let given = given_same rules old new h j ∙ (ap (λ (o : State A G). given_to o j) first ∙ read_replicate
         (rules.parts a) j 0) in
         none.1 j ∙ sym (ap (λ n. take n (part_for rules new j)) given ∙ take_none (part_for rules new j));
   }
 
   -- the front of each part rules was posted
-  pub posts_front : (o : State A F) (posts : List (List (Growth F))) → HasPosted rules o posts → (j : ℕ) → j <
+  pub posts_front : (o : State A G) (posts : List (List G)) → HasPosted rules o posts → (j : ℕ) → j <
       (rules.parts o.system)
       → IsPrefix (log_of posts j) (part_for rules o j)
   posts_front o posts p j l =
@@ -111,7 +110,7 @@ module _ {A F : Type 0} (rules : Rules A F) where
       (drop (given_to o j) (part_for rules o j), sym (take-append-drop (given_to o j) (part_for rules o j)))
 
   -- where nothing waits, all was posted
-  pub posts_all : (o : State A F) (posts : List (List (Growth F))) (t : Tally) → IsSound rules o → HasPosted rules o
+  pub posts_all : (o : State A G) (posts : List (List G)) (t : Tally) → IsSound rules o → HasPosted rules o
       posts → IsCounted rules o t
       → t.waiting ≡ 0 → (j : ℕ) → j < (rules.parts o.system) → log_of posts j ≡ part_for rules o j
   posts_all o posts t sound p is none j l = p.front j l
@@ -119,33 +118,33 @@ module _ {A F : Type 0} (rules : Rules A F) where
 
   -- ---- how much was given out of a part rules
 
-  pub one_more : (first now next : State A F) (to : ℕ) (sent : List (Growth F)) → Posting rules first now to sent
+  pub one_more : (first now next : State A G) (to : ℕ) (sent : List G) → Posting rules first now to sent
       → to < (rules.parts first.system) → next ≡ record now { given = slice_set now.given to (given_to now to + 1) }
       → given_to next to ≡ given_to now to + 1
   one_more first now next to sent p to_in gives =
-      ap (λ (o : State A F). given_to o to) gives ∙ get_or-set_same now.given to (given_to now to + 1) 0
-      (subst (λ n. to < n) (sym p.sound.receivers) (subst (λ (o : State A F). to < (rules.parts o.system))
+      ap (λ (o : State A G). given_to o to) gives ∙ get_or-set_same now.given to (given_to now to + 1) 0
+      (subst (λ n. to < n) (sym p.sound.receivers) (subst (λ (o : State A G). to < (rules.parts o.system))
       (sym p.others) to_in))
 
   -- as much as may be at once
-  pub given_most : (old now : State A F) (to posted most : ℕ) (g : Growth F) → now ≡ record old { given = now.given }
+  pub given_most : (old now : State A G) (to posted most : ℕ) (g : G) → now ≡ record old { given = now.given }
       → given_to now to ≡ given_to old to + posted → posted ≤ most → most ≤ posted
       → slice_get (part_for rules now to) (given_to now to) ≡ Some g
       → given_to now to ≡ min (given_to old to + most) (length (part_for rules old to))
   given_most old now to posted most g others count few many next =
-      let same = ap (λ (o : State A F). length (part_for rules o to)) others in
+      let same = ap (λ (o : State A G). length (part_for rules o to)) others in
       let more = slice_get_within (part_for rules now to) (given_to now to) g next in
       omega (arith, count, few, many, same, more)
 
   -- all that was left
-  pub given_rest : (old now : State A F) (to posted most : ℕ) → now ≡ record old { given = now.given }
+  pub given_rest : (old now : State A G) (to posted most : ℕ) → now ≡ record old { given = now.given }
       → given_to now to ≡ given_to old to + posted → posted ≤ most → given_to now to ≡ length (part_for rules now to)
       → given_to now to ≡ min (given_to old to + most) (length (part_for rules old to))
   given_rest old now to posted most others count few all =
-      let same = ap (λ (o : State A F). length (part_for rules o to)) others in omega (arith, count, few, same, all)
+      let same = ap (λ (o : State A G). length (part_for rules o to)) others in omega (arith, count, few, same, all)
 
   -- of one part rules more
-  module _ (first old next : State A F) (to most : ℕ) (others : old ≡ record first { given = old.given })
+  module _ (first old next : State A G) (to most : ℕ) (others : old ≡ record first { given = old.given })
       (other_given : (j : ℕ) → j ≢ to → given_to next j ≡ given_to old j)
       (rest : (j : ℕ) → to ≤ j → given_to old j ≡ given_to first j) where
     pub given_behind : (j : ℕ) → to + 1 ≤ j → given_to next j ≡ given_to first j
@@ -155,7 +154,7 @@ module _ {A F : Type 0} (rules : Rules A F) where
         differs j to l = grind arith
 
     -- of a part rules, as much more than this owner gave out as may be at once
-    abbrev GivenSo : State A F → ℕ → Type 0
+    abbrev GivenSo : State A G → ℕ → Type 0
     GivenSo o k = given_to next k ≡ min (given_to o k + most) (length (part_for rules o k))
 
     pub given_more : HasGivenMore rules most to first old → GivenSo old to → HasGivenMore rules most (to + 1) first next
@@ -166,7 +165,7 @@ module _ {A F : Type 0} (rules : Rules A F) where
       where
         last : GivenSo first to
         last =
-            let same = ap (λ (o : State A F). length (part_for rules o to)) others in
+            let same = ap (λ (o : State A G). length (part_for rules o to)) others in
             let from = rest to (omega arith) in
             omega (arith, given, same, from)
 
@@ -174,16 +173,16 @@ module _ {A F : Type 0} (rules : Rules A F) where
         below j to l other = grind arith
 
   -- nothing of its log is for the owner itself
-  part_own : AreLawful rules → (o : State A F) → IsSound rules o → part_for rules o o.me ≡ []
+  part_own : AreLawful rules → (o : State A G) → IsSound rules o → part_for rules o o.me ≡ []
   part_own lawful o sound =
-      filter_none (λ (g : Growth F). rules.reads o.system o.me g.fact) o.log
-      (λ g h. unread g.fact (rules.reads o.system o.me g.fact) refl (sound.well_formed.own g h))
+      filter_none (λ (g : G). rules.reads o.system o.me (rules.fact g)) o.log
+      (λ g h. unread (rules.fact g) (rules.reads o.system o.me (rules.fact g)) refl (sound.well_formed.own g h))
     where
       unread : (f : F) (b : Bool) → rules.reads o.system o.me f ≡ b → rules.owner o.system f ≡ o.me → b ≡ false
       unread f false e is = refl
       unread f true e is = absurd ((lawful.others o.system sound.valid o.me f e).1 is)
 
-  pub given_own : AreLawful rules → (o : State A F) (to most : ℕ) → IsSound rules o → to ≡ o.me
+  pub given_own : AreLawful rules → (o : State A G) (to most : ℕ) → IsSound rules o → to ≡ o.me
       → given_to o to ≡ min (given_to o to + most) (length (part_for rules o to))
   given_own lawful o to most sound own =
       let none = ap length (ap (part_for rules o) own ∙ part_own lawful o sound) in
@@ -191,6 +190,6 @@ module _ {A F : Type 0} (rules : Rules A F) where
       omega (arith, none, few)
 
   -- where nothing waits, nothing more is to be given out
-  pub none_more : (o : State A F) (t : Tally) (most : ℕ) → IsSound rules o → IsCounted rules o t → t.waiting ≡ 0
+  pub none_more : (o : State A G) (t : Tally) (most : ℕ) → IsSound rules o → IsCounted rules o t → t.waiting ≡ 0
       → HasGivenMore rules most (rules.parts o.system) o o
   none_more o t most sound is none j l = let all = all_given rules o t sound is none j l in omega (arith, all)

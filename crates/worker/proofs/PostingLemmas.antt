@@ -2,7 +2,6 @@
 use Rattle.std.proofs.Common.{◌≡◌, ◌≢◌, ℕ, zero, suc, ◌+◌, ◌-◌, ◌^◌, ◌<◌, ◌≤◌, List, [], ◌∷◌, ◌++◌, length, take, drop, set, slice_get, Some, Bool, true, false, cond, if◌then◌else◌, Contains, append-nil, get_or, refl, sym, ap, ◌∙◌, subst, arith}
 use Rattle.std.proofs.lemmas.Option.{slice_get_within}
 use Rattle.std.proofs.lemmas.List.{get_or-set_same, get_or-set_other, take-append-drop}
-use Rattle.fixpoint.specs.declared.growth.Growth.{Growth}
 use Rattle.nll_sets.specs.Prefix.{IsPrefix}
 use Rattle.fixpoint.specs.State.{State, IsSound, part_for, given_to, with_growths}
 use Rattle.fixpoint.specs.Rules.{Rules}
@@ -45,36 +44,36 @@ filter_none {X} p (x ∷ xs) all =
 pub with_none : {G : Type 0} (lists : List (List G)) (j : ℕ) → with_growths lists j [] ≡ lists
 with_none lists j = ap (λ xs. set lists j xs) (append-nil (get_or lists j [])) ∙ set-get_or lists j []
 
-module _ {A F : Type 0} (rules : Rules A F) where
+module _ {A F G : Type 0} (rules : Rules A F G) where
   -- The owner gave out more to `to`, and just that was posted.
-  pub record Posting (first now : State A F) (to : ℕ) (sent : List (Growth F)) : Type 0 where
+  pub record Posting (first now : State A G) (to : ℕ) (sent : List G) : Type 0 where
     pub sound : IsSound rules now
     pub others : now ≡ record first { given = now.given }
     pub other_given : (j : ℕ) → j ≢ to → given_to now j ≡ given_to first j
     pub posted : sent ≡ take (given_to now to) (part_for rules first to)
 
   -- the owner after one more was given out
-  pub record Given (first next : State A F) (to : ℕ) : Type 0 where
+  pub record Given (first next : State A G) (to : ℕ) : Type 0 where
     pub sound : IsSound rules next
     pub others : next ≡ record first { given = next.given }
     pub other_given : (j : ℕ) → j ≢ to → given_to next j ≡ given_to first j
 
-  module _ (first now next : State A F) (to : ℕ) (sent : List (Growth F)) (p : Posting first now to sent)
-      (to_in : to < (rules.parts first.system)) (g : Growth F)
+  module _ (first now next : State A G) (to : ℕ) (sent : List G) (p : Posting first now to sent)
+      (to_in : to < (rules.parts first.system)) (g : G)
       (next_is : slice_get (part_for rules now to) (given_to now to) ≡ Some g)
       (gives : next ≡ record now { given = set now.given to (given_to now to + 1) }) (sound : IsSound rules next) where
     part_same : part_for rules now to ≡ part_for rules first to
-    part_same = ap (λ (o : State A F). part_for rules o to) p.others
+    part_same = ap (λ (o : State A G). part_for rules o to) p.others
 
     in_given : to < length now.given
-    in_given = subst (λ n. to < n) (sym p.sound.receivers) (subst (λ (o : State A F). to < (rules.parts o.system))
+    in_given = subst (λ n. to < n) (sym p.sound.receivers) (subst (λ (o : State A G). to < (rules.parts o.system))
         (sym p.others) to_in)
 
     given_is : next.given ≡ set now.given to (given_to now to + 1)
-    given_is = ap (λ (o : State A F). o.given) gives
+    given_is = ap (λ (o : State A G). o.given) gives
 
     one_more : given_to next to ≡ given_to now to + 1
-    one_more = ap (λ (o : State A F). given_to o to) gives ∙ get_or-set_same now.given to
+    one_more = ap (λ (o : State A G). given_to o to) gives ∙ get_or-set_same now.given to
         (given_to now to + 1) 0 in_given
 
     pub given_one : Given first next to
@@ -82,8 +81,8 @@ module _ {A F : Type 0} (rules : Rules A F) where
       sound = sound;
       others =
           gives ∙ (ap (λ xs. record now { given = xs }) (sym given_is)
-          ∙ ap (λ (o : State A F). record o { given = next.given }) p.others);
-      other_given = λ j differs. ap (λ (o : State A F). given_to o j) gives
+          ∙ ap (λ (o : State A G). record o { given = next.given }) p.others);
+      other_given = λ j differs. ap (λ (o : State A G). given_to o j) gives
           ∙ (get_or-set_other now.given to j (given_to now to + 1) 0 differs ∙ p.other_given j differs);
     }
 
@@ -102,10 +101,10 @@ module _ {A F : Type 0} (rules : Rules A F) where
     pub fewer : length (part_for rules next to) - given_to next to < length (part_for rules now to) - given_to now to
     fewer =
         let within = slice_get_within (part_for rules now to) (given_to now to) g next_is in
-        let same : part_for rules next to ≡ part_for rules now to = ap (λ (o : State A F). part_for rules o to) gives in
+        let same : part_for rules next to ≡ part_for rules now to = ap (λ (o : State A G). part_for rules o to) gives in
         omega (arith, within, ap length same, one_more)
 
-  module _ (first now : State A F) (to : ℕ) (sent : List (Growth F)) (p : Posting first now to sent) where
+  module _ (first now : State A G) (to : ℕ) (sent : List G) (p : Posting first now to sent) where
     pub posting_front : IsPrefix sent (part_for rules first to)
     posting_front = (
       drop (given_to now to) (part_for rules first to),
@@ -114,7 +113,7 @@ module _ {A F : Type 0} (rules : Rules A F) where
     )
 
     part_same_now : part_for rules now to ≡ part_for rules first to
-    part_same_now = ap (λ (o : State A F). part_for rules o to) p.others
+    part_same_now = ap (λ (o : State A G). part_for rules o to) p.others
 
     pub posted_all : given_to now to ≡ length (part_for rules now to) → sent ≡ part_for rules first to
     posted_all all =
@@ -132,10 +131,10 @@ module _ {A F : Type 0} (rules : Rules A F) where
         let l : length sent ≡ given_to now to = ap length p.posted
         ∙ take_length (part_for rules first to) (given_to now to)
         (subst (λ xs. given_to now to ≤ length xs) part_same_now n) in
-        let few = filter_le (λ (g : Growth F). rules.reads now.system to g.fact) now.log in
+        let few = filter_le (λ (g : G). rules.reads now.system to (rules.fact g)) now.log in
         omega (arith, l, n, few, p.sound.few)
 
-  pub posting_none : (o : State A F) (to : ℕ) (sent : List (Growth F)) → IsSound rules o → sent ≡ take
+  pub posting_none : (o : State A G) (to : ℕ) (sent : List G) → IsSound rules o → sent ≡ take
       (given_to o to) (part_for rules o to)
       → Posting o o to sent
   posting_none o to sent sound is = record { sound = sound; others = refl; other_given = λ j h. refl; posted = is }

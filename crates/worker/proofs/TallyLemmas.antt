@@ -1,7 +1,6 @@
 -- What the counts of a log add up to.
 use Rattle.std.proofs.Common.{◌≡◌, ℕ, zero, suc, ◌+◌, ◌*◌, ◌^◌, ◌<◌, ◌≤◌, List, [], ◌∷◌, ◌++◌, length, length-append, append-nil, slice_index_or, refl, sym, ap, ◌∙◌, subst, arith}
 use Rattle.std.proofs.lemmas.List.Elements.{filter-append}
-use Rattle.fixpoint.specs.declared.growth.Growth.{Growth}
 use Rattle.fixpoint.specs.Logs.{part}
 use Rattle.nll_sets.specs.Prefix.{IsPrefix}
 use Rattle.fixpoint.specs.State.{State, IsSound, part_for, given_to}
@@ -20,27 +19,27 @@ sum_bound zero f b h = omega arith
 sum_bound (suc n) f b h = let r = sum_bound n f b (λ k l. h k (omega (arith, l))) in let e = h n (omega arith) in
     omega (arith, r, e)
 
-module _ {A F : Type 0} (rules : Rules A F) where
+module _ {A F G : Type 0} (rules : Rules A F G) where
   -- a part rules has fewer than 2 ^ 37 growths
-  pub part_few : (o : State A F) (j : ℕ) → IsSound rules o → length (part_for rules o j) < 2 ^ 37
+  pub part_few : (o : State A G) (j : ℕ) → IsSound rules o → length (part_for rules o j) < 2 ^ 37
   part_few o j sound =
-      let few = filter_le (λ (g : Growth F). rules.reads o.system j g.fact) o.log in
+      let few = filter_le (λ (g : G). rules.reads o.system j (rules.fact g)) o.log in
       omega (arith, few, sound.few)
 
   -- all parts together have fewer than 2 ^ 43
-  pub due_small : (o : State A F) → IsSound rules o → (rules.parts o.system) ≤ 64 → due_of rules o < 2 ^ 43
+  pub due_small : (o : State A G) → IsSound rules o → (rules.parts o.system) ≤ 64 → due_of rules o < 2 ^ 43
   due_small o sound few =
       let all =
       sum_bound (rules.parts o.system) (λ j. length (part_for rules o j)) 137438953471
       (λ j l. let h = part_few o j sound in omega (arith, h)) in
       omega (arith, all, few)
 
-  pub grown_self : (o new : State A F) → new ≡ o → HasGrown o new
+  pub grown_self : (o new : State A G) → new ≡ o → HasGrown o new
   grown_self o new same =
-      subst (λ (x : State A F). HasGrown o x) (sym same)
+      subst (λ (x : State A G). HasGrown o x) (sym same)
       (record { system = refl; me = refl; begins = ([], sym (append-nil o.log)); given = refl })
 
-  pub grown_on : (a b c : State A F) → HasGrown a b → HasGrown b c → HasGrown a c
+  pub grown_on : (a b c : State A G) → HasGrown a b → HasGrown b c → HasGrown a c
   grown_on a b c f s = record {
     system = s.system ∙ f.system;
     me = s.me ∙ f.me;
@@ -56,7 +55,7 @@ module _ {A F : Type 0} (rules : Rules A F) where
       join [] ys zs = refl
       join (x ∷ xs) ys zs = ap (λ l. x ∷ l) (join xs ys zs)
 
-  module _ (old new : State A F) (h : HasGrown old new) where
+  module _ (old new : State A G) (h : HasGrown old new) where
     owners_same : (rules.parts new.system) ≡ (rules.parts old.system)
     owners_same = ap (λ (k : A). rules.parts k) h.system
 
@@ -65,7 +64,7 @@ module _ {A F : Type 0} (rules : Rules A F) where
       part rules old.system j h.begins.0,
       ap (λ (k : A). part rules k j new.log) h.system
           ∙ (ap (λ xs. part rules old.system j xs) h.begins.1
-          ∙ filter-append (λ (g : Growth F). rules.reads old.system j g.fact) old.log h.begins.0),
+          ∙ filter-append (λ (g : G). rules.reads old.system j (rules.fact g)) old.log h.begins.0),
     )
 
     pub given_same : (j : ℕ) → given_to new j ≡ given_to old j
@@ -90,7 +89,7 @@ module _ {A F : Type 0} (rules : Rules A F) where
         (none h.begins.0 (omega (arith, e, ap length h.begins.1, length-append old.log h.begins.0))) ∙ append-nil
         old.log)
       where
-        none : (xs : List (Growth F)) → length xs ≡ 0 → xs ≡ []
+        none : (xs : List G) → length xs ≡ 0 → xs ≡ []
         none [] z = refl
         none (x ∷ xs) z = absurd (omega (arith, z))
 
@@ -121,7 +120,7 @@ module _ {A F : Type 0} (rules : Rules A F) where
       due_more w n e d = let was_is = was.waiting in omega (arith, e, d, was_is, given_of_same)
 
   -- where nothing waits, all was given out
-  pub all_given : (o : State A F) (t : Tally) → IsSound rules o → IsCounted rules o t → t.waiting ≡ 0 →
+  pub all_given : (o : State A G) (t : Tally) → IsSound rules o → IsCounted rules o t → t.waiting ≡ 0 →
       (j : ℕ) → j < (rules.parts o.system)
       → given_to o j ≡ length (part_for rules o j)
   all_given o t sound is none =

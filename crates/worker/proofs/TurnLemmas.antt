@@ -5,7 +5,6 @@ use Rattle.std.proofs.lemmas.List.Elements.{Contains-append_left}
 use Rattle.fixpoint.specs.Logs.{log_of}
 use Rattle.nll_sets.specs.Prefix.{IsPrefix}
 use Rattle.fixpoint.specs.State.{State, IsSound, IsDone, received_from, given_to, with_growths, first_state}
-use Rattle.fixpoint.specs.declared.growth.Growth.{Growth}
 use Rattle.worker.specs.declared.inbox.Heard.{Heard}
 use Rattle.worker.specs.declared.inbox.Heard.TheVariants.{Nothing, Growths, Stray, Memory}
 use Rattle.worker.specs.declared.tally.Tally.{Tally}
@@ -40,42 +39,42 @@ sum_empty : {G : Type 0} (n : ℕ) (lists : List (List G)) → ((j : ℕ) → lo
     → sum_to n (λ j. length (log_of lists j)) ≡ 0
 sum_empty n lists none = sum_same n (λ j. length (log_of lists j)) (λ j. 0) (λ j l. ap length (none j)) ∙ sum_zero n
 
-module _ {A F : Type 0} (rules : Rules A F) where
+module _ {A F G : Type 0} (rules : Rules A F G) where
   -- what was taken was received
-  pub taken_all : (o : State A F) (taken : List (List (Growth F))) (cleared items : ℕ) → HasTaken rules o taken
+  pub taken_all : (o : State A G) (taken : List (List G)) (cleared items : ℕ) → HasTaken rules o taken
       cleared items
       → HasTakenAll rules o taken
   taken_all o taken cleared items t j g l h = subst (λ xs. Contains xs g) (sym (t.heard j l)) h
 
   -- how an owner is before and after it received growths, or was refused to
-  pub grown_some : (old new : State A F) → IsPrefix old.log new.log
+  pub grown_some : (old new : State A G) → IsPrefix old.log new.log
       → new ≡ record old { log = new.log; received = new.received } → HasGrown old new
   grown_some old new b others =
       record {
-        system = ap (λ (o : State A F). o.system) others;
-        me = ap (λ (o : State A F). o.me) others;
+        system = ap (λ (o : State A G). o.system) others;
+        me = ap (λ (o : State A G). o.me) others;
         begins = b;
-        given = ap (λ (o : State A F). o.given) others;
+        given = ap (λ (o : State A G). o.given) others;
       }
 
-  pub grown_lost : (old new : State A F) (j : ℕ) (gs : List (Growth F)) → IsGivenUp rules j gs old new → HasGrown
+  pub grown_lost : (old new : State A G) (j : ℕ) (gs : List G) → IsGivenUp rules j gs old new → HasGrown
       old new
   grown_lost old new j gs lost =
       let others = lost.2 in
       record {
-        system = ap (λ (o : State A F). o.system) others;
-        me = ap (λ (o : State A F). o.me) others;
+        system = ap (λ (o : State A G). o.system) others;
+        me = ap (λ (o : State A G). o.me) others;
         begins = lost.0;
-        given = ap (λ (o : State A F). o.given) others;
+        given = ap (λ (o : State A G). o.given) others;
       }
 
-  module _ (old : State A F) (taken : List (List (Growth F))) (owed cleared : ℕ) (t : Tally)
+  module _ (old : State A G) (taken : List (List G)) (owed cleared : ℕ) (t : Tally)
       (r : IsAtRest rules old taken owed cleared t) where
     -- more growths were taken, and received or not
-    module _ (after : List (List (Growth F))) (from : ℕ) (gs : List (Growth F))
+    module _ (after : List (List G)) (from : ℕ) (gs : List G)
         (more : log_of after from ≡ log_of taken from ++ gs)
         (rest : after ≡ slice_set taken from (log_of after from)) where
-      taken_here : (h : Growth F) (some : List (Growth F)) → IsPrefix some gs → from < (rules.parts old.system)
+      taken_here : (h : G) (some : List G) → IsPrefix some gs → from < (rules.parts old.system)
           → Contains (received_from old from ++ some) h → Contains (log_of after from) h
       taken_here h some begins l at =
           let all : log_of after from ≡ (received_from old from ++ some) ++ begins.0 = more
@@ -84,7 +83,7 @@ module _ {A F : Type 0} (rules : Rules A F) where
           ∙ sym (append_assoc (received_from old from) some begins.0))) in
           subst (λ xs. Contains xs h) (sym all) (Contains-append_left (received_from old from ++ some) begins.0 h at)
 
-      taken_still : (j : ℕ) (h : Growth F) → Contains (log_of taken j) h → Contains (log_of after j) h
+      taken_still : (j : ℕ) (h : G) → Contains (log_of taken j) h → Contains (log_of after j) h
       taken_still j h at = ⊎_elim
           (λ (here : j ≡ from). subst (λ k. Contains (log_of after k) h) (sym here)
           (subst (λ xs. Contains xs h) (sym more)
@@ -93,15 +92,15 @@ module _ {A F : Type 0} (rules : Rules A F) where
           (sym (ap (λ xs. log_of xs j) rest ∙ other_read taken from j (log_of after from) [] other)) at)
           (cases_eq j from)
 
-      pub taken_same : (new : State A F) → new ≡ old → HasTakenAll rules new after
+      pub taken_same : (new : State A G) → new ≡ old → HasTakenAll rules new after
       taken_same new same =
-          subst (λ (o : State A F). HasTakenAll rules o after) (sym same)
+          subst (λ (o : State A G). HasTakenAll rules o after) (sym same)
           (λ j h l at. taken_still j h (taken_all old taken cleared 0 r.taking j h l at))
 
-      pub taken_lost : (new : State A F) → from < (rules.parts old.system) → IsGivenUp rules from gs old new →
+      pub taken_lost : (new : State A G) → from < (rules.parts old.system) → IsGivenUp rules from gs old new →
           HasTakenAll rules new after
       taken_lost new from_in lost j h l at =
-          let was : j < (rules.parts old.system) = subst (λ (o : State A F). j < (rules.parts o.system)) lost.2 l in
+          let was : j < (rules.parts old.system) = subst (λ (o : State A G). j < (rules.parts o.system)) lost.2 l in
           let before = taken_all old taken cleared 0 r.taking in
           let got = lost.3 in
           ⊎_elim
@@ -120,29 +119,29 @@ module _ {A F : Type 0} (rules : Rules A F) where
           ∙ other_read old.received from j (received_from old from ++ got.0) [] other) at)))
           (cases_eq j from)
 
-    pub rests_same : (new : State A F) (after : List (List (Growth F))) (from : ℕ) → new ≡ old
+    pub rests_same : (new : State A G) (after : List (List G)) (from : ℕ) → new ≡ old
         → log_of after from ≡ log_of taken from → after ≡ slice_set taken from (log_of after from)
         → IsAtRest rules new after owed cleared t
     rests_same new after from same none others =
         let kept : after ≡ taken = others ∙ (ap (slice_set taken from) none ∙ set_own taken from []) in
-        subst (λ (o : State A F). IsAtRest rules o after owed cleared t) (sym same)
+        subst (λ (o : State A G). IsAtRest rules o after owed cleared t) (sym same)
         (subst (λ xs. IsAtRest rules old xs owed cleared t) (sym kept) r)
 
-    module _ (new : State A F) (others : new ≡ record old { log = new.log; received = new.received }) where
+    module _ (new : State A G) (others : new ≡ record old { log = new.log; received = new.received }) where
       owners_same : (rules.parts new.system) ≡ (rules.parts old.system)
-      owners_same = ap (λ (o : State A F). rules.parts o.system) others
+      owners_same = ap (λ (o : State A G). rules.parts o.system) others
 
       pub some_works : (owed' : ℕ) → IsSound rules new → IsDone rules new → owed' ≡ 1 + due_of rules new → IsWorking
           rules new owed'
       some_works owed' sound done owes = record {
         sound = sound;
-        whole = ap (λ (o : State A F). o.broken) others ∙ r.working.whole;
-        loaded = ap (λ (o : State A F). o.loaded) others ∙ r.working.loaded;
+        whole = ap (λ (o : State A G). o.broken) others ∙ r.working.whole;
+        loaded = ap (λ (o : State A G). o.loaded) others ∙ r.working.loaded;
         done = done;
         owes = owes;
       }
 
-      module _ (from : ℕ) (gs : List (Growth F)) (after : List (List (Growth F))) (from_in : from <
+      module _ (from : ℕ) (gs : List G) (after : List (List G)) (from_in : from <
           (rules.parts old.system))
           (received : new.received ≡ with_growths old.received from gs)
           (more : log_of after from ≡ log_of taken from ++ gs) (rest : after ≡ slice_set taken from (log_of after from))
@@ -183,36 +182,36 @@ module _ {A F : Type 0} (rules : Rules A F) where
         }
 
   -- few items are cleared
-  pub cleared_small : (o : State A F) (taken : List (List (Growth F))) (cleared items : ℕ) → (rules.parts o.system) ≤ 64
+  pub cleared_small : (o : State A G) (taken : List (List G)) (cleared items : ℕ) → (rules.parts o.system) ≤ 64
       → HasTaken rules o taken cleared items → cleared ≤ 1 + 64 * 2 ^ 37
   cleared_small o taken cleared items few t =
       let s = sum_bound (rules.parts o.system) (λ j. length (log_of taken j)) (2 ^ 37) t.few in
       omega (arith, s, few, t.clears)
 
   -- a growth that can't be its sender's
-  pub stray_same : (old new : State A F) (got : ℕ → List (Growth F)) → new ≡ old → HasStray rules old.system old.me got
+  pub stray_same : (old new : State A G) (got : ℕ → List G) → new ≡ old → HasStray rules old.system old.me got
       → HasStray rules new.system new.me got
-  stray_same old new got same h = subst (λ (o : State A F). HasStray rules o.system o.me got) (sym same) h
+  stray_same old new got same h = subst (λ (o : State A G). HasStray rules o.system o.me got) (sym same) h
 
   -- ---- what was given out changes nothing of this
 
-  module _ (old new : State A F) (others : new ≡ record old { given = new.given }) (taken : List (List
-      (Growth F))) where
+  module _ (old new : State A G) (others : new ≡ record old { given = new.given }) (taken : List (List
+      G)) where
     pub taken_given : HasTakenAll rules old taken → HasTakenAll rules new taken
-    taken_given h = subst (λ (o : State A F). HasTakenAll rules o taken) (sym others) h
+    taken_given h = subst (λ (o : State A G). HasTakenAll rules o taken) (sym others) h
 
     pub rests_given : (owed cleared : ℕ) (t t' : Tally) → IsSound rules new → IsCounted rules new t'
         → (t'.turns ≡ t.turns) × (t'.cleared ≡ t.cleared) → IsAtRest rules old taken owed cleared t
         → IsAtRest rules new taken owed cleared t'
     rests_given owed cleared t t' sound counted same r = record {
-      working = subst (λ (o : State A F). IsWorking rules o owed) (sym others) (record {
+      working = subst (λ (o : State A G). IsWorking rules o owed) (sym others) (record {
         sound = subst (IsSound rules) others sound;
         whole = r.working.whole;
         loaded = r.working.loaded;
         done = r.working.done;
         owes = r.working.owes;
       });
-      taking = subst (λ (o : State A F). HasTaken rules o taken cleared 0) (sym others) (record {
+      taking = subst (λ (o : State A G). HasTaken rules o taken cleared 0) (sym others) (record {
         count = r.taking.count;
         heard = r.taking.heard;
         few = r.taking.few;
@@ -232,10 +231,10 @@ module _ {A F : Type 0} (rules : Rules A F) where
     comes_given owed cleared t t' sound counted same Growths came = rests_given owed cleared t t' sound counted same
         came
     comes_given owed cleared t t' sound counted same Stray came =
-        (subst (λ (o : State A F). HasStray rules o.system o.me (log_of taken)) (sym others) came.0, taken_given came.1)
+        (subst (λ (o : State A G). HasStray rules o.system o.me (log_of taken)) (sym others) came.0, taken_given came.1)
     comes_given owed cleared t t' sound counted same Memory came = taken_given came
 
-  pub rests_open : (o : State A F) (taken : List (List (Growth F))) (owed cleared owed' cleared' : ℕ)
+  pub rests_open : (o : State A G) (taken : List (List G)) (owed cleared owed' cleared' : ℕ)
       (t : Tally) → owed' ≡ owed
       → cleared' ≡ cleared → IsAtRest rules o taken owed cleared t → IsAtRest rules o taken owed' cleared' t
   rests_open o taken owed cleared owed' cleared' t a b r =
@@ -243,45 +242,45 @@ module _ {A F : Type 0} (rules : Rules A F) where
 
   -- ---- the first turn
 
-  module _ (a : A) (i : ℕ) (old new : State A F) (first : old ≡ first_state rules a i)
+  module _ (a : A) (i : ℕ) (old new : State A G) (first : old ≡ first_state rules a i)
       (others : new ≡ record old { log = new.log; loaded = new.loaded; broken = new.broken }) where
     begun : new ≡ record (first_state rules a i)
         { log = new.log; loaded = new.loaded; broken = new.broken }
-    begun = others ∙ ap (λ (o : State A F). record o
+    begun = others ∙ ap (λ (o : State A G). record o
         { log = new.log; loaded = new.loaded; broken = new.broken }) first
 
     pub first_grows : IsPrefix old.log new.log → HasGrown old new
     first_grows b =
         record {
-          system = ap (λ (o : State A F). o.system) others;
-          me = ap (λ (o : State A F). o.me) others;
+          system = ap (λ (o : State A G). o.system) others;
+          me = ap (λ (o : State A G). o.me) others;
           begins = b;
-          given = ap (λ (o : State A F). o.given) others;
+          given = ap (λ (o : State A G). o.given) others;
         }
 
     -- it received nothing
-    pub none_taken : (taken : List (List (Growth F))) → HasTakenAll rules new taken
+    pub none_taken : (taken : List (List G)) → HasTakenAll rules new taken
     none_taken taken j g l h =
-        let none : received_from new j ≡ [] = ap (λ (o : State A F). received_from o j) begun
+        let none : received_from new j ≡ [] = ap (λ (o : State A G). received_from o j) begun
         ∙ read_replicate (rules.parts a) j [] in
-        absurd (omega (arith, (subst (λ (xs : List (Growth F)). Contains xs g) none h).1))
+        absurd (omega (arith, (subst (λ (xs : List G). Contains xs g) none h).1))
 
-    pub first_takes : (taken : List (List (Growth F))) (cleared : ℕ) → AreAllEmpty (rules.parts a) taken → cleared ≡ 1
+    pub first_takes : (taken : List (List G)) (cleared : ℕ) → AreAllEmpty (rules.parts a) taken → cleared ≡ 1
         → HasTaken rules new taken cleared 0
     first_takes taken cleared none is = record {
-      count = none.0 ∙ sym (ap (λ (o : State A F). rules.parts o.system) begun);
-      heard = λ j l. none.1 j ∙ sym (ap (λ (o : State A F). received_from o j) begun ∙ read_replicate
+      count = none.0 ∙ sym (ap (λ (o : State A G). rules.parts o.system) begun);
+      heard = λ j l. none.1 j ∙ sym (ap (λ (o : State A G). received_from o j) begun ∙ read_replicate
           (rules.parts a) j []);
       few = λ j l. omega (arith, ap length (none.1 j));
       clears = omega (arith, is, sum_empty (rules.parts new.system) taken none.1);
     }
 
   -- nothing is due of an owner that has done nothing yet
-  pub first_due : (a : A) (i : ℕ) (o : State A F) → o ≡ first_state rules a i → due_of rules o ≡ 0
+  pub first_due : (a : A) (i : ℕ) (o : State A G) → o ≡ first_state rules a i → due_of rules o ≡ 0
   first_due a i o first = ap (due_of rules) first ∙ sum_zero (rules.parts a)
 
   -- nothing is to be counted of an owner that has done nothing yet
-  pub first_counted : (a : A) (i : ℕ) (o : State A F) → o ≡ first_state rules a i
+  pub first_counted : (a : A) (i : ℕ) (o : State A G) → o ≡ first_state rules a i
       → IsCounted rules o (record { grown = 0; waiting = 0; turns = 0; cleared = 0 })
   first_counted a i o first =
       let given =
@@ -289,6 +288,6 @@ module _ {A F : Type 0} (rules : Rules A F) where
       (rules.parts a) j 0) in
       let none = sum_zero (rules.parts a) in
       let due = first_due a i (first_state rules a i) refl in
-      subst (λ (x : State A F). IsCounted rules x (record { grown = 0; waiting = 0; turns = 0; cleared = 0 }))
+      subst (λ (x : State A G). IsCounted rules x (record { grown = 0; waiting = 0; turns = 0; cleared = 0 }))
       (sym first)
       (record { grown = refl; waiting = omega (arith, given, none, due) })

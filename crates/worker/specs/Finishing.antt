@@ -12,13 +12,12 @@ use Rattle.fixpoint.specs.Finishing.{Finishes}
 use Rattle.fixpoint.specs.declared.ending.Ending.{Ending}
 use Rattle.fixpoint.specs.declared.ending.Ending.TheVariants.{Quiet, Stopped, Unstarted, NoOwner}
 use Rattle.fixpoint.specs.declared.ending.Ending.TheVariants.{Forbidden}
-use Rattle.fixpoint.specs.declared.growth.Growth.{Growth}
 use Rattle.worker.specs.declared.job.Start.{Start}
 use Rattle.worker.specs.declared.job.Start.TheVariants.{Made, Failed, Refused}
 use Rattle.worker.specs.Mailboxes.{Alike, AreAllEmpty, Both, HasEnds, Keeps, through}
 
 -- The part is of this system and number.
-pub record IsPartOf {A F : Type 0} (a : A) (i : ℕ) (o : State A F) : Type 0 where
+pub record IsPartOf {A G : Type 0} (a : A) (i : ℕ) (o : State A G) : Type 0 where
   pub system : o.system ≡ a
   pub me : o.me ≡ i
 
@@ -47,11 +46,11 @@ WasMade NoOwner = ⊥
 WasMade _ = Unit {0}
 
 -- it finished with a part of this log, and what the part returned beside it says what the log tells
-abbrev pub FinishedAs : {A F Y : Type 0} → Rules A F → (A → ℕ → List (Growth F) → Y → Type 0) → A
-    → ℕ → (ℕ → List (Growth F)) → (ℕ → List (Growth F)) → ℕ → ℕ → Ending → List (Growth F) → Y
+abbrev pub FinishedAs : {A F G Y : Type 0} → Rules A F G → (A → ℕ → List G → Y → Type 0) → A
+    → ℕ → (ℕ → List G) → (ℕ → List G) → ℕ → ℕ → Ending → List G → Y
     → Type 0
-FinishedAs {A} {F} rules yields a i sent got owed cleared ending log yielded =
-    (o : State A F) × (o.log ≡ log) × Finishes rules a i o sent got owed cleared ending
+FinishedAs rules yields a i sent got owed cleared ending log yielded =
+    (o : State A G) × (o.log ≡ log) × Finishes rules a i o sent got owed cleared ending
     × yields a i log yielded
 
 -- the worker neither ended quiet nor was stopped by another
@@ -99,13 +98,13 @@ module _ {L B H E : Type 0} (ledger : Ledger.Ghosts L B H E) where
       pub none_kept : kept ≡ []
       pub space : length senders ≤ room
 
-  module _ {A F Y : Type 0} (rules : Rules A F) (yields : A → ℕ → List (Growth F) → Y → Type 0)
-      {M S R C P : Type 0} (mail : Mail.Ghosts M (Growth F) S R C P) where
+  module _ {A F G Y : Type 0} (rules : Rules A F G) (yields : A → ℕ → List G → Y → Type 0)
+      {M S R C P : Type 0} (mail : Mail.Ghosts M G S R C P) where
     -- The worker of owner i gives back the log of its part and what the part returned beside it,
     -- what is left of its share, and the ends of its mailboxes: each sender closed, each receiver
     -- as the end of its mailbox that it was.
     pub record IsEnded (a : A) (book : B) (i : ℕ) (senders : List (Option S))
-        (receivers : List (Option R)) (log : List (Growth F)) (yielded : Y) (left : E)
+        (receivers : List (Option R)) (log : List G) (yielded : Y) (left : E)
         (closed : List (Option C)) (ended : List (Option R)) (ending : Ending) : Type 0 where
       pub shuts :
           Alike (Both (λ s z. (r : R) → mail.pairs s r → mail.closes z r)) senders closed

@@ -11,22 +11,22 @@ use Rattle.worker.specs.declared.tally.Tally.{Tally}
 abbrev pub none_counted : Tally
 none_counted = record { grown = 0; waiting = 0; turns = 0; cleared = 0 }
 
-module _ {A F : Type 0} (rules : Rules A F) where
+module _ {A F G : Type 0} (rules : Rules A F G) where
   -- how many growths of the log other owners read, each counted once for each of its readers
-  abbrev pub due_of : State A F → ℕ
+  abbrev pub due_of : State A G → ℕ
   due_of o = sum_to (rules.parts o.system) (λ j. length (part_for rules o j))
 
   -- how many of them were given
-  abbrev pub given_of : State A F → ℕ
+  abbrev pub given_of : State A G → ℕ
   given_of o = sum_to (rules.parts o.system) (λ j. given_to o j)
 
   -- The tally has the length of the log, and the number of what isn't given yet.
-  pub record IsCounted (o : State A F) (t : Tally) : Type 0 where
+  pub record IsCounted (o : State A G) (t : Tally) : Type 0 where
     pub grown : t.grown ≡ length o.log
     pub waiting : given_of o + t.waiting ≡ due_of o
 
 -- It is the same part; its log only grew, and it gave nothing more.
-pub record HasGrown {A F : Type 0} (old new : State A F) : Type 0 where
+pub record HasGrown {A G : Type 0} (old new : State A G) : Type 0 where
   pub system : new.system ≡ old.system
   pub me : new.me ≡ old.me
   pub begins : IsPrefix old.log new.log

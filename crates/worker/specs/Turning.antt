@@ -7,7 +7,6 @@ use Rattle.fixpoint.specs.Logs.{log_of}
 use Rattle.fixpoint.specs.State.{State, IsSound, IsDone, received_from, part_for, given_to}
 use Rattle.fixpoint.specs.Finishing.{HasStray}
 use Rattle.fixpoint.specs.Sums.{sum_to}
-use Rattle.fixpoint.specs.declared.growth.Growth.{Growth}
 use Rattle.worker.specs.Tallies.{IsCounted, due_of}
 use Rattle.worker.specs.declared.tally.Tally.{Tally}
 use Rattle.worker.specs.declared.inbox.Heard.{Heard}
@@ -20,26 +19,26 @@ GoesOn Growths = Unit {0}
 GoesOn Stray = ⊥
 GoesOn Memory = ⊥
 
-module _ {A F : Type 0} (rules : Rules A F) where
+module _ {A F G : Type 0} (rules : Rules A F G) where
   -- Exactly what was given to each owner was posted to it.
-  pub record HasPosted (o : State A F) (posts : List (List (Growth F))) : Type 0 where
+  pub record HasPosted (o : State A G) (posts : List (List G)) : Type 0 where
     pub count : length posts ≡ rules.parts o.system
     pub front :
         (j : ℕ) → j < rules.parts o.system
         → log_of posts j ≡ take (given_to o j) (part_for rules o j)
 
   -- of the part for owner j, this many more growths were given, or all that were left
-  abbrev pub HasGivenOn : ℕ → ℕ → State A F → State A F → Type 0
+  abbrev pub HasGivenOn : ℕ → ℕ → State A G → State A G → Type 0
   HasGivenOn most j old new =
       given_to new j ≡ min (given_to old j + most) (length (part_for rules old j))
 
   -- so of each of the first this many parts
-  abbrev pub HasGivenMore : ℕ → ℕ → State A F → State A F → Type 0
+  abbrev pub HasGivenMore : ℕ → ℕ → State A G → State A G → Type 0
   HasGivenMore most owners old new = (j : ℕ) → j < owners → HasGivenOn most j old new
 
   -- The part is loaded and has nothing left to do. It owes 1 for its load and for each growth that
   -- another owner reads, posted or not.
-  pub record IsWorking (o : State A F) (owed : ℕ) : Type 0 where
+  pub record IsWorking (o : State A G) (owed : ℕ) : Type 0 where
     pub sound : IsSound rules o
     pub whole : o.broken ≡ false
     pub loaded : o.loaded ≡ true
@@ -47,7 +46,7 @@ module _ {A F : Type 0} (rules : Rules A F) where
     pub owes : owed ≡ 1 + due_of rules o
 
   -- What was taken was received; all of it and the load are cleared, except this many items.
-  pub record HasTaken (o : State A F) (taken : List (List (Growth F))) (cleared items : ℕ)
+  pub record HasTaken (o : State A G) (taken : List (List G)) (cleared items : ℕ)
       : Type 0 where
     pub count : length taken ≡ rules.parts o.system
     pub heard : (j : ℕ) → j < rules.parts o.system → log_of taken j ≡ received_from o j
@@ -57,7 +56,7 @@ module _ {A F : Type 0} (rules : Rules A F) where
 
   -- Between two turns all that grew is owed for and counted, and all that was taken is cleared.
   -- There were no more turns than cleared items.
-  pub record IsAtRest (o : State A F) (taken : List (List (Growth F))) (owed cleared : ℕ)
+  pub record IsAtRest (o : State A G) (taken : List (List G)) (owed cleared : ℕ)
       (t : Tally) : Type 0 where
     pub working : IsWorking o owed
     pub taking : HasTaken o taken cleared 0
@@ -66,13 +65,13 @@ module _ {A F : Type 0} (rules : Rules A F) where
     pub turns : t.turns ≤ cleared
 
   -- all that the part received was taken
-  abbrev pub HasTakenAll : State A F → List (List (Growth F)) → Type 0
+  abbrev pub HasTakenAll : State A G → List (List G) → Type 0
   HasTakenAll o taken =
-      (j : ℕ) (g : Growth F) → j < rules.parts o.system → Contains (received_from o j) g
+      (j : ℕ) (g : G) → j < rules.parts o.system → Contains (received_from o j) g
       → Contains (log_of taken j) g
 
   -- the outcome of a turn
-  abbrev pub ComesTo : State A F → List (List (Growth F)) → ℕ → ℕ → Tally → Heard → Type 0
+  abbrev pub ComesTo : State A G → List (List G) → ℕ → ℕ → Tally → Heard → Type 0
   ComesTo o taken owed cleared t Nothing = IsAtRest o taken owed cleared t
   ComesTo o taken owed cleared t Growths = IsAtRest o taken owed cleared t
   ComesTo o taken owed cleared t Stray =

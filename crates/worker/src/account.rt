@@ -22,7 +22,7 @@ pub fn keep_book<A: Analysis, L: Ledger>(account: &mut Account<'_, L>, part: &A:
     requires sound { IsSound A.rules (A.state part.now) }
     requires whole { (A.state part.now).broken ≡ false }
     requires book { L.belongs account.old.book.now account.old.share }
-    requires grew { (before : State A A.Fact) × HasGrown before (A.state part.now)
+    requires grew { (before : State A A.Growth) × HasGrown before (A.state part.now)
         × IsCounted A.rules before account.old.tally
         × (L.owed account.old.share ≡ 1 + due_of A.rules before) }
     requires cleared { account.old.tally.cleared ≡ L.cleared account.old.share }

@@ -3,7 +3,6 @@
 ghost use Rattle.std.specs.Prelude.{◌≡◌, ◌<◌, ◌≤◌, ◌++◌, [], false, true, length, map};
 ghost use Rattle.std.specs.Prelude.{Contains, slice_set, vec_len, vec_capacity};
 ghost use Rattle.mail.specs.Limits.{most_posts};
-ghost use Rattle.fixpoint.specs.declared.growth.Growth.{Growth as TheGrowth};
 ghost use Rattle.fixpoint.specs.Logs.{log_of};
 ghost use Rattle.fixpoint.specs.State.{IsSound, Passes};
 ghost use Rattle.worker.specs.Mailboxes.{Alike, Both, Keeps, through};
@@ -11,7 +10,7 @@ ghost use Rattle.worker.specs.Hearing.{HandsIn, LooksInto};
 
 use crate::gate::Gate;
 use crate::pace::Pace;
-use fixpoint::{Analysis, Growth};
+use fixpoint::Analysis;
 use mail::Mail;
 
 /// The outcome of a look into a mailbox.
@@ -30,30 +29,30 @@ pub enum Heard {
 /// The receiving ends of a worker's mailboxes, one for each other owner, and a list for what is
 /// taken out of one of them.
 #[derive(Drop)]
-pub struct Inbox<A: Analysis, M: Mail<Growth<A::Fact>>> {
+pub struct Inbox<A: Analysis, M: Mail<A::Growth>> {
     /// The ends, by the owner from whom they come; none comes from the worker's own owner.
     pub receivers: Vec<Option<M::R>>,
     /// What was taken at the last look.
-    pub batch: Vec<Growth<A::Fact>>,
+    pub batch: Vec<A::Growth>,
 }
 
 // Takes growths out of a mailbox into an empty list that has room for them, until none is found
 // there, one can't be its sender's, or there are this many. Returns whether all can be their
 // sender's.
-fn take_batch<A: Analysis, M: Mail<Growth<A::Fact>>>(
+fn take_batch<A: Analysis, M: Mail<A::Growth>>(
     part: &A::Part,
     receiver: &mut M::R,
     from: u16,
-    batch: &mut Vec<Growth<A::Fact>>,
+    batch: &mut Vec<A::Growth>,
     most: usize,
 ) -> bool
     requires empty { batch.old.items ≡ [] }
     requires room { most ≤ vec_capacity batch.old }
     ensures most { length batch.new.items ≤ most }
     ensures taken { M.received receiver.new ≡ M.received receiver.old ++ batch.new.items }
-    ensures passes { let o = A.state part.now in result ≡ true → (g : TheGrowth A.Fact)
+    ensures passes { let o = A.state part.now in result ≡ true → (g : A.Growth)
         → Contains batch.new.items g → Passes A.rules o.system o.me from g }
-    ensures stray { let o = A.state part.now in result ≡ false → (g : TheGrowth A.Fact)
+    ensures stray { let o = A.state part.now in result ≡ false → (g : A.Growth)
         × Contains batch.new.items g × (Passes A.rules o.system o.me from g → ⊥) }
     ensures few { length (M.received receiver.old) ≤ most_posts
         → length (M.received receiver.new) ≤ most_posts }
@@ -76,12 +75,12 @@ fn take_batch<A: Analysis, M: Mail<Growth<A::Fact>>>(
 }
 
 // Hands growths that can be their sender's to the part.
-fn hand_in<A: Analysis>(part: &mut A::Part, from: u16, growths: &[Growth<A::Fact>]) -> Heard
+fn hand_in<A: Analysis>(part: &mut A::Part, from: u16, growths: &[A::Growth]) -> Heard
     requires sound { IsSound A.rules (A.state part.old) }
     requires whole { (A.state part.old).broken ≡ false }
     requires loaded { (A.state part.old).loaded ≡ true }
     requires some { 0 < length growths.now }
-    requires passes { let o = A.state part.old in (g : TheGrowth A.Fact)
+    requires passes { let o = A.state part.old in (g : A.Growth)
         → Contains growths.now g → Passes A.rules o.system o.me from g }
     ensures { HandsIn A.rules from (A.state part.old) (A.state part.new) growths.now result }
 {
@@ -94,13 +93,13 @@ fn hand_in<A: Analysis>(part: &mut A::Part, from: u16, growths: &[Growth<A::Fact
 // Takes growths out of a mailbox, at most as many as a turn may receive, enters the gate, and hands
 // the growths to the part. The list then has what was taken. Room for them is made before, so that
 // none is lost if memory is refused.
-fn hear<A: Analysis, M: Mail<Growth<A::Fact>>, G: Gate>(
+fn hear<A: Analysis, M: Mail<A::Growth>, G: Gate>(
     pace: &Pace<'_, G>,
     turn: u64,
     part: &mut A::Part,
     receiver: &mut M::R,
     from: u16,
-    batch: &mut Vec<Growth<A::Fact>>,
+    batch: &mut Vec<A::Growth>,
 ) -> Heard
     requires sound { IsSound A.rules (A.state part.old) }
     requires whole { (A.state part.old).broken ≡ false }
@@ -130,13 +129,13 @@ fn hear<A: Analysis, M: Mail<Growth<A::Fact>>, G: Gate>(
 }
 
 // Like `hear`, if there is a mailbox.
-fn hear_if<A: Analysis, M: Mail<Growth<A::Fact>>, G: Gate>(
+fn hear_if<A: Analysis, M: Mail<A::Growth>, G: Gate>(
     pace: &Pace<'_, G>,
     turn: u64,
     part: &mut A::Part,
     receiver: &mut Option<M::R>,
     from: u16,
-    batch: &mut Vec<Growth<A::Fact>>,
+    batch: &mut Vec<A::Growth>,
 ) -> Heard
     requires sound { IsSound A.rules (A.state part.old) }
     requires whole { (A.state part.old).broken ≡ false }
@@ -160,7 +159,7 @@ fn hear_if<A: Analysis, M: Mail<Growth<A::Fact>>, G: Gate>(
 
 /// Takes growths out of one of the mailboxes, at most as many as a turn may receive, enters the
 /// gate, and hands the growths to the part. The inbox then has what was taken.
-pub fn hear_from<A: Analysis, M: Mail<Growth<A::Fact>>, G: Gate>(
+pub fn hear_from<A: Analysis, M: Mail<A::Growth>, G: Gate>(
     pace: &Pace<'_, G>,
     turn: u64,
     part: &mut A::Part,

@@ -3,18 +3,18 @@
 ghost use Rattle.std.specs.Prelude.{◌≡◌, ◌≤◌, [], vec_len, vec_capacity};
 ghost use Rattle.worker.specs.Mailboxes.{Alike, Both, Shuts};
 
-use fixpoint::{Analysis, Growth};
+use fixpoint::Analysis;
 use mail::Mail;
 use std::collections::VecDeque;
 
 /// The sending ends of a worker's mailboxes, one for each other owner. Dropping one closes it.
-pub struct Outbox<A: Analysis, M: Mail<Growth<A::Fact>>> {
+pub struct Outbox<A: Analysis, M: Mail<A::Growth>> {
     /// The ends, by the owner to whom they lead; none leads to the worker's own owner.
     pub senders: Vec<Option<M::S>>,
 }
 
 // Closes an end, if there is one.
-fn shut<A: Analysis, M: Mail<Growth<A::Fact>>>(sender: Option<M::S>) -> Option<M::Closed>
+fn shut<A: Analysis, M: Mail<A::Growth>>(sender: Option<M::S>) -> Option<M::Closed>
     ensures { Both (Shuts M.Mail) sender result }
 {
     match sender {
@@ -23,7 +23,7 @@ fn shut<A: Analysis, M: Mail<Growth<A::Fact>>>(sender: Option<M::S>) -> Option<M
     }
 }
 
-impl<A: Analysis, M: Mail<Growth<A::Fact>>> Drop for Outbox<A, M> {
+impl<A: Analysis, M: Mail<A::Growth>> Drop for Outbox<A, M> {
     fn drop(self) {
         let Outbox { mut senders } = self;
         while let Some(sender) = senders.pop() {
@@ -36,7 +36,7 @@ impl<A: Analysis, M: Mail<Growth<A::Fact>>> Drop for Outbox<A, M> {
     }
 }
 
-impl<A: Analysis, M: Mail<Growth<A::Fact>>> Outbox<A, M> {
+impl<A: Analysis, M: Mail<A::Growth>> Outbox<A, M> {
     /// Closes the ends, and puts each at its index of a list that has room for them.
     pub fn close_all(self, room: Vec<Option<M::Closed>>) -> Vec<Option<M::Closed>>
         requires { (room.items ≡ []) × (vec_len self.senders ≤ vec_capacity room) }

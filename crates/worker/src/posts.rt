@@ -3,7 +3,6 @@
 
 ghost use Rattle.std.specs.Prelude.{◌≡◌, ◌≢◌, ◌+◌, ◌<◌, ◌≤◌, ℕ, List, length, map, take, min};
 ghost use Rattle.std.specs.Prelude.{OnOk, false, slice_set, vec_len, None};
-ghost use Rattle.fixpoint.specs.declared.growth.Growth.{Growth as TheGrowth};
 ghost use Rattle.fixpoint.specs.Logs.{log_of};
 ghost use Rattle.fixpoint.specs.State.{IsSound, part_for, given_to};
 ghost use Rattle.worker.specs.Mailboxes.{Alike, Both, HasEnds, Stays, through};
@@ -12,17 +11,17 @@ ghost use Rattle.worker.specs.Turning.{HasPosted, HasGivenOn, HasGivenMore, Goes
 
 use crate::inbox::Heard;
 use crate::tally::{Tally, unsent_count};
-use fixpoint::{Analysis, Growth};
+use fixpoint::Analysis;
 use mail::{Mail, PostError};
 
 // Posts what isn't given yet of the part of the log that another owner reads, until its mailbox is
 // full or the number for one time is reached.
-fn post_part<A: Analysis, M: Mail<Growth<A::Fact>>>(
+fn post_part<A: Analysis, M: Mail<A::Growth>>(
     part: &mut A::Part,
     sender: &mut M::S,
     to: u16,
     most: u64,
-) -> Result<(), PostError<Growth<A::Fact>>>
+) -> Result<(), PostError<A::Growth>>
     requires sound { IsSound A.rules (A.state part.old) }
     requires whole { (A.state part.old).broken ≡ false }
     requires to { to < A.rules.parts (A.state part.old).system }
@@ -55,12 +54,12 @@ fn post_part<A: Analysis, M: Mail<Growth<A::Fact>>>(
 }
 
 // Like `post_part`, if there is a mailbox: there is none from the owner to itself.
-fn post_if<A: Analysis, M: Mail<Growth<A::Fact>>>(
+fn post_if<A: Analysis, M: Mail<A::Growth>>(
     part: &mut A::Part,
     sender: &mut Option<M::S>,
     to: u16,
     most: u64,
-) -> Result<(), PostError<Growth<A::Fact>>>
+) -> Result<(), PostError<A::Growth>>
     requires sound { IsSound A.rules (A.state part.old) }
     requires whole { (A.state part.old).broken ≡ false }
     requires to { to < A.rules.parts (A.state part.old).system }
@@ -85,12 +84,12 @@ fn post_if<A: Analysis, M: Mail<Growth<A::Fact>>>(
 }
 
 // Like `post_if`, for the sender that leads to this owner.
-fn post_to<A: Analysis, M: Mail<Growth<A::Fact>>>(
+fn post_to<A: Analysis, M: Mail<A::Growth>>(
     part: &mut A::Part,
     senders: &mut Vec<Option<M::S>>,
     to: u16,
     most: u64,
-) -> Result<(), PostError<Growth<A::Fact>>>
+) -> Result<(), PostError<A::Growth>>
     requires sound { IsSound A.rules (A.state part.old) }
     requires whole { (A.state part.old).broken ≡ false }
     requires to { to < A.rules.parts (A.state part.old).system }
@@ -111,11 +110,11 @@ fn post_to<A: Analysis, M: Mail<Growth<A::Fact>>>(
 
 // Posts what isn't given yet, to all owners that read it and whose mailboxes aren't full: to each
 // at most the number for one time.
-fn post_all<A: Analysis, M: Mail<Growth<A::Fact>>>(
+fn post_all<A: Analysis, M: Mail<A::Growth>>(
     part: &mut A::Part,
     senders: &mut Vec<Option<M::S>>,
     most: u64,
-) -> Result<(), PostError<Growth<A::Fact>>>
+) -> Result<(), PostError<A::Growth>>
     requires sound { IsSound A.rules (A.state part.old) }
     requires whole { (A.state part.old).broken ≡ false }
     requires ends { HasEnds (A.state part.old).me senders.old.items }
@@ -136,12 +135,12 @@ fn post_all<A: Analysis, M: Mail<Growth<A::Fact>>>(
 }
 
 // Posts what waits, if something does, and counts what is left.
-fn post_waiting<A: Analysis, M: Mail<Growth<A::Fact>>>(
+fn post_waiting<A: Analysis, M: Mail<A::Growth>>(
     part: &mut A::Part,
     senders: &mut Vec<Option<M::S>>,
     tally: &mut Tally,
     most: u64,
-) -> Result<(), PostError<Growth<A::Fact>>>
+) -> Result<(), PostError<A::Growth>>
     requires sound { IsSound A.rules (A.state part.old) }
     requires whole { (A.state part.old).broken ≡ false }
     requires ends { HasEnds (A.state part.old).me senders.old.items }
@@ -168,7 +167,7 @@ fn post_waiting<A: Analysis, M: Mail<Growth<A::Fact>>>(
 }
 
 /// Posts what waits, unless the worker has to end: returns what it heard, or why it has to end now.
-pub fn share_out<A: Analysis, M: Mail<Growth<A::Fact>>>(
+pub fn share_out<A: Analysis, M: Mail<A::Growth>>(
     heard: Heard,
     part: &mut A::Part,
     senders: &mut Vec<Option<M::S>>,
@@ -176,12 +175,12 @@ pub fn share_out<A: Analysis, M: Mail<Growth<A::Fact>>>(
     most: u64,
 ) -> Heard
     requires sound { IsSound A.rules (A.state part.old) }
-    requires came { (taken : List (List (TheGrowth A.Fact))) × (owed : ℕ) × (cleared : ℕ)
+    requires came { (taken : List (List A.Growth)) × (owed : ℕ) × (cleared : ℕ)
         × ComesTo A.rules (A.state part.old) taken owed cleared tally.old heard }
     requires ends { HasEnds (A.state part.old).me senders.old.items }
     requires posts { HasPosted A.rules (A.state part.old) (map (through M.sent) senders.old.items) }
     ensures posts { HasPosted A.rules (A.state part.new) (map (through M.sent) senders.new.items) }
-    ensures comes { (taken : List (List (TheGrowth A.Fact))) (owed cleared : ℕ)
+    ensures comes { (taken : List (List A.Growth)) (owed cleared : ℕ)
         → ComesTo A.rules (A.state part.old) taken owed cleared tally.old heard
         → ComesTo A.rules (A.state part.new) taken owed cleared tally.new result }
     ensures many { M.is_bounded ≡ false → GoesOn result

@@ -10,7 +10,7 @@ use crate::permit::Permit;
 use crate::site::Site;
 use crate::threads::run_jobs;
 use crate::worker::{Finished, Worker, call_off, work};
-use fixpoint::{Ending, Growth, ThreadAnalysis};
+use fixpoint::{Ending, ThreadAnalysis};
 use ledger::ThreadLedger;
 use mail::ThreadMail;
 use std::alloc::AllocError;
@@ -20,7 +20,7 @@ use std::thread::Threads;
 
 // If its thread isn't started, a worker ends as `Forbidden` if the permit refused that, otherwise
 // as `Unstarted`: the stop flag is set by its share, and its senders are closed.
-impl<'x, A: ThreadAnalysis, M: ThreadMail<Growth<A::Fact>>, L: ThreadLedger, G: ThreadGate> Job<
+impl<'x, A: ThreadAnalysis, M: ThreadMail<A::Growth>, L: ThreadLedger, G: ThreadGate> Job<
     Site<'x, A, L, G>,
 > for Worker<A, M, L> {
     ghost use Rattle.std.specs.Prelude.{vec_capacity};
@@ -57,7 +57,7 @@ impl<'x, A: ThreadAnalysis, M: ThreadMail<Growth<A::Fact>>, L: ThreadLedger, G: 
 /// - `AllocError`: out of memory. No worker was started; their senders are closed.
 pub fn run_all<
     A: ThreadAnalysis,
-    M: ThreadMail<Growth<A::Fact>>,
+    M: ThreadMail<A::Growth>,
     L: ThreadLedger,
     G: ThreadGate,
     P: Permit,

@@ -49,10 +49,10 @@ pub fn unsent_count<A: Analysis>(part: &A::Part) -> u64
 /// Counts again if the log has grown: returns how many more growths there are to owe for.
 pub fn count_new<A: Analysis>(part: &A::Part, tally: &mut Tally) -> u64
     requires whole { (A.state part.now).broken ≡ false }
-    requires grew { (before : State A A.Fact) × HasGrown before (A.state part.now)
+    requires grew { (before : State A A.Growth) × HasGrown before (A.state part.now)
         × IsCounted A.rules before tally.old }
     ensures counted { IsCounted A.rules (A.state part.now) tally.new }
-    ensures more { (before : State A A.Fact) → HasGrown before (A.state part.now)
+    ensures more { (before : State A A.Growth) → HasGrown before (A.state part.now)
         → IsCounted A.rules before tally.old
         → due_of A.rules before + result ≡ due_of A.rules (A.state part.now) }
     ensures same { (tally.new.turns ≡ tally.old.turns)

@@ -1,7 +1,6 @@
 //! A worker's turns.
 
 ghost use Rattle.std.specs.Prelude.{◌≡◌, ◌+◌, ◌<◌, ◌≤◌, ℕ, List, map};
-ghost use Rattle.fixpoint.specs.declared.growth.Growth.{Growth as TheGrowth};
 ghost use Rattle.fixpoint.specs.State.{State, IsSound, first_state};
 ghost use Rattle.worker.specs.Mailboxes.{Alike, AreAllEmpty, Both, Keeps, through};
 ghost use Rattle.worker.specs.Finishing.{IsFresh, IsOpenStill};
@@ -13,7 +12,7 @@ use crate::account::{Account, keep_book};
 use crate::gate::Gate;
 use crate::inbox::{Heard, Inbox, hear_from};
 use crate::pace::Pace;
-use fixpoint::{Analysis, Growth};
+use fixpoint::Analysis;
 use ledger::Ledger;
 use mail::Mail;
 
@@ -34,7 +33,7 @@ pub fn first_turn<A: Analysis, L: Ledger, G: Gate>(
     ensures sound { IsSound A.rules (A.state part.new) }
     ensures still { IsOpenStill L.Ledger account.old.book.now account.old.share
         account.new.book.now account.new.share }
-    ensures comes { (taken : List (List (TheGrowth A.Fact)))
+    ensures comes { (taken : List (List A.Growth))
         → AreAllEmpty (A.rules.parts (A.state part.old).system) taken
         → ComesTo A.rules (A.state part.new) taken (L.owed account.new.share)
         (L.cleared account.new.share) account.new.tally result }
@@ -50,7 +49,7 @@ pub fn first_turn<A: Analysis, L: Ledger, G: Gate>(
 
 // A turn, if one of the mailboxes has growths: the part receives them, at most as many as a turn
 // may receive, and the book is kept of them.
-fn turn<A: Analysis, M: Mail<Growth<A::Fact>>, L: Ledger, G: Gate>(
+fn turn<A: Analysis, M: Mail<A::Growth>, L: Ledger, G: Gate>(
     pace: &Pace<'_, G>,
     account: &mut Account<'_, L>,
     part: &mut A::Part,
@@ -109,7 +108,7 @@ fn owner_behind(first: u16, step: u16, owners: u16) -> u16
 
 /// One look into each mailbox, or up to the first growth if a turn receives at most one. Returns
 /// whether the part received growths, or why the worker has to end.
-pub fn round<A: Analysis, M: Mail<Growth<A::Fact>>, L: Ledger, G: Gate>(
+pub fn round<A: Analysis, M: Mail<A::Growth>, L: Ledger, G: Gate>(
     pace: &Pace<'_, G>,
     account: &mut Account<'_, L>,
     part: &mut A::Part,
@@ -152,7 +151,7 @@ pub fn round<A: Analysis, M: Mail<Growth<A::Fact>>, L: Ledger, G: Gate>(
 
 // The outcome of rounds of which the last one heard this, and those before it growths.
 fn behind_a_growth<A: Analysis>(heard: Heard) -> Heard
-    ensures { (o : State A A.Fact) (taken : List (List (TheGrowth A.Fact))) (owed cleared : ℕ)
+    ensures { (o : State A A.Growth) (taken : List (List A.Growth)) (owed cleared : ℕ)
         (t : TheTally)
         → ComesTo A.rules o taken owed cleared t heard
         → ComesTo A.rules o taken owed cleared t result }
@@ -165,7 +164,7 @@ fn behind_a_growth<A: Analysis>(heard: Heard) -> Heard
 
 /// Looks into each mailbox, and again as long as growths are heard and fewer items were cleared
 /// than `until`. Returns whether the part received growths, or why the worker has to end.
-pub fn rounds<A: Analysis, M: Mail<Growth<A::Fact>>, L: Ledger, G: Gate>(
+pub fn rounds<A: Analysis, M: Mail<A::Growth>, L: Ledger, G: Gate>(
     pace: &Pace<'_, G>,
     account: &mut Account<'_, L>,
     part: &mut A::Part,

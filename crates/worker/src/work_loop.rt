@@ -18,7 +18,7 @@ use crate::posts::share_out;
 use crate::tally::Tally;
 use crate::turn::{first_turn, rounds};
 use crossbeam_utils::Backoff;
-use fixpoint::{Analysis, Ending, Growth};
+use fixpoint::{Analysis, Ending};
 use ledger::{Leave, Ledger};
 use mail::Mail;
 use std::sync::Wait;
@@ -99,7 +99,7 @@ fn next_try<G: Gate>(pace: &Pace<'_, G>, tally: &Tally) -> u64 {
 
 /// Loads the part and works until the share has left. Returns what is left of it, and how this
 /// ended.
-pub fn work_on<A: Analysis, M: Mail<Growth<A::Fact>>, L: Ledger, G: Gate, R: Wait>(
+pub fn work_on<A: Analysis, M: Mail<A::Growth>, L: Ledger, G: Gate, R: Wait>(
     rt: &R,
     pace: &Pace<'_, G>,
     account: Account<'_, L>,

@@ -12,7 +12,7 @@ use crate::pace::Pace;
 use crate::site::Site;
 use crate::tally::Tally;
 use crate::work_loop::{halt, work_on};
-use fixpoint::{Analysis, Ending, Growth};
+use fixpoint::{Analysis, Ending};
 use ledger::Ledger;
 use mail::Mail;
 use std::alloc::Global;
@@ -22,7 +22,7 @@ use std::sync::Wait;
 /// other owner, none at its own index, room for its senders once they are closed, and what it
 /// returns if it has no part.
 #[derive(Drop)]
-pub struct Worker<A: Analysis, M: Mail<Growth<A::Fact>>, L: Ledger> {
+pub struct Worker<A: Analysis, M: Mail<A::Growth>, L: Ledger> {
     pub me: u16,
     pub share: L::Share,
     pub outbox: Outbox<A, M>,
@@ -34,8 +34,8 @@ pub struct Worker<A: Analysis, M: Mail<Growth<A::Fact>>, L: Ledger> {
 /// What a worker gives back: the log of its part and what the part returned beside it, what is left
 /// of its share, the ends of its mailboxes, and how it ended.
 #[derive(Drop)]
-pub struct Finished<A: Analysis, M: Mail<Growth<A::Fact>>, L: Ledger> {
-    pub log: Vec<Growth<A::Fact>>,
+pub struct Finished<A: Analysis, M: Mail<A::Growth>, L: Ledger> {
+    pub log: Vec<A::Growth>,
     pub yielded: A::Yield,
     pub left: L::Left,
     pub closed: Vec<Option<M::Closed>>,
@@ -44,7 +44,7 @@ pub struct Finished<A: Analysis, M: Mail<Growth<A::Fact>>, L: Ledger> {
 }
 
 /// Runs one worker from its start to its end.
-pub fn work<A: Analysis, M: Mail<Growth<A::Fact>>, L: Ledger, G: Gate, R: Wait>(
+pub fn work<A: Analysis, M: Mail<A::Growth>, L: Ledger, G: Gate, R: Wait>(
     rt: &R,
     site: &Site<'_, A, L, G>,
     worker: Worker<A, M, L>,
@@ -65,7 +65,7 @@ pub fn work<A: Analysis, M: Mail<Growth<A::Fact>>, L: Ledger, G: Gate, R: Wait>(
 }
 
 // Works with the part that was made for the worker.
-fn with_part<A: Analysis, M: Mail<Growth<A::Fact>>, L: Ledger, G: Gate, R: Wait>(
+fn with_part<A: Analysis, M: Mail<A::Growth>, L: Ledger, G: Gate, R: Wait>(
     rt: &R,
     site: &Site<'_, A, L, G>,
     part: A::Part,
@@ -125,7 +125,7 @@ fn with_part<A: Analysis, M: Mail<Growth<A::Fact>>, L: Ledger, G: Gate, R: Wait>
 
 /// Ends a worker that has no part, for this reason: sets the stop flag by its share, leaves, and
 /// closes its senders.
-pub fn call_off<A: Analysis, M: Mail<Growth<A::Fact>>, L: Ledger>(
+pub fn call_off<A: Analysis, M: Mail<A::Growth>, L: Ledger>(
     alloc: Global,
     book: &L::Book,
     worker: Worker<A, M, L>,

@@ -1,6 +1,5 @@
 use Rattle.std.proofs.Common.{◌≡◌, ◌++◌, ℕ, List, [], ◌∷◌, length, Contains, append-nil}
 use Rattle.std.proofs.Common.{refl, sym, ap, ◌∙◌, subst, arith, rules}
-use Rattle.fixpoint.specs.declared.growth.Growth.{Growth}
 use Rattle.fixpoint.specs.State.{State}
 use Rattle.worker.proofs.PostingLemmas.{with_none}
 use Rattle.worker.specs.declared.inbox.Heard.{Heard}
@@ -39,7 +38,7 @@ returns-then-is_empty-clause-hears g c =
     (refl, c.take_batch.ensures.taken ∙ (ap (λ xs. before ++ xs) none ∙ append-nil before))
 
 -- what was handed in is what was taken
-looks_in : {A F : Type 0} (rules : Rules A F) (j : ℕ) (old new : State A F) (before after gs : List (Growth F))
+looks_in : {A F G : Type 0} (rules : Rules A F G) (j : ℕ) (old new : State A G) (before after gs : List G)
     (heard : Heard) → after ≡ before ++ gs
     → HandsIn rules j old new gs heard → LooksInto rules j old new before after gs heard
 looks_in rules j old new before after gs Nothing e h = absurd h

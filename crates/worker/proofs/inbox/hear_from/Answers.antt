@@ -1,5 +1,4 @@
 use Rattle.std.proofs.Common.{◌<◌, ◌≤◌, ◌^◌, List, [], length, map, slice_set, subst, refl, sym, ap, ◌∙◌, rules}
-use Rattle.fixpoint.specs.declared.growth.Growth.{Growth}
 use Rattle.worker.specs.Hearing.{LooksInto}
 use Rattle.worker.specs.Mailboxes.{Both, Keeps, through}
 use Rattle.worker.proofs.ListLemmas.{map_set, map_read, read_set, alike_set, both_refl}

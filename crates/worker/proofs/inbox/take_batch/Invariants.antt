@@ -1,6 +1,5 @@
 use Rattle.std.proofs.Common.{◌≡◌, ◌≤◌, ◌++◌, ◌-◌, length, Contains, vec_len, vec_capacity}
 use Rattle.mail.specs.Limits.{most_posts}
-use Rattle.fixpoint.specs.declared.growth.Growth.{Growth}
 use Rattle.fixpoint.specs.State.{Passes}
 use Rattle.worker.proofs.inbox.take_batch.Given as goal
 
