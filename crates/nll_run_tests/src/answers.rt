@@ -7,7 +7,7 @@ use super::watches::Watched;
 use nll_ledger::WordLedger;
 use nll_mail::QueueMail;
 use nll_worked::BY_TURNS;
-use nll_worker::Gate;
+use nll_run::Gate;
 use std::alloc::AllocGlobal;
 
 // A gate that takes notes, and allows this many growths in a turn.

@@ -30,7 +30,7 @@ const REPORT: &[u8] = b"'static: 0 1 end('static)
 
 // The two owners of an answer work side by side: each begins its turns 1 and 2 only once the other
 // does.
-fn meet<M: Mail, L: Ledger, R: AllocGlobal + Abort + Threads + Wait + Sync>(
+fn meet<M: ThreadMail<Growth>, L: ThreadLedger, R: AllocGlobal + Abort + Threads + Wait + Sync>(
     rt: &R,
     mail: &M,
     ledger: &L,

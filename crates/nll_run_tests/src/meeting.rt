@@ -1,6 +1,6 @@
 //! Two owners that meet.
 use super::watches::{Step, Watch};
-use nll_worker::Gate;
+use nll_run::Gate;
 use std::sync::atomic::{AtomicBool, AtomicU64, Ordering};
 use std::thread;
 

@@ -1,6 +1,6 @@
 //! Notes of what two owners do in their turns.
 use super::watches::{Step, Watch};
-use nll_worker::Gate;
+use nll_run::Gate;
 use std::alloc::{AllocError, Global};
 use std::sync::atomic::{AtomicBool, AtomicU64, Ordering};
 

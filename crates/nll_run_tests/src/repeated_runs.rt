@@ -14,7 +14,7 @@ use nll_run::RunError;
 use nll_worked::{
     BY_TURNS, FILLED_HOLE, MANY, REACHED, TWO_BORROWS, Written, text_of, worked_problem,
 };
-use nll_worker::NoGate;
+use nll_run::NoGate;
 use std::alloc::{AllocGlobal, Global};
 use std::process::Abort;
 use std::sync::Wait;
@@ -94,7 +94,7 @@ fn cut_again(rt: &impl Abort, alloc: Global, deal: Deal, regions: u32) -> Cut
 
 // Compares the outcome of a run, or if it is refused memory or a thread, that of the next one over
 // the same problem, cut, mailboxes, ledger and gate.
-fn compare_again<M: Mail, L: Ledger, R: Abort + Threads + Wait + Sync>(
+fn compare_again<M: ThreadMail<Growth>, L: ThreadLedger, R: Abort + Threads + Wait + Sync>(
     rt: &R,
     alloc: Global,
     problem: &Problem,
@@ -117,7 +117,7 @@ fn compare_again<M: Mail, L: Ledger, R: Abort + Threads + Wait + Sync>(
 }
 
 // Like `compare_again`, for a problem whose regions are assigned so.
-fn compare_dealt<M: Mail, L: Ledger, R: Abort + Threads + Wait + Sync>(
+fn compare_dealt<M: ThreadMail<Growth>, L: ThreadLedger, R: Abort + Threads + Wait + Sync>(
     rt: &R,
     alloc: Global,
     problem: &Problem,
@@ -132,7 +132,7 @@ fn compare_dealt<M: Mail, L: Ledger, R: Abort + Threads + Wait + Sync>(
 }
 
 // The rows, over these mailboxes and this ledger.
-fn compare_rows<M: Mail, L: Ledger, R: AllocGlobal + Abort + Threads + Wait + Sync>(
+fn compare_rows<M: ThreadMail<Growth>, L: ThreadLedger, R: AllocGlobal + Abort + Threads + Wait + Sync>(
     rt: &R,
     mail: &M,
     ledger: &L,
@@ -158,7 +158,7 @@ fn problem_of_text(rt: &impl Abort, alloc: Global, lines: &str) -> Problem {
 }
 
 // A body's problem, over these mailboxes and this ledger.
-fn compare_borrows<M: Mail, L: Ledger, R: AllocGlobal + Abort + Threads + Wait + Sync>(
+fn compare_borrows<M: ThreadMail<Growth>, L: ThreadLedger, R: AllocGlobal + Abort + Threads + Wait + Sync>(
     rt: &R,
     mail: &M,
     ledger: &L,
@@ -179,7 +179,7 @@ fn filled_again(rt: &impl Abort, alloc: Global, rest: &str) -> String {
 }
 
 // Mailboxes that fill up, over these mailboxes and this ledger.
-fn compare_many<M: Mail, L: Ledger, R: AllocGlobal + Abort + Threads + Wait + Sync>(
+fn compare_many<M: ThreadMail<Growth>, L: ThreadLedger, R: AllocGlobal + Abort + Threads + Wait + Sync>(
     rt: &R,
     mail: &M,
     ledger: &L,

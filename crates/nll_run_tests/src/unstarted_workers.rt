@@ -12,7 +12,7 @@ use nll_ledger::{Ledger, LockLedger, WordLedger};
 use nll_mail::{Mail, QueueMail, RingMail};
 use nll_run::run_with;
 use nll_worked::{BY_TURNS, MANY, REACHED, Written, worked_problem};
-use nll_worker::NoGate;
+use nll_run::NoGate;
 use std::alloc::{AllocGlobal, Global};
 use std::process::Abort;
 use std::sync::Wait;
@@ -67,7 +67,7 @@ const ROWS: &[Row] = &[
 
 // The outcome of a run of the owners of a cut of which some aren't started, and that of the next
 // one, over the same problem, cut, mailboxes, ledger and gate.
-fn told_twice<M: Mail, L: Ledger, R: Threads + Wait + Sync>(
+fn told_twice<M: ThreadMail<Growth>, L: ThreadLedger, R: Threads + Wait + Sync>(
     rt: &R,
     alloc: Global,
     problem: &Problem,
@@ -103,7 +103,7 @@ fn told_twice<M: Mail, L: Ledger, R: Threads + Wait + Sync>(
 }
 
 // Like `told_twice`, for a written problem.
-fn told_of<M: Mail, L: Ledger, R: Threads + Wait + Sync>(
+fn told_of<M: ThreadMail<Growth>, L: ThreadLedger, R: Threads + Wait + Sync>(
     rt: &R,
     alloc: Global,
     written: Written,

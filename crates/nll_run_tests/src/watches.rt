@@ -31,13 +31,13 @@ pub struct Watched<'x, I, W> {
 }
 
 /// The end that posts of a watched mailbox.
-pub struct WatchedSender<'x, M: Mail, W> {
+pub struct WatchedSender<'x, M: ThreadMail<Growth>, W> {
     inner: M::S,
     from: u16,
     watch: &'x W,
 }
 
-impl<'x, M: Mail, W: Watch> Mail for Watched<'x, M, W> {
+impl<'x, M: ThreadMail<Growth>, W: Watch> Mail for Watched<'x, M, W> {
     type S = WatchedSender<'x, M, W>;
 
     type R = M::R;
@@ -109,7 +109,7 @@ impl<'x, M: Mail, W: Watch> Mail for Watched<'x, M, W> {
 
 /// The book of a watched ledger.
 #[derive(Drop)]
-pub struct WatchedBook<'x, L: Ledger, W> {
+pub struct WatchedBook<'x, L: ThreadLedger, W> {
     inner: L::Book,
     watch: &'x W,
 }
@@ -135,7 +135,7 @@ fn numbered<S: Drop>(alloc: Global, shares: Vec<S>) -> Result<Vec<WatchedShare<S
     Ok(numbered)
 }
 
-impl<'x, L: Ledger, W: Watch> Ledger for Watched<'x, L, W> {
+impl<'x, L: ThreadLedger, W: Watch> Ledger for Watched<'x, L, W> {
     ghost use Rattle.std.specs.Prelude.{◌≡◌, ℕ, Some, false, slice_get, true, vec_len};
     ghost use Rattle.std.specs.List.{sum_by};
 
