@@ -101,8 +101,8 @@ already rules lawful known fact is f = same_truth (with_fact rules fact known f)
     (λ h. or_right (rules.same fact f) (known f) h)
 
 -- the same facts are due at the same owner of the same system
-pub due_at : {A F G : Type 0} (rules : Rules A F G) (a b : A) (i j : ℕ) (known : F → Bool) (list : List F) → a ≡ b → i ≡ j
-    → IsDue rules b j known list → IsDue rules a i known list
+pub due_at : {A F G : Type 0} (rules : Rules A F G) (a b : A) (i j : ℕ) (known : F → Bool) (list : List F) → a ≡ b
+    → i ≡ j → IsDue rules b j known list → IsDue rules a i known list
 due_at rules a b i j known list system me due =
     subst (λ x. IsDue rules x i known list) (sym system) (subst (λ k. IsDue rules b k known list) (sym me) due)
 

@@ -59,7 +59,8 @@ module _ {A F G : Type 0} (rules : Rules A F G) (lawful : AreLawful rules) where
   supported_in : (a : A) → rules.valid a → (old new : F → List G) → ((f : F) → IsIn (old f) (new f))
       → (log : List G) → IsWellSupported rules a old log → IsWellSupported rules a new log
   supported_in a ok old new more log h g at =
-      derives_more a ok (λ f. tells_before rules (rules.rank g) (old f) f) (λ f. tells_before rules (rules.rank g) (new f) f)
+      derives_more a ok (λ f. tells_before rules (rules.rank g) (old f) f)
+      (λ f. tells_before rules (rules.rank g) (new f) f)
       (λ f t. before_in (old f) (new f) (more f) (rules.rank g) f t) (rules.fact g) (h g at)
 
   -- a list of growths of different facts is short
@@ -139,12 +140,14 @@ module _ {A F G : Type 0} (rules : Rules A F G) (lawful : AreLawful rules) where
           (ap (rules.owner o.system) fact_is ∙ found.own))
           (Contains-push_cases o.log growth g h);
       once = all_pairs_push (λ (g h : G). rules.fact g ≡ rules.fact h → ⊥) o.log growth kept.sound.well_formed.once
-          (λ k d l same. fresh (get_or o.log k d) (k, l, get_or_default o.log k (get_or o.log k d) d l) (same ∙ fact_is));
+          (λ k d l same. fresh (get_or o.log k d) (k, l, get_or_default o.log k (get_or o.log k d) d l)
+          (same ∙ fact_is));
       rising = all_pairs_push (λ (g h : G). rules.rank g < rules.rank h) o.log growth kept.sound.well_formed.rising
           (λ k d l. let r = kept.own_ranks (get_or o.log k d) (k, l, get_or_default o.log k (get_or o.log k d) d l) in
           omega (arith, r, rank_is));
       from_one = λ g h. ⊎_elim (λ old. kept.sound.well_formed.from_one g old)
-          (λ is. subst (λ (g : G). 1 ≤ rules.rank g) is (omega (arith, rank_is))) (Contains-push_cases o.log growth g h);
+          (λ is. subst (λ (g : G). 1 ≤ rules.rank g) is (omega (arith, rank_is)))
+          (Contains-push_cases o.log growth g h);
     }
 
     grown_supported : IsWellSupported rules o.system (list_in rules grown) (o.log ++ growth ∷ [])
@@ -321,7 +324,8 @@ module _ {A F G : Type 0} (rules : Rules A F G) (lawful : AreLawful rules) where
       senders = length-set o.received from (received_from o from ++ g ∷ []) ∙ kept.sound.senders;
       heard = λ j h at. ⊎_elim (λ old. kept.sound.heard j h old)
           (λ (is : (j ≡ from) × (g ≡ h)). subst
-          (λ (x : G). (rules.owner o.system (rules.fact x) ≡ j) × (rules.reads o.system o.me (rules.fact x) ≡ true)) is.1
+          (λ (x : G). (rules.owner o.system (rules.fact x) ≡ j)
+          × (rules.reads o.system o.me (rules.fact x) ≡ true)) is.1
           (passes.sender ∙ sym is.0, passes.read)) (received_cases j h at);
       steps = λ h at more. let x = kept.sound.steps h at more in (x.0, told_known x.0 x.1, x.2);
       receivers = kept.sound.receivers;

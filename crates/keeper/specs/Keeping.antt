@@ -8,8 +8,8 @@ use Rattle.fixpoint.specs.State.{State, IsSound, IsDone, IsNoted, list_in, recei
 use Rattle.keeper.specs.Engine.{IsFound}
 
 -- the part that is made of these
-abbrev pub state_of : {A G : Type 0} → A → ℕ → List G → List (List G) → List ℕ
-    → Bool → Bool → State A G
+abbrev pub state_of : {A G : Type 0} → A → ℕ → List G → List (List G) → List ℕ → Bool
+    → Bool → State A G
 state_of a i list got gave is_loaded is_broken = record {
   system = a;
   me = i;

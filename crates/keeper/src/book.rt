@@ -89,8 +89,8 @@ impl<E: Engine + Drop> Book<E> {
         ensures ok { OnOk result (self.new ≡ record self.old {
           received = with_growth self.old.received from growth;
         }) }
-        ensures has { OnOk result ((f : E.Fact)
-            → has E.rules self.new f ≡ with_fact E.rules (E.rules.fact growth) (has E.rules self.old) f) }
+        ensures has { OnOk result ((f : E.Fact) → has E.rules self.new f
+            ≡ with_fact E.rules (E.rules.fact growth) (has E.rules self.old) f) }
         ensures err { OnErr result (self.new ≡ self.old) }
         ensures sound { IsSound E.rules self.new }
     {

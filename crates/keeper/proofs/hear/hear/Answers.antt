@@ -22,7 +22,8 @@ returns-then-known-clause-due g c =
     (has r o) (has r c.receive.new.self) c.args.due.now.items
     (λ f. c.in_ok-receive.ensures.has f
     ∙ already r law (has r o) (r.fact c.args.growth)
-    (sym (c.requires.store (r.fact c.args.growth)) ∙ (ap (λ x. g.E.Engine.has c.args.store.now x) (sym c.fact-fact.ensures)
+    (sym (c.requires.store (r.fact c.args.growth))
+    ∙ (ap (λ x. g.E.Engine.has c.args.store.now x) (sym c.fact-fact.ensures)
     ∙ (sym c.knows-known.ensures ∙ c.if-known.true))) f)
     c.requires.due)
 
