@@ -6,17 +6,16 @@ use Rattle.std.proofs.lemmas.List.Elements.{filter-append}
 use Rattle.std.proofs.Math.Seq.{take-append_seam}
 use Rattle.fixpoint.specs.Rules.{Rules}
 use Rattle.fixpoint.specs.Logs.{part}
-use Rattle.fixpoint.specs.declared.growth.Growth.{Growth}
 use Rattle.keeper.specs.Keeping.{AreDealt, AreParts, with_growth}
 
-module _ {A F : Type 0} (rules : Rules A F) (a : A) (g : Growth F) where
-  part_one : (j : ℕ) (b : Bool) → rules.reads a j g.fact ≡ b → part rules a j (g ∷ []) ≡ cond b (g ∷ []) []
+module _ {A F G : Type 0} (rules : Rules A F G) (a : A) (g : G) where
+  part_one : (j : ℕ) (b : Bool) → rules.reads a j (rules.fact g) ≡ b → part rules a j (g ∷ []) ≡ cond b (g ∷ []) []
   part_one j b is = ap (λ t. cond t (g ∷ []) []) is
 
-  module _ (old new : List (List (Growth F))) (i : ℕ) (dealt : AreDealt rules a g i old new) (low : i < length
+  module _ (old new : List (List G)) (i : ℕ) (dealt : AreDealt rules a g i old new) (low : i < length
       old) where
     -- owner i reads the growth and gets it
-    pub dealt_push : rules.reads a i g.fact ≡ true → AreDealt rules a g (i + 1) old (with_growth new i g)
+    pub dealt_push : rules.reads a i (rules.fact g) ≡ true → AreDealt rules a g (i + 1) old (with_growth new i g)
     dealt_push reads = record {
       counted = length-set new i (get_or new i [] ++ g ∷ []) ∙ dealt.counted;
       got = λ j below within. ⊎_elim
@@ -33,7 +32,7 @@ module _ {A F : Type 0} (rules : Rules A F) (a : A) (g : Growth F) where
     }
 
     -- owner i doesn't read it
-    pub dealt_pass : rules.reads a i g.fact ≡ false → AreDealt rules a g (i + 1) old new
+    pub dealt_pass : rules.reads a i (rules.fact g) ≡ false → AreDealt rules a g (i + 1) old new
     dealt_pass reads = record {
       counted = dealt.counted;
       got = λ j below within. ⊎_elim
@@ -48,23 +47,23 @@ module _ {A F : Type 0} (rules : Rules A F) (a : A) (g : Growth F) where
     }
 
   -- what each owner receives of a log with this growth behind
-  pub parts_more : (log : List (Growth F)) (old new : List (List (Growth F))) → AreParts rules a log old
+  pub parts_more : (log : List G) (old new : List (List G)) → AreParts rules a log old
       → AreDealt rules a g (length old) old new → AreParts rules a (log ++ g ∷ []) new
   parts_more log old new parts dealt = record {
     counted = dealt.counted ∙ parts.counted;
     each = λ j low. dealt.got j (omega (arith, low, parts.counted)) (omega (arith, low, parts.counted))
         ∙ (ap (λ xs. xs ++ part rules a j (g ∷ [])) (parts.each j low)
-        ∙ sym (filter-append (λ (h : Growth F). rules.reads a j h.fact) log (g ∷ [])));
+        ∙ sym (filter-append (λ (h : G). rules.reads a j (rules.fact h)) log (g ∷ [])));
   }
 
-module _ {A F : Type 0} (rules : Rules A F) (b a : A) (system : a ≡ b) (lists : List (List (Growth F))) where
+module _ {A F G : Type 0} (rules : Rules A F G) (b a : A) (system : a ≡ b) (lists : List (List G)) where
   -- what the lists had of the log they have of the beginning of a longer one
-  pub parts_front : (old log rest : List (Growth F)) (place : ℕ) → log ≡ old ++ rest → place ≡ length old
+  pub parts_front : (old log rest : List G) (place : ℕ) → log ≡ old ++ rest → place ≡ length old
       → AreParts rules b old lists → AreParts rules a (take place log) lists
   parts_front old log rest place more all parts =
       subst (λ xs. AreParts rules a xs lists)
       (sym (ap (take place) more ∙ (ap (λ n. take n (old ++ rest)) all ∙ take-append_seam old rest)))
       (subst (λ x. AreParts rules x old lists) (sym system) parts)
 
-  pub parts_same : (log : List (Growth F)) → AreParts rules a log lists → AreParts rules b log lists
+  pub parts_same : (log : List G) → AreParts rules a log lists → AreParts rules b log lists
   parts_same log parts = subst (λ x. AreParts rules x log lists) system parts

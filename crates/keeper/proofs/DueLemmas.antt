@@ -9,7 +9,7 @@ use Rattle.keeper.specs.Engine.{IsFound, Finds, with_fact, nothing}
 use Rattle.keeper.specs.Keeping.{IsDue, has}
 use Rattle.keeper.proofs.KeepingLemmas.{derives_more, or_cases, or_right, same_truth}
 
-module _ {A F : Type 0} (rules : Rules A F) (lawful : AreLawful rules) (a : A) (ok : rules.valid a) (i : ℕ) where
+module _ {A F G : Type 0} (rules : Rules A F G) (lawful : AreLawful rules) (a : A) (ok : rules.valid a) (i : ℕ) where
   -- what was found by some facts is found by more
   found_more : (known more : F → Bool) → ((f : F) → IsTrue (known f) → IsTrue (more f)) → (f : F)
       → IsFound rules a i known f → IsFound rules a i more f
@@ -93,7 +93,7 @@ module _ {A F : Type 0} (rules : Rules A F) (lawful : AreLawful rules) (a : A) (
   }
 
 -- a fact more that is known already is none
-pub already : {A F : Type 0} (rules : Rules A F) (lawful : AreLawful rules) (known : F → Bool) (fact : F)
+pub already : {A F G : Type 0} (rules : Rules A F G) (lawful : AreLawful rules) (known : F → Bool) (fact : F)
     → IsTrue (known fact) → (f : F) → with_fact rules fact known f ≡ known f
 already rules lawful known fact is f = same_truth (with_fact rules fact known f) (known f)
     (λ h. ⊎_elim (λ same. subst (λ x. known x ≡ true) ((lawful.same_tells fact f).0 same) is) (λ old. old)
@@ -101,13 +101,13 @@ already rules lawful known fact is f = same_truth (with_fact rules fact known f)
     (λ h. or_right (rules.same fact f) (known f) h)
 
 -- the same facts are due at the same owner of the same system
-pub due_at : {A F : Type 0} (rules : Rules A F) (a b : A) (i j : ℕ) (known : F → Bool) (list : List F) → a ≡ b → i ≡ j
-    → IsDue rules b j known list → IsDue rules a i known list
+pub due_at : {A F G : Type 0} (rules : Rules A F G) (a b : A) (i j : ℕ) (known : F → Bool) (list : List F) → a ≡ b
+    → i ≡ j → IsDue rules b j known list → IsDue rules a i known list
 due_at rules a b i j known list system me due =
     subst (λ x. IsDue rules x i known list) (sym system) (subst (λ k. IsDue rules b k known list) (sym me) due)
 
 -- nothing is left to do where nothing is due
-pub done_now : {A F : Type 0} (rules : Rules A F) (lawful : AreLawful rules) (o : State A F) (list : List F)
+pub done_now : {A F G : Type 0} (rules : Rules A F G) (lawful : AreLawful rules) (o : State A G) (list : List F)
     → IsDue rules o.system o.me (has rules o) list → list ≡ [] → IsDone rules o
 done_now rules lawful o list due none f own follows = ⊎_elim
     (λ h. tells_from rules lawful.same_tells (list_in rules o f) f h)
@@ -116,7 +116,7 @@ done_now rules lawful o list due none f own follows = ⊎_elim
 
 -- ---- what an engine finds
 
-module _ {A F : Type 0} (rules : Rules A F) (lawful : AreLawful rules) (b : A) (ok : rules.valid b) (i : ℕ) where
+module _ {A F G : Type 0} (rules : Rules A F G) (lawful : AreLawful rules) (b : A) (ok : rules.valid b) (i : ℕ) where
   pub finds_same : (a : A) (j : ℕ) → a ≡ b → j ≡ i → (known more known' more' : F → Bool)
       → ((f : F) → known' f ≡ known f) → ((f : F) → more' f ≡ more f) → (old new : List F)
       → Finds rules a j more (λ f. rules.derives a known f) old new

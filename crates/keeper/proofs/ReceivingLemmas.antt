@@ -61,14 +61,14 @@ module _ {G : Type 0} where
       (first_of_one got.0 got.1.0 g got.1.1)
 
 -- the lists alone, in two steps
-pub received_on : {A F : Type 0} (old middle new : State A F) → middle ≡ record old { received = middle.received }
+pub received_on : {A G : Type 0} (old middle new : State A G) → middle ≡ record old { received = middle.received }
     → new ≡ record middle { received = new.received } → new ≡ record old { received = new.received }
-received_on {A} {F} old middle new first then =
-    then ∙ ap (λ (o : State A F). record o { received = new.received }) first
+received_on {A} {G} old middle new first then =
+    then ∙ ap (λ (o : State A G). record o { received = new.received }) first
 
 -- the lists, and then the log
-pub received_grows : {A F : Type 0} (old middle new : State A F) → middle ≡ record old { received = middle.received }
+pub received_grows : {A G : Type 0} (old middle new : State A G) → middle ≡ record old { received = middle.received }
     → new ≡ record middle { log = new.log } → new ≡ record old { log = new.log; received = new.received }
-received_grows {A} {F} old middle new first then =
-    then ∙ (ap (λ (o : State A F). record o { log = new.log }) first
-    ∙ ap (λ xs. record old { log = new.log; received = xs }) (sym (ap (λ (o : State A F). o.received) then)))
+received_grows {A} {G} old middle new first then =
+    then ∙ (ap (λ (o : State A G). record o { log = new.log }) first
+    ∙ ap (λ xs. record old { log = new.log; received = xs }) (sym (ap (λ (o : State A G). o.received) then)))

@@ -4,13 +4,12 @@ use Rattle.std.specs.Prelude.{Result, Ok, Err, OnOk, is_ok, is_err}
 use Rattle.std.proofs.lemmas.Bool.{false≢true}
 use Rattle.fixpoint.specs.Rules.{Rules}
 use Rattle.fixpoint.specs.State.{State, IsDone}
-use Rattle.fixpoint.specs.declared.growth.Growth.{Growth}
 use Rattle.keeper.specs.Keeping.{IsQuiet, IsWhole}
 
-module _ {A F : Type 0} (rules : Rules A F) (stored : F → Bool) (due : List F) (looked : ℕ)
-    (lists : List (List (Growth F))) where
+module _ {A F G : Type 0} (rules : Rules A F G) (stored : F → Bool) (due : List F) (looked : ℕ)
+    (lists : List (List G)) where
   -- how much was given changes nothing
-  given_whole : (o : State A F) (gave : List ℕ) → IsWhole rules o stored due looked lists
+  given_whole : (o : State A G) (gave : List ℕ) → IsWhole rules o stored due looked lists
       → IsWhole rules (record o { given = gave }) stored due looked lists
   given_whole o gave w = record {
     quiet = record {
@@ -23,14 +22,14 @@ module _ {A F : Type 0} (rules : Rules A F) (stored : F → Bool) (due : List F)
     fresh = w.fresh;
   }
 
-  pub whole_given : (o n : State A F) (gave : List ℕ) → n ≡ record o { given = gave }
+  pub whole_given : (o n : State A G) (gave : List ℕ) → n ≡ record o { given = gave }
       → (o.broken ≡ false → IsWhole rules o stored due looked lists) → n.broken ≡ false
       → IsWhole rules n stored due looked lists
   whole_given o n gave is whole fine =
-      subst (λ (x : State A F). IsWhole rules x stored due looked lists) (sym is)
-      (given_whole o gave (whole (sym (ap (λ (x : State A F). x.broken) is) ∙ fine)))
+      subst (λ (x : State A G). IsWhole rules x stored due looked lists) (sym is)
+      (given_whole o gave (whole (sym (ap (λ (x : State A G). x.broken) is) ∙ fine)))
 
-  marked_whole : (o : State A F) (b : Bool) → IsQuiet rules o stored due looked lists → IsDone rules o
+  marked_whole : (o : State A G) (b : Bool) → IsQuiet rules o stored due looked lists → IsDone rules o
       → IsWhole rules (record o { loaded = true; broken = b }) stored due looked lists
   marked_whole o b q d = record {
     quiet = record {
@@ -44,19 +43,19 @@ module _ {A F : Type 0} (rules : Rules A F) (stored : F → Bool) (due : List F)
   }
 
   -- a call that wasn't refused left nothing to do
-  pub whole_after : {T E : Type 0} (o n : State A F) (r : Result T E) (l b : Bool) → (is_ok r ≡ true → l ≡ true)
+  pub whole_after : {T E : Type 0} (o n : State A G) (r : Result T E) (l b : Bool) → (is_ok r ≡ true → l ≡ true)
       → b ≡ is_err r → n ≡ record o { loaded = l; broken = b } → OnOk r (IsQuiet rules o stored due looked lists)
       → OnOk r (IsDone rules o) → n.broken ≡ false → IsWhole rules n stored due looked lists
   whole_after o n (Ok x) l b loads broken is q d fine =
-      subst (λ (x : State A F). IsWhole rules x stored due looked lists)
+      subst (λ (x : State A G). IsWhole rules x stored due looked lists)
       (sym (is ∙ ap (λ t. record o { loaded = t; broken = b }) (loads refl))) (marked_whole o b q d)
   whole_after o n (Err e) l b loads broken is q d fine =
-      absurd (false≢true (sym fine ∙ (ap (λ (x : State A F). x.broken) is ∙ broken)))
+      absurd (false≢true (sym fine ∙ (ap (λ (x : State A G). x.broken) is ∙ broken)))
 
 -- nothing is left to do after the marks either
-pub done_after : {A F T E U D : Type 0} (rules : Rules A F) (a : Result T E) (r : Result U D) (o n : State A F)
+pub done_after : {A F G T E U D : Type 0} (rules : Rules A F G) (a : Result T E) (r : Result U D) (o n : State A G)
     (l b : Bool) → is_ok a ≡ is_ok r → n ≡ record o { loaded = l; broken = b } → OnOk r (IsDone rules o)
     → OnOk a (IsDone rules n)
-done_after {A} {F} rules (Ok x) (Ok y) o n l b same is d = subst (λ (x : State A F). IsDone rules x) (sym is) d
+done_after {A} {F} {G} rules (Ok x) (Ok y) o n l b same is d = subst (λ (x : State A G). IsDone rules x) (sym is) d
 done_after rules (Ok x) (Err e) o n l b same is d = absurd (false≢true (sym same))
 done_after rules (Err e) r o n l b same is d = tt

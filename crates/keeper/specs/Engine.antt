@@ -2,7 +2,7 @@
 use Rattle.std.specs.Prelude.{◌≡◌, ◌⊎◌, ℕ, Bool, false, ◌||◌, List, Contains}
 use Rattle.fixpoint.specs.Rules.{Rules}
 
-module _ {A F : Type 0} (rules : Rules A F) where
+module _ {A F G : Type 0} (rules : Rules A F G) where
   -- The fact is one that owner i may enter: it is the owner's, proper, and follows from what is
   -- known.
   pub record IsFound (a : A) (i : ℕ) (known : F → Bool) (f : F) : Type 0 where

@@ -5,12 +5,11 @@ use Rattle.nll_sets.specs.Prefix.{IsPrefix}
 use Rattle.fixpoint.specs.Rules.{Rules}
 use Rattle.fixpoint.specs.Logs.{tells, part}
 use Rattle.fixpoint.specs.State.{State, IsSound, IsDone, IsNoted, list_in, received_from}
-use Rattle.fixpoint.specs.declared.growth.Growth.{Growth}
 use Rattle.keeper.specs.Engine.{IsFound}
 
 -- the part that is made of these
-abbrev pub state_of : {A F : Type 0} → A → ℕ → List (Growth F) → List (List (Growth F)) → List ℕ
-    → Bool → Bool → State A F
+abbrev pub state_of : {A G : Type 0} → A → ℕ → List G → List (List G) → List ℕ → Bool
+    → Bool → State A G
 state_of a i list got gave is_loaded is_broken = record {
   system = a;
   me = i;
@@ -25,24 +24,24 @@ state_of a i list got gave is_loaded is_broken = record {
 abbrev pub with_growth : {G : Type 0} → List (List G) → ℕ → G → List (List G)
 with_growth received j g = slice_set received j (slice_index_or received j [] ++ g ∷ [])
 
--- a growth of this fact was appended to the log, and nothing else changed
-abbrev pub GrowsBy : {A F : Type 0} → F → State A F → State A F → Type 0
-GrowsBy {A} {F} f old new =
-    (g : Growth F) × (g.fact ≡ f) × (new ≡ record old { log = old.log ++ g ∷ [] })
-
-module _ {A F : Type 0} (rules : Rules A F) where
+module _ {A F G : Type 0} (rules : Rules A F G) where
   -- whether the part knows the fact
-  abbrev pub has : State A F → F → Bool
+  abbrev pub has : State A G → F → Bool
   has o f = tells rules (list_in rules o f) f
 
+  -- a growth of this fact was appended to the log, and nothing else changed
+  abbrev pub GrowsBy : F → State A G → State A G → Type 0
+  GrowsBy f old new =
+      (g : G) × (rules.fact g ≡ f) × (new ≡ record old { log = old.log ++ g ∷ [] })
+
   -- What is true of a part and its clock, which is the highest rank so far.
-  pub record IsKept (o : State A F) (clock : ℕ) : Type 0 where
+  pub record IsKept (o : State A G) (clock : ℕ) : Type 0 where
     pub sound : IsSound rules o
     -- no rank is above the clock
-    pub own_ranks : (g : Growth F) → Contains o.log g → g.rank ≤ clock
-    pub heard_ranks : (j : ℕ) (g : Growth F) → Contains (received_from o j) g → g.rank ≤ clock
+    pub own_ranks : (g : G) → Contains o.log g → rules.rank g ≤ clock
+    pub heard_ranks : (j : ℕ) (g : G) → Contains (received_from o j) g → rules.rank g ≤ clock
     -- the clock is the rank of a growth
-    pub top : (clock ≡ 0) ⊎ ((h : Growth F) × IsNoted o h × (h.rank ≡ clock))
+    pub top : (clock ≡ 0) ⊎ ((h : G) × IsNoted o h × (rules.rank h ≡ clock))
     -- it received only ranks below 2^61, so the clock is hardly above that
     pub early : clock ≤ 2 ^ 61 + length o.log
 
@@ -54,7 +53,7 @@ module _ {A F : Type 0} (rules : Rules A F) where
         → IsTrue (known f) ⊎ Contains list f
 
   -- For each owner there is a list: what it receives of this log.
-  pub record AreParts (a : A) (log : List (Growth F)) (lists : List (List (Growth F)))
+  pub record AreParts (a : A) (log : List G) (lists : List (List G))
       : Type 0 where
     pub counted : length lists ≡ rules.parts a
     pub each :
@@ -62,7 +61,7 @@ module _ {A F : Type 0} (rules : Rules A F) where
 
   -- The lists for the owners below a number got a growth, if they read it; the others are as they
   -- were.
-  pub record AreDealt (a : A) (g : Growth F) (below : ℕ) (old new : List (List (Growth F)))
+  pub record AreDealt (a : A) (g : G) (below : ℕ) (old new : List (List G))
       : Type 0 where
     pub counted : length new ≡ length old
     pub got :
@@ -71,15 +70,15 @@ module _ {A F : Type 0} (rules : Rules A F) where
     pub left : (j : ℕ) → below ≤ j → slice_index_or new j [] ≡ slice_index_or old j []
 
 -- The log got some more growths, and nothing else changed.
-pub record Grows {A F : Type 0} (old new : State A F) : Type 0 where
+pub record Grows {A G : Type 0} (old new : State A G) : Type 0 where
   pub begins : IsPrefix old.log new.log
   pub others : new ≡ record old { log = new.log }
 
-module _ {A F : Type 0} (rules : Rules A F) where
+module _ {A F G : Type 0} (rules : Rules A F G) where
   -- A part goes on from here: the store has what it knows, nothing is due, and the lists have what
   -- each owner receives of the whole log.
-  pub record IsQuiet (o : State A F) (stored : F → Bool) (due : List F) (looked : ℕ)
-      (lists : List (List (Growth F))) : Type 0 where
+  pub record IsQuiet (o : State A G) (stored : F → Bool) (due : List F) (looked : ℕ)
+      (lists : List (List G)) : Type 0 where
     pub store : (f : F) → stored f ≡ has rules o f
     pub none_due : due ≡ []
     pub whole_log : looked ≡ length o.log
@@ -87,8 +86,8 @@ module _ {A F : Type 0} (rules : Rules A F) where
 
   -- What is true of a part between two calls, unless one was refused: it goes on from here, and has
   -- nothing left to do if it's loaded, or knows nothing if it isn't.
-  pub record IsWhole (o : State A F) (stored : F → Bool) (due : List F) (looked : ℕ)
-      (lists : List (List (Growth F))) : Type 0 where
+  pub record IsWhole (o : State A G) (stored : F → Bool) (due : List F) (looked : ℕ)
+      (lists : List (List G)) : Type 0 where
     pub quiet : IsQuiet o stored due looked lists
     pub done : o.loaded ≡ true → IsDone rules o
     pub fresh : o.loaded ≡ false → (f : F) → has rules o f ≡ false

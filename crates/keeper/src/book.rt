@@ -9,7 +9,7 @@ ghost use Rattle.fixpoint.specs.Limits.{most_growths};
 ghost use Rattle.keeper.specs.Engine.{IsFound, with_fact};
 ghost use Rattle.keeper.specs.Keeping.{GrowsBy, has, with_growth};
 
-use fixpoint::{Growth, Rules};
+use crate::engine::Engine;
 use nll_sets::Memory;
 use std::alloc::Global;
 use std::marker::Model;
@@ -20,11 +20,11 @@ use std::marker::Model;
 /// `received` and `given` have an entry for each owner: what it sent, and how much of its part of
 /// the log was given to it.
 #[derive(Drop)]
-pub struct Book<A: Rules + Drop> {
-    pub system: A,
+pub struct Book<E: Engine + Drop> {
+    pub system: E,
     pub me: u16,
-    pub log: Vec<Growth<A::Fact>>,
-    pub received: Vec<Vec<Growth<A::Fact>>>,
+    pub log: Vec<E::Growth>,
+    pub received: Vec<Vec<E::Growth>>,
     pub given: Vec<u64>,
     // The highest rank so far.
     pub clock: u64,
@@ -32,25 +32,25 @@ pub struct Book<A: Rules + Drop> {
     pub broken: bool,
 }
 
-impl<A: Rules + Drop> Model for Book<A> {
+impl<E: Engine + Drop> Model for Book<E> {
     ghost use Rattle.std.specs.Prelude.{map};
     ghost use Rattle.fixpoint.specs.State.{State};
     ghost use Rattle.keeper.specs.Keeping.{IsKept, state_of};
 
-    ghost Value = { State A A.Fact };
+    ghost Value = { State E E.Growth };
 
     ghost view = { λ o. state_of o.system o.me o.log.items
         (map (λ list. list.items) o.received.items) o.given.items o.loaded o.broken };
 
-    ghost invariant = { λ o. IsKept A.rules (state_of o.system o.me o.log.items
+    ghost invariant = { λ o. IsKept E.rules (state_of o.system o.me o.log.items
         (map (λ list. list.items) o.received.items) o.given.items o.loaded o.broken) o.clock };
 }
 
-impl<A: Rules + Drop> Book<A> {
+impl<E: Engine + Drop> Book<E> {
     /// The book of a part that has done nothing yet.
-    pub fn new(alloc: Global, system: A, me: u16) -> Result<Book<A>, Memory>
-        requires { me < A.rules.parts system }
-        ensures { IfOk result (λ book. book ≡ first_state A.rules system me) }
+    pub fn new(alloc: Global, system: E, me: u16) -> Result<Book<E>, Memory>
+        requires { me < E.rules.parts system }
+        ensures { IfOk result (λ book. book ≡ first_state E.rules system me) }
     {
         let owners = system.parts();
         let received = empty_lists(alloc, owners)?;
@@ -68,33 +68,33 @@ impl<A: Rules + Drop> Book<A> {
     }
 
     /// Appends a growth of an own fact that follows and isn't known.
-    pub fn grow(&mut self, fact: A::Fact) -> Result<(), Memory>
-        requires found { IsFound A.rules self.old.system self.old.me (has A.rules self.old) fact }
-        requires lacks { IsTrue (has A.rules self.old fact) → ⊥ }
-        ensures ok { OnOk result (GrowsBy fact self.old self.new) }
-        ensures has { OnOk result ((f : A.Fact)
-            → has A.rules self.new f ≡ with_fact A.rules fact (has A.rules self.old) f) }
+    pub fn grow(&mut self, fact: E::Fact) -> Result<(), Memory>
+        requires found { IsFound E.rules self.old.system self.old.me (has E.rules self.old) fact }
+        requires lacks { IsTrue (has E.rules self.old fact) → ⊥ }
+        ensures ok { OnOk result (GrowsBy E.rules fact self.old self.new) }
+        ensures has { OnOk result ((f : E.Fact)
+            → has E.rules self.new f ≡ with_fact E.rules fact (has E.rules self.old) f) }
         ensures err { OnErr result (self.new ≡ self.old) }
-        ensures sound { IsSound A.rules self.new }
+        ensures sound { IsSound E.rules self.new }
     {
         let rank = self.clock + 1;
-        self.log.push(Growth { fact, rank })?;
+        self.log.push(E::growth(fact, rank))?;
         self.clock = rank;
         Ok(())
     }
 
     /// Appends a growth to what was received from another owner.
-    pub fn receive(&mut self, from: u16, growth: Growth<A::Fact>) -> Result<(), Memory>
-        requires { Passes A.rules self.old.system self.old.me from growth }
+    pub fn receive(&mut self, from: u16, growth: E::Growth) -> Result<(), Memory>
+        requires { Passes E.rules self.old.system self.old.me from growth }
         ensures ok { OnOk result (self.new ≡ record self.old {
           received = with_growth self.old.received from growth;
         }) }
-        ensures has { OnOk result ((f : A.Fact)
-            → has A.rules self.new f ≡ with_fact A.rules growth.fact (has A.rules self.old) f) }
+        ensures has { OnOk result ((f : E.Fact) → has E.rules self.new f
+            ≡ with_fact E.rules (E.rules.fact growth) (has E.rules self.old) f) }
         ensures err { OnErr result (self.new ≡ self.old) }
-        ensures sound { IsSound A.rules self.new }
+        ensures sound { IsSound E.rules self.new }
     {
-        let clock = self.clock.max(growth.rank);
+        let clock = self.clock.max(E::rank(&growth));
         let list = &mut self.received[from as usize];
         list.push(growth)?;
         self.clock = clock;
@@ -104,7 +104,7 @@ impl<A: Rules + Drop> Book<A> {
     /// Notes whether the part is loaded, and whether a call of it was refused.
     pub fn mark(&mut self, loaded: bool, broken: bool)
         ensures marks { self.new ≡ record self.old { loaded = loaded; broken = broken } }
-        ensures sound { IsSound A.rules self.new }
+        ensures sound { IsSound E.rules self.new }
     {
         self.loaded = loaded;
         self.broken = broken;
@@ -112,28 +112,28 @@ impl<A: Rules + Drop> Book<A> {
 
     /// Notes that one more growth was given to another owner, which lacks some of its part.
     pub fn give(&mut self, to: u16)
-        requires to { to < A.rules.parts self.old.system }
-        requires more { given_to self.old to < length (part_for A.rules self.old to) }
+        requires to { to < E.rules.parts self.old.system }
+        requires more { given_to self.old to < length (part_for E.rules self.old to) }
         ensures given { self.new ≡ record self.old {
           given = slice_set self.old.given to (given_to self.old to + 1);
         } }
-        ensures sound { IsSound A.rules self.new }
+        ensures sound { IsSound E.rules self.new }
     {
         self.given[to as usize] += 1;
     }
 
     /// How many growths were given to another owner.
     pub fn given_to(&self, to: u16) -> u64
-        requires { to < A.rules.parts self.now.system }
+        requires { to < E.rules.parts self.now.system }
         ensures value { result ≡ given_to self.now to }
-        ensures most { result ≤ length (part_for A.rules self.now to) }
-        ensures sound { IsSound A.rules self.now }
+        ensures most { result ≤ length (part_for E.rules self.now to) }
+        ensures sound { IsSound E.rules self.now }
     {
         self.given[to as usize]
     }
 
     /// What is analysed.
-    pub fn system(&self) -> &A
+    pub fn system(&self) -> &E
         ensures { result.now ≡ self.now.system }
     {
         &self.system
@@ -142,15 +142,15 @@ impl<A: Rules + Drop> Book<A> {
     /// The number of the owner.
     pub fn me(&self) -> u16
         ensures value { result ≡ self.now.me }
-        ensures sound { IsSound A.rules self.now }
+        ensures sound { IsSound E.rules self.now }
     {
         self.me
     }
 
     /// How many owners there are.
     pub fn owners(&self) -> u16
-        ensures value { result ≡ A.rules.parts self.now.system }
-        ensures sound { IsSound A.rules self.now }
+        ensures value { result ≡ E.rules.parts self.now.system }
+        ensures sound { IsSound E.rules self.now }
     {
         self.system.parts()
     }
@@ -170,7 +170,7 @@ impl<A: Rules + Drop> Book<A> {
     }
 
     /// Returns the log.
-    pub fn into_log(self) -> Vec<Growth<A::Fact>>
+    pub fn into_log(self) -> Vec<E::Growth>
         ensures { result.items ≡ self.log }
     {
         let Book { log, .. } = self;
@@ -178,10 +178,10 @@ impl<A: Rules + Drop> Book<A> {
     }
 
     /// All growths of own facts so far.
-    pub fn entries(&self) -> &[Growth<A::Fact>]
+    pub fn entries(&self) -> &[E::Growth]
         ensures log { result.now ≡ self.now.log }
         ensures short { length result.now < most_growths }
-        ensures sound { IsSound A.rules self.now }
+        ensures sound { IsSound E.rules self.now }
     {
         &self.log
     }

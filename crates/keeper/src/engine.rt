@@ -17,6 +17,19 @@ pub trait Engine: Rules {
     /// Whether a store has a fact.
     ghost has: { Self.Store → Self.Fact → Bool };
 
+    /// The growth of a fact at a rank.
+    fn growth(fact: Self::Fact, rank: u64) -> Self::Growth
+        ensures fact { Self.rules.fact result ≡ fact }
+        ensures rank { Self.rules.rank result ≡ rank };
+
+    /// The fact of a growth.
+    fn fact(growth: &Self::Growth) -> Self::Fact
+        ensures { result ≡ Self.rules.fact growth.now };
+
+    /// The rank of a growth.
+    fn rank(growth: &Self::Growth) -> u64
+        ensures { result ≡ Self.rules.rank growth.now };
+
     /// A store without a fact, for an owner.
     ///
     /// # Errors

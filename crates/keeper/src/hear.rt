@@ -2,12 +2,10 @@
 
 ghost use Rattle.std.specs.Prelude.{◌≡◌, ◌∷◌, [], OnOk, Contains, ℕ};
 ghost use Rattle.fixpoint.specs.State.{IsSound, Passes, with_growths, GotBeginning};
-ghost use Rattle.fixpoint.specs.declared.growth.Growth.{Growth as TheGrowth};
 ghost use Rattle.keeper.specs.Keeping.{IsDue, has};
 
 use crate::book::Book;
 use crate::engine::Engine;
-use fixpoint::Growth;
 use nll_sets::Memory;
 
 /// Enters growths of another owner, and finds what is due because of them.
@@ -16,13 +14,13 @@ pub fn hear_all<E: Engine + Drop>(
     store: &mut E::Store,
     due: &mut Vec<E::Fact>,
     from: u16,
-    growths: &[Growth<E::Fact>],
+    growths: &[E::Growth],
 ) -> Result<(), Memory>
     requires sound { IsSound E.rules book.old }
     requires store { (f : E.Fact) → E.has store.old f ≡ has E.rules book.old f }
     requires due { IsDue E.rules book.old.system book.old.me
         (has E.rules book.old) due.old.items }
-    requires passes { (g : TheGrowth E.Fact) → Contains growths.now g
+    requires passes { (g : E.Growth) → Contains growths.now g
         → Passes E.rules book.old.system book.old.me from g }
     ensures others { book.new ≡ record book.old { received = book.new.received } }
     ensures received { OnOk result
@@ -46,7 +44,7 @@ fn hear<E: Engine + Drop>(
     store: &mut E::Store,
     due: &mut Vec<E::Fact>,
     from: u16,
-    growth: Growth<E::Fact>,
+    growth: E::Growth,
 ) -> Result<(), Memory>
     requires sound { IsSound E.rules book.old }
     requires store { (f : E.Fact) → E.has store.old f ≡ has E.rules book.old f }
@@ -63,11 +61,12 @@ fn hear<E: Engine + Drop>(
         (has E.rules book.new) due.new.items) }
     ensures sound { IsSound E.rules book.new }
 {
-    let known = book.system().knows(store, &growth.fact);
+    let fact = E::fact(&growth);
+    let known = book.system().knows(store, &fact);
     book.receive(from, growth)?;
     if known {
         return Ok(());
     }
     let engine = book.system();
-    engine.enter(book.me(), store, growth.fact, due)
+    engine.enter(book.me(), store, fact, due)
 }

@@ -7,14 +7,13 @@ ghost use Rattle.nll_sets.specs.Prefix.{IsPrefix};
 ghost use Rattle.fixpoint.specs.State.{IsSound, IsDone, IsReady, Passes, first_state};
 ghost use Rattle.fixpoint.specs.State.{part_for, given_to, with_growths, GotBeginning};
 ghost use Rattle.fixpoint.specs.declared.error.PartError.TheVariants.{Broken};
-ghost use Rattle.fixpoint.specs.declared.growth.Growth.{Growth as TheGrowth};
 ghost use Rattle.keeper.specs.Keeping.{AreParts};
 
 use crate::book::Book;
 use crate::engine::Engine;
 use crate::outboxes::Outboxes;
 use crate::pursue::{load_all, take_in};
-use fixpoint::{Growth, PartError};
+use fixpoint::PartError;
 use nll_sets::Memory;
 use std::alloc::Global;
 use std::marker::Model;
@@ -34,7 +33,7 @@ pub struct Keeper<E: Engine + Drop> {
     // Nothing is known of these once a call was refused.
     store: E::Store,
     due: Vec<E::Fact>,
-    boxes: Outboxes<E::Fact>,
+    boxes: Outboxes<E::Growth>,
 }
 
 impl<E: Engine + Drop> Model for Keeper<E> {
@@ -42,7 +41,7 @@ impl<E: Engine + Drop> Model for Keeper<E> {
     ghost use Rattle.fixpoint.specs.State.{State, IsSound};
     ghost use Rattle.keeper.specs.Keeping.{IsWhole};
 
-    ghost Value = { State E E.Fact };
+    ghost Value = { State E E.Growth };
 
     ghost view = { λ k. k.book };
 
@@ -127,9 +126,9 @@ impl<E: Engine + Drop> Keeper<E> {
     /// # Errors
     /// - `Broken`: an earlier call was refused; nothing has changed.
     /// - `Memory`: a prefix of the growths may have been received, and the log may have grown.
-    pub fn receive_all(&mut self, from: u16, growths: &[Growth<E::Fact>]) -> Result<(), PartError>
+    pub fn receive_all(&mut self, from: u16, growths: &[E::Growth]) -> Result<(), PartError>
         requires ready { IsReady self.old }
-        requires passes { (g : TheGrowth E.Fact) → Contains growths.now g
+        requires passes { (g : E.Growth) → Contains growths.now g
             → Passes E.rules self.old.system self.old.me from g }
         ensures begins { IsPrefix self.old.log self.new.log }
         ensures others { self.new ≡ record self.old {
@@ -164,18 +163,19 @@ impl<E: Engine + Drop> Keeper<E> {
     }
 
     /// Whether the part may receive a growth from another owner.
-    pub fn passes(&self, from: u16, growth: &Growth<E::Fact>) -> bool
+    pub fn passes(&self, from: u16, growth: &E::Growth) -> bool
         ensures { IsTrue result ↔ Passes E.rules self.now.system self.now.me from growth.now }
     {
         let engine = self.book.system();
-        if growth.rank >= END_OF_RANKS || !engine.is_proper(&growth.fact) {
+        let fact = E::fact(growth);
+        if E::rank(growth) >= END_OF_RANKS || !engine.is_proper(&fact) {
             return false;
         }
-        engine.owner(&growth.fact) == from && engine.reads(self.book.me(), &growth.fact)
+        engine.owner(&fact) == from && engine.reads(self.book.me(), &fact)
     }
 
     /// The growth that `outgoing` gives next. None if that gives none.
-    pub fn next_for(&self, to: u16) -> Option<Growth<E::Fact>>
+    pub fn next_for(&self, to: u16) -> Option<E::Growth>
         ensures some { IfSome result (λ growth. (self.now.broken ≡ false)
             × (slice_get (part_for E.rules self.now to) (given_to self.now to) ≡ Some growth)) }
         ensures none { IfNone result (self.now.broken ≡ false
@@ -188,7 +188,7 @@ impl<E: Engine + Drop> Keeper<E> {
 
     /// The next growth of the part of the log that another owner reads; this call gives it. None if
     /// all of it was given, if `to` is no other owner, and after an error.
-    pub fn outgoing(&mut self, to: u16) -> Option<Growth<E::Fact>>
+    pub fn outgoing(&mut self, to: u16) -> Option<E::Growth>
         ensures some { IfSome result (λ growth. (self.old.broken ≡ false)
             × (slice_get (part_for E.rules self.old to) (given_to self.old to) ≡ Some growth)
             × (self.new ≡ record self.old {
@@ -224,7 +224,7 @@ impl<E: Engine + Drop> Keeper<E> {
     }
 
     /// Returns the log.
-    pub fn into_log(self) -> Vec<Growth<E::Fact>>
+    pub fn into_log(self) -> Vec<E::Growth>
         ensures { result.items ≡ self.log }
     {
         let Keeper { book, .. } = self;
@@ -246,9 +246,9 @@ fn answer(told: Result<(), Memory>) -> Result<(), PartError>
 // The next growth of what another owner receives.
 fn next_of<E: Engine + Drop>(
     book: &Book<E>,
-    boxes: &Outboxes<E::Fact>,
+    boxes: &Outboxes<E::Growth>,
     to: u16,
-) -> Option<Growth<E::Fact>>
+) -> Option<E::Growth>
     requires { book.now.broken ≡ false → AreParts E.rules book.now.system book.now.log
         (map (λ list. list.items) boxes.now.lists.items) }
     ensures some { IfSome result (λ growth. (book.now.broken ≡ false)
@@ -270,7 +270,7 @@ fn next_of<E: Engine + Drop>(
 }
 
 // How many growths another owner is still to receive.
-fn unsent_of<E: Engine + Drop>(book: &Book<E>, boxes: &Outboxes<E::Fact>, to: u16) -> u64
+fn unsent_of<E: Engine + Drop>(book: &Book<E>, boxes: &Outboxes<E::Growth>, to: u16) -> u64
     requires { book.now.broken ≡ false → AreParts E.rules book.now.system book.now.log
         (map (λ list. list.items) boxes.now.lists.items) }
     ensures count { book.now.broken ≡ false → to < E.rules.parts book.now.system

@@ -6,20 +6,19 @@ ghost use Rattle.keeper.specs.Keeping.{AreDealt, AreParts};
 
 use crate::book::empty_lists;
 use crate::engine::Engine;
-use fixpoint::Growth;
 use nll_sets::Memory;
 use std::alloc::Global;
 
 /// For each owner what it receives of a log, up to a place.
 #[derive(Drop)]
-pub struct Outboxes<F: Copy> {
-    pub lists: Vec<Vec<Growth<F>>>,
+pub struct Outboxes<G: Copy> {
+    pub lists: Vec<Vec<G>>,
     pub place: usize,
 }
 
-impl<F: Copy> Outboxes<F> {
+impl<G: Copy> Outboxes<G> {
     /// An empty list for each of this many owners.
-    pub fn new(alloc: Global, owners: u16) -> Result<Outboxes<F>, Memory>
+    pub fn new(alloc: Global, owners: u16) -> Result<Outboxes<G>, Memory>
         ensures lists { IfOk result (λ boxes. map (λ list. list.items) boxes.lists.items
             ≡ replicate owners []) }
         ensures place { IfOk result (λ boxes. boxes.place ≡ 0) }
@@ -32,8 +31,8 @@ impl<F: Copy> Outboxes<F> {
 /// Looks through the rest of a log, and appends each growth to the lists of those that read it.
 pub fn take_up<E: Engine>(
     engine: &E,
-    boxes: &mut Outboxes<E::Fact>,
-    log: &[Growth<E::Fact>],
+    boxes: &mut Outboxes<E::Growth>,
+    log: &[E::Growth],
 ) -> Result<(), Memory>
     requires within { boxes.old.place ≤ length log.now }
     requires few { length boxes.old.lists.items ≤ most_owners }
@@ -53,15 +52,16 @@ pub fn take_up<E: Engine>(
 // Appends a growth to the lists of those that read it.
 fn deal<E: Engine>(
     engine: &E,
-    lists: &mut Vec<Vec<Growth<E::Fact>>>,
-    growth: Growth<E::Fact>,
+    lists: &mut Vec<Vec<E::Growth>>,
+    growth: E::Growth,
 ) -> Result<(), Memory>
     requires few { length lists.old.items ≤ most_owners }
     ensures { OnOk result (AreDealt E.rules engine.now growth (length lists.old.items)
         (map (λ list. list.items) lists.old.items) (map (λ list. list.items) lists.new.items)) }
 {
+    let fact = E::fact(&growth);
     for reader in 0..lists.len() {
-        if engine.reads(reader as u16, &growth.fact) {
+        if engine.reads(reader as u16, &fact) {
             let list = &mut lists[reader];
             list.push(growth)?;
         }

@@ -2,7 +2,6 @@
 
 ghost use Rattle.std.specs.Prelude.{◌≡◌, false, OnOk, Contains, ℕ, map};
 ghost use Rattle.fixpoint.specs.State.{IsSound, IsDone, Passes, with_growths, GotBeginning};
-ghost use Rattle.fixpoint.specs.declared.growth.Growth.{Growth as TheGrowth};
 ghost use Rattle.nll_sets.specs.Prefix.{IsPrefix};
 ghost use Rattle.keeper.specs.Keeping.{Grows, IsQuiet, has};
 
@@ -11,7 +10,6 @@ use crate::engine::Engine;
 use crate::hear::hear_all;
 use crate::outboxes::{Outboxes, take_up};
 use crate::settle::settle;
-use fixpoint::Growth;
 use nll_sets::Memory;
 
 /// Enters the facts that follow from nothing, and those that follow from them.
@@ -19,7 +17,7 @@ pub fn load_all<E: Engine + Drop>(
     book: &mut Book<E>,
     store: &mut E::Store,
     due: &mut Vec<E::Fact>,
-    boxes: &mut Outboxes<E::Fact>,
+    boxes: &mut Outboxes<E::Growth>,
 ) -> Result<(), Memory>
     requires sound { IsSound E.rules book.old }
     requires quiet { IsQuiet E.rules book.old (λ f. E.has store.old f) due.old.items
@@ -42,15 +40,15 @@ pub fn take_in<E: Engine + Drop>(
     book: &mut Book<E>,
     store: &mut E::Store,
     due: &mut Vec<E::Fact>,
-    boxes: &mut Outboxes<E::Fact>,
+    boxes: &mut Outboxes<E::Growth>,
     from: u16,
-    growths: &[Growth<E::Fact>],
+    growths: &[E::Growth],
 ) -> Result<(), Memory>
     requires sound { IsSound E.rules book.old }
     requires quiet { IsQuiet E.rules book.old (λ f. E.has store.old f) due.old.items
         boxes.old.place (map (λ list. list.items) boxes.old.lists.items) }
     requires done { IsDone E.rules book.old }
-    requires passes { (g : TheGrowth E.Fact) → Contains growths.now g
+    requires passes { (g : E.Growth) → Contains growths.now g
         → Passes E.rules book.old.system book.old.me from g }
     ensures begins { IsPrefix book.old.log book.new.log }
     ensures others { book.new

@@ -15,7 +15,7 @@ reached_least a known closed y (step x _ e r) = closed y (inr (x, e, reached_lea
 
 module _ (a : System) (logs : List (List (Growth ℕ))) (received : ℕ → ℕ → List (Growth ℕ)) (ok : rules.valid a)
     (sound : AreSound rules a logs received) (settled : AreSettled rules a logs received) where
-  told_reached : (x : ℕ) → IsTold (log_of logs (owner_of a x)) x → IsReached a x
+  told_reached : (x : ℕ) → IsTold rules (log_of logs (owner_of a x)) x → IsReached a x
   told_reached x h = subst (IsReached a) h.2
       (each_holds rules reach_lawful a ok logs received sound (IsReached a)
       (λ known y follow each. ⊎_elim
@@ -24,7 +24,7 @@ module _ (a : System) (logs : List (List (Growth ℕ))) (received : ℕ → ℕ 
       follow)
       (owner_of a x) h.0 (in_range rules reach_lawful a ok logs received sound x h) h.1)
 
-  pub exact : (x : ℕ) → IsTold (log_of logs (owner_of a x)) x ↔ IsReached a x
+  pub exact : (x : ℕ) → IsTold rules (log_of logs (owner_of a x)) x ↔ IsReached a x
   exact x = (
     told_reached x,
     λ r. (least_exact rules reach_lawful a ok logs received sound settled x).1

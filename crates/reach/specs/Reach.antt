@@ -4,6 +4,7 @@ use Rattle.std.specs.Prelude.{◌⊎◌, ◌^◌, ℕ, ◌%◌, ◌<◌, ◌≤�
 use Rattle.std.specs.Prelude.{IsTrue}
 use Rattle.std.specs.List.{list_any}
 use Rattle.fixpoint.specs.Rules.{Rules}
+use Rattle.fixpoint.specs.declared.growth.Growth.{Growth}
 use Rattle.reach.specs.Find.{LeadsTo}
 use Rattle.reach.specs.declared.graph.Edge.{Edge}
 
@@ -43,7 +44,7 @@ abbrev pub follows : System → (ℕ → Bool) → ℕ → Type 0
 follows a known y = Contains a.roots y ⊎ ((x : ℕ) × HasEdge a x y × IsTrue (known x))
 
 -- the rules by which owners find out what is reached; a node is a number of 32 bits
-abbrev pub rules : Rules System ℕ
+abbrev pub rules : Rules System ℕ (Growth ℕ)
 rules = record {
   valid = λ a. (0 < a.owners) × (a.owners ≤ 64);
   parts = λ a. a.owners;
@@ -52,4 +53,6 @@ rules = record {
   derives = follows;
   proper = λ a x. x < 2 ^ 32;
   same = λ x y. x == y;
+  fact = λ g. g.fact;
+  rank = λ g. g.rank;
 }

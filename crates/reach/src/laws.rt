@@ -9,5 +9,5 @@ ghost use Rattle.reach.specs.Reach.{System, IsReached, owner_of, rules};
 pub fn settled_logs_tell_reached_nodes()
     ensures { (a : System) (logs : List (List (Growth ℕ))) (received : ℕ → ℕ → List (Growth ℕ))
         → rules.valid a → AreSound rules a logs received → AreSettled rules a logs received
-        → (x : ℕ) → IsTold (log_of logs (owner_of a x)) x ↔ IsReached a x }
+        → (x : ℕ) → IsTold rules (log_of logs (owner_of a x)) x ↔ IsReached a x }
 {}

@@ -51,6 +51,8 @@ impl<'q> Reach<'q> {
 impl<'q> Rules for Reach<'q> {
     type Fact = u32;
 
+    type Growth = Growth<u32>;
+
     ghost rules = { spec.rules };
 
     ghost lawful = { reach_lawful };
@@ -64,6 +66,25 @@ impl<'q> Engine for Reach<'q> {
     type Store = BTreeSet<u32>;
 
     ghost has = { λ store x. contains nat_cmp store x };
+
+    fn growth(fact: u32, rank: u64) -> Growth<u32>
+        ensures fact { result.fact ≡ fact }
+        ensures rank { result.rank ≡ rank }
+    {
+        Growth { fact, rank }
+    }
+
+    fn fact(growth: &Growth<u32>) -> u32
+        ensures { result ≡ growth.now.fact }
+    {
+        growth.fact
+    }
+
+    fn rank(growth: &Growth<u32>) -> u64
+        ensures { result ≡ growth.now.rank }
+    {
+        growth.rank
+    }
 
     fn store(&self, alloc: Global, _me: u16) -> Result<BTreeSet<u32>, Memory> {
         Ok(BTreeSet::new(alloc))

@@ -21,16 +21,20 @@ returns-then-known-clause-due g c =
     (due_same r law o.system c.requires.sound.valid o.me
     (has r o) (has r c.receive.new.self) c.args.due.now.items
     (λ f. c.in_ok-receive.ensures.has f
-    ∙ already r law (has r o) c.args.growth.fact
-    (sym (c.requires.store c.args.growth.fact) ∙ (sym c.knows-known.ensures ∙ c.if-known.true)) f)
+    ∙ already r law (has r o) (r.fact c.args.growth)
+    (sym (c.requires.store (r.fact c.args.growth))
+    ∙ (ap (λ x. g.E.Engine.has c.args.store.now x) (sym c.fact-fact.ensures)
+    ∙ (sym c.knows-known.ensures ∙ c.if-known.true))) f)
     c.requires.due)
 
 pub returns-clause-store : goal.returns-clause-store
 returns-clause-store g c =
     let r = g.E.Rules.rules in
+    let o = c.args.book.now in
     on_ok_two c.enter.result
     (λ store _ f. store f
-    ∙ (ap (λ b. r.same c.args.growth.fact f || b) (c.requires.store f) ∙ sym (c.in_ok-receive.ensures.has f)))
+    ∙ (ap (λ b. r.same c.fact-fact.result f || b) (c.requires.store f)
+    ∙ (ap (λ x. r.same x f || has r o f) c.fact-fact.ensures ∙ sym (c.in_ok-receive.ensures.has f))))
     c.enter.ensures.store c.enter.ensures.store
 
 pub returns-clause-due : goal.returns-clause-due
@@ -45,7 +49,7 @@ returns-clause-due g c =
     (ap (λ x. x.system) ok) (ap (λ x. x.me) ok)
     (due_received r law o.system c.requires.sound.valid o.me
     (has r o) (has r c.receive.new.self) c.args.due.now.items c.enter.new.found.items
-    c.args.growth.fact c.requires.due c.in_ok-receive.ensures.has
+    (r.fact c.args.growth) c.requires.due c.in_ok-receive.ensures.has
     (finds_same r law o.system c.requires.sound.valid o.me
     c.system-engine.result.now c.me.result (c.system-engine.ensures ∙ ap (λ x. x.system) ok)
     (c.me.ensures.value ∙ ap (λ x. x.me) ok)
@@ -53,6 +57,7 @@ returns-clause-due g c =
     (has r o) (has r c.receive.new.self)
     (λ f. sym (c.requires.store f))
     (λ f. c.in_ok-receive.ensures.has f
-    ∙ (ap (λ b. r.same c.args.growth.fact f || b) (sym (c.requires.store f)) ∙ sym (store f)))
+    ∙ (ap (λ x. r.same x f || has r o f) (sym c.fact-fact.ensures)
+    ∙ (ap (λ b. r.same c.fact-fact.result f || b) (sym (c.requires.store f)) ∙ sym (store f))))
     c.args.due.now.items c.enter.new.found.items found)))
     c.enter.ensures.store c.enter.ensures.found

@@ -1,4 +1,4 @@
-use Rattle.std.proofs.Common.{arith, sym}
+use Rattle.std.proofs.Common.{arith, sym, ap, ◌∙◌}
 use Rattle.std.proofs.lemmas.List.{length-map}
 use Rattle.keeper.proofs.KeepingLemmas.{lists_pushed}
 use Rattle.keeper.proofs.DealingLemmas.{dealt_push, dealt_pass}
@@ -30,7 +30,8 @@ loop-reader-preserved g c = elim c.if-reads.branch [
         length-map c.loop-reader.lists.items (λ list. list.items),
         length-map c.args.lists.now.items (λ list. list.items),
       ))
-      (sym w.if-reads.ensures))
+      (ap (g.E.Rules.rules.reads c.args.engine.now c.loop-reader.reader) (sym c.fact-fact.ensures)
+      ∙ sym w.if-reads.ensures))
   | else-reads w ↦
       rw w.lists-is
       (dealt_pass g.E.Rules.rules c.args.engine.now c.args.growth _ _ c.loop-reader.reader c.loop-reader.invariant
@@ -42,5 +43,6 @@ loop-reader-preserved g c = elim c.if-reads.branch [
         length-map c.loop-reader.lists.items (λ list. list.items),
         length-map c.args.lists.now.items (λ list. list.items),
       ))
-      (sym w.if-reads.ensures))
+      (ap (g.E.Rules.rules.reads c.args.engine.now c.loop-reader.reader) (sym c.fact-fact.ensures)
+      ∙ sym w.if-reads.ensures))
 ]

@@ -4,6 +4,14 @@ use Rattle.keeper.proofs.KeepingLemmas.{on_ok_always, on_ok_two}
 use Rattle.keeper.proofs.DueLemmas.{due_at, due_entered, finds_same}
 use Rattle.keeper.proofs.settle.enter.Goals as goal
 
+pub returns-clause-store : goal.returns-clause-store
+returns-clause-store g c =
+    let r = g.E.Rules.rules in
+    on_ok_two c.enter.result
+    (λ store _ f. store f
+    ∙ (ap (λ b. r.same c.args.fact f || b) (c.requires.store f) ∙ sym (c.in_ok-grow.ensures.has f)))
+    c.enter.ensures.store c.enter.ensures.store
+
 pub returns-clause-due : goal.returns-clause-due
 returns-clause-due g c =
     let r = g.E.Rules.rules in

@@ -1,6 +1,5 @@
 use Rattle.std.proofs.Common.{sym, ◌∙◌, arith, refl}
 use Rattle.std.proofs.lemmas.List.{get_or_default}
-use Rattle.fixpoint.specs.declared.growth.Growth.{Growth}
 use Rattle.keeper.proofs.KeepingLemmas.{given_kept, filter_le}
 use Rattle.keeper.proofs.book.Book.give.Goals as goal
 
@@ -8,8 +7,8 @@ pub overflow_add-index_mut : goal.overflow_add-index_mut
 overflow_add-index_mut g c =
     let to_in = rw (← c.self.view_is) at c.requires.to in
     let more = rw (← c.self.view_is) at c.requires.more in
-    let low =
-    filter_le (λ (x : Growth _). g.A.Rules.rules.reads c.self.inside.system c.args.to x.fact) c.self.inside.log.items in
+    let r = g.E.Rules.rules in
+    let low = filter_le (λ (x : _). r.reads c.self.inside.system c.args.to (r.fact x)) c.self.inside.log.items in
     let is = (get_or_default c.self.inside.given.items c.args.to 0 c.index_mut.result.now
     (omega (arith, to_in, c.self.invariant.sound.receivers)) ∙ sym c.index_mut.ensures.value) in
     omega (arith, is, more, low, c.self.invariant.sound.few)
@@ -17,8 +16,8 @@ overflow_add-index_mut g c =
 pub invariant_of-self : goal.invariant_of-self
 invariant_of-self g c =
     let to_in = rw (← c.self.view_is) at c.requires.to in
-    given_kept g.A.Rules.rules
-    g.met.A.Rules.lawful
+    given_kept g.E.Rules.rules
+    g.met.E.Rules.lawful
     _ _ c.self.invariant c.args.to c.index_mut.result.now to_in
     (get_or_default c.self.inside.given.items c.args.to 0 c.index_mut.result.now
     (omega (arith, to_in, c.self.invariant.sound.receivers)) ∙ sym c.index_mut.ensures.value)
@@ -36,8 +35,8 @@ returns-clause-given g c =
 pub returns-clause-sound : goal.returns-clause-sound
 returns-clause-sound g c =
     let to_in = rw (← c.self.view_is) at c.requires.to in
-    (given_kept g.A.Rules.rules
-    g.met.A.Rules.lawful
+    (given_kept g.E.Rules.rules
+    g.met.E.Rules.lawful
     _ _ c.self.invariant c.args.to c.index_mut.result.now to_in
     (get_or_default c.self.inside.given.items c.args.to 0 c.index_mut.result.now
     (omega (arith, to_in, c.self.invariant.sound.receivers)) ∙ sym c.index_mut.ensures.value)

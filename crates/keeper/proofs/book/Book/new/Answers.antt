@@ -9,6 +9,6 @@ invariant_of-result g c =
       c.in_ok-given.ensures.items_if_clones_equal (λ y e. e),
       c.parts-owners.ensures.count,
     )
-    (first_kept g.A.Rules.rules
-    g.met.A.Rules.lawful
+    (first_kept g.E.Rules.rules
+    g.met.E.Rules.lawful
     c.args.system c.parts-owners.ensures.valid c.args.me c.requires)

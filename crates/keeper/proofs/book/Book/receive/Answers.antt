@@ -7,8 +7,8 @@ pub index_mut-list-requires : goal.index_mut-list-requires
 index_mut-list-requires g c =
     omega (
       arith,
-      (from_in g.A.Rules.rules
-          g.met.A.Rules.lawful
+      (from_in g.E.Rules.rules
+          g.met.E.Rules.lawful
           _ _ c.self.invariant c.args.from c.args.growth (rw (← c.self.view_is) at c.requires)),
       length-map
           c.self.inside.received.items (λ list. list.items),
@@ -17,8 +17,8 @@ index_mut-list-requires g c =
 pub invariant_of-self : goal.invariant_of-self
 invariant_of-self g c =
     rw (lists_kept (λ list. list.items) c.self.inside.received.items c.args.from c.index_mut-list.result.now
-    (from_in g.A.Rules.rules
-    g.met.A.Rules.lawful
+    (from_in g.E.Rules.rules
+    g.met.E.Rules.lawful
     _ _ c.self.invariant c.args.from c.args.growth (rw (← c.self.view_is) at c.requires))
     c.index_mut-list.ensures.value c.push.new.self c.in_err-push.ensures.items) c.self.invariant
 
@@ -27,8 +27,8 @@ returns-in_err-push-clause-err g c =
     on_err_always c.from_residual.result (rw (
       ← c.self.view_is,
       (lists_kept (λ list. list.items) c.self.inside.received.items c.args.from c.index_mut-list.result.now
-          (from_in g.A.Rules.rules
-          g.met.A.Rules.lawful
+          (from_in g.E.Rules.rules
+          g.met.E.Rules.lawful
           _ _ c.self.invariant c.args.from c.args.growth (rw (← c.self.view_is) at c.requires))
           c.index_mut-list.ensures.value c.push.new.self c.in_err-push.ensures.items),
     ) refl)
@@ -36,8 +36,8 @@ returns-in_err-push-clause-err g c =
 pub returns-in_err-push-clause-sound : goal.returns-in_err-push-clause-sound
 returns-in_err-push-clause-sound g c =
     rw (lists_kept (λ list. list.items) c.self.inside.received.items c.args.from c.index_mut-list.result.now
-    (from_in g.A.Rules.rules
-    g.met.A.Rules.lawful
+    (from_in g.E.Rules.rules
+    g.met.E.Rules.lawful
     _ _ c.self.invariant c.args.from c.args.growth (rw (← c.self.view_is) at c.requires))
     c.index_mut-list.ensures.value c.push.new.self c.in_err-push.ensures.items) c.self.invariant.sound
 
@@ -45,14 +45,15 @@ pub invariant_of-self-2 : goal.invariant_of-self-2
 invariant_of-self-2 g c =
     rw (
       (lists_pushed (λ list. list.items) c.self.inside.received.items c.args.from c.index_mut-list.result.now
-          (from_in g.A.Rules.rules
-          g.met.A.Rules.lawful
+          (from_in g.E.Rules.rules
+          g.met.E.Rules.lawful
           _ _ c.self.invariant c.args.from c.args.growth (rw (← c.self.view_is) at c.requires))
           c.index_mut-list.ensures.value c.push.new.self c.args.growth c.in_ok-push.ensures.items),
       c.max-clock.ensures,
+      c.rank.ensures,
     )
-    (told_kept g.A.Rules.rules
-    g.met.A.Rules.lawful
+    (told_kept g.E.Rules.rules
+    g.met.E.Rules.lawful
     _ _ c.self.invariant c.args.from c.args.growth (rw (← c.self.view_is) at c.requires))
 
 pub returns-clause-ok : goal.returns-clause-ok
@@ -60,8 +61,8 @@ returns-clause-ok g c =
     rw (
       ← c.self.view_is,
       (lists_pushed (λ list. list.items) c.self.inside.received.items c.args.from c.index_mut-list.result.now
-          (from_in g.A.Rules.rules
-          g.met.A.Rules.lawful
+          (from_in g.E.Rules.rules
+          g.met.E.Rules.lawful
           _ _ c.self.invariant c.args.from c.args.growth (rw (← c.self.view_is) at c.requires))
           c.index_mut-list.ensures.value c.push.new.self c.args.growth c.in_ok-push.ensures.items),
     ) refl
@@ -69,12 +70,12 @@ returns-clause-ok g c =
 pub returns-clause-sound : goal.returns-clause-sound
 returns-clause-sound g c =
     rw (lists_pushed (λ list. list.items) c.self.inside.received.items c.args.from c.index_mut-list.result.now
-    (from_in g.A.Rules.rules
-    g.met.A.Rules.lawful
+    (from_in g.E.Rules.rules
+    g.met.E.Rules.lawful
     _ _ c.self.invariant c.args.from c.args.growth (rw (← c.self.view_is) at c.requires))
     c.index_mut-list.ensures.value c.push.new.self c.args.growth c.in_ok-push.ensures.items)
-    (told_kept g.A.Rules.rules
-    g.met.A.Rules.lawful
+    (told_kept g.E.Rules.rules
+    g.met.E.Rules.lawful
     _ _ c.self.invariant c.args.from c.args.growth (rw (← c.self.view_is) at c.requires)).sound
 
 pub returns-clause-has : goal.returns-clause-has
@@ -82,11 +83,11 @@ returns-clause-has g c =
     rw (
       ← c.self.view_is,
       (lists_pushed (λ list. list.items) c.self.inside.received.items c.args.from c.index_mut-list.result.now
-          (from_in g.A.Rules.rules
-          g.met.A.Rules.lawful
+          (from_in g.E.Rules.rules
+          g.met.E.Rules.lawful
           _ _ c.self.invariant c.args.from c.args.growth (rw (← c.self.view_is) at c.requires))
           c.index_mut-list.ensures.value c.push.new.self c.args.growth c.in_ok-push.ensures.items),
     )
-    (told_has g.A.Rules.rules
-    g.met.A.Rules.lawful
+    (told_has g.E.Rules.rules
+    g.met.E.Rules.lawful
     _ _ c.self.invariant c.args.from c.args.growth (rw (← c.self.view_is) at c.requires))
