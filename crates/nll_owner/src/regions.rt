@@ -55,6 +55,7 @@ impl<'q> Regions<'q> {
 
 impl<'q> Rules for Regions<'q> {
     type Fact = Fact;
+
     type Growth = Growth;
 
     ghost rules = { spec.rules };
@@ -70,6 +71,7 @@ impl<'q> Rules for Regions<'q> {
 
 impl<'q> Analysis for Regions<'q> {
     type Part = Owner<'q>;
+
     type Yield = Holding;
 
     ghost state = { spec.part_of };
@@ -92,11 +94,7 @@ impl<'q> Analysis for Regions<'q> {
         part.load()
     }
 
-    fn receive_all(
-        part: &mut Owner<'q>,
-        from: u16,
-        growths: &[Growth],
-    ) -> Result<(), PartError> {
+    fn receive_all(part: &mut Owner<'q>, from: u16, growths: &[Growth]) -> Result<(), PartError> {
         part.receive_all(from, growths)
     }
 

@@ -17,8 +17,9 @@ use nll_ledger::ThreadLedger;
 use nll_mail::{Growth, ThreadMail};
 use nll_owner::{Regions, Tables};
 use nll_problem::Problem;
-use run::{AlwaysStart, Outcome as RunOfParts, Permit, RunError, ThreadGate};
-use run::run_with as run_parts;
+use run::{
+    AlwaysStart, Outcome as RunOfParts, Permit, RunError, ThreadGate, run_with as run_parts,
+};
 use std::alloc::Global;
 use std::sync::Wait;
 use std::thread::Threads;

@@ -2,8 +2,8 @@
 use super::meeting::Meeting;
 use nll_answer::{Command, answer_run, meaning};
 use nll_cut::Cut;
-use nll_ledger::{Ledger, LockLedger, WordLedger};
-use nll_mail::{Mail, QueueMail, RingMail};
+use nll_ledger::{LockLedger, ThreadLedger, WordLedger};
+use nll_mail::{Growth, QueueMail, RingMail, ThreadMail};
 use std::alloc::AllocGlobal;
 use std::process::Abort;
 use std::sync::Wait;

@@ -9,10 +9,10 @@ use super::run_text::{compare, told, told_over};
 use super::watches::Watched;
 use nll_core::Problem;
 use nll_cut::Cut;
-use nll_ledger::{Ledger, LockLedger, WordLedger};
-use nll_mail::{Mail, QueueMail, RingMail};
-use nll_worked::{BY_TURNS, MANY_BOTH_WAYS, REACHED, Written, worked_problem};
+use nll_ledger::{LockLedger, ThreadLedger, WordLedger};
+use nll_mail::{Growth, QueueMail, RingMail, ThreadMail};
 use nll_run::NoGate;
+use nll_worked::{BY_TURNS, MANY_BOTH_WAYS, REACHED, Written, worked_problem};
 use std::alloc::AllocGlobal;
 use std::process::Abort;
 use std::sync::Wait;
@@ -48,14 +48,11 @@ fn two_owners_meet(rt: HostRuntime) {
 const POSTS: &[(Written, u64)] = &[(BY_TURNS, 1), (MANY_BOTH_WAYS, 256)];
 
 // The owners of a cut post side by side, this many times.
-fn post_over<M: ThreadMail<Growth>, L: ThreadLedger, R: AllocGlobal + Abort + Threads + Wait + Sync>(
-    rt: &R,
-    problem: &Problem,
-    cut: &Cut,
-    mail: &M,
-    ledger: &L,
-    times: u64,
-)
+fn post_over<
+    M: ThreadMail<Growth>,
+    L: ThreadLedger,
+    R: AllocGlobal + Abort + Threads + Wait + Sync,
+>(rt: &R, problem: &Problem, cut: &Cut, mail: &M, ledger: &L, times: u64)
     requires { length cut.now.list ≡ problem.now.regions }
 {
     let meeting = Meeting::new(times);

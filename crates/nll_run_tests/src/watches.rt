@@ -2,8 +2,8 @@
 //! up, before it is done.
 ghost use Rattle.std.specs.Prelude.{◌≡◌, ◌++◌, ◌<◌, map, vec_len, IfOk};
 
-use nll_ledger::{Leave, Ledger, Totals};
-use nll_mail::{Growth, Mail, PostError};
+use nll_ledger::{Leave, Ledger, ThreadLedger, Totals};
+use nll_mail::{Growth, Mail, PostError, ThreadMail};
 use nll_sets::Memory;
 use std::alloc::{AllocError, Global};
 use std::collections::VecDeque;
@@ -37,7 +37,7 @@ pub struct WatchedSender<'x, M: ThreadMail<Growth>, W> {
     watch: &'x W,
 }
 
-impl<'x, M: ThreadMail<Growth>, W: Watch> Mail for Watched<'x, M, W> {
+impl<'x, M: ThreadMail<Growth>, W: Watch> Mail<Growth> for Watched<'x, M, W> {
     type S = WatchedSender<'x, M, W>;
 
     type R = M::R;
@@ -83,7 +83,7 @@ impl<'x, M: ThreadMail<Growth>, W: Watch> Mail for Watched<'x, M, W> {
         Ok((sender, receiver))
     }
 
-    fn post(sender: &mut WatchedSender<'x, M, W>, growth: Growth) -> Result<(), PostError> {
+    fn post(sender: &mut WatchedSender<'x, M, W>, growth: Growth) -> Result<(), PostError<Growth>> {
         sender.watch.before(sender.from, Step::Post);
         M::post(&mut sender.inner, growth)
     }
@@ -106,6 +106,8 @@ impl<'x, M: ThreadMail<Growth>, W: Watch> Mail for Watched<'x, M, W> {
         M::count(post)
     }
 }
+
+impl<'x, M: ThreadMail<Growth>, W: Watch> ThreadMail<Growth> for Watched<'x, M, W> {}
 
 /// The book of a watched ledger.
 #[derive(Drop)]
@@ -233,3 +235,5 @@ impl<'x, L: ThreadLedger, W: Watch> Ledger for Watched<'x, L, W> {
         L::gather(inner, lefts)
     }
 }
+
+impl<'x, L: ThreadLedger, W: Watch> ThreadLedger for Watched<'x, L, W> {}

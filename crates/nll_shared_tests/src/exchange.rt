@@ -1,9 +1,9 @@
 //! Growths that one thread posts and another takes.
 
 ghost use Rattle.std.specs.Prelude.{◌≡◌, ◌≤◌, ◌++◌, [], IfOk};
-ghost use Rattle.nll_problem.specs.Limits.{most_posts};
+ghost use Rattle.mail.specs.Limits.{most_posts};
 
-use nll_mail::{Growth, Mail, PostError};
+use nll_mail::{Growth, PostError, ThreadMail};
 use nll_problem::RegionId;
 use nll_sets::{Element, Memory};
 use std::alloc::Global;

@@ -4,7 +4,7 @@ ghost use Rattle.std.specs.Prelude.{◌≡◌};
 
 use super::many_owners::all_leave;
 use super::two_owners::{Way, leave_both, open_two, owe_and_stay, stop_and_look};
-use nll_ledger::{Ledger, LockLedger, Totals, WordLedger};
+use nll_ledger::{LockLedger, ThreadLedger, Totals, WordLedger};
 use nll_sets::Memory;
 use std::alloc::Global;
 use std::test::Fail;

@@ -4,7 +4,7 @@ ghost use Rattle.std.specs.Prelude.{◌≡◌, ◌<◌, ◌≤◌, ℕ, IfOk, If
 ghost use Rattle.nll_problem.specs.Limits.{most_owners};
 
 use super::two_owners::try_to_leave;
-use nll_ledger::{Ledger, Totals};
+use nll_ledger::{ThreadLedger, Totals};
 use nll_sets::Memory;
 use std::alloc::Global;
 use std::collections::VecDeque;

@@ -1,9 +1,9 @@
 //! Calls of two owners, in one thread.
 
 ghost use Rattle.std.specs.Prelude.{◌≡◌, ◌+◌, ◌<◌, IfOk, IfSome};
-ghost use Rattle.nll_ledger.specs.Amounts.{total_bound};
+ghost use Rattle.ledger.specs.Amounts.{total_bound};
 
-use nll_ledger::{Leave, Ledger, Totals};
+use nll_ledger::{Leave, ThreadLedger, Totals};
 use nll_sets::Memory;
 use std::alloc::Global;
 

@@ -3,7 +3,7 @@
 ghost use Rattle.std.specs.Prelude.{◌≡◌, ◌<◌, ◌≤◌, IfOk, IfSome};
 
 use super::two_owners::{Way, gather_two, open_two, try_to_leave};
-use nll_ledger::{Ledger, Totals};
+use nll_ledger::{ThreadLedger, Totals};
 use nll_sets::Memory;
 use std::alloc::Global;
 use std::sync::Wait;
@@ -11,7 +11,11 @@ use std::thread;
 use std::thread::Threads;
 
 // Leaves as soon as it may.
-fn leave_late<L: ThreadLedger, R: Wait>(rt: &R, book: &L::Book, share: L::Share) -> (Way, Option<L::Left>)
+fn leave_late<L: ThreadLedger, R: Wait>(
+    rt: &R,
+    book: &L::Book,
+    share: L::Share,
+) -> (Way, Option<L::Left>)
     requires { L.belongs book.now share }
     ensures { IfSome result.1 (λ left. L.left_belongs book.now left
         × (L.left_number left ≡ L.number share)) }
@@ -73,7 +77,11 @@ fn wait_for_stop<L: ThreadLedger, R: Wait>(
 }
 
 // Stops all, and leaves.
-fn stop_all<L: ThreadLedger, R: Wait>(rt: &R, book: &L::Book, share: L::Share) -> (Way, Option<L::Left>)
+fn stop_all<L: ThreadLedger, R: Wait>(
+    rt: &R,
+    book: &L::Book,
+    share: L::Share,
+) -> (Way, Option<L::Left>)
     requires { L.belongs book.now share }
     ensures { IfSome result.1 (λ left. L.left_belongs book.now left
         × (L.left_number left ≡ L.number share)) }
