@@ -1,5 +1,5 @@
 -- Owners as parts of the analysis of regions, and what logs say in its words.
-use Rattle.std.proofs.Common.{◌≡◌, ◌↔◌, ◌⊎◌, ℕ, ◌<◌, Bool, true, List, Contains, IsTrue, refl, ap, ◌∙◌, subst, inl, inr, ⊎_elim, arith}
+use Rattle.std.proofs.Common.{◌≡◌, ◌↔◌, ◌⊎◌, ℕ, ◌<◌, Bool, true, List, Contains, IsTrue, Result, Ok, Err, OnOk, refl, ap, ◌∙◌, subst, inl, inr, ⊎_elim, arith}
 use Rattle.fixpoint.specs.Rules as generic
 use Rattle.fixpoint.specs.Logs as logs
 use Rattle.fixpoint.specs.State as state
@@ -188,3 +188,8 @@ part_sound o s = record {
 
 pub part_done : (o : Owner) → IsDone o → state.IsDone rules (part_of o)
 part_done o h = saturated_to o.problem o.cut o.me (list_in o) h
+
+-- what holds where a call was Ok goes over to what follows from it
+pub on_ok : {T E : Type 0} {P Q : Type 0} (r : Result T E) → (P → Q) → OnOk r P → OnOk r Q
+on_ok (Ok x) f h = f h
+on_ok (Err e) f h = h

@@ -99,6 +99,8 @@ impl<'q> Analysis for Regions<'q> {
     }
 
     fn passes(part: &Owner<'q>, from: u16, growth: &Growth) -> bool {
+        // Clause call: the owner is sound.
+        let _ = part.me();
         part.passes(from, growth)
     }
 
