@@ -3,3 +3,5 @@ pub mod ReceivingLemmas
 pub mod DealingLemmas
 pub mod DueLemmas
 pub mod WholeLemmas
+pub mod AloneLemmas
+pub mod OwnLemmas

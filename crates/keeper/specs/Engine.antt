@@ -1,5 +1,6 @@
 -- What an engine finds. Source: project's choice.
-use Rattle.std.specs.Prelude.{◌≡◌, ◌⊎◌, ℕ, Bool, false, ◌||◌, List, Contains}
+use Rattle.std.specs.Prelude.{◌≡◌, ◌⊎◌, ℕ, Bool, false, ◌||◌, ◌==◌, ◌++◌, List, Contains}
+use Rattle.std.specs.List.{filter}
 use Rattle.fixpoint.specs.Rules.{Rules}
 
 module _ {A F G : Type 0} (rules : Rules A F G) where
@@ -18,6 +19,11 @@ module _ {A F G : Type 0} (rules : Rules A F G) where
     pub each : (f : F) → Contains new f → Contains old f ⊎ IsFound a i known f
     pub all :
         (f : F) → rules.owner a f ≡ i → rules.derives a known f → before f ⊎ Contains new f
+
+  -- A list got those facts of another list that are owner i's. They are proper.
+  pub record GotOwn (a : A) (i : ℕ) (facts old new : List F) : Type 0 where
+    pub is : new ≡ old ++ filter (λ f. rules.owner a f == i) facts
+    pub proper : (f : F) → Contains facts f → rules.proper a f
 
   -- no fact is known
   abbrev pub nothing : F → Bool

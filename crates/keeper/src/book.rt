@@ -20,8 +20,8 @@ use std::marker::Model;
 /// `received` and `given` have an entry for each owner: what it sent, and how much of its part of
 /// the log was given to it.
 #[derive(Drop)]
-pub struct Book<E: Engine + Drop> {
-    pub system: E,
+pub struct Book<'q, E: Engine> {
+    pub system: &'q E,
     pub me: u16,
     pub log: Vec<E::Growth>,
     pub received: Vec<Vec<E::Growth>>,
@@ -32,25 +32,25 @@ pub struct Book<E: Engine + Drop> {
     pub broken: bool,
 }
 
-impl<E: Engine + Drop> Model for Book<E> {
+impl<'q, E: Engine> Model for Book<'q, E> {
     ghost use Rattle.std.specs.Prelude.{map};
     ghost use Rattle.fixpoint.specs.State.{State};
     ghost use Rattle.keeper.specs.Keeping.{IsKept, state_of};
 
     ghost Value = { State E E.Growth };
 
-    ghost view = { λ o. state_of o.system o.me o.log.items
+    ghost view = { λ o. state_of o.system.now o.me o.log.items
         (map (λ list. list.items) o.received.items) o.given.items o.loaded o.broken };
 
-    ghost invariant = { λ o. IsKept E.rules (state_of o.system o.me o.log.items
+    ghost invariant = { λ o. IsKept E.rules (state_of o.system.now o.me o.log.items
         (map (λ list. list.items) o.received.items) o.given.items o.loaded o.broken) o.clock };
 }
 
-impl<E: Engine + Drop> Book<E> {
+impl<'q, E: Engine> Book<'q, E> {
     /// The book of a part that has done nothing yet.
-    pub fn new(alloc: Global, system: E, me: u16) -> Result<Book<E>, Memory>
-        requires { me < E.rules.parts system }
-        ensures { IfOk result (λ book. book ≡ first_state E.rules system me) }
+    pub fn new(alloc: Global, system: &'q E, me: u16) -> Result<Book<'q, E>, Memory>
+        requires { me < E.rules.parts system.now }
+        ensures { IfOk result (λ book. book ≡ first_state E.rules system.now me) }
     {
         let owners = system.parts();
         let received = empty_lists(alloc, owners)?;
@@ -133,10 +133,10 @@ impl<E: Engine + Drop> Book<E> {
     }
 
     /// What is analysed.
-    pub fn system(&self) -> &E
+    pub fn system(&self) -> &'q E
         ensures { result.now ≡ self.now.system }
     {
-        &self.system
+        self.system
     }
 
     /// The number of the owner.
@@ -171,7 +171,7 @@ impl<E: Engine + Drop> Book<E> {
 
     /// Returns the log.
     pub fn into_log(self) -> Vec<E::Growth>
-        ensures { result.items ≡ self.log }
+        ensures { result.items ≡ self.entry.log }
     {
         let Book { log, .. } = self;
         log

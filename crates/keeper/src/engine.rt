@@ -85,3 +85,6 @@ pub trait Engine: Rules {
             (λ f. Self.rules.derives self.now (has store.old) f)
             found.old.items found.new.items) };
 }
+
+/// An engine whose analysis threads share.
+pub trait ThreadEngine: Engine<Store: Send> + Rules<Fact: Send, Growth: Send> + Sync {}

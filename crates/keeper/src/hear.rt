@@ -9,8 +9,8 @@ use crate::engine::Engine;
 use nll_sets::Memory;
 
 /// Enters growths of another owner, and finds what is due because of them.
-pub fn hear_all<E: Engine + Drop>(
-    book: &mut Book<E>,
+pub fn hear_all<E: Engine>(
+    book: &mut Book<'_, E>,
     store: &mut E::Store,
     due: &mut Vec<E::Fact>,
     from: u16,
@@ -39,8 +39,8 @@ pub fn hear_all<E: Engine + Drop>(
 }
 
 // Enters a growth of another owner, and finds what is due because of it.
-fn hear<E: Engine + Drop>(
-    book: &mut Book<E>,
+fn hear<E: Engine>(
+    book: &mut Book<'_, E>,
     store: &mut E::Store,
     due: &mut Vec<E::Fact>,
     from: u16,

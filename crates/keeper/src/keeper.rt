@@ -28,15 +28,15 @@ const END_OF_RANKS: u64 = 1 << 61;
 /// Besides what the engine keeps: a growth for each that is in the log, for each that was received,
 /// and for each owner that reads one (not proved).
 #[derive(Drop)]
-pub struct Keeper<E: Engine + Drop> {
-    book: Book<E>,
+pub struct Keeper<'q, E: Engine> {
+    book: Book<'q, E>,
     // Nothing is known of these once a call was refused.
     store: E::Store,
     due: Vec<E::Fact>,
     boxes: Outboxes<E::Growth>,
 }
 
-impl<E: Engine + Drop> Model for Keeper<E> {
+impl<'q, E: Engine> Model for Keeper<'q, E> {
     ghost use Rattle.std.specs.Prelude.{◌≡◌, false, map};
     ghost use Rattle.fixpoint.specs.State.{State, IsSound};
     ghost use Rattle.keeper.specs.Keeping.{IsWhole};
@@ -50,14 +50,14 @@ impl<E: Engine + Drop> Model for Keeper<E> {
         k.due.items k.boxes.place (map (λ list. list.items) k.boxes.lists.items)) };
 }
 
-impl<E: Engine + Drop> Keeper<E> {
+impl<'q, E: Engine> Keeper<'q, E> {
     /// A part that has done nothing yet.
     ///
     /// # Errors
     /// - `Memory`.
-    pub fn new(alloc: Global, engine: E, me: u16) -> Result<Keeper<E>, Memory>
-        requires { me < E.rules.parts engine }
-        ensures { IfOk result (λ part. part ≡ first_state E.rules engine me) }
+    pub fn new(alloc: Global, engine: &'q E, me: u16) -> Result<Keeper<'q, E>, Memory>
+        requires { me < E.rules.parts engine.now }
+        ensures { IfOk result (λ part. part ≡ first_state E.rules engine.now me) }
     {
         let boxes = Outboxes::new(alloc, engine.parts())?;
         let store = engine.store(alloc, me)?;
@@ -225,7 +225,7 @@ impl<E: Engine + Drop> Keeper<E> {
 
     /// Returns the log.
     pub fn into_log(self) -> Vec<E::Growth>
-        ensures { result.items ≡ self.log }
+        ensures { result.items ≡ self.entry.log }
     {
         let Keeper { book, .. } = self;
         book.into_log()
@@ -244,8 +244,8 @@ fn answer(told: Result<(), Memory>) -> Result<(), PartError>
 }
 
 // The next growth of what another owner receives.
-fn next_of<E: Engine + Drop>(
-    book: &Book<E>,
+fn next_of<E: Engine>(
+    book: &Book<'_, E>,
     boxes: &Outboxes<E::Growth>,
     to: u16,
 ) -> Option<E::Growth>
@@ -270,7 +270,7 @@ fn next_of<E: Engine + Drop>(
 }
 
 // How many growths another owner is still to receive.
-fn unsent_of<E: Engine + Drop>(book: &Book<E>, boxes: &Outboxes<E::Growth>, to: u16) -> u64
+fn unsent_of<E: Engine>(book: &Book<'_, E>, boxes: &Outboxes<E::Growth>, to: u16) -> u64
     requires { book.now.broken ≡ false → AreParts E.rules book.now.system book.now.log
         (map (λ list. list.items) boxes.now.lists.items) }
     ensures count { book.now.broken ≡ false → to < E.rules.parts book.now.system

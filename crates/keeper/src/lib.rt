@@ -4,13 +4,17 @@
 //! The definitions are in specs/: `Engine` first.
 #![tactic(auto)]
 
+mod alone;
 mod book;
 mod engine;
 mod hear;
 mod keeper;
+mod keepers;
 mod outboxes;
 mod pursue;
 mod settle;
 
-pub use engine::Engine;
+pub use alone::solve;
+pub use engine::{Engine, ThreadEngine};
 pub use keeper::Keeper;
+pub use keepers::Keepers;

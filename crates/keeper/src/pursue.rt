@@ -13,8 +13,8 @@ use crate::settle::settle;
 use nll_sets::Memory;
 
 /// Enters the facts that follow from nothing, and those that follow from them.
-pub fn load_all<E: Engine + Drop>(
-    book: &mut Book<E>,
+pub fn load_all<E: Engine>(
+    book: &mut Book<'_, E>,
     store: &mut E::Store,
     due: &mut Vec<E::Fact>,
     boxes: &mut Outboxes<E::Growth>,
@@ -36,8 +36,8 @@ pub fn load_all<E: Engine + Drop>(
 }
 
 /// Enters growths of another owner, and what follows from them.
-pub fn take_in<E: Engine + Drop>(
-    book: &mut Book<E>,
+pub fn take_in<E: Engine>(
+    book: &mut Book<'_, E>,
     store: &mut E::Store,
     due: &mut Vec<E::Fact>,
     boxes: &mut Outboxes<E::Growth>,

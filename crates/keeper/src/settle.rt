@@ -9,8 +9,8 @@ use crate::engine::Engine;
 use nll_sets::Memory;
 
 /// Enters facts that are due, and those that follow from them, until none is left.
-pub fn settle<E: Engine + Drop>(
-    book: &mut Book<E>,
+pub fn settle<E: Engine>(
+    book: &mut Book<'_, E>,
     store: &mut E::Store,
     due: &mut Vec<E::Fact>,
 ) -> Result<(), Memory>
@@ -32,8 +32,8 @@ pub fn settle<E: Engine + Drop>(
 }
 
 // Enters a fact that is due, unless it's known.
-fn enter<E: Engine + Drop>(
-    book: &mut Book<E>,
+fn enter<E: Engine>(
+    book: &mut Book<'_, E>,
     store: &mut E::Store,
     due: &mut Vec<E::Fact>,
     fact: E::Fact,

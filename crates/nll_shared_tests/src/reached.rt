@@ -1,10 +1,12 @@
-//! Reachability by owners in threads, over each pair of mailbox and ledger, beside a plain search.
+//! Reachability by owners in threads, over each pair of mailbox and ledger, and by one keeper alone, beside a plain search.
 
 ghost use Rattle.std.specs.Prelude.{◌<◌, ◌≤◌};
 
+use keeper::{Keepers, solve};
 use ledger::{LockLedger, ThreadLedger, WordLedger};
 use mail::{QueueMail, RingMail, ThreadMail};
-use reach::{Edge, Reach};
+use nll_sets::Memory;
+use reach::Graph;
 use run::{RunError, run};
 use std::alloc::{AllocError, Global};
 use std::sync::Wait;
@@ -22,13 +24,18 @@ fn next_number(state: &mut u64) -> u32 {
     (*state >> 33) as u32
 }
 
-// A graph of 40 nodes and up to 80 edges.
-fn random_edges(alloc: Global, state: &mut u64) -> Result<Vec<Edge>, AllocError> {
+// Where the edges of a graph lead: of 40 nodes, of which some at the end have no list, and of up to 80 edges.
+fn random_edges(alloc: Global, state: &mut u64) -> Result<Vec<Vec<u32>>, AllocError> {
     let mut edges = Vec::new(alloc);
+    for _ in 0..1 + next_number(state) % NODES {
+        edges.push(Vec::new(alloc))?;
+    }
     for _ in 0..next_number(state) % 80 {
-        let from = next_number(state) % NODES;
         let to = next_number(state) % NODES;
-        edges.push(Edge { from, to })?;
+        let from = next_number(state) as usize % edges.len().max(1);
+        if let Some(ends) = edges.get_mut(from) {
+            ends.push(to)?;
+        }
     }
     Ok(edges)
 }
@@ -55,15 +62,26 @@ fn mark(marks: &mut [bool], node: u32) {
 }
 
 // Follows each edge as often as there are nodes.
-fn searched(alloc: Global, edges: &[Edge], root: u32) -> Result<Vec<bool>, AllocError> {
+fn searched(alloc: Global, edges: &[Vec<u32>], root: u32) -> Result<Vec<bool>, AllocError> {
     let mut marks = unmarked(alloc)?;
     mark(marks.as_mut_slice(), root);
     for _ in 0..NODES {
-        for edge in edges {
-            if is_marked(marks.as_slice(), edge.from) {
-                mark(marks.as_mut_slice(), edge.to);
+        for (from, ends) in edges.iter().enumerate() {
+            if is_marked(marks.as_slice(), from as u32) {
+                for end in ends {
+                    mark(marks.as_mut_slice(), *end);
+                }
             }
         }
+    }
+    Ok(marks)
+}
+
+// Which nodes the log of one keeper alone tells.
+fn solved_alone(alloc: Global, graph: &Graph<'_>) -> Result<Vec<bool>, Memory> {
+    let mut marks = unmarked(alloc)?;
+    for growth in &solve(alloc, graph)? {
+        mark(marks.as_mut_slice(), growth.fact);
     }
     Ok(marks)
 }
@@ -74,10 +92,10 @@ fn told<M: ThreadMail<fixpoint::Growth<u32>>, L: ThreadLedger, R: Threads + Wait
     alloc: Global,
     mail: &M,
     ledger: &L,
-    reach: &Reach<'_>,
+    graph: &Graph<'_>,
 ) -> Result<Vec<bool>, RunError> {
     let mut marks = unmarked(alloc)?;
-    let outcome = run(rt, alloc, reach, mail, ledger, &NoGate)?;
+    let outcome = run(rt, alloc, &Keepers::new(graph), mail, ledger, &NoGate)?;
     for log in &outcome.grown {
         for growth in log {
             mark(marks.as_mut_slice(), growth.fact);
@@ -97,28 +115,38 @@ fn owners_reach_what_a_search_reaches(rt: HostRuntime) -> Result<(), Fail> {
         let owners = 1 + (next_number(&mut state) % 64) as u16;
         let roots = [root];
         let wanted = searched(alloc, edges.as_slice(), root)?;
-        let reach = Reach::new(edges.as_slice(), &roots, owners);
+        let graph = Graph {
+            edges: edges.as_slice(),
+            roots: &roots,
+            owners,
+        };
+        let undivided = Graph {
+            edges: edges.as_slice(),
+            roots: &roots,
+            owners: 1,
+        };
         let queue = QueueMail::new(rt);
         let ring = RingMail::new();
         let lock = LockLedger::new(rt);
         let words = WordLedger::new();
+        assert_eq!(rt; solved_alone(alloc, &undivided), Ok(wanted.clone()?), "alone");
         assert_eq!(rt;
-            told(&rt, alloc, &queue, &words, &reach),
+            told(&rt, alloc, &queue, &words, &graph),
             Ok(wanted.clone()?),
             "queues, words"
         );
         assert_eq!(rt;
-            told(&rt, alloc, &ring, &words, &reach),
+            told(&rt, alloc, &ring, &words, &graph),
             Ok(wanted.clone()?),
             "rings, words"
         );
         assert_eq!(rt;
-            told(&rt, alloc, &queue, &lock, &reach),
+            told(&rt, alloc, &queue, &lock, &graph),
             Ok(wanted.clone()?),
             "queues, a lock"
         );
         assert_eq!(rt;
-            told(&rt, alloc, &ring, &lock, &reach),
+            told(&rt, alloc, &ring, &lock, &graph),
             Ok(wanted),
             "rings, a lock"
         );

@@ -1,3 +1,1 @@
-pub mod Find
 pub mod Reach
-pub mod Lawful

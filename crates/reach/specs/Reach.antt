@@ -1,58 +1,59 @@
 -- Which nodes of a graph are reached from its roots, and the rules by which owners find it out.
 -- Source: project's choice.
-use Rattle.std.specs.Prelude.{◌⊎◌, ◌^◌, ℕ, ◌%◌, ◌<◌, ◌≤◌, Bool, not, ◌==◌, ◌&&◌, List, Contains}
-use Rattle.std.specs.Prelude.{IsTrue}
+use Rattle.std.specs.Prelude.{◌⊎◌, ◌^◌, ◌%◌, ◌<◌, ◌≤◌, ◌==◌, ◌&&◌, ℕ, not, List, [], map, Contains}
+use Rattle.std.specs.Prelude.{IsTrue, slice_index_or}
 use Rattle.std.specs.List.{list_any}
-use Rattle.fixpoint.specs.Rules.{Rules}
+use Rattle.std.proofs.Common.{refl, inl, inr, ⊎_elim, arith}
+use Rattle.std.proofs.Math.Nat.{mod-lt}
+use Rattle.std.proofs.lemmas.Bool.{eqb-true, eq-eqb, cases_eq}
+use Rattle.fixpoint.specs.Rules.{Rules, AreLawful, Sees}
 use Rattle.fixpoint.specs.declared.growth.Growth.{Growth}
-use Rattle.reach.specs.Find.{LeadsTo}
-use Rattle.reach.specs.declared.graph.Edge.{Edge}
+use Rattle.fixpoint.proofs.ListLemmas.{both, and_both, any_to}
+use Rattle.keeper.proofs.OwnLemmas.{few_numbers}
+use Rattle.reach.specs.declared.graph.Graph.{Graph}
 
--- The edges and the roots of a graph, and how many owners there are.
-pub record System : Type 0 where
-  pub edges : List Edge
-  pub roots : List ℕ
-  pub owners : ℕ
-
--- the graph of these edges and roots, for so many owners
-abbrev pub system_of : List Edge → List ℕ → ℕ → System
-system_of list from count = record { edges = list; roots = from; owners = count }
-
--- there is such an edge
-abbrev pub HasEdge : System → ℕ → ℕ → Type 0
-HasEdge a x y = LeadsTo a.edges x y
+-- where the edges from a node lead
+abbrev pub ends : Graph → ℕ → List ℕ
+ends a x = slice_index_or (map (λ list. list.items) a.edges.now) x []
 
 -- the node is a root, or an edge leads to it from a node that is reached
-pub data IsReached (a : System) : ℕ → Type 0 where
-  root : (x : ℕ) → Contains a.roots x → IsReached a x
-  step : (x y : ℕ) → HasEdge a x y → IsReached a x → IsReached a y
+pub data IsReached (a : Graph) : ℕ → Type 0 where
+  root : (x : ℕ) → Contains a.roots.now x → IsReached a x
+  step : (x y : ℕ) → Contains (ends a x) y → IsReached a x → IsReached a y
 
--- ---- as an analysis
-
--- the owner of a node
-abbrev pub owner_of : System → ℕ → ℕ
-owner_of a x = x % a.owners
-
--- an edge leads from the node of another owner to a node of owner i
-abbrev pub reads : System → ℕ → ℕ → Bool
-reads a i x =
-    not (owner_of a x == i)
-    && list_any (λ (e : Edge). (e.from == x) && (owner_of a e.to == i)) a.edges
-
--- the node is a root, or an edge leads to it from a known node
-abbrev pub follows : System → (ℕ → Bool) → ℕ → Type 0
-follows a known y = Contains a.roots y ⊎ ((x : ℕ) × HasEdge a x y × IsTrue (known x))
-
--- the rules by which owners find out what is reached; a node is a number of 32 bits
-abbrev pub rules : Rules System ℕ (Growth ℕ)
+-- The rules by which owners find it out. A node is a number of 32 bits. An owner reads a node of
+-- another if an edge leads from there to its own. A node follows if it's a root, or if an edge
+-- leads to it from a known node.
+abbrev pub rules : Rules Graph ℕ (Growth ℕ)
 rules = record {
   valid = λ a. (0 < a.owners) × (a.owners ≤ 64);
   parts = λ a. a.owners;
-  owner = owner_of;
-  reads = reads;
-  derives = follows;
+  owner = λ a x. x % a.owners;
+  reads = λ a i x. not (x % a.owners == i) && list_any (λ y. y % a.owners == i) (ends a x);
+  derives = λ a known y.
+      Contains a.roots.now y ⊎ ((x : ℕ) × Contains (ends a x) y × IsTrue (known x));
   proper = λ a x. x < 2 ^ 32;
   same = λ x y. x == y;
   fact = λ g. g.fact;
   rank = λ g. g.rank;
+}
+
+-- ---- the rules are lawful
+
+-- the owner of a node sees those from which edges lead to it
+pub sees : (a : Graph) (x y : ℕ) → Contains (ends a x) y → Sees rules a (y % a.owners) x
+sees a x y edge = ⊎_elim inl
+    (λ other. inr (and_both _ _ (grind arith) (any_to _ (ends a x) y edge (eq-eqb _ _ refl))))
+    (cases_eq (x % a.owners) (y % a.owners))
+
+pub reach_lawful : AreLawful rules
+reach_lawful = record {
+  local = λ a ok known more y each.
+      ⊎_elim inl (λ w. inr (w.0, w.1, each w.0 (sees a w.0 y w.1) w.2));
+  owned = λ a ok known y h. mod-lt y ok.0;
+  others = λ a ok i x read. (mod-lt x ok.0, (let h = (both (not (x % a.owners == i)) _ read).0 in grind arith));
+  few = λ a ok. ok;
+  few_facts = λ a ok facts different.
+      (let low = few_numbers rules a (2 ^ 32) facts (λ x h. h) different in omega (arith, low));
+  same_tells = λ x y. (eqb-true x y, eq-eqb x y);
 }

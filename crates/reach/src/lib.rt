@@ -1,14 +1,11 @@
 //! Which nodes of a graph are reached from its roots: the smallest analysis by keepers.
 //!
-//! Reading order: `graph`, `reach`, `laws`.
+//! Reading order: `graph`, `reach`.
 //! The definitions are in specs/: `Reach`.
 #![tactic(auto)]
 
-mod find;
 mod graph;
-mod laws;
 mod reach;
 
-pub use graph::Edge;
-pub use laws::settled_logs_tell_reached_nodes;
-pub use reach::Reach;
+pub use graph::Graph;
+pub use reach::settled_logs_tell_reached_nodes;

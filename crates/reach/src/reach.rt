@@ -1,59 +1,69 @@
-//! The analysis.
+//! The engine of a graph, and what its keepers find out.
 
-ghost use Rattle.std.specs.Prelude.{◌≡◌, ◌<◌, ◌≤◌};
+ghost use Rattle.std.specs.Prelude.{◌≡◌, ◌↔◌, ◌==◌, OnOk, ℕ, List};
 ghost use Rattle.std.specs.BTreeSet.{contains};
+ghost use Rattle.std.specs.List.{list_any};
 ghost use Rattle.std.specs.Ordering.{nat_cmp};
-ghost use Rattle.reach.specs.Reach as spec;
-ghost use Rattle.reach.specs.Lawful.{reach_lawful};
+ghost use Rattle.fixpoint.specs.Logs.{AreSound, AreSettled, IsTold, log_of};
+ghost use Rattle.keeper.specs.Engine.{GotOwn};
+ghost use Rattle.reach.specs.Reach.{IsReached, ends, reach_lawful, rules as reach_rules};
+ghost use Rattle.reach.specs.declared.graph.Graph.{Graph as TheGraph};
+ghost use Rattle.fixpoint.specs.declared.growth.Growth.{Growth as TheGrowth};
 
-use crate::find::{leads, own_ends, own_nodes};
-use crate::graph::Edge;
-use fixpoint::{Analysis, Growth, PartError, Rules, ThreadAnalysis};
-use keeper::{Engine, Keeper};
+use crate::graph::Graph;
+use fixpoint::{Growth, Rules};
+use keeper::{Engine, ThreadEngine};
 use nll_sets::Memory;
 use std::alloc::Global;
 use std::collections::BTreeSet;
-use std::marker::Model;
 
-/// A graph whose nodes are assigned to owners: node n to owner n modulo their number.
-#[derive(Drop)]
-pub struct Reach<'q> {
-    edges: &'q [Edge],
-    roots: &'q [u32],
-    owners: u16,
-}
+/// States that the logs of settled owners tell exactly which nodes are reached from the roots.
+pub fn settled_logs_tell_reached_nodes()
+    ensures { (a : TheGraph) (logs : List (List (TheGrowth ℕ)))
+        (received : ℕ → ℕ → List (TheGrowth ℕ)) → reach_rules.valid a
+        → AreSound reach_rules a logs received → AreSettled reach_rules a logs received
+        → (x : ℕ) → IsTold reach_rules (log_of logs (reach_rules.owner a x)) x ↔ IsReached a x }
+{}
 
-impl<'q> Model for Reach<'q> {
-    ghost use Rattle.reach.specs.Reach as spec;
-
-    ghost Value = { spec.System };
-
-    ghost view = { λ r. spec.system_of r.edges.now r.roots.now r.owners };
-
-    ghost invariant = { λ r. spec.rules.valid (spec.system_of r.edges.now r.roots.now r.owners) };
-}
-
-impl<'q> Reach<'q> {
-    /// The graph of these edges and roots, for so many owners.
-    pub fn new(edges: &'q [Edge], roots: &'q [u32], owners: u16) -> Reach<'q>
-        requires some { 0 < owners }
-        requires few { owners ≤ 64 }
-        ensures { result ≡ spec.system_of edges.now roots.now owners }
+impl<'q> Graph<'q> {
+    // Where the edges from a node lead.
+    fn ends(&self, node: u32) -> &[u32]
+        ensures { result.now ≡ ends self.now node }
     {
-        Reach {
-            edges,
-            roots,
-            owners,
+        match self.edges.get(node as usize) {
+            Some(ends) => ends,
+            None => &[],
         }
+    }
+
+    // Whether an edge leads from a node to one of an owner.
+    fn leads(&self, from: u32, to: u16) -> bool
+        ensures { result ≡ list_any (λ y. reach_rules.owner self.now y == to) (ends self.now from) }
+    {
+        let owners = self.owners as u32;
+        self.ends(from).iter().any(|end| *end % owners == to as u32)
+    }
+
+    // Appends the nodes of a list that are an owner's.
+    fn push_own(&self, me: u16, nodes: &[u32], found: &mut Vec<u32>) -> Result<(), Memory>
+        ensures { OnOk result (GotOwn reach_rules self.now me nodes.now
+            found.old.items found.new.items) }
+    {
+        for node in nodes {
+            if *node % self.owners as u32 == me as u32 {
+                found.push(*node)?;
+            }
+        }
+        Ok(())
     }
 }
 
-impl<'q> Rules for Reach<'q> {
+impl<'q> Rules for Graph<'q> {
     type Fact = u32;
 
     type Growth = Growth<u32>;
 
-    ghost rules = { spec.rules };
+    ghost rules = { reach_rules };
 
     ghost lawful = { reach_lawful };
 
@@ -62,7 +72,7 @@ impl<'q> Rules for Reach<'q> {
     }
 }
 
-impl<'q> Engine for Reach<'q> {
+impl<'q> Engine for Graph<'q> {
     type Store = BTreeSet<u32>;
 
     ghost has = { λ store x. contains nat_cmp store x };
@@ -100,11 +110,7 @@ impl<'q> Engine for Reach<'q> {
     }
 
     fn reads(&self, reader: u16, fact: &u32) -> bool {
-        let from = *fact;
-        if from % self.owners as u32 == reader as u32 {
-            return false;
-        }
-        leads(self.edges, self.owners, from, reader)
+        *fact % self.owners as u32 != reader as u32 && self.leads(*fact, reader)
     }
 
     fn knows(&self, store: &BTreeSet<u32>, fact: &u32) -> bool {
@@ -112,7 +118,7 @@ impl<'q> Engine for Reach<'q> {
     }
 
     fn begin(&self, me: u16, found: &mut Vec<u32>) -> Result<(), Memory> {
-        own_nodes(self.roots, self.owners, me, found)
+        self.push_own(me, self.roots, found)
     }
 
     fn enter(
@@ -123,68 +129,8 @@ impl<'q> Engine for Reach<'q> {
         found: &mut Vec<u32>,
     ) -> Result<(), Memory> {
         store.insert(fact)?;
-        own_ends(self.edges, fact, self.owners, me, found)
+        self.push_own(me, self.ends(fact), found)
     }
 }
 
-impl<'q> Analysis for Reach<'q> {
-    type Part = Keeper<Reach<'q>>;
-
-    type Yield = ();
-
-    ghost state = { λ part. part };
-
-    ghost yields = { λ _ _ _ _. Unit {0} };
-
-    fn part(&self, alloc: Global, me: u16) -> Result<Keeper<Reach<'q>>, Memory> {
-        Keeper::new(alloc, Reach::new(self.edges, self.roots, self.owners), me)
-    }
-
-    fn me(part: &Keeper<Reach<'q>>) -> u16 {
-        part.me()
-    }
-
-    fn owners(part: &Keeper<Reach<'q>>) -> u16 {
-        part.owners()
-    }
-
-    fn load(part: &mut Keeper<Reach<'q>>) -> Result<(), PartError> {
-        part.load()
-    }
-
-    fn receive_all(
-        part: &mut Keeper<Reach<'q>>,
-        from: u16,
-        growths: &[Growth<u32>],
-    ) -> Result<(), PartError> {
-        part.receive_all(from, growths)
-    }
-
-    fn passes(part: &Keeper<Reach<'q>>, from: u16, growth: &Growth<u32>) -> bool {
-        part.passes(from, growth)
-    }
-
-    fn next_for(part: &Keeper<Reach<'q>>, to: u16) -> Option<Growth<u32>> {
-        part.next_for(to)
-    }
-
-    fn outgoing(part: &mut Keeper<Reach<'q>>, to: u16) -> Option<Growth<u32>> {
-        part.outgoing(to)
-    }
-
-    fn unsent(part: &Keeper<Reach<'q>>, to: u16) -> u64 {
-        part.unsent(to)
-    }
-
-    fn grown(part: &Keeper<Reach<'q>>) -> u64 {
-        part.grown()
-    }
-
-    fn into_parts(part: Keeper<Reach<'q>>, _alloc: Global) -> (Vec<Growth<u32>>, ()) {
-        (part.into_log(), ())
-    }
-
-    fn none(_alloc: Global) {}
-}
-
-impl<'q> ThreadAnalysis for Reach<'q> {}
+impl<'q> ThreadEngine for Graph<'q> {}

@@ -8,7 +8,7 @@ overflow_add-index_mut g c =
     let to_in = rw (← c.self.view_is) at c.requires.to in
     let more = rw (← c.self.view_is) at c.requires.more in
     let r = g.E.Rules.rules in
-    let low = filter_le (λ (x : _). r.reads c.self.inside.system c.args.to (r.fact x)) c.self.inside.log.items in
+    let low = filter_le (λ (x : _). r.reads c.self.inside.system.now c.args.to (r.fact x)) c.self.inside.log.items in
     let is = (get_or_default c.self.inside.given.items c.args.to 0 c.index_mut.result.now
     (omega (arith, to_in, c.self.invariant.sound.receivers)) ∙ sym c.index_mut.ensures.value) in
     omega (arith, is, more, low, c.self.invariant.sound.few)

@@ -11,4 +11,4 @@ invariant_of-result g c =
     )
     (first_kept g.E.Rules.rules
     g.met.E.Rules.lawful
-    c.args.system c.parts-owners.ensures.valid c.args.me c.requires)
+    c.args.system.now c.parts-owners.ensures.valid c.args.me c.requires)

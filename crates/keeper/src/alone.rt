@@ -1,0 +1,29 @@
+//! One keeper alone: an engine of one owner is solved without threads.
+
+ghost use Rattle.std.specs.Prelude.{◌≡◌, ◌↔◌, IfOk};
+ghost use Rattle.fixpoint.specs.Rules.{Least};
+ghost use Rattle.fixpoint.specs.Logs.{IsTold, IsWellFormed};
+
+use crate::book::Book;
+use crate::engine::Engine;
+use crate::settle::settle;
+use nll_sets::Memory;
+use std::alloc::Global;
+
+/// The log of the only owner of an engine. It tells exactly the least solution.
+///
+/// # Errors
+/// - `Memory`.
+pub fn solve<E: Engine>(alloc: Global, engine: &E) -> Result<Vec<E::Growth>, Memory>
+    requires { E.rules.parts engine.now ≡ 1 }
+    ensures exact { IfOk result (λ log. (f : E.Fact)
+        → IsTold E.rules log.items f ↔ Least E.rules engine.now f) }
+    ensures well_formed { IfOk result (λ log. IsWellFormed E.rules engine.now 0 log.items) }
+{
+    let mut book = Book::new(alloc, engine, 0)?;
+    let mut store = engine.store(alloc, 0)?;
+    let mut due = Vec::new(alloc);
+    engine.begin(0, &mut due)?;
+    settle::<E>(&mut book, &mut store, &mut due)?;
+    Ok(book.into_log())
+}

@@ -1,3 +1,0 @@
-pub mod ReachLemmas
-pub mod FindLemmas
-pub mod ReachFinds
