@@ -156,4 +156,6 @@ pub trait Analysis: Rules {
 }
 
 /// An analysis that threads share, each with a part of its own.
-pub trait ThreadAnalysis: Rules<Growth: Send> + Analysis<Part: Send, Yield: Send> + Sync {}
+pub trait ThreadAnalysis: Rules<Fact: Send, Growth: Send>
+    + Analysis<Part: Send, Yield: Send>
+    + Sync {}

@@ -1,7 +1,7 @@
 -- Why a run of owners gives no answer.
 -- Source: project's choice.
-use Rattle.nll_run.specs.declared.error.RunError.{RunError}
-use Rattle.nll_run.specs.declared.error.RunError.TheVariants as run
+use Rattle.run.specs.declared.error.RunError.{RunError}
+use Rattle.run.specs.declared.error.RunError.TheVariants as run
 use Rattle.nll_answer.specs.declared.error.AnswerError.{AnswerError}
 use Rattle.nll_answer.specs.declared.error.AnswerError.TheVariants.{Text, Rule, Run, Memory}
 

@@ -3,7 +3,7 @@
 ghost use Rattle.std.specs.Prelude.{◌≡◌, ◌++◌, ◌∷◌, [], length, IfErr, IfOk, OnOk};
 ghost use Rattle.nll_core.specs.Values.{IsHeld, IsShaped};
 ghost use Rattle.nll_model.specs.declared.error.ModelError.TheVariants.{Owner};
-ghost use Rattle.nll_owner.specs.declared.error.OwnerError.TheVariants.{Memory as memory};
+ghost use Rattle.fixpoint.specs.declared.error.PartError.TheVariants.{Memory as memory};
 ghost use Rattle.nll_answer.specs.Report.{IsValuesReport};
 ghost use Rattle.nll_answer.specs.ReplayReport.{IsPrinted, IsReplayReport};
 ghost use Rattle.nll_answer.specs.ReplayReport.{answer_line, answer_lines, answer_text};

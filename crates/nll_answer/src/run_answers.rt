@@ -16,10 +16,9 @@ use nll_core::{Memory, Problem, RegionId, Values, faults};
 use nll_cut::Cut;
 use nll_facts::Facts;
 use nll_format::Labels;
-use nll_ledger::Ledger;
-use nll_mail::Mail;
-use nll_run::{Outcome, RunError, run};
-use nll_worker::Gate;
+use nll_ledger::ThreadLedger;
+use nll_mail::{Growth, ThreadMail};
+use nll_run::{Outcome, RunError, ThreadGate, run};
 use std::alloc::Global;
 use std::sync::Wait;
 use std::thread::Threads;
@@ -30,7 +29,7 @@ use std::thread::Threads;
 /// # Errors
 /// - `Run`: a thread couldn't be started.
 /// - `Memory`.
-pub fn answer_run<M: Mail, L: Ledger, G: Gate, R: Threads + Wait + Sync>(
+pub fn answer_run<M: ThreadMail<Growth>, L: ThreadLedger, G: ThreadGate, R: Threads + Wait + Sync>(
     rt: &R,
     alloc: Global,
     command: Command,
@@ -54,7 +53,7 @@ pub fn answer_run<M: Mail, L: Ledger, G: Gate, R: Threads + Wait + Sync>(
 }
 
 // The values that the owners find.
-fn run_values<M: Mail, L: Ledger, G: Gate, R: Threads + Wait + Sync>(
+fn run_values<M: ThreadMail<Growth>, L: ThreadLedger, G: ThreadGate, R: Threads + Wait + Sync>(
     rt: &R,
     alloc: Global,
     problem: &Problem,

@@ -7,7 +7,7 @@ use Rattle.std.proofs.lemmas.Option.{slice_get_within}
 use Rattle.nll_problem.specs.Problem.{Problem}
 use Rattle.nll_cut.specs.Partition.{Cut}
 use Rattle.nll_owner.specs.Owner.{Owner, first_owner}
-use Rattle.nll_owner.specs.declared.error.OwnerError.{OwnerError}
+use Rattle.fixpoint.specs.declared.error.PartError.{PartError}
 use Rattle.nll_model.specs.declared.event.Event.{Event}
 use Rattle.nll_model.specs.declared.outcome.Step.{Step}
 use Rattle.nll_model.specs.declared.seat.Item.TheVariants.{Nothing}
@@ -20,7 +20,7 @@ use Rattle.nll_model.proofs.OrderlyLemmas.{sound_is_orderly}
 use Rattle.nll_model.proofs.LawfulLemmas.{lawful}
 
 -- a step leads to an orderly state, and to a lawful one where it isn't refused
-pub after_step : (q : Problem) (c : Cut) (w new : State) (e : Event) (r : Result Step OwnerError) (broken : Bool)
+pub after_step : (q : Problem) (c : Cut) (w new : State) (e : Event) (r : Result Step PartError) (broken : Bool)
     → IfOk r (λ answer. Does w e answer new) → OnErr r ((p : Problem) (d : Cut) → IsOrderly p d w → IsOrderly p d new)
     → IsLawful q c w → IsOrderly q c w
     → broken ≡ is_err r → IsOrderly q c new × (broken ≡ false → IsLawful q c new)

@@ -17,7 +17,7 @@ pub enum ModelError {
 
 impl From<Memory> for ModelError {
     ghost use Rattle.std.specs.Prelude.{◌≡◌};
-    ghost use Rattle.nll_owner.specs.declared.error.OwnerError.TheVariants.{Memory as memory};
+    ghost use Rattle.fixpoint.specs.declared.error.PartError.TheVariants.{Memory as memory};
     ghost use Rattle.nll_model.specs.declared.error.ModelError.TheVariants.{Owner};
 
     ghost from_gives = { λ _ error. error ≡ Owner memory };

@@ -3,7 +3,7 @@
 ghost use Rattle.std.specs.Prelude.{◌≡◌, ◌↔◌, ℕ, false, length, OnOk, IfOk, IfErr};
 ghost use Rattle.nll_core.specs.Values.{IsHeld, IsShaped};
 ghost use Rattle.nll_owner.specs.Tables.{AreTables};
-ghost use Rattle.nll_owner.specs.declared.error.OwnerError.TheVariants.{Memory as memory};
+ghost use Rattle.fixpoint.specs.declared.error.PartError.TheVariants.{Memory as memory};
 ghost use Rattle.nll_model.specs.Events.{IsStep, AreSteps};
 ghost use Rattle.nll_model.specs.Soundness.{IsLawful, Says};
 ghost use Rattle.nll_model.specs.Replaying.{IsReplay};

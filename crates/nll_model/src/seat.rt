@@ -4,7 +4,7 @@ ghost use Rattle.std.specs.Prelude.{◌≡◌, ◌↔◌, ℕ, ◌^◌, ◌<◌,
 ghost use Rattle.std.specs.Prelude.{Err, OnOk, IfOk, IsTrue};
 ghost use Rattle.nll_mail.specs.declared.growth.Growth.{Growth};
 ghost use Rattle.nll_owner.specs.Owner.{IsSound, Passes, first_owner, with_growth};
-ghost use Rattle.nll_owner.specs.declared.error.OwnerError.TheVariants.{Broken};
+ghost use Rattle.fixpoint.specs.declared.error.PartError.TheVariants.{Broken};
 ghost use Rattle.nll_model.specs.State.{lane_to, with_lane, first_seat, empty_lane};
 ghost use Rattle.nll_model.specs.Events.{Turns, IsFree, HasSent, owed_seat, fresh_count};
 ghost use Rattle.nll_model.specs.Working.{Fills, PushesTo, TakesFrom};

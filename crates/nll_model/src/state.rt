@@ -6,7 +6,7 @@ ghost use Rattle.nll_problem.specs.Problem.{Problem};
 ghost use Rattle.nll_core.specs.Values.{IsHeld, IsShaped};
 ghost use Rattle.nll_cut.specs.Partition.{Cut};
 ghost use Rattle.nll_owner.specs.Logs.{IsCutOf};
-ghost use Rattle.nll_owner.specs.declared.error.OwnerError.TheVariants.{Broken};
+ghost use Rattle.fixpoint.specs.declared.error.PartError.TheVariants.{Broken};
 ghost use Rattle.nll_model.specs.State.{Seat, IsAt};
 ghost use Rattle.nll_model.specs.Events.{Does, IsPossible};
 ghost use Rattle.nll_model.specs.Soundness.{IsSoundState, IsOrderly, Says};

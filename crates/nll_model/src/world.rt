@@ -4,7 +4,7 @@ ghost use Rattle.std.specs.Prelude.{◌≡◌, ◌≢◌, ◌↔◌, ℕ, true, 
 ghost use Rattle.std.specs.Prelude.{Some, IfSome};
 ghost use Rattle.nll_core.specs.Values.{IsHeld, IsShaped};
 ghost use Rattle.nll_owner.specs.Tables.{AreTables};
-ghost use Rattle.nll_owner.specs.declared.error.OwnerError.TheVariants.{Memory as memory, Broken};
+ghost use Rattle.fixpoint.specs.declared.error.PartError.TheVariants.{Memory as memory, Broken};
 ghost use Rattle.nll_model.specs.State.{World, IsNew};
 ghost use Rattle.nll_model.specs.Events.{IsStep, IsPossible};
 ghost use Rattle.nll_model.specs.Soundness.{IsLawful, IsOrderly, Says};

@@ -19,15 +19,15 @@ ghost use Rattle.nll_owner.specs.Tables.{AreTables};
 ghost use Rattle.nll_owner.specs.Keeping.{Grows, IsClosed};
 ghost use Rattle.nll_owner.specs.Following.{IsFollowing, Nothing};
 ghost use Rattle.nll_owner.specs.Outboxes.{AreQueued, AreAllQueued};
-ghost use Rattle.nll_owner.specs.declared.error.OwnerError.TheVariants.{Broken};
+ghost use Rattle.fixpoint.specs.declared.error.PartError.TheVariants.{Broken};
 
-use crate::error::OwnerError;
 use crate::follow_up::Following;
 use crate::holding::Holding;
 use crate::knowledge::Knowledge;
 use crate::outboxes::Outboxes;
 use crate::slots::Slots;
 use crate::tables::Tables;
+use fixpoint::PartError;
 use nll_core::Steps;
 use nll_cut::Cut;
 use nll_mail::Growth;
@@ -158,7 +158,7 @@ impl<'q> Owner<'q> {
     /// # Errors
     /// - `Broken`: an earlier call was refused; nothing has changed.
     /// - `Memory`: the log may have grown.
-    pub fn load(&mut self) -> Result<(), OwnerError>
+    pub fn load(&mut self) -> Result<(), PartError>
         requires { self.old.broken ≡ false → self.old.loaded ≡ false }
         ensures begins { IsPrefix self.old.log self.new.log }
         ensures others { self.new ≡ record self.old {
@@ -176,7 +176,7 @@ impl<'q> Owner<'q> {
         ensures sound { IsSound self.new }
     {
         if self.knowledge.broken {
-            return Err(OwnerError::Broken);
+            return Err(PartError::Broken);
         }
         let result = load_all(
             &mut self.knowledge,
@@ -194,7 +194,7 @@ impl<'q> Owner<'q> {
     /// # Errors
     /// - `Broken`: an earlier call was refused; nothing has changed.
     /// - `Memory`: the growth may have been received, and the log may have grown.
-    pub fn receive(&mut self, from: u16, growth: Growth) -> Result<(), OwnerError>
+    pub fn receive(&mut self, from: u16, growth: Growth) -> Result<(), PartError>
         requires ready { IsReady self.old }
         requires passes { Passes self.old.problem self.old.cut self.old.me from growth }
         ensures begins { IsPrefix self.old.log self.new.log }
@@ -229,7 +229,7 @@ impl<'q> Owner<'q> {
     /// A sort of the runs that the growths say; for each region of theirs a look at each link, and
     /// for each run what it newly reaches; the same for what the own regions gain, again and again
     /// (not proved).
-    pub fn receive_all(&mut self, from: u16, growths: &[Growth]) -> Result<(), OwnerError>
+    pub fn receive_all(&mut self, from: u16, growths: &[Growth]) -> Result<(), PartError>
         requires ready { IsReady self.old }
         requires passes { let o = self.old in (g : Growth) → Contains growths.now g
             → Passes o.problem o.cut o.me from g }
@@ -251,7 +251,7 @@ impl<'q> Owner<'q> {
         ensures sound { IsSound self.new }
     {
         if self.knowledge.broken {
-            return Err(OwnerError::Broken);
+            return Err(PartError::Broken);
         }
         let loaded = self.knowledge.loaded;
         let result = receive_and_queue(
@@ -305,7 +305,8 @@ impl<'q> Owner<'q> {
 
     /// The number of this owner.
     pub fn me(&self) -> u16
-        ensures { result ≡ self.now.me }
+        ensures value { result ≡ self.now.me }
+        ensures sound { IsSound self.now }
     {
         self.knowledge.me
     }
@@ -472,7 +473,7 @@ fn load_all(
     following: &mut Following,
     outboxes: &mut Outboxes,
     tables: &Tables,
-) -> Result<(), OwnerError>
+) -> Result<(), PartError>
     requires sound { IsSound knowledge.old }
     requires tables { AreTables knowledge.old.problem knowledge.old.cut tables.now }
     requires following { IsFollowing Nothing knowledge.old following.old }
@@ -514,7 +515,7 @@ fn receive_and_queue(
     tables: &Tables,
     from: u16,
     growths: &[Growth],
-) -> Result<(), OwnerError>
+) -> Result<(), PartError>
     requires sound { IsSound knowledge.old }
     requires tables { AreTables knowledge.old.problem knowledge.old.cut tables.now }
     requires loaded { knowledge.old.loaded ≡ true }

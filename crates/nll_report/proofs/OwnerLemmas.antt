@@ -15,7 +15,7 @@ use Rattle.nll_cut.specs.Partition.{Answers, Cut, cut_of, list_error, may_be_cou
 use Rattle.nll_cut.specs.declared.error.CutError.{CutError}
 use Rattle.nll_cut.specs.declared.error.CutError.TheVariants as due
 use Rattle.nll_lists.specs.CutText.{Means, cut}
-use Rattle.nll_run.specs.declared.error.RunError.TheVariants as run
+use Rattle.run.specs.declared.error.RunError.TheVariants as run
 use Rattle.nll_answer.specs.Answer.{IsProblemAnswer}
 use Rattle.nll_answer.specs.Running.{IsRunError}
 use Rattle.nll_answer.specs.declared.answers.Command.{Command}

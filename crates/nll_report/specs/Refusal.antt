@@ -17,7 +17,7 @@ use Rattle.nll_report.specs.declared.messages.Refusal.TheVariants.{Thread}
 use Rattle.nll_report.specs.declared.messages.Refusal.TheVariants.{Memory, CannotWrite}
 use Rattle.nll_cut.specs.declared.error.CutError.{CutError}
 use Rattle.nll_cut.specs.declared.error.CutError.TheVariants as cut
-use Rattle.nll_run.specs.declared.error.RunError.TheVariants as run
+use Rattle.run.specs.declared.error.RunError.TheVariants as run
 use Rattle.nll_rules.specs.declared.error.RuleError.TheVariants as rule
 
 -- 2 for what was given to the program, 3 for what it lacked

@@ -22,8 +22,8 @@ use nll_facts::Facts;
 use nll_format::{TextError, TextKind};
 use nll_ledger::WordLedger;
 use nll_lists::read_cut;
-use nll_mail::{Mail, QueueMail, RingMail};
-use nll_worker::NoGate;
+use nll_mail::{Growth, QueueMail, RingMail, ThreadMail};
+use nll_run::NoGate;
 use std::alloc::Global;
 use std::sync::Wait;
 use std::thread::Threads;
@@ -155,7 +155,7 @@ fn told_by_cut<R: AllocGlobal + Threads + Wait + Sync>(
 }
 
 // Like `told_by_cut`, over these mailboxes.
-fn told_over<R: AllocGlobal + Threads + Wait + Sync, M: Mail>(
+fn told_over<R: AllocGlobal + Threads + Wait + Sync, M: ThreadMail<Growth>>(
     rt: &R,
     command: Command,
     facts: &Facts,

@@ -10,7 +10,7 @@ use Rattle.nll_mail.specs.declared.growth.Growth.{Growth}
 use Rattle.nll_owner.specs.Logs.{IsCutOf, IsTold, log_of}
 use Rattle.nll_owner.specs.Holding.{Holding, HasSet}
 use Rattle.nll_run.specs.Holdings.{HaveValuesOf, holding_of}
-use Rattle.nll_run.proofs.PlaceLemmas.{list_low, list_last, set_size, push_size}
+use Rattle.run.proofs.PlaceLemmas.{list_low, list_last, set_size, push_size}
 
 -- The sets of the first regions were taken out of the holdings of their owners; those of the others are there still.
 pub record AreTaken (c : Cut) (count : ℕ) (old now : List Holding) (sets : List (List Bool)) : Type 0 where

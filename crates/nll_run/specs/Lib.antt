@@ -1,5 +1,2 @@
 pub mod Outcome
 pub mod Holdings
-pub mod Table
-pub mod Settling
-pub mod Refusing

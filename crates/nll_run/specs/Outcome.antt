@@ -4,11 +4,25 @@ use Rattle.std.specs.Prelude.{List, [], map, Contains, AllPairs}
 use Rattle.nll_problem.specs.Problem.{Problem}
 use Rattle.nll_problem.specs.Solution.{Least}
 use Rattle.nll_core.specs.Values.{IsHeld, IsShaped}
-use Rattle.nll_cut.specs.Partition.{Cut}
+use Rattle.nll_cut.specs.Partition.{Cut, owner_of}
 use Rattle.nll_mail.specs.declared.growth.Growth.{Growth}
-use Rattle.nll_mail.specs.declared.mail.Mail as Mail
-use Rattle.nll_owner.specs.Logs.{AreSound, log_of, part}
-use Rattle.nll_owner.specs.Delivery.{AreDelivered, IsPairBefore, SayLeast}
+use Rattle.mail.specs.declared.mail.Mail as Mail
+use Rattle.nll_owner.specs.Logs.{AreSound, IsTold, log_of, part}
+use Rattle.run.specs.Delivery.{IsPair, IsPairBefore}
+
+-- There is a settled mailbox for each ordered pair of owners, and no other; what was sent through
+-- it is the part of the sender's log that the receiver reads; and all of it was received.
+pub record AreDelivered {P : Type 0} (ends : P → ℕ × ℕ) (sent received : P → List Growth)
+    (q : Problem) (c : Cut) (logs : List (List Growth)) (posts : List P) : Type 0 where
+  pub pairs : (pair : ℕ × ℕ) → Contains (map ends posts) pair ↔ IsPair c.owners pair
+  pub whole_part :
+      (p : P) → Contains posts p → sent p ≡ part q c (ends p).1 (log_of logs (ends p).0)
+  pub all_of_it : (p : P) → Contains posts p → received p ≡ sent p
+
+-- the log of each region's owner says exactly what the region has in the least solution
+abbrev pub SayLeast : Problem → Cut → List (List Growth) → Type 0
+SayLeast q c logs =
+    (r e : ℕ) → IsTold (log_of logs (owner_of c r)) r e ↔ Least q r e
 
 -- the growth's rank is one above that of a growth which is in the log of owner i, or in what i
 -- received from another
@@ -30,7 +44,7 @@ pub record AreRanked (q : Problem) (c : Cut) (grown : List (List Growth)) : Type
 
 -- Each owner received from each other exactly the growths of the regions that it reads, once each
 -- and in the order in which they grew, and none was left in a mailbox. The values are the least.
-pub record IsOutcome {M S R C P : Type 0} (mail : Mail.Ghosts M S R C P) (q : Problem) (c : Cut)
+pub record IsOutcome {M S R C P : Type 0} (mail : Mail.Ghosts M Growth S R C P) (q : Problem) (c : Cut)
     (values : List (List Bool)) (grown : List (List Growth)) (posts : List P) : Type 0 where
   -- a settled mailbox for each ordered pair of different owners, and no other, by sender and then
   -- by receiver; the sender's part for the receiver was sent through it, and all of it was received

@@ -6,8 +6,8 @@ use super::run_text::{compare, told};
 use super::watches::Watched;
 use nll_ledger::WordLedger;
 use nll_mail::QueueMail;
+use nll_run::{Gate, ThreadGate};
 use nll_worked::BY_TURNS;
-use nll_worker::Gate;
 use std::alloc::AllocGlobal;
 
 // A gate that takes notes, and allows this many growths in a turn.
@@ -26,6 +26,8 @@ impl<'x> Gate for Answer<'x> {
         self.most
     }
 }
+
+impl<'x> ThreadGate for Answer<'x> {}
 
 // If a gate allows no growth in a turn, each turn receives one all the same: all that it owes and
 // posts, and what it clears, is as with a gate that doesn't say.

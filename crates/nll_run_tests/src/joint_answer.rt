@@ -2,8 +2,8 @@
 use super::meeting::Meeting;
 use nll_answer::{Command, answer_run, meaning};
 use nll_cut::Cut;
-use nll_ledger::{Ledger, LockLedger, WordLedger};
-use nll_mail::{Mail, QueueMail, RingMail};
+use nll_ledger::{LockLedger, ThreadLedger, WordLedger};
+use nll_mail::{Growth, QueueMail, RingMail, ThreadMail};
 use std::alloc::AllocGlobal;
 use std::process::Abort;
 use std::sync::Wait;
@@ -30,7 +30,7 @@ const REPORT: &[u8] = b"'static: 0 1 end('static)
 
 // The two owners of an answer work side by side: each begins its turns 1 and 2 only once the other
 // does.
-fn meet<M: Mail, L: Ledger, R: AllocGlobal + Abort + Threads + Wait + Sync>(
+fn meet<M: ThreadMail<Growth>, L: ThreadLedger, R: AllocGlobal + Abort + Threads + Wait + Sync>(
     rt: &R,
     mail: &M,
     ledger: &L,

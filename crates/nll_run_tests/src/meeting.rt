@@ -1,6 +1,6 @@
 //! Two owners that meet.
 use super::watches::{Step, Watch};
-use nll_worker::Gate;
+use nll_run::{Gate, ThreadGate};
 use std::sync::atomic::{AtomicBool, AtomicU64, Ordering};
 use std::thread;
 
@@ -66,6 +66,8 @@ impl Gate for Meeting {
         self.come(owner);
     }
 }
+
+impl ThreadGate for Meeting {}
 
 impl Watch for Meeting {
     fn before(&self, owner: u16, step: Step) {

@@ -1,7 +1,6 @@
 //! A permit that refuses starts, and counts what a run then does.
 use super::watches::{Step, Watch};
-use nll_run::RunError;
-use nll_worker::Permit;
+use nll_run::{Permit, RunError};
 use std::alloc::AllocError;
 use std::sync::atomic::{AtomicU64, Ordering};
 use std::thread;

@@ -8,13 +8,12 @@ use super::run_text::{compare, filled, told_over};
 use nll_answer::meaning;
 use nll_core::Problem;
 use nll_cut::Cut;
-use nll_ledger::{Ledger, LockLedger, WordLedger};
-use nll_mail::{Mail, QueueMail, RingMail};
-use nll_run::RunError;
+use nll_ledger::{LockLedger, ThreadLedger, WordLedger};
+use nll_mail::{Growth, QueueMail, RingMail, ThreadMail};
+use nll_run::{NoGate, RunError};
 use nll_worked::{
     BY_TURNS, FILLED_HOLE, MANY, REACHED, TWO_BORROWS, Written, text_of, worked_problem,
 };
-use nll_worker::NoGate;
 use std::alloc::{AllocGlobal, Global};
 use std::process::Abort;
 use std::sync::Wait;
@@ -94,7 +93,7 @@ fn cut_again(rt: &impl Abort, alloc: Global, deal: Deal, regions: u32) -> Cut
 
 // Compares the outcome of a run, or if it is refused memory or a thread, that of the next one over
 // the same problem, cut, mailboxes, ledger and gate.
-fn compare_again<M: Mail, L: Ledger, R: Abort + Threads + Wait + Sync>(
+fn compare_again<M: ThreadMail<Growth>, L: ThreadLedger, R: Abort + Threads + Wait + Sync>(
     rt: &R,
     alloc: Global,
     problem: &Problem,
@@ -117,7 +116,7 @@ fn compare_again<M: Mail, L: Ledger, R: Abort + Threads + Wait + Sync>(
 }
 
 // Like `compare_again`, for a problem whose regions are assigned so.
-fn compare_dealt<M: Mail, L: Ledger, R: Abort + Threads + Wait + Sync>(
+fn compare_dealt<M: ThreadMail<Growth>, L: ThreadLedger, R: Abort + Threads + Wait + Sync>(
     rt: &R,
     alloc: Global,
     problem: &Problem,
@@ -132,11 +131,11 @@ fn compare_dealt<M: Mail, L: Ledger, R: Abort + Threads + Wait + Sync>(
 }
 
 // The rows, over these mailboxes and this ledger.
-fn compare_rows<M: Mail, L: Ledger, R: AllocGlobal + Abort + Threads + Wait + Sync>(
-    rt: &R,
-    mail: &M,
-    ledger: &L,
-) {
+fn compare_rows<
+    M: ThreadMail<Growth>,
+    L: ThreadLedger,
+    R: AllocGlobal + Abort + Threads + Wait + Sync,
+>(rt: &R, mail: &M, ledger: &L) {
     for (written, deal, want) in ROWS {
         let problem = problem_again(rt, rt.alloc(), *written);
         compare_dealt(rt, rt.alloc(), &problem, *deal, mail, ledger, want);
@@ -158,11 +157,11 @@ fn problem_of_text(rt: &impl Abort, alloc: Global, lines: &str) -> Problem {
 }
 
 // A body's problem, over these mailboxes and this ledger.
-fn compare_borrows<M: Mail, L: Ledger, R: AllocGlobal + Abort + Threads + Wait + Sync>(
-    rt: &R,
-    mail: &M,
-    ledger: &L,
-) {
+fn compare_borrows<
+    M: ThreadMail<Growth>,
+    L: ThreadLedger,
+    R: AllocGlobal + Abort + Threads + Wait + Sync,
+>(rt: &R, mail: &M, ledger: &L) {
     let problem = problem_of_text(rt, rt.alloc(), TWO_BORROWS);
     for (deal, want) in BORROWS {
         compare_dealt(rt, rt.alloc(), &problem, *deal, mail, ledger, want);
@@ -179,11 +178,11 @@ fn filled_again(rt: &impl Abort, alloc: Global, rest: &str) -> String {
 }
 
 // Mailboxes that fill up, over these mailboxes and this ledger.
-fn compare_many<M: Mail, L: Ledger, R: AllocGlobal + Abort + Threads + Wait + Sync>(
-    rt: &R,
-    mail: &M,
-    ledger: &L,
-) {
+fn compare_many<
+    M: ThreadMail<Growth>,
+    L: ThreadLedger,
+    R: AllocGlobal + Abort + Threads + Wait + Sync,
+>(rt: &R, mail: &M, ledger: &L) {
     let problem = problem_again(rt, rt.alloc(), MANY);
     let alone = filled_again(rt, rt.alloc(), "1: 0 901|0:");
     compare_dealt(

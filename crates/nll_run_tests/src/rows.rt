@@ -1,12 +1,12 @@
 //! Runs of worked problems have values and counts that were found by hand.
 use super::deals::Deal;
 use super::run_text::{compare, filled, told};
-use nll_ledger::{Ledger, LockLedger, WordLedger};
+use nll_ledger::{LockLedger, ThreadLedger, WordLedger};
 use nll_mail::{QueueMail, RingMail};
+use nll_run::NoGate;
 use nll_worked::{
     BY_TURNS, EVERYWHERE, FILLED_HOLE, MANY, MANY_BOTH_WAYS, ONE_POINT, REACHED, Written,
 };
-use nll_worker::NoGate;
 use std::alloc::AllocGlobal;
 use std::process::Abort;
 use std::sync::Wait;
@@ -134,7 +134,7 @@ const FILLING: &[(Written, &str)] = &[
 ];
 
 // Compares the outcome of a run with either kind of mailbox.
-fn compare_mailboxes<L: Ledger, R: AllocGlobal + Abort + Threads + Wait + Sync>(
+fn compare_mailboxes<L: ThreadLedger, R: AllocGlobal + Abort + Threads + Wait + Sync>(
     rt: &R,
     written: Written,
     deal: Deal,

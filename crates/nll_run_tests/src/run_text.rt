@@ -6,11 +6,10 @@ use super::deals::{Deal, cut_of};
 use super::failure::Failure;
 use nll_core::{Problem, RegionId, Values};
 use nll_cut::Cut;
-use nll_ledger::Ledger;
-use nll_mail::{Growth, Mail};
-use nll_run::{Outcome, run};
+use nll_ledger::ThreadLedger;
+use nll_mail::{Growth, ThreadMail};
+use nll_run::{Outcome, ThreadGate, run};
 use nll_worked::{Written, worked_problem};
-use nll_worker::Gate;
 use std::alloc::{AllocError, Global};
 use std::process::Abort;
 use std::sync::Wait;
@@ -42,7 +41,7 @@ fn write_logs(out: &mut String, grown: &[Vec<Growth>]) -> Result<(), AllocError>
 
 // Writes how many posts there are, and how many growths each that isn't empty received: for each
 // sender for each other owner.
-fn write_posts<M: Mail>(
+fn write_posts<M: ThreadMail<Growth>>(
     out: &mut String,
     posts: &[M::Post],
     owners: u16,
@@ -68,7 +67,7 @@ fn write_posts<M: Mail>(
 }
 
 // Writes the value of each region, the logs and the posts.
-fn write_outcome<M: Mail>(
+fn write_outcome<M: ThreadMail<Growth>>(
     out: &mut String,
     problem: &Problem,
     owners: u16,
@@ -84,7 +83,7 @@ fn write_outcome<M: Mail>(
 }
 
 /// The outcome of a run of the owners of a cut, written.
-pub fn told_over<M: Mail, L: Ledger, G: Gate, R: Threads + Wait + Sync>(
+pub fn told_over<M: ThreadMail<Growth>, L: ThreadLedger, G: ThreadGate, R: Threads + Wait + Sync>(
     rt: &R,
     alloc: Global,
     problem: &Problem,
@@ -104,7 +103,7 @@ pub fn told_over<M: Mail, L: Ledger, G: Gate, R: Threads + Wait + Sync>(
 }
 
 // Like `told_over`, for a problem whose regions are assigned so.
-fn told_of<M: Mail, L: Ledger, G: Gate, R: Threads + Wait + Sync>(
+fn told_of<M: ThreadMail<Growth>, L: ThreadLedger, G: ThreadGate, R: Threads + Wait + Sync>(
     rt: &R,
     alloc: Global,
     problem: &Problem,
@@ -122,7 +121,7 @@ fn told_of<M: Mail, L: Ledger, G: Gate, R: Threads + Wait + Sync>(
 /// The outcome of a run of a written problem, whose regions are assigned so: the value of each
 /// region; how many logs there are, and the length of each that isn't empty, after its owner; and
 /// how many posts there are, and what each that isn't empty received, after its ends.
-pub fn told<M: Mail, L: Ledger, G: Gate, R: Threads + Wait + Sync>(
+pub fn told<M: ThreadMail<Growth>, L: ThreadLedger, G: ThreadGate, R: Threads + Wait + Sync>(
     rt: &R,
     alloc: Global,
     written: Written,

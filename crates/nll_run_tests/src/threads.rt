@@ -9,10 +9,10 @@ use super::run_text::{compare, told, told_over};
 use super::watches::Watched;
 use nll_core::Problem;
 use nll_cut::Cut;
-use nll_ledger::{Ledger, LockLedger, WordLedger};
-use nll_mail::{Mail, QueueMail, RingMail};
+use nll_ledger::{LockLedger, ThreadLedger, WordLedger};
+use nll_mail::{Growth, QueueMail, RingMail, ThreadMail};
+use nll_run::NoGate;
 use nll_worked::{BY_TURNS, MANY_BOTH_WAYS, REACHED, Written, worked_problem};
-use nll_worker::NoGate;
 use std::alloc::AllocGlobal;
 use std::process::Abort;
 use std::sync::Wait;
@@ -22,7 +22,7 @@ use std::thread::Threads;
 const WANT: &str = "0: 0 1 2|1: 0 1|2: 0 1|2: 0 5 1 2|2: 0-1 2 1-0 2";
 
 // The two owners work side by side: each begins its turns 1 and 2 only once the other does.
-fn meet<M: Mail, L: Ledger, R: AllocGlobal + Abort + Threads + Wait + Sync>(
+fn meet<M: ThreadMail<Growth>, L: ThreadLedger, R: AllocGlobal + Abort + Threads + Wait + Sync>(
     rt: &R,
     mail: &M,
     ledger: &L,
@@ -48,14 +48,11 @@ fn two_owners_meet(rt: HostRuntime) {
 const POSTS: &[(Written, u64)] = &[(BY_TURNS, 1), (MANY_BOTH_WAYS, 256)];
 
 // The owners of a cut post side by side, this many times.
-fn post_over<M: Mail, L: Ledger, R: AllocGlobal + Abort + Threads + Wait + Sync>(
-    rt: &R,
-    problem: &Problem,
-    cut: &Cut,
-    mail: &M,
-    ledger: &L,
-    times: u64,
-)
+fn post_over<
+    M: ThreadMail<Growth>,
+    L: ThreadLedger,
+    R: AllocGlobal + Abort + Threads + Wait + Sync,
+>(rt: &R, problem: &Problem, cut: &Cut, mail: &M, ledger: &L, times: u64)
     requires { length cut.now.list ≡ problem.now.regions }
 {
     let meeting = Meeting::new(times);
@@ -69,7 +66,7 @@ fn post_over<M: Mail, L: Ledger, R: AllocGlobal + Abort + Threads + Wait + Sync>
 }
 
 // Like `post_over`, for the two owners of each problem.
-fn post<M: Mail, L: Ledger, R: AllocGlobal + Abort + Threads + Wait + Sync>(
+fn post<M: ThreadMail<Growth>, L: ThreadLedger, R: AllocGlobal + Abort + Threads + Wait + Sync>(
     rt: &R,
     mail: &M,
     ledger: &L,
@@ -107,7 +104,7 @@ const STEPS: &[(Written, &str, &str)] = &[
 
 // The turns of an owner have the numbers 1, 2 and so on. In each of them it owes once, before it
 // posts and clears, clears 1 once, and posts all that it owed for before the next turn begins.
-fn owe_over<M: Mail, L: Ledger, R: AllocGlobal + Abort + Threads + Wait + Sync>(
+fn owe_over<M: ThreadMail<Growth>, L: ThreadLedger, R: AllocGlobal + Abort + Threads + Wait + Sync>(
     rt: &R,
     problem: &Problem,
     cut: &Cut,
@@ -133,7 +130,7 @@ fn owe_over<M: Mail, L: Ledger, R: AllocGlobal + Abort + Threads + Wait + Sync>(
 }
 
 // Like `owe_over`, for the two owners of each problem.
-fn owe<M: Mail, L: Ledger, R: AllocGlobal + Abort + Threads + Wait + Sync>(
+fn owe<M: ThreadMail<Growth>, L: ThreadLedger, R: AllocGlobal + Abort + Threads + Wait + Sync>(
     rt: &R,
     mail: &M,
     ledger: &L,

@@ -8,11 +8,10 @@ use super::run_text::{compare, filled, told_over};
 use super::watches::Watched;
 use nll_core::Problem;
 use nll_cut::Cut;
-use nll_ledger::{Ledger, LockLedger, WordLedger};
-use nll_mail::{Mail, QueueMail, RingMail};
-use nll_run::run_with;
+use nll_ledger::{LockLedger, ThreadLedger, WordLedger};
+use nll_mail::{Growth, QueueMail, RingMail, ThreadMail};
+use nll_run::{NoGate, run_with};
 use nll_worked::{BY_TURNS, MANY, REACHED, Written, worked_problem};
-use nll_worker::NoGate;
 use std::alloc::{AllocGlobal, Global};
 use std::process::Abort;
 use std::sync::Wait;
@@ -67,7 +66,7 @@ const ROWS: &[Row] = &[
 
 // The outcome of a run of the owners of a cut of which some aren't started, and that of the next
 // one, over the same problem, cut, mailboxes, ledger and gate.
-fn told_twice<M: Mail, L: Ledger, R: Threads + Wait + Sync>(
+fn told_twice<M: ThreadMail<Growth>, L: ThreadLedger, R: Threads + Wait + Sync>(
     rt: &R,
     alloc: Global,
     problem: &Problem,
@@ -103,7 +102,7 @@ fn told_twice<M: Mail, L: Ledger, R: Threads + Wait + Sync>(
 }
 
 // Like `told_twice`, for a written problem.
-fn told_of<M: Mail, L: Ledger, R: Threads + Wait + Sync>(
+fn told_of<M: ThreadMail<Growth>, L: ThreadLedger, R: Threads + Wait + Sync>(
     rt: &R,
     alloc: Global,
     written: Written,

@@ -2,8 +2,8 @@
 //! up, before it is done.
 ghost use Rattle.std.specs.Prelude.{◌≡◌, ◌++◌, ◌<◌, map, vec_len, IfOk};
 
-use nll_ledger::{Leave, Ledger, Totals};
-use nll_mail::{Growth, Mail, PostError};
+use nll_ledger::{Leave, Ledger, ThreadLedger, Totals};
+use nll_mail::{Growth, Mail, PostError, ThreadMail};
 use nll_sets::Memory;
 use std::alloc::{AllocError, Global};
 use std::collections::VecDeque;
@@ -31,13 +31,13 @@ pub struct Watched<'x, I, W> {
 }
 
 /// The end that posts of a watched mailbox.
-pub struct WatchedSender<'x, M: Mail, W> {
+pub struct WatchedSender<'x, M: ThreadMail<Growth>, W> {
     inner: M::S,
     from: u16,
     watch: &'x W,
 }
 
-impl<'x, M: Mail, W: Watch> Mail for Watched<'x, M, W> {
+impl<'x, M: ThreadMail<Growth>, W: Watch> Mail<Growth> for Watched<'x, M, W> {
     type S = WatchedSender<'x, M, W>;
 
     type R = M::R;
@@ -83,7 +83,7 @@ impl<'x, M: Mail, W: Watch> Mail for Watched<'x, M, W> {
         Ok((sender, receiver))
     }
 
-    fn post(sender: &mut WatchedSender<'x, M, W>, growth: Growth) -> Result<(), PostError> {
+    fn post(sender: &mut WatchedSender<'x, M, W>, growth: Growth) -> Result<(), PostError<Growth>> {
         sender.watch.before(sender.from, Step::Post);
         M::post(&mut sender.inner, growth)
     }
@@ -107,9 +107,11 @@ impl<'x, M: Mail, W: Watch> Mail for Watched<'x, M, W> {
     }
 }
 
+impl<'x, M: ThreadMail<Growth>, W: Watch> ThreadMail<Growth> for Watched<'x, M, W> {}
+
 /// The book of a watched ledger.
 #[derive(Drop)]
-pub struct WatchedBook<'x, L: Ledger, W> {
+pub struct WatchedBook<'x, L: ThreadLedger, W> {
     inner: L::Book,
     watch: &'x W,
 }
@@ -135,7 +137,7 @@ fn numbered<S: Drop>(alloc: Global, shares: Vec<S>) -> Result<Vec<WatchedShare<S
     Ok(numbered)
 }
 
-impl<'x, L: Ledger, W: Watch> Ledger for Watched<'x, L, W> {
+impl<'x, L: ThreadLedger, W: Watch> Ledger for Watched<'x, L, W> {
     ghost use Rattle.std.specs.Prelude.{◌≡◌, ℕ, Some, false, slice_get, true, vec_len};
     ghost use Rattle.std.specs.List.{sum_by};
 
@@ -233,3 +235,5 @@ impl<'x, L: Ledger, W: Watch> Ledger for Watched<'x, L, W> {
         L::gather(inner, lefts)
     }
 }
+
+impl<'x, L: ThreadLedger, W: Watch> ThreadLedger for Watched<'x, L, W> {}

@@ -1,9 +1,9 @@
 //! Growths that one thread posts and another takes.
 
 ghost use Rattle.std.specs.Prelude.{◌≡◌, ◌≤◌, ◌++◌, [], IfOk};
-ghost use Rattle.nll_problem.specs.Limits.{most_posts};
+ghost use Rattle.mail.specs.Limits.{most_posts};
 
-use nll_mail::{Growth, Mail, PostError};
+use nll_mail::{Growth, PostError, ThreadMail};
 use nll_problem::RegionId;
 use nll_sets::{Element, Memory};
 use std::alloc::Global;
@@ -13,18 +13,18 @@ use std::thread;
 use std::thread::Threads;
 
 /// A sender that is closed when it is let go. A thread's closure can hold it.
-pub struct Sending<M: Mail> {
+pub struct Sending<M: ThreadMail<Growth>> {
     sender: M::S,
 }
 
-impl<M: Mail> Drop for Sending<M> {
+impl<M: ThreadMail<Growth>> Drop for Sending<M> {
     fn drop(self) {
         let Sending { sender } = self;
         drop(M::close(sender));
     }
 }
 
-impl<M: Mail> Sending<M> {
+impl<M: ThreadMail<Growth>> Sending<M> {
     // The sender.
     fn out(self) -> M::S
         ensures { result ≡ self.sender }
@@ -45,7 +45,7 @@ pub fn numbered(number: u64) -> Growth {
 
 // Posts growths up to this number of them, and closes the sender. Tries again where the mailbox is
 // full, and gives up where memory is refused.
-fn post_all<M: Mail, R: Wait>(
+fn post_all<M: ThreadMail<Growth>, R: Wait>(
     rt: &R,
     sending: Sending<M>,
     growths: u64,
@@ -75,7 +75,7 @@ fn post_all<M: Mail, R: Wait>(
 
 // Takes growths until there are so many, or none is left of a sender that gave up. Answers whether
 // they came in order.
-fn take_all<M: Mail, R: Wait>(
+fn take_all<M: ThreadMail<Growth>, R: Wait>(
     rt: &R,
     mut receiver: M::R,
     growths: u64,
@@ -105,7 +105,7 @@ fn take_all<M: Mail, R: Wait>(
 
 /// Posts growths in one thread, and takes them in another until there are so many or memory is
 /// refused. Answers the settled mailbox, and whether they came in order.
-pub fn through_two_threads<M: Mail, R: Threads + Wait + Sync>(
+pub fn through_two_threads<M: ThreadMail<Growth>, R: Threads + Wait + Sync>(
     rt: &R,
     alloc: Global,
     mail: &M,

@@ -4,14 +4,14 @@ ghost use Rattle.std.specs.Prelude.{◌≡◌};
 
 use super::many_owners::all_leave;
 use super::two_owners::{Way, leave_both, open_two, owe_and_stay, stop_and_look};
-use nll_ledger::{Ledger, LockLedger, Totals, WordLedger};
+use nll_ledger::{LockLedger, ThreadLedger, Totals, WordLedger};
 use nll_sets::Memory;
 use std::alloc::Global;
 use std::test::Fail;
 
 // The outcome if the second owner would leave too early, then clears what the first one owed,
 // and both leave.
-fn told_on_quiet<L: Ledger>(
+fn told_on_quiet<L: ThreadLedger>(
     alloc: Global,
     ledger: &L,
 ) -> Result<(Way, Option<(Way, Way, Option<Totals>)>), Memory> {
@@ -42,7 +42,7 @@ fn both_leave_on_quiet(rt: HostRuntime) -> Result<(), Fail> {
 }
 
 // The outcome if the first owner stops all before the second has cleared what is owed.
-fn told_on_stop<L: Ledger>(
+fn told_on_stop<L: ThreadLedger>(
     alloc: Global,
     ledger: &L,
 ) -> Result<(Way, Option<(bool, bool, Way, Way)>), Memory> {
@@ -70,7 +70,7 @@ fn all_stop(rt: HostRuntime) -> Result<(), Fail> {
 
 // The outcome if the first owner stops all at a balance of 0, and the second leaves without a
 // look before.
-fn told_on_late_stop<L: Ledger>(
+fn told_on_late_stop<L: ThreadLedger>(
     alloc: Global,
     ledger: &L,
 ) -> Result<(Way, Way, Option<Totals>), Memory> {

@@ -4,13 +4,13 @@ ghost use Rattle.std.specs.Prelude.{◌≡◌, ◌<◌, ◌≤◌, ℕ, IfOk, If
 ghost use Rattle.nll_problem.specs.Limits.{most_owners};
 
 use super::two_owners::try_to_leave;
-use nll_ledger::{Ledger, Totals};
+use nll_ledger::{ThreadLedger, Totals};
 use nll_sets::Memory;
 use std::alloc::Global;
 use std::collections::VecDeque;
 
 // Each owner clears its load.
-fn clear_loads<L: Ledger>(book: &L::Book, shares: &mut Vec<L::Share>)
+fn clear_loads<L: ThreadLedger>(book: &L::Book, shares: &mut Vec<L::Share>)
     requires few { vec_len shares.old ≤ most_owners }
     requires shares { (place : ℕ) (share : L.Share) → slice_get shares.old.items place ≡ Some share
         → L.belongs book.now share × (L.number share ≡ place) × (L.cleared share ≡ 0) }
@@ -24,7 +24,7 @@ fn clear_loads<L: Ledger>(book: &L::Book, shares: &mut Vec<L::Share>)
 }
 
 // All leave, in their order; none where one may not.
-fn leave_all<L: Ledger>(
+fn leave_all<L: ThreadLedger>(
     alloc: Global,
     book: &L::Book,
     shares: Vec<L::Share>,
@@ -49,7 +49,7 @@ fn leave_all<L: Ledger>(
 }
 
 /// So many owners clear their loads and leave. Answers what the book tells where all did.
-pub fn all_leave<L: Ledger>(
+pub fn all_leave<L: ThreadLedger>(
     alloc: Global,
     ledger: &L,
     owners: u16,

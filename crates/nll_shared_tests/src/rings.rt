@@ -1,16 +1,16 @@
 //! What holds of rings alone: their places, and the room that a sender knows of.
 ghost use Rattle.std.specs.Prelude.{◌≡◌, ◌+◌, ◌<◌, ◌≤◌, ◌++◌, [], ◌∷◌, length, IsTrue};
-ghost use Rattle.nll_mail.specs.Rings.{sent_by};
-ghost use Rattle.nll_problem.specs.Limits.{most_posts};
+ghost use Rattle.mail.specs.Rings.{sent_by};
+ghost use Rattle.mail.specs.Limits.{most_posts};
 
 use super::exchange::numbered;
-use nll_mail::{Growth, Mail, PostError, RingMail, RingSender};
+use nll_mail::{Growth, PostError, RingMail, RingSender, ThreadMail};
 use nll_sets::Memory;
 use std::alloc::Global;
 use std::test::Fail;
 
 // Posts a growth where there is room, which then succeeds. Answers whether there was.
-fn post_into_room(sender: &mut RingSender, growth: Growth) -> bool
+fn post_into_room(sender: &mut RingSender<Growth>, growth: Growth) -> bool
     requires { length (sent_by sender.old) < most_posts }
     ensures { IsTrue result → sent_by sender.new ≡ sent_by sender.old ++ growth ∷ [] }
 {
@@ -24,7 +24,7 @@ fn post_into_room(sender: &mut RingSender, growth: Growth) -> bool
 }
 
 // Posts a growth. Answers the error, if there is one.
-fn post_one<M: Mail>(sender: &mut M::S, growth: Growth) -> Option<PostError>
+fn post_one<M: ThreadMail<Growth>>(sender: &mut M::S, growth: Growth) -> Option<PostError<Growth>>
     requires { length (M.sent sender.old) < 1000 }
     ensures few { length (M.sent sender.new) ≤ length (M.sent sender.old) + 1 }
     ensures pair { (receiver : M.R) → M.pairs sender.old receiver → M.pairs sender.new receiver }
@@ -33,7 +33,7 @@ fn post_one<M: Mail>(sender: &mut M::S, growth: Growth) -> Option<PostError>
 }
 
 // Posts this many growths. Answers whether all were accepted.
-fn post_many<M: Mail>(sender: &mut M::S, growths: u64) -> bool
+fn post_many<M: ThreadMail<Growth>>(sender: &mut M::S, growths: u64) -> bool
     requires { (length (M.sent sender.old) < 1) × (growths < 1000) }
     ensures few { length (M.sent sender.new) ≤ growths }
     ensures pair { (receiver : M.R) → M.pairs sender.old receiver → M.pairs sender.new receiver }
@@ -54,15 +54,15 @@ struct Told {
     /// Whether 256 posts were accepted.
     accepted: bool,
     /// What one more answers.
-    refused: Option<PostError>,
+    refused: Option<PostError<Growth>>,
     /// The room then.
     left: usize,
     /// What a take gives then.
     taken: Option<Growth>,
     /// Why the next post is refused, if it is.
-    posted: Option<PostError>,
+    posted: Option<PostError<Growth>>,
     /// What one more answers.
-    full: Option<PostError>,
+    full: Option<PostError<Growth>>,
     /// What a take gives then.
     next: Option<Growth>,
     /// Whether there is room for a post then, which succeeds.

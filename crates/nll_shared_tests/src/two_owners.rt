@@ -1,9 +1,9 @@
 //! Calls of two owners, in one thread.
 
 ghost use Rattle.std.specs.Prelude.{◌≡◌, ◌+◌, ◌<◌, IfOk, IfSome};
-ghost use Rattle.nll_ledger.specs.Amounts.{total_bound};
+ghost use Rattle.ledger.specs.Amounts.{total_bound};
 
-use nll_ledger::{Leave, Ledger, Totals};
+use nll_ledger::{Leave, ThreadLedger, Totals};
 use nll_sets::Memory;
 use std::alloc::Global;
 
@@ -19,7 +19,7 @@ pub enum Way {
 }
 
 /// A new book of two owners, and their shares.
-pub fn open_two<L: Ledger>(
+pub fn open_two<L: ThreadLedger>(
     alloc: Global,
     ledger: &L,
 ) -> Result<(L::Book, L::Share, L::Share), Memory>
@@ -40,7 +40,7 @@ pub fn open_two<L: Ledger>(
 }
 
 /// Leaves, if it may. Answers how, what is left of the share, and the share that came back.
-pub fn try_to_leave<L: Ledger>(
+pub fn try_to_leave<L: ThreadLedger>(
     book: &L::Book,
     share: L::Share,
 ) -> (Way, Option<L::Left>, Option<L::Share>)
@@ -59,7 +59,7 @@ pub fn try_to_leave<L: Ledger>(
 }
 
 /// What the book tells where both have left.
-pub fn gather_two<L: Ledger>(
+pub fn gather_two<L: ThreadLedger>(
     alloc: Global,
     book: L::Book,
     first: L::Left,
@@ -77,7 +77,7 @@ pub fn gather_two<L: Ledger>(
 
 /// The first owner owes 3 and clears its load; the second clears its load, and would leave. Answers
 /// how it left, and the share that came back.
-pub fn owe_and_stay<L: Ledger>(
+pub fn owe_and_stay<L: ThreadLedger>(
     book: &L::Book,
     first: &mut L::Share,
     second: L::Share,
@@ -99,7 +99,7 @@ pub fn owe_and_stay<L: Ledger>(
 
 /// Both leave, the second first. Answers how each of them left, and what the book tells where both
 /// did.
-pub fn leave_both<L: Ledger>(
+pub fn leave_both<L: ThreadLedger>(
     alloc: Global,
     book: L::Book,
     first: L::Share,
@@ -120,7 +120,7 @@ pub fn leave_both<L: Ledger>(
 
 /// The second looks, the first stops all, and the second looks again. Answers what it found before
 /// and then.
-pub fn stop_and_look<L: Ledger>(
+pub fn stop_and_look<L: ThreadLedger>(
     book: &L::Book,
     first: &mut L::Share,
     second: &mut L::Share,

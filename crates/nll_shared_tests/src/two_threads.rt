@@ -3,7 +3,7 @@
 ghost use Rattle.std.specs.Prelude.{◌≡◌, ◌<◌, ◌≤◌, IfOk, IfSome};
 
 use super::two_owners::{Way, gather_two, open_two, try_to_leave};
-use nll_ledger::{Ledger, Totals};
+use nll_ledger::{ThreadLedger, Totals};
 use nll_sets::Memory;
 use std::alloc::Global;
 use std::sync::Wait;
@@ -11,7 +11,11 @@ use std::thread;
 use std::thread::Threads;
 
 // Leaves as soon as it may.
-fn leave_late<L: Ledger, R: Wait>(rt: &R, book: &L::Book, share: L::Share) -> (Way, Option<L::Left>)
+fn leave_late<L: ThreadLedger, R: Wait>(
+    rt: &R,
+    book: &L::Book,
+    share: L::Share,
+) -> (Way, Option<L::Left>)
     requires { L.belongs book.now share }
     ensures { IfSome result.1 (λ left. L.left_belongs book.now left
         × (L.left_number left ≡ L.number share)) }
@@ -32,7 +36,7 @@ fn leave_late<L: Ledger, R: Wait>(rt: &R, book: &L::Book, share: L::Share) -> (W
 }
 
 // Owes so often 1 and clears it, clears its load, and leaves.
-fn owe_often<L: Ledger, R: Wait>(
+fn owe_often<L: ThreadLedger, R: Wait>(
     rt: &R,
     book: &L::Book,
     share: L::Share,
@@ -53,7 +57,7 @@ fn owe_often<L: Ledger, R: Wait>(
 }
 
 // Looks until all are to stop, and leaves.
-fn wait_for_stop<L: Ledger, R: Wait>(
+fn wait_for_stop<L: ThreadLedger, R: Wait>(
     rt: &R,
     book: &L::Book,
     share: L::Share,
@@ -73,7 +77,11 @@ fn wait_for_stop<L: Ledger, R: Wait>(
 }
 
 // Stops all, and leaves.
-fn stop_all<L: Ledger, R: Wait>(rt: &R, book: &L::Book, share: L::Share) -> (Way, Option<L::Left>)
+fn stop_all<L: ThreadLedger, R: Wait>(
+    rt: &R,
+    book: &L::Book,
+    share: L::Share,
+) -> (Way, Option<L::Left>)
     requires { L.belongs book.now share }
     ensures { IfSome result.1 (λ left. L.left_belongs book.now left
         × (L.left_number left ≡ L.number share)) }
@@ -84,7 +92,7 @@ fn stop_all<L: Ledger, R: Wait>(rt: &R, book: &L::Book, share: L::Share) -> (Way
 }
 
 // How both left, and what the book tells where both did.
-fn told_of<L: Ledger>(
+fn told_of<L: ThreadLedger>(
     alloc: Global,
     book: L::Book,
     first: (Way, Option<L::Left>),
@@ -107,7 +115,7 @@ fn told_of<L: Ledger>(
 
 /// Two owners, each in a thread, owe so often 1 and clear it, and leave. Answers how each of them
 /// left, and what the book tells where both did.
-pub fn owe_in_two_threads<L: Ledger, R: Threads + Wait + Sync>(
+pub fn owe_in_two_threads<L: ThreadLedger, R: Threads + Wait + Sync>(
     rt: &R,
     alloc: Global,
     ledger: &L,
@@ -133,7 +141,7 @@ pub fn owe_in_two_threads<L: Ledger, R: Threads + Wait + Sync>(
 
 /// Of two owners, each in a thread, the first stops all and the second waits for that. Answers how
 /// each of them left, and what the book tells where both did.
-pub fn stop_in_two_threads<L: Ledger, R: Threads + Wait + Sync>(
+pub fn stop_in_two_threads<L: ThreadLedger, R: Threads + Wait + Sync>(
     rt: &R,
     alloc: Global,
     ledger: &L,

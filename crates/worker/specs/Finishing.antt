@@ -49,7 +49,7 @@ WasMade _ = Unit {0}
 abbrev pub FinishedAs : {A F G Y : Type 0} → Rules A F G → (A → ℕ → List G → Y → Type 0) → A
     → ℕ → (ℕ → List G) → (ℕ → List G) → ℕ → ℕ → Ending → List G → Y
     → Type 0
-FinishedAs rules yields a i sent got owed cleared ending log yielded =
+FinishedAs {A} {F} {G} rules yields a i sent got owed cleared ending log yielded =
     (o : State A G) × (o.log ≡ log) × Finishes rules a i o sent got owed cleared ending
     × yields a i log yielded
 

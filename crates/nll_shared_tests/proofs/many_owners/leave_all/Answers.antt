@@ -1,5 +1,5 @@
 use Rattle.std.proofs.Common.{◌≡◌, ◌+◌, suc, List, IfSome, slice_get, Some, vec_len, ap, ◌∙◌, subst, arith, rules}
-use Rattle.nll_ledger.proofs.ShareLemmas.{each_pushed}
+use Rattle.ledger.proofs.ShareLemmas.{each_pushed}
 use Rattle.nll_shared_tests.proofs.many_owners.leave_all.Goals as goal
 
 pub loop-share-init : goal.loop-share-init

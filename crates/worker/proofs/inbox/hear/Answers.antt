@@ -49,13 +49,13 @@ looks_in rules j old new before after gs Memory e h = (e, h)
 pub hand_in-requires-clause-passes : goal.hand_in-requires-clause-passes
 hand_in-requires-clause-passes g c = λ h at.
     c.take_batch.ensures.passes c.if-not-take_batch.false h
-    (subst (λ (xs : List (Growth _)). Contains xs h) c.deref.ensures.value at)
+    (subst (λ (xs : List _). Contains xs h) c.deref.ensures.value at)
 
 pub returns-clause-hears : goal.returns-clause-hears
 returns-clause-hears g c =
     looks_in g.A.Rules.rules c.args.from (g.A.Analysis.state c.args.part.now)
     (g.A.Analysis.state c.hand_in.new.part) _ _ c.take_batch.new.batch.items c.hand_in.result
     c.take_batch.ensures.taken
-    (subst (λ (gs : List (Growth _)). HandsIn g.A.Rules.rules c.args.from (g.A.Analysis.state c.args.part.now)
+    (subst (λ (gs : List _). HandsIn g.A.Rules.rules c.args.from (g.A.Analysis.state c.args.part.now)
     (g.A.Analysis.state c.hand_in.new.part) gs c.hand_in.result)
     c.deref.ensures.value c.hand_in.ensures)

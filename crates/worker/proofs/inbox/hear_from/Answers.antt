@@ -21,8 +21,8 @@ returns-clause-few g c =
     let xs = c.args.inbox.now.receivers.items in let lt : c.args.from < length xs = search rules in
     let f = (through g.M.Mail.received) in
     λ small.
-    subst (λ (l : List (Growth _)). length l ≤ 2 ^ 37) (sym (read_set f xs c.args.from c.hear_if.new.receiver [] lt))
-    (c.hear_if.ensures.few (subst (λ (l : List (Growth _)). length l ≤ 2 ^ 37)
+    subst (λ (l : List _). length l ≤ 2 ^ 37) (sym (read_set f xs c.args.from c.hear_if.new.receiver [] lt))
+    (c.hear_if.ensures.few (subst (λ (l : List _). length l ≤ 2 ^ 37)
     (map_read f xs c.args.from c.index_mut.result.now [] lt c.index_mut.ensures.value) small))
 
 pub returns-clause-others : goal.returns-clause-others

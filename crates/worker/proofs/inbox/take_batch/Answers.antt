@@ -15,7 +15,7 @@ loop-receiver-init g c =
       passes = λ h at.
           absurd {A = Passes g.A.Rules.rules (g.A.Analysis.state c.args.part.now).system
           (g.A.Analysis.state c.args.part.now).me c.args.from h}
-          (omega (arith, (subst (λ (xs : List (Growth _)). Contains xs h) c.requires.empty at).1));
+          (omega (arith, (subst (λ (xs : List _). Contains xs h) c.requires.empty at).1));
       few = λ small. small;
       pair = λ s p. p;
       closed = λ s p. p;
@@ -27,7 +27,7 @@ returns-in-None-clause-taken g c = c.in-None.ensures.none ∙ c.loop-receiver.in
 
 pub returns-in-None-clause-few : goal.returns-in-None-clause-few
 returns-in-None-clause-few g c = λ small.
-    subst (λ (xs : List (Growth _)). length xs ≤ 2 ^ 37) (sym c.in-None.ensures.none)
+    subst (λ (xs : List _). length xs ≤ 2 ^ 37) (sym c.in-None.ensures.none)
     (c.loop-receiver.invariant.few small)
 
 pub returns-in-None-clause-pair : goal.returns-in-None-clause-pair
@@ -65,9 +65,9 @@ loop-receiver-preserved g c =
           c.loop-receiver.invariant.taken c.in-Some.ensures.some c.push_reserved.ensures.items;
       passes = λ h at. ⊎_elim
           (λ before. was.passes h before)
-          (λ is. subst (λ (x : Growth _). Passes g.A.Rules.rules o.system o.me c.args.from x) is passes)
+          (λ is. subst (λ (x : _). Passes g.A.Rules.rules o.system o.me c.args.from x) is passes)
           (Contains-push_cases c.loop-receiver.batch.items c.in-Some.growth h
-          (subst (λ (xs : List (Growth _)). Contains xs h) c.push_reserved.ensures.items at));
+          (subst (λ (xs : List _). Contains xs h) c.push_reserved.ensures.items at));
       few = λ small.
           let was = g.M.Mail.received c.loop-receiver.receiver in
           let one = length-append was (c.in-Some.growth ∷ []) in
@@ -80,7 +80,7 @@ loop-receiver-preserved g c =
 pub returns-then-not-passes-clause-stray : goal.returns-then-not-passes-clause-stray
 returns-then-not-passes-clause-stray g c = λ _. (
   c.in-Some.growth,
-  subst (λ (xs : List (Growth _)). Contains xs c.in-Some.growth) (sym c.push_reserved.ensures.items)
+  subst (λ (xs : List _). Contains xs c.in-Some.growth) (sym c.push_reserved.ensures.items)
       (Contains-append_right c.loop-receiver.batch.items (c.in-Some.growth ∷ []) c.in-Some.growth (
         0,
         omega arith,

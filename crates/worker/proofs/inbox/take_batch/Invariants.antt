@@ -9,7 +9,7 @@ invariant-loop-receiver g l = record {
   room : l.most ≤ vec_capacity l.batch;
   many : length l.batch.items ≤ l.most;
   taken : g.M.Mail.received l.receiver ≡ g.M.Mail.received l.fn.receiver ++ l.batch.items;
-  passes : (h : Growth _) → Contains l.batch.items h → Passes g.A.Rules.rules (g.A.Analysis.state l.part).system
+  passes : (h : _) → Contains l.batch.items h → Passes g.A.Rules.rules (g.A.Analysis.state l.part).system
       (g.A.Analysis.state l.part).me l.from h;
   few : length (g.M.Mail.received l.fn.receiver) ≤ most_posts → length (g.M.Mail.received l.receiver) ≤ most_posts;
   pair : (s : _) → g.M.Mail.pairs s l.fn.receiver → g.M.Mail.pairs s l.receiver;

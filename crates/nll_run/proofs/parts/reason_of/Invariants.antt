@@ -1,6 +1,0 @@
-use Rattle.std.proofs.Common.{map}
-use Rattle.nll_run.proofs.ReasonLemmas.{IsReasonSoFar}
-use Rattle.nll_run.proofs.parts.reason_of.Given as goal
-
-abbrev pub invariant-loop-done : goal.invariant-loop-done
-invariant-loop-done g l = IsReasonSoFar (map (λ d. d.ending) l.finished) l.done-index l.reason

@@ -1,9 +1,0 @@
-pub mod SumLemmas
-pub mod RunLemmas
-pub mod ListLemmas
-pub mod TallyLemmas
-pub mod PostLemmas
-pub mod TurnLemmas
-pub mod FinishLemmas
-pub mod JoiningLemmas
-pub mod StartLemmas

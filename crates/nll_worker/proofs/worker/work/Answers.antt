@@ -1,4 +1,0 @@
-use Rattle.nll_worker.proofs.worker.work.Goals as goal
-
-pub returns-in-Err-clause-ended : goal.returns-in-Err-clause-ended
-returns-in-Err-clause-ended g c = c.call_off.ensures.ended c.args.problem.now c.args.cut.now

@@ -1,7 +1,0 @@
-pub mod Sums
-pub mod Mailboxes
-pub mod Hearing
-pub mod Tallies
-pub mod Turning
-pub mod Finishing
-pub mod Starting
