@@ -41,7 +41,8 @@ module _ {A F G : Type 0} (rules : Rules A F G) where
         → rules.rank g < rank → tells_before rules rank list f ≡ true
     before_to rank list f g at is low =
         any_to (λ (g : G). rules.same (rules.fact g) f && nat_lt (rules.rank g) rank) list g at
-        (and_both (rules.same (rules.fact g) f) (nat_lt (rules.rank g) rank) ((same (rules.fact g) f).1 is) (lt_to (rules.rank g) rank low))
+        (and_both (rules.same (rules.fact g) f) (nat_lt (rules.rank g) rank) ((same (rules.fact g) f).1 is)
+        (lt_to (rules.rank g) rank low))
       where
         lt_to : (m n : ℕ) → m < n → nat_lt m n ≡ true
         lt_to m n h = search (arith)

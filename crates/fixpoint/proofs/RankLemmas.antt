@@ -39,7 +39,8 @@ module _ {A F G : Type 0} (rules : Rules A F G) (lawful : AreLawful rules) (a : 
       ((sound i low).well_formed.own g at ∙ numbers i low)
 
   proper_at : (g : G) → IsLogged g → rules.proper a (rules.fact g)
-  proper_at g (i, low, at) = subst (λ (x : A). rules.proper x (rules.fact g)) (systems i low) ((sound i low).proper g at)
+  proper_at g (i, low, at) =
+      subst (λ (x : A). rules.proper x (rules.fact g)) (systems i low) ((sound i low).proper g at)
 
   -- growths of different ranks are of different facts, whichever logs they stand in
   apart : (g h : G) → IsLogged g → IsLogged h → rules.rank h < rules.rank g → rules.fact g ≡ rules.fact h → ⊥
@@ -51,7 +52,8 @@ module _ {A F G : Type 0} (rules : Rules A F G) (lawful : AreLawful rules) (a : 
       (λ (is : g ≡ h). let e = ap (λ (x : G). rules.rank x) is in omega (arith, e, lower))
       (⊎_elim (λ (differ : (rules.fact g) ≡ rules.fact h → ⊥). absurd (differ same))
       (λ (differ : (rules.fact h) ≡ rules.fact g → ⊥). absurd (differ (sym same))))
-      (pair_cases (λ (x y : G). rules.fact x ≡ rules.fact y → ⊥) (part i).log g h (sound i li).well_formed.once here with_it)
+      (pair_cases (λ (x y : G). rules.fact x ≡ rules.fact y → ⊥) (part i).log g h (sound i li).well_formed.once here
+      with_it)
 
   -- what an owner received is of another owner, and of one that there is
   pub of_another : (i j : ℕ) (h : G) → i < rules.parts a → Contains (received_from (part i) j) h → i ≢ j

@@ -112,7 +112,8 @@ module _ {A F G : Type 0} (rules : Rules A F G) (lawful : AreLawful rules) (a : 
           (λ f. tells_before rules (rules.rank g) (list_of rules a i (log_of logs i) (told i) f) f) (rules.fact g)
           (λ f sees t. subst (λ xs. IsTrue (tells_before rules (rules.rank g) xs f))
           (list_is i l f (seen_owned i f l (subst (λ k. Sees rules a k f) own sees))) t)
-          (subst (λ (x : A). rules.derives x (λ f. tells_before rules (rules.rank g) (list_in rules (state i) f) f) (rules.fact g))
+          (subst (λ (x : A).
+          rules.derives x (λ f. tells_before rules (rules.rank g) (list_in rules (state i) f) f) (rules.fact g))
           (ends i l).system
           ((ends i l).sound.supported g (subst (λ xs. Contains xs g) (log_is i l) h)));
       heard = λ i j li lj differ g h. (filter_from _ (log_of logs j) g h).0;

@@ -72,7 +72,8 @@ module _ {A F G : Type 0} (rules : Rules A F G) where
     pub senders : length o.received ≡ rules.parts o.system
     pub heard :
         (j : ℕ) (g : G) → Contains (received_from o j) g
-        → (rules.owner o.system (rules.fact g) ≡ j) × (rules.reads o.system o.me (rules.fact g) ≡ true)
+        → (rules.owner o.system (rules.fact g) ≡ j)
+        × (rules.reads o.system o.me (rules.fact g) ≡ true)
     -- each rank of its own is one above that of another growth
     pub steps :
         (g : G) → Contains o.log g → 1 < rules.rank g

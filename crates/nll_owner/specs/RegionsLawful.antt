@@ -26,10 +26,12 @@ sees : (a : System) (k : Constraint) (e : ℕ) → Contains a.problem.constraint
     → Sees rules a (owner_of a.cut k.sup) (fact_of k.sub e)
 sees a k e there = ⊎_elim
     inl
-    (λ other. inr ((reads_tells a.problem a.cut (owner_of a.cut k.sup) k.sub).1 (other, (k, there, refl, refl))))
+    (λ other. inr ((reads_tells a.problem a.cut (owner_of a.cut k.sup) k.sub).1
+    (other, (k, there, refl, refl))))
     (cases_eq (owner_of a.cut k.sub) (owner_of a.cut k.sup))
 
-owned_region : (a : System) → IsValid a → (r : ℕ) → r < a.problem.regions → owner_of a.cut r < a.cut.owners
+owned_region : (a : System) → IsValid a → (r : ℕ) → r < a.problem.regions
+    → owner_of a.cut r < a.cut.owners
 owned_region a ok r low = ok.1.cut.owned r (subst (λ n. r < n) (sym ok.1.regions) low)
 
 base_region : (a : System) → IsValid a → (r e : ℕ) → IsBase a.problem r e → r < a.problem.regions
@@ -54,13 +56,15 @@ number f = f.region * 1048832 + f.element
 abbrev number_count : ℕ
 number_count = 68736253952
 
-proper_low : (a : System) → IsValid a → (f : Fact) → rules.proper a f → (f.region < 65536) × (f.element < 1048832)
+proper_low : (a : System) → IsValid a → (f : Fact) → rules.proper a f
+    → (f.region < 65536) × (f.element < 1048832)
 proper_low a ok f proper = (
   omega (arith, proper.0, ok.0.region_limit),
   omega (arith, proper.1, ok.0.graph.point_limit, ok.0.graph.universal_limit),
 )
 
-number_tells : (f g : Fact) → f.element < 1048832 → g.element < 1048832 → number f ≡ number g → f ≡ g
+number_tells : (f g : Fact) → f.element < 1048832 → g.element < 1048832
+    → number f ≡ number g → f ≡ g
 number_tells f g low low' same =
     let region : f.region ≡ g.region = omega (arith, low, low', same) in
     one f g region (omega (arith, region, same))
@@ -87,7 +91,8 @@ few_facts a ok facts different =
         let li : i < length facts = omega (arith, before, lj) in
         different.once i j first before lj
         (number_tells (get_or facts i first) (get_or facts j first) (low_at i li).1 (low_at j lj).1
-        (sym (get_or-map number facts i first d li) ∙ (same ∙ get_or-map number facts j first d lj)))
+        (sym (get_or-map number facts i first d li)
+        ∙ (same ∙ get_or-map number facts j first d lj)))
 
     each : (n : ℕ) → Contains (map number facts) n → n < number_count
     each n (k, inside, is) =
@@ -108,7 +113,8 @@ regions_lawful = record {
         w.2,
         asked_weaker a.problem.graph _ w.0.at (λ e. IsTrue (more (fact_of w.0.sub e)))
             (λ e t. each (fact_of w.0.sub e)
-            (subst (λ r. Sees rules a (owner_of a.cut r) (fact_of w.0.sub e)) w.2 (sees a w.0 e w.1)) t)
+            (subst (λ r. Sees rules a (owner_of a.cut r) (fact_of w.0.sub e)) w.2
+            (sees a w.0 e w.1)) t)
             f.element w.3,
       ))
       h;
@@ -127,6 +133,7 @@ regions_lawful = record {
   same_tells = λ f g. (
     (λ h. let b = both (eqb f.region g.region) (eqb f.element g.element) h in
         one f g (eqb-true _ _ b.0) (eqb-true _ _ b.1)),
-    (λ is. and_both _ _ (eq-eqb _ _ (ap (λ (x : Fact). x.region) is)) (eq-eqb _ _ (ap (λ (x : Fact). x.element) is))),
+    (λ is. and_both _ _ (eq-eqb _ _ (ap (λ (x : Fact). x.region) is))
+        (eq-eqb _ _ (ap (λ (x : Fact). x.element) is))),
   );
 }

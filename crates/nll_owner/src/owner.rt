@@ -14,7 +14,7 @@ ghost use Rattle.nll_owner.specs.Logs.{IsPrefix, IsTold};
 ghost use Rattle.nll_owner.specs.Owner.{IsSound, IsDone, IsReady, Has, Passes, part_for, given_to};
 ghost use Rattle.nll_owner.specs.Owner.{received_from, with_growth, with_growths, GotBeginning};
 ghost use Rattle.nll_owner.specs.Owner.{first_owner};
-ghost use Rattle.std.specs.Cow.{cow_value};
+ghost use Rattle.nll_owner.specs.Held.{held};
 ghost use Rattle.nll_owner.specs.Tables.{AreTables};
 ghost use Rattle.nll_owner.specs.Keeping.{Grows, IsClosed};
 ghost use Rattle.nll_owner.specs.Following.{IsFollowing, Nothing};
@@ -26,7 +26,7 @@ use crate::holding::Holding;
 use crate::knowledge::Knowledge;
 use crate::outboxes::Outboxes;
 use crate::slots::Slots;
-use crate::tables::Tables;
+use crate::tables::{HeldTables, Tables};
 use fixpoint::PartError;
 use nll_core::Steps;
 use nll_cut::Cut;
@@ -34,7 +34,6 @@ use nll_mail::Growth;
 use nll_problem::{Problem, RegionId};
 use nll_sets::{Element, Memory, RunSet};
 use std::alloc::Global;
-use std::borrow::Cow;
 use std::marker::Model;
 
 /// How many growths an owner has grown, given and received. A number that is too large for its type
@@ -61,7 +60,7 @@ pub struct Counts {
 /// RFC 2094, "Solving constraints"; that the regions are assigned to owners is project's choice.
 #[derive(Drop)]
 pub struct Owner<'q> {
-    tables: Cow<'q, Tables>,
+    tables: HeldTables<'q>,
     knowledge: Knowledge<'q>,
     // Nothing is known of these two once a call was refused.
     following: Following,
@@ -70,9 +69,9 @@ pub struct Owner<'q> {
 
 impl<'q> Model for Owner<'q> {
     ghost use Rattle.std.specs.Prelude.{◌≡◌, false};
-    ghost use Rattle.std.specs.Cow.{cow_value};
     ghost use Rattle.nll_owner.specs.Owner as spec;
     ghost use Rattle.nll_owner.specs.Tables.{AreTables};
+    ghost use Rattle.nll_owner.specs.Held.{held};
     ghost use Rattle.nll_owner.specs.Following.{IsFollowing, Nothing};
     ghost use Rattle.nll_owner.specs.Outboxes.{AreAllQueued};
 
@@ -81,7 +80,7 @@ impl<'q> Model for Owner<'q> {
     ghost view = { λ o. o.knowledge };
 
     ghost invariant = { λ o. spec.IsSound o.knowledge
-        × AreTables o.knowledge.problem o.knowledge.cut (cow_value o.tables)
+        × AreTables o.knowledge.problem o.knowledge.cut (held o.tables)
         × (o.knowledge.broken ≡ false → IsFollowing Nothing o.knowledge o.following
         × AreAllQueued o.knowledge o.outboxes) };
 }
@@ -105,7 +104,7 @@ impl<'q> Owner<'q> {
         ensures { IfOk result (λ o. o ≡ first_owner problem.now cut.now me) }
     {
         match Tables::of(alloc, problem, cut) {
-            Ok(tables) => Owner::of_tables(alloc, problem, cut, Cow::Owned(tables), me),
+            Ok(tables) => Owner::of_tables(alloc, problem, cut, HeldTables::Own(tables), me),
             Err(error) => Err(error),
         }
     }
@@ -126,7 +125,7 @@ impl<'q> Owner<'q> {
         requires me { me < cut.now.owners }
         ensures { IfOk result (λ o. o ≡ first_owner problem.now cut.now me) }
     {
-        Owner::of_tables(alloc, problem, cut, Cow::Borrowed(tables), me)
+        Owner::of_tables(alloc, problem, cut, HeldTables::Lent(tables), me)
     }
 
     // An owner that has done nothing yet, on these tables.
@@ -134,15 +133,15 @@ impl<'q> Owner<'q> {
         alloc: Global,
         problem: &'q Problem,
         cut: &'q Cut,
-        tables: Cow<'q, Tables>,
+        tables: HeldTables<'q>,
         me: u16,
     ) -> Result<Owner<'q>, Memory>
         requires cut { length cut.now.list ≡ problem.now.regions }
-        requires tables { AreTables problem.now cut.now (cow_value tables) }
+        requires tables { AreTables problem.now cut.now (held tables) }
         requires me { me < cut.now.owners }
         ensures { IfOk result (λ o. o ≡ first_owner problem.now cut.now me) }
     {
-        match parts_of(alloc, problem, cut, tables.as_ref(), me) {
+        match parts_of(alloc, problem, cut, tables.get(), me) {
             Ok((knowledge, following, outboxes)) => Ok(Owner {
                 tables,
                 knowledge,
@@ -182,7 +181,7 @@ impl<'q> Owner<'q> {
             &mut self.knowledge,
             &mut self.following,
             &mut self.outboxes,
-            self.tables.as_ref(),
+            self.tables.get(),
         );
         self.knowledge.mark(result.is_ok(), result.is_err());
         result
@@ -258,7 +257,7 @@ impl<'q> Owner<'q> {
             &mut self.knowledge,
             &mut self.following,
             &mut self.outboxes,
-            self.tables.as_ref(),
+            self.tables.get(),
             from,
             growths,
         );

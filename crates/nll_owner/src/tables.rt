@@ -1,6 +1,7 @@
 //! What all owners of a cut look up in a problem.
 
 ghost use Rattle.std.specs.Prelude.{◌≡◌, IfOk, length};
+ghost use Rattle.nll_owner.specs.Held.{held};
 ghost use Rattle.nll_owner.specs.Tables.{AreTables};
 
 use nll_core::Steps;
@@ -55,6 +56,26 @@ impl Tables {
                 readers,
             }),
             Err(error) => Err(error),
+        }
+    }
+}
+
+/// The tables of an owner: its own, or ones that it borrows. Threads may share them, and take them
+/// over, which the kit doesn't prove of a `Cow`.
+#[derive(Drop)]
+pub(crate) enum HeldTables<'q> {
+    Own(Tables),
+    Lent(&'q Tables),
+}
+
+impl<'q> HeldTables<'q> {
+    /// The tables.
+    pub(crate) fn get(&self) -> &Tables
+        ensures { result.now ≡ held self.now }
+    {
+        match self {
+            HeldTables::Own(tables) => tables,
+            HeldTables::Lent(tables) => tables,
         }
     }
 }

@@ -1,5 +1,5 @@
 -- The outcome of a run of the regions' parts, in the words of regions.
-use Rattle.std.proofs.Common.{◌≡◌, ◌↔◌, ℕ, ◌<◌, Bool, List, Some, length, slice_get, slice_index_or, get_or, sym, subst, arith}
+use Rattle.std.proofs.Common.{◌≡◌, ◌↔◌, ℕ, ◌<◌, Bool, List, [], Result, Ok, Err, IfOk, Some, length, slice_get, slice_index_or, get_or, sym, subst, arith}
 use Rattle.std.proofs.lemmas.Option.{slice_get-get_or}
 use Rattle.mail.specs.declared.mail.Mail as Mail
 use Rattle.run.specs.Outcome as generic
@@ -56,3 +56,8 @@ module _ {M S R C P : Type 0} (mail : Mail.Ghosts M Growth S R C P) (q : Problem
     );
     logged = say_least;
   }
+
+-- what is true is true of what an Ok holds
+pub if_ok : {T E : Type 0} {P : Type 0} (r : Result T E) → P → IfOk r (λ _. P)
+if_ok (Ok x) p = p
+if_ok (Err e) p = tt

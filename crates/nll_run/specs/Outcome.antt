@@ -44,8 +44,9 @@ pub record AreRanked (q : Problem) (c : Cut) (grown : List (List Growth)) : Type
 
 -- Each owner received from each other exactly the growths of the regions that it reads, once each
 -- and in the order in which they grew, and none was left in a mailbox. The values are the least.
-pub record IsOutcome {M S R C P : Type 0} (mail : Mail.Ghosts M Growth S R C P) (q : Problem) (c : Cut)
-    (values : List (List Bool)) (grown : List (List Growth)) (posts : List P) : Type 0 where
+pub record IsOutcome {M S R C P : Type 0} (mail : Mail.Ghosts M Growth S R C P) (q : Problem)
+    (c : Cut) (values : List (List Bool)) (grown : List (List Growth)) (posts : List P)
+    : Type 0 where
   -- a settled mailbox for each ordered pair of different owners, and no other, by sender and then
   -- by receiver; the sender's part for the receiver was sent through it, and all of it was received
   pub delivered : AreDelivered mail.post_ends mail.post_sent mail.post_received q c grown posts

@@ -1,6 +1,6 @@
 //! One run, from the problem to its outcome.
 
-ghost use Rattle.std.specs.Prelude.{◌≡◌, ◌<◌, ℕ, Bool, true, length, map, Err, IfOk, OnErr, is_ok};
+ghost use Rattle.std.specs.Prelude.{◌≡◌, ◌<◌, ℕ, Bool, true, length, map, Err, IfOk, Ok, OnErr};
 ghost use Rattle.nll_owner.specs.Logs.{IsCutOf};
 ghost use Rattle.nll_owner.specs.Regions.{Yields, rules, system_of};
 ghost use Rattle.nll_owner.specs.Tables.{AreTables};
@@ -112,8 +112,8 @@ fn conclude<M: ThreadMail<Growth>>(
         o.posts.items) }
     ensures ok { IfOk result (λ o. IsOutcome M.Mail problem.now cut.now o.values
         (map (λ list. list.items) o.grown.items) o.posts.items) }
-    ensures ran { IfOk result (λ _. is_ok ran ≡ true) }
-    ensures thread { result ≡ Err Thread → ran ≡ Err Thread }
+    ensures ran { IfOk result (λ _. (o : _) × (ran.entry ≡ Ok o)) }
+    ensures thread { result ≡ Err Thread → ran.entry ≡ Err Thread }
 {
     match ran {
         Ok(outcome) => assemble::<M>(alloc, problem, cut, outcome),

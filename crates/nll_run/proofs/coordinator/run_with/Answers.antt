@@ -1,0 +1,9 @@
+use Rattle.std.proofs.Common.{rules}
+use denote.Param.Send.{sendable}
+use Rattle.nll_run.proofs.coordinator.run_with.Goals as goal
+
+pub run_with-ran-requires-send-A-Part : goal.run_with-ran-requires-send-A-Part
+run_with-ran-requires-send-A-Part g c κs within = search (sendable, rules)
+
+pub run_with-ran-requires-sync-A : goal.run_with-ran-requires-sync-A
+run_with-ran-requires-sync-A g c κs within = search (sendable, rules)
