@@ -8,9 +8,17 @@ use fixpoint::Rules;
 use nll_sets::Memory;
 use std::alloc::Global;
 
+/// What says whose a fact is.
+pub trait Owners: Rules {
+    /// The owner of a fact.
+    fn owner(&self, fact: &Self::Fact) -> u16
+        requires { Self.rules.proper self.now fact.now }
+        ensures { result ≡ Self.rules.owner self.now fact.now };
+}
+
 /// What says of a new fact which facts of an owner follow. It keeps the known facts of that owner
 /// in a store, in whatever form it looks them up.
-pub trait Engine: Rules {
+pub trait Engine: Owners {
     /// The facts that are known.
     type Store: Drop;
 
@@ -41,11 +49,6 @@ pub trait Engine: Rules {
     /// Whether a fact may come to hold.
     fn is_proper(&self, fact: &Self::Fact) -> bool
         ensures { IsTrue result ↔ Self.rules.proper self.now fact.now };
-
-    /// The owner of a fact.
-    fn owner(&self, fact: &Self::Fact) -> u16
-        requires { Self.rules.proper self.now fact.now }
-        ensures { result ≡ Self.rules.owner self.now fact.now };
 
     /// Whether an owner reads a fact of another.
     fn reads(&self, reader: u16, fact: &Self::Fact) -> bool

@@ -11,10 +11,12 @@ mod hear;
 mod keeper;
 mod keepers;
 mod outboxes;
+mod own;
 mod pursue;
 mod settle;
 
 pub use alone::solve;
-pub use engine::{Engine, ThreadEngine};
+pub use engine::{Engine, Owners, ThreadEngine};
 pub use keeper::Keeper;
 pub use keepers::Keepers;
+pub use own::push_own;

@@ -1,7 +1,6 @@
 //! Which nodes of a graph are reached from its roots: the smallest analysis by keepers.
 //!
-//! Reading order: `graph`, `reach`.
-//! The definitions are in specs/: `Reach`.
+//! Reading order: `graph`, `reach`. The definitions are in specs/: `Reach`.
 #![tactic(auto)]
 
 mod graph;

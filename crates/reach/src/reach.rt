@@ -1,18 +1,16 @@
 //! The engine of a graph, and what its keepers find out.
 
-ghost use Rattle.std.specs.Prelude.{◌≡◌, ◌↔◌, ◌==◌, OnOk, ℕ, List};
+ghost use Rattle.std.specs.Prelude.{◌≡◌, ◌↔◌, ℕ, List};
 ghost use Rattle.std.specs.BTreeSet.{contains};
-ghost use Rattle.std.specs.List.{list_any};
 ghost use Rattle.std.specs.Ordering.{nat_cmp};
 ghost use Rattle.fixpoint.specs.Logs.{AreSound, AreSettled, IsTold, log_of};
-ghost use Rattle.keeper.specs.Engine.{GotOwn};
 ghost use Rattle.reach.specs.Reach.{IsReached, ends, reach_lawful, rules as reach_rules};
 ghost use Rattle.reach.specs.declared.graph.Graph.{Graph as TheGraph};
 ghost use Rattle.fixpoint.specs.declared.growth.Growth.{Growth as TheGrowth};
 
 use crate::graph::Graph;
 use fixpoint::{Growth, Rules};
-use keeper::{Engine, ThreadEngine};
+use keeper::{Engine, Owners, ThreadEngine, push_own};
 use nll_sets::Memory;
 use std::alloc::Global;
 use std::collections::BTreeSet;
@@ -26,6 +24,12 @@ pub fn settled_logs_tell_reached_nodes()
 {}
 
 impl<'q> Graph<'q> {
+    fn roots(&self) -> &[u32]
+        ensures { result.now ≡ self.now.roots.now }
+    {
+        self.roots
+    }
+
     // Where the edges from a node lead.
     fn ends(&self, node: u32) -> &[u32]
         ensures { result.now ≡ ends self.now node }
@@ -34,27 +38,6 @@ impl<'q> Graph<'q> {
             Some(ends) => ends,
             None => &[],
         }
-    }
-
-    // Whether an edge leads from a node to one of an owner.
-    fn leads(&self, from: u32, to: u16) -> bool
-        ensures { result ≡ list_any (λ y. reach_rules.owner self.now y == to) (ends self.now from) }
-    {
-        let owners = self.owners as u32;
-        self.ends(from).iter().any(|end| *end % owners == to as u32)
-    }
-
-    // Appends the nodes of a list that are an owner's.
-    fn push_own(&self, me: u16, nodes: &[u32], found: &mut Vec<u32>) -> Result<(), Memory>
-        ensures { OnOk result (GotOwn reach_rules self.now me nodes.now
-            found.old.items found.new.items) }
-    {
-        for node in nodes {
-            if *node % self.owners as u32 == me as u32 {
-                found.push(*node)?;
-            }
-        }
-        Ok(())
     }
 }
 
@@ -69,6 +52,12 @@ impl<'q> Rules for Graph<'q> {
 
     fn parts(&self) -> u16 {
         self.owners
+    }
+}
+
+impl<'q> Owners for Graph<'q> {
+    fn owner(&self, fact: &u32) -> u16 {
+        (*fact % self.owners as u32) as u16
     }
 }
 
@@ -105,12 +94,9 @@ impl<'q> Engine for Graph<'q> {
         true
     }
 
-    fn owner(&self, fact: &u32) -> u16 {
-        (*fact % self.owners as u32) as u16
-    }
-
     fn reads(&self, reader: u16, fact: &u32) -> bool {
-        *fact % self.owners as u32 != reader as u32 && self.leads(*fact, reader)
+        let (from, owners, reader) = (*fact, self.owners as u32, reader as u32);
+        self.ends(from).iter().any(|end| from % owners != reader && *end % owners == reader)
     }
 
     fn knows(&self, store: &BTreeSet<u32>, fact: &u32) -> bool {
@@ -118,7 +104,8 @@ impl<'q> Engine for Graph<'q> {
     }
 
     fn begin(&self, me: u16, found: &mut Vec<u32>) -> Result<(), Memory> {
-        self.push_own(me, self.roots, found)
+        let roots = self.roots();
+        push_own(self, me, roots, found)
     }
 
     fn enter(
@@ -129,7 +116,8 @@ impl<'q> Engine for Graph<'q> {
         found: &mut Vec<u32>,
     ) -> Result<(), Memory> {
         store.insert(fact)?;
-        self.push_own(me, self.ends(fact), found)
+        let ends = self.ends(fact);
+        push_own(self, me, ends, found)
     }
 }
 

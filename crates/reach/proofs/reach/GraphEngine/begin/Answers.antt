@@ -1,13 +1,11 @@
-use Rattle.std.proofs.Common.{inl, inr, ⊎_elim}
+use Rattle.std.proofs.Common.{inl, ⊎_elim}
 use Rattle.std.proofs.lemmas.Bool.{false≢true}
-use Rattle.keeper.specs.Engine.{nothing}
-use Rattle.keeper.proofs.OwnLemmas.{finds_own}
+use Rattle.keeper.proofs.OwnLemmas.{finds_first}
 use Rattle.reach.specs.Reach.{rules}
 use Rattle.reach.proofs.reach.GraphEngine.begin.Goals as goal
 
 pub returns : goal.returns
 returns c =
-    finds_own rules c.args.self.now c.args.me (nothing rules) (λ _. ⊥) c.args.self.now.roots.now
-    (λ x h. inl h)
-    (λ x. ⊎_elim inr (λ w. absurd (false≢true w.2)))
-    c.push_own.result _ _ c.push_own.ensures
+    finds_first rules c.args.self.now c.args.me c.args.self.now.roots.now
+    (λ x. (⊎_elim (λ h. h) (λ w. absurd (false≢true w.2)), inl))
+    c.push_own.result _ _ (rw c.roots-roots.ensures at c.push_own.ensures)
