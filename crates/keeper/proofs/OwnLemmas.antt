@@ -1,11 +1,12 @@
 -- For those who write an engine: what it finds, that there are few facts, and what the logs tell in the end.
-use Rattle.std.proofs.Common.{◌≡◌, ◌≢◌, ◌⊎◌, ◌↔◌, ◌<◌, ◌≤◌, ℕ, Bool, true, ◌&&◌, ◌||◌, eqb, IsTrue, List, length, Contains, refl, sym, ◌∙◌, inl, inr, ⊎_elim, subst}
+use Rattle.std.proofs.Common.{◌≡◌, ◌≢◌, ◌⊎◌, ◌↔◌, ◌<◌, ◌^◌, ℕ, Bool, true, not, ◌&&◌, ◌||◌, eqb, IsTrue, List, length, Contains, refl, sym, ◌∙◌, inl, inr, ⊎_elim, subst, arith}
 use Rattle.std.specs.Prelude.{Result, Ok, Err, OnOk}
 use Rattle.std.proofs.lemmas.Bool.{eqb-true, eq-eqb, false≢true}
 use Rattle.std.proofs.lemmas.List.Elements.{Contains-append_left, Contains-append_right, Contains-append_cases}
 use Rattle.std.proofs.lemmas.Map.Made.{IsDistinct-from_AllPairs}
 use Rattle.std.proofs.lemmas.Map.Steps.{length-le_from_distinct_below}
 use Rattle.std.proofs.lemmas.Map.Views.{Contains-from_any}
+use Rattle.fixpoint.specs.Limits.{most_growths}
 use Rattle.fixpoint.specs.Rules.{Rules, AreDifferent, AreLawful, Sees, Least}
 use Rattle.fixpoint.specs.Logs.{AreSound, AreSettled, IsTold, log_of}
 use Rattle.fixpoint.proofs.LawLemmas.{each_holds, least_exact, in_range}
@@ -55,12 +56,20 @@ module _ {A F G : Type 0} (rules : Rules A F G) (a : A) (i : ℕ) where
       old new got
   finds_more lawful fact known more facts is each all (Err e) old new got = tt
 
--- different facts are few where they are numbers below n
-pub few_numbers : {A G : Type 0} (rules : Rules A ℕ G) (a : A) (n : ℕ) (facts : List ℕ)
-    → ((x : ℕ) → rules.proper a x → x < n) → AreDifferent rules a facts → length facts ≤ n
-few_numbers rules a n facts low different = length-le_from_distinct_below facts n
+-- ---- laws
+
+-- different facts are few where they are numbers of 32 bits
+pub few_numbers : {A G : Type 0} (rules : Rules A ℕ G) (a : A) → ((x : ℕ) → rules.proper a x → x < 2 ^ 32)
+    → (facts : List ℕ) → AreDifferent rules a facts → length facts < most_growths
+few_numbers rules a low facts different =
+    let short = length-le_from_distinct_below facts (2 ^ 32)
     (IsDistinct-from_AllPairs (λ x y. (eqb-true x y, eq-eqb x y)) facts different.once)
-    (λ x h. low x (different.each x (Contains-from_any eqb-true x facts h)))
+    (λ x h. low x (different.each x (Contains-from_any eqb-true x facts h))) in
+    omega (arith, short)
+
+-- that two numbers differ, said by a test
+pub not_same : (m n : ℕ) → (m ≢ n) ↔ (not (eqb m n) ≡ true)
+not_same m n = (λ differ. grind arith, λ test. grind arith)
 
 -- Settled logs tell exactly the facts of which P holds, if P holds of what follows from facts of which it holds, and only
 -- of the least solution.

@@ -244,11 +244,7 @@ fn answer(told: Result<(), Memory>) -> Result<(), PartError>
 }
 
 // The next growth of what another owner receives.
-fn next_of<E: Engine>(
-    book: &Book<'_, E>,
-    boxes: &Outboxes<E::Growth>,
-    to: u16,
-) -> Option<E::Growth>
+fn next_of<E: Engine>(book: &Book<'_, E>, boxes: &Outboxes<E::Growth>, to: u16) -> Option<E::Growth>
     requires { book.now.broken ≡ false → AreParts E.rules book.now.system book.now.log
         (map (λ list. list.items) boxes.now.lists.items) }
     ensures some { IfSome result (λ growth. (book.now.broken ≡ false)

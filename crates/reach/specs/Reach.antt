@@ -1,15 +1,15 @@
 -- Which nodes of a graph are reached from its roots, and the rules by which owners find it out.
 -- Source: project's choice.
 use Rattle.std.proofs.Common.{◌⊎◌, ◌^◌, ◌%◌, ◌<◌, ◌≤◌, ◌==◌, ◌&&◌, ℕ, not, List, [], map, Contains}
-use Rattle.std.proofs.Common.{◌≡◌, true, IsTrue, slice_index_or, refl, inl, inr, ⊎_elim, arith}
+use Rattle.std.proofs.Common.{IsTrue, slice_index_or, refl, inl, inr, ⊎_elim}
 use Rattle.std.specs.List.{list_any}
 use Rattle.std.proofs.Math.Nat.{mod-lt}
 use Rattle.std.proofs.lemmas.Bool.{eqb-true, eq-eqb, cases_eq}
 use Rattle.fixpoint.specs.Rules.{Rules, AreLawful, Sees}
 use Rattle.fixpoint.specs.declared.growth.Growth.{Growth}
 use Rattle.fixpoint.proofs.ListLemmas.{both, and_both, any_to, any_from}
-use Rattle.keeper.proofs.OwnLemmas.{few_numbers}
-use Rattle.reach.specs.declared.graph.Graph.{Graph}
+use Rattle.keeper.proofs.OwnLemmas.{few_numbers, not_same}
+use Rattle.reach.specs.declared.Graph.{Graph}
 
 -- where the edges from a node lead
 abbrev pub ends : Graph → ℕ → List ℕ
@@ -40,8 +40,8 @@ rules = record {
 -- the owner of a node sees those from which edges lead to it
 sees : (a : Graph) (x y : ℕ) → Contains (ends a x) y → Sees rules a (y % a.owners) x
 sees a x y edge = ⊎_elim inl
-    (λ other. let differ : not (x % a.owners == y % a.owners) ≡ true = grind arith in
-    inr (any_to _ (ends a x) y edge (and_both _ _ differ (eq-eqb _ _ refl))))
+    (λ other. inr (any_to _ (ends a x) y edge
+    (and_both _ _ ((not_same _ _).0 other) (eq-eqb _ _ refl))))
     (cases_eq (x % a.owners) (y % a.owners))
 
 -- the rules keep the laws
@@ -50,10 +50,9 @@ reach_lawful = record {
   local = λ a ok known more y each.
       ⊎_elim inl (λ w. inr (w.0, w.1, each w.0 (sees a w.0 y w.1) w.2));
   owned = λ a ok known y h. mod-lt y ok.0;
-  others = λ a ok i x read. (mod-lt x ok.0,
-      (let h = (both (not (x % a.owners == i)) _ (any_from _ (ends a x) read).2).0 in grind arith));
+  others = λ a ok i x read.
+      (mod-lt x ok.0, (not_same _ i).1 (both _ _ (any_from _ (ends a x) read).2).0);
   few = λ a ok. ok;
-  few_facts = λ a ok facts different.
-      (let low = few_numbers rules a (2 ^ 32) facts (λ x h. h) different in omega (arith, low));
+  few_facts = λ a ok. few_numbers rules a (λ x low. low);
   same_tells = λ x y. (eqb-true x y, eq-eqb x y);
 }

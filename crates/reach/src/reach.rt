@@ -5,10 +5,10 @@ ghost use Rattle.std.specs.BTreeSet.{contains};
 ghost use Rattle.std.specs.Ordering.{nat_cmp};
 ghost use Rattle.fixpoint.specs.Logs.{AreSound, AreSettled, IsTold, log_of};
 ghost use Rattle.reach.specs.Reach.{IsReached, ends, reach_lawful, rules as reach_rules};
-ghost use Rattle.reach.specs.declared.graph.Graph.{Graph as TheGraph};
+ghost use Rattle.reach.specs.declared.Graph.{Graph as TheGraph};
 ghost use Rattle.fixpoint.specs.declared.growth.Growth.{Growth as TheGrowth};
 
-use crate::graph::Graph;
+use crate::Graph;
 use fixpoint::{Growth, Rules};
 use keeper::{Engine, Owners, ThreadEngine, push_own};
 use nll_sets::Memory;
@@ -24,6 +24,7 @@ pub fn settled_logs_tell_reached_nodes()
 {}
 
 impl<'q> Graph<'q> {
+    // The roots. In a call's result they are known to have 32 bits.
     fn roots(&self) -> &[u32]
         ensures { result.now ≡ self.now.roots.now }
     {
@@ -96,7 +97,9 @@ impl<'q> Engine for Graph<'q> {
 
     fn reads(&self, reader: u16, fact: &u32) -> bool {
         let (from, owners, reader) = (*fact, self.owners as u32, reader as u32);
-        self.ends(from).iter().any(|end| from % owners != reader && *end % owners == reader)
+        let ends = self.ends(from);
+        ends.iter()
+            .any(|end| from % owners != reader && *end % owners == reader)
     }
 
     fn knows(&self, store: &BTreeSet<u32>, fact: &u32) -> bool {

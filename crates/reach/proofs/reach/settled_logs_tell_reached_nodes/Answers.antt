@@ -3,7 +3,7 @@ use Rattle.fixpoint.specs.Rules.{Least}
 use Rattle.keeper.proofs.OwnLemmas.{tells_exactly}
 use Rattle.reach.specs.Reach.{IsReached, rules, reach_lawful}
 use Rattle.reach.specs.Reach.IsReached.{root, step}
-use Rattle.reach.specs.declared.graph.Graph.{Graph}
+use Rattle.reach.specs.declared.Graph.{Graph}
 use Rattle.reach.proofs.reach.settled_logs_tell_reached_nodes.Goals as goal
 
 -- what is reached is in the least solution
