@@ -1,7 +1,7 @@
 -- For those who write an engine: what it finds, that there are few facts, and what the logs tell in the end.
 use Rattle.std.proofs.Common.{◌≡◌, ◌≢◌, ◌⊎◌, ◌↔◌, ◌<◌, ◌^◌, ℕ, Bool, true, not, ◌&&◌, ◌||◌, eqb, IsTrue, List, length, Contains, refl, sym, ◌∙◌, inl, inr, ⊎_elim, subst, arith}
 use Rattle.std.specs.Prelude.{Result, Ok, Err, OnOk}
-use Rattle.std.proofs.lemmas.Bool.{eqb-true, eq-eqb, false≢true}
+use Rattle.std.proofs.lemmas.Bool.{eqb-true, eq-eqb}
 use Rattle.std.proofs.lemmas.List.Elements.{Contains-append_left, Contains-append_right, Contains-append_cases}
 use Rattle.std.proofs.lemmas.Map.Made.{IsDistinct-from_AllPairs}
 use Rattle.std.proofs.lemmas.Map.Steps.{length-le_from_distinct_below}
@@ -71,8 +71,8 @@ few_numbers rules a low facts different =
 pub not_same : (m n : ℕ) → (m ≢ n) ↔ (not (eqb m n) ≡ true)
 not_same m n = (λ differ. grind arith, λ test. grind arith)
 
--- Settled logs tell exactly the facts of which P holds, if P holds of what follows from facts of which it holds, and only
--- of the least solution.
+-- Settled logs tell exactly the facts of which P holds, if P holds of what follows from facts of which it holds, and of
+-- nothing but the least solution.
 module _ {A F G : Type 0} (rules : Rules A F G) (lawful : AreLawful rules) (a : A) (ok : rules.valid a)
     (logs : List (List G)) (received : ℕ → ℕ → List G) (sound : AreSound rules a logs received)
     (settled : AreSettled rules a logs received) (P : F → Type 0)

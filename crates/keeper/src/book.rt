@@ -4,7 +4,7 @@ ghost use Rattle.std.specs.Prelude.{◌≡◌, ◌+◌, ◌<◌, ◌≤◌, ◌^
 ghost use Rattle.std.specs.Prelude.{List, [], map, replicate};
 ghost use Rattle.std.specs.declared.vec.Vec.{Vec};
 ghost use Rattle.std.specs.Prelude.{OnOk, OnErr, IfOk, slice_get, slice_set};
-ghost use Rattle.fixpoint.specs.State.{IsSound, Passes, first_state, with_growths, part_for, given_to};
+ghost use Rattle.fixpoint.specs.State.{IsSound, Passes, first_state, part_for, given_to};
 ghost use Rattle.fixpoint.specs.Limits.{most_growths};
 ghost use Rattle.keeper.specs.Engine.{IsFound, with_fact};
 ghost use Rattle.keeper.specs.Keeping.{GrowsBy, has, with_growth};

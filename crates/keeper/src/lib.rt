@@ -1,6 +1,6 @@
 //! Keepers: parts for every engine that says of a new fact which facts follow.
 //!
-//! Reading order: `engine`, `book`, `outboxes`, `settle`, `keeper`.
+//! Reading order: `engine`, `own`, `book`, `outboxes`, `settle`, `keeper`, `keepers`, `alone`.
 //! The definitions are in specs/: `Engine` first.
 #![tactic(auto)]
 

@@ -96,10 +96,10 @@ impl<'q> Engine for Graph<'q> {
     }
 
     fn reads(&self, reader: u16, fact: &u32) -> bool {
-        let (from, owners, reader) = (*fact, self.owners as u32, reader as u32);
-        let ends = self.ends(from);
-        ends.iter()
-            .any(|end| from % owners != reader && *end % owners == reader)
+        let (owners, reader) = (self.owners as u32, reader as u32);
+        let other = *fact % owners != reader;
+        let ends = self.ends(*fact);
+        ends.iter().any(|end| other && *end % owners == reader)
     }
 
     fn knows(&self, store: &BTreeSet<u32>, fact: &u32) -> bool {

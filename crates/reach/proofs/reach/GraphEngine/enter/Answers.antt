@@ -8,9 +8,7 @@ returns-clause-found c =
     let a = c.args.self.now in
     finds_more reach_rules a c.args.me reach_lawful c.args.fact _ _ (ends a c.args.fact) (search rules)
     (λ known here x h. inr (c.args.fact, h, here))
-    (λ known cases x. ⊎_elim
-    (λ r. inl (inl r))
-    (λ w. ⊎_elim
+    (λ known cases x. ⊎_elim (λ r. inl (inl r)) (λ w. ⊎_elim
     (λ same. inr (subst (λ y. Contains (ends a y) x) (sym same) w.1))
     (λ before. inl (inr (w.0, w.1, before)))
     (cases w.0 w.2)))
