@@ -7,12 +7,14 @@
 
 mod exchange;
 mod many_owners;
+mod reached;
 mod settlement;
 mod two_owners;
 mod two_threads;
 
 pub use exchange::through_two_threads;
 pub use many_owners::all_leave;
+pub use reached::first_difference;
 pub use settlement::settle_both;
 pub use two_owners::{Way, leave_both, open_two, owe_and_stay, stop_and_look};
 pub use two_threads::{owe_in_two_threads, stop_in_two_threads};
@@ -27,7 +29,5 @@ mod mail_one_thread;
 mod mail_rounds;
 #[cfg(test)]
 mod messages;
-#[cfg(test)]
-mod reached;
 #[cfg(test)]
 mod rings;

@@ -1,7 +1,9 @@
-//! Reachability by owners in threads, over each pair of mailbox and ledger, and by one keeper alone, beside a plain search.
+//! Reachability by owners in threads, over each pair of mailbox and ledger, and by one keeper
+//! alone, beside a plain search.
 
 ghost use Rattle.std.specs.Prelude.{◌<◌, ◌≤◌};
 
+use fixpoint::Growth;
 use keeper::{Keepers, solve};
 use ledger::{LockLedger, ThreadLedger, WordLedger};
 use mail::{QueueMail, RingMail, ThreadMail};
@@ -10,6 +12,7 @@ use reach::Graph;
 use run::{RunError, run};
 use std::alloc::{AllocError, Global};
 use std::sync::Wait;
+#[cfg(test)]
 use std::test::Fail;
 use std::thread::Threads;
 use worker::NoGate;
@@ -24,16 +27,17 @@ fn next_number(state: &mut u64) -> u32 {
     (*state >> 33) as u32
 }
 
-// Where the edges of a graph lead: of 40 nodes, of which some at the end have no list, and of up to 80 edges.
+// Up to 80 edges between 40 nodes: for each node where they lead, but for some of the last.
 fn random_edges(alloc: Global, state: &mut u64) -> Result<Vec<Vec<u32>>, AllocError> {
     let mut edges = Vec::new(alloc);
-    for _ in 0..1 + next_number(state) % NODES {
+    let with_edges = 1 + next_number(state) % NODES;
+    for _ in 0..with_edges {
         edges.push(Vec::new(alloc))?;
     }
     for _ in 0..next_number(state) % 80 {
+        let from = next_number(state) % with_edges;
         let to = next_number(state) % NODES;
-        let from = next_number(state) as usize % edges.len().max(1);
-        if let Some(ends) = edges.get_mut(from) {
+        if let Some(ends) = edges.get_mut(from as usize) {
             ends.push(to)?;
         }
     }
@@ -61,33 +65,46 @@ fn mark(marks: &mut [bool], node: u32) {
     }
 }
 
+// Marks what the edges of marked nodes lead to, once.
+fn follow(marks: &mut [bool], edges: &[Vec<u32>]) {
+    let mut from = 0u32;
+    for ends in edges {
+        if is_marked(marks, from) {
+            for end in ends {
+                mark(marks, *end);
+            }
+        }
+        from = from.saturating_add(1);
+    }
+}
+
 // Follows each edge as often as there are nodes.
 fn searched(alloc: Global, edges: &[Vec<u32>], root: u32) -> Result<Vec<bool>, AllocError> {
     let mut marks = unmarked(alloc)?;
     mark(marks.as_mut_slice(), root);
     for _ in 0..NODES {
-        for (from, ends) in edges.iter().enumerate() {
-            if is_marked(marks.as_slice(), from as u32) {
-                for end in ends {
-                    mark(marks.as_mut_slice(), *end);
-                }
-            }
-        }
+        follow(marks.as_mut_slice(), edges);
     }
     Ok(marks)
 }
 
 // Which nodes the log of one keeper alone tells.
-fn solved_alone(alloc: Global, graph: &Graph<'_>) -> Result<Vec<bool>, Memory> {
+fn told_alone(alloc: Global, edges: &[Vec<u32>], root: u32) -> Result<Vec<bool>, Memory> {
     let mut marks = unmarked(alloc)?;
-    for growth in &solve(alloc, graph)? {
+    let graph = Graph {
+        edges,
+        roots: &[root],
+        owners: 1,
+    };
+    let log = solve(alloc, &graph)?;
+    for growth in &log {
         mark(marks.as_mut_slice(), growth.fact);
     }
     Ok(marks)
 }
 
 // Which nodes the logs of a run tell.
-fn told<M: ThreadMail<fixpoint::Growth<u32>>, L: ThreadLedger, R: Threads + Wait + Sync>(
+fn told<M: ThreadMail<Growth<u32>>, L: ThreadLedger, R: Threads + Wait + Sync>(
     rt: &R,
     alloc: Global,
     mail: &M,
@@ -104,52 +121,54 @@ fn told<M: ThreadMail<fixpoint::Growth<u32>>, L: ThreadLedger, R: Threads + Wait
     Ok(marks)
 }
 
-// Each graph by another number of owners, 1 to 64.
-#[test]
-fn owners_reach_what_a_search_reaches(rt: HostRuntime) -> Result<(), Fail> {
-    let alloc = rt.alloc();
-    let mut state = 1;
-    for _ in 0..12 {
+/// Answers this many random graphs, each by 1 to 64 owners in threads and by one keeper alone, and
+/// returns the number of the first of which an answer differs from a plain search's, and whose
+/// answer that is.
+///
+/// # Errors
+/// - Those of `run`.
+pub fn first_difference<R: Threads + Wait + Copy + Send + Sync>(
+    rt: &R,
+    alloc: Global,
+    seed: u64,
+    graphs: u32,
+) -> Result<Option<(u32, &'static str)>, RunError> {
+    let queue = QueueMail::new(*rt);
+    let ring = RingMail::new();
+    let lock = LockLedger::new(*rt);
+    let words = WordLedger::new();
+    let mut state = seed;
+    for number in 0..graphs {
         let edges = random_edges(alloc, &mut state)?;
         let root = next_number(&mut state) % NODES;
         let owners = 1 + (next_number(&mut state) % 64) as u16;
-        let roots = [root];
         let wanted = searched(alloc, edges.as_slice(), root)?;
         let graph = Graph {
             edges: edges.as_slice(),
-            roots: &roots,
+            roots: &[root],
             owners,
         };
-        let undivided = Graph {
-            edges: edges.as_slice(),
-            roots: &roots,
-            owners: 1,
-        };
-        let queue = QueueMail::new(rt);
-        let ring = RingMail::new();
-        let lock = LockLedger::new(rt);
-        let words = WordLedger::new();
-        assert_eq!(rt; solved_alone(alloc, &undivided), Ok(wanted.clone()?), "alone");
-        assert_eq!(rt;
-            told(&rt, alloc, &queue, &words, &graph),
-            Ok(wanted.clone()?),
-            "queues, words"
-        );
-        assert_eq!(rt;
-            told(&rt, alloc, &ring, &words, &graph),
-            Ok(wanted.clone()?),
-            "rings, words"
-        );
-        assert_eq!(rt;
-            told(&rt, alloc, &queue, &lock, &graph),
-            Ok(wanted.clone()?),
-            "queues, a lock"
-        );
-        assert_eq!(rt;
-            told(&rt, alloc, &ring, &lock, &graph),
-            Ok(wanted),
-            "rings, a lock"
-        );
+        if told_alone(alloc, edges.as_slice(), root)? != wanted {
+            return Ok(Some((number, "alone")));
+        }
+        if told(rt, alloc, &queue, &words, &graph)? != wanted {
+            return Ok(Some((number, "queues, words")));
+        }
+        if told(rt, alloc, &ring, &words, &graph)? != wanted {
+            return Ok(Some((number, "rings, words")));
+        }
+        if told(rt, alloc, &queue, &lock, &graph)? != wanted {
+            return Ok(Some((number, "queues, a lock")));
+        }
+        if told(rt, alloc, &ring, &lock, &graph)? != wanted {
+            return Ok(Some((number, "rings, a lock")));
+        }
     }
+    Ok(None)
+}
+
+#[test]
+fn owners_reach_what_a_search_reaches(rt: HostRuntime) -> Result<(), Fail> {
+    assert_eq!(rt; first_difference(&rt, rt.alloc(), 1, 12), Ok(None));
     Ok(())
 }
