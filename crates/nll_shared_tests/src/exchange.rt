@@ -3,7 +3,7 @@
 ghost use Rattle.std.specs.Prelude.{◌≡◌, ◌≤◌, ◌++◌, [], IfOk};
 ghost use Rattle.mail.specs.Limits.{most_posts};
 
-use nll_mail::{Growth, PostError, ThreadMail};
+use nll_mail::{Growth, Mail, PostError, ThreadMail};
 use nll_problem::RegionId;
 use nll_sets::{Element, Memory};
 use std::alloc::Global;
@@ -13,18 +13,18 @@ use std::thread;
 use std::thread::Threads;
 
 /// A sender that is closed when it is let go. A thread's closure can hold it.
-pub struct Sending<M: ThreadMail<Growth>> {
+pub struct Sending<M: Mail<Growth>> {
     sender: M::S,
 }
 
-impl<M: ThreadMail<Growth>> Drop for Sending<M> {
+impl<M: Mail<Growth>> Drop for Sending<M> {
     fn drop(self) {
         let Sending { sender } = self;
         drop(M::close(sender));
     }
 }
 
-impl<M: ThreadMail<Growth>> Sending<M> {
+impl<M: Mail<Growth>> Sending<M> {
     // The sender.
     fn out(self) -> M::S
         ensures { result ≡ self.sender }
@@ -45,7 +45,7 @@ pub fn numbered(number: u64) -> Growth {
 
 // Posts growths up to this number of them, and closes the sender. Tries again where the mailbox is
 // full, and gives up where memory is refused.
-fn post_all<M: ThreadMail<Growth>, R: Wait>(
+fn post_all<M: Mail<Growth>, R: Wait>(
     rt: &R,
     sending: Sending<M>,
     growths: u64,
@@ -75,7 +75,7 @@ fn post_all<M: ThreadMail<Growth>, R: Wait>(
 
 // Takes growths until there are so many, or none is left of a sender that gave up. Answers whether
 // they came in order.
-fn take_all<M: ThreadMail<Growth>, R: Wait>(
+fn take_all<M: Mail<Growth>, R: Wait>(
     rt: &R,
     mut receiver: M::R,
     growths: u64,

@@ -4,7 +4,7 @@ ghost use Rattle.mail.specs.Rings.{sent_by};
 ghost use Rattle.mail.specs.Limits.{most_posts};
 
 use super::exchange::numbered;
-use nll_mail::{Growth, PostError, RingMail, RingSender, ThreadMail};
+use nll_mail::{Growth, Mail, PostError, RingMail, RingSender};
 use nll_sets::Memory;
 use std::alloc::Global;
 use std::test::Fail;
@@ -24,7 +24,7 @@ fn post_into_room(sender: &mut RingSender<Growth>, growth: Growth) -> bool
 }
 
 // Posts a growth. Answers the error, if there is one.
-fn post_one<M: ThreadMail<Growth>>(sender: &mut M::S, growth: Growth) -> Option<PostError<Growth>>
+fn post_one<M: Mail<Growth>>(sender: &mut M::S, growth: Growth) -> Option<PostError<Growth>>
     requires { length (M.sent sender.old) < 1000 }
     ensures few { length (M.sent sender.new) ≤ length (M.sent sender.old) + 1 }
     ensures pair { (receiver : M.R) → M.pairs sender.old receiver → M.pairs sender.new receiver }
@@ -33,7 +33,7 @@ fn post_one<M: ThreadMail<Growth>>(sender: &mut M::S, growth: Growth) -> Option<
 }
 
 // Posts this many growths. Answers whether all were accepted.
-fn post_many<M: ThreadMail<Growth>>(sender: &mut M::S, growths: u64) -> bool
+fn post_many<M: Mail<Growth>>(sender: &mut M::S, growths: u64) -> bool
     requires { (length (M.sent sender.old) < 1) × (growths < 1000) }
     ensures few { length (M.sent sender.new) ≤ growths }
     ensures pair { (receiver : M.R) → M.pairs sender.old receiver → M.pairs sender.new receiver }
