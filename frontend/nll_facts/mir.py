@@ -136,11 +136,11 @@ class Body:
 
 
 class Outline(NamedTuple):
-    """What is known of a function before its body is read: its path, whether it is one, its place in its file."""
+    """What is known of a function before its body is read: its path, whether it is one, the places that it names in its file."""
 
     path: str
     is_function: bool
-    span: Optional[Span]
+    places: list[Span]
 
 
 def read_outline(mir_path: str) -> Outline:
@@ -150,17 +150,17 @@ def read_outline(mir_path: str) -> Outline:
     end = lines.index("}", begin) if "}" in lines else len(lines)
     written = [found[1] for found in map(SPOT.search, lines[begin:end]) if found]
     result = next((span_of(found[1]) for found in map(RESULT.match, lines[begin:end]) if found), None)
-    return Outline(path, is_function(lines[begin]), extent(result.file, written) if result else None)
+    places = [span for span in map(span_of, dict.fromkeys(written)) if span and result and span.file == result.file]
+    return Outline(path, is_function(lines[begin]), places)
 
 
-def extent(file: str, places: list[str]) -> Optional[Span]:
-    """From the first to the last character of those of these places that are in the file."""
-    own = [span for span in map(span_of, dict.fromkeys(places)) if span and span.file == file]
-    if not own:
+def extent(places: list[Span]) -> Optional[Span]:
+    """From the first to the last character of these places of one file."""
+    if not places:
         return None
-    first, column = min((span.first, span.column) for span in own)
-    last, end = max((span.last, span.end) for span in own)
-    return Span(file, first, last, column, end)
+    first, column = min((span.first, span.column) for span in places)
+    last, end = max((span.last, span.end) for span in places)
+    return Span(places[0].file, first, last, column, end)
 
 
 @lru_cache(128)  # a function's is asked for its problem, and by closures around it

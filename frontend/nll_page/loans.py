@@ -41,7 +41,10 @@ class Cause(NamedTuple):
 
 
 class LoanFault(NamedTuple):
-    """A loan that something goes against while it is in force; rustc's code and place of it."""
+    """A loan that something goes against while it is in force; rustc's code and place of it.
+
+    `turn` says how many of that code and place come before: a macro that is used often has several.
+    """
 
     code: str
     place: Optional[Place]
@@ -49,6 +52,7 @@ class LoanFault(NamedTuple):
     loan: Loan
     against: Against
     cause: Cause
+    turn: int = 0
 
 
 def loan_faults(facts, values):
@@ -100,15 +104,29 @@ def first_of_each_access(found):
 
 def each_once(beside, found):
     """Without what rustc wouldn't say again: of the same loan's end, of the same access, of a borrow's second phase."""
-    told, first_phases = set(), points_of_first_phases(beside, found)
+    told, turns, first_phases = marks_of_mutability(beside), {}, points_of_first_phases(beside, found)
     for one in found:
         if one.against.way == "late" and first_phases.get(one.against.what, one.against.point) < one.against.point:
             continue
-        marks = marks_of_end(one) if one.against.way in ENDING else \
-            marks_of_access(one)
-        if told.isdisjoint(marks):
-            yield one
+        marks = marks_of_end(one) if one.against.way in ENDING else marks_of_access(one)
+        turn = turns.get((one.place, one.code), [])
+        if told.isdisjoint(marks) or is_further_use(beside, one, turn):
+            yield one._replace(turn=len(turn))
+            turns[one.place, one.code] = [*turn, one.against.point]
         told |= marks
+        if one.place and one.against.way not in ENDING:
+            told.add(("access", one.place[:2], one.against.what))
+
+
+def is_further_use(beside, one, points):
+    """Whether rustc has more errors of that code and place than those of these points: by further uses of a macro."""
+    errors = [error for error in beside.rustc if one.place and (error.line, error.column, error.code()) == (*one.place[:2], one.code)]
+    return one.against.way not in ENDING and one.against.point not in points and 0 < len(points) < len(errors)
+
+
+def marks_of_mutability(beside):
+    """The variables that rustc says can't be borrowed as mutable, and where: of their ends there it says no more."""
+    return {("access", (error.line, error.column), error.named()) for error in beside.rustc if error.code() == "E0596"}
 
 
 def points_of_first_phases(beside, found):
@@ -133,12 +151,12 @@ def marks_of_access(one):
 
 
 def marks_of_end(one):
-    """By what a loan's end is known again: the loan, or the variable and where it is borrowed."""
+    """By what a loan's end is known again: the loan, or the variable and where it is borrowed; an access to it there, too."""
     loan = one.loan
     is_use = loan.by_closure and loan.home and one.code != "E0373"
     place = loan.home if is_use else loan.place
     variable = one.against.what.split(".")[0] if loan.is_of_temporary() else loan.what.lstrip("*")
-    return {("end", one.number), *([("end", variable, place)] if place else [])}
+    return {("end", one.number), *([("end", variable, place), ("access", place[:2], variable)] if place else [])}
 
 
 def fault(facts, number, loan, against, cause):
