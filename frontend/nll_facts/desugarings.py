@@ -33,8 +33,14 @@ class Desugarings:
 
     def ends(self, span: Span) -> str:
         """The last character of a place."""
-        line = self.text[span.last - 1] if span.last <= len(self.text) else ""
-        return line[span.end - 2:span.end - 1]
+        return self.line(span.last)[span.end - 2:span.end - 1]
+
+    def before(self, span: Span) -> str:
+        """The character before a place."""
+        return self.line(span.first)[span.column - 2:span.column - 1]
+
+    def line(self, number: int) -> str:
+        return self.text[number - 1] if number <= len(self.text) else ""
 
 
 @lru_cache(16)

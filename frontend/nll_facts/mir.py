@@ -30,6 +30,9 @@ BLOCK = re.compile(r"    bb(\d+)(?: \(cleanup\))?: \{")
 STATEMENT = re.compile(r" {8}[^\s/]")
 CONSTANT = " " * 41 + "// + span: "
 CALL = re.compile(r"(?:.*? = )?(?:(?:move|copy) _(\d+)|.*?)\(.*\) -> ")
+RECEIVER = re.compile(r"(?:.*? = )?[^=]*?\((?:move|copy) _(\d+)\b.*\) -> ")
+REBORROW = re.compile(r"_(\d+) = &(?:mut )?\(\*_(\d+)\)")
+GIVEN = re.compile(r"_(\d+) = (?!const )")
 PARAMETER = re.compile(r"(?:^|, )_(\d+): ")
 REASON = re.compile(r"\| '\?(\d+): '\?(\d+) due to (\w+)(.*) at "
                     r"(?:All\(.*\)|Single\(bb(\d+)\[(\d+)\]\)) \((.*) \(#(\d+)\)")
@@ -133,6 +136,19 @@ class Body:
         for thing in [*self.locals.values(), *self.statements.values()]:
             if thing.span is not None:
                 yield thing.span
+
+
+def methods_on_results(body: Body) -> Iterator[tuple[Location, Span]]:
+    """The assignments to a variable on which the block that has them calls a function at its end, and where that stands."""
+    ends = {location.block: location for location in sorted(body.statements)}
+    for block, end in ends.items():
+        said = body.statements[end]
+        receiver = RECEIVER.match(said.text)
+        if receiver and said.constant and not said.text.startswith(NO_CALLS):
+            before = [(one, body.statements[one].text) for one in (Location(block, index) for index in range(end.index))]
+            lent = {found[2] for _, text in before if (found := REBORROW.fullmatch(text)) and found[1] == receiver[1]}
+            yield from ((one, said.constant) for one, text in before
+                        if (found := GIVEN.match(text)) and found[1] in {receiver[1], *lent})
 
 
 class Outline(NamedTuple):

@@ -5,7 +5,7 @@
     # killed N: P ..                      # against P, PLACE, WAY of WHAT after P: N ..
     # asked 'R 'R at P, PLACE: WORD       # uses 'R: P ..      # drops 'R: P ..
     # blamed 'R 'R, PLACE: WORD           # blamed N 'R, PLACE: WORD of a closure
-    # called P, PLACE                     # captured P 'R, PLACE
+    # called P by N .., PLACE             # captured P 'R, PLACE
     # needs 'R 'R                         # gone P, L:C, CODE of WHAT, by P ..: P ..
     # rustc LINE:COLUMN: WORDS            # label PLACE: WORDS
     # within PATH, PLACE                  # note: WORDS
@@ -32,7 +32,7 @@ FORMS = {
     "blamed": re.compile(rf"# blamed ('\w+|\d+) '(\w+), {PLACE}: (\w+)( of a closure)?"),
     "uses": re.compile(r"# uses '(\w+): ([\d ]+)"),
     "drops": re.compile(r"# drops '(\w+): ([\d ]+)"),
-    "called": re.compile(rf"# called (\d+), {PLACE}"),
+    "called": re.compile(rf"# called (\d+)(?: by ([\d ]+))?, {PLACE}"),
     "captured": re.compile(rf"# captured (\d+) '(\w+), {PLACE}"),
     "needs": re.compile(r"# needs '(\w+) '(\w+)"),
     "gone": re.compile(r"# gone (\d+), (\d+):(\d+), (E038[124]) of (\w+), by ([\d ]+):([\d ]*)"),
@@ -208,8 +208,9 @@ class Beside:
     def take_drops(self, region, points):
         self.drops[region] = set(numbers(points))
 
-    def take_called(self, point, place):
-        self.called[int(point)] = place_of(place)
+    def take_called(self, point, loans, place):
+        for loan in numbers(loans) if loans else [None]:
+            self.called[int(point), loan] = place_of(place)
 
     def take_captured(self, point, region, place):
         self.captured[int(point), region] = place_of(place)

@@ -161,6 +161,7 @@ def marks_of_end(one):
 
 def fault(facts, number, loan, against, cause):
     code, place = CODES.get(against.way), against.place
+    cause = cause._replace(place=facts.remarks.beside.called.get((cause.use, number), cause.place))
     if loan.kind == "fake":
         code = "E0510"
     elif against.way in BORROWING:
@@ -274,7 +275,7 @@ def used(facts, region, point, steps):
     for onwards in (partial(without_unwinding, facts), facts.successors.__getitem__):
         if found := nearest_use(facts, region, point, onwards):
             beside, name = facts.remarks.beside, facts.names[region]
-            return Cause(region, *found, steps, beside.called.get(found[0]) or beside.captured.get((found[0], name)))
+            return Cause(region, *found, steps, beside.called.get((found[0], None)) or beside.captured.get((found[0], name)))
     return Cause(region, None, False, steps)
 
 
