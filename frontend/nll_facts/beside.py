@@ -192,12 +192,11 @@ class Beside:
     def gone_lines(self, errors: list[Error]) -> Iterator[str]:
         """What is accessed or assigned where it mustn't be, since when, and a walk to there."""
         moved = Moved(self.tables, self.body) if any(error.code in MOVES for error in errors) else None
-        for error in errors if moved else ():
-            for one in moved.of([error]):
-                name = self.path(Place(one.variable))
-                walk = " ".join(str(self.number[location]) for location in one.walk)
-                yield (f"gone {self.number[one.location]}, {error.line}:{error.column}, {one.code} of {name}, "
-                       f"by {walk}: {self.numbers(one.since)}").rstrip()
+        for error, one in moved.of(errors) if moved else ():
+            name = self.path(Place(one.variable))
+            walk = " ".join(str(self.number[location]) for location in one.walk)
+            yield (f"gone {self.number[one.location]}, {error.line}:{error.column}, {one.code} of {name}, "
+                   f"by {walk}: {self.numbers(one.since)}").rstrip()
 
     def rustc_lines(self, errors: Iterable[Error]) -> Iterator[str]:
         """The errors, and below each the places that it names."""

@@ -88,7 +88,10 @@ class Asked(NamedTuple):
 
 
 class Gone(NamedTuple):
-    """What is accessed that was moved or has no value, or is assigned again: since when, and the walk to there."""
+    """What is accessed that was moved or has no value, or is assigned again: since when, and the walk to there.
+
+    `turn` says how many of that code and place come before.
+    """
 
     point: int
     place: Place
@@ -96,6 +99,7 @@ class Gone(NamedTuple):
     what: str
     walk: list
     since: list
+    turn: int = 0
 
 
 class Label(NamedTuple):
@@ -220,14 +224,14 @@ class Beside:
 
     def error_of(self, gone):
         """The error of rustc that an error of a move or an assignment is; None where the text lacks it."""
-        return next((error for error in self.rustc if (error.line, error.column, error.code())
-                     == (*gone.place[:2], gone.code)), None)
+        found = [error for error in self.rustc if (error.line, error.column, error.code()) == (*gone.place[:2], gone.code)]
+        return found[min(gone.turn, len(found) - 1)] if found else None
 
     def take_gone(self, point, line, column, code, what, walk, since):
         place = Place(int(line), int(column), int(line), int(column))
-        one = Gone(int(point), place, code, what, numbers(walk), numbers(since))
-        if one.place not in [known.place for known in self.gone]:
-            self.gone.append(one)
+        there = [known.point for known in self.gone if known.place == place]
+        if int(point) not in there:
+            self.gone.append(Gone(int(point), place, code, what, numbers(walk), numbers(since), len(there)))
 
     def take_rustc(self, line, column, words):
         self.rustc.append(Error(int(line), int(column), words, [], [], []))

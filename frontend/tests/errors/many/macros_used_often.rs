@@ -93,3 +93,15 @@ pub fn right(list: &mut Vec<u32>) -> u32 {
 
 function!(one);
 function!(two);
+
+pub fn set_twice(number: u32) -> u32 {
+    set!(number);
+    set!(number);
+    number
+}
+
+pub fn moved_often(text: String) -> String {
+    let own = moved!(text);
+    let more = moved!(text) + &moved!(text);
+    own + &more
+}
