@@ -69,7 +69,8 @@ def loan_faults(facts, values):
         points = {one.point for one in against.get(number, ())} & force
         for one in against.get(number, ()):
             if one.point in points and one.begun not in points:
-                cause = why(facts, values, region, one.point)
+                here = again(facts, values, region) if one.point == loan.at else None
+                cause = why(facts, values, region, one.point if here is None else here)
                 found.append(fault(facts, number, loan, one, cause))
     told = list(each_once(beside, sorted(first_of_each_access(found), key=order)))
     return sorted(expansions.placed(facts, told), key=order)
@@ -90,6 +91,14 @@ def in_force(facts, inside, loan, killed):
                 reached.add(following)
                 todo.append(following)
     return reached
+
+
+def again(facts, values, region):
+    """The first point of a loop in the region's value: there rustc asks why a loan is in force that a borrow makes again."""
+    points = range(facts.points)
+    loops = {spot[0] for point in points if (said := facts.remarks.point(point)).text.startswith("falseUnwind") and (spot := said.spot())}
+    return next((point for point in points if loops and values.has(region, point)
+                 and (facts.remarks.point(point).spot() or ("",))[0] in loops), None)
 
 
 def first_of_each_access(found):
