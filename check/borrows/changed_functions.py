@@ -96,7 +96,7 @@ class Changed:
         before = self.changes.pop(key, None)
         tries = before.tries + 1 if before else 1
         name, edits = changed(self.functions[key], self.texts[key[0]], self.draw)
-        if edits and tries <= MOST_TRIES and is_still_one(self.functions[key], self.texts[key[0]], edits):
+        if edits and tries <= MOST_TRIES:
             self.changes[key] = Change(self.functions[key].name, name, edits, tries)
 
     def write(self):
@@ -147,13 +147,6 @@ class Changed:
             for key in sorted(refused - {None}):
                 self.change(key)
         raise Missing(f"{self.crate.name}: rustc refuses changes again and again")
-
-
-def is_still_one(function, text, edits):
-    """Whether a function is one with these edits, too: those in a macro may take brackets apart."""
-    begin, end = function.begin, function.body.end + 1
-    return len(functions_of(edited(text[begin:end], [one._replace(begin=one.begin - begin, end=one.end - begin)
-                                                     for one in edits]))) == 1
 
 
 def is_of_borrow_checker(said):
