@@ -165,7 +165,8 @@ def marks_of_end(one):
     is_use = loan.by_closure and loan.home and one.code != "E0373"
     place = loan.home if is_use else loan.place
     variable = one.against.what.split(".")[0] if loan.is_of_temporary() else loan.what.lstrip("*")
-    return {("end", one.number), *([("end", variable, place), ("access", place[:2], variable)] if place else [])}
+    marks = [("end", variable, place), *([] if loan.by_closure else [("access", place[:2], variable)])] if place else []
+    return {("end", one.number), *marks}
 
 
 def fault(facts, number, loan, against, cause):
