@@ -68,7 +68,7 @@ class Telling(NamedTuple):
 def of_fault(content, fault, further=()):
     """A lifetime that would have to outlive another; and, at the same place, further ones."""
     named = blame.of_fault(content.facts, fault)
-    told = Telling(place_of_fault(content.facts, fault, named), "", [], [], fault)
+    told = Telling(place_of_fault(content, fault, named), "", [], [], fault)
     error = counterpart(content, told)
     lifetimes = Lifetimes(content, fault, error)
     asker = f": {ASKERS[named.word]} requires it" if named and named.word in ASKERS else ""
@@ -85,7 +85,7 @@ def of_faults(content):
     another one is told with that."""
     groups = {}
     for fault in content.faults:
-        place = place_of_fault(content.facts, fault, blame.of_fault(content.facts, fault))
+        place = place_of_fault(content, fault, blame.of_fault(content.facts, fault))
         groups.setdefault((fault.sup, place[:2] if place else fault.sub), []).append(fault)
     told = []
     for faults in groups.values():
@@ -137,12 +137,15 @@ def used_macro(content, error):
     return [[f"{INVOCATION}: ", *line_stop(content, line)] for line in lines]
 
 
-def place_of_fault(facts, fault, named):
-    """rustc's place; of a text that doesn't say it, the line at which the chain begins."""
+def place_of_fault(content, fault, named):
+    """rustc's place; of a text that doesn't say it, that of an error of rustc on the line at which the chain begins, or
+    that line alone. So it is with what a macro of another file makes."""
     if named and named.place:
         return named.place
-    line = words.entry(facts, fault.steps)
-    return None if line is None else Place(line, 0, line, 0)
+    line = words.entry(content.facts, fault.steps)
+    place = None if line is None else Place(line, 0, line, 0)
+    error = counterpart(content, Telling(place, "", [], [], fault)) if place else None
+    return error.place() if error and error.line == line else place
 
 
 def way_of(content, fault, lifetimes):
