@@ -222,7 +222,7 @@ def more_mutable(function: Function, text: str, draw: Random) -> list[Edit]:
 def less_mutable(function: Function, text: str, draw: Random) -> list[Edit]:
     """A `mut` is taken out."""
     found = [Edit(token.begin, token.end + 1, "") for token in function.tokens
-             if token.text == "mut" and token.begin > function.body.begin]
+             if token.text == "mut" and token.begin > function.body.begin and text[token.end].isspace()]
     return [draw.choice(found)] if found else []
 
 

@@ -13,7 +13,7 @@ from .desugarings import Desugarings
 from .dumps import Dump
 from .liveness import table_of
 from .loans import Loan, Loans
-from .mir import Body, Reason, Span
+from .mir import Body, Local, Reason, Span, methods_on_results
 from .moves import MOVES, Moved
 from .places import Place
 from .points import Points
@@ -63,7 +63,7 @@ class Beside:
         own = Loans(self.dump, self.tables, self.body)
         errors = list(errors)
         return [*self.loan_lines(own), *self.reason_lines(), *self.blame_lines(own), *self.use_lines(),
-                *self.called_lines(), *self.captured_lines(), *self.need_lines(), *self.gone_lines(errors), *self.rustc_lines(errors)]
+                *self.called_lines(), *self.received_lines(own), *self.captured_lines(), *self.need_lines(), *self.gone_lines(errors), *self.rustc_lines(errors)]
 
     def name(self, region: int) -> Optional[str]:
         """The name of the region's class with its `'`, where the text has it."""
@@ -162,6 +162,18 @@ class Beside:
             if function and location in self.number and self.place(function) != "elsewhere" and function.first != span.first:
                 yield f"called {self.number[location]}, {self.place(function)}"
 
+    def received_lines(self, own: Loans) -> Iterator[str]:
+        """Where a method stands that is called on a variable whose value comes, at a point, from the tail of a block.
+
+        That is so for the loans of the tail: the use that rustc names then is that of the method.
+        """
+        for location, function in methods_on_results(self.body):
+            span, made = self.body.statements[location].span, []
+            if location in self.number and self.place(function) != "elsewhere" and self.desugarings.before(function) == ".":
+                made = [number for number, loan in sorted(own.loans.items()) if is_overlapping(span, self.body.locals.get(loan.target))]
+            if made:
+                yield f"called {self.number[location]} by {' '.join(map(str, made))}, {self.place(function)}"
+
     def captured_lines(self) -> Iterator[str]:
         """Where a closure over several lines uses what it takes of a region, if that is in another line than its begin."""
         regions = table_of(self.tables.use_of_var_derefs_origin)
@@ -180,12 +192,11 @@ class Beside:
     def gone_lines(self, errors: list[Error]) -> Iterator[str]:
         """What is accessed or assigned where it mustn't be, since when, and a walk to there."""
         moved = Moved(self.tables, self.body) if any(error.code in MOVES for error in errors) else None
-        for error in errors if moved else ():
-            for one in moved.of([error]):
-                name = self.path(Place(one.variable))
-                walk = " ".join(str(self.number[location]) for location in one.walk)
-                yield (f"gone {self.number[one.location]}, {error.line}:{error.column}, {one.code} of {name}, "
-                       f"by {walk}: {self.numbers(one.since)}").rstrip()
+        for error, one in moved.of(errors) if moved else ():
+            name = self.path(Place(one.variable))
+            walk = " ".join(str(self.number[location]) for location in one.walk)
+            yield (f"gone {self.number[one.location]}, {error.line}:{error.column}, {one.code} of {name}, "
+                   f"by {walk}: {self.numbers(one.since)}").rstrip()
 
     def rustc_lines(self, errors: Iterable[Error]) -> Iterator[str]:
         """The errors, and below each the places that it names."""
@@ -198,6 +209,13 @@ class Beside:
                 yield f"within {os.path.join(error.root, error.within.file)}, {place_words(error.within)}"
             yield from (f"note: {note}" for note in error.notes)
             yield from (f"help: {one}" for one in error.helps)
+
+
+def is_overlapping(span: Optional[Span], local: Optional[Local]) -> bool:
+    """Whether a variable is declared within a place, or around it."""
+    other = local.span if local else None
+    return span is not None and other is not None and span.file == other.file \
+        and (span.first, span.column) < (other.last, other.end) and (other.first, other.column) < (span.last, span.end)
 
 
 def place_words(label: Label) -> str:

@@ -25,7 +25,7 @@ def project_of(folder: str) -> str:
     return found
 
 
-def check_project(folder: str, packages: list[str], options: list[str], room: str, lints: str = "allow",
+def check_project(folder: str, packages: list[str], options: list[str], room: str, is_json: bool = False,
                   in_colour: bool = False) -> list[Unit]:
     """The units of the packages, checked with the project's own edition, features and dependencies.
 
@@ -36,14 +36,13 @@ def check_project(folder: str, packages: list[str], options: list[str], room: st
     words = [cargo, "check", "--keep-going", f"--message-format={form}",
              *(word for package in packages for word in ("-p", package)), *options]
     environment = os.environ | {
-        "RUSTC_WRAPPER": WRAPPER, "NLL_FACTS_ROOM": room, "NLL_FACTS_LINTS": lints,
-        "NLL_FACTS_ASKED": " ".join(words[4:]), "CARGO_INCREMENTAL": "0",
+        "RUSTC_WRAPPER": WRAPPER, "NLL_FACTS_ROOM": room, "NLL_FACTS_ASKED": " ".join(words[4:]), "CARGO_INCREMENTAL": "0",
         "CARGO_TARGET_DIR": os.path.join(target_of(cargo, folder), TARGET),
     }
     done = subprocess.run(words, cwd=folder, env=environment, stdin=subprocess.DEVNULL, stdout=subprocess.PIPE,
                           check=False)
     units = units_in(room)
-    show_others(done.stdout, units, is_json=lints != "allow")
+    show_others(done.stdout, units, is_json)
     if done.returncode != 0 and not any(unit.errors for unit in units):
         raise Refusal(f"cargo can't check {folder}: fix the errors above")
     if not units:

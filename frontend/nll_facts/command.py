@@ -115,17 +115,16 @@ def check(asked: argparse.Namespace, room: str, folder: str, is_for_people: bool
     People aren't told of warnings.
     """
     in_colour = is_for_people and sys.stderr.isatty() and not os.environ.get("NO_COLOR")
-    lints = "allow" if is_for_people else "warn"
     if is_project(asked.path):
         if asked.edition:
             raise Refusal("a project states its own edition: leave out --edition")
-        units = check_project(project_of(asked.path), asked.packages, asked.options, room, lints, in_colour)
+        units = check_project(project_of(asked.path), asked.packages, asked.options, room, not is_for_people, in_colour)
     else:
         if asked.packages:
             raise Refusal(f"{asked.path} is a file, and -p is for projects: give the folder of one")
         options = [f"--edition={asked.edition or 2021}", *asked.options]
         with Progress(lambda: f"rustc checks {asked.path}"):
-            units = [check_file(asked.path, room, options, lints, in_colour)]
+            units = [check_file(asked.path, room, options, in_colour)]
     return checked(units, asked.functions, folder)
 
 

@@ -6,8 +6,9 @@ from dataclasses import dataclass, replace
 from functools import lru_cache, partial
 from typing import Callable, Optional
 
+from .desugarings import desugarings_of
 from .destructors import DROP_FUNCTION, destroyed_by
-from .mir import Span, read_body, read_outline
+from .mir import Span, extent, read_body, read_outline
 
 IMPL_AT = re.compile(r"<impl at (.+?):(\d+):(\d+): (\d+):(\d+)>")
 HEADER = re.compile(r"(?:unsafe\s+)?impl\b")
@@ -18,7 +19,8 @@ class Dump:
     """The files of one function: its name for a person, its tables' folder, its MIR, its lines.
 
     The value of a constant is a body of its own too, which is answered where it is asked for alone.
-    `destructors` are the types of the same crate that have one.
+    `destructors` are the types of the same crate that have one. `span` is without what macros of the same file put in, unless
+    nothing else is there; `whole` is with it. A macro may make all of a function.
     """
 
     name: str
@@ -28,12 +30,14 @@ class Dump:
     span: Optional[Span]
     is_function: bool = True
     destructors: frozenset[str] = frozenset()
+    whole: Optional[Span] = None
+    is_of_macro: bool = False
 
     def has(self, place: tuple[str, int]) -> bool:
-        """Whether a line of a file is one of the function's."""
+        """Whether a line of a file is one of the function's, or of a macro that it uses."""
         file, line = place
-        span = self.span
-        return span is not None and span.file == file and span.first <= line <= span.last
+        return any(span is not None and span.file == file and span.first <= line <= span.last
+                   for span in (self.span, self.whole))
 
     @property
     def is_closure(self) -> bool:
@@ -69,8 +73,18 @@ def read_dump(paths: tuple[str, str], root: str) -> tuple[Dump, set[str]]:
     facts, mir = paths
     outline = read_outline(mir)
     name = IMPL_AT.sub(lambda found: impl_name(found, root), outline.path)
-    dump = Dump(name, file_name(os.path.basename(facts)), facts, mir, outline.span, outline.is_function)
+    own = own_places(outline.places, root)
+    dump = Dump(name, file_name(os.path.basename(facts)), facts, mir, extent(own or outline.places), outline.is_function,
+                whole=extent(outline.places), is_of_macro=not own)
     return dump, destroyed_in(outline.path, mir, root)
+
+
+def own_places(places: list[Span], root: str) -> list[Span]:
+    """The places without those in declarations of macros."""
+    if not places:
+        return places
+    desugarings = desugarings_of(places[0].file, os.path.join(root, places[0].file))
+    return [place for place in places if not desugarings.is_of_macro(place)]
 
 
 def destroyed_in(path: str, mir_path: str, root: str) -> set[str]:

@@ -24,7 +24,12 @@ def own_errors(dump: Dump, dumps: list[Dump], errors: list[Error]) -> list[Error
 
 def has_answer(dump: Dump, errors: list[Error]) -> bool:
     """Whether it is answered unasked: a function, or a constant in which rustc has an error."""
-    return dump.is_function or any(error.places and dump.is_inside(*error.places[0], error.column) for error in errors)
+    return dump.is_function or any(error.places and is_inside(dump, error) for error in errors)
+
+
+def is_inside(dump: Dump, error: Error) -> bool:
+    """Whether an error stands inside a function, or in a macro that makes all of it."""
+    return dump.is_inside(*error.used) or dump.is_of_macro and dump.is_inside(*error.places[0], error.column)
 
 
 def is_around(dump: Dump, other: Dump) -> bool:
@@ -35,13 +40,15 @@ def is_around(dump: Dump, other: Dump) -> bool:
 
 
 def is_own(dump: Dump, dumps: list[Dump], error: Error) -> bool:
-    if not error.places or not dump.has(error.places[0]):
+    if not error.places or not dump.has(error.places[0]) and not dump.has(error.used[:2]):
         return False
-    file, line = error.places[0]
-    if any(is_around(dump, other) and other.is_inside(file, line, error.column) for other in dumps):
-        return False
-    closures = [other for other in dumps if other.is_closure and other.is_inside(file, line, error.column)]
+    inside = [one for one in dumps if is_inside(one, error)]
+    closures = [one for one in inside if one.is_closure]
+    functions = [one for one in inside if not one.is_closure and dump is not one and one.is_inside(*error.used)]
     if dump.is_closure:
-        return dump in closures and not any(other.name.startswith(f"{dump.name}::") for other in closures)
-    return error.code in FROM_OUTSIDE or not any(other.name.startswith(f"{dump.name}::")
-                                                 for other in closures)
+        is_elsewhere = functions and not any(dump.name.startswith(f"{one.name}::") for one in functions)
+        return dump in closures and not is_elsewhere \
+            and not any(other.name.startswith(f"{dump.name}::") for other in closures)
+    if any(is_around(dump, other) for other in functions) or functions and not dump.is_inside(*error.used):
+        return False
+    return error.code in FROM_OUTSIDE or not any(other.name.startswith(f"{dump.name}::") for other in closures)

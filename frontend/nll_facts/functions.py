@@ -75,9 +75,10 @@ def checked(units: list[Unit], wanted: list[str], folder: str) -> Checked:
     result = Checked(functions_of(chosen, by_unit, folder), units, bool(wanted))
     for unit, its in zip(units, by_unit):
         own = [one for one in its if one in chosen] if wanted else its
+        apart = [error for error in unit.errors if error.places and not wanted and not has_some_line(its, error)]
         result.errors += [error for error in unit.errors if has_some_line(own, error)]
-        result.unanswered += [error for error in unit.errors
-                              if error.places and not wanted and not has_some_line(its, error)]
+        result.errors += [error for error in apart if error.is_of_lint()]
+        result.unanswered += [error for error in apart if not error.is_of_lint()]
     return result
 
 

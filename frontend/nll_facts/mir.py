@@ -30,6 +30,9 @@ BLOCK = re.compile(r"    bb(\d+)(?: \(cleanup\))?: \{")
 STATEMENT = re.compile(r" {8}[^\s/]")
 CONSTANT = " " * 41 + "// + span: "
 CALL = re.compile(r"(?:.*? = )?(?:(?:move|copy) _(\d+)|.*?)\(.*\) -> ")
+RECEIVER = re.compile(r"(?:.*? = )?[^=]*?\((?:move|copy) _(\d+)\b.*\) -> ")
+REBORROW = re.compile(r"_(\d+) = &(?:mut )?\(\*_(\d+)\)")
+GIVEN = re.compile(r"_(\d+) = (?!const )")
 PARAMETER = re.compile(r"(?:^|, )_(\d+): ")
 REASON = re.compile(r"\| '\?(\d+): '\?(\d+) due to (\w+)(.*) at "
                     r"(?:All\(.*\)|Single\(bb(\d+)\[(\d+)\]\)) \((.*) \(#(\d+)\)")
@@ -135,12 +138,25 @@ class Body:
                 yield thing.span
 
 
+def methods_on_results(body: Body) -> Iterator[tuple[Location, Span]]:
+    """The assignments to a variable on which the block that has them calls a function at its end, and where that stands."""
+    ends = {location.block: location for location in sorted(body.statements)}
+    for block, end in ends.items():
+        said = body.statements[end]
+        receiver = RECEIVER.match(said.text)
+        if receiver and said.constant and not said.text.startswith(NO_CALLS):
+            before = [(one, body.statements[one].text) for one in (Location(block, index) for index in range(end.index))]
+            lent = {found[2] for _, text in before if (found := REBORROW.fullmatch(text)) and found[1] == receiver[1]}
+            yield from ((one, said.constant) for one, text in before
+                        if (found := GIVEN.match(text)) and found[1] in {receiver[1], *lent})
+
+
 class Outline(NamedTuple):
-    """What is known of a function before its body is read: its path, whether it is one, its place in its file."""
+    """What is known of a function before its body is read: its path, whether it is one, the places that it names in its file."""
 
     path: str
     is_function: bool
-    span: Optional[Span]
+    places: list[Span]
 
 
 def read_outline(mir_path: str) -> Outline:
@@ -150,17 +166,17 @@ def read_outline(mir_path: str) -> Outline:
     end = lines.index("}", begin) if "}" in lines else len(lines)
     written = [found[1] for found in map(SPOT.search, lines[begin:end]) if found]
     result = next((span_of(found[1]) for found in map(RESULT.match, lines[begin:end]) if found), None)
-    return Outline(path, is_function(lines[begin]), extent(result.file, written) if result else None)
+    places = [span for span in map(span_of, dict.fromkeys(written)) if span and result and span.file == result.file]
+    return Outline(path, is_function(lines[begin]), places)
 
 
-def extent(file: str, places: list[str]) -> Optional[Span]:
-    """From the first to the last character of those of these places that are in the file."""
-    own = [span for span in map(span_of, dict.fromkeys(places)) if span and span.file == file]
-    if not own:
+def extent(places: list[Span]) -> Optional[Span]:
+    """From the first to the last character of these places of one file."""
+    if not places:
         return None
-    first, column = min((span.first, span.column) for span in own)
-    last, end = max((span.last, span.end) for span in own)
-    return Span(file, first, last, column, end)
+    first, column = min((span.first, span.column) for span in places)
+    last, end = max((span.last, span.end) for span in places)
+    return Span(places[0].file, first, last, column, end)
 
 
 @lru_cache(128)  # a function's is asked for its problem, and by closures around it

@@ -6,7 +6,7 @@ E0382: a place is accessed that may be moved out of, E0381: that may have no val
 
 import re
 from collections import deque
-from typing import Iterable, Iterator, NamedTuple, Optional
+from typing import Container, Iterable, Iterator, NamedTuple, Optional
 
 from .captures import MADE, home_of
 from .liveness import neighbours, table_of
@@ -42,21 +42,26 @@ class Moved:
         self.assigned = table_of(tables.path_assigned_at_base)
         self.accessed = tables.path_accessed_at_base
 
-    def of(self, errors: Iterable[Error]) -> Iterator[Gone]:
-        """What the tables say of each error of moves and assignments, where they have it."""
-        for error in errors:
-            found = self.of_one(error) if error.code in MOVES else None
-            if found:
-                yield found
+    def of(self, errors: Iterable[Error]) -> Iterator[tuple[Error, Gone]]:
+        """Each error of moves and assignments of which the tables have it, with that.
 
-    def of_one(self, error: Error) -> Optional[Gone]:
+        Of several errors at one place, which a macro has, each is another statement's.
+        """
+        taken: set[Location] = set()
+        for error in errors:
+            found = self.of_one(error, taken) if error.code in MOVES else None
+            if found:
+                taken.add(found.location)
+                yield error, found
+
+    def of_one(self, error: Error, taken: Container[Location] = ()) -> Optional[Gone]:
         table = ((path, spot) for path in self.assigned for spot in self.assigned[path]) \
             if error.code == "E0384" else self.accessed
         rows = sorted(table, key=lambda row: row[1])
         there = [row for row in rows if self.begins_at(row[1].location, error)]
         for path, spot in there or [row for row in rows if self.is_of_macro(*row, error)]:
             found = self.assigned_before(path, spot) if error.code == "E0384" else self.gone_at(path, spot)
-            if found and found.code == error.code:
+            if found and found.code == error.code and found.location not in taken:
                 return found
         return None
 

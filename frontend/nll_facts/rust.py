@@ -222,7 +222,7 @@ def tell_all(checked: Checked, answers: list[Answer]) -> None:
             silent.append((function.dump.is_closure, function.name, answer.said["name"]))
         for line in lines:
             print(f"  {line}")
-    tell_silent([(is_closure, name) for is_closure, function, name in silent if function not in loud])
+    tell_silent([(is_closure, name) for is_closure, function, name in silent if outermost(function) not in loud])
     told_of = {(answer.said["source"], *error) for answer in answers for error in answer.said.get("errors", ())}
     for error in checked.errors:
         if error.places and (error.path, error.line, error.column, " ".join(error.words().split())) not in told_of:

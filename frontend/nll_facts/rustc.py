@@ -66,6 +66,16 @@ class Error:
     def line(self) -> int:
         return self.places[0][1] if self.places else 0
 
+    @property
+    def used(self) -> tuple[str, int, int]:
+        """Where the function has it: the error's place, or where a macro of the same file is used in whose lines that is."""
+        macros = [(label.file, label.line, label.column) for label in self.labels if label.text == INVOCATION]
+        return macros[0] if macros else (*self.places[0], self.column)
+
+    def is_of_lint(self) -> bool:
+        """Whether it is no error but for a lint that the source, or rustc, denies."""
+        return bool(self.code) and not self.code.startswith("E0")
+
     def words(self) -> str:
         return f"{self.code}: {self.message}" if self.code else self.message
 

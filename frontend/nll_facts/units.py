@@ -16,6 +16,7 @@ from .rustc import NO_RUSTC, Error, crate_name, errors_in, find_rustc, flags, ju
 NOTE = "unit.json"
 PLAIN = "plain.json"        # what rustc says as it is
 LEAVING = "leaving.json"    # what it says where it leaves facts
+NO_LINTS = "--cap-lints=allow"      # where it leaves facts: what lints refuse it says as it is
 
 
 @dataclass(frozen=True)
@@ -41,16 +42,16 @@ class Unit:
         return [one for one in said if one.get("spans") is not None]
 
 
-def check_file(file: str, folder: str, options: list[str], lints: str = "allow", in_colour: bool = False) -> Unit:
+def check_file(file: str, folder: str, options: list[str], in_colour: bool = False) -> Unit:
     """Checks a file as a library; all that rustc makes goes to the folder."""
     refuse_others(file)
     form = ["--json=diagnostic-rendered-ansi"] if in_colour else []
     rustc, name = find_rustc(), crate_name(file)
-    words = [rustc, "--crate-type=lib", f"--crate-name={name}", f"--cap-lints={lints}", "--error-format=json",
-             *form, "--emit=metadata", *options, file]
+    words = [rustc, "--crate-type=lib", f"--crate-name={name}", "--error-format=json", *form, "--emit=metadata", *options, file]
     plain = [*words, f"--out-dir={os.path.join(folder, 'plain')}"]
+    cap = [] if any(option.startswith("--cap-lints") for option in options) else [NO_LINTS]
     try:
-        status = run_both(plain, [*words, f"--out-dir={folder}"], folder, name, RUSTC_BOOTSTRAP="1")
+        status = run_both(plain, [*words, *cap, f"--out-dir={folder}"], folder, name, RUSTC_BOOTSTRAP="1")
     except OSError as error:
         raise Refusal(f"{rustc} can't be run: {error.strerror}; {NO_RUSTC}") from None
     if status == 0 and not glob.glob(os.path.join(glob.escape(folder), "plain", "*.rmeta")):

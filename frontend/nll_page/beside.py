@@ -5,7 +5,7 @@
     # killed N: P ..                      # against P, PLACE, WAY of WHAT after P: N ..
     # asked 'R 'R at P, PLACE: WORD       # uses 'R: P ..      # drops 'R: P ..
     # blamed 'R 'R, PLACE: WORD           # blamed N 'R, PLACE: WORD of a closure
-    # called P, PLACE                     # captured P 'R, PLACE
+    # called P by N .., PLACE             # captured P 'R, PLACE
     # needs 'R 'R                         # gone P, L:C, CODE of WHAT, by P ..: P ..
     # rustc LINE:COLUMN: WORDS            # label PLACE: WORDS
     # within PATH, PLACE                  # note: WORDS
@@ -32,7 +32,7 @@ FORMS = {
     "blamed": re.compile(rf"# blamed ('\w+|\d+) '(\w+), {PLACE}: (\w+)( of a closure)?"),
     "uses": re.compile(r"# uses '(\w+): ([\d ]+)"),
     "drops": re.compile(r"# drops '(\w+): ([\d ]+)"),
-    "called": re.compile(rf"# called (\d+), {PLACE}"),
+    "called": re.compile(rf"# called (\d+)(?: by ([\d ]+))?, {PLACE}"),
     "captured": re.compile(rf"# captured (\d+) '(\w+), {PLACE}"),
     "needs": re.compile(r"# needs '(\w+) '(\w+)"),
     "gone": re.compile(r"# gone (\d+), (\d+):(\d+), (E038[124]) of (\w+), by ([\d ]+):([\d ]*)"),
@@ -88,7 +88,10 @@ class Asked(NamedTuple):
 
 
 class Gone(NamedTuple):
-    """What is accessed that was moved or has no value, or is assigned again: since when, and the walk to there."""
+    """What is accessed that was moved or has no value, or is assigned again: since when, and the walk to there.
+
+    `turn` says how many of that code and place come before.
+    """
 
     point: int
     place: Place
@@ -96,6 +99,7 @@ class Gone(NamedTuple):
     what: str
     walk: list
     since: list
+    turn: int = 0
 
 
 class Label(NamedTuple):
@@ -208,8 +212,9 @@ class Beside:
     def take_drops(self, region, points):
         self.drops[region] = set(numbers(points))
 
-    def take_called(self, point, place):
-        self.called[int(point)] = place_of(place)
+    def take_called(self, point, loans, place):
+        for loan in numbers(loans) if loans else [None]:
+            self.called[int(point), loan] = place_of(place)
 
     def take_captured(self, point, region, place):
         self.captured[int(point), region] = place_of(place)
@@ -219,14 +224,14 @@ class Beside:
 
     def error_of(self, gone):
         """The error of rustc that an error of a move or an assignment is; None where the text lacks it."""
-        return next((error for error in self.rustc if (error.line, error.column, error.code())
-                     == (*gone.place[:2], gone.code)), None)
+        found = [error for error in self.rustc if (error.line, error.column, error.code()) == (*gone.place[:2], gone.code)]
+        return found[min(gone.turn, len(found) - 1)] if found else None
 
     def take_gone(self, point, line, column, code, what, walk, since):
         place = Place(int(line), int(column), int(line), int(column))
-        one = Gone(int(point), place, code, what, numbers(walk), numbers(since))
-        if one.place not in [known.place for known in self.gone]:
-            self.gone.append(one)
+        there = [known.point for known in self.gone if known.place == place]
+        if int(point) not in there:
+            self.gone.append(Gone(int(point), place, code, what, numbers(walk), numbers(since), len(there)))
 
     def take_rustc(self, line, column, words):
         self.rustc.append(Error(int(line), int(column), words, [], [], []))

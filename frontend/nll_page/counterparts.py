@@ -15,10 +15,12 @@ def counterpart(content, told):
 
     Several functions that use a macro may have errors at one place in it: of these it is the one of the same loan.
     """
-    found = [(level, isinstance(told.fault, LoanFault) and not is_of_same(content, told.fault, error), number)
-             for number, error in enumerate(content.facts.remarks.beside.rustc)
-             if (level := nearness(content, told, error)) is not None]
-    return content.facts.remarks.beside.rustc[min(found)[2]] if found else None
+    found = sorted((level, isinstance(told.fault, LoanFault) and not is_of_same(content, told.fault, error), number)
+                   for number, error in enumerate(content.facts.remarks.beside.rustc)
+                   if (level := nearness(content, told, error)) is not None)
+    alike = [one for one in found if one[0] == found[0][0]]
+    turn = told.fault.turn if isinstance(told.fault, LoanFault) else 0
+    return content.facts.remarks.beside.rustc[alike[min(turn, len(alike) - 1)][2]] if found else None
 
 
 def nearness(content, told, error):

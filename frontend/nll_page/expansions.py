@@ -2,6 +2,7 @@
 
 import re
 
+MADE = re.compile(r"borrow (of `.*` )?occurs here|is borrowed here")
 LATER = re.compile(r"later (used|stored|captured|borrowed)|might be used here|in later iteration")
 
 
@@ -15,7 +16,7 @@ def placed(facts, found):
             place = error.place()
             against = one.against._replace(place=one.against.place or place)
             one = one._replace(place=place, loan=one.loan._replace(place=one.loan.place or place), against=against)
-        yield with_place_of_use(facts, one)
+        yield with_place_of_use(facts, with_place_of_loan(facts, one))
 
 
 def without_known(errors, found):
@@ -26,6 +27,16 @@ def without_known(errors, found):
         if there:
             left.remove(min(there, key=lambda error: error.place() != place))
     return left
+
+
+def with_place_of_loan(facts, one):
+    """The fault with the place of its loan, where a macro makes that."""
+    if one.loan.place is not None or one.place is None:
+        return one
+    errors = (error for error in facts.remarks.beside.rustc if (error.line, error.column, error.code()) == (*one.place[:2], one.code))
+    place = next((label.place for error in errors for label in error.labels
+                  if MADE.search(label.words) and label.place[:2] != one.place[:2]), None)
+    return one._replace(loan=one.loan._replace(place=place))
 
 
 def with_place_of_use(facts, one):

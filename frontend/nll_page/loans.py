@@ -41,7 +41,10 @@ class Cause(NamedTuple):
 
 
 class LoanFault(NamedTuple):
-    """A loan that something goes against while it is in force; rustc's code and place of it."""
+    """A loan that something goes against while it is in force; rustc's code and place of it.
+
+    `turn` says how many of that code and place come before: a macro that is used often has several.
+    """
 
     code: str
     place: Optional[Place]
@@ -49,6 +52,7 @@ class LoanFault(NamedTuple):
     loan: Loan
     against: Against
     cause: Cause
+    turn: int = 0
 
 
 def loan_faults(facts, values):
@@ -65,7 +69,8 @@ def loan_faults(facts, values):
         points = {one.point for one in against.get(number, ())} & force
         for one in against.get(number, ()):
             if one.point in points and one.begun not in points:
-                cause = why(facts, values, region, one.point)
+                here = again(facts, values, region) if one.point == loan.at else None
+                cause = why(facts, values, region, one.point if here is None else here)
                 found.append(fault(facts, number, loan, one, cause))
     told = list(each_once(beside, sorted(first_of_each_access(found), key=order)))
     return sorted(expansions.placed(facts, told), key=order)
@@ -88,6 +93,14 @@ def in_force(facts, inside, loan, killed):
     return reached
 
 
+def again(facts, values, region):
+    """The first point of a loop in the region's value: there rustc asks why a loan is in force that a borrow makes again."""
+    points = range(facts.points)
+    loops = {spot[0] for point in points if (said := facts.remarks.point(point)).text.startswith("falseUnwind") and (spot := said.spot())}
+    return next((point for point in points if loops and values.has(region, point)
+                 and (facts.remarks.point(point).spot() or ("",))[0] in loops), None)
+
+
 def first_of_each_access(found):
     """Of the loans that one access goes against the first, as rustc does; all of those that outlive the function."""
     seen = set()
@@ -100,15 +113,29 @@ def first_of_each_access(found):
 
 def each_once(beside, found):
     """Without what rustc wouldn't say again: of the same loan's end, of the same access, of a borrow's second phase."""
-    told, first_phases = set(), points_of_first_phases(beside, found)
+    told, turns, first_phases = marks_of_mutability(beside), {}, points_of_first_phases(beside, found)
     for one in found:
         if one.against.way == "late" and first_phases.get(one.against.what, one.against.point) < one.against.point:
             continue
-        marks = marks_of_end(one) if one.against.way in ENDING else \
-            marks_of_access(one)
-        if told.isdisjoint(marks):
-            yield one
+        marks = marks_of_end(one) if one.against.way in ENDING else marks_of_access(one)
+        turn = turns.get((one.place, one.code), [])
+        if told.isdisjoint(marks) or is_further_use(beside, one, turn):
+            yield one._replace(turn=len(turn))
+            turns[one.place, one.code] = [*turn, one.against.point]
         told |= marks
+        if one.place and one.against.way not in ENDING:
+            told.add(("access", one.place[:2], one.against.what))
+
+
+def is_further_use(beside, one, points):
+    """Whether rustc has more errors of that code and place than those of these points: by further uses of a macro."""
+    errors = [error for error in beside.rustc if one.place and (error.line, error.column, error.code()) == (*one.place[:2], one.code)]
+    return one.against.way not in ENDING and one.against.point not in points and 0 < len(points) < len(errors)
+
+
+def marks_of_mutability(beside):
+    """The variables that rustc says can't be borrowed as mutable, and where: of their ends there it says no more."""
+    return {("access", (error.line, error.column), error.named()) for error in beside.rustc if error.code() == "E0596"}
 
 
 def points_of_first_phases(beside, found):
@@ -133,16 +160,18 @@ def marks_of_access(one):
 
 
 def marks_of_end(one):
-    """By what a loan's end is known again: the loan, or the variable and where it is borrowed."""
+    """By what a loan's end is known again: the loan, or the variable and where it is borrowed; an access to it there, too."""
     loan = one.loan
     is_use = loan.by_closure and loan.home and one.code != "E0373"
     place = loan.home if is_use else loan.place
     variable = one.against.what.split(".")[0] if loan.is_of_temporary() else loan.what.lstrip("*")
-    return {("end", one.number), *([("end", variable, place)] if place else [])}
+    marks = [("end", variable, place), *([] if loan.by_closure else [("access", place[:2], variable)])] if place else []
+    return {("end", one.number), *marks}
 
 
 def fault(facts, number, loan, against, cause):
     code, place = CODES.get(against.way), against.place
+    cause = cause._replace(place=facts.remarks.beside.called.get((cause.use, number), cause.place))
     if loan.kind == "fake":
         code = "E0510"
     elif against.way in BORROWING:
@@ -256,7 +285,7 @@ def used(facts, region, point, steps):
     for onwards in (partial(without_unwinding, facts), facts.successors.__getitem__):
         if found := nearest_use(facts, region, point, onwards):
             beside, name = facts.remarks.beside, facts.names[region]
-            return Cause(region, *found, steps, beside.called.get(found[0]) or beside.captured.get((found[0], name)))
+            return Cause(region, *found, steps, beside.called.get((found[0], None)) or beside.captured.get((found[0], name)))
     return Cause(region, None, False, steps)
 
 

@@ -68,7 +68,7 @@ class Telling(NamedTuple):
 def of_fault(content, fault, further=()):
     """A lifetime that would have to outlive another; and, at the same place, further ones."""
     named = blame.of_fault(content.facts, fault)
-    told = Telling(place_of_fault(content.facts, fault, named), "", [], [], fault)
+    told = Telling(place_of_fault(content, fault, named), "", [], [], fault)
     error = counterpart(content, told)
     lifetimes = Lifetimes(content, fault, error)
     asker = f": {ASKERS[named.word]} requires it" if named and named.word in ASKERS else ""
@@ -81,14 +81,40 @@ def of_fault(content, fault, further=()):
 
 
 def of_faults(content):
-    """The faults, each place and longer lifetime once; rustc's own pair comes first."""
+    """The faults, each place and longer lifetime once; rustc's own pair comes first. What rustc doesn't say beside
+    another one is told with that."""
     groups = {}
     for fault in content.faults:
-        place = place_of_fault(content.facts, fault, blame.of_fault(content.facts, fault))
+        place = place_of_fault(content, fault, blame.of_fault(content.facts, fault))
         groups.setdefault((fault.sup, place[:2] if place else fault.sub), []).append(fault)
+    told = []
     for faults in groups.values():
         faults.sort(key=lambda one: not is_of_rustc(content, one))
-        yield of_fault(content, faults[0], faults[1:])
+        told.append(of_fault(content, faults[0], faults[1:]))
+    return folded(told, [counterpart(content, one) for one in told])
+
+
+def folded(told, errors):
+    """The tellings of faults; those that rustc has no error of, or the same one, stand in another one as a sentence.
+
+    Of the lifetimes that one would have to outlive rustc names the first alone, and of two that would have to be equal
+    it says once that one has to be named in a type.
+    """
+    kept = {}
+    for number, (one, error) in enumerate(zip(told, errors)):
+        home = next((at for at, other in enumerate(told) if errors[at] and (
+            error is None and other.fault.sup == one.fault.sup
+            or at in kept and error is errors[at] and error.code() == "E0621"
+            and (other.fault.sup, other.fault.sub) == (one.fault.sub, one.fault.sup))), number)
+        kept.setdefault(home, []).append(one)
+    return [told[at]._replace(more=with_others(told[at].more, [one.cause for one in its if one is not told[at]]))
+            for at, its in sorted(kept.items())]
+
+
+def with_others(more, causes):
+    """The sentences, with how further faults come about before what rustc advises."""
+    at = next((number for number, said in enumerate(more) if said[0] == HELP), len(more))
+    return [*more[:at], *(["also, ", *cause] for cause in causes), *more[at:]]
 
 
 def is_of_rustc(content, fault):
@@ -111,12 +137,15 @@ def used_macro(content, error):
     return [[f"{INVOCATION}: ", *line_stop(content, line)] for line in lines]
 
 
-def place_of_fault(facts, fault, named):
-    """rustc's place; of a text that doesn't say it, the line at which the chain begins."""
+def place_of_fault(content, fault, named):
+    """rustc's place; of a text that doesn't say it, that of an error of rustc on the line at which the chain begins, or
+    that line alone. So it is with what a macro of another file makes."""
     if named and named.place:
         return named.place
-    line = words.entry(facts, fault.steps)
-    return None if line is None else Place(line, 0, line, 0)
+    line = words.entry(content.facts, fault.steps)
+    place = None if line is None else Place(line, 0, line, 0)
+    error = counterpart(content, Telling(place, "", [], [], fault)) if place else None
+    return error.place() if error and error.line == line else place
 
 
 def way_of(content, fault, lifetimes):

@@ -7,7 +7,7 @@ import unittest
 
 import page_support
 from nll_facts.accesses import accesses
-from nll_facts.desugarings import MACRO, Desugarings, lines_of
+from nll_facts.desugarings import Desugarings, declarations
 from nll_facts.destructors import destroyed_by, path_to
 from nll_facts.dumps import Dump
 from nll_facts.errors import own_errors
@@ -353,7 +353,7 @@ class Desugared(unittest.TestCase):
     TEXT = ["macro_rules! twice {", "    ($x:expr) => { $x + $x };", "}", "fn f() { for x in all() {} g().await; h()? }"]
 
     def has(self, line, column, end, category="Boring", expansion=4):
-        own = Desugarings("a.rs", self.TEXT, [lines_of("\n".join(self.TEXT), MACRO.search(self.TEXT[0]))])
+        own = Desugarings("a.rs", self.TEXT, declarations("\n".join(self.TEXT)))
         return own.has(reason_of(f"| '?1: '?2 due to {category} at Single(bb0[0]) "
                                  f"(a.rs:{line}:{column}: {line}:{end} (#{expansion})"))
 
@@ -364,6 +364,10 @@ class Desugared(unittest.TestCase):
         self.assertTrue(self.has(4, 39, 43))
         self.assertFalse(self.has(4, 19, 24, expansion=0))
         self.assertFalse(self.has(2, 20, 27))
+
+    def test_declarations_of_macros(self):
+        self.assertEqual(declarations("\n".join(self.TEXT)), [((1, 1), (3, 1))])
+        self.assertEqual(declarations("fn f() { macro_rules! m { () => {} } m!() }"), [((1, 10), (1, 36))])
 
 
 class AnyLocale(unittest.TestCase):
