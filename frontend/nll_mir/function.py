@@ -1,5 +1,6 @@
 """Reads one function of rustc: its variables, its lines, its regions, and what it asks of them."""
 
+import re
 from collections import defaultdict
 from dataclasses import dataclass, field
 from typing import Callable, Iterable, Iterator, Optional
@@ -9,10 +10,13 @@ from nll_facts.mir import Body, Reason, read_body
 from nll_facts.tables import Location, Reader as Tables, region, variable
 
 from .constants import Known, named_constants, with_types
-from .refusal import NotSaid
-from .statements import Assign, Call, Constant, Drop, Jump, Place, Read, read_statement, read_terminator
+from .refusal import NOT_READ, NotSaid
+from .statements import (Assign, Call, Constant, Drop, Jump, Place, Read, Storage, read_statement,
+                         read_terminator)
 from .types import STATIC, Type, read_type
 
+ASKED = "\n| Inference Constraints\n"
+AT = re.compile(r"// bb(\d+)\[(\d+)\]: scope ")
 BOUNDS = ("Predicate", "TypeAnnotation", "BoringNoLocation")
 OF_TYPES = ("Boring", "ClosureUpvar", "Assignment")
 
@@ -40,8 +44,7 @@ def read_function(dump: Dump) -> Function:
     body = read_body(dump.mir)
     with open(dump.mir, encoding="utf-8") as file:
         text = file.read()
-    if "\n}\n" not in text:
-        raise NotSaid("a dump that isn't whole")
+    refuse_strange(text, body)
     tables = Tables(dump.facts)
     drops = defaultdict(set)
     for local, origin in tables.pairs("drop_of_var_derefs_origin", variable, region):
@@ -55,12 +58,33 @@ def read_function(dump: Dump) -> Function:
         outlives=tables.pairs("known_placeholder_subset", region, region),
         drops=drops,
     )
+    refuse_undeclared(function)
     asked: dict[Optional[Location], list[Reason]] = defaultdict(list)
     for reason in body.reasons:
         asked[reason.location].append(reason)
     function.asked = asked
     function.visible = visible_regions(function)
     return function
+
+
+def refuse_strange(text: str, body: Body) -> None:
+    """Refuses a dump that is cut, or of which a line above the function, or a statement, wasn't read."""
+    if "\n}\n" not in text:
+        raise NotSaid("a dump that isn't whole")
+    _, _, rest = text.partition(ASKED)
+    section = rest.partition("\n|\n")[0]
+    if section.count("\n| ") + 1 != len(body.reasons) + len(body.live.said):
+        raise NotSaid(NOT_READ, "rustc's constraints")
+    if [Location(int(block), int(index)) for block, index in AT.findall(text)] != list(body.statements):
+        raise NotSaid(NOT_READ, "rustc's locations of statements")
+
+
+def refuse_undeclared(function: Function) -> None:
+    """Refuses a dump with a variable that has no type."""
+    used = {place.local for line in function.lines.values() for place in places_of(line)}
+    used |= {line.local for line in function.lines.values() if isinstance(line, Storage)}
+    for local in sorted(used - function.locals.keys()):
+        raise NotSaid(NOT_READ, f"_{local} isn't declared")
 
 
 def read_lines(body: Body, constants: Known) -> dict[Location, tuple]:

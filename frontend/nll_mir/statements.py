@@ -276,8 +276,11 @@ def targets_of(text: str) -> tuple[str, dict[str, Optional[int]]]:
     if found[2]:
         return text[:found.start()], {"return": int(found[2][2:])}
     blocks: dict[str, Optional[int]] = {}
-    for name, block in NAMED.findall(found[1] or found[3]):
-        blocks[name] = int(block[2:]) if block.startswith("bb") else None
+    for part in (found[1] or found[3]).split(", "):
+        named = NAMED.fullmatch(part)
+        if not named:
+            raise NotSaid("a terminator that isn't understood", part)
+        blocks[named[1]] = int(named[2][2:]) if named[2].startswith("bb") else None
     return text[:found.start()], blocks
 
 

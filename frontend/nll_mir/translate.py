@@ -279,9 +279,12 @@ class Translator:
     def hides(self, line: Assign) -> bool:
         """Whether the place is of an `impl Trait` and the value of another type, which it hides."""
         target = self.walk(line.place).type
-        if not is_opaque(target) or self.structs.is_int(target):
+        if not is_opaque(target):
             return False
-        return line.kind != "use" or not self.fits(self.operand(line.operands[0])[1], target)
+        if line.kind == "use":
+            return not self.fits(self.operand(line.operands[0])[1], target)
+        types = [target, *(self.operand(operand)[1] for operand in line.operands)]
+        return line.kind in ("ref", "mut") or not all(map(self.structs.is_int, types))
 
     def hide(self, line: Assign, paths: Paths) -> None:
         self.approximate("a value that an `impl Trait` hides, by what rustc asks of both types")
@@ -392,6 +395,8 @@ class Translator:
 
     def make(self, line: Assign, paths: Paths) -> None:
         target = self.walk(line.place)
+        if line.type is not None and "::" not in line.type.name and line.type.name != target.type.name:
+            raise NotSaid("a value that isn't understood", line.type.name)
         is_plain = all(self.structs.is_int(self.operand(operand)[1]) for operand in line.operands)
         if is_plain and self.structs.is_int(target.type) and target.text:
             self.plain(line, target.text)
