@@ -54,7 +54,8 @@ class Assign(NamedTuple):
     """`PLACE = ..`: the kind of value, its operands, and what else the kind has.
 
     The kinds: use, ref, mut, raw, cast, pair (operators, discriminants, metadata), tuple, array, make (a struct, enum or
-    closure) and repeat. `operands` has the places with how they are read: `copy`, `move`.
+    closure), repeat and static (a reference to one of each thread). `operands` has the places with how they are read:
+    `copy`, `move`.
     """
 
     place: Place
@@ -147,7 +148,8 @@ class Lines(Reader):
             return self.place()._replace(is_moved=True)
         if self.takes("copy ") or self.text.startswith("_", self.at):
             return self.place()
-        self.takes("const ")
+        if not self.takes("const ") and not self.text.startswith("ConstValue(", self.at):
+            raise self.strange()
         return self.constant()
 
     def constant(self) -> Constant:
@@ -179,6 +181,9 @@ class Lines(Reader):
         if found := self.match(BORROW):
             kind = {"mut": "mut", None: "ref"}.get(found[2], "fake")
             return Assign(place, kind, (self.place(),), region=int(found[1]))
+        if self.takes("&/*tls*/ "):
+            self.at = len(self.text)
+            return Assign(place, "static")
         if found := self.match(RAW):
             return Assign(place, "raw", (self.place(),), word=found[1])
         if found := self.match(PAIR):

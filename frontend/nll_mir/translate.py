@@ -273,7 +273,7 @@ class Translator:
     def assign(self, line: Assign, paths: Paths) -> None:
         kinds = {"use": self.use, "ref": self.borrow, "mut": self.borrow, "fake": self.borrow, "raw": self.raw,
                  "cast": self.cast, "pair": self.pair, "tuple": self.tuple, "array": self.array, "repeat": self.array,
-                 "make": self.make}
+                 "make": self.make, "static": self.static}
         (self.hide if self.hides(line) else kinds[line.kind])(line, paths)
 
     def hides(self, line: Assign) -> bool:
@@ -325,6 +325,10 @@ class Translator:
         asked = f" where {', '.join(bounds)}" if bounds else ""
         self.add(f"{target.text} = call borrow(copy {borrowed.prefix}: {self.spell(borrowed.prefix_type)}): "
                  f"{self.spell(type)}{asked} -> %s", (NEXT,))
+
+    def static(self, line: Assign, paths: Paths) -> None:
+        """A reference to a static, one of each thread: all regions of its type are 'static."""
+        self.call(line.place, "static", [], self.walk(line.place).type.shape())
 
     def raw(self, line: Assign, paths: Paths) -> None:
         pointed = self.walk(line.operands[0])

@@ -73,6 +73,7 @@ LINES = {
     "changed": ["_13.* = move _14", "_4 = &'1 mut _1.*.1", "_5 = &'1 mut _1.*.2",
                 "_14 = call Both(move _15: &'1 int, move _16: &'1 int): Shape<'1> -> bb2",
                 "_0 = call Div(move _8: int, move _9: int): int -> bb12"],
+    "WORD::{constant#0}::{closure#0}": ["_4 = call static(): &'static EagerStorage<'static> -> bb1"],
     "nested::{closure#0}": ["_3 = call closure(copy _1.0: &'1 int): Closure0_2<'1, '2> where '3: '2, '1: '2 -> bb1",
                             "struct Closure0 <'p1 =, 'p2 =, 'p3 => (&'p1 int)"],
 }
@@ -80,7 +81,9 @@ LINES = {
 # What `nllc check` says of a text; of all others it is `ok`. What a closure needs is asked of the function around it.
 FAULTS = {"wrong": [("a", "b")], "captures::{closure#0}": [("r4", "r2")],
           "iterated::{closure#0}": [("r1", "r2")], "opaque::{closure#0}": [("r1", "r2")],
-          "nested::{closure#0}": [("r3", "r1"), ("r3", "r2")], "nested::{closure#0}::{closure#0}": [("r2", "r1")]}
+          "nested::{closure#0}": [("r3", "r1"), ("r3", "r2")], "nested::{closure#0}::{closure#0}": [("r2", "r1")],
+          "WORD::{constant#0}::{closure#0}": [("r2", "static")], "WORD::{constant#0}::{closure#1}": [("r2", "static")],
+          "of_thread::{closure#0}": [("r1", "r2"), ("r4", "r1"), ("r4", "r2")]}
 WITHOUT = {"waits::{closure#0}": "a coroutine"}
 
 

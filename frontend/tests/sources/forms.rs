@@ -330,3 +330,11 @@ pub fn changed<'a>(shape: &mut Shape<'a>, text: &'a str) -> u32 {
 pub fn nested<'a>(text: &'a str) -> impl FnOnce() -> Box<dyn FnOnce() -> &'a str + 'a> {
     move || Box::new(move || text)
 }
+
+thread_local! {
+    static WORD: std::cell::Cell<&'static str> = const { std::cell::Cell::new("word") };
+}
+
+pub fn of_thread(word: &'static str) -> &'static str {
+    WORD.with(|kept| kept.replace(word))
+}
