@@ -10,7 +10,7 @@ from typing import Iterator, NamedTuple, Optional
 
 from nll_facts.tables import Location
 
-from .definitions import Definitions, behind, is_box, is_opaque, made_type
+from .definitions import Definitions, behind, has_opaque, is_box, is_opaque, made_type
 from .function import Function, Paths, places_of
 from .refusal import NotSaid
 from .statements import Assign, Call, Constant, Drop, Jump, Leave, Nothing, Operand, Place, Read, Storage
@@ -277,14 +277,17 @@ class Translator:
         (self.hide if self.hides(line) else kinds[line.kind])(line, paths)
 
     def hides(self, line: Assign) -> bool:
-        """Whether the place is of an `impl Trait` and the value of another type, which it hides."""
+        """Whether the place's type has an `impl Trait` where the value's has another type, which it hides."""
         target = self.walk(line.place).type
-        if not is_opaque(target):
+        if not has_opaque(target):
             return False
-        if line.kind == "use":
-            return not self.fits(self.operand(line.operands[0])[1], target)
-        types = [target, *(self.operand(operand)[1] for operand in line.operands)]
-        return line.kind in ("ref", "mut") or not all(map(self.structs.is_int, types))
+        types = tuple(self.operand(operand)[1] for operand in line.operands)
+        if line.kind in ("use", "tuple"):
+            return not self.fits(types[0] if line.kind == "use" else Type("tuple", "", types), target)
+        if is_opaque(target):
+            return line.kind in ("ref", "mut") or not all(map(self.structs.is_int, (target, *types)))
+        return line.kind == "make" and line.type is not None and \
+            line.type._replace(form="", name="").shape() != target._replace(form="", name="").shape()
 
     def hide(self, line: Assign, paths: Paths) -> None:
         self.approximate("a value that an `impl Trait` hides, by what rustc asks of both types")

@@ -49,9 +49,9 @@ class Texts(unittest.TestCase):
     def test_a_file(self):
         with tempfile.TemporaryDirectory() as folder:
             done = run("mir", "frontend/tests/sources/forms.rs", "-o", folder)
-            self.assertEqual(len(done.stdout.splitlines()), 66)
+            self.assertEqual(len(done.stdout.splitlines()), 70)
             self.assertEqual(done.stderr.splitlines(), [
-                "nllc.sh mir: waits::{closure#0}: a coroutine", "nllc.sh mir: 66 texts; without one 1 for a coroutine"])
+                "nllc.sh mir: waits::{closure#0}: a coroutine", "nllc.sh mir: 70 texts; without one 1 for a coroutine"])
             self.assertEqual(sorted(os.listdir(folder)), sorted(map(os.path.basename, done.stdout.splitlines())))
             self.assertEqual(done.returncode, 0)
 

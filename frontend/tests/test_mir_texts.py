@@ -74,6 +74,8 @@ LINES = {
                 "_14 = call Both(move _15: &'1 int, move _16: &'1 int): Shape<'1> -> bb2",
                 "_0 = call Div(move _8: int, move _9: int): int -> bb12"],
     "WORD::{constant#0}::{closure#0}": ["_4 = call static(): &'static EagerStorage<'static> -> bb1"],
+    "enough": ["_0 = call hide(move _9: int): Result<'1> where '1: '2, '3: '4, '5: '3, '4: '3, '2: '1 -> bb5"],
+    "with_length": ["_0 = call hide(move _2: Closure0<'1, '2>, move _3: int): (Opaque0<'3>, int) where '3: '2, '2: '3 -> bb3"],
     "nested::{closure#0}": ["_3 = call closure(copy _1.0: &'1 int): Closure0_2<'1, '2> where '3: '2, '1: '2 -> bb1",
                             "struct Closure0 <'p1 =, 'p2 =, 'p3 => (&'p1 int)"],
 }
@@ -83,6 +85,7 @@ FAULTS = {"wrong": [("a", "b")], "captures::{closure#0}": [("r4", "r2")],
           "iterated::{closure#0}": [("r1", "r2")], "opaque::{closure#0}": [("r1", "r2")],
           "nested::{closure#0}": [("r3", "r1"), ("r3", "r2")], "nested::{closure#0}::{closure#0}": [("r2", "r1")],
           "WORD::{constant#0}::{closure#0}": [("r2", "static")], "WORD::{constant#0}::{closure#1}": [("r2", "static")],
+          "enough::{closure#0}": [("r1", "r2")], "with_length::{closure#0}": [("r2", "r1")],
           "of_thread::{closure#0}": [("r1", "r2"), ("r4", "r1"), ("r4", "r2")]}
 WITHOUT = {"waits::{closure#0}": "a coroutine"}
 

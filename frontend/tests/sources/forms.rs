@@ -338,3 +338,14 @@ thread_local! {
 pub fn of_thread(word: &'static str) -> &'static str {
     WORD.with(|kept| kept.replace(word))
 }
+
+pub fn enough<'a>(words: &'a [String], least: usize) -> Result<impl Iterator<Item = &'a str>, usize> {
+    if words.len() < least {
+        return Err(words.len());
+    }
+    Ok(words.iter().map(|word| word.as_str()))
+}
+
+pub fn with_length<'a>(text: &'a str) -> (impl Fn() -> &'a str, usize) {
+    (move || text, text.len())
+}
