@@ -9,7 +9,7 @@ from nll_facts.dumps import Dump
 from nll_facts.mir import Body, Reason, read_body
 from nll_facts.tables import Location, Reader as Tables, region, variable
 
-from .constants import Known, named_constants, with_types
+from .constants import Known, captures, named_constants, with_types
 from .refusal import NOT_READ, NotSaid
 from .statements import (Assign, Call, Constant, Drop, Jump, Place, Read, Storage, read_statement,
                          read_terminator)
@@ -59,6 +59,7 @@ def read_function(dump: Dump) -> Function:
         drops=drops,
     )
     refuse_undeclared(function)
+    refuse_unprinted(function, captures(text) if "// closure\n" in text or "// coroutine\n" in text else {})
     asked: dict[Optional[Location], list[Reason]] = defaultdict(list)
     for reason in body.reasons:
         asked[reason.location].append(reason)
@@ -85,6 +86,14 @@ def refuse_undeclared(function: Function) -> None:
     used |= {line.local for line in function.lines.values() if isinstance(line, Storage)}
     for local in sorted(used - function.locals.keys()):
         raise NotSaid(NOT_READ, f"_{local} isn't declared")
+
+
+def refuse_unprinted(function: Function, counts: dict[Location, int]) -> None:
+    """Refuses where a closure captures several parts of one variable, of which rustc prints one."""
+    for location, count in counts.items():
+        line = function.lines[location]
+        if isinstance(line, Assign) and len(line.operands) != count:
+            raise NotSaid("captures that rustc doesn't print")
 
 
 def read_lines(body: Body, constants: Known) -> dict[Location, tuple]:
@@ -161,6 +170,7 @@ class Paths:
 
     def __init__(self, function: Function, location: Location):
         self.visible = function.visible
+        self.span = function.body.statements[location].span
         self.reasons = function.asked.get(location, ())
         self.onwards: dict[int, list[int]] = defaultdict(list)
         for reason in self.reasons:
@@ -174,30 +184,30 @@ class Paths:
         """Whether any chain leads from one region to another."""
         return end in reached(self.onwards, begin, lambda one: False)
 
-    def pairs(self, left_out: Callable[[str], bool] = lambda category: False) -> set[tuple[int, int]]:
-        """The visible regions at the ends of all chains, without those that need a category that is left out."""
+    def pairs(self, left_out: Callable[[Reason], bool] = lambda reason: False) -> set[tuple[int, int]]:
+        """The visible regions at the ends of all chains, without those that need a constraint that is left out."""
         onwards: dict[int, list[int]] = defaultdict(list)
         for reason in self.reasons:
-            if not left_out(reason.category):
+            if not left_out(reason):
                 onwards[reason.sup].append(reason.sub)
         begins = [one for one in onwards if one in self.visible]
         return {(begin, end) for begin in begins
                 for end in reached(onwards, begin, self.visible.__contains__)
                 if end in self.visible and end != begin and begin != STATIC}
 
-    def needing(self, is_needed: Callable[[str], bool]) -> set[tuple[int, int]]:
-        """The pairs for which each chain needs a constraint of such a category."""
-        if not any(is_needed(reason.category) for reason in self.reasons):
+    def needing(self, is_needed: Callable[[Reason], bool]) -> set[tuple[int, int]]:
+        """The pairs for which each chain needs such a constraint."""
+        if not any(map(is_needed, self.reasons)):
             return set()
         return self.pairs() - self.pairs(is_needed)
 
     def bounds(self) -> set[tuple[int, int]]:
         """What bounds ask: predicates, types that are to be well-formed, or that the source writes."""
-        return self.needing(BOUNDS.__contains__)
+        return self.needing(lambda reason: reason.category in BOUNDS)
 
     def needs(self) -> set[tuple[int, int]]:
-        """What a closure asks of the function around it, beside bounds."""
-        return self.needing(lambda category: category not in OF_TYPES)
+        """What a closure asks of the function around it, beside bounds: that stands where its own code does."""
+        return self.needing(lambda reason: reason.category not in OF_TYPES or reason.span != self.span)
 
 
 def reached(onwards: dict[int, list[int]], begin: int, is_end) -> set[int]:

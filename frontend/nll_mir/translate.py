@@ -411,7 +411,7 @@ class Translator:
         if line.type is None:
             parts = target.type.parts[0].parts if target.type.form in ("closure", "coroutine") else ()
             if len(parts) != len(line.operands):
-                raise NotSaid("a coroutine")
+                raise NotSaid("types that don't fit", f"a closure, {target.type.form} {target.type.name}")
             self.call(line.place, "closure", list(zip(line.operands, parts)), target.type, paths.bounds() | paths.needs())
             return
         made = made_type(line.type, target.type)

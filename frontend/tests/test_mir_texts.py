@@ -76,6 +76,8 @@ LINES = {
     "WORD::{constant#0}::{closure#0}": ["_4 = call static(): &'static EagerStorage<'static> -> bb1"],
     "enough": ["_0 = call hide(move _9: int): Result<'1> where '1: '2, '3: '4, '5: '3, '4: '3, '2: '1 -> bb5"],
     "with_length": ["_0 = call hide(move _2: Closure0<'1, '2>, move _3: int): (Opaque0<'3>, int) where '3: '2, '2: '3 -> bb3"],
+    "kept_by_a_closure": ["_3 = call closure(move _4: &'1 mut Option<'2>, move _5: &'3 &'4 int): Closure0<'1, '2, '3, '4> "
+                          "where '4: '2, '4: '5, '6: '2, '6: '5 -> bb2"],
     "nested::{closure#0}": ["_3 = call closure(copy _1.0: &'1 int): Closure0_2<'1, '2> where '3: '2, '1: '2 -> bb1",
                             "struct Closure0 <'p1 =, 'p2 =, 'p3 => (&'p1 int)"],
 }
@@ -85,9 +87,10 @@ FAULTS = {"wrong": [("a", "b")], "captures::{closure#0}": [("r4", "r2")],
           "iterated::{closure#0}": [("r1", "r2")], "opaque::{closure#0}": [("r1", "r2")],
           "nested::{closure#0}": [("r3", "r1"), ("r3", "r2")], "nested::{closure#0}::{closure#0}": [("r2", "r1")],
           "WORD::{constant#0}::{closure#0}": [("r2", "static")], "WORD::{constant#0}::{closure#1}": [("r2", "static")],
+          "kept_by_a_closure::{closure#0}": [("r4", "r2")],
           "enough::{closure#0}": [("r1", "r2")], "with_length::{closure#0}": [("r2", "r1")],
           "of_thread::{closure#0}": [("r1", "r2"), ("r4", "r1"), ("r4", "r2")]}
-WITHOUT = {"waits::{closure#0}": "a coroutine"}
+WITHOUT = {"waits::{closure#0}": "a coroutine", "two_parts": "captures that rustc doesn't print"}
 
 
 class Forms(unittest.TestCase):

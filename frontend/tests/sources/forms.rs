@@ -349,3 +349,14 @@ pub fn enough<'a>(words: &'a [String], least: usize) -> Result<impl Iterator<Ite
 pub fn with_length<'a>(text: &'a str) -> (impl Fn() -> &'a str, usize) {
     (move || text, text.len())
 }
+
+pub fn two_parts<'a>(pair: (&'a str, &'a str, u32)) -> impl FnOnce() -> usize + use<'a> {
+    move || pair.0.len() + pair.1.len()
+}
+
+pub fn kept_by_a_closure<'a>(text: &'a str) -> Option<&'a str> {
+    let mut kept = None;
+    let mut keep = || kept = Some(text);
+    keep();
+    kept
+}
