@@ -1,15 +1,17 @@
-"""The types of constants that have a name, which rustc writes in remarks below the statement."""
+"""What rustc writes in remarks below a statement: the types of constants that have a name, and what closures capture."""
 
 import re
+from typing import Optional
 
 from nll_facts.tables import Location
 
 from .statements import Assign, Call, Constant
-from .types import Type, read_type
+from .types import Reader, Type, read_type
 
 AT = re.compile(r"// bb(\d+)\[(\d+)\]: ")
 REMARK = "// + const_: Const { ty: "
 VALUE = ", val: Unevaluated("
+CAPTURES = re.compile(r" +// (?:closure|coroutine)\n(?: +// .*\n)*?(?: +// {5}(\(.*\)),\n)? +// \]\n")
 
 Known = dict[Location, list[tuple[str, Type]]]
 
@@ -29,6 +31,31 @@ def named_constants(text: str) -> Known:
             type, _, name = line[at + len(REMARK):].partition(VALUE)
             found.setdefault(location, []).append((last_word(name), read_type(type)))
     return found
+
+
+def captures(text: str) -> dict[Location, int]:
+    """For each location at which a closure or coroutine is made, how many captures it has.
+
+    The statement itself has no more of them than variables that they are parts of.
+    """
+    return {at: parts_in(found[1] or "()") for found in CAPTURES.finditer(text)
+            if (at := place_above(text, found.start()))}
+
+
+def place_above(text: str, end: int) -> Optional[Location]:
+    """The location of the statement above."""
+    found = list(AT.finditer(text, text.rfind(";", 0, end), end))
+    return Location(int(found[-1][1]), int(found[-1][2])) if found else None
+
+
+def parts_in(text: str) -> int:
+    """How many parts a tuple has that is written like this: `()`, `(A,)`, `(A, B)`."""
+    reader, count = Reader(text, 1), 0
+    while not reader.takes(")"):
+        reader.skip(",)")
+        count += 1
+        reader.takes(", ") or reader.takes(",")
+    return count
 
 
 def last_word(text: str) -> str:

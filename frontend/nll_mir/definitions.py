@@ -35,6 +35,11 @@ def is_opaque(type: Type) -> bool:
     return type.form == "alias" and "{opaque#" in type.name
 
 
+def has_opaque(type: Type) -> bool:
+    """Whether an `impl Trait` of a result is the type, or a part of it."""
+    return is_opaque(type) or any(isinstance(part, Type) and has_opaque(part) for part in type.parts)
+
+
 def own_signs(type: Type) -> list[Optional[str]]:
     """The signs of a type's parts; None where it is for a definition to say."""
     count = len(type.parts)

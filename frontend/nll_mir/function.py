@@ -1,5 +1,6 @@
 """Reads one function of rustc: its variables, its lines, its regions, and what it asks of them."""
 
+import re
 from collections import defaultdict
 from dataclasses import dataclass, field
 from typing import Callable, Iterable, Iterator, Optional
@@ -8,11 +9,14 @@ from nll_facts.dumps import Dump
 from nll_facts.mir import Body, Reason, read_body
 from nll_facts.tables import Location, Reader as Tables, region, variable
 
-from .constants import Known, named_constants, with_types
-from .refusal import NotSaid
-from .statements import Assign, Call, Constant, Drop, Jump, Place, Read, read_statement, read_terminator
+from .constants import Known, captures, named_constants, with_types
+from .refusal import NOT_READ, NotSaid
+from .statements import (Assign, Call, Constant, Drop, Jump, Place, Read, Storage, read_statement,
+                         read_terminator)
 from .types import STATIC, Type, read_type
 
+ASKED = "\n| Inference Constraints\n"
+AT = re.compile(r"// bb(\d+)\[(\d+)\]: scope ")
 BOUNDS = ("Predicate", "TypeAnnotation", "BoringNoLocation")
 OF_TYPES = ("Boring", "ClosureUpvar", "Assignment")
 
@@ -40,8 +44,7 @@ def read_function(dump: Dump) -> Function:
     body = read_body(dump.mir)
     with open(dump.mir, encoding="utf-8") as file:
         text = file.read()
-    if "\n}\n" not in text:
-        raise NotSaid("a dump that isn't whole")
+    refuse_strange(text, body)
     tables = Tables(dump.facts)
     drops = defaultdict(set)
     for local, origin in tables.pairs("drop_of_var_derefs_origin", variable, region):
@@ -55,12 +58,42 @@ def read_function(dump: Dump) -> Function:
         outlives=tables.pairs("known_placeholder_subset", region, region),
         drops=drops,
     )
+    refuse_undeclared(function)
+    refuse_unprinted(function, captures(text) if "// closure\n" in text or "// coroutine\n" in text else {})
     asked: dict[Optional[Location], list[Reason]] = defaultdict(list)
     for reason in body.reasons:
         asked[reason.location].append(reason)
     function.asked = asked
     function.visible = visible_regions(function)
     return function
+
+
+def refuse_strange(text: str, body: Body) -> None:
+    """Refuses a dump that is cut, or of which a line above the function, or a statement, wasn't read."""
+    if "\n}\n" not in text:
+        raise NotSaid("a dump that isn't whole")
+    _, _, rest = text.partition(ASKED)
+    section = rest.partition("\n|\n")[0]
+    if section.count("\n| ") + 1 != len(body.reasons) + len(body.live.said):
+        raise NotSaid(NOT_READ, "rustc's constraints")
+    if [Location(int(block), int(index)) for block, index in AT.findall(text)] != list(body.statements):
+        raise NotSaid(NOT_READ, "rustc's locations of statements")
+
+
+def refuse_undeclared(function: Function) -> None:
+    """Refuses a dump with a variable that has no type."""
+    used = {place.local for line in function.lines.values() for place in places_of(line)}
+    used |= {line.local for line in function.lines.values() if isinstance(line, Storage)}
+    for local in sorted(used - function.locals.keys()):
+        raise NotSaid(NOT_READ, f"_{local} isn't declared")
+
+
+def refuse_unprinted(function: Function, counts: dict[Location, int]) -> None:
+    """Refuses where a closure captures several parts of one variable, of which rustc prints one."""
+    for location, count in counts.items():
+        line = function.lines[location]
+        if isinstance(line, Assign) and len(line.operands) != count:
+            raise NotSaid("captures that rustc doesn't print")
 
 
 def read_lines(body: Body, constants: Known) -> dict[Location, tuple]:
@@ -137,6 +170,7 @@ class Paths:
 
     def __init__(self, function: Function, location: Location):
         self.visible = function.visible
+        self.span = function.body.statements[location].span
         self.reasons = function.asked.get(location, ())
         self.onwards: dict[int, list[int]] = defaultdict(list)
         for reason in self.reasons:
@@ -150,30 +184,30 @@ class Paths:
         """Whether any chain leads from one region to another."""
         return end in reached(self.onwards, begin, lambda one: False)
 
-    def pairs(self, left_out: Callable[[str], bool] = lambda category: False) -> set[tuple[int, int]]:
-        """The visible regions at the ends of all chains, without those that need a category that is left out."""
+    def pairs(self, left_out: Callable[[Reason], bool] = lambda reason: False) -> set[tuple[int, int]]:
+        """The visible regions at the ends of all chains, without those that need a constraint that is left out."""
         onwards: dict[int, list[int]] = defaultdict(list)
         for reason in self.reasons:
-            if not left_out(reason.category):
+            if not left_out(reason):
                 onwards[reason.sup].append(reason.sub)
         begins = [one for one in onwards if one in self.visible]
         return {(begin, end) for begin in begins
                 for end in reached(onwards, begin, self.visible.__contains__)
                 if end in self.visible and end != begin and begin != STATIC}
 
-    def needing(self, is_needed: Callable[[str], bool]) -> set[tuple[int, int]]:
-        """The pairs for which each chain needs a constraint of such a category."""
-        if not any(is_needed(reason.category) for reason in self.reasons):
+    def needing(self, is_needed: Callable[[Reason], bool]) -> set[tuple[int, int]]:
+        """The pairs for which each chain needs such a constraint."""
+        if not any(map(is_needed, self.reasons)):
             return set()
         return self.pairs() - self.pairs(is_needed)
 
     def bounds(self) -> set[tuple[int, int]]:
         """What bounds ask: predicates, types that are to be well-formed, or that the source writes."""
-        return self.needing(BOUNDS.__contains__)
+        return self.needing(lambda reason: reason.category in BOUNDS)
 
     def needs(self) -> set[tuple[int, int]]:
-        """What a closure asks of the function around it, beside bounds."""
-        return self.needing(lambda category: category not in OF_TYPES)
+        """What a closure asks of the function around it, beside bounds: that stands where its own code does."""
+        return self.needing(lambda reason: reason.category not in OF_TYPES or reason.span != self.span)
 
 
 def reached(onwards: dict[int, list[int]], begin: int, is_end) -> set[int]:

@@ -1,5 +1,7 @@
 """Why a function has no MIR text."""
 
+NOT_READ = "a dump that isn't understood"
+
 
 class NotSaid(Exception):
     """What the profile of MIR texts can't say, or what isn't understood: the reason, and where it is."""

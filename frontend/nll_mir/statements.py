@@ -54,7 +54,8 @@ class Assign(NamedTuple):
     """`PLACE = ..`: the kind of value, its operands, and what else the kind has.
 
     The kinds: use, ref, mut, raw, cast, pair (operators, discriminants, metadata), tuple, array, make (a struct, enum or
-    closure) and repeat. `operands` has the places with how they are read: `copy`, `move`.
+    closure), repeat and static (a reference to one of each thread). `operands` has the places with how they are read:
+    `copy`, `move`.
     """
 
     place: Place
@@ -147,7 +148,8 @@ class Lines(Reader):
             return self.place()._replace(is_moved=True)
         if self.takes("copy ") or self.text.startswith("_", self.at):
             return self.place()
-        self.takes("const ")
+        if not self.takes("const ") and not self.text.startswith("ConstValue(", self.at):
+            raise self.strange()
         return self.constant()
 
     def constant(self) -> Constant:
@@ -179,6 +181,9 @@ class Lines(Reader):
         if found := self.match(BORROW):
             kind = {"mut": "mut", None: "ref"}.get(found[2], "fake")
             return Assign(place, kind, (self.place(),), region=int(found[1]))
+        if self.takes("&/*tls*/ "):
+            self.at = len(self.text)
+            return Assign(place, "static")
         if found := self.match(RAW):
             return Assign(place, "raw", (self.place(),), word=found[1])
         if found := self.match(PAIR):
@@ -276,8 +281,11 @@ def targets_of(text: str) -> tuple[str, dict[str, Optional[int]]]:
     if found[2]:
         return text[:found.start()], {"return": int(found[2][2:])}
     blocks: dict[str, Optional[int]] = {}
-    for name, block in NAMED.findall(found[1] or found[3]):
-        blocks[name] = int(block[2:]) if block.startswith("bb") else None
+    for part in (found[1] or found[3]).split(", "):
+        named = NAMED.fullmatch(part)
+        if not named:
+            raise NotSaid("a terminator that isn't understood", part)
+        blocks[named[1]] = int(named[2][2:]) if named[2].startswith("bb") else None
     return text[:found.start()], blocks
 
 

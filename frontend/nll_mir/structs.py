@@ -42,11 +42,7 @@ class Structs:
 
     def is_int(self, type: Type) -> bool:
         """Whether nothing in it has a region."""
-        return not type.regions() and not (self.structured and self.has_structured(type))
-
-    def has_structured(self, type: Type) -> bool:
-        return type in self.structured or any(
-            isinstance(part, Type) and self.has_structured(part) for part in type.parts)
+        return not type.regions() and not (self.structured and has_one(type, self.structured))
 
     def spell(self, type: Type, name: Named) -> str:
         """The type as a text writes it."""
@@ -219,13 +215,11 @@ def step_of(structs: Structs, base: Type, step) -> Optional[str]:
 def fields_of(definitions: Definitions, locals: dict[int, Type], places: Iterator) -> tuple[list[Field], set[Type]]:
     """The fields that places go through, and the shapes without regions behind which there are some."""
     fields: dict[Field, None] = {}
-    structured: set[Type] = set()
+    chains: list[list[Type]] = []
     for place in places:
-        type = locals[place.local]
-        without: list[Type] = []
+        types = [locals[place.local]]
         for step in place.steps:
-            if not type.regions():
-                without.append(type)
+            type = types[-1]
             next_type = behind(definitions, type, step)
             if next_type is None:
                 raise NotSaid("a field whose type isn't known", f"{type.form} {type.name} {step.variant}.{step.field}")
@@ -233,7 +227,26 @@ def fields_of(definitions: Definitions, locals: dict[int, Type], places: Iterato
                 fields[Field(type.shape(), step.variant, step.field, step.type.shape())] = None
             if step.kind == "deref" and is_box(type):
                 fields[Field(type.shape(), *INSIDE, None)] = None
-            type = next_type
-            if type.regions():
-                structured.update(one.shape() for one in without)
-    return list(fields), structured
+            types.append(next_type)
+        if any(not type.regions() for type in types[:-1]):
+            chains.append(types)
+    return list(fields), behind_which(chains)
+
+
+def behind_which(chains: list[list[Type]]) -> set[Type]:
+    """The shapes without regions from which steps lead to regions, or to a type in which there is such a shape."""
+    found: set[Type] = set()
+    more = True
+    while more:
+        more = False
+        for types in chains:
+            last = max((at for at, type in enumerate(types) if type.regions() or has_one(type, found)), default=0)
+            new = {type for type in types[:last] if not type.regions()} - found
+            found |= new
+            more |= bool(new)
+    return found
+
+
+def has_one(type: Type, shapes: set[Type]) -> bool:
+    """Whether one of the shapes is the type, or a part of it."""
+    return type in shapes or any(isinstance(part, Type) and has_one(part, shapes) for part in type.parts)

@@ -10,14 +10,13 @@ from nll_facts.workers import keep_silent
 
 from .definitions import Definitions, Evidence, gather
 from .function import read_function
-from .refusal import NotSaid
+from .refusal import NOT_READ, NotSaid
 from .text import mir_text
 from .translate import translate
 
 # rustc's flags beside those of facts: types with all their regions, and paths in full.
 FLAGS = ("-Zverbose-internals", "-Ztrim-diagnostic-paths=no")
 IN_ONE_GO = 8
-NOT_READ = "a dump that isn't understood"
 
 definitions: Definitions     # of the functions that a process makes texts of
 

@@ -10,7 +10,7 @@ from typing import Iterator, NamedTuple, Optional
 
 from nll_facts.tables import Location
 
-from .definitions import Definitions, behind, is_box, is_opaque, made_type
+from .definitions import Definitions, behind, has_opaque, is_box, is_opaque, made_type
 from .function import Function, Paths, places_of
 from .refusal import NotSaid
 from .statements import Assign, Call, Constant, Drop, Jump, Leave, Nothing, Operand, Place, Read, Storage
@@ -273,15 +273,21 @@ class Translator:
     def assign(self, line: Assign, paths: Paths) -> None:
         kinds = {"use": self.use, "ref": self.borrow, "mut": self.borrow, "fake": self.borrow, "raw": self.raw,
                  "cast": self.cast, "pair": self.pair, "tuple": self.tuple, "array": self.array, "repeat": self.array,
-                 "make": self.make}
+                 "make": self.make, "static": self.static}
         (self.hide if self.hides(line) else kinds[line.kind])(line, paths)
 
     def hides(self, line: Assign) -> bool:
-        """Whether the place is of an `impl Trait` and the value of another type, which it hides."""
+        """Whether the place's type has an `impl Trait` where the value's has another type, which it hides."""
         target = self.walk(line.place).type
-        if not is_opaque(target) or self.structs.is_int(target):
+        if not has_opaque(target):
             return False
-        return line.kind != "use" or not self.fits(self.operand(line.operands[0])[1], target)
+        types = tuple(self.operand(operand)[1] for operand in line.operands)
+        if line.kind in ("use", "tuple"):
+            return not self.fits(types[0] if line.kind == "use" else Type("tuple", "", types), target)
+        if is_opaque(target):
+            return line.kind in ("ref", "mut") or not all(map(self.structs.is_int, (target, *types)))
+        return line.kind == "make" and line.type is not None and \
+            line.type._replace(form="", name="").shape() != target._replace(form="", name="").shape()
 
     def hide(self, line: Assign, paths: Paths) -> None:
         self.approximate("a value that an `impl Trait` hides, by what rustc asks of both types")
@@ -322,6 +328,10 @@ class Translator:
         asked = f" where {', '.join(bounds)}" if bounds else ""
         self.add(f"{target.text} = call borrow(copy {borrowed.prefix}: {self.spell(borrowed.prefix_type)}): "
                  f"{self.spell(type)}{asked} -> %s", (NEXT,))
+
+    def static(self, line: Assign, paths: Paths) -> None:
+        """A reference to a static, one of each thread: all regions of its type are 'static."""
+        self.call(line.place, "static", [], self.walk(line.place).type.shape())
 
     def raw(self, line: Assign, paths: Paths) -> None:
         pointed = self.walk(line.operands[0])
@@ -392,6 +402,8 @@ class Translator:
 
     def make(self, line: Assign, paths: Paths) -> None:
         target = self.walk(line.place)
+        if line.type is not None and "::" not in line.type.name and line.type.name != target.type.name:
+            raise NotSaid("a value that isn't understood", line.type.name)
         is_plain = all(self.structs.is_int(self.operand(operand)[1]) for operand in line.operands)
         if is_plain and self.structs.is_int(target.type) and target.text:
             self.plain(line, target.text)
@@ -399,7 +411,7 @@ class Translator:
         if line.type is None:
             parts = target.type.parts[0].parts if target.type.form in ("closure", "coroutine") else ()
             if len(parts) != len(line.operands):
-                raise NotSaid("a coroutine")
+                raise NotSaid("types that don't fit", f"a closure, {target.type.form} {target.type.name}")
             self.call(line.place, "closure", list(zip(line.operands, parts)), target.type, paths.bounds() | paths.needs())
             return
         made = made_type(line.type, target.type)

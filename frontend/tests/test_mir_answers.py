@@ -49,9 +49,10 @@ class Texts(unittest.TestCase):
     def test_a_file(self):
         with tempfile.TemporaryDirectory() as folder:
             done = run("mir", "frontend/tests/sources/forms.rs", "-o", folder)
-            self.assertEqual(len(done.stdout.splitlines()), 38)
+            self.assertEqual(len(done.stdout.splitlines()), 73)
             self.assertEqual(done.stderr.splitlines(), [
-                "nllc.sh mir: waits::{closure#0}: a coroutine", "nllc.sh mir: 38 texts; without one 1 for a coroutine"])
+                "nllc.sh mir: waits::{closure#0}: a coroutine", "nllc.sh mir: two_parts: captures that rustc doesn't print",
+                "nllc.sh mir: 73 texts; without one 1 for a coroutine, 1 for captures that rustc doesn't print"])
             self.assertEqual(sorted(os.listdir(folder)), sorted(map(os.path.basename, done.stdout.splitlines())))
             self.assertEqual(done.returncode, 0)
 

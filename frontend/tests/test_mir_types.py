@@ -74,6 +74,7 @@ class Lines(unittest.TestCase):
         "_2 = &'?4 mut (*_1)": Assign(Place(2), "mut", (Place(1, (Step("deref"),)),), region=4),
         "_2 = &'?4 fake shallow _1": Assign(Place(2), "fake", (Place(1),), region=4),
         "_2 = &raw const (*_1)": Assign(Place(2), "raw", (Place(1, (Step("deref"),)),), word="const"),
+        "_2 = &/*tls*/ words::WORD::{constant#0}::VALUE": Assign(Place(2), "static"),
         "_2 = discriminant(_1)": Assign(Place(2), "pair", (Place(1),), word="discriminant"),
         "_3 = Lt(move _1, copy _2)": Assign(Place(3), "pair", (Place(1, (), True), Place(2)), word="Lt"),
         "_2 = move _1 as &'?4 [u8] (PointerCoercion(Unsize, Implicit))": Assign(
@@ -114,7 +115,7 @@ class Lines(unittest.TestCase):
                 self.assertEqual(read_terminator(text), wanted)
 
     def test_what_has_no_form(self):
-        for text in ("_3 = ", "strange(_1)", "_1 = copy x", "_1 = Strange(move"):
+        for text in ("_3 = ", "strange(_1)", "_1 = copy x", "_1 = Strange(move", "_1 = Some(strange _2)"):
             with self.subTest(statement=text), self.assertRaises(NotSaid):
                 read_statement(text)
         for text in ("_3 = yield(move _1) -> [resume: bb1, drop: bb2]", 'asm!("nop") -> bb1', "strange -> bb1"):

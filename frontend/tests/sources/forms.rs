@@ -209,3 +209,154 @@ pub struct Holder {
 pub fn holder(word: &'static str) -> Holder {
     Holder { kept: Some(word) }
 }
+
+pub enum Cause {
+    Said(&'static str),
+    Other(u32),
+}
+
+pub struct Causes {
+    all: Vec<Cause>,
+}
+
+pub fn causes(of: &Causes) -> usize {
+    match of.all.first() {
+        Some(Cause::Said(text)) => text.len(),
+        _ => 0,
+    }
+}
+
+pub fn all_causes(of: &Causes) -> &[Cause] {
+    &of.all
+}
+
+pub fn hidden_word<F: Fn() -> usize>(word: &'static str, more: F) -> impl Fn() -> usize {
+    move || word.len() + more()
+}
+
+pub struct Asks<'a> {
+    of: fn(&'a str) -> usize,
+}
+
+pub fn length(text: &str) -> usize {
+    text.len()
+}
+
+pub fn asks<'a>() -> Asks<'a> {
+    Asks { of: length }
+}
+
+pub fn asked<'long: 'short, 'short>(asks: Asks<'long>, text: &'long str) -> (Asks<'long>, usize) {
+    let shorter: &'short str = text;
+    let number = shorter.len() + (asks.of)(text);
+    (asks, number)
+}
+
+pub fn narrowed<'long: 'short, 'short>(asks: Asks<'short>) -> Asks<'long> {
+    asks
+}
+
+pub fn casts<'a>(words: &'a [&'a str; 2], number: u32) -> (&'a [&'a str], u64, fn(u32) -> u32, *const u8) {
+    let add: fn(u32) -> u32 = |more| more + 1;
+    let at: *const u32 = &number;
+    (words, number as u64, add, at as *const u8)
+}
+
+pub fn named_function<'a>(text: &'a str) -> &'a str {
+    let of: fn(&'a str) -> &'a str = known_length::<'a>;
+    of(text)
+}
+
+pub fn known_length<'a>(text: &'a str) -> &'a str where 'a: 'a {
+    text
+}
+
+pub fn repeated<'a>(word: &'a str) -> [&'a str; 3] {
+    [word; 3]
+}
+
+pub fn rest_of<'s, 'a>(words: &'s mut [&'a str]) -> Option<(&'s mut &'a str, &'s mut [&'a str])> {
+    match words {
+        [first, rest @ ..] => Some((first, rest)),
+        [] => None,
+    }
+}
+
+pub union Either<'a> {
+    number: u64,
+    text: &'a str,
+}
+
+pub fn of_union<'a>(either: Either<'a>, is_text: bool) -> &'a str {
+    if is_text { unsafe { either.text } } else { "" }
+}
+
+pub fn two_phases<'a>(words: &mut Vec<&'a str>, all: &[&'a str]) {
+    words.push(all[words.len()]);
+}
+
+pub fn for_all<F: for<'x> Fn(&'x str, &str) -> &'x str>(choose: F, left: &str) -> usize {
+    let right = String::from("right");
+    choose(left, &right).len()
+}
+
+pub fn item_of<I: Iterator>(mut items: I) -> Option<I::Item> {
+    items.next()
+}
+
+pub fn counted<'a, const N: usize>(words: [&'a str; N]) -> &'a str {
+    words[N - 1]
+}
+
+pub fn by_object(of: &dyn Fn(&str) -> usize, text: &str) -> usize {
+    of(text)
+}
+
+pub fn changed<'a>(shape: &mut Shape<'a>, text: &'a str) -> u32 {
+    match shape {
+        Shape::Named(name, count) => {
+            *name = text;
+            *count += 1;
+            *count / (text.len() as u32)
+        }
+        Shape::Empty => 0,
+        other => {
+            *other = Shape::Both { left: text, right: text };
+            1 << 2
+        }
+    }
+}
+
+pub fn nested<'a>(text: &'a str) -> impl FnOnce() -> Box<dyn FnOnce() -> &'a str + 'a> {
+    move || Box::new(move || text)
+}
+
+thread_local! {
+    static WORD: std::cell::Cell<&'static str> = const { std::cell::Cell::new("word") };
+}
+
+pub fn of_thread(word: &'static str) -> &'static str {
+    WORD.with(|kept| kept.replace(word))
+}
+
+pub fn enough<'a>(words: &'a [String], least: usize) -> Result<impl Iterator<Item = &'a str>, usize> {
+    if words.len() < least {
+        return Err(words.len());
+    }
+    Ok(words.iter().map(|word| word.as_str()))
+}
+
+pub fn with_length<'a>(text: &'a str) -> (impl Fn() -> &'a str, usize) {
+    (move || text, text.len())
+}
+
+pub fn two_parts<'a>(pair: (&'a str, &'a str, u32)) -> impl FnOnce() -> usize + use<'a> {
+    move || pair.0.len() + pair.1.len()
+}
+
+pub fn kept_by_a_closure<'a>(text: &'a str) -> Option<&'a str> {
+    let mut kept = None;
+    let mut keep = || kept = Some(text);
+    keep();
+    kept
+}
