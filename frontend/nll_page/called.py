@@ -20,6 +20,11 @@ class Parser(argparse.ArgumentParser):
         super().__init__(prog=called(word), usage=usage and f"{called(word)} {usage}", description=about, epilog=statuses,
                          allow_abbrev=False, **{"formatter_class": argparse.RawDescriptionHelpFormatter, **more})
 
+    def parse_args(self, args=None, namespace=None):
+        """Takes files and names before and after options."""
+        asked, left = self.parse_known_args(args, namespace)
+        return self.parse_intermixed_args(args, namespace) if left else asked
+
     def _print_message(self, message, file=None):
         if file is sys.stdout:
             file.write(message)

@@ -223,9 +223,9 @@ pub fn third(v: &mut Vec<u8>) -> u8 { let a = &v[0]; v.push(1); *a }
         ways_out = "help: end the borrow before; or clone what is needed; or keep an index or a key in place of the reference"
         self.assertEqual(lines, [
             f"{path}:1:36: E0502: `$v.push(1)` borrows `*v` as mutable, which line 2 has borrowed",
-            "in this macro invocation: line 2 (`pub fn first(v: &mut Vec<u8>) -> u8 { let a = & ..`)", ways_out,
+            "in this macro invocation: line 2 (`push!(v)`)", ways_out,
             f"{path}:1:36: E0502: `$v.push(1)` borrows `*v` as mutable, which line 4 has borrowed",
-            "in this macro invocation: line 5 (`push!(v);`)", ways_out,
+            "in this macro invocation: line 5 (`push!(v)`)", ways_out,
             f"{path}:8:54: E0502: `v.push(1)` borrows `*v` as mutable, which line 8:48 has borrowed", ways_out])
 
     def test_loan_in_two_lines_and_step_by_step(self):
