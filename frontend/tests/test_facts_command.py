@@ -228,6 +228,31 @@ pub fn third(v: &mut Vec<u8>) -> u8 { let a = &v[0]; v.push(1); *a }
             "in this macro invocation: line 5 (`push!(v)`)", ways_out,
             f"{path}:8:54: E0502: `v.push(1)` borrows `*v` as mutable, which line 8:48 has borrowed", ways_out])
 
+    def test_a_use_in_the_line_of_the_error(self):
+        """Columns tell the borrow, the conflict and the use apart; rustc's label tells a move apart."""
+        path = self.write("a.rs", """pub fn first(v: &mut Vec<u8>) -> u8 { let a = &v[0]; v.push(1); *a }
+pub fn second(v: &mut Vec<u8>) { for x in v.iter() { v.push(*x); } }
+pub fn third() { let r; { let x = 5; r = &x; } println!("{}", r); }
+pub fn fourth() { let s = String::new(); let t = s; println!("{}", s); }
+pub fn fifth(s: String) { let t = s;
+    println!("{}", s);
+}
+""")
+        said = self.rust(path).stdout
+        lines = [line.strip() for line in said.splitlines() if "since" in line or "moved" in line or "moves" in line
+                 or "macro" in line]
+        live = "is live: its region `'r3` holds line"
+        self.assertEqual(lines, [
+            f"the loan of line 1:48 (`v`, borrowed by an index) {live} 1:54, since line 1:65 uses it (`*a`)",
+            f"the loan of line 2:43 (`v`, borrowed by its type's `Deref`) {live} 2:54, since line 2:43 uses it in a later "
+            "iteration of the loop (`v.iter()`)",
+            "the loan of line 3:42 (`&x`) is live: its region `'r2` holds line 3, since line 3:63 uses it (`r`)",
+            f"{path}:4:68: E0382: `s` is used here, and line 4:50 may have moved it",
+            "line 4:50 (`s`) moves it, and a path leads from there to here on which it gets no new value",
+            f"{path}:6:20: E0382: `s` is used here, and line 5 may have moved it",
+            "line 5 (`pub fn fifth(s: String) { let t = s;`) moves it, and a path leads from there to here on which it gets "
+            "no new value"])
+
     def test_loan_in_two_lines_and_step_by_step(self):
         path = self.write("a.rs", self.LOANS)
         done = self.rust(path, "wrong", "--explain")
