@@ -196,8 +196,8 @@ pub fn outlives(list: &Vec<u32>) -> &'static u32 { first!(list) }
             self.assertEqual(support.differences(rows, support.read_answer(0, text, file)), [])
         self.assertIn("the loan of line 15 (`list`, borrowed by an index) is live: its region `'r3` holds line 16", text)
         self.assertIn("in this macro invocation: lib.rs:6:5; the lines named here are of lib.rs", text)
-        self.assertIn("in this macro invocation: lib.rs:20:1\n", text)
-        self.assertIn("in this macro invocation: lib.rs:21:52; the lines named here are of lib.rs", text)
+        self.assertIn("in this macro invocation: lib.rs:19:1\n", text)
+        self.assertIn("in this macro invocation: lib.rs:20:52; the lines named here are of lib.rs", text)
         self.assertNotIn("no error there", text)
         self.assertNotIn("no answer", text)
 
