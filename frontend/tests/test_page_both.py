@@ -155,10 +155,13 @@ class Command(Folder):
         for path in sorted(paths):
             with self.subTest(path=path), open(path, "rb") as file:
                 text = file.read()
-                if command.is_silent(text):
-                    silent += 1
-                    asked = argparse.Namespace(facts=path, source=None, values=None)
-                    self.assertEqual(command.silent(text), command.answer(command.content_from(text, asked), False))
+                asked = argparse.Namespace(facts=path, source=None, values=None)
+                said = command.answer(command.content_from(text, asked), False)
+                is_quiet = command.is_silent(text)[0]
+                silent += is_quiet
+                self.assertTrue(not is_quiet or command.silent(text) == said)
+                is_told = any(said[kind] for kind in ("faults", "loans", "moves", "differences", "further", "refused"))
+                self.assertEqual(is_quiet, not is_told and not said["needs"])
         self.assertGreater(silent, 10)
 
 
