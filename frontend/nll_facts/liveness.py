@@ -14,13 +14,14 @@ from .tables import Location, Spot, Tables
 Neighbours = dict[Spot, list[Spot]]
 
 
-def bases(tables: Tables) -> Iterator[tuple[int, Location]]:
-    """The pairs of a region and a location before which it is live; a pair may come repeatedly."""
+def bases(tables: Tables) -> Iterator[tuple[list[int], set[Location]]]:
+    """For each variable the regions of its type, and the locations before which it is live; first by uses, then by drops."""
     before, after = neighbours(tables)
     used, defined = table_of(tables.var_used_at), table_of(tables.var_defined_at)
     for variable, regions in table_of(tables.use_of_var_derefs_origin).items():
-        live = spread(before, used[variable], lambda spot: spot not in defined[variable])
-        yield from at_starts(regions, live)
+        ends = set(defined[variable])
+        live = spread(before, used[variable], lambda spot: spot not in ends)
+        yield regions, at_starts(live)
     dropped = table_of(tables.var_dropped_at)
     moves = Moves(tables, after)
     for variable, regions in table_of(tables.drop_of_var_derefs_origin).items():
@@ -28,14 +29,11 @@ def bases(tables: Tables) -> Iterator[tuple[int, Location]]:
         drops = [spot for spot in dropped[variable] if not filled.isdisjoint(before[spot])]
         live = spread(before, drops,
                       lambda spot: spot in filled and spot not in defined[variable])
-        yield from at_starts(regions, live)
+        yield regions, at_starts(live)
 
 
-def at_starts(regions: Iterable[int], live: Iterable[Spot]) -> Iterator[tuple[int, Location]]:
-    for spot in live:
-        if not spot.is_mid:
-            for region in regions:
-                yield region, spot.location
+def at_starts(live: Iterable[Spot]) -> set[Location]:
+    return {spot.location for spot in live if not spot.is_mid}
 
 
 def neighbours(tables: Tables) -> tuple[Neighbours, Neighbours]:

@@ -41,10 +41,12 @@ def is_against_live(text, values):
     against = grouped((number, int(point)) for point, numbers in AGAINST.findall(text) for number in numbers.split())
     killed = {number: set(map(int, points.split())) for number, points in KILLED.findall(text)}
     following = grouped((int(point), int(successor)) for point, successor in NEXT.findall(text))
-    held = dict(line.split(":", 1) for line in values.splitlines())
+    held = dict(line.partition(":")[::2] for line in values.splitlines())
     for number, points in against.items():
         if number in loans:
             region, at = loans[number]
+            if f"'{region}" not in held:
+                return True
             inside = {int(element) for element in held[f"'{region}"].split() if element.isdigit()}
             if is_reached(following, at, inside.intersection(points), inside, killed.get(number, ())):
                 return True
