@@ -122,7 +122,7 @@ class Run:
         self.written = [in_memory(), in_memory()]
         streams = [(os.POSIX_SPAWN_DUP2, file.fileno(), number) for number, file in enumerate([text, *self.written])]
         try:
-            self.process = os.posix_spawn(self.program, [self.program, self.command, "/dev/stdin"], os.environ,
+            self.process = os.posix_spawn(self.program, [self.program, self.command, "/dev/stdin"], environment(),
                                           file_actions=streams, setsigdef=[signal.SIGPIPE])
         except OSError as error:
             raise Refusal(f"{self.program} can't be run: {error.strerror}") from None
@@ -151,6 +151,11 @@ class Run:
             raise Refusal(f"nllc refuses the text: {said[-1] if said else 'it gave no reason'}")
         last = said[-1] if said else "it said nothing"
         raise Refusal(f"{shown(self.program)} ended with status {status}: {last}", 3)
+
+
+@cache
+def environment():
+    return dict(os.environ)     # os.environ itself is read anew, variable by variable, at each start
 
 
 def content_of(file):
