@@ -128,7 +128,13 @@ help() {
     case $1 in
         '') ;;
         rust | facts | mir | page | json | schedule | explain) frontend "$1" --help ;;
-        check | values | replay) find_program && exec "$program" "$1" --help ;;
+        check | values | replay)
+            find_program
+            "$program" "$1" --help || exit
+            printf '\n%s\n' "Status 0: answered, and check found no fault; 1: check found a fault; 2: refused; 3: failed." \
+                2>/dev/null || end 3 "standard output can't be written"
+            exit
+            ;;
         *) end 2 "there is no command $1; $called help names all" ;;
     esac
     find_program

@@ -7,6 +7,7 @@ import subprocess
 import sys
 
 from .refusal import Refusal
+from .room import tied
 from .units import Unit, read_unit
 
 HERE = os.path.dirname(os.path.abspath(__file__))
@@ -41,7 +42,7 @@ def check_project(folder: str, packages: list[str], options: list[str], room: st
         "CARGO_TARGET_DIR": os.path.join(target_of(cargo, folder), TARGET),
     }
     done = subprocess.run(words, cwd=folder, env=environment, stdin=subprocess.DEVNULL, stdout=subprocess.PIPE,
-                          check=False)
+                          check=False, preexec_fn=tied())
     units = units_in(room)
     show_others(done.stdout, units, is_json=lints != "allow")
     if done.returncode != 0 and not any(unit.errors for unit in units):
