@@ -5,8 +5,10 @@ Where there is no rustc, or another than the stored dumps are of, these tests ar
 
 import os
 import shutil
+import signal
 import subprocess
 import tempfile
+import time
 import unittest
 
 import facts_support as support
@@ -157,6 +159,43 @@ class Refused(Room):
         done = support.run(*FACTS, os.path.join(support.ROOT, "examples", "shelf"), "--edition", "2024", "-o",
                            self.path("o"))
         self.refused(done, "a project states its own edition: leave out --edition")
+
+
+class Killed(Room):
+    """However a run is ended while rustc works, nothing of it is left: no process and no folder."""
+
+    def sleeping(self):
+        done = subprocess.run(["ps", "-eo", "args"], stdout=subprocess.PIPE, check=True, encoding="utf-8")
+        return [line for line in done.stdout.splitlines() if line == f"sleep {self.seconds}"]
+
+    def wait_until(self, holds):
+        end = time.monotonic() + 30
+        while not holds() and time.monotonic() < end:
+            time.sleep(0.05)
+        self.assertTrue(holds(), (self.sleeping(), self.left()))
+
+    def test_a_killed_run(self):
+        self.seconds = f"61.{os.getpid()}{time.monotonic_ns()}"
+        rustc = self.write("rustc", f"#!/bin/sh\nexec sleep {self.seconds}\n")
+        os.chmod(rustc, 0o755)
+        path, rooms = self.write("a.rs", "fn f() {}\n"), self.path("rooms")
+        os.mkdir(rooms)
+        for number, status in ((signal.SIGKILL, -9), (signal.SIGTERM, 130), (signal.SIGINT, 130), (signal.SIGHUP, 130)):
+            with self.subTest(number=number):
+                run = subprocess.Popen([RUST, "rust", path, "-o", self.path("o")], stdout=subprocess.PIPE,
+                                       stderr=subprocess.PIPE, preexec_fn=hears_all,
+                                       env=os.environ | {"RUSTC": rustc, "TMPDIR": rooms})
+                self.wait_until(lambda: len(self.sleeping()) == 2 and os.listdir(rooms))
+                run.send_signal(number)
+                run.communicate(timeout=30)
+                self.assertEqual(run.returncode, status)
+                self.wait_until(lambda: not self.sleeping() and not os.listdir(rooms))
+
+
+def hears_all():
+    """A run hears these signals also where the tests ignore them."""
+    for number in (signal.SIGINT, signal.SIGTERM, signal.SIGHUP):
+        signal.signal(number, signal.SIG_DFL)
 
 
 @needs_known
@@ -359,6 +398,12 @@ pub fn fifth(s: String) { let t = s;
                                   env=os.environ | {"NLLC": self.program})
         self.assertEqual((done.returncode, done.stderr), (3, "nllc.sh rust: standard output can't be "
                                                           "written: No space left on device\n"))
+
+    def test_several_functions_before_and_behind_options(self):
+        path = self.write("a.rs", "pub fn f() {}\npub fn g() {}\npub fn h() {}\n")
+        for words in ((path, "f", "g"), (path, "f", "--all-points", "g")):
+            done = self.rust(*words)
+            self.assertEqual((done.returncode, done.stdout.splitlines()[0]), (0, "no fault: f, g"), done.stderr)
 
     def test_refusal(self):
         done = self.rust("none.rs")

@@ -121,6 +121,10 @@ class Both(unittest.TestCase):
             other = read_facts(file_bytes(EXAMPLES, f"{name}_everywhere.facts"), "TEXT")
             self.assertEqual(first.constraints, other.constraints)
 
+    def test_a_constraint_at_all_points_is_one(self):
+        content = content_of(file_bytes(EXAMPLES, "overwritten_everywhere.facts"))
+        self.assertIn(" · 3 constraints", page(content))
+
 
 class Command(Folder):
     def test_answered(self):
