@@ -233,7 +233,7 @@ answer() {
 case $1 in
     rust | facts | mir | page | json | schedule | explain) frontend "$@" ;;
     check | values | replay) answer "$@" ;;
-    help) [ "$#" -le 2 ] && help "$2" ;;
+    help) [ "$#" -le 2 ] || end 2 "help takes one COMMAND, or none" && help "$2" ;;
     --help | -h) help ;;
     version | --version | --prove | --built | --which) [ "$#" = 1 ] || end 2 "$1 takes no argument" ;;
     '') find_program && commands >&2 && exec "$program" "$@" ;;

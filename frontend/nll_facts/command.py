@@ -67,7 +67,7 @@ def add_words(parser: argparse.ArgumentParser, use_of_folder: str, is_of_cargo: 
                             help="a Rust file (- is standard input), or the folder of a Cargo package or workspace")
         parser.add_argument("--edition", help="the language edition of FILE.rs (default 2021)")
     parser.set_defaults(path=os.curdir, edition=None)
-    parser.add_argument("functions", metavar="FUNCTION", nargs="*",
+    parser.add_argument("functions", metavar="FUNCTION", nargs="*", default=[],
                         help="only these: a name (pick, module::pick, Type::pick) or a line (12, src/lib.rs:12)")
     parser.add_argument("-o", dest="out", metavar="FOLDER",
                         help=f"{use_of_folder}; created where it is missing (default {FOLDER}/NAME, "

@@ -109,7 +109,7 @@ def crate_name(file: str) -> str:
 def refuse_others(file: str) -> None:
     """Refuses what is no Rust file, and says what a text of `nllc`'s own is."""
     if not os.path.isfile(file):
-        raise Refusal(f"{file} isn't a readable file; give the path of a Rust file")
+        raise Refusal(f"{file or repr(file)} isn't a readable file; give the path of a Rust file")
     try:
         with open(file, "rb") as opened:
             begin = opened.read(64).split(b"\n")[0].split()

@@ -5,6 +5,7 @@ import os
 import tempfile
 
 from . import both, chains, differences, explaining, faults, labels, loans, nllc, source, telling, words
+from .called import called
 from .counterparts import counterpart
 from .escaping import visible
 from .facts import is_facts_text, read_facts
@@ -30,7 +31,7 @@ def content_from(text, asked, most=MOST_POINTS, report=None):
     if asked.values:
         report, origin = read_bytes(asked.values).decode("utf-8", "replace"), asked.values
     else:
-        report, told, origin, standing = report or nllc.run(text)
+        report, told, origin, standing = report or report_of(asked.facts, text)
     facts = read_facts(text, asked.facts)
     look_small(asked.facts, facts, most)
     values = read_values(report, facts, asked.values or origin)
@@ -43,6 +44,14 @@ def content_from(text, asked, most=MOST_POINTS, report=None):
     return Content(facts, values, explained(facts, values, wrong, origin), asked.facts,
                    source.read(path, facts) if path else None, origin, standing,
                    list(loans.loan_faults(facts, values)), needs, facts.remarks.way)
+
+
+def report_of(path, text):
+    """What `nllc` prints of a text; where it refuses the text, which one that is."""
+    try:
+        return nllc.run(text)
+    except nllc.RefusedText as refusal:
+        raise Refusal(f"{path}: {refusal}; {called('explain', path)} says why") from None
 
 
 def look_small(path, facts, most):

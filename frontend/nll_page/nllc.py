@@ -23,6 +23,10 @@ INSTALLED = {"nllc": PROVED, "nllc-unproved": UNPROVED}    # beside the folder f
 PATIENCE = 1.0
 
 
+class RefusedText(Refusal):
+    """`nllc` refuses a text."""
+
+
 class Report(NamedTuple):
     """What `nllc` printed, and which `nllc` that was."""
 
@@ -148,7 +152,7 @@ class Run:
             return
         said = self.err.strip().splitlines()
         if status == 2:
-            raise Refusal(f"nllc refuses the text: {said[-1] if said else 'it gave no reason'}")
+            raise RefusedText(f"nllc refuses the text: {said[-1] if said else 'it gave no reason'}")
         last = said[-1] if said else "it said nothing"
         raise Refusal(f"{shown(self.program)} ended with status {status}: {last}", 3)
 
