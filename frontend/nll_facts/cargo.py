@@ -6,7 +6,7 @@ import shutil
 import subprocess
 import sys
 
-from nll_page.called import called
+from nll_page.called import current
 
 from .refusal import Refusal
 from .room import tied
@@ -54,7 +54,7 @@ def check_project(folder: str, packages: list[str], options: list[str], room: st
         raise Refusal(f"{folder} has no such package of its own: -p names packages of the project")
     left = unchecked(known, folder, packages, units) if done.returncode != 0 else []
     if left:
-        print(f"{called('rust')}: no answer for {' and '.join(left)}: another crate doesn't compile, which it needs; fix that first",
+        print(f"{current()[0]}: no answer for {' and '.join(left)}: another crate doesn't compile, which it needs; fix that first",
               file=sys.stderr)
     return units
 

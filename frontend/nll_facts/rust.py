@@ -66,6 +66,7 @@ def read_words(words: Sequence[str], is_of_cargo: bool = False) -> argparse.Name
         program, usage=f"{path}[FUNCTION ..] [-o FOLDER] [-p PACKAGE] {edition}"
         "[--explain] [--all-points] [--from-mir] [--all-pages] [--open] "
         "[--message-format human|json] [-- OPTIONS]", formatter_class=argparse.HelpFormatter,
+        hint="options of cargo check go after --" if is_of_cargo else "options of rustc or cargo check go after --",
         about="Says why the borrow checker refuses the functions of a Rust file, or of a Cargo project: "
         "lifetimes that would have to outlive others, and loans that something conflicts with while they are "
         "live. Makes a facts text and a page of each function. OPTIONS are those of rustc, or of cargo check. "

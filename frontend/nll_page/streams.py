@@ -7,7 +7,7 @@ import os
 import signal
 import sys
 
-from .called import called
+from .called import called, current
 from .escaping import visible
 from .refusal import Refusal
 
@@ -36,7 +36,7 @@ def any_locale():
 
 def guarded(word, work):
     """The status of what one of the command's words does; what it can't do is one line on standard error."""
-    program = called(word)
+    program = current()[0] = called(word)
     sys.stderr = sys.stderr or open(os.devnull, "w", encoding="utf-8")    # it is None where it was closed
     if sys.stdout is None:
         return tell(f"{program}: standard output can't be written: it is closed", 3)

@@ -143,6 +143,9 @@ class Workspace(Project):
         self.assertEqual((done.returncode, self.lines(done)[0]), (1, "bad: 1 fault"), done.stderr)
         done = self.run_in("ws", "cargo", "nllc", "--help", PATH=path)
         self.assertIn("usage: cargo nllc [FUNCTION ..]", done.stdout)
+        done = self.run_in("ws", "cargo", "nllc", "--workspace", PATH=path)
+        self.assertEqual((done.returncode, done.stderr.splitlines()[-1]), (
+            2, "cargo nllc: error: unrecognized arguments: --workspace; options of cargo check go after --"))
 
 
 if __name__ == "__main__":
