@@ -8,7 +8,7 @@ from typing import Iterable, Iterator
 from .beside import Beside
 from .desugarings import desugarings_of
 from .dumps import Dump
-from .liveness import bases
+from .liveness import live_variables
 from .mir import Body, read_body
 from .origins import origins
 from .points import Points, number_points
@@ -151,7 +151,7 @@ def live_points(tables: Tables, body: Body, points: Points,
     of it is: that is in the dump alone.
     """
     live: dict[int, set[int]] = defaultdict(set)
-    for its, locations in bases(tables):
+    for its, locations in live_variables(tables):
         for region in its:
             found = regions.find(region)
             if not regions.is_universal(found):

@@ -30,10 +30,10 @@ def side_by_side(work: Callable, things: Iterable, few: int = FEW) -> Iterator:
         pool.shutdown(wait=True, cancel_futures=True)
 
 
-def keep_silent(parent: int) -> None:
+def keep_silent(parent: int = 0) -> None:
     """Leaves signals and the terminal to the first process, and ends with it."""
     signal.signal(signal.SIGINT, signal.SIG_IGN)
     for number in (signal.SIGTERM, signal.SIGHUP):
         signal.signal(number, signal.SIG_DFL)
     sys.stderr = open(os.devnull, "w", encoding="utf-8")
-    end_with(parent)
+    end_with(parent or os.getppid())

@@ -42,7 +42,7 @@ def mid(index):
 
 class Liveness(unittest.TestCase):
     def live(self, **given):
-        return sorted({location.index for _, locations in bases(tables(cfg_edge=chain(6), **given)) for location in locations})
+        return sorted({location.index for _, location in bases(tables(cfg_edge=chain(6), **given))})
 
     def test_from_definition_to_last_use(self):
         self.assertEqual(self.live(use_of_var_derefs_origin=[(1, 5)], var_defined_at=[(1, mid(1))],

@@ -42,9 +42,8 @@ class SameLiveness(unittest.TestCase):
 
     def compare(self, tables, mir):
         own, printed, mentioned = defaultdict(set), read_body(mir).live, defaultdict(set)
-        for regions, locations in bases(tables):
-            for region in regions:
-                own[region] |= locations
+        for region, location in bases(tables):
+            own[region].add(location)
         for sup, sub, spot in tables.subset_base.located:
             mentioned[sup].add(spot.location)
             mentioned[sub].add(spot.location)
