@@ -28,6 +28,11 @@ end() {
     exit "$status"
 }
 
+print_lines() {
+    trap '' PIPE    # a closed pipe is an error like others
+    printf '%s\n' "$@" 2>/dev/null || end 3 "standard output can't be written"
+}
+
 python() {
     command -v python3 >/dev/null || end 127 "python3, 3.10 or later, isn't on the PATH"
     NLLC_CALLED=$called exec python3 "$@"
@@ -82,12 +87,9 @@ compile() {
 # Prints whether the program is proved, and its path; the process itself compiles, so that it ends with its parent.
 print_which() {
     find_built || compile unproved
-    if is_proved; then
-        echo "proved $program"
-    else
-        tell_standing
-        echo "unproved $program"
-    fi
+    is_proved && print_lines "proved $program" && return
+    tell_standing
+    print_lines "unproved $program"
 }
 
 # The program that answers: that of the variable NLLC, else the one that is current, which is compiled where there is none.
@@ -128,11 +130,16 @@ help() {
     case $1 in
         '') ;;
         rust | facts | mir | page | json | schedule | explain) frontend "$1" --help ;;
-        check | values | replay) find_program && exec "$program" "$1" --help ;;
+        check | values | replay)
+            find_program
+            "$program" "$1" --help || exit
+            print_lines "" "Status 0: answered, and check found no fault; 1: check found a fault; 2: refused; 3: failed."
+            exit
+            ;;
         *) end 2 "there is no command $1; $called help names all" ;;
     esac
     find_program
-    commands 2>/dev/null || end 3 "standard output can't be written"
+    print_lines "$(commands)" ""
     exec "$program" --help
 }
 
@@ -154,8 +161,8 @@ version() {
         *) standing="the variable NLLC names" ;;
     esac
     sum=$(sha256sum "$program")
-    printf '%s\n' "nllc, commit $(commit | paste -sd ' ')" "program: $program, which $standing" "kit: $(kit)" \
-        "sha256: ${sum%% *}" 2>/dev/null || end 3 "standard output can't be written"
+    print_lines "nllc, commit $(commit | paste -sd ' ')" "program: $program, which $standing" "kit: $(kit)" \
+        "sha256: ${sum%% *}"
 }
 
 # Has the program refuse these arguments, and says on a line of its own which commands there are.
@@ -226,14 +233,14 @@ answer() {
 case $1 in
     rust | facts | mir | page | json | schedule | explain) frontend "$@" ;;
     check | values | replay) answer "$@" ;;
-    help) [ "$#" -le 2 ] && help "$2" ;;
+    help) [ "$#" -le 2 ] || end 2 "help takes one COMMAND, or none" && help "$2" ;;
     --help | -h) help ;;
     version | --version | --prove | --built | --which) [ "$#" = 1 ] || end 2 "$1 takes no argument" ;;
     '') find_program && commands >&2 && exec "$program" "$@" ;;
 esac
 case $1 in
     version | --version) version ;;
-    --built) find_built && echo "$program" ;;
+    --built) find_built && print_lines "$program" ;;
     --which) print_which ;;
     --prove)
         [ "$home" = "$here" ] || end 2 "an installed copy proves nothing: do that in the repository, and install again"

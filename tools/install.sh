@@ -84,9 +84,10 @@ uninstall_all() {
 
 case $2 in /*) prefix=$2 ;; *) prefix=$PWD/$2 ;; esac
 lib=$prefix/lib/nllc
-case $#$1 in
-    2install) install_all ;;
-    2uninstall) uninstall_all ;;
+case $#$1${2:+:} in
+    2install:) install_all ;;
+    2uninstall:) uninstall_all ;;
+    2install | 2uninstall) refuse 2 "PREFIX is empty" ;;
     1--help | 1-h) usage ;;
     *)
         usage >&2

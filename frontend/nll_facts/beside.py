@@ -18,7 +18,7 @@ from .moves import MOVES, Moved
 from .places import Place
 from .points import Points
 from .regions import STATIC, Regions
-from .rustc import Error, Label
+from .rustc import INVOCATION, Error, Label
 from .tables import Location, Tables
 
 
@@ -63,7 +63,8 @@ class Beside:
         own = Loans(self.dump, self.tables, self.body)
         errors = list(errors)
         return [*self.loan_lines(own), *self.reason_lines(), *self.blame_lines(own), *self.use_lines(),
-                *self.called_lines(), *self.received_lines(own), *self.captured_lines(), *self.need_lines(), *self.gone_lines(errors), *self.rustc_lines(errors)]
+                *(self.used_lines(own) if errors else ()), *self.called_lines(), *self.received_lines(own),
+                *self.captured_lines(), *self.need_lines(), *self.gone_lines(errors), *self.rustc_lines(errors)]
 
     def name(self, region: int) -> Optional[str]:
         """The name of the region's class with its `'`, where the text has it."""
@@ -154,6 +155,20 @@ class Beside:
                 if locations:
                     yield f"{word} {self.name(region)}: {self.numbers(locations)}"
 
+    def used_lines(self, own: Loans) -> Iterator[str]:
+        """Where a statement stands that uses a variable with lifetimes, in a line of something that goes against loans.
+
+        That is read where there is something to tell.
+        """
+        lines = {span.last for one in own.against for span in (one.span, self.body.statements[one.location].span)
+                 if span and span.file == self.source}
+        variables = {variable for variable, _ in self.tables.use_of_var_derefs_origin} if lines else ()
+        used = {spot.location for variable, spot in self.tables.var_used_at if variable in variables}
+        for location in sorted(used):
+            span = self.body.statements[location].span
+            if span and span.file == self.source and span.first == span.last and span.last in lines:
+                yield f"used {self.number[location]}, {self.place(span)}"
+
     def called_lines(self) -> Iterator[str]:
         """Where the function stands that a statement over several lines calls, if that is in another line."""
         for location, statement in sorted(self.body.statements.items()):
@@ -207,6 +222,8 @@ class Beside:
                     yield f"label {place_words(label)}: {label.text}".rstrip(": ")
             if error.within:
                 yield f"within {os.path.join(error.root, error.within.file)}, {place_words(error.within)}"
+            yield from (f"invoked {os.path.join(error.root, label.file)}, {place_words(label)}" for label in error.labels
+                        if label.text == INVOCATION and label.file != self.source)
             yield from (f"note: {note}" for note in error.notes)
             yield from (f"help: {one}" for one in error.helps)
 

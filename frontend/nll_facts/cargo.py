@@ -6,7 +6,10 @@ import shutil
 import subprocess
 import sys
 
+from nll_page.called import current
+
 from .refusal import Refusal
+from .room import tied
 from .units import Unit, read_unit
 
 HERE = os.path.dirname(os.path.abspath(__file__))
@@ -32,21 +35,26 @@ def check_project(folder: str, packages: list[str], options: list[str], room: st
     What is compiled of the dependencies stays in a folder of its own in the project's target folder.
     """
     cargo = find_cargo()
+    known = metadata(cargo, folder)
     form = "json-diagnostic-rendered-ansi" if in_colour else "json"
     words = [cargo, "check", "--keep-going", f"--message-format={form}",
              *(word for package in packages for word in ("-p", package)), *options]
     environment = os.environ | {
         "RUSTC_WRAPPER": WRAPPER, "NLL_FACTS_ROOM": room, "NLL_FACTS_ASKED": " ".join(words[4:]), "CARGO_INCREMENTAL": "0",
-        "CARGO_TARGET_DIR": os.path.join(target_of(cargo, folder), TARGET),
+        "CARGO_TARGET_DIR": os.path.join(known["target_directory"], TARGET),
     }
     done = subprocess.run(words, cwd=folder, env=environment, stdin=subprocess.DEVNULL, stdout=subprocess.PIPE,
-                          check=False)
+                          check=False, preexec_fn=tied())
     units = units_in(room)
     show_others(done.stdout, units, is_json)
     if done.returncode != 0 and not any(unit.errors for unit in units):
         raise Refusal(f"cargo can't check {folder}: fix the errors above")
     if not units:
         raise Refusal(f"{folder} has no such package of its own: -p names packages of the project")
+    left = unchecked(known, folder, packages, units) if done.returncode != 0 else []
+    if left:
+        print(f"{current()[0]}: no answer for {' and '.join(left)}: another crate doesn't compile, which it needs; fix that first",
+              file=sys.stderr)
     return units
 
 
@@ -57,13 +65,22 @@ def find_cargo() -> str:
     return cargo
 
 
-def target_of(cargo: str, folder: str) -> str:
-    """The project's target folder, as cargo says it."""
+def metadata(cargo: str, folder: str) -> dict:
+    """What cargo says of the project: its packages, its target folder."""
     done = subprocess.run([cargo, "metadata", "--no-deps", "--format-version=1"], cwd=folder, check=False,
                           stdin=subprocess.DEVNULL, stdout=subprocess.PIPE)
     if done.returncode != 0:
         raise Refusal(f"cargo can't read the project of {folder}: fix the errors above")
-    return json.loads(done.stdout)["target_directory"]
+    return json.loads(done.stdout)
+
+
+def unchecked(known: dict, folder: str, packages: list[str], units: list[Unit]) -> list[str]:
+    """The packages that were asked for, and of which rustc has seen nothing."""
+    own = [one for one in known["packages"] if os.path.samefile(os.path.dirname(one["manifest_path"]), folder)]
+    members = [one for one in known["packages"] if one["id"] in known.get("workspace_default_members", known["workspace_members"])]
+    asked = [one for one in known["packages"] if one["name"] in packages] if packages else own or members
+    seen = {unit.crate for unit in units}
+    return [one["name"] for one in asked if seen.isdisjoint(target["name"].replace("-", "_") for target in one["targets"])]
 
 
 def units_in(room: str) -> list[Unit]:

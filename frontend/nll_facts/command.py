@@ -3,7 +3,6 @@
 import argparse
 import os
 import sys
-import tempfile
 from typing import NamedTuple, Sequence
 
 from nll_page.called import Parser
@@ -15,6 +14,7 @@ from .convert import Problem, convert
 from .functions import Checked, Function, checked
 from .progress import Progress
 from .refusal import Refusal
+from .room import guarded_room
 from .rustc import Error, without_colours
 from .text import facts_text, make_folder, write_whole
 from .units import check_file
@@ -67,7 +67,7 @@ def add_words(parser: argparse.ArgumentParser, use_of_folder: str, is_of_cargo: 
                             help="a Rust file (- is standard input), or the folder of a Cargo package or workspace")
         parser.add_argument("--edition", help="the language edition of FILE.rs (default 2021)")
     parser.set_defaults(path=os.curdir, edition=None)
-    parser.add_argument("functions", metavar="FUNCTION", nargs="*",
+    parser.add_argument("functions", metavar="FUNCTION", nargs="*", default=[],
                         help="only these: a name (pick, module::pick, Type::pick) or a line (12, src/lib.rs:12)")
     parser.add_argument("-o", dest="out", metavar="FOLDER",
                         help=f"{use_of_folder}; created where it is missing (default {FOLDER}/NAME, "
@@ -77,7 +77,7 @@ def add_words(parser: argparse.ArgumentParser, use_of_folder: str, is_of_cargo: 
 
 
 def write_texts(asked: argparse.Namespace) -> int:
-    with tempfile.TemporaryDirectory(prefix="nll-facts.") as room:
+    with guarded_room("nll-facts.") as room:
         found = check(asked, room, folder_of(asked))
         refuse_nothing(asked.path, found)
         show(found.errors)

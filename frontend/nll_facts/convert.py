@@ -8,7 +8,7 @@ from typing import Iterable, Iterator
 from .beside import Beside
 from .desugarings import desugarings_of
 from .dumps import Dump
-from .liveness import bases
+from .liveness import live_variables
 from .mir import Body, read_body
 from .origins import origins
 from .points import Points, number_points
@@ -151,9 +151,11 @@ def live_points(tables: Tables, body: Body, points: Points,
     of it is: that is in the dump alone.
     """
     live: dict[int, set[int]] = defaultdict(set)
-    for region, location in bases(tables):
-        if location in body.live.at(region):
-            live[regions.find(region)].add(points.number[location])
+    for its, locations in live_variables(tables):
+        for region in its:
+            found = regions.find(region)
+            if not regions.is_universal(found):
+                live[found].update(points.number[location] for location in locations & body.live.at(region))
     for region in sorted(live):
-        if not regions.is_universal(region):
+        if live[region]:
             yield region, sorted(live[region])

@@ -119,7 +119,8 @@ def others(checked: Checked, answers: list[Said]) -> Iterator[Said]:
     own = {mark_of(error) for error in (*checked.errors, *checked.unanswered)}
     for unit in checked.units:
         for diagnostic in unit.diagnostics():
-            mark = mark_of(error_of(diagnostic, unit.root))
+            error = error_of(diagnostic, unit.root)
+            mark = mark_of(error.inside if error.inside and mark_of(error.inside) in own else error)
             is_own = mark in own if checked.is_part or diagnostic["level"] == "error" else True
             if diagnostic["spans"] and is_own and mark not in told:
                 notes = [child("note", f"nllc: no fault there: {differing[mark]}")] if mark in differing else []

@@ -69,6 +69,7 @@ class Checked:
 def checked(units: list[Unit], wanted: list[str], folder: str) -> Checked:
     """The functions of the units, or those that are wanted, with texts in the folder."""
     by_unit = [all_of(unit, len(units) > 1) for unit in units]
+    units = [its[0].unit if its else unit for unit, its in zip(units, by_unit)]
     found = [one for its in by_unit for one in its]
     chosen = choose(found, wanted) if wanted and found else \
         [one for one in found if has_answer(one.dump, one.unit.errors)]
@@ -85,7 +86,15 @@ def checked(units: list[Unit], wanted: list[str], folder: str) -> Checked:
 def all_of(unit: Unit, is_one_of_many: bool) -> list[Found]:
     """All of a unit; of several crates each name begins with the crate's."""
     dumps = find_dumps(unit.facts, unit.mir, unit.crate, unit.root, side_by_side)
+    unit = replace(unit, errors=[at_function(error, dumps) for error in unit.errors])
     return [Found(f"{unit.crate}::{dump.name}" if is_one_of_many else dump.name, unit, dump) for dump in dumps]
+
+
+def at_function(error: Error, dumps: list[Dump]) -> Error:
+    """The error where it is inside a function that a macro of another file makes; else as it is, at the macro's use."""
+    inside = error.inside
+    is_made = inside is not None and any(one.is_inside(*inside.places[0], inside.column) for one in dumps)
+    return inside if is_made else error
 
 
 def has_some_line(functions: list[Found], error: Error) -> bool:

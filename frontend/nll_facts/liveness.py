@@ -16,11 +16,17 @@ Neighbours = dict[Spot, list[Spot]]
 
 def bases(tables: Tables) -> Iterator[tuple[int, Location]]:
     """The pairs of a region and a location before which it is live; a pair may come repeatedly."""
+    for regions, locations in live_variables(tables):
+        yield from ((region, location) for region in regions for location in locations)
+
+
+def live_variables(tables: Tables) -> Iterator[tuple[list[int], set[Location]]]:
+    """For each variable the regions of its type, and the locations before which it is live; first by uses, then by drops."""
     before, after = neighbours(tables)
     used, defined = table_of(tables.var_used_at), table_of(tables.var_defined_at)
     for variable, regions in table_of(tables.use_of_var_derefs_origin).items():
-        live = spread(before, used[variable], lambda spot: spot not in defined[variable])
-        yield from at_starts(regions, live)
+        ends = set(defined[variable])
+        yield regions, locations_of(spread(before, used[variable], lambda spot: spot not in ends))
     dropped = table_of(tables.var_dropped_at)
     moves = Moves(tables, after)
     for variable, regions in table_of(tables.drop_of_var_derefs_origin).items():
@@ -28,14 +34,17 @@ def bases(tables: Tables) -> Iterator[tuple[int, Location]]:
         drops = [spot for spot in dropped[variable] if not filled.isdisjoint(before[spot])]
         live = spread(before, drops,
                       lambda spot: spot in filled and spot not in defined[variable])
-        yield from at_starts(regions, live)
+        yield regions, locations_of(live)
+
+
+def locations_of(live: Iterable[Spot]) -> set[Location]:
+    """The locations before which something is live at these spots."""
+    return {spot.location for spot in live if not spot.is_mid}
 
 
 def at_starts(regions: Iterable[int], live: Iterable[Spot]) -> Iterator[tuple[int, Location]]:
-    for spot in live:
-        if not spot.is_mid:
-            for region in regions:
-                yield region, spot.location
+    locations = locations_of(live)
+    yield from ((region, location) for region in regions for location in locations)
 
 
 def neighbours(tables: Tables) -> tuple[Neighbours, Neighbours]:

@@ -17,8 +17,8 @@ from .tables import Location
 TITLE = re.compile(r"// MIR for `(.*)` 0 nll")
 SPAN = re.compile(r"(?P<file>.+):(?P<line>\d+):(?P<column>\d+): (?P<last>\d+):(?P<end>\d+)"
                   r"(?: \(#\d+\))?")
-CODE = re.compile(r"(?P<indent> +)(?P<code>\S.*?)\s+// (?:\S+ )*?in scope \d+ at (?P<span>.*)"
-                  r"|        (?P<statement>\S.*);\s+// (?:bb\S+ )?scope \d+ at (?P<where>.*)")
+DECLARED = re.compile(r" +(\S.*?)\s+// (?:\S+ )*?in scope \d+ at (.*)")
+DONE = re.compile(r" {8}(\S.*);\s+// (?:bb\S+ )?scope \d+ at (.*)")
 # Of the same lines without the code, where what is declared or done stands; names of variables stand elsewhere, too.
 SPOT = re.compile(r"^(?!        +debug |    debug \S+ => [^_]).*;\s+// (?:[^/]* )?scope \d+ at (.*)")
 RESULT = re.compile(r" +let (?:mut )?_0: .*;\s+// (?:\S+ )*?in scope \d+ at (.*)")
@@ -217,8 +217,10 @@ def unknown(mir_path: str) -> Refusal:
 
 def read_regions(body: Body, lines: list[str]) -> None:
     """Takes what stands above the function; of where regions are live no more than the text."""
+    reasons = (line for line in lines if " due to " in line)
+    lines = [line for line in lines if " due to " not in line]
     body.external = {int(found[1]) for found in map(EXTERNAL.match, lines) if found}
-    body.reasons = list(filter(None, map(reason_of, lines)))
+    body.reasons = list(filter(None, map(reason_of, reasons)))
     body.live = Live({int(found[1]): found[2] for found in map(LIVE.fullmatch, lines) if found})
     body.needs = [(int(found[1]), int(found[2])) for found in map(NEED.match, lines) if found]
 
@@ -286,26 +288,29 @@ def read_code(body: Body, lines: list[str]) -> None:
     for line in lines:
         if line == "}":
             return
-        line, begun = f"{begun} {line.strip()}" if begun else line, ""
-        if line.startswith(CONSTANT) and index:
-            add_constant(body.statements, Location(block, index - 1), span_of(line.removeprefix(CONSTANT)))
+        if block is None:
+            if found := DECLARED.fullmatch(line):
+                read_declaration(body, found[1], span_of(found[2]))
+            elif found := BLOCK.fullmatch(line):
+                block = int(found[1])
+        elif line.startswith(CONSTANT):
+            add_constant(body.statements, Location(block, index - 1), line)
+        elif begun or STATEMENT.match(line):
+            line, begun = f"{begun} {line.strip()}" if begun else line, ""
+            if found := DONE.fullmatch(line):
+                body.statements[Location(block, index)] = Statement(found[1], span_of(found[2]))
+                index += 1
+            else:
+                begun = line
         elif found := BLOCK.fullmatch(line):
             block, index = int(found[1]), 0
-        elif not (found := CODE.fullmatch(line)):
-            begun = line if block is not None and STATEMENT.match(line) else ""
-        elif found["statement"] and block is not None:
-            statement = Statement(found["statement"], span_of(found["where"]))
-            body.statements[Location(block, index)] = statement
-            index += 1
-        elif found["code"] and block is None:
-            read_declaration(body, found["code"], span_of(found["span"]))
 
 
-def add_constant(statements: dict[Location, Statement], location: Location, span: Optional[Span]) -> None:
+def add_constant(statements: dict[Location, Statement], location: Location, line: str) -> None:
     """Takes the place of a statement's first constant."""
-    statement = statements[location]
-    if statement.constant is None:
-        statements[location] = statement._replace(constant=span)
+    statement = statements.get(location)
+    if statement and statement.constant is None:
+        statements[location] = statement._replace(constant=span_of(line.removeprefix(CONSTANT)))
 
 
 def read_declaration(body: Body, code: str, span: Optional[Span]) -> None:
@@ -328,8 +333,9 @@ def read_declaration(body: Body, code: str, span: Optional[Span]) -> None:
             body.captured.setdefault(place[0], found[1].replace("__", "."))
 
 
+@lru_cache(4096)    # a statement's is that of its constraints, too
 def span_of(text: str) -> Optional[Span]:
     found = SPAN.fullmatch(text)
     if not found:
         return None
-    return Span(found["file"], *(int(found[part]) for part in ("line", "last", "column", "end")))
+    return Span(found["file"], *map(int, found.group("line", "last", "column", "end")))

@@ -4,7 +4,6 @@ import argparse
 import os
 import re
 import sys
-import tempfile
 import webbrowser
 from contextlib import contextmanager
 from dataclasses import dataclass, field
@@ -24,6 +23,7 @@ from .command import (add_words, check, folder_of, make_ready, problem_of, refus
 from .functions import Checked, Function
 from .progress import Bar, Progress
 from .refusal import Refusal
+from .room import guarded_room
 from .rustc import Error, version
 from .text import facts_text, write_whole
 from .workers import side_by_side
@@ -66,6 +66,7 @@ def read_words(words: Sequence[str], is_of_cargo: bool = False) -> argparse.Name
         program, usage=f"{path}[FUNCTION ..] [-o FOLDER] [-p PACKAGE] {edition}"
         "[--explain] [--all-points] [--from-mir] [--all-pages] [--open] "
         "[--message-format human|json] [-- OPTIONS]", formatter_class=argparse.HelpFormatter,
+        hint="options of cargo check go after --" if is_of_cargo else "options of rustc or cargo check go after --",
         about="Says why the borrow checker refuses the functions of a Rust file, or of a Cargo project: "
         "lifetimes that would have to outlive others, and loans that something conflicts with while they are "
         "live. Makes a facts text and a page of each function. OPTIONS are those of rustc, or of cargo check. "
@@ -92,7 +93,7 @@ def read_words(words: Sequence[str], is_of_cargo: bool = False) -> argparse.Name
 
 
 def answer_all(asked: argparse.Namespace) -> int:
-    with tempfile.TemporaryDirectory(prefix="nll-facts.") as room:
+    with guarded_room("nll-facts.") as room:
         return answer_in_json(asked, room) if asked.format == "json" else answer_for_people(asked, room)
 
 
@@ -137,7 +138,7 @@ def mir_texts(asked: argparse.Namespace, folder: str) -> Iterator[dict[str, Any]
         yield {}
         return
     from nll_mir.command import texts_by_path   # which stands on this package
-    with tempfile.TemporaryDirectory(prefix="nll-mir.") as room:
+    with guarded_room("nll-mir.") as room:
         yield texts_by_path(asked, room, folder)
 
 

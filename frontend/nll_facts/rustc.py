@@ -7,7 +7,7 @@ import shutil
 import subprocess
 from dataclasses import dataclass, field
 from functools import cache
-from typing import NamedTuple, Optional
+from typing import Callable, NamedTuple, Optional
 
 from nll_page.called import called
 
@@ -28,6 +28,9 @@ INVOCATION = "in this macro invocation"
 FLAGS = ("-Znll-facts", "-Zdump-mir=nll", "-Zpolonius=next")
 
 
+Home = Callable[[dict, str], dict]
+
+
 class Label(NamedTuple):
     """A place that an error names, and what it says of it."""
 
@@ -44,7 +47,8 @@ class Error:
     """An error of rustc: as it would print it, and the files and lines that it is about.
 
     rustc names its files relatively to the folder in which it ran, which is `root`. What a macro of another file makes
-    is about the macro's use, and `within` is the place in the macro, which rustc names.
+    is about the macro's use, and `within` is the place in the macro, which rustc names; `inside` is the same error there,
+    for a function that the macro makes.
     """
 
     rendered: str
@@ -57,6 +61,7 @@ class Error:
     helps: list[str] = field(default_factory=list)
     root: str = ""
     within: Optional[Label] = None
+    inside: Optional["Error"] = None
 
     @property
     def path(self) -> str:
@@ -114,7 +119,7 @@ def crate_name(file: str) -> str:
 def refuse_others(file: str) -> None:
     """Refuses what is no Rust file, and says what a text of `nllc`'s own is."""
     if not os.path.isfile(file):
-        raise Refusal(f"{file} isn't a readable file; give the path of a Rust file")
+        raise Refusal(f"{file or repr(file)} isn't a readable file; give the path of a Rust file")
     try:
         with open(file, "rb") as opened:
             begin = opened.read(64).split(b"\n")[0].split()
@@ -155,19 +160,22 @@ def without_colours(text: str) -> str:
     return COLOUR.sub("", text)
 
 
-def error_of(said: dict, root: str) -> Error:
-    """The error of a diagnostic, of whichever level that is."""
+def error_of(said: dict, root: str, home: Optional[Home] = None) -> Error:
+    """The error of a diagnostic, of whichever level that is, with each place at home, which is in the user's own files."""
+    home = home or at_home
     primary = [span for span in said.get("spans", ()) if span.get("is_primary")]
-    spans = [at_home(span, root) for span in primary]
+    spans = [home(span, root) for span in primary]
     places = [(span["file_name"], span["line_start"]) for span in spans]
     column = spans[0]["column_start"] if spans else 0
     code = (said.get("code") or {}).get("code", "")
-    labels = [label_of(span, root) for span in said.get("spans", ())] + used_macro(primary[0] if primary else {}, root)
+    labels = [place_of(home(span, root))._replace(text=span.get("label") or "") for span in said.get("spans", ())]
+    labels += used_macro(home(primary[0], root)) if primary else []
     below = said.get("children", ())
     notes = [child["message"] for child in below if child["level"] == "note" and VARIANCE.search(child["message"])]
     helps = [help_of(child) for child in below if child["level"] == "help" and not SEE.match(child["message"])]
-    return Error(said["rendered"], places, column, code, said.get("message", ""), labels, notes, helps, root,
-                 within_macro(primary[0], spans[0], said["rendered"]) if spans else None)
+    within = within_macro(primary[0], spans[0], said["rendered"]) if spans else None
+    inside = error_of(said, root, lambda span, _: span) if within else None
+    return Error(said["rendered"], places, column, code, said.get("message", ""), labels, notes, helps, root, within, inside)
 
 
 def within_macro(own: dict, home: dict, rendered: str) -> Optional[Label]:
@@ -179,14 +187,18 @@ def within_macro(own: dict, home: dict, rendered: str) -> Optional[Label]:
     return place if shown.groups() == (place.file, str(place.line), str(place.column)) else None
 
 
-def used_macro(own: dict, root: str) -> list[Label]:
-    """Where a macro of the user's file is used, in whose lines a place is; of other macros that is the place itself."""
-    home = at_home(own, root) if own else own
-    while home.get("expansion"):
-        home = home["expansion"]["span"]
-        if not home.get("expansion"):
-            return [place_of(home)._replace(text=INVOCATION)]
-    return []
+def used_macro(home: dict) -> list[Label]:
+    """Where the macro is used in whose lines a place is; none for a place in no macro, or in what a macro takes."""
+    use = home
+    while use.get("expansion"):
+        use = use["expansion"]["span"]
+    is_argument = use is home or is_inside(place_of(home), place_of(use))
+    return [] if is_argument else [place_of(use)._replace(text=INVOCATION)]
+
+
+def is_inside(inner: Label, outer: Label) -> bool:
+    return inner.file == outer.file and (outer.line, outer.column) <= (inner.line, inner.column) \
+        and (inner.last, inner.end) <= (outer.last, outer.end)
 
 
 def help_of(child: dict) -> str:
@@ -205,10 +217,6 @@ def changed(spans: list[dict]) -> str:
     for span in sorted(spans, key=lambda one: -one["column_start"]):
         line = line[:span["column_start"] - 1] + span["suggested_replacement"] + line[span["column_end"] - 1:]
     return " ".join(line.split())
-
-
-def label_of(span: dict, root: str) -> Label:
-    return place_of(at_home(span, root))._replace(text=span.get("label") or "")
 
 
 def place_of(span: dict) -> Label:

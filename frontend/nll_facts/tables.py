@@ -8,13 +8,13 @@ runs, and when it takes effect. Here such a point is a `Spot`.
 import os
 import re
 from dataclasses import dataclass
-from typing import Callable, Iterator, NamedTuple
+from typing import Callable, NamedTuple
 
 from .refusal import Refusal
 
-BETWEEN = '"\t"'
+FIRST = '"Start(bb0[0])"'
 STRANGE = "this rustc's facts have another form than is known here; rustc 1.95 is known to work"
-SPOT = re.compile(r"(Start|Mid)\(bb(\d+)\[(\d+)\]\)")
+SPOT = re.compile(r'"(Start|Mid)\(bb(\d+)\[(\d+)\]\)"')
 
 
 class Location(NamedTuple):
@@ -80,93 +80,113 @@ def read_tables(folder: str) -> Tables:
         raise Refusal(f"{folder}: {STRANGE}") from None
 
 
+class Known(dict):
+    """What fields mean; each is read once."""
+
+    def __init__(self, read: Callable):
+        super().__init__()
+        self.read = read
+
+    def __missing__(self, field: str):
+        value = self[field] = self.read(field)
+        return value
+
+
 class Reader:
     """Reads the tables of one folder; raises ValueError where a row isn't understood."""
 
     def __init__(self, folder: str):
         self.folder = folder
-        self.spots: dict[str, Spot] = {}
+        self.spot, self.region, self.variable = Known(spot), Known(region), Known(variable)
+        self.loan, self.path = Known(loan), Known(path)
 
     def tables(self) -> Tables:
+        spots, regions, variables, loans, paths = self.spot, self.region, self.variable, self.loan, self.path
         return Tables(
-            cfg_edge=self.pairs("cfg_edge", self.spot, self.spot),
-            universal_region=[region(a) for a, in self.rows("universal_region")],
-            known_placeholder_subset=self.pairs("known_placeholder_subset", region, region),
+            cfg_edge=self.rows("cfg_edge", spots, spots),
+            universal_region=[a for a, in self.rows("universal_region", regions)],
+            known_placeholder_subset=self.rows("known_placeholder_subset", regions, regions),
             subset_base=self.subsets(),
-            loan_issued_at=[(region(a), loan(b), self.spot(p))
-                            for a, b, p in self.rows("loan_issued_at")],
-            loan_killed_at=self.pairs("loan_killed_at", loan, self.spot),
-            loan_invalidated_at=self.pairs("loan_invalidated_at", self.spot, loan),
-            use_of_var_derefs_origin=self.pairs("use_of_var_derefs_origin", variable, region),
-            drop_of_var_derefs_origin=self.pairs("drop_of_var_derefs_origin", variable, region),
-            var_used_at=self.pairs("var_used_at", variable, self.spot),
-            var_defined_at=self.pairs("var_defined_at", variable, self.spot),
-            var_dropped_at=self.pairs("var_dropped_at", variable, self.spot),
-            path_is_var=self.pairs("path_is_var", path, variable),
-            child_path=self.pairs("child_path", path, path),
-            path_assigned_at_base=self.pairs("path_assigned_at_base", path, self.spot),
-            path_moved_at_base=self.pairs("path_moved_at_base", path, self.spot),
-            path_accessed_at_base=self.pairs("path_accessed_at_base", path, self.spot),
+            loan_issued_at=self.rows("loan_issued_at", regions, loans, spots),
+            loan_killed_at=self.rows("loan_killed_at", loans, spots),
+            loan_invalidated_at=self.rows("loan_invalidated_at", spots, loans),
+            use_of_var_derefs_origin=self.rows("use_of_var_derefs_origin", variables, regions),
+            drop_of_var_derefs_origin=self.rows("drop_of_var_derefs_origin", variables, regions),
+            var_used_at=self.rows("var_used_at", variables, spots),
+            var_defined_at=self.rows("var_defined_at", variables, spots),
+            var_dropped_at=self.rows("var_dropped_at", variables, spots),
+            path_is_var=self.rows("path_is_var", paths, variables),
+            child_path=self.rows("child_path", paths, paths),
+            path_assigned_at_base=self.rows("path_assigned_at_base", paths, spots),
+            path_moved_at_base=self.rows("path_moved_at_base", paths, spots),
+            path_accessed_at_base=self.rows("path_accessed_at_base", paths, spots),
         )
 
-    def lines(self, table: str) -> Iterator[str]:
-        """The lines of a table without their outer quotes."""
+    def text(self, table: str) -> str:
         name = os.path.join(self.folder, f"{table}.facts")
         try:
-            with open(name, encoding="utf-8") as file:
-                for line in file:
-                    yield line[1:-2]
+            with open(name, "rb", buffering=0) as file:
+                return file.read().decode()
         except OSError:
             raise Refusal(f"{name} isn't there: {STRANGE}") from None
 
-    def rows(self, table: str) -> Iterator[list[str]]:
-        return (line.split(BETWEEN) for line in self.lines(table))
-
-    def pairs(self, table: str, first: Callable, second: Callable) -> list[tuple]:
-        return [(first(a), second(b)) for a, b in self.rows(table)]
-
-    def spot(self, field: str) -> Spot:
-        if field not in self.spots:
-            found = SPOT.fullmatch(field)
-            if not found:
-                raise ValueError(field)
-            location = Location(int(found[2]), int(found[3]))
-            self.spots[field] = Spot(location, found[1] == "Mid")
-        return self.spots[field]
+    def rows(self, table: str, *columns: Known) -> list[tuple]:
+        """The rows of a table, by what the fields of its columns mean."""
+        text = self.text(table)
+        if text.count("\t") != text.count("\n") * (len(columns) - 1):
+            raise ValueError(table)
+        fields = text.replace("\t", "\n").split("\n")
+        return list(zip(*(map(known.__getitem__, fields[at:-1:len(columns)]) for at, known in enumerate(columns))))
 
     def subsets(self) -> Subsets:
-        """Reads millions of rows that are nearly all of pairs that hold everywhere."""
-        everywhere: set[str] = set()
-        located: set[tuple[str, str]] = set()
-        for line in self.lines("subset_base"):
-            pair, _, field = line.rpartition(BETWEEN)
-            if pair in everywhere:
-                continue
-            if field.startswith("Start"):
+        """Reads millions of rows, nearly all of pairs that hold everywhere: the rows of such a pair follow one another."""
+        lines = self.text("subset_base").split("\n")[:-1]
+        everywhere, located, at, length = set(), set(), 0, 1
+        while at < len(lines):
+            pair, _, field = lines[at].rpartition("\t")
+            if field == FIRST:
                 everywhere.add(pair)
+                length = run_of(lines, at, pair, length)
+                at += length
             else:
                 located.add((pair, field))
+                at += 1
+        said = {(*self.pair(pair), self.spot[field]) for pair, field in located if pair not in everywhere}
+        if not all(spot.is_mid for _, _, spot in said):
+            raise ValueError("subset_base")
+        return Subsets(set(map(self.pair, everywhere)), said)
 
-        def regions(pair: str) -> tuple[int, int]:
-            sup, sub = pair.split(BETWEEN)
-            return region(sup), region(sub)
+    def pair(self, pair: str) -> tuple[int, int]:
+        sup, sub = pair.split("\t")
+        return self.region[sup], self.region[sub]
 
-        return Subsets({regions(pair) for pair in everywhere},
-                       {(*regions(pair), self.spot(field)) for pair, field in located
-                        if pair not in everywhere})
+
+def run_of(lines: list[str], at: int, pair: str, length: int) -> int:
+    """How many lines from this one on are of the pair: nearly always as many as of the pair before."""
+    begin, end = f"{pair}\t", at + length
+    if length == 1 or end > len(lines) or not lines[end - 1].startswith(begin):
+        end = next((number for number in range(at, len(lines)) if not lines[number].startswith(begin)), len(lines))
+    return end - at
+
+
+def spot(field: str) -> Spot:
+    found = SPOT.fullmatch(field)
+    if not found:
+        raise ValueError(field)
+    return Spot(Location(int(found[2]), int(found[3])), found[1] == "Mid")
 
 
 def region(field: str) -> int:
-    return int(field.removeprefix("'?"))
+    return int(field.removeprefix("\"'?").removesuffix('"'))
 
 
 def variable(field: str) -> int:
-    return int(field.removeprefix("_"))
+    return int(field.removeprefix("\"_").removesuffix('"'))
 
 
 def loan(field: str) -> int:
-    return int(field.removeprefix("bw"))
+    return int(field.removeprefix("\"bw").removesuffix('"'))
 
 
 def path(field: str) -> int:
-    return int(field.removeprefix("mp"))
+    return int(field.removeprefix("\"mp").removesuffix('"'))

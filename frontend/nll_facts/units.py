@@ -11,6 +11,7 @@ from dataclasses import dataclass, field
 from typing import Callable, Optional
 
 from .refusal import Refusal
+from .room import tied
 from .rustc import NO_RUSTC, Error, crate_name, errors_in, find_rustc, flags, judge, refuse_others
 
 NOTE = "unit.json"
@@ -67,13 +68,19 @@ def run_both(plain: list[str], leaving: list[str], folder: str, crate: str,
     """
     with open(os.path.join(folder, LEAVING), "wb") as beside, open(os.path.join(folder, PLAIN), "wb") as kept, \
             subprocess.Popen([*leaving, *flags(folder)], stdin=subprocess.DEVNULL, stdout=subprocess.DEVNULL,
-                             stderr=beside, env=os.environ | {"RUSTC_BOOTSTRAP": "1"}) as second, \
-            subprocess.Popen(plain, stdin=subprocess.DEVNULL, stderr=subprocess.PIPE,
-                             env=os.environ | variables) as first:
-        for line in first.stderr:
-            kept.write(line)
-            if tell:
-                tell(line)
+                             stderr=beside, env=os.environ | {"RUSTC_BOOTSTRAP": "1"}, preexec_fn=tied()) as second, \
+            subprocess.Popen(plain, stdin=subprocess.DEVNULL, stderr=subprocess.PIPE, env=os.environ | variables,
+                             preexec_fn=tied()) as first:
+        try:
+            for line in first.stderr:
+                kept.write(line)
+                if tell:
+                    tell(line)
+            second.wait()
+        except BaseException:
+            first.kill()
+            second.kill()
+            raise
     with open(os.path.join(folder, NOTE), "w", encoding="utf-8") as file:
         json.dump({"crate": crate, "root": os.getcwd(), "rustc": plain[0], "status": second.returncode}, file)
     return first.returncode

@@ -94,6 +94,8 @@ class Wording:
         def named(found: re.Match) -> str:
             return self.called.get(int(found[1]), found[0])
 
+        if '"' not in text:
+            return VARIABLE.sub(named, text)
         pieces = []
         at = 0
         for quoted in QUOTED.finditer(text):

@@ -3,7 +3,6 @@
 import argparse
 import os
 import sys
-import tempfile
 from collections import Counter
 from typing import Sequence
 
@@ -12,6 +11,7 @@ from nll_facts.command import (add_words, check, folder_of, make_ready, refuse_n
                                tell_unanswered)
 from nll_facts.dumps import Dump, find_dumps
 from nll_facts.functions import Checked
+from nll_facts.room import guarded_room
 from nll_facts.rustc import Error
 from nll_facts.text import write_whole
 from nll_facts.units import Unit, check_file
@@ -44,7 +44,7 @@ def read_words(words: Sequence[str]) -> argparse.Namespace:
 
 def run(asked: argparse.Namespace) -> int:
     ask_for_types()
-    with tempfile.TemporaryDirectory(prefix="nll-mir.") as room:
+    with guarded_room("nll-mir.") as room:
         found = check(asked, room, folder_of(asked))
         refuse_nothing(asked.path, found)
         made = made_of(found)

@@ -7,7 +7,7 @@ from typing import Callable, Iterable, Iterator, Optional
 
 from nll_facts.dumps import Dump
 from nll_facts.mir import Body, Reason, read_body
-from nll_facts.tables import Location, Reader as Tables, region, variable
+from nll_facts.tables import Location, Reader as Tables
 
 from .constants import Known, captures, named_constants, with_types
 from .refusal import NOT_READ, NotSaid
@@ -47,15 +47,15 @@ def read_function(dump: Dump) -> Function:
     refuse_strange(text, body)
     tables = Tables(dump.facts)
     drops = defaultdict(set)
-    for local, origin in tables.pairs("drop_of_var_derefs_origin", variable, region):
+    for local, origin in tables.rows("drop_of_var_derefs_origin", tables.variable, tables.region):
         drops[local].add(origin)
     function = Function(
         name=dump.name,
         body=body,
         locals={number: read_type(local.type) for number, local in sorted(body.locals.items())},
         lines=read_lines(body, named_constants(text)),
-        universals=[region(a) for a, in tables.rows("universal_region")],
-        outlives=tables.pairs("known_placeholder_subset", region, region),
+        universals=[origin for origin, in tables.rows("universal_region", tables.region)],
+        outlives=tables.rows("known_placeholder_subset", tables.region, tables.region),
         drops=drops,
     )
     refuse_undeclared(function)

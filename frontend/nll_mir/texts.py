@@ -1,5 +1,6 @@
 """MIR texts of all functions of one run of rustc: first what their lines say of types, then each text."""
 
+import os
 from concurrent.futures import ProcessPoolExecutor
 from dataclasses import dataclass
 from typing import Optional
@@ -34,22 +35,22 @@ class Made:
 def texts_of(dumps: list[Dump], processes: Optional[int] = None) -> list[Made]:
     """The texts of functions of one run of rustc, in their order."""
     known = definitions_of(dumps, processes)
-    with ProcessPoolExecutor(processes, initializer=begin, initargs=(known,)) as pool:
+    with ProcessPoolExecutor(processes, initializer=begin, initargs=(os.getpid(), known)) as pool:
         return list(pool.map(made, dumps, chunksize=IN_ONE_GO))
 
 
 def definitions_of(dumps: list[Dump], processes: Optional[int] = None) -> Definitions:
     """What all lines of the functions agree on."""
     evidence = Evidence()
-    with ProcessPoolExecutor(processes, initializer=keep_silent) as pool:
+    with ProcessPoolExecutor(processes, initializer=keep_silent, initargs=(os.getpid(),)) as pool:
         for found in pool.map(evidence_of, dumps, chunksize=IN_ONE_GO):
             evidence.add(found)
     return Definitions(evidence)
 
 
-def begin(known: Definitions) -> None:
+def begin(parent: int, known: Definitions) -> None:
     global definitions
-    keep_silent()
+    keep_silent(parent)
     definitions = known
 
 

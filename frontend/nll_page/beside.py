@@ -5,11 +5,11 @@
     # killed N: P ..                      # against P, PLACE, WAY of WHAT after P: N ..
     # asked 'R 'R at P, PLACE: WORD       # uses 'R: P ..      # drops 'R: P ..
     # blamed 'R 'R, PLACE: WORD           # blamed N 'R, PLACE: WORD of a closure
-    # called P by N .., PLACE             # captured P 'R, PLACE
+    # used P, PLACE                       # called P by N .., PLACE   # captured P 'R, PLACE
     # needs 'R 'R                         # gone P, L:C, CODE of WHAT, by P ..: P ..
     # rustc LINE:COLUMN: WORDS            # label PLACE: WORDS
-    # within PATH, PLACE                  # note: WORDS
-    # help: WORDS
+    # within PATH, PLACE                  # invoked PATH, PLACE
+    # note: WORDS                         # help: WORDS
 
 A place is `L:C-L:C` or `elsewhere`. docs/FROM-RUST.md says what each means.
 """
@@ -32,6 +32,7 @@ FORMS = {
     "blamed": re.compile(rf"# blamed ('\w+|\d+) '(\w+), {PLACE}: (\w+)( of a closure)?"),
     "uses": re.compile(r"# uses '(\w+): ([\d ]+)"),
     "drops": re.compile(r"# drops '(\w+): ([\d ]+)"),
+    "used": re.compile(rf"# used (\d+), {PLACE}"),
     "called": re.compile(rf"# called (\d+)(?: by ([\d ]+))?, {PLACE}"),
     "captured": re.compile(rf"# captured (\d+) '(\w+), {PLACE}"),
     "needs": re.compile(r"# needs '(\w+) '(\w+)"),
@@ -40,6 +41,7 @@ FORMS = {
     "help:": re.compile(r"# help: (.*)"),
     "note:": re.compile(r"# note: (.*)"),
     "within": re.compile(rf"# within (.*), {PLACE}"),
+    "invoked": re.compile(rf"# invoked (.*), {PLACE}"),
     "label": re.compile(rf"# label {PLACE}(?:: (.*))?"),
 }
 
@@ -120,6 +122,7 @@ class Error(NamedTuple):
     """An error of rustc in the function, with what it says at places, on variance, and as help.
 
     Of what a macro of another file makes the place is that of the macro's use, and rustc names the one within the macro.
+    Of a function that such a macro makes the place is the latter, and `invoked` is the macro's use.
     """
 
     line: int
@@ -129,6 +132,7 @@ class Error(NamedTuple):
     notes: list
     helps: list
     within: Optional[Within] = None
+    invoked: Optional[Within] = None
 
     def code(self):
         """`E0499`; nothing of an error that has none."""
@@ -171,6 +175,7 @@ class Beside:
     blamed: dict = field(default_factory=dict)
     uses: dict = field(default_factory=dict)
     drops: dict = field(default_factory=dict)
+    used: dict = field(default_factory=dict)
     called: dict = field(default_factory=dict)
     captured: dict = field(default_factory=dict)
     needs: set = field(default_factory=set)
@@ -212,6 +217,9 @@ class Beside:
     def take_drops(self, region, points):
         self.drops[region] = set(numbers(points))
 
+    def take_used(self, point, place):
+        self.used[int(point)] = place_of(place)
+
     def take_called(self, point, loans, place):
         for loan in numbers(loans) if loans else [None]:
             self.called[int(point), loan] = place_of(place)
@@ -239,6 +247,10 @@ class Beside:
     def take_within(self, path, place):
         if self.rustc:
             self.rustc[-1] = self.rustc[-1]._replace(within=Within(path, place_of(place)))
+
+    def take_invoked(self, path, place):
+        if self.rustc:
+            self.rustc[-1] = self.rustc[-1]._replace(invoked=Within(path, place_of(place)))
 
     def take_note(self, words):
         if self.rustc:

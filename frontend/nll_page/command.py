@@ -2,10 +2,10 @@
 
 import argparse
 import os
-import re
 import tempfile
 
 from . import both, chains, differences, explaining, faults, labels, loans, nllc, source, telling, words
+from .called import called
 from .counterparts import counterpart
 from .escaping import visible
 from .facts import is_facts_text, read_facts
@@ -13,27 +13,25 @@ from .index import NAME
 from .names import function_words
 from .page import Content, Fault, page
 from .refusal import Refusal
-from .remarks import Remarks
+from .silence import is_silent, silent
 from .values import read_values
 
 MOST_POINTS = 50_000
-TELLING = re.compile(rb"^# (?:against|gone|needs|rustc) |^# function: .*\{closure#", re.MULTILINE)
-HEAD = re.compile(rb"nll-facts.*\n(?:#.*\n)*")
 
 
 def content_of(asked):
     return content_from(read_bytes(asked.facts), asked)
 
 
-def content_from(text, asked, most=MOST_POINTS):
-    """The same of the bytes of a text of at most so many points; `asked` says where they are from."""
+def content_from(text, asked, most=MOST_POINTS, report=None):
+    """The same of the bytes of a text of at most so many points; `asked` says where they are from, a report what is known."""
     if not is_facts_text(text):
         read_facts(text, asked.facts)  # refuses it
     told, standing = None, nllc.UNKNOWN
     if asked.values:
         report, origin = read_bytes(asked.values).decode("utf-8", "replace"), asked.values
     else:
-        report, told, origin, standing = nllc.run(text)
+        report, told, origin, standing = report or report_of(asked.facts, text)
     facts = read_facts(text, asked.facts)
     look_small(asked.facts, facts, most)
     values = read_values(report, facts, asked.values or origin)
@@ -46,6 +44,14 @@ def content_from(text, asked, most=MOST_POINTS):
     return Content(facts, values, explained(facts, values, wrong, origin), asked.facts,
                    source.read(path, facts) if path else None, origin, standing,
                    list(loans.loan_faults(facts, values)), needs, facts.remarks.way)
+
+
+def report_of(path, text):
+    """What `nllc` prints of a text; where it refuses the text, which one that is."""
+    try:
+        return nllc.run(text)
+    except nllc.RefusedText as refusal:
+        raise Refusal(f"{path}: {refusal}; {called('explain', path)} says why") from None
 
 
 def look_small(path, facts, most):
@@ -112,10 +118,11 @@ def answered(facts_path, text, in_full, everywhere=False, has_page=True):
     If it is asked for, the page has the answer beside it where each constraint holds at all points. Without a
     page it has one all the same where something is told of it.
     """
-    if not (in_full or everywhere or has_page) and is_silent(text):
+    is_quiet, report = (False, None) if in_full or everywhere or has_page else is_silent(text)
+    if is_quiet:
         return silent(text)
     asked = argparse.Namespace(facts=facts_path, source=None, values=None)
-    content = content_from(text, asked)
+    content = content_from(text, asked, report=report)
     if everywhere:
         content = content._replace(everywhere=content_from(both.at_all_points(text), asked))
     said = answer(content, in_full)
@@ -123,23 +130,6 @@ def answered(facts_path, text, in_full, everywhere=False, has_page=True):
         said["page"] = facts_path.removesuffix(".facts") + ".html"
         write(said["page"], page(content._replace(index=NAME)))
     return said
-
-
-def is_silent(text):
-    """Whether nothing is told of a text, as is known without its values: no loan that something goes against, no error of
-    rustc, no fault, and no closure, whose name the text has to say."""
-    return not TELLING.search(text) and not nllc.has_faults(text)
-
-
-def silent(text):
-    """What is told of such a text."""
-    remarks = Remarks()
-    for line in HEAD.match(text)[0].decode().splitlines():
-        remarks.read(line)
-    return {"name": visible(remarks.function), "source": visible(remarks.source), "faults": 0, "loans": 0, "moves": 0,
-            "asked_to_explain": False, **{kind: [] for kind in (
-                "lines", "tellings", "explained", "needs", "places", "unnamed", "differences", "further", "refused", "within",
-                "errors", "everywhere")}}
 
 
 def answer(content, in_full):

@@ -1,10 +1,13 @@
 """Errors of moves and assignments: what is used that was moved, or has no value yet, or gets one twice."""
 
+import re
+
 from . import words
-from .snippets import whole_line
+from .snippets import snippet, whole_line
 from .words import Code
 
 MOST_LINES = 6
+BEFORE = re.compile(r"moved here|moved due to|first assignment")
 EARLIER = "an earlier statement"    # one whose line no remark says
 
 
@@ -17,14 +20,14 @@ def head(content, one, error):
         return [what, " is assigned to here, may have a value already, and isn't ", Code("mut")]
     part = " a part of it" if error and "partially" in error.words else " it"
     by = ["an earlier iteration of the loop"] if one.since == [one.point] else \
-        words.joined([[f"line {line}"] for line in lines_since(content.facts, one, error)], " or ")
+        words.joined([[f"line {line}{column(one, error, line)}"] for line in lines_since(content.facts, one, error)], " or ")
     return [what, " is used here, and ", *(by or [EARLIER]), " may have moved", part]
 
 
 def cause(content, one, error):
     """Since which lines, and the lines of a walk from there."""
     facts = content.facts
-    made = words.joined([since(content, line) for line in lines_since(facts, one, error)], " or ")
+    made = words.joined([since(content, line, label_at(one, error, line)) for line in lines_since(facts, one, error)], " or ")
     walk = walk_words(facts, one)
     if one.code == "E0381":
         return ["a path leads here on which nothing is assigned to it", *walk]
@@ -46,9 +49,22 @@ def lines_of(facts, points):
     return [line for line in lines if line is not None]
 
 
-def since(content, line):
-    code = whole_line(content.source, line)
-    return [f"line {line}", *([" (", Code(code), ")"] if code else [])]
+def since(content, line, label=None):
+    """The line with what stands there; of the line of the error itself what rustc's label is at."""
+    code = snippet(content.source, label.place) if label else whole_line(content.source, line)
+    place = f"line {line}:{label.place.column}" if label else f"line {line}"
+    return [place, *([" (", Code(code), ")"] if code else [])]
+
+
+def column(one, error, line):
+    label = label_at(one, error, line)
+    return f":{label.place.column}" if label else ""
+
+
+def label_at(one, error, line):
+    """rustc's label of what was done before, where that is in the line of the error itself."""
+    labels = error.labels if error and line == one.place.line else ()
+    return next((label for label in labels if label.place.line == line and BEFORE.search(label.words)), None)
 
 
 def walk_words(facts, one):

@@ -25,8 +25,8 @@ class Cause(NamedTuple):
     """Why the loan's region holds the point, and the steps from there to the loan.
 
     `region` is live at the point since a variable of it is used (or dropped) at `use`; or it is a
-    universal one, which outlives the function. `place` is that of the use, where it isn't the statement's line: of a
-    macro of another file, of a function that is called, or of a use in a closure.
+    universal one, which outlives the function. `place` is that of the use, where the statement's line doesn't tell it: of a
+    macro of another file, of a function that is called, of a use in a closure, or in the line of what goes against the loan.
     """
 
     region: int
@@ -284,8 +284,9 @@ def used(facts, region, point, steps):
     """
     for onwards in (partial(without_unwinding, facts), facts.successors.__getitem__):
         if found := nearest_use(facts, region, point, onwards):
-            beside, name = facts.remarks.beside, facts.names[region]
-            return Cause(region, *found, steps, beside.called.get((found[0], None)) or beside.captured.get((found[0], name)))
+            beside, name, use = facts.remarks.beside, facts.names[region], found[0]
+            place = beside.called.get((use, None)) or beside.captured.get((use, name)) or beside.used.get(use)
+            return Cause(region, *found, steps, place)
     return Cause(region, None, False, steps)
 
 

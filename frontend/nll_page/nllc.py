@@ -1,11 +1,13 @@
 """Finds `nllc` and runs it."""
 
 import os
+import select
 import shutil
+import signal
 import subprocess
 import sys
 import time
-from contextlib import ExitStack
+from contextlib import ExitStack, suppress
 from functools import cache
 from typing import NamedTuple
 
@@ -19,6 +21,10 @@ UNKNOWN = "unknown"
 STANDINGS = {"proved": PROVED, "unproved": UNPROVED}    # as `nllc.sh --which` says it
 INSTALLED = {"nllc": PROVED, "nllc-unproved": UNPROVED}    # beside the folder frontend/ of an installed copy
 PATIENCE = 1.0
+
+
+class RefusedText(Refusal):
+    """`nllc` refuses a text."""
 
 
 class Report(NamedTuple):
@@ -88,18 +94,22 @@ def has_faults(text):
     check = Run(program_of(find()).path, "check")
     run_on(text, [check])
     check.judge((0, 1))
-    return check.process.returncode == 1
+    return check.status == 1
 
 
 def run_on(text, runs):
     """Runs all on the text, which stands in memory, and waits for them."""
-    with open(os.memfd_create("text"), "wb") as copy, ExitStack() as started:
+    with in_memory() as copy, ExitStack() as started:
         copy.write(text)
-        copy.flush()
         for one in runs:
             one.start(copy)
             started.callback(one.stop)
         wait(runs)
+
+
+def in_memory():
+    """A file without a name, which takes what is written at once."""
+    return open(os.memfd_create("nllc"), "w+b", buffering=0)
 
 
 class Run:
@@ -107,41 +117,54 @@ class Run:
 
     def __init__(self, program, command):
         self.program, self.command = program, command
-        self.process = None
+        self.process = self.status = None
+        self.written = []
         self.out = self.err = ""
 
     def start(self, text):
         """Starts it; the text is its standard input, which it opens by its name, so from the beginning on."""
+        self.written = [in_memory(), in_memory()]
+        streams = [(os.POSIX_SPAWN_DUP2, file.fileno(), number) for number, file in enumerate([text, *self.written])]
         try:
-            self.process = subprocess.Popen([self.program, self.command, "/dev/stdin"], stdin=text, stdout=subprocess.PIPE,
-                                            stderr=subprocess.PIPE, encoding="utf-8", errors="replace")
+            self.process = os.posix_spawn(self.program, [self.program, self.command, "/dev/stdin"], environment(),
+                                          file_actions=streams, setsigdef=[signal.SIGPIPE])
         except OSError as error:
             raise Refusal(f"{self.program} can't be run: {error.strerror}") from None
 
-    def is_ended(self, patience):
-        """Whether the process has ended, or does so in so many seconds; what it wrote is kept then."""
-        try:
-            self.out, self.err = self.process.communicate(timeout=patience)
-        except subprocess.TimeoutExpired:
-            return False
-        return True
+    def end(self):
+        """Waits until the process has ended, and takes what it wrote."""
+        self.status = os.waitstatus_to_exitcode(os.waitpid(self.process, 0)[1])
+        self.out, self.err = (content_of(file) for file in self.written)
 
     def stop(self):
         """Ends it where it runs still."""
-        with self.process:
-            if self.process.poll() is None:
-                self.process.terminate()
+        if self.process is not None and self.status is None:
+            with suppress(ProcessLookupError, ChildProcessError):
+                os.kill(self.process, signal.SIGTERM)
+                os.waitpid(self.process, 0)
+        for file in self.written:
+            file.close()
 
     def judge(self, statuses):
         """Refuses with the line of `nllc` where it didn't answer."""
-        status = self.process.returncode
+        status = self.status
         if status in statuses:
             return
         said = self.err.strip().splitlines()
         if status == 2:
-            raise Refusal(f"nllc refuses the text: {said[-1] if said else 'it gave no reason'}")
+            raise RefusedText(f"nllc refuses the text: {said[-1] if said else 'it gave no reason'}")
         last = said[-1] if said else "it said nothing"
         raise Refusal(f"{shown(self.program)} ended with status {status}: {last}", 3)
+
+
+@cache
+def environment():
+    return dict(os.environ)     # os.environ itself is read anew, variable by variable, at each start
+
+
+def content_of(file):
+    file.seek(0)
+    return file.read().decode("utf-8", "replace")
 
 
 def wait(runs):
@@ -149,14 +172,25 @@ def wait(runs):
     began = time.monotonic()
     told = False
     for run in runs:
-        while not run.is_ended(PATIENCE):
-            if sys.stderr.isatty():
-                seconds = time.monotonic() - began
-                sys.stderr.write(f"\rnllc computes the values ({seconds:.0f} s) ")
-                sys.stderr.flush()
-                told = True
+        while sys.stderr.isatty() and not is_ended(run.process):
+            sys.stderr.write(f"\rnllc computes the values ({time.monotonic() - began:.0f} s) ")
+            sys.stderr.flush()
+            told = True
+        run.end()
     if told:
         sys.stderr.write("\r\033[K")
+
+
+def is_ended(process):
+    """Whether a process of this one ends within a second; if the system can't say, it's waited for without a word."""
+    try:
+        watched = os.pidfd_open(process)
+    except OSError:
+        return True
+    try:
+        return bool(select.select([watched], [], [], PATIENCE)[0])
+    finally:
+        os.close(watched)
 
 
 def fault_lines(text):

@@ -2,14 +2,17 @@
 
 import codecs
 import contextlib
+import errno
 import os
 import signal
 import sys
 
-from .called import called
+from .called import called, current
 from .escaping import visible
 from .refusal import Refusal
 
+# By what a stream refuses to take what is written.
+OF_STREAMS = (errno.EPIPE, errno.ENOSPC, errno.EDQUOT, errno.EFBIG, errno.EIO, errno.EBADF)
 # How a person writes them without the letter.
 PLAIN = {"→": "->", "…": "..", "–": "-", "’": "'", "‹": "<", "›": ">"}
 
@@ -33,7 +36,7 @@ def any_locale():
 
 def guarded(word, work):
     """The status of what one of the command's words does; what it can't do is one line on standard error."""
-    program = called(word)
+    program = current()[0] = called(word)
     sys.stderr = sys.stderr or open(os.devnull, "w", encoding="utf-8")    # it is None where it was closed
     if sys.stdout is None:
         return tell(f"{program}: standard output can't be written: it is closed", 3)
@@ -47,6 +50,8 @@ def guarded(word, work):
         return tell(f"{program}: {visible(str(refusal))}", refusal.status)
     except KeyboardInterrupt:
         return tell(f"{program}: stopped; nothing half-written is left", 130)
+    except MemoryError:
+        return tell(f"{program}: out of memory", 3)
     except OSError as error:
         return unwritten(program, error)
 
@@ -75,8 +80,9 @@ def ended(work):
 
 
 def unwritten(program, error):
-    """Says in one line that standard output can't be written, unless nobody reads it; the status."""
+    """Says in one line that standard output can't be written, or what else the system refused; the status."""
+    if error.filename is not None or error.errno not in OF_STREAMS:
+        where = f"{visible(str(error.filename))}: " if error.filename is not None else ""
+        return tell(f"{program}: {where}{error.strerror or error}", 3)
     os.dup2(os.open(os.devnull, os.O_WRONLY), 1)    # what is still to be written goes there
-    if isinstance(error, BrokenPipeError):
-        return 3
     return tell(f"{program}: standard output can't be written: {error.strerror}", 3)

@@ -70,6 +70,8 @@ def of_fault(content, fault, further=()):
     named = blame.of_fault(content.facts, fault)
     told = Telling(place_of_fault(content, fault, named), "", [], [], fault)
     error = counterpart(content, told)
+    if error and told.place and not told.place.column and error.line == told.place.line:
+        told = told._replace(place=error.place())       # within a macro of another file
     lifetimes = Lifetimes(content, fault, error)
     asker = f": {ASKERS[named.word]} requires it" if named and named.word in ASKERS else ""
     shorter = [lifetimes.name(one.sub) for one in (fault, *further)]
@@ -132,9 +134,10 @@ def notes(content, fault, error):
 
 
 def used_macro(content, error):
-    """Where a macro of the same file is used, in whose lines an error is."""
-    lines = [label.place.line for label in error.labels if label.words == INVOCATION]
-    return [[f"{INVOCATION}: ", *line_stop(content, line)] for line in lines]
+    """Where a macro is used, in whose lines an error is: of the same file, or of one that made the whole function."""
+    told = [[f"{INVOCATION}: {where(*error.invoked)}"]] if error.invoked else []
+    return told + [[f"{INVOCATION}: line {label.place.line} (", Code(snippet(content.source, label.place)), ")"]
+                   for label in error.labels if label.words == INVOCATION]
 
 
 def place_of_fault(content, fault, named):
@@ -302,8 +305,9 @@ def loan_cause(content, fault, lifetimes):
     loan, facts = fault.loan, content.facts
     region = Code(f"'{loan.region}")
     here = line_of(facts, fault.against)
+    column = f":{fault.place.column}" if use_beside(facts, fault) and fault.against.way not in loans.ENDING else ""
     holds = [" is live: its region ", region, " holds ",
-             f"line {here}" if here is not None else f"point {fault.against.point}"]
+             f"line {here}{column}" if here is not None else f"point {fault.against.point}"]
     return ["the loan of ", *where_made(content, loan, fault.place), *made_by(content, loan), *holds, ", since ",
             *since(content, fault, lifetimes)]
 
@@ -358,10 +362,18 @@ def since(content, fault, lifetimes=None):
     later = " in a later iteration of the loop" if is_later_turn(facts, fault) else ""
     if line is None:
         return [f"point {cause.use}", *deed, later]
-    if line == line_of(facts, fault.against):
+    if line == line_of(facts, fault.against) and not use_beside(facts, fault):
         return ["the same line", *deed, later]
-    code = whole_line(content.source, line)
-    return [f"line {line}", *deed, later, *([" (", Code(code), ")"] if code and code != "}" else [])]
+    column = f":{cause.place.column}" if use_beside(facts, fault) else ""
+    code = snippet(content.source, cause.place) if column else whole_line(content.source, line)
+    return [f"line {line}{column}", *deed, later, *([" (", Code(code), ")"] if code and code != "}" else [])]
+
+
+def use_beside(facts, fault):
+    """Whether the use is in the line of what goes against the loan, at another place that is known."""
+    place, here = fault.cause.place, fault.place
+    return place is not None and here is not None and place.column > 0 and here.column > 0 \
+        and place.line == line_of(facts, fault.against) and place[:2] != here[:2]
 
 
 def drop_words(facts, point):

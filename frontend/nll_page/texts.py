@@ -9,7 +9,7 @@ import webbrowser
 from nll_schedule import program
 from nll_schedule.problem import is_mir_text, problem_in
 
-from . import command, faults, nllc, source
+from . import command, faults, source
 from .called import Parser, called
 from .facts import is_facts_text
 from .folder import write_index
@@ -99,7 +99,7 @@ def content_of(path, text, most=command.MOST_POINTS):
 
 def content_of_mir(path, text, most):
     """The content of a MIR text's page: its source is the text itself."""
-    report, told, origin, standing = nllc.run(text)
+    report, told, origin, standing = command.report_of(path, text)
     facts, problem = problem_of(path, text)
     facts.remarks = remarks_of(text.decode("utf-8"), facts.point_names)
     command.look_small(path, facts, most)

@@ -1,5 +1,6 @@
 """The command line: words, files, what is printed, statuses."""
 
+import argparse
 import os
 import re
 import webbrowser
@@ -41,11 +42,17 @@ def main(arguments):
     return guarded("schedule", lambda: run(words_of(arguments)))
 
 
+def number_of_owners(word):
+    if not word.isdecimal() or not 1 <= int(word) <= MOST_OWNERS:
+        raise argparse.ArgumentTypeError(f"a number from 1 to {MOST_OWNERS}, not {word}")
+    return int(word)
+
+
 def words_of(arguments):
     parser = Parser("schedule", ABOUT, STATUSES)
     parser.add_argument("facts", metavar="FILE", help="a facts text or a MIR text")
     parser.add_argument("schedule", metavar="SCHEDULE", help="a schedule of its owners")
-    parser.add_argument("--owners", metavar="N", type=int, choices=range(1, MOST_OWNERS + 1),
+    parser.add_argument("--owners", metavar="N", type=number_of_owners,
                         help="number of owners (default: as many as the schedule names)")
     dealing = parser.add_mutually_exclusive_group()
     dealing.add_argument("--deal", choices=("round", "blocks"),

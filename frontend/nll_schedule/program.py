@@ -49,6 +49,6 @@ def run(words):
     except OSError as error:
         raise Refusal(f"{path} can't be run: {error.strerror}", 3) from None
     if process.returncode:
-        raise Refusal(said[0] if said else f"{shown(path)} ended with status {process.returncode}",
+        raise Refusal(said[0].removeprefix("Error: ") if said else f"{shown(path)} ended with status {process.returncode}",
                       2 if said else 3)
     return Printed(out.decode("utf-8", "replace"), shown(path), standing)

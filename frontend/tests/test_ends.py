@@ -49,6 +49,27 @@ class Ends(unittest.TestCase):
                     self.assertEqual((done.returncode, done.stdout, done.stderr), (
                         3, "", f"nllc.sh {words[0]}: standard output can't be written: {why}\n"))
 
+    def test_nobody_reads(self):
+        for words in self.calls():
+            with self.subTest(words=words):
+                reading, writing = os.pipe()
+                os.close(reading)
+                done = subprocess.run([*RUN, *words], stdout=writing, stderr=subprocess.PIPE, check=False, encoding="utf-8",
+                                      cwd=self.room, env={**os.environ, **self.answers})
+                os.close(writing)
+                self.assertEqual((done.returncode, done.stderr),
+                                 (3, f"nllc.sh {words[0]}: standard output can't be written: Broken pipe\n"))
+
+    def test_what_else_the_system_refuses(self):
+        """It isn't laid on standard output: a folder for temporary files, and memory."""
+        for work, said in (("raise OSError(errno.ENOENT, 'No such file or directory', 'a/b')", "a/b: No such file or directory"),
+                           ("raise FileNotFoundError(errno.ENOENT, 'No usable folder')", "No usable folder"),
+                           ("raise MemoryError", "out of memory")):
+            script = (f"import sys, errno; sys.path.insert(0, {os.path.join(ROOT, 'frontend')!r})\n"
+                      f"from nll_page.streams import guarded\ndef work():\n    {work}\nsys.exit(guarded('page', work))\n")
+            done = subprocess.run([sys.executable, "-c", script], capture_output=True, check=False, encoding="utf-8")
+            self.assertEqual((done.returncode, done.stdout, done.stderr), (3, "", f"nllc.sh page: {said}\n"))
+
     def test_closed_standard_error(self):
         done = self.run_words("page", "none.facts", redirect="2>&-")
         self.assertEqual((done.returncode, done.stdout), (2, ""))

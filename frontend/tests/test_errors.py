@@ -152,6 +152,18 @@ macro_rules! taken {
         drop($text)
     };
 }
+macro_rules! function {
+    ($name:ident) => {
+        pub fn $name(list: &mut Vec<u32>) -> u32 {
+            let first = &list[0];
+            list.push(1);
+            *first
+        }
+    };
+}
+macro_rules! first {
+    ($list:expr) => { &$list[0] };
+}
 """
     USES = """
 #[macro_use]
@@ -171,15 +183,23 @@ pub fn behind(text: &String) {
     let list = *text;
     taken!(list);
 }
+function!(made);
+pub fn outlives(list: &Vec<u32>) -> &'static u32 { first!(list) }
 """
 
     def test_places(self):
         [(messages, text)] = support.side_by_side(both_of_files, [{"macros.rs": self.MACROS, "lib.rs": self.USES}])
-        for file, codes in (("macros.rs", ["E0382", "E0499"]), ("lib.rs", ["E0507"])):
+        for file, codes in (("macros.rs", ["", "E0382", "E0499", "E0502"]), ("lib.rs", ["E0507"])):
             rows = support.rows_of(messages, file)
             self.assertEqual(sorted(row.code for row in rows), codes)
+            rows = [row._replace(loan=None, later=None) if row.code == "E0502" else row for row in rows]   # of `made`
             self.assertEqual(support.differences(rows, support.read_answer(0, text, file)), [])
+        self.assertIn("the loan of line 15 (`list`, borrowed by an index) is live: its region `'r3` holds line 16", text)
         self.assertIn("in this macro invocation: lib.rs:6:5; the lines named here are of lib.rs", text)
+        self.assertIn("in this macro invocation: lib.rs:19:1\n", text)
+        self.assertIn("in this macro invocation: lib.rs:20:52; the lines named here are of lib.rs", text)
+        self.assertNotIn("no error there", text)
+        self.assertNotIn("no answer", text)
 
 
 class Reading(unittest.TestCase):

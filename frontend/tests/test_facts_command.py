@@ -5,8 +5,10 @@ Where there is no rustc, or another than the stored dumps are of, these tests ar
 
 import os
 import shutil
+import signal
 import subprocess
 import tempfile
+import time
 import unittest
 
 import facts_support as support
@@ -159,6 +161,43 @@ class Refused(Room):
         self.refused(done, "a project states its own edition: leave out --edition")
 
 
+class Killed(Room):
+    """However a run is ended while rustc works, nothing of it is left: no process and no folder."""
+
+    def sleeping(self):
+        done = subprocess.run(["ps", "-eo", "args"], stdout=subprocess.PIPE, check=True, encoding="utf-8")
+        return [line for line in done.stdout.splitlines() if line == f"sleep {self.seconds}"]
+
+    def wait_until(self, holds):
+        end = time.monotonic() + 30
+        while not holds() and time.monotonic() < end:
+            time.sleep(0.05)
+        self.assertTrue(holds(), (self.sleeping(), self.left()))
+
+    def test_a_killed_run(self):
+        self.seconds = f"61.{os.getpid()}{time.monotonic_ns()}"
+        rustc = self.write("rustc", f"#!/bin/sh\nexec sleep {self.seconds}\n")
+        os.chmod(rustc, 0o755)
+        path, rooms = self.write("a.rs", "fn f() {}\n"), self.path("rooms")
+        os.mkdir(rooms)
+        for number, status in ((signal.SIGKILL, -9), (signal.SIGTERM, 130), (signal.SIGINT, 130), (signal.SIGHUP, 130)):
+            with self.subTest(number=number):
+                run = subprocess.Popen([RUST, "rust", path, "-o", self.path("o")], stdout=subprocess.PIPE,
+                                       stderr=subprocess.PIPE, preexec_fn=hears_all,
+                                       env=os.environ | {"RUSTC": rustc, "TMPDIR": rooms})
+                self.wait_until(lambda: len(self.sleeping()) == 2 and os.listdir(rooms))
+                run.send_signal(number)
+                run.communicate(timeout=30)
+                self.assertEqual(run.returncode, status)
+                self.wait_until(lambda: not self.sleeping() and not os.listdir(rooms))
+
+
+def hears_all():
+    """A run hears these signals also where the tests ignore them."""
+    for number in (signal.SIGINT, signal.SIGTERM, signal.SIGHUP):
+        signal.signal(number, signal.SIG_DFL)
+
+
 @needs_known
 class OneCommand(Room):
     """`nllc.sh rust`, with the slow reference as `nllc`."""
@@ -223,10 +262,35 @@ pub fn third(v: &mut Vec<u8>) -> u8 { let a = &v[0]; v.push(1); *a }
         ways_out = "help: end the borrow before; or clone what is needed; or keep an index or a key in place of the reference"
         self.assertEqual(lines, [
             f"{path}:1:36: E0502: `$v.push(1)` borrows `*v` as mutable, which line 2 has borrowed",
-            "in this macro invocation: line 2 (`pub fn first(v: &mut Vec<u8>) -> u8 { let a = & ..`)", ways_out,
+            "in this macro invocation: line 2 (`push!(v)`)", ways_out,
             f"{path}:1:36: E0502: `$v.push(1)` borrows `*v` as mutable, which line 4 has borrowed",
-            "in this macro invocation: line 5 (`push!(v);`)", ways_out,
+            "in this macro invocation: line 5 (`push!(v)`)", ways_out,
             f"{path}:8:54: E0502: `v.push(1)` borrows `*v` as mutable, which line 8:48 has borrowed", ways_out])
+
+    def test_a_use_in_the_line_of_the_error(self):
+        """Columns tell the borrow, the conflict and the use apart; rustc's label tells a move apart."""
+        path = self.write("a.rs", """pub fn first(v: &mut Vec<u8>) -> u8 { let a = &v[0]; v.push(1); *a }
+pub fn second(v: &mut Vec<u8>) { for x in v.iter() { v.push(*x); } }
+pub fn third() { let r; { let x = 5; r = &x; } println!("{}", r); }
+pub fn fourth() { let s = String::new(); let t = s; println!("{}", s); }
+pub fn fifth(s: String) { let t = s;
+    println!("{}", s);
+}
+""")
+        said = self.rust(path).stdout
+        lines = [line.strip() for line in said.splitlines() if "since" in line or "moved" in line or "moves" in line
+                 or "macro" in line]
+        live = "is live: its region `'r3` holds line"
+        self.assertEqual(lines, [
+            f"the loan of line 1:48 (`v`, borrowed by an index) {live} 1:54, since line 1:65 uses it (`*a`)",
+            f"the loan of line 2:43 (`v`, borrowed by its type's `Deref`) {live} 2:54, since line 2:43 uses it in a later "
+            "iteration of the loop (`v.iter()`)",
+            "the loan of line 3:42 (`&x`) is live: its region `'r2` holds line 3, since line 3:63 uses it (`r`)",
+            f"{path}:4:68: E0382: `s` is used here, and line 4:50 may have moved it",
+            "line 4:50 (`s`) moves it, and a path leads from there to here on which it gets no new value",
+            f"{path}:6:20: E0382: `s` is used here, and line 5 may have moved it",
+            "line 5 (`pub fn fifth(s: String) { let t = s;`) moves it, and a path leads from there to here on which it gets "
+            "no new value"])
 
     def test_loan_in_two_lines_and_step_by_step(self):
         path = self.write("a.rs", self.LOANS)
@@ -334,6 +398,12 @@ pub fn third(v: &mut Vec<u8>) -> u8 { let a = &v[0]; v.push(1); *a }
                                   env=os.environ | {"NLLC": self.program})
         self.assertEqual((done.returncode, done.stderr), (3, "nllc.sh rust: standard output can't be "
                                                           "written: No space left on device\n"))
+
+    def test_several_functions_before_and_behind_options(self):
+        path = self.write("a.rs", "pub fn f() {}\npub fn g() {}\npub fn h() {}\n")
+        for words in ((path, "f", "g"), (path, "f", "--all-points", "g")):
+            done = self.rust(*words)
+            self.assertEqual((done.returncode, done.stdout.splitlines()[0]), (0, "no fault: f, g"), done.stderr)
 
     def test_refusal(self):
         done = self.rust("none.rs")

@@ -100,6 +100,27 @@ class Shown(unittest.TestCase):
         self.assertIn("# region 'r11: line 20: the type of best", said["longer"])
         self.assertIn("# point 21: line 22: best = move _10 (bb3[4])\n", said["longer"])
 
+    def test_many_texts(self):
+        """What is shown for many texts answers each, by the path that stands for NLLC."""
+        text = (ROOT / "docs/FACTS-FROM-RUSTC.md").read_text()
+        [shown] = re.findall(r"    \$ (find texts .*\n +xargs .*)", text)
+        with folder_of_links() as folder:
+            texts = pathlib.Path(folder, "texts", "a crate")
+            texts.mkdir(parents=True)
+            for name in ("chain", "as_static"):
+                (texts / f"{name}.facts").write_bytes((ROOT / "examples" / f"{name}.facts").read_bytes())
+            printed(shown.replace("NLLC", str(ROOT / "frontend/tests/quick_nllc.py")), folder)
+            self.assertEqual({path.name: path.read_text() for path in texts.glob("*.answer")},
+                             {"chain.answer": "ok\n", "as_static.answer": "fault 'a must outlive 'static\n"})
+
+    def test_how_many_functions(self):
+        """What examples/README.md says of the files of Rust."""
+        rows = re.findall(r"\[`(\w+)\.rs`\].*\| (\w+) functions", (ROOT / "examples/README.md").read_text())
+        self.assertEqual({name: word for name, word in rows}.keys(), {"three", "loans"})
+        for name, word in rows:
+            count = len(re.findall(r"^\s*(?:pub )?fn ", (ROOT / "examples" / f"{name}.rs").read_text(), re.MULTILINE))
+            self.assertEqual(word, ("no", "one", "two", "three", "four", "five")[count])
+
     def test_sources(self):
         """Lines of Rust that are shown with numbers stand there in a file that the document names."""
         for document in DOCUMENTS:

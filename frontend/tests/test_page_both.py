@@ -6,6 +6,7 @@ import re
 import unittest
 import unittest.mock
 
+from facts_support import stored_texts
 from page_support import EXAMPLES, Folder, file_bytes, random_text, reference, solved, text
 from quick_solver import quick_values
 
@@ -121,6 +122,10 @@ class Both(unittest.TestCase):
             other = read_facts(file_bytes(EXAMPLES, f"{name}_everywhere.facts"), "TEXT")
             self.assertEqual(first.constraints, other.constraints)
 
+    def test_a_constraint_at_all_points_is_one(self):
+        content = content_of(file_bytes(EXAMPLES, "overwritten_everywhere.facts"))
+        self.assertIn(" · 3 constraints", page(content))
+
 
 class Command(Folder):
     def test_answered(self):
@@ -149,17 +154,23 @@ class Command(Folder):
         from nll_page import command, nllc
         self.enterContext(unittest.mock.patch.object(nllc, "run", quick_report))
         self.enterContext(unittest.mock.patch.object(nllc, "has_faults", lambda text: bool(quick_report(text).faults)))
-        golden = os.path.join(os.path.dirname(os.path.abspath(__file__)), "golden")
-        paths = [os.path.join(folder, name) for folder, _, names in os.walk(golden) for name in names if name.endswith(".facts")]
         silent = 0
-        for path in sorted(paths):
-            with self.subTest(path=path), open(path, "rb") as file:
-                text = file.read()
-                if command.is_silent(text):
-                    silent += 1
-                    asked = argparse.Namespace(facts=path, source=None, values=None)
-                    self.assertEqual(command.silent(text), command.answer(command.content_from(text, asked), False))
-        self.assertGreater(silent, 10)
+        for path, text in all_texts():
+            with self.subTest(path=path):
+                asked = argparse.Namespace(facts=path, source=None, values=None)
+                said = command.answer(command.content_from(text, asked), False)
+                is_quiet = command.is_silent(text)[0]
+                silent += is_quiet
+                self.assertTrue(not is_quiet or command.silent(text) == said)
+                is_told = any(said[kind] for kind in ("faults", "loans", "moves", "differences", "further", "refused"))
+                self.assertEqual(is_quiet, not is_told and not said["needs"])
+        self.assertGreater(silent, 80)
+
+
+def all_texts():
+    """Texts of right and of wrong functions, with loans that something conflicts with in both."""
+    for source in ("differ", "right", "iterators", "coroutines", "borrowed_twice", "moves"):
+        yield from ((f"{source}/{name}", text.encode()) for name, text in sorted(stored_texts(source).items()))
 
 
 if __name__ == "__main__":

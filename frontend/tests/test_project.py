@@ -125,6 +125,15 @@ class Workspace(Project):
             self.assertEqual(self.lines(done), ["no fault: f"])
         self.assertTrue(any(name.startswith("ws/target/nllc/") for name in self.left()))
 
+    def test_a_package_whose_dependency_does_not_compile(self):
+        self.write("ws/one/src/lib.rs", "pub fn f(x: &u8) -> &u8 {\n    x\n}\n" + self.LOANS)
+        done = self.rust("ws", ".", "-o", "o")
+        self.assertEqual((done.returncode, self.lines(done)[0]), (1, "worse: 1 loan error"), done.stderr)
+        self.assertIn("\nnllc.sh rust: no answer for two: another crate doesn't compile, which it needs; fix that first\n",
+                      done.stderr)
+        done = self.rust("ws/one", ".", "-o", "o")
+        self.assertNotIn("no answer", done.stderr)
+
     def test_cargo_nllc(self):
         path = os.pathsep.join([support.FRONTEND, os.environ["PATH"]])
         done = self.run_in("ws/one/src", "cargo", "nllc", PATH=path)
@@ -134,6 +143,9 @@ class Workspace(Project):
         self.assertEqual((done.returncode, self.lines(done)[0]), (1, "bad: 1 fault"), done.stderr)
         done = self.run_in("ws", "cargo", "nllc", "--help", PATH=path)
         self.assertIn("usage: cargo nllc [FUNCTION ..]", done.stdout)
+        done = self.run_in("ws", "cargo", "nllc", "--workspace", PATH=path)
+        self.assertEqual((done.returncode, done.stderr.splitlines()[-1]), (
+            2, "cargo nllc: error: unrecognized arguments: --workspace; options of cargo check go after --"))
 
 
 if __name__ == "__main__":

@@ -118,6 +118,8 @@ class Commands(unittest.TestCase):
     def test_programs_that_fail(self):
         self.program("silent", "exit 5")
         self.refused("ended with status 5", self.facts, self.schedule, world="silent", status=3)
+        self.program("says", "echo Error: the schedule, line 1: header >&2; exit 1")
+        self.refused("nllc.sh schedule: the schedule, line 1: header", self.facts, self.schedule, world="says")
         self.program("wrong", "echo nonsense")
         self.refused("printed no states of a world", self.facts, self.schedule, world="wrong", status=3)
         self.refused("can't be run", self.facts, self.schedule, world="none", status=3)

@@ -61,7 +61,9 @@ class Words(Wrapper):
                 self.assertEqual(program, "own words: --help\n")
 
     def test_help_of_one_word(self):
-        self.assertEqual(self.run_script("help", "check").stdout, "own words: check --help\n")
+        own, _, statuses = self.run_script("help", "check").stdout.partition("\n\n")
+        self.assertEqual(own, "own words: check --help")
+        self.assertRegex(statuses, r"\AStatus 0: .*1: .*2: .*3: .*\n\Z")
         self.assertEqual(self.run_script("check", "--help").stdout, "own words: check --help\n")
         for word in ("rust", "facts", "page", "schedule"):
             done = self.run_script("help", word)
@@ -90,10 +92,10 @@ class Words(Wrapper):
                              (2, "", f"nllc.sh: {word} takes no argument\n"))
 
     def test_nowhere_to_write(self):
-        for word in ("--help", "--version"):
+        for words in (("--help",), ("--version",), ("help",), ("--which",), ("--built",)):
             with open("/dev/full", "w", encoding="utf-8") as full:
-                done = self.run_script(word, stdout=full)
-            self.assertEqual((done.returncode, done.stderr), (3, "nllc.sh: standard output can't be written\n"))
+                done = self.run_script(*words, stdout=full)
+            self.assertEqual((done.returncode, done.stderr), (3, "nllc.sh: standard output can't be written\n"), words)
 
     def test_which_program(self):
         done = self.run_script("--which")

@@ -138,7 +138,7 @@ class Installed(unittest.TestCase):
         done = self.run_in(self.folder, script, "--help")
         self.assertEqual((done.returncode, done.stderr), (0, ""))
         self.assertIn("install.sh install PREFIX", done.stdout)
-        for words in ((), ("install",), ("other", "x")):
+        for words in ((), ("install",), ("other", "x"), ("install", ""), ("uninstall", "")):
             done = self.run_in(self.folder, script, *words)
             self.assertEqual((done.returncode, done.stdout), (2, ""))
 
