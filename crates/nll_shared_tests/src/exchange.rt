@@ -3,7 +3,7 @@
 ghost use Rattle.std.specs.Prelude.{◌≡◌, ◌≤◌, ◌++◌, [], IfOk};
 ghost use Rattle.mail.specs.Limits.{most_posts};
 
-use nll_mail::{Growth, Mail, PostError, ThreadMail};
+use nll_mail::{Growth, Mail, PostError, QueueMail, RingMail};
 use nll_problem::RegionId;
 use nll_sets::{Element, Memory};
 use std::alloc::Global;
@@ -12,19 +12,26 @@ use std::sync::atomic::{AtomicBool, Ordering};
 use std::thread;
 use std::thread::Threads;
 
+/// A kind of mailbox of growths.
+pub trait GrowthMail: Mail<Growth, S: Send, R: Send, Closed: Send, Post: Send> + Sync {}
+
+impl<R: Wait + Copy + Send + Sync> GrowthMail for QueueMail<R> {}
+
+impl GrowthMail for RingMail {}
+
 /// A sender that is closed when it is let go. A thread's closure can hold it.
-pub struct Sending<M: Mail<Growth>> {
+pub struct Sending<M: GrowthMail> {
     sender: M::S,
 }
 
-impl<M: Mail<Growth>> Drop for Sending<M> {
+impl<M: GrowthMail> Drop for Sending<M> {
     fn drop(self) {
         let Sending { sender } = self;
         drop(M::close(sender));
     }
 }
 
-impl<M: Mail<Growth>> Sending<M> {
+impl<M: GrowthMail> Sending<M> {
     // The sender.
     fn out(self) -> M::S
         ensures { result ≡ self.sender }
@@ -45,7 +52,7 @@ pub fn numbered(number: u64) -> Growth {
 
 // Posts growths up to this number of them, and closes the sender. Tries again where the mailbox is
 // full, and gives up where memory is refused.
-fn post_all<M: Mail<Growth>, R: Wait>(
+fn post_all<M: GrowthMail, R: Wait>(
     rt: &R,
     sending: Sending<M>,
     growths: u64,
@@ -75,7 +82,7 @@ fn post_all<M: Mail<Growth>, R: Wait>(
 
 // Takes growths until there are so many, or none is left of a sender that gave up. Answers whether
 // they came in order.
-fn take_all<M: Mail<Growth>, R: Wait>(
+fn take_all<M: GrowthMail, R: Wait>(
     rt: &R,
     mut receiver: M::R,
     growths: u64,
@@ -105,7 +112,7 @@ fn take_all<M: Mail<Growth>, R: Wait>(
 
 /// Posts growths in one thread, and takes them in another until there are so many or memory is
 /// refused. Answers the settled mailbox, and whether they came in order.
-pub fn through_two_threads<M: ThreadMail<Growth>, R: Threads + Wait + Sync>(
+pub fn through_two_threads<M: GrowthMail, R: Threads + Wait + Sync>(
     rt: &R,
     alloc: Global,
     mail: &M,

@@ -12,7 +12,7 @@ mod settlement;
 mod two_owners;
 mod two_threads;
 
-pub use exchange::through_two_threads;
+pub use exchange::{GrowthMail, through_two_threads};
 pub use many_owners::all_leave;
 pub use reached::first_difference;
 pub use settlement::settle_both;

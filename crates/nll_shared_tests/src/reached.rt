@@ -1,7 +1,7 @@
 //! Reachability by owners in threads, over each pair of mailbox and ledger, and by one keeper
 //! alone, beside a plain search.
 
-ghost use Rattle.std.specs.Prelude.{◌<◌, ◌≤◌};
+ghost use Rattle.std.specs.Prelude.{◌≡◌, ◌<◌, ◌≤◌};
 
 use fixpoint::Growth;
 use keeper::{Keepers, solve};
@@ -89,14 +89,11 @@ fn searched(alloc: Global, edges: &[Vec<u32>], root: u32) -> Result<Vec<bool>, A
 }
 
 // Which nodes the log of one keeper alone tells.
-fn told_alone(alloc: Global, edges: &[Vec<u32>], root: u32) -> Result<Vec<bool>, Memory> {
+fn told_alone(alloc: Global, graph: &Graph<'_>) -> Result<Vec<bool>, Memory>
+    requires { graph.now.owners ≡ 1 }
+{
     let mut marks = unmarked(alloc)?;
-    let graph = Graph {
-        edges,
-        roots: &[root],
-        owners: 1,
-    };
-    let log = solve(alloc, &graph)?;
+    let log = solve(alloc, graph)?;
     for growth in &log {
         mark(marks.as_mut_slice(), growth.fact);
     }
@@ -121,6 +118,112 @@ fn told<M: ThreadMail<Growth<u32>>, L: ThreadLedger, R: Threads + Wait + Sync>(
     Ok(marks)
 }
 
+// Whether one keeper alone tells other nodes than the wanted ones.
+fn differs_alone(
+    alloc: Global,
+    edges: &[Vec<u32>],
+    roots: &[u32],
+    wanted: &[bool],
+) -> Result<bool, Memory> {
+    let graph = Graph {
+        edges,
+        roots,
+        owners: 1,
+    };
+    let marks = told_alone(alloc, &graph)?;
+    Ok(marks.as_slice() != wanted)
+}
+
+// Whether a run tells other nodes than the wanted ones.
+fn differs<M: ThreadMail<Growth<u32>>, L: ThreadLedger, R: Threads + Wait + Sync>(
+    rt: &R,
+    alloc: Global,
+    mail: &M,
+    ledger: &L,
+    graph: &Graph<'_>,
+    wanted: &[bool],
+) -> Result<bool, RunError> {
+    let marks = told(rt, alloc, mail, ledger, graph)?;
+    Ok(marks.as_slice() != wanted)
+}
+
+// The pair of mailbox and ledger whose run tells other nodes than the wanted ones.
+fn wrong_pair<R: Threads + Wait + Copy + Send + Sync>(
+    rt: &R,
+    alloc: Global,
+    graph: &Graph<'_>,
+    wanted: &[bool],
+) -> Result<Option<&'static str>, RunError> {
+    let queue = QueueMail::new(*rt);
+    let ring = RingMail::new();
+    let lock = LockLedger::new(*rt);
+    let words = WordLedger::new();
+    if differs(rt, alloc, &queue, &words, graph, wanted)? {
+        return Ok(Some("queues, words"));
+    }
+    if differs(rt, alloc, &ring, &words, graph, wanted)? {
+        return Ok(Some("rings, words"));
+    }
+    if differs(rt, alloc, &queue, &lock, graph, wanted)? {
+        return Ok(Some("queues, a lock"));
+    }
+    if differs(rt, alloc, &ring, &lock, graph, wanted)? {
+        return Ok(Some("rings, a lock"));
+    }
+    Ok(None)
+}
+
+// Whose answer to this graph differs from the wanted one.
+fn wrong_answer<R: Threads + Wait + Copy + Send + Sync>(
+    rt: &R,
+    alloc: Global,
+    graph: &Graph<'_>,
+    wanted: &[bool],
+) -> Result<Option<&'static str>, RunError> {
+    if differs_alone(alloc, graph.edges, graph.roots, wanted)? {
+        return Ok(Some("alone"));
+    }
+    wrong_pair(rt, alloc, graph, wanted)
+}
+
+// Whose answer to these edges differs from a plain search's.
+fn compare<R: Threads + Wait + Copy + Send + Sync>(
+    rt: &R,
+    alloc: Global,
+    edges: &[Vec<u32>],
+    root: u32,
+    owners: u16,
+) -> Result<Option<&'static str>, RunError>
+    requires some { 0 < owners }
+    requires few { owners ≤ 64 }
+{
+    let wanted = searched(alloc, edges, root)?;
+    let graph = Graph {
+        edges,
+        roots: &[root],
+        owners,
+    };
+    let whose = wrong_answer(rt, alloc, &graph, wanted.as_slice());
+    // Early drop.
+    drop(wanted);
+    whose
+}
+
+// Whose answer to the next random graph differs from a plain search's.
+fn compare_next<R: Threads + Wait + Copy + Send + Sync>(
+    rt: &R,
+    alloc: Global,
+    state: &mut u64,
+) -> Result<Option<&'static str>, RunError> {
+    let edges = random_edges(alloc, state)?;
+    let root = next_number(state) % NODES;
+    let owners = 1 + (next_number(state) % 64) as u16;
+    let whose = compare(rt, alloc, edges.as_slice(), root, owners);
+    // Early drop.
+    drop(edges);
+    whose
+}
+
 /// Answers this many random graphs, each by 1 to 64 owners in threads and by one keeper alone, and
 /// returns the number of the first of which an answer differs from a plain search's, and whose
 /// answer that is.
@@ -133,35 +236,10 @@ pub fn first_difference<R: Threads + Wait + Copy + Send + Sync>(
     seed: u64,
     graphs: u32,
 ) -> Result<Option<(u32, &'static str)>, RunError> {
-    let queue = QueueMail::new(*rt);
-    let ring = RingMail::new();
-    let lock = LockLedger::new(*rt);
-    let words = WordLedger::new();
     let mut state = seed;
     for number in 0..graphs {
-        let edges = random_edges(alloc, &mut state)?;
-        let root = next_number(&mut state) % NODES;
-        let owners = 1 + (next_number(&mut state) % 64) as u16;
-        let wanted = searched(alloc, edges.as_slice(), root)?;
-        let graph = Graph {
-            edges: edges.as_slice(),
-            roots: &[root],
-            owners,
-        };
-        if told_alone(alloc, edges.as_slice(), root)? != wanted {
-            return Ok(Some((number, "alone")));
-        }
-        if told(rt, alloc, &queue, &words, &graph)? != wanted {
-            return Ok(Some((number, "queues, words")));
-        }
-        if told(rt, alloc, &ring, &words, &graph)? != wanted {
-            return Ok(Some((number, "rings, words")));
-        }
-        if told(rt, alloc, &queue, &lock, &graph)? != wanted {
-            return Ok(Some((number, "queues, a lock")));
-        }
-        if told(rt, alloc, &ring, &lock, &graph)? != wanted {
-            return Ok(Some((number, "rings, a lock")));
+        if let Some(whose) = compare_next(rt, alloc, &mut state)? {
+            return Ok(Some((number, whose)));
         }
     }
     Ok(None)
