@@ -178,14 +178,16 @@ class Beside:
                 yield f"called {self.number[location]}, {self.place(function)}"
 
     def received_lines(self, own: Loans) -> Iterator[str]:
-        """Where a method stands that is called on a variable whose value comes, at a point, from the tail of a block.
+        """Where a method stands, in another line, that is called on a variable whose value comes from the tail of a block.
 
         That is so for the loans of the tail: the use that rustc names then is that of the method.
         """
         for location, function in methods_on_results(self.body):
             span, made = self.body.statements[location].span, []
-            if location in self.number and self.place(function) != "elsewhere" and self.desugarings.before(function) == ".":
-                made = [number for number, loan in sorted(own.loans.items()) if is_overlapping(span, self.body.locals.get(loan.target))]
+            if location in self.number and span and function.first != span.first and self.place(function) != "elsewhere" \
+                    and self.desugarings.before(function) == ".":
+                made = [number for number, loan in sorted(own.loans.items())
+                        if loan.location != location and is_overlapping(span, self.body.locals.get(loan.target))]
             if made:
                 yield f"called {self.number[location]} by {' '.join(map(str, made))}, {self.place(function)}"
 
