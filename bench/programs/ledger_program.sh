@@ -5,5 +5,5 @@
 [ "$#" = 0 ] || { sed -n '2,/^\[/{/^#/s/^# \{0,1\}//p}' "$0"; exit; }
 set -eu
 here=$(cd "$(dirname "$0")" && pwd)
-"$here/../../tools/build_program.sh" "$here/ledger_program" "nll_sets nll_problem nll_ledger" \
-    "nll_sets nll_problem nll_ledger anyhow thiserror" words 2 1000
+"$here/../../tools/build_program.sh" "$here/ledger_program" "nll_sets nll_problem fixpoint ledger" \
+    "nll_sets nll_problem fixpoint ledger anyhow thiserror" words 2 1000

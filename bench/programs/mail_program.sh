@@ -6,5 +6,6 @@
 [ "$#" = 0 ] || { sed -n '2,/^\[/{/^#/s/^# \{0,1\}//p}' "$0"; exit; }
 set -eu
 here=$(cd "$(dirname "$0")" && pwd)
-"$here/../../tools/build_program.sh" "$here/mail_program" "nll_sets nll_problem nll_mail nll_ledger nll_shared_tests" \
-    "nll_sets nll_problem nll_mail nll_ledger nll_shared_tests anyhow thiserror" ring 1000
+below="nll_sets nll_problem fixpoint mail ledger worker run keeper reach nll_mail nll_ledger nll_shared_tests"
+"$here/../../tools/build_program.sh" "$here/mail_program" "$below" \
+    "$below anyhow thiserror" ring 1000

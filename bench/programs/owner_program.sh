@@ -10,6 +10,6 @@ small=$(mktemp)
 trap 'rm -f "$small"' EXIT
 printf 'nll-facts 1\npoints 1\nend\n' > "$small"
 "$here/../../tools/build_program.sh" "$here/owner_program" \
-    "nll_sets nll_problem nll_text nll_format nll_facts nll_core nll_cut nll_mail nll_owner" \
-    "nll_sets nll_problem nll_facts nll_core nll_cut nll_mail nll_owner anyhow thiserror" \
+    "nll_sets nll_problem nll_text nll_format nll_facts nll_core fixpoint nll_cut mail nll_mail nll_owner" \
+    "nll_sets nll_problem nll_facts nll_core fixpoint nll_cut mail nll_mail nll_owner anyhow thiserror" \
     "$small" owners round 2

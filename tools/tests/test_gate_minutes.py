@@ -81,12 +81,12 @@ class Table(unittest.TestCase):
 
     def test_a_yardstick_that_lacks_a_crate_gives_no_units(self):
         told = gate_minutes.table(yardstick(3)[1:], None).splitlines()[-1]
-        self.assertEqual(told, "no units: the yardstick's nll_mail has no check in this run")
+        self.assertEqual(told, "no units: the yardstick's nll_sets has no check in this run")
 
     def test_a_yardstick_with_a_crate_that_changed_gives_no_units(self):
         told = gate_minutes.table(yardstick(3)[1:] + yardstick(7)[:1], None).splitlines()[-1]
         self.assertIn("no units: the yardstick's crates don't agree", told)
-        self.assertIn("nll_mail 7.00", told)
+        self.assertIn("nll_sets 7.00", told)
 
 
 class Budget(unittest.TestCase):
