@@ -1,198 +1,86 @@
--- Types of the code, with arguments put in or not, that have another form than one that is looked for.
-use Rattle.std.proofs.Common.{◌≡◌, ℕ, ◌<◌, Bool, List, refl, sym, ap, ◌∙◌, arith, ⊎_elim, ◌⊎◌, inl, inr, Option, None, Some}
-use Rattle.std.specs.Global.{Vec, Box}
-use Rattle.nll_types.specs.Types.{TypeTree, TypeTrees, int, parameter, reference, tuple, named, function}
+-- Types as their layers say.
+use Rattle.std.proofs.Common.{◌≡◌, ◌↔◌, ◌⊎◌, ⊎_elim, sym, ℕ, zero, suc, ◌<◌, ◌≤◌, List, [], ◌∷◌, length, ap, ◌∙◌, refl, arith, Some, None}
+use Rattle.std.specs.Prelude.{slice_index, min}
+use Rattle.nll_types.specs.Types.{TypeTree, TypeTrees, int, parameter, none, more, nodes, nodes_of_all, type_at}
 use Rattle.nll_types.specs.Structs.{Struct}
-use Rattle.nll_types.specs.Views.{tree, trees}
+use Rattle.nll_types.specs.declared.parameter.Parameter.{Parameter}
 use Rattle.nll_types.specs.declared.parameter.Sign.{Sign}
-use Rattle.nll_types.specs.declared.ty.Ty.{Ty}
-use Rattle.nll_types.specs.declared.ty.Ty.TheVariants.{Int, Parameter, Reference, Tuple, Named, Function}
-use Rattle.nll_types.proofs.ViewLemmas.{tree_int, tree_parameter, tree_reference, tree_tuple, tree_named, tree_function}
-use Rattle.nll_rules.specs.declared.instance.Arguments.{Arguments}
-use Rattle.nll_rules.specs.Instances.{region_under, regions_under, put_under, put_all_under}
+use Rattle.nll_rules.specs.Layers.{numbered, all_numbered, form, layered, types_in, type_in}
+use Rattle.nll_rules.specs.Pairs.{AddsPairs, TypeAsks}
 use Rattle.nll_rules.specs.Subtyping.{SubtypeAsksBehind}
-use Rattle.nll_rules.specs.Pairs.{AddsPairs}
-use Rattle.nll_rules.proofs.PairLemmas.{adds_none}
-use Rattle.nll_rules.proofs.SubtypeLemmas.{form, unlike, int_asks, parameter_asks}
+use Rattle.nll_rules.proofs.PairLemmas.{adds_none, adds_same}
+use Rattle.nll_rules.proofs.SubtypeLemmas.{unlike, int_asks, parameter_asks}
+use Rattle.nll_rules.specs.declared.layer.Layer.{Layer}
+use Rattle.nll_rules.specs.declared.layer.Layer.TheVariants as layers
 
-abbrev IsReference : Ty → Type 0
-IsReference t = (r : ℕ) × (m : Bool) × (b : Box Ty) × (t ≡ Reference r m b)
+pub of_layer : (ls : List Layer) (n : ℕ) (l m : Layer) → type_in ls n ≡ layered (types_in ls) l → l ≡ m
+    → type_in ls n ≡ layered (types_in ls) m
+of_layer ls n l m at is = at ∙ ap (layered (types_in ls)) is
 
-abbrev IsTuple : Ty → Type 0
-IsTuple t = (ts : Vec Ty) × (t ≡ Tuple ts)
+pub numbered_at : (known : List TypeTree) (is : List ℕ) (k : ℕ) → k < length is
+    → type_at (all_numbered known is) k ≡ Some (numbered known (slice_index is k))
+numbered_at known [] k h = absurd (omega arith)
+numbered_at known (i ∷ is) zero h = refl
+numbered_at known (i ∷ is) (suc k) h = numbered_at known is k (omega arith)
 
-abbrev IsNamed : Ty → Type 0
-IsNamed t = (s : ℕ) × (rs : Vec ℕ) × (ts : Vec Ty) × (t ≡ Named s rs ts)
+pub numbered_past : (known : List TypeTree) (is : List ℕ) (k : ℕ) → length is ≤ k
+    → type_at (all_numbered known is) k ≡ None
+numbered_past known [] k h = refl
+numbered_past known (i ∷ is) zero h = absurd (omega arith)
+numbered_past known (i ∷ is) (suc k) h = numbered_past known is k (omega arith)
 
-abbrev IsFunction : Ty → Type 0
-IsFunction t = (ts : Vec Ty) × (b : Box Ty) × (t ≡ Function ts b)
+-- a type of a row has no more nodes than the row
+pub nodes_at : (ts : TypeTrees) (k : ℕ) (t : TypeTree) → type_at ts k ≡ Some t → nodes t ≤ nodes_of_all ts
+nodes_at none k t e = absurd cc
+nodes_at (more u ts) zero t e = (let d = ap nodes (let c : u ≡ t = cc in c) in omega arith)
+nodes_at (more u ts) (suc k) t e = (let l = nodes_at ts k t e in omega arith)
 
--- a parameter has no argument with regions
-abbrev pub Settled : Option Arguments → Ty → Type 0
-Settled a t = (k : ℕ) → t ≡ Parameter k → (put_under a (tree t) ≡ parameter k) ⊎ (put_under a (tree t) ≡ int)
+numbered_within : (known : List TypeTree) (is : List ℕ) (k : ℕ) (t : TypeTree)
+    → type_at (all_numbered known is) k ≡ Some t
+    → k < length is
+numbered_within known [] k t e = absurd cc
+numbered_within known (i ∷ is) zero t e = omega arith
+numbered_within known (i ∷ is) (suc k) t e = (let l = numbered_within known is k t e in omega arith)
 
--- without arguments each parameter stays
-pub alone : (t : Ty) → Settled None t
-alone t k e = inl (ap tree e ∙ tree_parameter k)
+pub types_within : (structs : List Struct) (parameters : List Parameter) (other outer : Sign) (known : List TypeTree)
+    (ts us : List ℕ) (n k : ℕ) (x : ℕ × ℕ) → min (length ts) (length us) ≤ n
+    → TypeAsks structs parameters other outer (all_numbered known ts) (all_numbered known us) k x → k < n
+types_within structs parameters other outer known ts us n k x le p =
+    (let l = numbered_within known ts k p.0 p.2 in let m = numbered_within known us k p.1 p.3 in omega arith)
 
--- ---- forms of types under arguments
+-- ---- subtypings
 
-under_int : (a : Option Arguments) → put_under a int ≡ int
-under_int None = refl
-under_int (Some a) = refl
+asks_as : (structs : List Struct) (outer : Sign) (t v u w : TypeTree) (a b : List (ℕ × ℕ)) → t ≡ v → u ≡ w
+    → AddsPairs (SubtypeAsksBehind structs outer v w) a b → AddsPairs (SubtypeAsksBehind structs outer t u) a b
+asks_as structs outer t v u w a b p q h = rw (p, q) h
 
-under_reference : (a : Option Arguments) (r : ℕ) (m : Bool) (t : TypeTree)
-    → put_under a (reference r m t) ≡ reference (region_under a r) m (put_under a t)
-under_reference None r m t = refl
-under_reference (Some a) r m t = refl
+-- types of different forms ask nothing
+pub asks_none : (structs : List Struct) (outer : Sign) (t v u : TypeTree) (n : ℕ) (a : List (ℕ × ℕ)) → t ≡ v
+    → form v ≡ n → (form u ≡ n → ⊥) → AddsPairs (SubtypeAsksBehind structs outer t u) a a
+asks_none structs outer t v u n a p f other =
+    adds_none (SubtypeAsksBehind structs outer t u) a
+    (λ x. unlike structs outer t u x (λ e. other (sym e ∙ (ap form p ∙ f))))
 
-under_tuple : (a : Option Arguments) (ts : TypeTrees) → put_under a (tuple ts) ≡ tuple (put_all_under a ts)
-under_tuple None ts = refl
-under_tuple (Some a) ts = refl
+pub asks_these : (structs : List Struct) (outer : Sign) (t v u w : TypeTree) (kind : ℕ × ℕ → Type 0)
+    (a b : List (ℕ × ℕ))
+    → t ≡ v → u ≡ w → ((x : ℕ × ℕ) → kind x ↔ SubtypeAsksBehind structs outer v w x) → AddsPairs kind a b
+    → AddsPairs (SubtypeAsksBehind structs outer t u) a b
+asks_these structs outer t v u w kind a b p q same h =
+    asks_as structs outer t v u w a b p q (adds_same kind _ a b same h)
 
-under_named : (a : Option Arguments) (s : ℕ) (rs : List ℕ) (ts : TypeTrees)
-    → put_under a (named s rs ts) ≡ named s (regions_under a rs) (put_all_under a ts)
-under_named None s rs ts = refl
-under_named (Some a) s rs ts = refl
+pub asks_nothing : (structs : List Struct) (outer : Sign) (t v u : TypeTree) (a : List (ℕ × ℕ)) → t ≡ v
+    → ((x : ℕ × ℕ) → SubtypeAsksBehind structs outer v u x → ⊥) → AddsPairs (SubtypeAsksBehind structs outer t u) a a
+asks_nothing structs outer t v u a p never =
+    asks_as structs outer t v u u a a p refl (adds_none (SubtypeAsksBehind structs outer v u) a never)
 
-under_function : (a : Option Arguments) (ts : TypeTrees) (t : TypeTree)
-    → put_under a (function ts t) ≡ function (put_all_under a ts) (put_under a t)
-under_function None ts t = refl
-under_function (Some a) ts t = refl
-
-pub is_int : (a : Option Arguments) (t : Ty) → t ≡ Int → put_under a (tree t) ≡ int
-is_int a t e = ap (put_under a) (ap tree e ∙ tree_int) ∙ under_int a
-
-pub is_reference : (a : Option Arguments) (t : Ty) (r : ℕ) (m : Bool) (b : Box Ty) → t ≡ Reference r m b
-    → put_under a (tree t) ≡ reference (region_under a r) m (put_under a (tree b.value))
-is_reference a t r m b e =
-    ap (put_under a) (ap tree e ∙ tree_reference r m b) ∙ under_reference a r m (tree b.value)
-
-pub is_tuple : (a : Option Arguments) (t : Ty) (ts : Vec Ty) → t ≡ Tuple ts
-    → put_under a (tree t) ≡ tuple (put_all_under a (trees ts.items))
-is_tuple a t ts e = ap (put_under a) (ap tree e ∙ tree_tuple ts) ∙ under_tuple a (trees ts.items)
-
-pub is_named : (a : Option Arguments) (t : Ty) (s : ℕ) (rs : Vec ℕ) (ts : Vec Ty) → t ≡ Named s rs ts
-    → put_under a (tree t) ≡ named s (regions_under a rs.items) (put_all_under a (trees ts.items))
-is_named a t s rs ts e =
-    ap (put_under a) (ap tree e ∙ tree_named s rs ts) ∙ under_named a s rs.items (trees ts.items)
-
-pub is_function : (a : Option Arguments) (t : Ty) (ts : Vec Ty) (b : Box Ty) → t ≡ Function ts b
-    → put_under a (tree t) ≡ function (put_all_under a (trees ts.items)) (put_under a (tree b.value))
-is_function a t ts b e =
-    ap (put_under a) (ap tree e ∙ tree_function ts b) ∙ under_function a (trees ts.items) (tree b.value)
-
-int_form : (a : Option Arguments) (t : Ty) → t ≡ Int → form (put_under a (tree t)) ≡ 0
-int_form a t e = ap form (is_int a t e)
-
-parameter_form : (a : Option Arguments) (t : Ty) → Settled a t → (k : ℕ) → t ≡ Parameter k
-    → form (put_under a (tree t)) < 2
-parameter_form a t settled k e = ⊎_elim
-    (λ p. (let f : form (put_under a (tree t)) ≡ 1 = ap form p in omega arith))
-    (λ p. (let f : form (put_under a (tree t)) ≡ 0 = ap form p in omega arith)) (settled k e)
-
-pub reference_form : (a : Option Arguments) (t : Ty) (r : ℕ) (m : Bool) (b : Box Ty) → t ≡ Reference r m b
-    → form (put_under a (tree t)) ≡ 2
-reference_form a t r m b e = ap form (is_reference a t r m b e)
-
-pub tuple_form : (a : Option Arguments) (t : Ty) (ts : Vec Ty) → t ≡ Tuple ts → form (put_under a (tree t)) ≡ 3
-tuple_form a t ts e = ap form (is_tuple a t ts e)
-
-pub named_form : (a : Option Arguments) (t : Ty) (s : ℕ) (rs : Vec ℕ) (ts : Vec Ty) → t ≡ Named s rs ts
-    → form (put_under a (tree t)) ≡ 4
-named_form a t s rs ts e = ap form (is_named a t s rs ts e)
-
-pub function_form : (a : Option Arguments) (t : Ty) (ts : Vec Ty) (b : Box Ty) → t ≡ Function ts b
-    → form (put_under a (tree t)) ≡ 5
-function_form a t ts b e = ap form (is_function a t ts b e)
-
-pub no_reference : (a : Option Arguments) (t : Ty) → Settled a t
-    → (t ≡ Int) ⊎ (((k : ℕ) × (t ≡ Parameter k)) ⊎ (IsTuple t ⊎ (IsNamed t ⊎ IsFunction t)))
-    → form (put_under a (tree t)) ≡ 2 → ⊥
-no_reference a t settled w e =
-    ⊎_elim (λ h. (let f = int_form a t h in omega arith))
-    (⊎_elim (λ h. (let f = parameter_form a t settled h.0 h.1 in omega arith))
-    (⊎_elim (λ h. (let f = tuple_form a t h.0 h.1 in omega arith))
-    (⊎_elim (λ h. (let f = named_form a t h.0 h.1 h.2 h.3 in omega arith))
-    (λ h. (let f = function_form a t h.0 h.1 h.2 in omega arith))))) w
-
-pub no_tuple : (a : Option Arguments) (t : Ty) → Settled a t
-    → (t ≡ Int) ⊎ (((k : ℕ) × (t ≡ Parameter k)) ⊎ (IsReference t ⊎ (IsNamed t ⊎ IsFunction t)))
-    → form (put_under a (tree t)) ≡ 3 → ⊥
-no_tuple a t settled w e =
-    ⊎_elim (λ h. (let f = int_form a t h in omega arith))
-    (⊎_elim (λ h. (let f = parameter_form a t settled h.0 h.1 in omega arith))
-    (⊎_elim (λ h. (let f = reference_form a t h.0 h.1 h.2 h.3 in omega arith))
-    (⊎_elim (λ h. (let f = named_form a t h.0 h.1 h.2 h.3 in omega arith))
-    (λ h. (let f = function_form a t h.0 h.1 h.2 in omega arith))))) w
-
-pub no_named : (a : Option Arguments) (t : Ty) → Settled a t
-    → (t ≡ Int) ⊎ (((k : ℕ) × (t ≡ Parameter k)) ⊎ (IsReference t ⊎ (IsTuple t ⊎ IsFunction t)))
-    → form (put_under a (tree t)) ≡ 4 → ⊥
-no_named a t settled w e =
-    ⊎_elim (λ h. (let f = int_form a t h in omega arith))
-    (⊎_elim (λ h. (let f = parameter_form a t settled h.0 h.1 in omega arith))
-    (⊎_elim (λ h. (let f = reference_form a t h.0 h.1 h.2 h.3 in omega arith))
-    (⊎_elim (λ h. (let f = tuple_form a t h.0 h.1 in omega arith))
-    (λ h. (let f = function_form a t h.0 h.1 h.2 in omega arith))))) w
-
-pub no_function : (a : Option Arguments) (t : Ty) → Settled a t
-    → (t ≡ Int) ⊎ (((k : ℕ) × (t ≡ Parameter k)) ⊎ (IsReference t ⊎ (IsTuple t ⊎ IsNamed t)))
-    → form (put_under a (tree t)) ≡ 5 → ⊥
-no_function a t settled w e =
-    ⊎_elim (λ h. (let f = int_form a t h in omega arith))
-    (⊎_elim (λ h. (let f = parameter_form a t settled h.0 h.1 in omega arith))
-    (⊎_elim (λ h. (let f = reference_form a t h.0 h.1 h.2 h.3 in omega arith))
-    (⊎_elim (λ h. (let f = tuple_form a t h.0 h.1 in omega arith))
-    (λ h. (let f = named_form a t h.0 h.1 h.2 h.3 in omega arith))))) w
-
--- types of two forms ask nothing of one another
-pub other_form : (structs : List Struct) (outer : Sign) (t u : TypeTree) (n : ℕ) (asked : List (ℕ × ℕ)) → form t ≡ n
-    → (form u ≡ n → ⊥) → AddsPairs (SubtypeAsksBehind structs outer t u) asked asked
-other_form structs outer t u n asked e differs =
-    adds_none _ asked (λ x. unlike structs outer t u x (λ same. differs (sym same ∙ e)))
-
--- the type of a reference and one of another form ask nothing of one another
-pub unlike_reference : (structs : List Struct) (outer : Sign) (r : ℕ) (m : Bool) (t u : TypeTree)
-    (asked : List (ℕ × ℕ)) → (form u ≡ 2 → ⊥)
-    → AddsPairs (SubtypeAsksBehind structs outer (reference r m t) u) asked asked
-unlike_reference structs outer r m t u asked differs =
-    adds_none _ asked (λ x. unlike structs outer (reference r m t) u x (λ same. differs (sym same)))
-
--- an `int` and a parameter ask nothing
-pub no_region : (structs : List Struct) (outer : Sign) (a : Option Arguments) (t : Ty) (u : TypeTree)
-    (asked : List (ℕ × ℕ)) → Settled a t → (t ≡ Int) ⊎ ((k : ℕ) × (t ≡ Parameter k))
-    → AddsPairs (SubtypeAsksBehind structs outer (put_under a (tree t)) u) asked asked
-no_region structs outer a t u asked settled w = ⊎_elim
-    (λ (e : t ≡ Int). at_int (is_int a t e))
-    (λ (e : (k : ℕ) × (t ≡ Parameter k)). ⊎_elim (at_parameter e.0) at_int (settled e.0 e.1)) w
-  where
-    at_int : put_under a (tree t) ≡ int
-        → AddsPairs (SubtypeAsksBehind structs outer (put_under a (tree t)) u) asked asked
-    at_int e = rw e (adds_none _ asked (int_asks structs outer u))
-
-    at_parameter : (k : ℕ) → put_under a (tree t) ≡ parameter k
-        → AddsPairs (SubtypeAsksBehind structs outer (put_under a (tree t)) u) asked asked
-    at_parameter k e = rw e (adds_none _ asked (parameter_asks structs outer k u))
-
--- nor does what is none of the rest
-pub no_rows : (structs : List Struct) (outer : Sign) (a : Option Arguments) (t : Ty) (u : TypeTree)
-    (asked : List (ℕ × ℕ)) → Settled a t → ((r : ℕ) (m : Bool) (b : Box Ty) → t ≡ Reference r m b → ⊥)
-    → (t ≡ Int) ⊎ (((k : ℕ) × (t ≡ Parameter k)) ⊎ IsReference t)
-    → AddsPairs (SubtypeAsksBehind structs outer (put_under a (tree t)) u) asked asked
-no_rows structs outer a t u asked settled rows w = ⊎_elim
-    (λ e. no_region structs outer a t u asked settled (inl e))
-    (⊎_elim (λ e. no_region structs outer a t u asked settled (inr e)) (λ e. absurd (rows e.0 e.1 e.2 e.3))) w
-
-pub no_parts : (a : Option Arguments) (t : Ty) → Settled a t
-    → (t ≡ Int) ⊎ (((k : ℕ) × (t ≡ Parameter k)) ⊎ (IsReference t ⊎ IsFunction t))
-    → (form (put_under a (tree t)) ≡ 3 → ⊥) × (form (put_under a (tree t)) ≡ 4 → ⊥)
-no_parts a t settled w =
-    (λ e. neither 3 e (λ l. omega arith) (λ l. omega arith), λ e. neither 4 e (λ l. omega arith) (λ l. omega arith))
-  where
-    neither : (n : ℕ) → form (put_under a (tree t)) ≡ n → (n < 3 → ⊥) → (n ≡ 5 → ⊥) → ⊥
-    neither n e big other =
-        ⊎_elim (λ h. big (let f = int_form a t h in omega arith))
-        (⊎_elim (λ h. big (let f = parameter_form a t settled h.0 h.1 in omega arith))
-        (⊎_elim (λ h. big (let f = reference_form a t h.0 h.1 h.2 h.3 in omega arith))
-        (λ h. other (let f = function_form a t h.0 h.1 h.2 in omega arith)))) w
+-- a type of no parts has no region
+pub asks_of_bare : (structs : List Struct) (outer : Sign) (ls : List Layer) (n : ℕ) (l : Layer) (u : TypeTree)
+    (a : List (ℕ × ℕ)) → type_in ls n ≡ layered (types_in ls) l
+    → (l ≡ layers.Int) ⊎ ((k : ℕ) × (l ≡ layers.Parameter k))
+    → AddsPairs (SubtypeAsksBehind structs outer (type_in ls n) u) a a
+asks_of_bare structs outer ls n l u a at is = ⊎_elim
+    (λ e. asks_nothing structs outer (type_in ls n) int u a (at ∙ ap (layered (types_in ls)) e)
+    (λ x. int_asks structs outer u x))
+    (λ e. asks_nothing structs outer (type_in ls n) (parameter e.0) u a (at ∙ ap (layered (types_in ls)) e.1)
+    (λ x. parameter_asks structs outer e.0 u x))
+    is

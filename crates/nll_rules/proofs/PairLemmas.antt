@@ -25,6 +25,12 @@ adds_same p q a b s h = record {
   );
 }
 
+-- what comes second, or what comes first
+pub adds_swapped : (p q : ℕ × ℕ → Type 0) (a b c : List (ℕ × ℕ)) → AddsPairs p a b → AddsPairs q b c
+    → AddsPairs (λ x. q x ⊎ p x) a c
+adds_swapped p q a b c h k =
+    adds_same _ _ a c (λ x. (⊎_elim inr inl, ⊎_elim inr inl)) (adds_append p q a b c h k)
+
 -- the pair is asked at one of the places below this one
 abbrev pub AtOneBelow : ℕ → (ℕ → ℕ × ℕ → Type 0) → ℕ × ℕ → Type 0
 AtOneBelow n kind x = (k : ℕ) × (k < n) × kind k x

@@ -1,7 +1,6 @@
 -- What stands at points asks constraints, one point after another.
-use Rattle.std.proofs.Common.{◌≡◌, ◌⊎◌, ◌↔◌, ℕ, ◌+◌, ◌<◌, ◌≤◌, List, [], ◌∷◌, ◌++◌, Contains, length, Some, inl, inr, refl, sym, ◌∙◌, subst, ⊎_elim, arith}
+use Rattle.std.proofs.Common.{◌≡◌, ◌⊎◌, ◌↔◌, ℕ, ◌+◌, ◌≤◌, List, [], Contains, length, Some, inl, inr, refl, sym, ◌∙◌, subst, ⊎_elim, arith}
 use Rattle.std.proofs.lemmas.Bool.{cases_lt}
-use Rattle.std.proofs.lemmas.List.Elements.{Contains-push_cases}
 use Rattle.std.proofs.lemmas.Option.{slice_get_within}
 use Rattle.nll_problem.specs.Problem.{Problem, SameSet}
 use Rattle.nll_problem.specs.declared.constraint.Constraint.{Constraint}
@@ -13,10 +12,8 @@ use Rattle.nll_body.specs.Bodies.{BodyText, StandsAt, GoesOn}
 use Rattle.nll_rules.specs.Asking.{Asks}
 use Rattle.nll_rules.specs.Pairs.{AddsPairs}
 use Rattle.nll_rules.specs.BodyProblem.{IsAskedAt, IsAskedSomewhere, IsAsserted, IsConstraint}
-use Rattle.nll_rules.specs.Adding.{AddsConstraints, IsRefused, IsOfPairs, IsAskedBefore}
-use Rattle.nll_rules.specs.Known.{AreAskedAt, AreKnown}
-use Rattle.nll_rules.specs.declared.known.Entry.{Entry}
-use Rattle.nll_rules.proofs.AddingLemmas.{nothing, only_new, adds_none, adds_same, adds_both, refused_after, refused_same}
+use Rattle.nll_rules.specs.Adding.{AddsConstraints, AreAskedAt, IsRefused, IsOfPairs, IsAskedBefore}
+use Rattle.nll_rules.proofs.AddingLemmas.{only_new, adds_none, adds_same, adds_both, refused_after, refused_same}
 
 some_same : (i j : Statement ℕ TypeTree) → Some i ≡ Some j → i ≡ j
 some_same i j e = cc
@@ -46,21 +43,6 @@ kept_asked body i structs variables old new once seen same_structs same_variable
       λ there. asks.0 ((kept x).1 (subst (λ (xs : List (ℕ × ℕ)). Contains xs x) same there)),
       λ a. subst (λ (xs : List (ℕ × ℕ)). Contains xs x) (sym same) ((kept x).0 (asks.1 a)),
     )
-
--- the pairs that a statement asks at the points that may come after it are what it asks
-pub asked_here : (body : BodyText) (p : ℕ) (i : Statement ℕ TypeTree) (next : List ℕ) (asked : List (ℕ × ℕ))
-    → StandsAt body p i
-    → ((q : ℕ) → Contains next q ↔ GoesOn body p q)
-    → ((x : ℕ × ℕ) → Contains asked x ↔ Asks body.structs body.variables i x)
-    → (c : Constraint) → IsOfPairs next asked c ↔ IsAskedAt body p c
-asked_here body p i next asked at goes asks c = (
-  λ h. (i, at, (h.1.0, (goes h.1.0).0 h.1.1, h.1.2), (asks (c.sup, c.sub)).0 h.0),
-  λ h. (
-    (asks (c.sup, c.sub)).1 (subst (λ (j : Statement ℕ TypeTree). Asks body.structs body.variables j (c.sup, c.sub))
-        (some_same h.0 i (sym h.1 ∙ at)) h.3),
-    (h.2.0, (goes h.2.0).1 h.2.1, h.2.2),
-  ),
-)
 
 module _ (body : BodyText) where
   pub before_none : (q : Problem) → AddsConstraints (IsAskedBefore body 0) q q
@@ -132,45 +114,3 @@ known_here body p next pairs goes asked c = (
   λ h. let a = (asked (c.sup, c.sub)).0 h.0 in (a.0, a.1, (h.1.0, (goes h.1.0).0 h.1.1, h.1.2), a.2),
   λ h. ((asked (c.sup, c.sub)).1 (h.0, h.1, h.3), (h.2.0, (goes h.2.0).1 h.2.1, h.2.2)),
 )
-
--- what a statement that asks the same asks at another point is known here
-pub asked_alike : (body : BodyText) (p q : ℕ) (i j : Statement ℕ TypeTree) (pairs : List (ℕ × ℕ)) → StandsAt body p i
-    → StandsAt body q j
-    → ((x : ℕ × ℕ) → Asks body.structs body.variables j x ↔ Asks body.structs body.variables i x)
-    → AreAskedAt body q pairs → AreAskedAt body p pairs
-asked_alike body p q i j pairs at_p at_q same asked x = (
-  λ h. (let a = (asked x).0 h in (
-    i,
-    at_p,
-    (same x).0 (subst (λ (k : Statement ℕ TypeTree). Asks body.structs body.variables k x)
-        (some_same a.0 j (sym a.1 ∙ at_q)) a.2),
-  )),
-  λ h. (asked x).1 (
-    j,
-    at_q,
-    (same x).1
-        (subst (λ (k : Statement ℕ TypeTree). Asks body.structs body.variables k x)
-        (some_same h.0 i (sym h.1 ∙ at_p)) h.2),
-  ),
-)
-
--- nothing is known
-pub known_none : (body : BodyText) (entries : List Entry) → entries ≡ [] → AreKnown body entries
-known_none body entries none = record {
-  each = λ e there. absurd (nothing e (subst (λ (es : List Entry). Contains es e) none there));
-}
-
--- one entry more
-pub known_more : (body : BodyText) (old new : List Entry) (e : Entry) (p : ℕ) (pairs : List (ℕ × ℕ)) → AreKnown body old
-    → p < length body.points
-    → AreAskedAt body p pairs → e.point ≡ p → e.pairs.items ≡ pairs → new ≡ old ++ e ∷ [] → AreKnown body new
-known_more body old new e p pairs known within asked at same more = record {
-  each = λ f there. ⊎_elim
-      (λ before. known.each f before)
-      (λ is. subst (λ (g : Entry). (g.point < length body.points) × AreAskedAt body g.point g.pairs.items) is (
-        subst (λ (n : ℕ). n < length body.points) (sym at) within,
-        subst (λ (n : ℕ). AreAskedAt body n e.pairs.items) (sym at)
-            (subst (λ (xs : List (ℕ × ℕ)). AreAskedAt body p xs) (sym same) asked),
-      ))
-      (Contains-push_cases old e f (subst (λ (es : List Entry). Contains es f) more there));
-}

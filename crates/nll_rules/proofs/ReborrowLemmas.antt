@@ -1,18 +1,17 @@
 -- The references on which a reborrow rests, one projection after another.
-use Rattle.std.proofs.Common.{◌≡◌, ℕ, zero, suc, ◌+◌, ◌-◌, ◌<◌, ◌≤◌, Bool, true, false, List, [], ◌∷◌, ◌++◌, length, map, take, drop, get_or, refl, sym, ap, ◌∙◌, subst, arith, ⊎_elim, inl, inr, ◌↔◌, ◌⊎◌, Contains, Option, Some, None}
+use Rattle.std.proofs.Common.{◌≡◌, ℕ, zero, suc, ◌+◌, ◌<◌, ◌≤◌, Bool, true, false, List, [], ◌∷◌, ◌++◌, length, take, drop, get_or, refl, sym, ap, ◌∙◌, subst, arith, ⊎_elim, inl, inr, ◌↔◌, ◌⊎◌, Contains, Option, Some, None}
 use Rattle.std.specs.Prelude.{slice_get, option_map, option_and_then, unwrap_or}
 use Rattle.std.proofs.Math.Seq.{drop-cons}
+use Rattle.std.proofs.Math.ListN.{drop_of_length-le}
 use Rattle.std.proofs.lemmas.List.Elements.{Contains-push, Contains-push_cases, Contains-append_left}
 use Rattle.nll_types.specs.Types.{TypeTree, int, parameter, reference, tuple, named, function}
 use Rattle.nll_types.specs.Structs.{Struct}
-use Rattle.nll_types.specs.Places.{PlacePath, behind, behind_all}
+use Rattle.nll_types.specs.Places.{PlacePath, behind, behind_all, type_of}
 use Rattle.nll_types.specs.declared.place.Projection.{Projection}
 use Rattle.nll_types.specs.declared.place.Projection.TheVariants.{Deref, Field}
 use Rattle.nll_rules.specs.Reborrows.{RestsOn}
-use Rattle.nll_types.specs.Views.{tree}
-use Rattle.nll_types.specs.declared.ty.Ty.{Ty}
 use Rattle.nll_rules.specs.Walks.{past, rests}
-use Rattle.nll_rules.proofs.SubtypeLemmas.{form}
+use Rattle.nll_rules.specs.Layers.{form}
 
 -- ---- from a type that may be there
 
@@ -211,48 +210,15 @@ step_on structs ps n d p t u regions l is e =
     ∙ ap (λ (o : Option TypeTree). unwrap_or
     (option_map (λ u. rests structs (drop (n + 1) ps) u (past p t regions)) o) (past p t regions)) e
 
--- ---- where the walk ends
-
-pub deref_ends : (structs : List Struct) (ps : List Projection) (n : ℕ) (d : Projection) (t : TypeTree)
-    (regions : List ℕ) → n < length ps → get_or ps n d ≡ Deref
-    → (form t ≡ 2 → ⊥) → rests structs (drop n ps) t regions ≡ regions
-deref_ends structs ps n d int regions l is differs = step_none structs ps n d Deref int regions l is refl
-deref_ends structs ps n d (parameter k) regions l is differs =
-    step_none structs ps n d Deref (parameter k) regions l is refl
-deref_ends structs ps n d (reference r m t) regions l is differs = absurd (differs refl)
-deref_ends structs ps n d (tuple ts) regions l is differs = step_none structs ps n d Deref (tuple ts) regions l is refl
-deref_ends structs ps n d (named s rs ts) regions l is differs =
-    step_none structs ps n d Deref (named s rs ts) regions l is refl
-deref_ends structs ps n d (function ts t) regions l is differs =
-    step_none structs ps n d Deref (function ts t) regions l is refl
-
-pub no_field : (structs : List Struct) (k : ℕ) (t : TypeTree) → (form t ≡ 3 → ⊥) → (form t ≡ 4 → ⊥)
-    → behind structs (Field k) t ≡ None
-no_field structs k int a b = refl
-no_field structs k (parameter j) a b = refl
-no_field structs k (reference r m t) a b = refl
-no_field structs k (tuple ts) a b = absurd (a refl)
-no_field structs k (named s rs ts) a b = absurd (b refl)
-no_field structs k (function ts t) a b = refl
-
--- what is left to walk
-abbrev pub left : List Projection → Option (Ty × ℕ) → ℕ
-left ps None = 0
-left ps (Some r) = (length ps - r.1) + 1
-
--- what is walked so far
-abbrev pub Walked : List Struct → List Projection → TypeTree → List ℕ → List ℕ → Option (Ty × ℕ) → Type 0
-Walked structs ps t old now None = rests structs ps t old ≡ now
-Walked structs ps t old now (Some r) =
-    (rests structs ps t old ≡ rests structs (drop r.1 ps) (tree r.0) now) × (r.1 ≤ length ps)
-
--- ---- from the variable
-
-pub get_mapped : {X Y : Type 0} (f : X → Y) (xs : List X) (k : ℕ) (x : X) → slice_get xs k ≡ Some x
-    → slice_get (map f xs) k ≡ Some (f x)
-get_mapped f [] k x e = absurd cc
-get_mapped {X} f (y ∷ xs) zero x e = ap (λ o. option_map f o) e
-get_mapped f (y ∷ xs) (suc k) x e = get_mapped f xs k x e
+-- a dereference of what is no reference leads nowhere, and goes through nothing
+pub deref_none : (structs : List Struct) (t : TypeTree) (regions : List ℕ) → (form t ≡ 2 → ⊥)
+    → (None ≡ behind structs Deref t) × (regions ≡ past Deref t regions)
+deref_none structs int regions differs = (refl, refl)
+deref_none structs (parameter k) regions differs = (refl, refl)
+deref_none structs (reference r m t) regions differs = absurd (differs refl)
+deref_none structs (tuple ts) regions differs = (refl, refl)
+deref_none structs (named s rs ts) regions differs = (refl, refl)
+deref_none structs (function ts t) regions differs = (refl, refl)
 
 pub rests_from : (structs : List Struct) (variables : List TypeTree) (p : PlacePath) (o : Option TypeTree)
     (regions : List ℕ) → slice_get variables p.variable ≡ o
@@ -262,3 +228,70 @@ rests_from structs variables p o regions e r a =
     subst (λ (z : List ℕ). Contains z a ↔ RestsOn structs variables p a)
     (ap (λ (o : Option TypeTree). unwrap_or (option_map (λ u. rests structs p.projections u []) o) []) e ∙ sym r)
     (rests_on_is structs variables p a)
+
+-- ---- the type behind the rest of the projections
+
+behind_step : (structs : List Struct) (ps : List Projection) (n : ℕ) (d p : Projection) (t : TypeTree) → n < length ps
+    → get_or ps n d ≡ p
+    → behind_all structs (drop n ps) t ≡ option_and_then (behind_all structs (drop (n + 1) ps)) (behind structs p t)
+behind_step structs ps n d p t l is =
+    let e : n + 1 ≡ suc n = omega arith in
+    ap (λ (z : List Projection). behind_all structs z t)
+    (drop-cons ps n d l ∙ ap (λ (z : Projection). z ∷ drop (suc n) ps) is)
+    ∙ ap (λ (z : ℕ). option_and_then (behind_all structs (drop z ps)) (behind structs p t)) (sym e)
+
+-- What is left of a place from a type: it leads where the place leads, and the regions come to those
+-- of the place.
+pub record IsOnWay (structs : List Struct) (variables : List TypeTree) (place : PlacePath) (n : ℕ) (t : TypeTree)
+    (regions : List ℕ) : Type 0 where
+  pub leads : behind_all structs (drop n place.projections) t ≡ type_of structs variables place
+  pub rests : rests structs (drop n place.projections) t regions
+      ≡ unwrap_or (option_map (λ u. rests structs place.projections u []) (slice_get variables place.variable)) []
+
+pub way_begins : (structs : List Struct) (variables : List TypeTree) (place : PlacePath) (t : TypeTree)
+    → slice_get variables place.variable ≡ Some t → IsOnWay structs variables place 0 t []
+way_begins structs variables place t is = record {
+  leads = ap (option_and_then (behind_all structs place.projections)) (sym is);
+  rests =
+      ap (λ (o : Option TypeTree). unwrap_or (option_map (λ u. rests structs place.projections u []) o) []) (sym is);
+}
+
+pub way_on : (structs : List Struct) (variables : List TypeTree) (place : PlacePath) (n : ℕ) (d p : Projection)
+    (t u : TypeTree) (regions new : List ℕ) → n < length place.projections → get_or place.projections n d ≡ p
+    → Some u ≡ behind structs p t → new ≡ past p t regions → IsOnWay structs variables place n t regions
+    → IsOnWay structs variables place (n + 1) u new
+way_on structs variables place n d p t u regions new l is there crossed w = record {
+  leads = sym (behind_step structs place.projections n d p t l is
+      ∙ ap (option_and_then (behind_all structs (drop (n + 1) place.projections))) (sym there)) ∙ w.leads;
+  rests = ap (λ (z : List ℕ). rests structs (drop (n + 1) place.projections) u z) crossed
+      ∙ (sym (step_on structs place.projections n d p t u regions l is (sym there)) ∙ w.rests);
+}
+
+pub way_stops : (structs : List Struct) (variables : List TypeTree) (place : PlacePath) (n : ℕ) (d p : Projection)
+    (t : TypeTree) (regions new : List ℕ) → n < length place.projections → get_or place.projections n d ≡ p
+    → None ≡ behind structs p t → new ≡ past p t regions → IsOnWay structs variables place n t regions
+    → (None ≡ type_of structs variables place) × ((a : ℕ) → Contains new a ↔ RestsOn structs variables place a)
+way_stops structs variables place n d p t regions new l is there crossed w = (
+  ap (option_and_then (behind_all structs (drop (n + 1) place.projections))) there
+      ∙ sym (behind_step structs place.projections n d p t l is) ∙ w.leads,
+  λ a. rests_from structs variables place (slice_get variables place.variable) new refl
+      (crossed ∙ (sym (step_none structs place.projections n d p t regions l is (sym there)) ∙ w.rests)) a,
+)
+
+pub way_ends : (structs : List Struct) (variables : List TypeTree) (place : PlacePath) (n : ℕ) (t : TypeTree)
+    (regions : List ℕ) → length place.projections ≤ n → IsOnWay structs variables place n t regions
+    → (Some t ≡ type_of structs variables place) × ((a : ℕ) → Contains regions a ↔ RestsOn structs variables place a)
+way_ends structs variables place n t regions l w =
+    let e = drop_of_length-le place.projections l in (
+      ap (λ (z : List Projection). behind_all structs z t) (sym e) ∙ w.leads,
+      λ a. rests_from structs variables place (slice_get variables place.variable) regions refl
+          (ap (λ (z : List Projection). rests structs z t regions) (sym e) ∙ w.rests) a,
+    )
+
+pub no_variable : (structs : List Struct) (variables : List TypeTree) (place : PlacePath) (regions : List ℕ)
+    → None ≡ slice_get variables place.variable → regions ≡ []
+    → (None ≡ type_of structs variables place) × ((a : ℕ) → Contains regions a ↔ RestsOn structs variables place a)
+no_variable structs variables place regions is none = (
+  ap (option_and_then (behind_all structs place.projections)) is,
+  λ a. rests_from structs variables place None regions (sym is) none a,
+)

@@ -1,5 +1,5 @@
 -- What statements ask, form by form.
-use Rattle.std.proofs.Common.{◌≡◌, ℕ, ◌<◌, ◌≤◌, Bool, List, [], ◌∷◌, ◌++◌, length, map, refl, sym, ap, ◌∙◌, subst, arith, ⊎_elim, inl, inr, ◌↔◌, ◌⊎◌, Contains, Option, Some, None}
+use Rattle.std.proofs.Common.{◌≡◌, ℕ, zero, suc, ◌<◌, ◌≤◌, Bool, List, [], ◌∷◌, ◌++◌, length, map, refl, sym, ap, ◌∙◌, subst, arith, ⊎_elim, inl, inr, ◌↔◌, ◌⊎◌, Contains, Option, Some, None}
 use Rattle.std.specs.Prelude.{slice_get, option_map}
 use Rattle.std.proofs.lemmas.List.Elements.{Contains-push, Contains-push_cases, Contains-append_left, Contains-append_right, Contains-append_cases}
 use Rattle.nll_types.specs.Types.{TypeTree, int, reference}
@@ -205,6 +205,12 @@ outlives_more xs y r old now next e h = rw e (record {
         subst (Contains (now ++ (y, r) ∷ [])) (let d : (y, r) ≡ (x.0, x.1) = cc in d) (Contains-push now (y, r))
 
 -- ---- the code's calls
+
+pub get_mapped : {X Y : Type 0} (f : X → Y) (xs : List X) (k : ℕ) (x : X) → slice_get xs k ≡ Some x
+    → slice_get (map f xs) k ≡ Some (f x)
+get_mapped f [] k x e = absurd cc
+get_mapped {X} f (y ∷ xs) zero x e = ap (λ o. option_map f o) e
+get_mapped f (y ∷ xs) (suc k) x e = get_mapped f xs k x e
 
 pub arguments_seen : {W T : Type 0} (op : W → Operand) (h : T → TypeTree) (xs : List (W × T))
     → map {B = Operand × TypeTree} (λ x. (op x.0, h x.1)) xs

@@ -11,6 +11,7 @@ use Rattle.nll_types.specs.Views.{trees}
 use Rattle.nll_types.specs.declared.ty.Ty.{Ty}
 use Rattle.nll_types.proofs.ViewLemmas.{type_within}
 use Rattle.nll_rules.specs.Positions.{Turn, own, target, part, region_argument, type_argument, input, output, HasRegionAt, times, sign_or, target_sign, sign_of}
+use Rattle.nll_rules.specs.Layers.{form}
 use Rattle.nll_rules.specs.Subtyping.{IsAsked, SubtypeAsksBehind}
 use Rattle.nll_rules.specs.Pairs.{AtOne, ArgumentAsks, TypeAsks}
 
@@ -49,15 +50,7 @@ other_flag false true h e = cc
 
 -- ---- types of different forms
 
--- the form of a type, and of the types into which a way leads
-abbrev pub form : TypeTree → ℕ
-form int = 0
-form (parameter k) = 1
-form (reference r m t) = 2
-form (tuple ts) = 3
-form (named s rs ts) = 4
-form (function ts t) = 5
-
+-- the form of the types into which a way leads
 abbrev form_of : List Turn → ℕ
 form_of [] = 6
 form_of (own ∷ way) = 2

@@ -13,7 +13,11 @@ use Rattle.nll_problem.specs.declared.constraint.Constraint.{Constraint}
 use Rattle.nll_problem.specs.declared.error.BuildError.{BuildError}
 use Rattle.nll_problem.specs.declared.error.BuildError.TheVariants.{Limit, Memory}
 use Rattle.nll_problem.specs.declared.error.Kind.TheVariants.{Constraints}
-use Rattle.nll_body.specs.Bodies.{BodyText, IsGraphOf}
+use Rattle.nll_types.specs.Types.{TypeTree}
+use Rattle.nll_statements.specs.Statements.{Statement}
+use Rattle.nll_body.specs.Bodies.{BodyText, IsGraphOf, StandsAt}
+use Rattle.nll_rules.specs.Asking.{Asks}
+use Rattle.nll_rules.specs.Knowing.{KnownTypes}
 use Rattle.nll_rules.specs.BodyProblem.{IsAskedAt, HasTooMany}
 use Rattle.nll_rules.specs.declared.error.RuleError.{RuleError}
 use Rattle.nll_rules.specs.declared.error.RuleError.TheVariants as told
@@ -101,3 +105,18 @@ AreRegions pair q = (pair.0 < q.regions) × (pair.1 < q.regions)
 abbrev pub told_of : BuildError → RuleError
 told_of (Limit kind) = told.Limit kind
 told_of _ = told.Memory
+
+-- ---- what statements ask
+
+-- the statement at p asks the pair
+abbrev pub IsPairAskedAt : BodyText → ℕ → ℕ × ℕ → Type 0
+IsPairAskedAt body p x = (i : Statement ℕ TypeTree) × StandsAt body p i
+    × Asks body.structs body.variables i x
+
+-- the pairs are exactly those that the statement at p asks
+abbrev pub AreAskedAt : BodyText → ℕ → List (ℕ × ℕ) → Type 0
+AreAskedAt body p pairs = (x : ℕ × ℕ) → Contains pairs x ↔ IsPairAskedAt body p x
+
+-- the structs and the variables are those of the body
+abbrev pub IsOfBody : BodyText → KnownTypes → Type 0
+IsOfBody body k = (k.structs ≡ body.structs) × (k.variables ≡ body.variables)

@@ -4,10 +4,7 @@ pub mod Reborrows
 pub mod Asking
 pub mod Pairs
 pub mod Walks
-pub mod RegionFree
-pub mod Marks
-pub mod Leading
-pub mod Instances
+pub mod Layers
+pub mod Knowing
 pub mod BodyProblem
 pub mod Adding
-pub mod Known

@@ -1,25 +1,20 @@
 //! The constraints of a body: a statement asks them at each successor of its point, and a body
 //! asserts some at all points.
 
-ghost use Rattle.std.specs.Prelude.{◌≡◌, ◌<◌, ℕ, [], Contains, IfErr, OnOk, length};
+ghost use Rattle.std.specs.Prelude.{◌≡◌, ◌<◌, ℕ, Contains, IfErr, OnOk, length};
 ghost use Rattle.nll_problem.specs.At.{IsAmong};
-ghost use Rattle.nll_statement_list.specs.Views.{meant};
-ghost use Rattle.nll_body.specs.Bodies.{StandsAt};
 ghost use Rattle.nll_body.specs.Sound.{IsSound};
-ghost use Rattle.nll_rules.specs.Adding.{AddsConstraints, AreRegions, IsRefused};
-ghost use Rattle.nll_rules.specs.Adding.{IsOfPair, IsOfPairs, IsOfPairsEverywhere};
+ghost use Rattle.nll_rules.specs.Adding.{AddsConstraints, AreAskedAt, AreRegions, IsOfBody};
+ghost use Rattle.nll_rules.specs.Adding.{IsOfPair, IsOfPairs, IsOfPairsEverywhere, IsRefused};
 ghost use Rattle.nll_rules.specs.Adding.{everywhere};
 ghost use Rattle.nll_rules.specs.BodyProblem.{IsAskedAt, IsAskedSomewhere, IsConstraint};
-ghost use Rattle.nll_rules.specs.Known.{AreAskedAt, AreKinds, AreKnown};
 
-use crate::kinds::kinds_of;
-use crate::known::{Known, find, keep_once, nothing_known, remember};
-use crate::region_marks::region_free;
-use crate::statement::asks;
-use crate::survey::Survey;
-use crate::variables::Variables;
-use nll_body::{Body, Stmt};
+use crate::asking::Asked;
+use crate::known::Known;
+use crate::meetings::keep_once;
+use nll_body::Body;
 use nll_problem::{At, BuildError, Constraint, ProblemBuilder, RegionId};
+use nll_sets::Memory;
 use std::alloc::Global;
 
 /// Adds the constraints of a body to a problem of its points and regions.
@@ -78,16 +73,9 @@ fn add_asked(alloc: Global, body: &Body, builder: &mut ProblemBuilder) -> Result
         (AddsConstraints (IsAskedSomewhere body.now) builder.old builder.new) }
     ensures err { IfErr result (IsRefused (IsAskedSomewhere body.now) builder.old) }
 {
-    let free = region_free(alloc, body.structs(), body.variable_types())?;
-    let kinds = kinds_of(alloc, body.variable_types())?;
-    let mut asked = Vec::new(alloc);
-    let mut known = nothing_known(alloc);
-    let survey = Survey {
-        body,
-        region_free: free.as_slice(),
-        kinds: kinds.as_slice(),
-    };
-    let told = add_points(alloc, &survey, &mut known, &mut asked, builder);
+    let mut known = Known::new(alloc, body.structs(), body.variable_types())?;
+    let mut asked = Asked::new(alloc);
+    let told = add_points(alloc, body, &mut known, &mut asked, builder);
     // Early drop.
     drop(known);
     drop(asked);
@@ -97,89 +85,66 @@ fn add_asked(alloc: Global, body: &Body, builder: &mut ProblemBuilder) -> Result
 // Adds the constraints that the statement at each point asks. The list is scratch space.
 fn add_points(
     alloc: Global,
-    survey: &Survey<'_>,
-    known: &mut Known,
-    asked: &mut Vec<(RegionId, RegionId)>,
+    body: &Body,
+    known: &mut Known<'_>,
+    asked: &mut Asked,
     builder: &mut ProblemBuilder,
 ) -> Result<(), BuildError>
-    requires kinds { AreKinds survey.now.body.now.variables survey.now.kinds.now }
-    requires none { known.old.entries.items ≡ [] }
-    requires points { builder.old.graph.points ≡ length survey.now.body.now.points }
-    requires regions { builder.old.regions ≡ length survey.now.body.now.names }
+    requires known { IsOfBody body.now known.old }
+    requires points { builder.old.graph.points ≡ length body.now.points }
+    requires regions { builder.old.regions ≡ length body.now.names }
     ensures ok { OnOk result
-        (AddsConstraints (IsAskedSomewhere survey.now.body.now) builder.old builder.new) }
-    ensures err { IfErr result (IsRefused (IsAskedSomewhere survey.now.body.now) builder.old) }
+        (AddsConstraints (IsAskedSomewhere body.now) builder.old builder.new) }
+    ensures err { IfErr result (IsRefused (IsAskedSomewhere body.now) builder.old) }
 {
-    for point in 0..survey.body.points() {
-        add_next(alloc, survey, point, known, asked, builder)?;
+    for point in 0..body.points() {
+        add_next(alloc, body, point, known, asked, builder)?;
     }
     Ok(())
 }
 
-// Adds the constraints that the statement at a point asks, which may be known already. The list is
-// scratch space.
+// Adds the constraints that the statement at a point asks. The list is scratch space.
 fn add_next(
     alloc: Global,
-    survey: &Survey<'_>,
+    body: &Body,
     point: u32,
-    known: &mut Known,
-    asked: &mut Vec<(RegionId, RegionId)>,
+    known: &mut Known<'_>,
+    asked: &mut Asked,
     builder: &mut ProblemBuilder,
 ) -> Result<(), BuildError>
-    requires sound { IsSound survey.now.body.now }
-    requires kinds { AreKinds survey.now.body.now.variables survey.now.kinds.now }
-    requires point { point < length survey.now.body.now.points }
-    requires known { AreKnown survey.now.body.now known.old.entries.items }
-    requires points { builder.old.graph.points ≡ length survey.now.body.now.points }
-    requires regions { builder.old.regions ≡ length survey.now.body.now.names }
-    ensures ok { OnOk result
-        (AddsConstraints (IsAskedAt survey.now.body.now point) builder.old builder.new) }
-    ensures known { OnOk result (AreKnown survey.now.body.now known.new.entries.items) }
-    ensures err { IfErr result (IsRefused (IsAskedAt survey.now.body.now point) builder.old) }
+    requires sound { IsSound body.now }
+    requires known { IsOfBody body.now known.old }
+    requires point { point < length body.now.points }
+    requires points { builder.old.graph.points ≡ length body.now.points }
+    requires regions { builder.old.regions ≡ length body.now.names }
+    ensures known { IsOfBody body.now known.new }
+    ensures ok { OnOk result (AddsConstraints (IsAskedAt body.now point) builder.old builder.new) }
+    ensures err { IfErr result (IsRefused (IsAskedAt body.now point) builder.old) }
 {
-    let statement = survey.body.line_at(alloc, point)?;
-    let told = add_standing(alloc, survey, point, &statement, known, asked, builder);
-    // Early drop.
-    drop(statement);
-    told
+    find_asked(alloc, body, point, known, asked)?;
+    add_known(body, point, asked.pairs.as_slice(), builder)
 }
 
-// Adds the constraints that this statement or terminator at a point asks. The list is scratch
-// space.
-fn add_standing(
+// Leaves in the list the pairs that the statement at a point asks.
+fn find_asked(
     alloc: Global,
-    survey: &Survey<'_>,
+    body: &Body,
     point: u32,
-    statement: &Stmt,
-    known: &mut Known,
-    asked: &mut Vec<(RegionId, RegionId)>,
-    builder: &mut ProblemBuilder,
-) -> Result<(), BuildError>
-    requires sound { IsSound survey.now.body.now }
-    requires kinds { AreKinds survey.now.body.now.variables survey.now.kinds.now }
-    requires point { point < length survey.now.body.now.points }
-    requires statement { StandsAt survey.now.body.now point (meant statement.now) }
-    requires known { AreKnown survey.now.body.now known.old.entries.items }
-    requires points { builder.old.graph.points ≡ length survey.now.body.now.points }
-    requires regions { builder.old.regions ≡ length survey.now.body.now.names }
-    ensures ok { OnOk result
-        (AddsConstraints (IsAskedAt survey.now.body.now point) builder.old builder.new) }
-    ensures known { OnOk result (AreKnown survey.now.body.now known.new.entries.items) }
-    ensures err { IfErr result (IsRefused (IsAskedAt survey.now.body.now point) builder.old) }
+    known: &mut Known<'_>,
+    asked: &mut Asked,
+) -> Result<(), Memory>
+    requires known { IsOfBody body.now known.old }
+    requires point { point < length body.now.points }
+    ensures known { IsOfBody body.now known.new }
+    ensures asked { OnOk result (AreAskedAt body.now point asked.new.pairs.items) }
 {
-    if let Some(pairs) = find(alloc, known, survey, point, statement)? {
-        return add_known(survey.body, point, pairs, builder);
-    }
-    let many = add_point(alloc, survey, point, statement, asked, builder)?;
-    remember(
-        alloc,
-        known,
-        survey,
-        point,
-        statement,
-        many,
-        asked.as_slice(),
-    )?;
+    asked.pairs.clear();
+    let statement = body.line_at(alloc, point)?;
+    let told = known.asks(alloc, &statement, asked);
+    // Early drop.
+    drop(statement);
+    told?;
+    keep_once(&mut asked.pairs);
     Ok(())
 }
 
@@ -200,39 +165,6 @@ fn add_known(
 {
     add_pairs(builder, body.graph().next_of(point), pairs)?;
     Ok(())
-}
-
-// Adds the constraints that the statement at a point asks, and leaves their pairs in the list.
-// Answers whether that was costly.
-fn add_point(
-    alloc: Global,
-    survey: &Survey<'_>,
-    point: u32,
-    statement: &Stmt,
-    asked: &mut Vec<(RegionId, RegionId)>,
-    builder: &mut ProblemBuilder,
-) -> Result<bool, BuildError>
-    requires sound { IsSound survey.now.body.now }
-    requires point { point < length survey.now.body.now.points }
-    requires statement { StandsAt survey.now.body.now point (meant statement.now) }
-    requires points { builder.old.graph.points ≡ length survey.now.body.now.points }
-    requires regions { builder.old.regions ≡ length survey.now.body.now.names }
-    ensures ok { OnOk result
-        (AddsConstraints (IsAskedAt survey.now.body.now point) builder.old builder.new) }
-    ensures asked { OnOk result (AreAskedAt survey.now.body.now point asked.new.items) }
-    ensures err { IfErr result (IsRefused (IsAskedAt survey.now.body.now point) builder.old) }
-{
-    let body = survey.body;
-    asked.clear();
-    let variables = Variables {
-        structs: body.structs(),
-        types: body.variable_types(),
-        region_free: survey.region_free,
-    };
-    asks(alloc, &variables, statement, asked)?;
-    let many = keep_once(asked);
-    add_pairs(builder, body.graph().next_of(point), asked.as_slice())?;
-    Ok(many)
 }
 
 // Adds these pairs of regions, the first of which must outlive the second, at these points.

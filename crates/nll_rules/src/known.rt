@@ -1,156 +1,178 @@
-//! What statements were found to ask, so that it isn't computed again where others ask the same.
+//! What is known of the types of a body.
 
-ghost use Rattle.std.specs.Prelude.{◌≡◌, ◌<◌, ◌++◌, ◌∷◌, [], IfOk, MatchOption, OnOk, length};
-ghost use Rattle.nll_problem.specs.Problem.{SameSet};
-ghost use Rattle.nll_statement_list.specs.Views.{meant};
-ghost use Rattle.nll_body.specs.Bodies.{StandsAt};
-ghost use Rattle.nll_rules.specs.Known.{AreAskedAt, AreKinds, AreKnown};
-ghost use Rattle.nll_rules.specs.declared.known.Entry.{Entry as entry};
+ghost use Rattle.std.specs.Prelude.{◌≡◌, ◌<◌, length, map, option_map, slice_get};
+ghost use Rattle.std.specs.Prelude.{IfNone, IfOk, IfSome, OnOk};
+ghost use Rattle.nll_types.specs.Declarations.{structs_of};
+ghost use Rattle.nll_types.specs.Places.{behind};
+ghost use Rattle.nll_types.specs.Types.{reference};
+ghost use Rattle.nll_types.specs.Views.{tree};
+ghost use Rattle.nll_types.specs.declared.place.Projection.TheVariants.{Field as field};
+ghost use Rattle.nll_rules.specs.Knowing.{Learns};
+ghost use Rattle.nll_rules.specs.Layers.{IsOfEarlier, form, layered, type_in, types_in};
+ghost use Rattle.nll_rules.specs.Pairs.{AddsPairs};
+ghost use Rattle.nll_rules.specs.Subtyping.{SubtypeAsks};
 
-use crate::alike::{goes_by_field, is_alike};
-use crate::digest::digest_of;
-use crate::survey::Survey;
+use crate::forms::as_reference;
+use crate::interning::{number_of, numbers_of};
+use crate::layer::Layer;
+use crate::meetings::{Meeting, Meetings, ask_once};
+use crate::parts::{Part, part_once};
+use crate::types::Types;
 use indexmap::IndexMap;
-use nll_body::Stmt;
 use nll_problem::RegionId;
 use nll_sets::Memory;
+use nll_types::{Structs, Ty};
 use std::alloc::Global;
+use std::marker::Model;
 
-// This many pairs may be repeats.
-const FEW: usize = 8;
-
-/// A point, and the pairs of regions that its statement asks, each once.
+/// What is known of the types of a body: their numbers, those of their parts, and what they ask of
+/// each other. Each is found once.
 #[derive(Drop)]
-pub(crate) struct Entry {
-    pub(crate) point: u32,
-    pub(crate) pairs: Vec<(RegionId, RegionId)>,
+pub(crate) struct Known<'a> {
+    structs: &'a Structs,
+    types: Types,
+    variables: Vec<usize>,
+    parts: IndexMap<Part, usize>,
+    meetings: Meetings,
 }
 
-/// What was found of points.
-///
-/// # Shape
-/// The pairs of an entry are constraints at one point that no other entry has, so that all entries
-/// have no more pairs than a body has constraints.
-#[derive(Drop)]
-pub(crate) struct Known {
-    pub(crate) entries: Vec<Entry>,
-    // By the digest of a statement, where its entry may be: a hint, after which the statements are
-    // compared.
-    pub(crate) places: IndexMap<u64, usize>,
+impl<'a> Model for Known<'a> {
+    ghost use Rattle.std.specs.Prelude.{length, map};
+    ghost use Rattle.std.specs.Coded.{codes, Coded};
+    ghost use Rattle.nll_statement_list.specs.TypeCodes.{Step, tree_code, trees_code};
+    ghost use Rattle.nll_types.specs.Declarations.{structs_of};
+    ghost use Rattle.nll_rules.specs.Knowing.{AreRight, IsMeeting, IsPart, KnownTypes};
+    ghost use Rattle.nll_rules.specs.Layers.{AreEarlier, type_in};
+
+    ghost Value = { KnownTypes };
+
+    ghost coded = { let step : Coded Step = Prim.hlevel codes in
+        Prim.hlevel (codes, tree_code step, trees_code step) };
+
+    ghost view = { λ k. record {
+      structs = structs_of k.structs.now;
+      variables = map (type_in k.types) k.variables.items;
+      layers = k.types;
+    } };
+
+    ghost invariant = { λ k. AreEarlier (length k.types) k.variables.items
+        × AreRight (IsPart (structs_of k.structs.now) k.types) k.parts.entries
+        × AreRight (IsMeeting (structs_of k.structs.now) k.types) k.meetings.entries };
 }
 
-/// Nothing is found yet.
-pub(crate) fn nothing_known(alloc: Global) -> Known
-    ensures { result.entries.items ≡ [] }
-{
-    Known {
-        entries: Vec::new(alloc),
-        places: IndexMap::new(alloc),
+impl<'a> Known<'a> {
+    /// What is known of variables of these types.
+    ///
+    /// # Cost
+    /// Linear in the types (not proved).
+    pub(crate) fn new(
+        alloc: Global,
+        structs: &'a Structs,
+        variables: &[Ty],
+    ) -> Result<Known<'a>, Memory>
+        ensures structs { IfOk result (λ k. k.structs ≡ structs_of structs.now) }
+        ensures variables { IfOk result (λ k. k.variables ≡ map tree variables.now) }
+    {
+        let mut types = Types::new(alloc);
+        let numbers = numbers_of(alloc, &mut types, variables, &None)?;
+        Ok(Known {
+            structs,
+            types,
+            variables: numbers,
+            parts: IndexMap::new(alloc),
+            meetings: IndexMap::new(alloc),
+        })
     }
-}
 
-/// Keeps each pair once, where there are many: whether there are.
-pub(crate) fn keep_once(pairs: &mut Vec<(RegionId, RegionId)>) -> bool
-    ensures { SameSet pairs.old.items pairs.new.items }
-{
-    if pairs.len() > FEW {
-        sort_once(pairs);
-        return true;
+    /// The number of a type that is written.
+    pub(crate) fn written(&mut self, alloc: Global, ty: &Ty) -> Result<usize, Memory>
+        ensures learns { Learns self.old self.new }
+        ensures within { IfOk result (λ i. i < length self.new.layers) }
+        ensures at { IfOk result (λ i. type_in self.new.layers i ≡ tree ty.now) }
+    {
+        number_of(alloc, &mut self.types, ty, &None)
     }
-    false
-}
 
-// Sorts pairs, and keeps each once.
-fn sort_once(pairs: &mut Vec<(RegionId, RegionId)>)
-    ensures { SameSet pairs.old.items pairs.new.items }
-{
-    pairs.sort_unstable();
-    pairs.dedup();
-}
+    /// The number of the type that a layer makes of others.
+    pub(crate) fn made(&mut self, layer: Layer) -> Result<usize, Memory>
+        requires { IsOfEarlier (length self.old.layers) layer }
+        ensures learns { Learns self.old self.new }
+        ensures within { IfOk result (λ i. i < length self.new.layers) }
+        ensures at { IfOk result (λ i. type_in self.new.layers i
+            ≡ layered (types_in self.old.layers) layer) }
+    {
+        self.types.add(layer)
+    }
 
-// Where the entry of a statement may be.
-fn hint(known: &Known, survey: &Survey<'_>, statement: &Stmt) -> usize {
-    match digest_of(survey.kinds, survey.region_free, statement) {
-        Some(digest) => match known.places.get(&digest).copied() {
-            Some(place) => place,
-            None => known.entries.len(),
-        },
-        None => known.entries.len(),
+    /// The type of a part of a tuple or of a field of a struct, where there is one.
+    pub(crate) fn part(
+        &mut self,
+        alloc: Global,
+        number: usize,
+        place: usize,
+    ) -> Result<Option<usize>, Memory>
+        requires { number < length self.old.layers }
+        ensures learns { Learns self.old self.new }
+        ensures within { IfOk result (λ o. IfSome o (λ i. i < length self.new.layers)) }
+        ensures at { IfOk result (λ o. option_map (type_in self.new.layers) o
+            ≡ behind self.old.structs (field place) (type_in self.old.layers number)) }
+    {
+        let structs = self.structs;
+        part_once(
+            alloc,
+            structs,
+            &mut self.types,
+            &mut self.parts,
+            number,
+            place,
+        )
     }
-}
 
-/// The pairs that this statement or terminator at a point asks, where they are known from an equal
-/// one at another point.
-pub(crate) fn find<'a>(
-    alloc: Global,
-    known: &'a Known,
-    survey: &Survey<'_>,
-    point: u32,
-    statement: &Stmt,
-) -> Result<Option<&'a [(RegionId, RegionId)]>, Memory>
-    requires known { AreKnown survey.now.body.now known.now.entries.items }
-    requires kinds { AreKinds survey.now.body.now.variables survey.now.kinds.now }
-    requires statement { StandsAt survey.now.body.now point (meant statement.now) }
-    ensures { IfOk result (λ found. MatchOption found Unit
-        (λ pairs. AreAskedAt survey.now.body.now point pairs.now)) }
-{
-    if known.entries.is_empty() {
-        return Ok(None);
+    /// The type of a variable, where it is declared.
+    pub(crate) fn variable(&self, variable: u32) -> Option<usize>
+        ensures within { IfSome result (λ i. i < length self.now.layers) }
+        ensures at { option_map (type_in self.now.layers) result
+            ≡ slice_get self.now.variables variable }
+    {
+        self.variables.get(variable as usize).copied()
     }
-    let place = hint(known, survey, statement);
-    if place >= known.entries.len() {
-        return Ok(None);
-    }
-    let entry = &known.entries[place];
-    let other = survey.body.line_at(alloc, entry.point)?;
-    let alike = is_alike(survey.kinds, &other, statement);
-    drop(other);
-    if alike {
-        Ok(Some(entry.pairs.as_slice()))
-    } else {
-        Ok(None)
-    }
-}
 
-// Appends an entry, and remembers where it is.
-fn push(
-    alloc: Global,
-    known: &mut Known,
-    digest: u64,
-    point: u32,
-    asked: &[(RegionId, RegionId)],
-) -> Result<(), Memory>
-    ensures { OnOk result ((e : entry) × (e.point ≡ point) × (e.pairs.items ≡ asked.now)
-        × (known.new.entries.items ≡ known.old.entries.items ++ e ∷ [])) }
-{
-    let pairs = Vec::from_slice(alloc, asked)?;
-    let place = known.entries.len();
-    known.entries.push(Entry { point, pairs })?;
-    known.places.insert(digest, place)?;
-    Ok(())
-}
-
-/// Adds the pairs that a statement or terminator at a point asks, if they may be asked again and
-/// are costly to compute.
-pub(crate) fn remember(
-    alloc: Global,
-    known: &mut Known,
-    survey: &Survey<'_>,
-    point: u32,
-    statement: &Stmt,
-    many: bool,
-    asked: &[(RegionId, RegionId)],
-) -> Result<(), Memory>
-    requires known { AreKnown survey.now.body.now known.old.entries.items }
-    requires point { point < length survey.now.body.now.points }
-    requires asked { AreAskedAt survey.now.body.now point asked.now }
-    ensures { OnOk result (AreKnown survey.now.body.now known.new.entries.items) }
-{
-    if !many && !goes_by_field(statement) {
-        return Ok(());
+    /// The region of a reference, whether it is `mut`, and what it points to.
+    pub(crate) fn reference_at(&self, number: usize) -> Option<(RegionId, bool, usize)>
+        requires { number < length self.now.layers }
+        ensures some { IfSome result (λ r. type_in self.now.layers number
+            ≡ reference r.0 r.1 (type_in self.now.layers r.2)) }
+        ensures within { IfSome result (λ r. r.2 < length self.now.layers) }
+        ensures none { IfNone result (form (type_in self.now.layers number) ≡ 2 → ⊥) }
+    {
+        as_reference(&self.types, number)
     }
-    match digest_of(survey.kinds, survey.region_free, statement) {
-        Some(digest) => push(alloc, known, digest, point, asked),
-        None => Ok(()),
+
+    /// Appends what two types ask of which the first must be a subtype of the second.
+    pub(crate) fn ask(
+        &mut self,
+        alloc: Global,
+        one: usize,
+        other: usize,
+        asked: &mut Vec<(RegionId, RegionId)>,
+    ) -> Result<(), Memory>
+        requires one { one < length self.old.layers }
+        requires other { other < length self.old.layers }
+        ensures learns { Learns self.old self.new }
+        ensures asked { OnOk result (AddsPairs
+            (SubtypeAsks self.old.structs (type_in self.old.layers one)
+            (type_in self.old.layers other))
+            asked.old.items asked.new.items) }
+    {
+        let structs = self.structs;
+        let meeting = Meeting { one, other };
+        ask_once(
+            alloc,
+            structs,
+            &self.types,
+            &mut self.meetings,
+            meeting,
+            asked,
+        )
     }
 }

@@ -1,92 +1,82 @@
-//! The types of places, as far as no type has to be made for them.
+//! The types of places, and the references on which a reborrow of a place rests.
 
-ghost use Rattle.std.specs.Prelude.{◌≡◌, MatchOption, None, Some, map, slice_get};
-ghost use Rattle.nll_types.specs.Declarations.{structs_of};
-ghost use Rattle.nll_types.specs.Places.{path_of};
-ghost use Rattle.nll_types.specs.Views.{tree};
-ghost use Rattle.nll_rules.specs.Instances.{GoesOn, LeadsTo, instance_tree};
+ghost use Rattle.std.specs.Prelude.{◌≡◌, ◌↔◌, ◌<◌, ℕ, length, option_map};
+ghost use Rattle.std.specs.Prelude.{Contains, IfOk, IfSome, OnOk};
+ghost use Rattle.nll_types.specs.Places.{behind, path_of, type_of};
+ghost use Rattle.nll_rules.specs.Knowing.{Learns};
+ghost use Rattle.nll_rules.specs.Layers.{type_in};
+ghost use Rattle.nll_rules.specs.Reborrows.{RestsOn};
+ghost use Rattle.nll_rules.specs.Walks.{past};
 
-use crate::instance::{Arguments, Instance, settled};
-use nll_types::{Place, Projection, Structs, Ty};
+use crate::known::Known;
+use nll_problem::RegionId;
+use nll_sets::Memory;
+use nll_types::{Place, Projection};
+use std::alloc::Global;
 
-/// Where projections lead.
-#[derive(Clone, Copy)]
-pub(crate) enum End<'a> {
-    /// To this type.
-    Reached(Instance<'a>),
-    /// Ends at this struct, once this many projections are taken. It is in the declaration of
-    /// another struct, so its own arguments have to be made for what is taken of it.
-    Inner(Instance<'a>, usize),
-    /// To no type.
-    Nowhere,
-}
-
-/// Takes projections from a type, from this one on.
-pub(crate) fn walk<'a>(
-    structs: &'a Structs,
-    instance: &Instance<'a>,
-    projections: &[Projection],
-    from: usize,
-) -> End<'a>
-    ensures leads { LeadsTo (structs_of structs.now) projections.now from
-        (instance_tree instance.now) result }
-    ensures onward { GoesOn projections.now from instance.now result }
-{
-    if from >= projections.len() {
-        return End::Reached(*instance);
-    }
-    let instance = settled(instance);
-    match projections[from] {
-        Projection::Deref => match instance.ty {
-            Ty::Reference(_, _, target) => {
-                // Named result.
-                let walked = walk(structs, &instance.part(target), projections, from + 1);
-                walked
-            }
-            Ty::Int | Ty::Parameter(_) | Ty::Tuple(_) | Ty::Named(_, _, _) | Ty::Function(_, _) => {
-                End::Nowhere
-            }
-        },
-        Projection::Field(place) => match instance.ty {
-            Ty::Tuple(parts) => {
-                let place = place as usize;
-                if place >= parts.len() {
-                    return End::Nowhere;
-                }
-                let part = instance.part(&parts[place]);
-                let walked = walk(structs, &part, projections, from + 1);
-                walked
-            }
-            Ty::Named(number, regions, types) => match instance.arguments {
-                Some(_) => End::Inner(instance, from),
-                None => match structs.field(*number, place as usize) {
-                    Some(ty) => {
-                        let regions = regions.as_slice();
-                        let types = types.as_slice();
-                        let arguments = Some(Arguments { regions, types });
-                        let field = Instance { ty, arguments };
-                        let walked = walk(structs, &field, projections, from + 1);
-                        walked
+impl<'a> Known<'a> {
+    // Takes one projection from a type. A dereference goes through a reference: behind a shared one
+    // nothing rests on what was before.
+    fn step(
+        &mut self,
+        alloc: Global,
+        number: usize,
+        projection: Projection,
+        crossed: &mut Vec<RegionId>,
+    ) -> Result<Option<usize>, Memory>
+        requires { number < length self.old.layers }
+        ensures learns { Learns self.old self.new }
+        ensures within { IfOk result (λ o. IfSome o (λ i. i < length self.new.layers)) }
+        ensures at { IfOk result (λ o. option_map (type_in self.new.layers) o
+            ≡ behind self.old.structs projection (type_in self.old.layers number)) }
+        ensures past { OnOk result (crossed.new.items
+            ≡ past projection (type_in self.old.layers number) crossed.old.items) }
+    {
+        match projection {
+            Projection::Deref => match self.reference_at(number) {
+                Some((region, mutable, target)) => {
+                    if !mutable {
+                        crossed.clear();
                     }
-                    None => End::Nowhere,
-                },
+                    crossed.push(region)?;
+                    Ok(Some(target))
+                }
+                None => Ok(None),
             },
-            Ty::Int | Ty::Parameter(_) | Ty::Reference(_, _, _) | Ty::Function(_, _) => {
-                End::Nowhere
-            }
-        },
+            Projection::Field(place) => self.part(alloc, number, place as usize),
+        }
     }
-}
 
-/// The type of the variable of a place, where it is declared.
-pub(crate) fn variable_type<'a>(variables: &'a [Ty], place: &Place) -> Option<&'a Ty>
-    ensures { MatchOption result
-        (slice_get (map tree variables.now) (path_of place.now).variable ≡ None)
-        (λ t. slice_get (map tree variables.now) (path_of place.now).variable ≡ Some (tree t.now)) }
-{
-    let variable = place.variable() as usize;
-    if variable >= variables.len() {
-        return None;
+    /// The type of a place, where it has one. Leaves in the list the regions on which a reborrow of
+    /// the place rests.
+    ///
+    /// # Source
+    /// RFC 2094, "Reborrow constraints".
+    pub(crate) fn walk(
+        &mut self,
+        alloc: Global,
+        place: &Place,
+        crossed: &mut Vec<RegionId>,
+    ) -> Result<Option<usize>, Memory>
+        ensures learns { Learns self.old self.new }
+        ensures within { IfOk result (λ o. IfSome o (λ i. i < length self.new.layers)) }
+        ensures at { IfOk result (λ o. option_map (type_in self.new.layers) o
+            ≡ type_of self.old.structs self.old.variables (path_of place.now)) }
+        ensures rests { OnOk result ((a : ℕ) → Contains crossed.new.items a
+            ↔ RestsOn self.old.structs self.old.variables (path_of place.now) a) }
+    {
+        crossed.clear();
+        let Some(variable) = self.variable(place.variable()) else {
+            return Ok(None);
+        };
+        let mut number = variable;
+        let projections = place.projections();
+        for projection in projections {
+            match self.step(alloc, number, *projection, crossed)? {
+                Some(next) => number = next,
+                None => return Ok(None),
+            }
+        }
+        Ok(Some(number))
     }
-    Some(&variables[variable])
 }

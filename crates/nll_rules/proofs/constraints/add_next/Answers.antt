@@ -1,8 +1,4 @@
-use Rattle.std.proofs.Common.{inl, refl}
-use Rattle.std.proofs.lemmas.Result.{err_from_is_err_and}
 use Rattle.nll_rules.proofs.constraints.add_next.Goals as goal
 
-pub returns-in_err-statement-clause-err : goal.returns-in_err-statement-clause-err
-returns-in_err-statement-clause-err c =
-    let p = err_from_is_err_and c.from_residual.result c.from_residual.ensures.1 in
-    rw (p.1, p.2) (inl refl)
+pub add_known-requires-clause-asked : goal.add_known-requires-clause-asked
+add_known-requires-clause-asked c = rw c.as_slice.ensures.value c.in_ok-find_asked.ensures.asked

@@ -1,355 +1,171 @@
-use Rattle.std.proofs.Common.{arith}
+use Rattle.std.proofs.Common.{◌≡◌, ap, refl, ◌∙◌, length, ◌<◌, arith}
+use Rattle.std.specs.Prelude.{slice_index}
+use Rattle.nll_types.specs.Types.{reference, tuple, named, function}
 use Rattle.nll_types.specs.Declarations.{structs_of}
-use Rattle.nll_types.specs.Views.{tree, trees}
-use Rattle.nll_rules.specs.Instances.{instance_tree, put_under, put_all_under, region_under, regions_under, row_trees}
-use Rattle.nll_rules.proofs.PairLemmas.{adds_append, adds_none, adds_same, below_none, below_more, below_all}
+use Rattle.nll_rules.specs.Layers.{all_numbered, numbered, layered, type_in, types_in}
+use Rattle.nll_rules.proofs.PairLemmas.{adds_append, below_more, below_all}
 use Rattle.nll_rules.proofs.SubtypeLemmas.{same_flag, other_flag, asks_reference, asks_own, asks_tuple, asks_named, asks_function, other_named, type_at_place}
-use Rattle.nll_rules.proofs.FormLemmas.{is_reference, is_tuple, is_named, is_function, no_reference, no_tuple, no_named, no_function, no_region, no_rows, other_form, reference_form, tuple_form, named_form, function_form}
-use Rattle.nll_rules.proofs.InstanceLemmas.{asks_same, nodes_at, row_types_within}
+use Rattle.nll_rules.proofs.FormLemmas.{asks_none, asks_of_bare, asks_these, asks_nothing, nodes_at, numbered_at, types_within}
 use Rattle.nll_rules.proofs.subtypes.+subtypes.Goals as goal
 
 pub ask-returns-in-Int : goal.ask-returns-in-Int
-ask-returns-in-Int t c =
-    let one = c.settled-one in
-    asks_same _ _ _ _ _ _ _ _ one.ensures.same c.settled-other.ensures.same
-    (no_region _ _ one.result.arguments one.result.ty.now _ _ one.ensures.settled c.in-Int.is)
+ask-returns-in-Int t c = asks_of_bare _ _ c.args.types.now c.args.one _ _ _ c.layer.ensures.at c.in-Int.is
 
 pub ask-returns-in-Int-2 : goal.ask-returns-in-Int-2
-ask-returns-in-Int-2 t c =
-    let one = c.settled-one in
-    asks_same _ _ _ _ _ _ _ _ one.ensures.same c.settled-other.ensures.same
-    (no_region _ _ one.result.arguments one.result.ty.now _ _ one.ensures.settled c.in-Int.is)
+ask-returns-in-Int-2 t c = asks_of_bare _ _ c.args.types.now c.args.one _ _ _ c.layer.ensures.at c.in-Int.is
 
-pub ask-returns-in-Int-ty : goal.ask-returns-in-Int-ty
-ask-returns-in-Int-ty t c =
-    let one = c.settled-one in
-    let other = c.settled-other in
-    asks_same _ _ _ _ _ _ _ _ one.ensures.same other.ensures.same
-    (other_form _ _ _ _ _ _ (reference_form one.result.arguments one.result.ty.now _ _ _ c.in-Reference.is)
-    (no_reference other.result.arguments other.result.ty.now other.ensures.settled c.in-Int-ty.is))
-
-pub ask-returns-in-Int-ty-2 : goal.ask-returns-in-Int-ty-2
-ask-returns-in-Int-ty-2 t c =
-    let one = c.settled-one in
-    let other = c.settled-other in
-    asks_same _ _ _ _ _ _ _ _ one.ensures.same other.ensures.same
-    (other_form _ _ _ _ _ _ (reference_form one.result.arguments one.result.ty.now _ _ _ c.in-Reference.is)
-    (no_reference other.result.arguments other.result.ty.now other.ensures.settled c.in-Int-ty.is))
-
-pub ask-returns-in-Int-ty-3 : goal.ask-returns-in-Int-ty-3
-ask-returns-in-Int-ty-3 t c =
-    let one = c.settled-one in
-    let other = c.settled-other in
-    asks_same _ _ _ _ _ _ _ _ one.ensures.same other.ensures.same
-    (other_form _ _ _ _ _ _ (reference_form one.result.arguments one.result.ty.now _ _ _ c.in-Reference.is)
-    (no_reference other.result.arguments other.result.ty.now other.ensures.settled c.in-Int-ty.is))
-
-pub ask-returns-in-Int-ty-4 : goal.ask-returns-in-Int-ty-4
-ask-returns-in-Int-ty-4 t c =
-    let one = c.settled-one in
-    let other = c.settled-other in
-    asks_same _ _ _ _ _ _ _ _ one.ensures.same other.ensures.same
-    (other_form _ _ _ _ _ _ (reference_form one.result.arguments one.result.ty.now _ _ _ c.in-Reference.is)
-    (no_reference other.result.arguments other.result.ty.now other.ensures.settled c.in-Int-ty.is))
-
-pub ask-returns-in-Int-ty-5 : goal.ask-returns-in-Int-ty-5
-ask-returns-in-Int-ty-5 t c =
-    let one = c.settled-one in
-    let other = c.settled-other in
-    asks_same _ _ _ _ _ _ _ _ one.ensures.same other.ensures.same
-    (other_form _ _ _ _ _ _ (reference_form one.result.arguments one.result.ty.now _ _ _ c.in-Reference.is)
-    (no_reference other.result.arguments other.result.ty.now other.ensures.settled c.in-Int-ty.is))
-
-pub ask-returns-in_ok-ask-in-Reference-ty : goal.ask-returns-in_ok-ask-in-Reference-ty
-ask-returns-in_ok-ask-in-Reference-ty t c =
-    let s = structs_of c.args.structs.now in
-    let one = c.settled-one in
-    let other = c.settled-other in
+pub ask-returns-in-None : goal.ask-returns-in-None
+ask-returns-in-None t c =
+    let ls = c.args.types.now in
     let v = c.in-Reference in
-    let w = c.in-Reference-ty in
-    let inner =
-    rw (
-      c.times.ensures,
-      c.target_sign.ensures,
-      c.part-t.ensures,
-      c.part-u.ensures,
-      c.deref.ensures,
-      c.deref-then-mutable-other_mutable.ensures,
-    ) at c.in_ok-ask-in-Reference-ty.ensures in
-    let own = rw (c.region_in-a.ensures, c.region_in-b.ensures) at c.in_ok-ask_pair-in-Reference-ty.ensures in
-    let both = adds_append _ _ _ _ _ own inner in
-    let same = same_flag v.mutable w.other_mutable c.if-mutable-other_mutable.true in
-    asks_same _ _ _ _ _ _ _ _ one.ensures.same other.ensures.same
-    (rw (
-      is_reference one.result.arguments one.result.ty.now v.a v.mutable v.t v.is,
-      is_reference other.result.arguments other.result.ty.now w.b w.other_mutable w.u w.is,
-      ← same,
-    )
-    (adds_same _ _ _ _ (λ x. asks_reference s c.args.outer (region_under one.result.arguments v.a)
-    (region_under other.result.arguments w.b) v.mutable (put_under one.result.arguments (tree v.t.value))
-    (put_under other.result.arguments (tree w.u.value)) x) both))
+    let p : type_in ls c.args.one ≡ reference v.a v.mutable (type_in ls v.t) =
+    c.layer.ensures.at ∙ ap (layered (types_in ls)) v.is in
+    asks_none (structs_of c.args.structs.now) c.args.outer (type_in ls c.args.one)
+    (reference v.a v.mutable (type_in ls v.t)) (type_in ls c.args.other) 2 _ p refl c.in-None.ensures.none
+
+pub ask-returns-in-None-as_tuple : goal.ask-returns-in-None-as_tuple
+ask-returns-in-None-as_tuple t c =
+    let ls = c.args.types.now in
+    let v = c.in-Tuple in
+    let p : type_in ls c.args.one ≡ tuple (all_numbered (types_in ls) v.ts.items) =
+    c.layer.ensures.at ∙ ap (layered (types_in ls)) v.is in
+    asks_none (structs_of c.args.structs.now) c.args.outer (type_in ls c.args.one)
+    (tuple (all_numbered (types_in ls) v.ts.items)) (type_in ls c.args.other) 3 _ p refl
+    c.in-None-as_tuple.ensures.none
+
+pub ask-returns-in-None-as_named : goal.ask-returns-in-None-as_named
+ask-returns-in-None-as_named t c =
+    let ls = c.args.types.now in
+    let v = c.in-Named in
+    let p : type_in ls c.args.one ≡ named v.number v.rs.items (all_numbered (types_in ls) v.ts.items) =
+    c.layer.ensures.at ∙ ap (layered (types_in ls)) v.is in
+    asks_none (structs_of c.args.structs.now) c.args.outer (type_in ls c.args.one)
+    (named v.number v.rs.items (all_numbered (types_in ls) v.ts.items)) (type_in ls c.args.other) 4 _ p refl
+    c.in-None-as_named.ensures.none
+
+pub ask-returns-in-None-as_function : goal.ask-returns-in-None-as_function
+ask-returns-in-None-as_function t c =
+    let ls = c.args.types.now in
+    let v = c.in-Function in
+    let p : type_in ls c.args.one ≡ function (all_numbered (types_in ls) v.ts.items) (type_in ls v.t) =
+    c.layer.ensures.at ∙ ap (layered (types_in ls)) v.is in
+    asks_none (structs_of c.args.structs.now) c.args.outer (type_in ls c.args.one)
+    (function (all_numbered (types_in ls) v.ts.items) (type_in ls v.t)) (type_in ls c.args.other) 5 _ p refl
+    c.in-None-as_function.ensures.none
+
+pub ask-returns-in_ok-ask-in-Some : goal.ask-returns-in_ok-ask-in-Some
+ask-returns-in_ok-ask-in-Some t c =
+    let s = structs_of c.args.structs.now in
+    let ls = c.args.types.now in
+    let v = c.in-Reference in
+    let p : type_in ls c.args.one ≡ reference v.a v.mutable (type_in ls v.t) =
+    c.layer.ensures.at ∙ ap (layered (types_in ls)) v.is in
+    let same = same_flag v.mutable _ c.if-mutable-other_mutable.true in
+    let inner = rw (c.times-sign.ensures, c.target_sign.ensures) at c.in_ok-ask-in-Some.ensures in
+    let both = adds_append _ _ _ _ _ c.in_ok-ask_pair-in-Some.ensures inner in
+    asks_these s c.args.outer (type_in ls c.args.one) (reference v.a v.mutable (type_in ls v.t))
+    (type_in ls c.args.other) _ _ _ _ p (rw (← same) at c.in-Some.ensures.some)
+    (λ x. asks_reference s c.args.outer v.a _ v.mutable (type_in ls v.t) _ x) both
 
 pub ask-returns-else-mutable-other_mutable : goal.ask-returns-else-mutable-other_mutable
 ask-returns-else-mutable-other_mutable t c =
     let s = structs_of c.args.structs.now in
-    let one = c.settled-one in
-    let other = c.settled-other in
+    let ls = c.args.types.now in
     let v = c.in-Reference in
-    let w = c.in-Reference-ty in
-    let own = rw (c.region_in-a.ensures, c.region_in-b.ensures) at c.in_ok-ask_pair-in-Reference-ty.ensures in
-    asks_same _ _ _ _ _ _ _ _ one.ensures.same other.ensures.same
-    (rw (
-      is_reference one.result.arguments one.result.ty.now v.a v.mutable v.t v.is,
-      is_reference other.result.arguments other.result.ty.now w.b w.other_mutable w.u w.is,
-    )
-    (adds_same _ _ _ _ (λ x. asks_own s c.args.outer (region_under one.result.arguments v.a)
-    (region_under other.result.arguments w.b) v.mutable w.other_mutable
-    (put_under one.result.arguments (tree v.t.value)) (put_under other.result.arguments (tree w.u.value)) x
-    (other_flag v.mutable w.other_mutable c.if-mutable-other_mutable.false)) own))
+    let p : type_in ls c.args.one ≡ reference v.a v.mutable (type_in ls v.t) =
+    c.layer.ensures.at ∙ ap (layered (types_in ls)) v.is in
+    asks_these s c.args.outer (type_in ls c.args.one) (reference v.a v.mutable (type_in ls v.t))
+    (type_in ls c.args.other) _ _ _ _ p c.in-Some.ensures.some
+    (λ x. asks_own s c.args.outer v.a _ v.mutable _ (type_in ls v.t) _ x
+    (other_flag v.mutable _ c.if-mutable-other_mutable.false)) c.in_ok-ask_pair-in-Some.ensures
 
-pub ask-returns-in_ok-ask_rows-in-Tuple : goal.ask-returns-in_ok-ask_rows-in-Tuple
-ask-returns-in_ok-ask_rows-in-Tuple t c =
-    asks_same _ _ _ _ _ _ _ _ c.settled-one.ensures.same c.settled-other.ensures.same
-    c.in_ok-ask_rows-in-Tuple.ensures
-
-pub ask_rows-returns-in-Int : goal.ask_rows-returns-in-Int
-ask_rows-returns-in-Int t c =
-    let one = c.args.one.now in
-    no_rows _ _ one.arguments one.ty.now _ _ c.requires.one c.requires.rows c.in-Int.is
-
-pub ask_rows-returns-in-Int-2 : goal.ask_rows-returns-in-Int-2
-ask_rows-returns-in-Int-2 t c =
-    let one = c.args.one.now in
-    no_rows _ _ one.arguments one.ty.now _ _ c.requires.one c.requires.rows c.in-Int.is
-
-pub ask_rows-returns-in-Int-3 : goal.ask_rows-returns-in-Int-3
-ask_rows-returns-in-Int-3 t c =
-    let one = c.args.one.now in
-    no_rows _ _ one.arguments one.ty.now _ _ c.requires.one c.requires.rows c.in-Int.is
-
-pub ask_rows-returns-in-Int-ty : goal.ask_rows-returns-in-Int-ty
-ask_rows-returns-in-Int-ty t c =
-    let one = c.args.one.now in
-    let other = c.args.other.now in
-    (other_form _ _ _ _ _ _ (tuple_form one.arguments one.ty.now _ c.in-Tuple.is)
-    (no_tuple other.arguments other.ty.now c.requires.other c.in-Int-ty.is))
-
-pub ask_rows-returns-in-Int-ty-4 : goal.ask_rows-returns-in-Int-ty-4
-ask_rows-returns-in-Int-ty-4 t c =
-    let one = c.args.one.now in
-    let other = c.args.other.now in
-    (other_form _ _ _ _ _ _ (tuple_form one.arguments one.ty.now _ c.in-Tuple.is)
-    (no_tuple other.arguments other.ty.now c.requires.other c.in-Int-ty.is))
-
-pub ask_rows-returns-in-Int-ty-5 : goal.ask_rows-returns-in-Int-ty-5
-ask_rows-returns-in-Int-ty-5 t c =
-    let one = c.args.one.now in
-    let other = c.args.other.now in
-    (other_form _ _ _ _ _ _ (tuple_form one.arguments one.ty.now _ c.in-Tuple.is)
-    (no_tuple other.arguments other.ty.now c.requires.other c.in-Int-ty.is))
-
-pub ask_rows-returns-in-Int-ty-6 : goal.ask_rows-returns-in-Int-ty-6
-ask_rows-returns-in-Int-ty-6 t c =
-    let one = c.args.one.now in
-    let other = c.args.other.now in
-    (other_form _ _ _ _ _ _ (tuple_form one.arguments one.ty.now _ c.in-Tuple.is)
-    (no_tuple other.arguments other.ty.now c.requires.other c.in-Int-ty.is))
-
-pub ask_rows-returns-in-Int-ty-7 : goal.ask_rows-returns-in-Int-ty-7
-ask_rows-returns-in-Int-ty-7 t c =
-    let one = c.args.one.now in
-    let other = c.args.other.now in
-    (other_form _ _ _ _ _ _ (tuple_form one.arguments one.ty.now _ c.in-Tuple.is)
-    (no_tuple other.arguments other.ty.now c.requires.other c.in-Int-ty.is))
-
-pub ask_rows-returns-in-Int-ty-2 : goal.ask_rows-returns-in-Int-ty-2
-ask_rows-returns-in-Int-ty-2 t c =
-    let one = c.args.one.now in
-    let other = c.args.other.now in
-    (other_form _ _ _ _ _ _ (named_form one.arguments one.ty.now _ _ _ c.in-Named.is)
-    (no_named other.arguments other.ty.now c.requires.other c.in-Int-ty-2.is))
-
-pub ask_rows-returns-in-Int-ty-2-2 : goal.ask_rows-returns-in-Int-ty-2-2
-ask_rows-returns-in-Int-ty-2-2 t c =
-    let one = c.args.one.now in
-    let other = c.args.other.now in
-    (other_form _ _ _ _ _ _ (named_form one.arguments one.ty.now _ _ _ c.in-Named.is)
-    (no_named other.arguments other.ty.now c.requires.other c.in-Int-ty-2.is))
-
-pub ask_rows-returns-in-Int-ty-2-3 : goal.ask_rows-returns-in-Int-ty-2-3
-ask_rows-returns-in-Int-ty-2-3 t c =
-    let one = c.args.one.now in
-    let other = c.args.other.now in
-    (other_form _ _ _ _ _ _ (named_form one.arguments one.ty.now _ _ _ c.in-Named.is)
-    (no_named other.arguments other.ty.now c.requires.other c.in-Int-ty-2.is))
-
-pub ask_rows-returns-in-Int-ty-2-4 : goal.ask_rows-returns-in-Int-ty-2-4
-ask_rows-returns-in-Int-ty-2-4 t c =
-    let one = c.args.one.now in
-    let other = c.args.other.now in
-    (other_form _ _ _ _ _ _ (named_form one.arguments one.ty.now _ _ _ c.in-Named.is)
-    (no_named other.arguments other.ty.now c.requires.other c.in-Int-ty-2.is))
-
-pub ask_rows-returns-in-Int-ty-2-5 : goal.ask_rows-returns-in-Int-ty-2-5
-ask_rows-returns-in-Int-ty-2-5 t c =
-    let one = c.args.one.now in
-    let other = c.args.other.now in
-    (other_form _ _ _ _ _ _ (named_form one.arguments one.ty.now _ _ _ c.in-Named.is)
-    (no_named other.arguments other.ty.now c.requires.other c.in-Int-ty-2.is))
-
-pub ask_rows-returns-in-Int-ty-3 : goal.ask_rows-returns-in-Int-ty-3
-ask_rows-returns-in-Int-ty-3 t c =
-    let one = c.args.one.now in
-    let other = c.args.other.now in
-    (other_form _ _ _ _ _ _ (function_form one.arguments one.ty.now _ _ c.in-Function.is)
-    (no_function other.arguments other.ty.now c.requires.other c.in-Int-ty-3.is))
-
-pub ask_rows-returns-in-Int-ty-3-2 : goal.ask_rows-returns-in-Int-ty-3-2
-ask_rows-returns-in-Int-ty-3-2 t c =
-    let one = c.args.one.now in
-    let other = c.args.other.now in
-    (other_form _ _ _ _ _ _ (function_form one.arguments one.ty.now _ _ c.in-Function.is)
-    (no_function other.arguments other.ty.now c.requires.other c.in-Int-ty-3.is))
-
-pub ask_rows-returns-in-Int-ty-3-3 : goal.ask_rows-returns-in-Int-ty-3-3
-ask_rows-returns-in-Int-ty-3-3 t c =
-    let one = c.args.one.now in
-    let other = c.args.other.now in
-    (other_form _ _ _ _ _ _ (function_form one.arguments one.ty.now _ _ c.in-Function.is)
-    (no_function other.arguments other.ty.now c.requires.other c.in-Int-ty-3.is))
-
-pub ask_rows-returns-in-Int-ty-3-4 : goal.ask_rows-returns-in-Int-ty-3-4
-ask_rows-returns-in-Int-ty-3-4 t c =
-    let one = c.args.one.now in
-    let other = c.args.other.now in
-    (other_form _ _ _ _ _ _ (function_form one.arguments one.ty.now _ _ c.in-Function.is)
-    (no_function other.arguments other.ty.now c.requires.other c.in-Int-ty-3.is))
-
-pub ask_rows-returns-in-Int-ty-3-5 : goal.ask_rows-returns-in-Int-ty-3-5
-ask_rows-returns-in-Int-ty-3-5 t c =
-    let one = c.args.one.now in
-    let other = c.args.other.now in
-    (other_form _ _ _ _ _ _ (function_form one.arguments one.ty.now _ _ c.in-Function.is)
-    (no_function other.arguments other.ty.now c.requires.other c.in-Int-ty-3.is))
-
-pub ask_rows-returns-in_ok-ask_types-in-Tuple-ty : goal.ask_rows-returns-in_ok-ask_types-in-Tuple-ty
-ask_rows-returns-in_ok-ask_types-in-Tuple-ty t c =
+pub ask-returns-in_ok-ask_row-in-Some-as_tuple : goal.ask-returns-in_ok-ask_row-in-Some-as_tuple
+ask-returns-in_ok-ask_row-in-Some-as_tuple t c =
     let s = structs_of c.args.structs.now in
-    let one = c.args.one.now in
-    let other = c.args.other.now in
+    let ls = c.args.types.now in
+    let known = types_in ls in
     let v = c.in-Tuple in
-    let w = c.in-Tuple-ty in
-    let inner =
-    rw (
-      c.row-ts.ensures,
-      c.row-us.ensures,
-      c.as_slice.ensures.value,
-      c.as_slice-in-Tuple-ty.ensures.value,
-    ) at c.in_ok-ask_types-in-Tuple-ty.ensures in
-    (rw (
-      is_tuple one.arguments one.ty.now v.ts v.is,
-      is_tuple other.arguments other.ty.now w.us w.is,
-    )
-    (adds_same _ _ _ _ (λ x. asks_tuple s c.args.outer (put_all_under one.arguments (trees v.ts.items))
-    (put_all_under other.arguments (trees w.us.items)) x) inner))
+    let p : type_in ls c.args.one ≡ tuple (all_numbered known v.ts.items) =
+    c.layer.ensures.at ∙ ap (layered known) v.is in
+    let inner = rw c.as_slice.ensures.value at c.in_ok-ask_row-in-Some-as_tuple.ensures in
+    asks_these s c.args.outer (type_in ls c.args.one) (tuple (all_numbered known v.ts.items))
+    (type_in ls c.args.other) _ _ _ _ p c.in-Some-as_tuple.ensures.some
+    (λ x. asks_tuple s c.args.outer (all_numbered known v.ts.items) _ x) inner
 
-pub ask_rows-returns-in_ok-ask_types-in-Named-ty : goal.ask_rows-returns-in_ok-ask_types-in-Named-ty
-ask_rows-returns-in_ok-ask_types-in-Named-ty t c =
+pub ask-returns-in_ok-ask_row-in-Some-as_named : goal.ask-returns-in_ok-ask_row-in-Some-as_named
+ask-returns-in_ok-ask_row-in-Some-as_named t c =
     let s = structs_of c.args.structs.now in
-    let one = c.args.one.now in
-    let other = c.args.other.now in
+    let ls = c.args.types.now in
+    let known = types_in ls in
     let v = c.in-Named in
-    let w = c.in-Named-ty in
-    let first =
-    rw (
-      c.region_parameters-parameters.ensures,
-      c.regions-rs.ensures,
-      c.regions-qs.ensures,
-      c.as_slice-then-number-other_number.ensures.value,
-      c.as_slice-then-number-other_number-2.ensures.value,
-    ) at c.in_ok-ask_regions-in-Named-ty.ensures in
-    let second =
-    rw (
-      c.type_parameters-parameters.ensures,
-      c.row-ts-then-number-other_number.ensures,
-      c.row-us-then-number-other_number.ensures,
-      c.as_slice-then-number-other_number-3.ensures.value,
-      c.as_slice-then-number-other_number-4.ensures.value,
-    ) at c.in_ok-ask_types-in-Named-ty.ensures in
-    (rw (
-      is_named one.arguments one.ty.now v.number v.rs v.ts v.is,
-      is_named other.arguments other.ty.now w.other_number w.qs w.us w.is,
-      ← c.if-number-other_number.true,
-    )
-    (adds_same _ _ _ _ (λ x. asks_named s c.args.outer v.number (regions_under one.arguments v.rs.items)
-    (regions_under other.arguments w.qs.items) (put_all_under one.arguments (trees v.ts.items))
-    (put_all_under other.arguments (trees w.us.items)) x) (adds_append _ _ _ _ _ first second)))
+    let p : type_in ls c.args.one ≡ named v.number v.rs.items (all_numbered known v.ts.items) =
+    c.layer.ensures.at ∙ ap (layered known) v.is in
+    let same = c.if-number-other_number.true in
+    let regions = rw (c.region_parameters-parameters.ensures, c.as_slice-then-number-other_number.ensures.value)
+    at c.in_ok-ask_regions-in-Some-as_named.ensures in
+    let inner = rw (c.type_parameters.ensures, c.as_slice-then-number-other_number-2.ensures.value)
+    at c.in_ok-ask_row-in-Some-as_named.ensures in
+    let both = adds_append _ _ _ _ _ regions inner in
+    asks_these s c.args.outer (type_in ls c.args.one) (named v.number v.rs.items (all_numbered known v.ts.items))
+    (type_in ls c.args.other) _ _ _ _ p (rw (← same) at c.in-Some-as_named.ensures.some)
+    (λ x. asks_named s c.args.outer v.number v.rs.items _ (all_numbered known v.ts.items) _ x) both
 
-pub ask_rows-returns-else-number-other_number : goal.ask_rows-returns-else-number-other_number
-ask_rows-returns-else-number-other_number t c =
+pub ask-returns-else-number-other_number : goal.ask-returns-else-number-other_number
+ask-returns-else-number-other_number t c =
     let s = structs_of c.args.structs.now in
-    let one = c.args.one.now in
-    let other = c.args.other.now in
+    let ls = c.args.types.now in
+    let known = types_in ls in
     let v = c.in-Named in
-    let w = c.in-Named-ty in
-    (rw (
-      is_named one.arguments one.ty.now v.number v.rs v.ts v.is,
-      is_named other.arguments other.ty.now w.other_number w.qs w.us w.is,
-    )
-    (adds_none _ _ (λ x. other_named s c.args.outer v.number w.other_number
-    (regions_under one.arguments v.rs.items) (regions_under other.arguments w.qs.items)
-    (put_all_under one.arguments (trees v.ts.items)) (put_all_under other.arguments (trees w.us.items)) x
-    c.if-number-other_number.false)))
+    let p : type_in ls c.args.one ≡ named v.number v.rs.items (all_numbered known v.ts.items) =
+    c.layer.ensures.at ∙ ap (layered known) v.is in
+    asks_nothing s c.args.outer (type_in ls c.args.one) (named v.number v.rs.items (all_numbered known v.ts.items))
+    (type_in ls c.args.other) _ p (λ x. rw c.in-Some-as_named.ensures.some
+    (other_named s c.args.outer v.number _ v.rs.items _ (all_numbered known v.ts.items) _ x
+    c.if-number-other_number.false))
 
-pub ask_rows-returns-in_ok-ask-in-Function-ty : goal.ask_rows-returns-in_ok-ask-in-Function-ty
-ask_rows-returns-in_ok-ask-in-Function-ty t c =
+pub ask-returns-in_ok-ask-in-Some-as_function : goal.ask-returns-in_ok-ask-in-Some-as_function
+ask-returns-in_ok-ask-in-Some-as_function t c =
     let s = structs_of c.args.structs.now in
-    let one = c.args.one.now in
-    let other = c.args.other.now in
+    let ls = c.args.types.now in
+    let known = types_in ls in
     let v = c.in-Function in
-    let w = c.in-Function-ty in
-    let first =
-    rw (
-      c.row-ts-in-Function-ty.ensures,
-      c.row-us-in-Function-ty.ensures,
-      c.as_slice-in-Function-ty.ensures.value,
-      c.as_slice-in-Function-ty-2.ensures.value,
-    ) at c.in_ok-ask_types-in-Function-ty.ensures in
-    let last =
-    rw (
-      c.part.ensures,
-      c.part-in-Function-ty.ensures,
-      c.deref.ensures,
-      c.deref-in-Function-ty.ensures,
-    ) at c.in_ok-ask-in-Function-ty.ensures in
-    (rw (
-      is_function one.arguments one.ty.now v.ts v.t v.is,
-      is_function other.arguments other.ty.now w.us w.u w.is,
-    )
-    (adds_same _ _ _ _ (λ x. asks_function s c.args.outer (put_all_under one.arguments (trees v.ts.items))
-    (put_all_under other.arguments (trees w.us.items)) (put_under one.arguments (tree v.t.value))
-    (put_under other.arguments (tree w.u.value)) x) (adds_append _ _ _ _ _ first last)))
+    let p : type_in ls c.args.one ≡ function (all_numbered known v.ts.items) (type_in ls v.t) =
+    c.layer.ensures.at ∙ ap (layered known) v.is in
+    let inputs = rw c.as_slice-in-Some-as_function.ensures.value at c.in_ok-ask_row-in-Some-as_function.ensures in
+    let both = adds_append _ _ _ _ _ inputs c.in_ok-ask-in-Some-as_function.ensures in
+    asks_these s c.args.outer (type_in ls c.args.one) (function (all_numbered known v.ts.items) (type_in ls v.t))
+    (type_in ls c.args.other) _ _ _ _ p c.in-Some-as_function.ensures.some
+    (λ x. asks_function s c.args.outer (all_numbered known v.ts.items) _ (type_in ls v.t) _ x) both
 
-pub ask_types-ask-requires : goal.ask_types-ask-requires
-ask_types-ask-requires t c =
-    let l = nodes_at (row_trees c.args.ts.now) c.loop-place.place (instance_tree c.get-t.result) c.get-t.ensures in
+pub ask_row-ask-requires : goal.ask_row-ask-requires
+ask_row-ask-requires t c =
+    let known = types_in c.args.types.now in
+    let ts = c.args.ts.now in
+    let us = c.args.us.now in
+    let n = c.loop-place.place in
+    let l : n < length ts = omega (arith, c.loop-place-test.true, c.min-place-end.ensures) in
+    let m : n < length us = omega (arith, c.loop-place-test.true, c.min-place-end.ensures) in
+    let less = nodes_at (all_numbered known ts) n (numbered known (slice_index ts n)) (numbered_at known ts n l) in
     let d = c.decreases in
-    (omega arith, tt)
+    (omega arith, (c.requires.ts n l, c.requires.us n m))
 
-pub ask_types-loop-place-init : goal.ask_types-loop-place-init
-ask_types-loop-place-init t c = below_none _ _
+pub ask_row-loop-place-preserved : goal.ask_row-loop-place-preserved
+ask_row-loop-place-preserved t c =
+    let known = types_in c.args.types.now in
+    let ts = c.args.ts.now in
+    let us = c.args.us.now in
+    let n = c.loop-place.place in
+    let l : n < length ts = omega (arith, c.loop-place-test.true, c.min-place-end.ensures) in
+    let m : n < length us = omega (arith, c.loop-place-test.true, c.min-place-end.ensures) in
+    below_more _ _ n _ _ _ (λ x. type_at_place (structs_of c.args.structs.now) c.args.signs.now.parameters.now
+    c.args.signs.now.other c.args.signs.now.outer (all_numbered known ts) (all_numbered known us) n
+    (numbered known (slice_index ts n)) (numbered known (slice_index us n)) x (numbered_at known ts n l)
+    (numbered_at known us n m)) c.loop-place.invariant
+    (rw (c.times-sign.ensures, c.sign_or.ensures) at c.in_ok-ask.ensures)
 
-pub ask_types-loop-place-preserved : goal.ask_types-loop-place-preserved
-ask_types-loop-place-preserved t c =
-    below_more _ _ c.loop-place.place _ _ _ (λ x. type_at_place
-    (structs_of c.args.structs.now) c.args.signs.now.parameters.now c.args.signs.now.other c.args.signs.now.outer
-    (row_trees c.args.ts.now) (row_trees c.args.us.now) c.loop-place.place (instance_tree c.get-t.result)
-    (instance_tree c.get-u.result) x c.get-t.ensures c.get-u.ensures)
-    c.loop-place.invariant (rw (c.times-sign.ensures, c.sign_or.ensures) at c.in_ok-ask.ensures)
-
-pub ask_types-returns : goal.ask_types-returns
-ask_types-returns t c =
+pub ask_row-returns : goal.ask_row-returns
+ask_row-returns t c =
     below_all _ c.loop-place.place _ _ (λ k x p.
-    row_types_within (structs_of c.args.structs.now) c.args.signs.now.parameters.now c.args.signs.now.other
-    c.args.signs.now.outer c.args.ts.now c.args.us.now c.loop-place.place k x
+    types_within (structs_of c.args.structs.now) c.args.signs.now.parameters.now c.args.signs.now.other
+    c.args.signs.now.outer (types_in c.args.types.now) c.args.ts.now c.args.us.now c.loop-place.place k x
     (omega (arith, c.min-place-end.ensures)) p) c.loop-place.invariant

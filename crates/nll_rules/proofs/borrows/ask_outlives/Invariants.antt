@@ -1,7 +1,0 @@
-use Rattle.std.proofs.Common.{take}
-use Rattle.nll_rules.specs.Pairs.{AddsPairs, OneOutlives}
-use Rattle.nll_rules.proofs.borrows.ask_outlives.Given as goal
-
-abbrev pub invariant-loop-longer : goal.invariant-loop-longer
-invariant-loop-longer l =
-    AddsPairs (OneOutlives (take l.longer-index l.regions) l.region) l.fn.asked.items l.asked.items
