@@ -54,6 +54,14 @@ no_region_in_int [] r h = h
 no_region_in_int (own ∷ way) r h = h
 no_region_in_int (turn ∷ way) r h = h
 
+-- a constant is an `int`
+pub constant_asks : (structs : List Struct) (other : Option TypeTree) (x : ℕ × ℕ) → BothAsk structs (Some int) other x
+    → ⊥
+constant_asks structs other x b =
+    let w = b.4 in
+    no_region_in_int w.0 w.1
+    (subst (λ (t : TypeTree). HasRegionAt t w.0 w.1) (sym (some_is int b.0 b.2)) w.3)
+
 inner_of : (r : ℕ) (m : Bool) (o : Option TypeTree) (t : TypeTree) → option_map (reference r m) o ≡ Some t
     → (inner : TypeTree) × (o ≡ Some inner) × (t ≡ reference r m inner)
 inner_of r m None t e = absurd cc

@@ -115,31 +115,6 @@ impl<'a> Known<'a> {
         self.meet(alloc, one, other, &mut asked.pairs)
     }
 
-    // The type of an operand, where it has one.
-    fn operand(
-        &mut self,
-        alloc: Global,
-        operand: &Operand,
-        crossed: &mut Vec<RegionId>,
-    ) -> Result<Option<usize>, Memory>
-        ensures learns { Learns self.old self.new }
-        ensures within { IfOk result (λ o. IfSome o (λ i. i < length self.new.layers)) }
-        ensures at { IfOk result (λ o. option_map (type_in self.new.layers) o
-            ≡ operands.operand_type self.old.structs self.old.variables
-            (operand_of operand.now)) }
-    {
-        match operand {
-            Operand::Const => {
-                let int = self.made(Layer::Int)?;
-                Ok(Some(int))
-            }
-            Operand::Copy(place) | Operand::Move(place) => {
-                let told = self.walk(alloc, place, crossed)?;
-                Ok(told)
-            }
-        }
-    }
-
     // Appends what an operand asks that flows into a value of this type.
     fn ask_from(
         &mut self,
@@ -156,8 +131,15 @@ impl<'a> Known<'a> {
             (option_map (type_in self.old.layers) other))
             asked.old.pairs.items asked.new.pairs.items) }
     {
-        let one = self.operand(alloc, operand, &mut asked.crossed)?;
-        self.meet(alloc, one, other, &mut asked.pairs)
+        match operand {
+            // An `int`, in which no region occurs.
+            Operand::Const => Ok(()),
+            Operand::Copy(place) | Operand::Move(place) => {
+                let one = self.walk(alloc, place, &mut asked.crossed)?;
+                self.meet(alloc, one, other, &mut asked.pairs)?;
+                Ok(())
+            }
+        }
     }
 
     // Appends what an operand asks that flows into a place.
@@ -175,8 +157,14 @@ impl<'a> Known<'a> {
             (type_of self.old.structs self.old.variables (path_of place.now)))
             asked.old.pairs.items asked.new.pairs.items) }
     {
-        let one = self.operand(alloc, operand, &mut asked.crossed)?;
-        self.ask_into(alloc, one, place, asked)
+        match operand {
+            Operand::Const => Ok(()),
+            Operand::Copy(from) | Operand::Move(from) => {
+                let one = self.walk(alloc, from, &mut asked.crossed)?;
+                self.ask_into(alloc, one, place, asked)?;
+                Ok(())
+            }
+        }
     }
 
     // The type of references of a region, `mut` or not, to values of this type.

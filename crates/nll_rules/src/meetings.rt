@@ -10,6 +10,7 @@ ghost use Rattle.nll_rules.specs.Pairs.{AddsPairs};
 ghost use Rattle.nll_rules.specs.Subtyping.{SubtypeAsks};
 ghost use Rattle.nll_rules.specs.contracts.meetings.MeetingPartialEq.TheImpl as derived;
 
+use crate::layer::Layer;
 use crate::subtypes::ask;
 use crate::types::Types;
 use indexmap::IndexMap;
@@ -72,6 +73,20 @@ fn pairs_of(
     Ok(pairs)
 }
 
+// Whether a type has one region at most, so that what it asks is found as fast as it is looked up.
+fn is_short(types: &Types, number: usize) -> bool
+    requires { number < length types.now }
+{
+    match types.layer(number) {
+        Layer::Int | Layer::Parameter(_) => true,
+        Layer::Reference(_, _, target) => match types.layer(*target) {
+            Layer::Int | Layer::Parameter(_) => true,
+            _ => false,
+        },
+        _ => false,
+    }
+}
+
 // The pairs that are remembered of a meeting.
 fn remembered<'a>(meetings: &'a Meetings, meeting: Meeting) -> Option<&'a Vec<(RegionId, RegionId)>>
     ensures found { IfSome result (λ v. Contains meetings.now.entries (meeting, v.now)) }
@@ -121,6 +136,16 @@ pub(crate) fn ask_once(
         (type_in types.now meeting.other))
         asked.old.items asked.new.items) }
 {
+    if is_short(types, meeting.one) {
+        return ask(
+            structs,
+            types,
+            meeting.one,
+            meeting.other,
+            Sign::Covariant,
+            asked,
+        );
+    }
     if let Some(pairs) = remembered(meetings, meeting) {
         asked.extend_from_slice(pairs.as_slice())?;
         return Ok(());
