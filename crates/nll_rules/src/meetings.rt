@@ -49,6 +49,18 @@ pub(crate) fn keep_once(pairs: &mut Vec<(RegionId, RegionId)>)
     }
 }
 
+// The same pairs, in the space that they need.
+fn copied(
+    alloc: Global,
+    pairs: &[(RegionId, RegionId)],
+) -> Result<Vec<(RegionId, RegionId)>, Memory>
+    ensures { IfOk result (λ v. v.items ≡ pairs.now) }
+{
+    let mut copy = Vec::with_capacity(alloc, pairs.len())?;
+    copy.extend_from_slice(pairs)?;
+    Ok(copy)
+}
+
 // The pairs that a meeting asks, each once.
 fn pairs_of(
     alloc: Global,
@@ -70,7 +82,8 @@ fn pairs_of(
         &mut pairs,
     )?;
     sort_once(&mut pairs);
-    Ok(pairs)
+    let once = copied(alloc, pairs.as_slice())?;
+    Ok(once)
 }
 
 // Whether a type has one region at most, so that what it asks is found as fast as it is looked up.

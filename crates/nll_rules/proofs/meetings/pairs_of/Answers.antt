@@ -10,6 +10,7 @@ returns c =
     (type_in c.args.types.now c.args.meeting.other) in (
       c.requires.one,
       c.requires.other,
-      same_meets asks _ _ (adds_to_none asks _ (rw c.new-pairs.ensures.items at c.in_ok-ask.ensures))
-          c.sort_once.ensures,
+      rw (c.in_ok-once.ensures, c.as_slice.ensures.value) (
+          same_meets asks _ _ (adds_to_none asks _ (rw c.new-pairs.ensures.items at c.in_ok-ask.ensures))
+          c.sort_once.ensures),
     )
