@@ -100,7 +100,10 @@ find_program() {
         return
     fi
     find_built || { (compile unproved) >/dev/null && find_built; } || exit 127
-    is_proved || tell_standing
+    is_proved && return
+    tell_standing
+    # Its stack frames are large: the deepest type takes more than the usual 8 MiB.
+    ulimit -S -s 16384 2>/dev/null || :
 }
 
 commands() {
