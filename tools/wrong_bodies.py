@@ -4,15 +4,15 @@
     tools/wrong_bodies.py [--all] [--since COMMIT] [--jobs N] [CRATE ..]
     tools/wrong_bodies.py --list [CRATE ..]
 
-They are in crates/*/wrong-bodies, and each is an edit as those of must-fail/ are. In a copy of the
-repository they take the place of these, and `rt must-fail` tries them, several crates side by side; the
-libraries below are proved first, where the working tree keeps no proof of them. The copy takes next to no
-disk: its libraries are second names of the tree's, and what else checks kept `rt` takes from where it is.
+They are in crates/*/wrong-bodies, and each is an edit as those of must-fail/ are. They are tried in a copy of the
+repository, several crates side by side, and of one crate those that change different functions in one check
+(tools/rounds.py); the libraries below are proved first, where the working tree keeps no proof of them. The copy takes
+next to no disk: its libraries are second names of the tree's.
 `--all` tries the edits of must-fail/ too, before a release. `--since` leaves out the crates that are as they
 were at that commit and depend on none that says something else since; tools/changes.py finds them. Where
 crates are named, no others are tried.
 
-For each edit it prints the seconds of processor time that its check took, and what refused it:
+For each edit it prints what refused it:
 
 - a clause's goal: no search answers it any more, or its written answer (in Answers.antt) isn't one any more;
 - a step of a proof file: a lemma or an invariant that the changed text makes wrong;
@@ -36,26 +36,16 @@ import tempfile
 
 from changes import changes_since
 from crates import above, below, edits_in, uses_of
-from processes import Watch, is_edit, seconds_of
-from proving import most_at_once, prove, started
-from rooms import copy, library_of, link
+from proving import most_at_once, prove
+from rooms import Room, copy, library_of, link
+from rounds import GOAL, NAME, NONE, STEP, read_edit, try_edits
 
 ROOT = pathlib.Path(__file__).resolve().parents[1]
 FOLDERS = ("wrong-bodies", "must-fail")
 # The crate of the copy that stands on each library which a tried crate uses.
 LIBRARIES = "libraries_to_prove"
-# What `rt` says of an edit that is refused, and more of one that took a name away.
-REFUSED = "refused, as it must be"
-TAKEN = (" (only because a proof file names what the edit took away, so this says little of the contract: "
-         "change a value and keep the names)")
-# Of an answer that `rt` says this of it doesn't say why what it cites was rejected: for a name that is gone, it may be.
-NOT_CHECKED = re.compile(r": error: \d+ declarations? that depends? on ")
-GOAL, STEP, NAME, NONE = "a clause's goal", "a step of a proof file", "a missing name", "nothing"
-
 # The two lines with which each edit begins.
 HEADER = re.compile(r"# wrong: (?P<wrong>.+)\n# refused by: (?P<by>.+)\n")
-
-Tried = collections.namedtuple("Tried", "crate edit seconds by text")
 
 
 def crates_with(root, folders):
@@ -98,20 +88,6 @@ def copied(root, room, libraries):
         copy(library_of(root, library), library_of(room, library), link)
 
 
-def put_in_place(room, crates, folders):
-    """In the copy, gives each crate its edits of these folders as the only ones that must fail."""
-    for edits in room.glob("crates/*/must-fail"):
-        edits.rename(edits.with_name("gate"))
-    for crate in crates:
-        to = room / "crates" / crate / "must-fail"
-        to.mkdir()
-        for name in folders:
-            for edit in (to.parent / name.replace("must-fail", "gate")).glob("*.edit"):
-                shutil.copy(edit, to)
-    for edits in room.glob("crates/*/gate"):
-        shutil.rmtree(edits)
-
-
 def prove_libraries(room, libraries, jobs):
     """Proves the libraries in the copy, and says which isn't."""
     if not libraries:
@@ -134,63 +110,34 @@ def prove_libraries(room, libraries, jobs):
     return status == 0
 
 
-def refused_by(text):
-    """What refused an edit, by what `rt must-fail` says of it."""
-    if not text.startswith(REFUSED):
-        return NONE
-    if TAKEN in text:
-        return NAME
-    if NOT_CHECKED.search(text):
-        return STEP
-    place = re.search(r": (?:note: )?(?:\./)?(\S+?):\d+:\d+: ", text)
-    is_goal = place and (place[1].startswith("src/") or place[1].endswith("/Answers.antt"))
-    return GOAL if is_goal else STEP
-
-
-def seconds_each(samples, count):
-    """The seconds that each of so many edits took, by the processes that `rt` started; nothing where it tried none.
-
-    It tries an edit over a folder of kept work that has the edit's number, and anew where that told nothing.
-    """
-    seconds = [None] * count
-    for sample in filter(is_edit, samples):
-        if sample["over"].isdigit() and int(sample["over"]) < count:
-            seconds[int(sample["over"])] = round((seconds[int(sample["over"])] or 0) + seconds_of(sample), 2)
-    return seconds
-
-
-def try_crate(room, crate, jobs):
-    """Tries the edits of one crate, so many at a time; gives what came of each."""
-    words = ["env", f"RT_JOBS={jobs}", "rt", "must-fail", crate]
-    with started(words, room) as running, Watch(running.pid) as watch:
-        printed = running.stdout.read()
-    lines = dict(re.findall(rf"^rt: must-fail {crate}/(\S+)\.edit: (.*)$", printed, re.M))
-    edits = [pathlib.Path(edit).stem for edit in edits_in(room, crate, "must-fail")]
-    seconds = seconds_each(watch.gone, len(edits))
-    said = printed.strip().splitlines()[-1:] or ["rt says nothing"]
-    texts = [lines.get(edit, f"not tried: {said[0]}") for edit in edits]
-    return [Tried(crate, edit, taken, refused_by(text), text)
-            for edit, taken, text in zip(edits, seconds, texts)]
+def edits_of(root, crate, folders):
+    """The edits of a crate in these folders."""
+    return [read_edit(crate, path) for folder in folders for path in edits_in(root, crate, folder)]
 
 
 def show(tried):
-    """One line that says what came of an edit."""
-    seconds = "? s" if tried.seconds is None else f"{tried.seconds:.0f} s"
-    place = tried.text[len(REFUSED):].replace(TAKEN, "")
-    said = tried.text if tried.by == NONE else f"refused by {tried.by}{place}"
-    return f"{tried.crate}/{tried.edit}: {seconds}, {said}"
+    """A line for each edit that says what came of it."""
+    for one in tried:
+        said = one.text if one.by == NONE else f"refused by {one.by}: {one.text}"
+        print(f"{one.crate}/{one.edit}: {said}", flush=True)
 
 
-def try_all(room, crates, jobs):
-    """Tries the edits of these crates, so many edits at a time, the crates with the most of them first."""
-    found, each = [], max(1, jobs // len(crates))
-    crates = sorted(crates, key=lambda crate: -len(edits_in(room, crate, "must-fail")))
+def try_crate(root, crate, folders):
+    """Tries the edits of one crate; gives what came of each."""
+    room = Room(root, crate, libraries_of(root, [crate]))
+    try:
+        room.open()
+        return try_edits(edits_of(root, crate, folders), room.folder, show)
+    finally:
+        room.remove()
+
+
+def try_all(root, crates, folders, jobs):
+    """Tries the edits of these crates, so many crates at a time, those with the most edits first."""
+    crates = sorted(crates, key=lambda crate: -len(edits_of(root, crate, folders)))
     with concurrent.futures.ThreadPoolExecutor(jobs) as pool:
-        running = [pool.submit(try_crate, room, crate, each) for crate in crates]
-        for ended in concurrent.futures.as_completed(running):
-            found += ended.result()
-            print(*map(show, ended.result()), sep="\n", flush=True)
-    return found
+        running = [pool.submit(try_crate, root, crate, folders) for crate in crates]
+        return [one for ended in running for one in ended.result()]
 
 
 def count(tried):
@@ -233,10 +180,9 @@ def main(words, root=ROOT):
     with tempfile.TemporaryDirectory(prefix="nllc-") as folder:
         room = pathlib.Path(folder) / "copy"
         copied(root, room, libraries)
-        put_in_place(room, crates, folders)
         if not prove_libraries(room, libraries, jobs):
             return 1
-        tried = try_all(room, crates, jobs)
+        tried = try_all(room, crates, folders, jobs)
     print(count(tried))
     return 0 if all(one.by != NONE for one in tried) else 1
 
