@@ -3,7 +3,8 @@
 A check takes longer to load what a crate stands on than to prove a function. So the edits of a crate are tried in rounds: no
 two edits of a round change the same function. That says of each what a check of its own would: a function is proved of its own
 text and of the contracts of what it calls. An edit is refused where a function that it changes isn't proved for its own sake;
-one that only calls what isn't proved doesn't count. What a round tells nothing of is tried again, without those of which it does.
+one that only calls what isn't proved doesn't count. What a round tells nothing of is tried again, where nothing that it calls is
+changed, as far as checks have told what calls what.
 Edits that change what is no function are tried alone. A round in which a function fails that none of its edits changes is tried
 again in halves.
 """
@@ -126,6 +127,16 @@ def failing(printed):
     return found
 
 
+def calls_in(printed):
+    """Which functions without a proof wait for which others."""
+    found = collections.defaultdict(set)
+    for path, said in UNPROVED.findall(printed):
+        for reason in said.partition("no proof: ")[2].split("; "):
+            if reason.startswith(OF_OTHERS):
+                found[path].update(re.findall(r"`([^`]+)`", reason))
+    return found
+
+
 def is_of(path, function):
     """Whether a path of `rt` is that of a function of a module, or of a closure in it."""
     module, name = function
@@ -191,10 +202,40 @@ def halves(edits):
     return [dict(rows[:len(rows) // 2]), dict(rows[len(rows) // 2:])]
 
 
-def try_round(edits, folder):
+def below(functions, calls):
+    """The paths of what these functions call, directly or not, as far as it's known."""
+    found, ahead = set(), [path for path in calls if any(is_of(path, function) for function in functions)]
+    while ahead:
+        new = calls.get(ahead.pop(), set()) - found
+        found |= new
+        ahead += new
+    return found
+
+
+def calls_one(functions, others, calls):
+    """Whether one of these functions calls one of the others."""
+    return any(is_of(path, other) for path in below(functions, calls) for other in others)
+
+
+def apart(edits, calls):
+    """Splits a round so that no edit of a part changes what is called by the function of another one."""
+    parts = []
+    for edit, changed in edits.items():
+        for part in parts:
+            if not any(calls_one(changed, other, calls) or calls_one(other, changed, calls) for other in part.values()):
+                part[edit] = changed
+                break
+        else:
+            parts.append({edit: changed})
+    return parts
+
+
+def try_round(edits, folder, calls):
     """Tries edits together; gives what came of those that the check tells of, and the rounds in which the others are tried."""
     with written(together(edits, folder), folder):
         printed = check(folder)
+    for path, called in calls_in(printed).items():
+        calls[path] |= called
     if len(edits) == 1:
         (edit, changed), = edits.items()
         return [said_alone(edit, changed, printed)], []
@@ -211,13 +252,16 @@ def try_round(edits, folder):
 
 def try_edits(edits, folder, told=lambda tried: None):
     """Tries all edits of a crate in its folder; gives what came of each, and calls `told` behind each check."""
-    found, waiting = [], rounds_of(edits, folder)
+    found, waiting, calls = [], rounds_of(edits, folder), collections.defaultdict(set)
     while waiting:
         one = waiting.pop(0)
+        if len(one) > 1:
+            one, *more = apart(one, calls)
+            waiting = more + waiting
         if None in one.values():
             ended, again = [Tried(edit.crate, edit.name, NONE, "BAD EDIT: a text doesn't stand there once") for edit in one], []
         else:
-            ended, again = try_round(one, folder)
+            ended, again = try_round(one, folder, calls)
         waiting = again + waiting
         found += ended
         told(ended)

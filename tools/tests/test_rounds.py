@@ -97,6 +97,17 @@ class Rounds(unittest.TestCase):
         self.assertEqual(found, {"wrong_low": rounds.GOAL, "wrong_high": rounds.GOAL})
         self.assertNotIn("x + 2", seen[1])
 
+    def test_what_waits_for_one_another_is_tried_apart(self):
+        calls = rounds.calls_in(CALLS)
+        self.assertEqual(rounds.apart({WRONG_LOW: {LOW}, WRONG_OTHER: {OTHER}, WRONG_HIGH: {HIGH}}, calls),
+                         [{WRONG_LOW: {LOW}, WRONG_OTHER: {OTHER}}, {WRONG_HIGH: {HIGH}}])
+        lower = self.not_proved(SEARCHED.format("low", "low"), CALLS)
+        higher = self.not_proved(SEARCHED.format("Pair::high", "Pair/high"), SEARCHED.format("Pair::other", "Pair/other"))
+        found, seen = self.try_on([WRONG_LOW, WRONG_HIGH, LOWER, WRONG_OTHER], [
+            self.not_proved(SEARCHED.format("low", "low"), CALLS, SEARCHED.format("Pair::other", "Pair/other")), higher, lower])
+        self.assertEqual([text.count("low(self.1)") for text in seen], [1, 1, 0])
+        self.assertEqual(set(found.values()), {rounds.GOAL})
+
     def test_one_that_is_not_refused_is_found_beside_another(self):
         found, _ = self.try_on([WRONG_LOW, WRONG_OTHER], [self.not_proved(SEARCHED.format("low", "low")), "a\nlogic=proved"])
         self.assertEqual(found, {"wrong_low": rounds.GOAL, "wrong_other": rounds.NONE})
