@@ -6,18 +6,12 @@
 #![tactic(auto)]
 
 mod exchange;
-mod many_owners;
 mod reached;
 mod settlement;
-mod two_owners;
-mod two_threads;
 
 pub use exchange::{GrowthMail, through_two_threads};
-pub use many_owners::all_leave;
 pub use reached::first_difference;
 pub use settlement::settle_both;
-pub use two_owners::{Way, leave_both, open_two, owe_and_stay, stop_and_look};
-pub use two_threads::{owe_in_two_threads, stop_in_two_threads};
 
 #[cfg(test)]
 mod ledger_rounds;
@@ -28,6 +22,12 @@ mod mail_one_thread;
 #[cfg(test)]
 mod mail_rounds;
 #[cfg(test)]
+mod many_owners;
+#[cfg(test)]
 mod messages;
 #[cfg(test)]
 mod rings;
+#[cfg(test)]
+mod two_owners;
+#[cfg(test)]
+mod two_threads;
