@@ -144,8 +144,9 @@ def is_of(path, function):
 
 
 def refusal(printed, path, said):
-    """What refuses an edit of a function, and the first line that tells it."""
-    own = [(file, text) for file, text in ERROR.findall(printed) if f"proofs/{path.partition('::')[2].replace('::', '/')}/" in file]
+    """What refuses an edit of a function, and the first line that tells it. A cycle of functions has its proofs in one folder."""
+    place = f"proofs/{path.partition('::')[2].replace('::', '/')}/"
+    own = [(file, text) for file, text in ERROR.findall(printed) if place in file or f"{place.rsplit('/', 2)[0]}/+" in file]
     if "no proof: expected answers" in said or "did not prove" in said:
         return GOAL, said
     told = [(file, text) for file, text in own if not DEPENDS.search(text)]

@@ -129,6 +129,8 @@ class Rounds(unittest.TestCase):
         for place, message, by in (("pair/low/Answers.antt", "`returns`: the two types differ", rounds.GOAL),
                                    ("pair/low/Invariants.antt", "`kept`: expected type", rounds.STEP),
                                    ("pair/low/Answers.antt", "`returns`: `c` has no field `got`", rounds.NAME),
+                                   ("pair/+cycle/Answers.antt", "`low-returns`: the two types differ", rounds.GOAL),
+                                   ("pair/other/Answers.antt", "`returns`: the two types differ", rounds.STEP),
                                    ("pair/low/Answers.antt", "1 declaration that depends on `a`, which was rejected", rounds.STEP)):
             printed = self.not_proved(f"./proofs/{place}:8:13: error: {message}", "fn crate_a::pair::low: not proved")
             self.assertEqual(self.try_on([WRONG_LOW], ["\n" + printed])[0], {"wrong_low": by}, message)
