@@ -12,7 +12,7 @@ case ${1:-} in
 esac
 set -eu
 here=$(cd "$(dirname "$0")" && pwd)
-below="nll_sets nll_problem fixpoint mail ledger worker run keeper reach nll_mail nll_ledger nll_shared_tests"
+below="nll_sets fixpoint mail ledger worker run keeper reach"
 [ "$#" != 0 ] || set -- "$here/reach_program" "$below" "$below anyhow thiserror" 1 20
 [ "$1" != --tree ] || set -- --tree "$2" "$here/reach_program" "$below" "$below anyhow thiserror"
 "$here/../../tools/build_program.sh" "$@"

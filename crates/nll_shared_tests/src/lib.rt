@@ -6,11 +6,9 @@
 #![tactic(auto)]
 
 mod exchange;
-mod reached;
 mod settlement;
 
 pub use exchange::{GrowthMail, through_two_threads};
-pub use reached::first_difference;
 pub use settlement::settle_both;
 
 #[cfg(test)]
@@ -25,6 +23,8 @@ mod mail_rounds;
 mod many_owners;
 #[cfg(test)]
 mod messages;
+#[cfg(test)]
+mod reached;
 #[cfg(test)]
 mod rings;
 #[cfg(test)]
