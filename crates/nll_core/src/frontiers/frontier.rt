@@ -104,8 +104,9 @@ impl Frontier {
         element: Element,
         out: &mut Vec<Element>,
     ) -> Result<(), Memory>
-        requires width { length (S.flags seen.now) ≡ element_count graph.now }
-        requires element { IsIn (S.flags seen.now) element }
+        requires width { self.old.refused ≡ false
+            → length (S.flags seen.now) ≡ element_count graph.now }
+        requires element { self.old.refused ≡ false → IsIn (S.flags seen.now) element }
         requires reached { self.old.refused ≡ false
             → IsFrontierIn graph.now (IsWithout (S.flags seen.now) element) self.old }
         ensures starts { self.new.starts ≡ self.old.starts }
@@ -134,7 +135,7 @@ impl Frontier {
     /// the runs of what is newly reached, each element once.
     ///
     /// # Errors
-    /// - `Memory`: the list is unspecified; each later call returns `Memory` too.
+    /// - `Memory`: the list is empty; each later call answers `Memory` too.
     pub fn grow_run(
         &mut self,
         steps: &Steps,
@@ -146,7 +147,7 @@ impl Frontier {
         ensures starts { self.new.starts ≡ self.old.starts }
         ensures ok { OnOk result
             (GrowsByRun steps.now seen.now run self.old self.new found.new.items) }
-        ensures err { OnErr result (self.new.refused ≡ true) }
+        ensures err { OnErr result ((self.new.refused ≡ true) × (found.new.items ≡ [])) }
     {
         found.clear();
         if let Some(refusal) = self.refusal {
@@ -163,6 +164,9 @@ impl Frontier {
             found,
         );
         self.refusal = told.err();
+        if told.is_err() {
+            found.clear();
+        }
         told
     }
 }
