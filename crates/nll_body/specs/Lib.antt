@@ -1,5 +1,6 @@
 pub mod Bodies
 pub mod Edges
+pub mod WellTyped
 pub mod Sound
 pub mod Making
 pub mod Kept

@@ -11,11 +11,12 @@ use Rattle.nll_statements.specs.Effects.{targets}
 use Rattle.nll_statements.specs.Written.{regions_written}
 use Rattle.nll_body.specs.Bodies.{BodyText, StandsAt, GoesOn}
 use Rattle.nll_body.specs.Edges.{edge_count}
+use Rattle.nll_body.specs.WellTyped.{IsWellTyped}
 
 -- The points, the regions and the variables keep to the limits, each edge leads to a point, each
 -- target is one of the blocks, the outlives pairs are of universal regions, the asserted pairs are
--- of declared ones, the regions that are written at the points are declared, and the types that are
--- written there and those of the variables keep to what is declared.
+-- of declared ones, the regions that are written at the points are declared, the types that are
+-- written there and those of the variables keep to what is declared, and the body is well typed.
 pub record IsSound (body : BodyText) : Type 0 where
   pub some_point : 0 < length body.points
   pub point_limit : length body.points ≤ most_points
@@ -39,3 +40,4 @@ pub record IsSound (body : BodyText) : Type 0 where
       → Contains (regions_written i) r → r < length body.names
   pub written_types : (p : ℕ) (t : TypeTree) (i : Statement ℕ TypeTree) → StandsAt body p i
       → Contains (types_written i) t → IsWellFormed body.structs (length body.names) 0 t
+  pub well_typed : IsWellTyped body

@@ -1,10 +1,8 @@
 -- What variables ask for.
-use Rattle.std.proofs.Common.{◌≡◌, ◌⊎◌, ◌↔◌, ℕ, ◌+◌, ◌<◌, ◌≤◌, Bool, List, Contains, length, Some, None, slice_get, get_or, inl, inr, subst, ⊎_elim, arith}
-use Rattle.std.specs.Prelude.{slice_index_or, []}
+use Rattle.std.proofs.Common.{◌≡◌, ◌⊎◌, ◌↔◌, ℕ, ◌+◌, ◌<◌, ◌≤◌, List, Contains, length, Some, None, slice_get, get_or, inl, inr, subst, ⊎_elim, arith}
+use Rattle.std.specs.Prelude.{[]}
 use Rattle.std.proofs.lemmas.Bool.{cases_lt}
 use Rattle.std.proofs.lemmas.Option.{slice_get_cases, slice_get_within}
-use Rattle.nll_sets.specs.Runs.{IsInRuns, MakeUp}
-use Rattle.nll_sets.specs.declared.run.Run.{Run}
 use Rattle.nll_types.specs.Types.{TypeTree}
 use Rattle.nll_body.specs.Bodies.{BodyText, HasType}
 use Rattle.nll_body.specs.Sound.{IsSound}
@@ -12,7 +10,9 @@ use Rattle.nll_body.proofs.KeptLemmas.{good_type}
 use Rattle.nll_body.proofs.RangeLemmas.{region_within, drop_region_within}
 use Rattle.nll_live.proofs.WalkLemmas.{live_within}
 use Rattle.nll_live.specs.Live.{UsesAt, DropsAt, AsksForUse, AsksForDrop, IsBaseOf}
-use Rattle.nll_live.specs.LiveSets.{AreSetsOf}
+use Rattle.nll_live.specs.Kinds.{AsksFor, KeepsAt}
+use Rattle.nll_live.specs.declared.kind.Kind.{Kind}
+use Rattle.nll_live.specs.declared.kind.Kind.TheVariants.{Use, Drop}
 use Rattle.nll_problem.specs.BaseRuns.{IsInBaseRuns}
 use Rattle.nll_live.specs.BaseRuns.{Gains}
 use Rattle.nll_problem.specs.declared.base_run.BaseRun.{BaseRun}
@@ -29,20 +29,6 @@ some_type body x within = by (slice_get_cases body.variables x).1
     by (inl h) = (h.0, h.2)
     by (inr h) = absurd (omega (arith, h.0))
 
--- a variable asks for its regions where it is live
-pub asked : (body : BodyText) (x : ℕ) (regions : List ℕ) (runs : List Run) (wants : TypeTree → ℕ → Type 0)
-    (live : ℕ → Type 0) (old new : List BaseRun) → x < length body.variables
-    → ((t : TypeTree) → HasType body x t → (r : ℕ) → Contains regions r ↔ wants t r)
-    → ((p : ℕ) → IsInRuns runs p ↔ live p)
-    → Gains (λ r p. Contains regions r × IsInRuns runs p) old new
-    → Gains (λ r p. (t : TypeTree) × HasType body x t × live p × wants t r) old new
-asked body x regions runs wants live old new within each in_runs =
-    gains_as (λ r p. Contains regions r × IsInRuns runs p)
-    (λ r p. (t : TypeTree) × HasType body x t × live p × wants t r) old new (λ r p. (
-      λ h. let t = some_type body x within in (t.0, t.1, (in_runs p).0 h.1, ((each t.0 t.1) r).0 h.0),
-      λ h. (((each h.0 h.1) r).1 h.3, (in_runs p).1 h.2),
-    ))
-
 -- a variable asks for its regions at the points of these walks, which are those where it is live
 pub asked_of : (body : BodyText) (x : ℕ) (regions : List ℕ) (wants : TypeTree → ℕ → Type 0) (walks live : ℕ → Type 0)
     (old new : List BaseRun) → x < length body.variables
@@ -55,56 +41,6 @@ asked_of body x regions wants walks live old new within each same =
       λ h. let t = some_type body x within in (t.0, t.1, (same p).0 h.1, ((each t.0 t.1) r).0 h.0),
       λ h. (((each h.0 h.1) r).1 h.3, (same p).1 h.2),
     ))
-
--- the runs of a set are of the points that it has
-pub runs_of_set : (body : BodyText) (holds : ℕ → ℕ → Type 0) (sets : List (List Bool)) (x : ℕ) (runs : List Run)
-    → AreSetsOf body holds sets → x < length sets → MakeUp runs (slice_index_or sets x []) → (p : ℕ)
-    → IsInRuns runs p ↔ holds x p
-runs_of_set body holds sets x runs are within made p = (
-  λ h. (are.each x p within).0 ((made p).0 h),
-  λ h. (made p).1 ((are.each x p within).1 h),
-)
-
--- ---- a loop over the variables
-
--- one of the first variables asks that r holds p
-abbrev pub IsAsked : BodyText → ℕ → ℕ → ℕ → Type 0
-IsAsked body n r p = (x : ℕ) × (x < n) × (AsksForUse body x r p ⊎ AsksForDrop body x r p)
-
-pub asked_first : (body : BodyText) (r p : ℕ) → IsInBaseRuns [] r p ↔ IsAsked body 0 r p
-asked_first body r p = (λ h. absurd (contains_none h.0 h.1), λ h. absurd (omega (arith, h.1)))
-
-pub asked_step : (body : BodyText) (n : ℕ) (old mid new : List BaseRun)
-    → ((r p : ℕ) → IsInBaseRuns old r p ↔ IsAsked body n r p) → Gains (AsksForUse body n) old mid
-    → Gains (AsksForDrop body n) mid new → (r p : ℕ) → IsInBaseRuns new r p ↔ IsAsked body (n + 1) r p
-asked_step body n old mid new before f g r p = (
-  λ h. ⊎_elim
-      (λ was. ⊎_elim
-      (λ old_one. let x = (before r p).0 old_one in (x.0, omega (arith, x.1), x.2))
-      (λ use_now. (n, omega arith, inl use_now))
-      ((f r p).0 was))
-      (λ drop_now. (n, omega arith, inr drop_now))
-      ((g r p).0 h),
-  λ h. ⊎_elim
-      (λ low. (g r p).1 (inl ((f r p).1 (inl ((before r p).1 (h.0, low, h.2))))))
-      (λ high. last (subst (λ x. AsksForUse body x r p ⊎ AsksForDrop body x r p) (omega (arith, high, h.1)) h.2))
-      (cases_lt h.0 n),
-)
-  where
-    last : AsksForUse body n r p ⊎ AsksForDrop body n r p → IsInBaseRuns new r p
-    last (inl h) = (g r p).1 (inl ((f r p).1 (inr h)))
-    last (inr h) = (g r p).1 (inr h)
-
-pub asked_last : (body : BodyText) (n : ℕ) → length body.variables ≤ n → (r p : ℕ)
-    → IsAsked body n r p ↔ IsBaseOf body r p
-asked_last body n all r p = (
-  λ h. (h.0, h.2),
-  λ h. (h.0, omega (arith, all, declared h.0 h.1), h.1),
-)
-  where
-    declared : (x : ℕ) → AsksForUse body x r p ⊎ AsksForDrop body x r p → x < length body.variables
-    declared x (inl h) = slice_get_within body.variables x h.0 h.1
-    declared x (inr h) = slice_get_within body.variables x h.0 h.1
 
 -- ---- ranges
 
@@ -156,15 +92,17 @@ module _ (asks : ℕ → ℕ → ℕ → Type 0) (first : List BaseRun) where
       ))
 
 -- only variables of the body ask
-pub use_declared : (body : BodyText) (x r p : ℕ) → AsksForUse body x r p → x < length body.variables
-use_declared body x r p h = slice_get_within body.variables x h.0 h.1
+pub declared : (kind : Kind) (body : BodyText) (x r p : ℕ) → AsksFor kind body x r p → x < length body.variables
+declared kind body x r p h = slice_get_within body.variables x h.0 h.1
 
-pub drop_declared : (body : BodyText) (x r p : ℕ) → AsksForDrop body x r p → x < length body.variables
-drop_declared body x r p h = slice_get_within body.variables x h.0 h.1
+-- what keeps a variable live is at a point of the body
+pub kept_within : (kind : Kind) (body : BodyText) (x p : ℕ) → KeepsAt kind body x p → p < length body.points
+kept_within Use body x p h = slice_get_within body.points p h.0 h.1
+kept_within Drop body x p h = slice_get_within body.points p h.0 h.1
 
 -- what uses and drops ask for together are the base elements
-pub both_asked : (body : BodyText) (mid new : List BaseRun) → Gains (λ r p. (x : ℕ) × AsksForUse body x r p) [] mid
-    → Gains (λ r p. (x : ℕ) × AsksForDrop body x r p) mid new → (r p : ℕ) → IsInBaseRuns new r p ↔ IsBaseOf body r p
+pub both_asked : (body : BodyText) (mid new : List BaseRun) → Gains (λ r p. (x : ℕ) × AsksFor Use body x r p) [] mid
+    → Gains (λ r p. (x : ℕ) × AsksFor Drop body x r p) mid new → (r p : ℕ) → IsInBaseRuns new r p ↔ IsBaseOf body r p
 both_asked body mid new uses drops r p = (
   λ h. ⊎_elim
       (λ before. ⊎_elim

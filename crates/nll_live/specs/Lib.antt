@@ -7,3 +7,4 @@ pub mod Marks
 pub mod Rooms
 pub mod BaseRuns
 pub mod Searches
+pub mod Kinds

@@ -6,14 +6,15 @@ ghost use Rattle.std.specs.Prelude.{Contains, IfOk, OnOk};
 ghost use Rattle.nll_body.specs.Bodies.{IsGraphOf};
 ghost use Rattle.nll_body.specs.Sound.{IsSound};
 ghost use Rattle.nll_live.specs.Gathering.{AreListed};
-ghost use Rattle.nll_live.specs.Live.{AsksForUse, AsksForDrop, DropsAt, IsBaseOf, IsLive, UsesAt};
+ghost use Rattle.nll_live.specs.Kinds.{AsksFor, KeepsAt};
+ghost use Rattle.nll_live.specs.Live.{IsBaseOf, IsLive};
 ghost use Rattle.nll_live.specs.Searches.{AreOfBody};
 ghost use Rattle.nll_problem.specs.BaseRuns.{IsInBaseRuns};
 ghost use Rattle.nll_live.specs.BaseRuns.{Gains};
 
 use crate::base_runs::push_all;
+use crate::kind::Kind;
 use crate::live_points::find_set;
-use crate::points_by_variable::{drops_by_variable, uses_by_variable};
 use crate::search::Room;
 use crate::ways::Ways;
 use nll_body::Body;
@@ -100,81 +101,48 @@ fn push_both(alloc: Global, ways: &Ways<'_>, base_runs: &mut Vec<BaseRun>) -> Re
     ensures { OnOk result
         ((r p : ℕ) → IsInBaseRuns base_runs.new.items r p ↔ IsBaseOf ways.now.body.now r p) }
 {
-    push_uses(alloc, ways, base_runs)?;
-    push_drops(alloc, ways, base_runs)?;
+    push_kind(alloc, ways, Kind::Use, base_runs)?;
+    push_kind(alloc, ways, Kind::Drop, base_runs)?;
     Ok(())
 }
 
-// Appends the runs of base elements that variables ask for where they are use-live.
-fn push_uses(alloc: Global, ways: &Ways<'_>, base_runs: &mut Vec<BaseRun>) -> Result<(), Memory>
+// Appends the runs of base elements that variables ask for where this keeps them live.
+fn push_kind(
+    alloc: Global,
+    ways: &Ways<'_>,
+    kind: Kind,
+    base_runs: &mut Vec<BaseRun>,
+) -> Result<(), Memory>
     requires ways { AreOfBody ways.now }
-    ensures { OnOk result (Gains (λ r p. (x : ℕ) × AsksForUse ways.now.body.now x r p)
+    ensures { OnOk result (Gains (λ r p. (x : ℕ) × AsksFor kind ways.now.body.now x r p)
         base_runs.old.items base_runs.new.items) }
 {
-    let lists = uses_by_variable(alloc, ways.body)?;
-    let told = push_each_use(alloc, ways, lists.as_slice(), base_runs);
+    let lists = kind.points_by_variable(alloc, ways.body)?;
+    let told = push_each(alloc, ways, kind, lists.as_slice(), base_runs);
     // Early drop.
     drop(lists);
     told
 }
 
-// Appends the runs of base elements that variables ask for where they are drop-live.
-fn push_drops(alloc: Global, ways: &Ways<'_>, base_runs: &mut Vec<BaseRun>) -> Result<(), Memory>
-    requires ways { AreOfBody ways.now }
-    ensures { OnOk result (Gains (λ r p. (x : ℕ) × AsksForDrop ways.now.body.now x r p)
-        base_runs.old.items base_runs.new.items) }
-{
-    let lists = drops_by_variable(alloc, ways.body)?;
-    let told = push_each_drop(alloc, ways, lists.as_slice(), base_runs);
-    // Early drop.
-    drop(lists);
-    told
-}
-
-// Ladder: like `push_uses`, given the points that use each variable.
-fn push_each_use(
+// Ladder: like `push_kind`, given the points that keep each variable live.
+fn push_each(
     alloc: Global,
     ways: &Ways<'_>,
+    kind: Kind,
     lists: &[Vec<u32>],
     base_runs: &mut Vec<BaseRun>,
 ) -> Result<(), Memory>
     requires ways { AreOfBody ways.now }
-    requires listed { AreListed (length ways.now.body.now.variables) (UsesAt ways.now.body.now)
-        (length ways.now.body.now.points) (map (λ list. list.items) lists.now) }
-    ensures { OnOk result (Gains (λ r p. (x : ℕ) × AsksForUse ways.now.body.now x r p)
+    requires listed { AreListed (length ways.now.body.now.variables)
+        (KeepsAt kind ways.now.body.now) (length ways.now.body.now.points)
+        (map (λ list. list.items) lists.now) }
+    ensures { OnOk result (Gains (λ r p. (x : ℕ) × AsksFor kind ways.now.body.now x r p)
         base_runs.old.items base_runs.new.items) }
 {
     let mut room = Room::of(alloc, ways.body.points())?;
     for variable in 0..ways.body.variables() {
         let list = lists[variable].as_slice();
-        let regions = ways.body.var_regions(alloc, variable as u32)?;
-        let asking = Asking {
-            variable: variable as u32,
-            points: list,
-            regions: regions.as_slice(),
-        };
-        push_found(alloc, ways, &asking, &mut room, base_runs)?;
-    }
-    Ok(())
-}
-
-// Ladder: like `push_drops`, given the points that drop each variable.
-fn push_each_drop(
-    alloc: Global,
-    ways: &Ways<'_>,
-    lists: &[Vec<u32>],
-    base_runs: &mut Vec<BaseRun>,
-) -> Result<(), Memory>
-    requires ways { AreOfBody ways.now }
-    requires listed { AreListed (length ways.now.body.now.variables) (DropsAt ways.now.body.now)
-        (length ways.now.body.now.points) (map (λ list. list.items) lists.now) }
-    ensures { OnOk result (Gains (λ r p. (x : ℕ) × AsksForDrop ways.now.body.now x r p)
-        base_runs.old.items base_runs.new.items) }
-{
-    let mut room = Room::of(alloc, ways.body.points())?;
-    for variable in 0..ways.body.variables() {
-        let list = lists[variable].as_slice();
-        let regions = ways.body.var_drop_regions(alloc, variable as u32)?;
+        let regions = kind.regions(alloc, ways.body, variable as u32)?;
         let asking = Asking {
             variable: variable as u32,
             points: list,

@@ -1,7 +1,7 @@
 //! Liveness: where the value of a variable may still be used or dropped, and the base elements of
 //! regions that follow from it. It knows no text.
 //!
-//! Reading order: `live_sets`, `live_points`, `base_elements`, `base_search`; `ways`,
+//! Reading order: `live_sets`, `live_points`, `base_search`, `base_elements`; `kind`, `ways`,
 //! `points_by_variable`, `chains`, `lows`, `search`, `base_runs`. The definitions are in specs/.
 #![tactic(auto)]
 
@@ -9,6 +9,7 @@ mod base_elements;
 mod base_runs;
 mod base_search;
 mod chains;
+mod kind;
 mod live_points;
 mod live_sets;
 mod lows;

@@ -6,13 +6,14 @@ ghost use Rattle.nll_body.specs.Bodies.{IsGraphOf};
 ghost use Rattle.nll_problem.specs.Rows.{row_at};
 ghost use Rattle.nll_sets.specs.ElementSet.{flag};
 ghost use Rattle.nll_live.specs.Gathering.{IsListed};
-ghost use Rattle.nll_live.specs.Live.{IsLive, IsUseLive, IsDropLive};
+ghost use Rattle.nll_live.specs.Kinds.{KeepsAt};
+ghost use Rattle.nll_live.specs.Live.{IsLive};
 ghost use Rattle.nll_live.specs.LiveSets.{AreLiveSets, AreSetsOf};
 ghost use Rattle.nll_live.specs.Marks.{IsCovered};
 ghost use Rattle.nll_live.specs.Searches.{AreOfBody};
 
+use crate::kind::Kind;
 use crate::live_sets::LiveSets;
-use crate::points_by_variable::{drops_by_variable, uses_by_variable};
 use crate::search::{Room, Search, search_back};
 use crate::ways::Ways;
 use nll_body::Body;
@@ -59,8 +60,8 @@ fn both_sets(alloc: Global, ways: &Ways<'_>) -> Result<LiveSets, Memory>
     requires ways { AreOfBody ways.now }
     ensures { IfOk result (AreLiveSets ways.now.body.now) }
 {
-    let uses = use_live_sets(alloc, ways)?;
-    match drop_live_sets(alloc, ways) {
+    let uses = sets_of(alloc, ways, Kind::Use)?;
+    match sets_of(alloc, ways, Kind::Drop) {
         Ok(drops) => Ok(LiveSets::of(uses, drops)),
         Err(memory) => {
             drop(uses);
@@ -69,26 +70,13 @@ fn both_sets(alloc: Global, ways: &Ways<'_>) -> Result<LiveSets, Memory>
     }
 }
 
-// For each variable the points where it is use-live.
-fn use_live_sets(alloc: Global, ways: &Ways<'_>) -> Result<Vec<RunSet>, Memory>
+// For each variable the points where this keeps it live.
+fn sets_of(alloc: Global, ways: &Ways<'_>, kind: Kind) -> Result<Vec<RunSet>, Memory>
     requires ways { AreOfBody ways.now }
-    ensures { IfOk result (λ sets.
-        AreSetsOf ways.now.body.now (IsUseLive ways.now.body.now) sets.items) }
+    ensures { IfOk result (λ sets. AreSetsOf ways.now.body.now
+        (λ x. IsLive ways.now.body.now (KeepsAt kind ways.now.body.now x) x) sets.items) }
 {
-    let lists = uses_by_variable(alloc, ways.body)?;
-    let sets = live_sets(alloc, ways, lists.as_slice());
-    // Early drop.
-    drop(lists);
-    sets
-}
-
-// For each variable the points where it is drop-live.
-fn drop_live_sets(alloc: Global, ways: &Ways<'_>) -> Result<Vec<RunSet>, Memory>
-    requires ways { AreOfBody ways.now }
-    ensures { IfOk result (λ sets.
-        AreSetsOf ways.now.body.now (IsDropLive ways.now.body.now) sets.items) }
-{
-    let lists = drops_by_variable(alloc, ways.body)?;
+    let lists = kind.points_by_variable(alloc, ways.body)?;
     let sets = live_sets(alloc, ways, lists.as_slice());
     // Early drop.
     drop(lists);

@@ -1,10 +1,9 @@
 //! Where each variable is live.
 
-ghost use Rattle.std.specs.Prelude.{◌≡◌, ◌↔◌, ◌<◌, ℕ, [], length, slice_index_or, IsTrue};
-ghost use Rattle.nll_sets.specs.Runs.{MakeUp, last_of};
+ghost use Rattle.std.specs.Prelude.{◌≡◌, ◌↔◌, ◌<◌, [], length, slice_index_or, IsTrue};
 ghost use Rattle.nll_live.specs.LiveSets.{IsIn};
 
-use nll_sets::{Element, ElementSet, Run, RunSet};
+use nll_sets::{Element, ElementSet, RunSet};
 use std::marker::Model;
 
 /// For each variable of a body the points where it is use-live, and those where it is drop-live.
@@ -50,25 +49,5 @@ impl LiveSets {
         ensures { IsTrue result ↔ IsIn self.now.drops variable point }
     {
         self.drops[variable as usize].has(Element(point))
-    }
-
-    // The runs of the points where a variable is use-live.
-    pub(crate) fn use_runs(&self, variable: u32) -> &[Run]
-        requires { variable < length self.now.uses }
-        ensures make_up { MakeUp result.now (slice_index_or self.now.uses variable []) }
-        ensures within { (k : ℕ) → k < length result.now
-            → last_of result.now k < length (slice_index_or self.now.uses variable []) }
-    {
-        self.uses[variable as usize].as_runs()
-    }
-
-    // The runs of the points where a variable is drop-live.
-    pub(crate) fn drop_runs(&self, variable: u32) -> &[Run]
-        requires { variable < length self.now.drops }
-        ensures make_up { MakeUp result.now (slice_index_or self.now.drops variable []) }
-        ensures within { (k : ℕ) → k < length result.now
-            → last_of result.now k < length (slice_index_or self.now.drops variable []) }
-    {
-        self.drops[variable as usize].as_runs()
     }
 }

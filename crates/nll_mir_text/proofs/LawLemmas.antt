@@ -8,11 +8,11 @@ use Rattle.nll_mir_grammar.specs.declared.version.Version.{Version}
 use Rattle.nll_mir_grammar.specs.declared.version.Version.TheVariants.{First, Second}
 use Rattle.nll_body.specs.Bodies.{BodyText}
 use Rattle.nll_body.specs.Sound.{IsSound}
+use Rattle.nll_body.specs.WellTyped.{IsWellTyped}
 use Rattle.nll_mir_text.specs.MirSaid.{said}
-use Rattle.nll_mir_text.specs.MirText.{mir, Means, IsMirFault, IsWellTyped, body_said}
+use Rattle.nll_mir_text.specs.MirText.{mir, Means, IsMirFault, body_said}
 use Rattle.nll_mir_text.proofs.NeitherLemmas.{text_not_neither}
 use Rattle.nll_mir_text.proofs.SoundLemmas.{sound_text}
-use Rattle.nll_mir_text.proofs.TypedLemmas.{typed_text}
 use Rattle.nll_mir_text.proofs.VersionLemmas.{one_form_in, one_version, of_headed}
 
 pub one_fault_lem : (text : List ℕ) (l m : ℕ) (j k : TextKind) → IsMirFault text l j → IsMirFault text m k
@@ -40,7 +40,7 @@ pub meanings_are_sound_lem : (text : List ℕ) (body : BodyText) → Means text 
 meanings_are_sound_lem text body m = subst IsSound (sym m.same) (sound_text m.version text m.forms m.fits)
 
 pub meanings_are_typed_lem : (text : List ℕ) (body : BodyText) → Means text body → IsWellTyped body
-meanings_are_typed_lem text body m = subst IsWellTyped (sym m.same) (typed_text m.version text m.forms m.fits)
+meanings_are_typed_lem text body m = (meanings_are_sound_lem text body m).well_typed
 
 pub not_neither_lem : (text : List ℕ) → ((body : BodyText) → Means text body → ⊥)
     → ((l : ℕ) (k : TextKind) → IsMirFault text l k → ⊥) → ⊥

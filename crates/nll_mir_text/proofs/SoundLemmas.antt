@@ -22,6 +22,7 @@ use Rattle.nll_resolve.specs.ToldTypes.{have_arguments, are_known}
 use Rattle.nll_format.specs.Text.{Says, IsText}
 use Rattle.nll_body.specs.Edges.{edges_from, edge_count}
 use Rattle.nll_body.specs.Sound.{IsSound}
+use Rattle.nll_body.specs.WellTyped.{IsWellTyped}
 use Rattle.nll_body.proofs.PointLemmas.{same_targets, same_end}
 use Rattle.nll_mir_text.specs.MirSaid.{Said, said, scope_inside}
 use Rattle.nll_mir_text.specs.StructLines.{is_region}
@@ -37,6 +38,7 @@ use Rattle.nll_mir_text.proofs.GoodFieldLemmas.{well_formed}
 use Rattle.nll_mir_text.proofs.GroupLemmas.{follows, in_body, before_blocks}
 use Rattle.nll_mir_text.proofs.SaidLemmas.{in_order, said_push, behind_all, reached_at_end}
 use Rattle.nll_mir_text.proofs.StructLemmas.{order_push, kinds_pushed, regions_declared, types_declared, good_fields}
+use Rattle.nll_mir_text.proofs.TypedLemmas.{typed_text}
 
 -- ---- what holds of what lines say
 
@@ -648,8 +650,8 @@ module _ (s : Said) (w : IsWell s) (at_end : s.reached ≡ 9) where
   first : slice_get s.starts 0 ≡ Some 0
   first = w.places.at_zero some_start
 
-  sound_said : IsSound (body_said s)
-  sound_said =
+  sound_said : IsWellTyped (body_said s) → IsSound (body_said s)
+  sound_said typed =
       let d = w.declares in
       let p = w.places in
       record {
@@ -673,6 +675,7 @@ module _ (s : Said) (w : IsWell s) (at_end : s.reached ≡ 9) where
         types = d.keep;
         written_regions = w.written.regions;
         written_types = w.written.types;
+        well_typed = typed;
       }
 
 -- the body that a text that fits says is sound
@@ -680,3 +683,4 @@ pub sound_text : (v : Version) (text : List ℕ) (forms : List Form) → IsText 
     → IsSound (body_said (said forms))
 sound_text v text forms fits =
     sound_said (said forms) (well_said v fits.body forms fits.fine) (reached_at_end forms fits.ended)
+    (typed_text v text forms fits)

@@ -18,7 +18,8 @@ use Rattle.nll_mir_grammar.specs.declared.version.Version.{Version}
 use Rattle.nll_mir_text.specs.MirSaid.{Said, said}
 use Rattle.nll_mir_text.specs.MirSteps.{says, nothing_said, declared, statement_meant}
 use Rattle.nll_mir_text.specs.MirFaults.{first_fault, shapes_fit}
-use Rattle.nll_mir_text.specs.MirText.{mir, body_said, IsWellTyped}
+use Rattle.nll_body.specs.WellTyped.{IsWellTyped}
+use Rattle.nll_mir_text.specs.MirText.{mir, body_said}
 use Rattle.nll_mir_text.proofs.FaultLemmas.{faultless}
 use Rattle.nll_mir_text.proofs.LineLemmas.{nothing_at, pushed_at}
 use Rattle.nll_mir_text.proofs.GroupLemmas.{follows, before_blocks}

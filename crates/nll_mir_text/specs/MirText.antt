@@ -1,20 +1,15 @@
 -- MIR texts as a format, and what a MIR text means. Source: project's choice; docs/FORMATS.md says
 -- the same in prose.
-use Rattle.std.specs.Prelude.{◌≡◌, ◌≤◌, ℕ, true, List, codes, Contains, All, length}
-use Rattle.nll_problem.specs.Limits.{most_structs}
+use Rattle.std.specs.Prelude.{◌≡◌, ℕ, List, codes, Contains}
 use Rattle.nll_format.specs.Text.{Format, IsText, IsHeaded, IsHeader, IsFault}
 use Rattle.nll_format.specs.declared.error.TextKind.{TextKind}
-use Rattle.nll_types.specs.Types.{TypeTree}
-use Rattle.nll_types.specs.Shapes.{is_small}
-use Rattle.nll_statements.specs.Statements.{Statement}
-use Rattle.nll_statements.specs.Typing.{types_agree, types_are_small, are_small}
 use Rattle.nll_mir_grammar.specs.MirForms.{Form, end}
 use Rattle.nll_mir_grammar.specs.Versions.{HasFormIn, version_codes}
 use Rattle.nll_mir_grammar.specs.declared.version.Version.{Version}
 use Rattle.nll_mir_grammar.specs.declared.version.Version.TheVariants.{First, Second}
 use Rattle.nll_mir_text.specs.MirSaid.{Said, said}
 use Rattle.nll_mir_text.specs.MirFaults.{first_fault}
-use Rattle.nll_body.specs.Bodies.{BodyText, StandsAt}
+use Rattle.nll_body.specs.Bodies.{BodyText}
 
 -- MIR texts of a version: their lines have the forms of the version, and the last line that a text
 -- needs is an `end` line
@@ -49,18 +44,6 @@ pub record Means (text : List ℕ) (body : BodyText) : Type 0 where
   pub forms : List Form
   pub fits : IsText (mir version) text forms
   pub same : body ≡ body_said (said forms)
-
--- The body is well typed: at each point each place has a type, the types that must be equal when
--- regions are erased are, and none of the types there has more nodes than a type may have. Nor has
--- that of a variable or of a struct's field; and there are no more structs than there may be.
-pub record IsWellTyped (body : BodyText) : Type 0 where
-  pub struct_limit : length body.structs ≤ most_structs
-  pub fields : All (λ d. are_small d.fields ≡ true) body.structs
-  pub variables : All (λ t. is_small t ≡ true) body.variables
-  pub agree : (p : ℕ) (i : Statement ℕ TypeTree) → StandsAt body p i
-      → types_agree body.structs body.variables i ≡ true
-  pub small : (p : ℕ) (i : Statement ℕ TypeTree) → StandsAt body p i
-      → types_are_small body.structs body.variables i ≡ true
 
 -- The version of a text: the second where its first line is the header of version 2, and else the
 -- first.

@@ -4,7 +4,8 @@ ghost use Rattle.std.specs.Prelude.{◌≡◌, ℕ, List};
 ghost use Rattle.nll_format.specs.declared.error.TextKind.{TextKind};
 ghost use Rattle.nll_body.specs.Bodies.{BodyText};
 ghost use Rattle.nll_body.specs.Sound.{IsSound};
-ghost use Rattle.nll_mir_text.specs.MirText.{Means, IsMirFault, IsWellTyped};
+ghost use Rattle.nll_body.specs.WellTyped.{IsWellTyped};
+ghost use Rattle.nll_mir_text.specs.MirText.{Means, IsMirFault};
 
 /// States that a text has at most one fault.
 pub fn mir_one_fault()

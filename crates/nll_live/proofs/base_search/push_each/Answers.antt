@@ -1,15 +1,14 @@
 use Rattle.std.proofs.Common.{◌≡◌, ◌<◌, ◌∙◌, ℕ, length, map, Contains, subst, sym, arith}
 use Rattle.std.proofs.lemmas.List.{length-map}
-use Rattle.std.proofs.lemmas.Option.{slice_get_within}
 use Rattle.nll_problem.specs.Rows.{row_at}
-use Rattle.nll_types.specs.Types.{HasRegion}
-use Rattle.nll_live.specs.Live.{AsksForUse, UsesAt, IsLive, IsUseLive}
-use Rattle.nll_live.proofs.AskLemmas.{asked_of, asked_to_step, asked_to_last, use_declared}
+use Rattle.nll_live.specs.Live.{IsLive}
+use Rattle.nll_live.specs.Kinds.{AsksFor, IsWanted, KeepsAt}
+use Rattle.nll_live.proofs.AskLemmas.{asked_of, asked_to_step, asked_to_last, declared, kept_within}
 use Rattle.nll_live.proofs.GatheringLemmas.{listed_within}
 use Rattle.nll_live.proofs.VectorLemmas.{row_here}
 use Rattle.nll_live.proofs.WalkLemmas.{live_same}
-use Rattle.nll_live.proofs.base_search.push_each_use.Goals as goal
-use Rattle.nll_live.proofs.base_search.push_each_use.Goals.{After-as_slice-list}
+use Rattle.nll_live.proofs.base_search.push_each.Goals as goal
+use Rattle.nll_live.proofs.base_search.push_each.Goals.{After-as_slice-list}
 
 -- the list of the variable
 list_is : (c : After-as_slice-list)
@@ -29,7 +28,7 @@ pub push_found-requires-clause-points : goal.push_found-requires-clause-points
 push_found-requires-clause-points c =
     let d = (goal.at.push_found-requires-clause-points c).After-as_slice-list in
     λ p h.
-    (listed_within (length c.args.ways.now.body.now.variables) (UsesAt c.args.ways.now.body.now)
+    (listed_within (length c.args.ways.now.body.now.variables) (KeepsAt c.args.kind c.args.ways.now.body.now)
     (length c.args.ways.now.body.now.points)
     (map (λ list. list.items) c.args.lists.now) c.requires.listed
     c.loop-variable.variable p (subst (λ row. Contains row p) (list_is d) h)).2
@@ -46,24 +45,29 @@ loop-variable-preserved c =
       width = c.in_ok-push_found.ensures.width;
       tall = c.in_ok-push_found.ensures.tall;
       fresh = c.in_ok-push_found.ensures.fresh;
-      asked = asked_to_step (AsksForUse body) c.args.base_runs.now.items x c.loop-variable.base_runs.items
+      asked = asked_to_step (AsksFor c.args.kind body) c.args.base_runs.now.items x c.loop-variable.base_runs.items
           c.push_found.new.base_runs.items c.loop-variable.invariant.asked
-          (asked_of body x c.as_slice.result.now HasRegion (IsLive body (Contains list) x)
-          (IsUseLive body x) c.loop-variable.base_runs.items c.push_found.new.base_runs.items within
-          (rw c.as_slice.ensures.value c.in_ok-regions.ensures.each)
+          (asked_of body x c.as_slice.result.now (IsWanted c.args.kind body) (IsLive body (Contains list) x)
+          (IsLive body (KeepsAt c.args.kind body x) x)
+          c.loop-variable.base_runs.items c.push_found.new.base_runs.items within
+          (rw c.as_slice.ensures.value c.in_ok-regions.ensures)
           (λ p. (
-            live_same body (Contains list) (UsesAt body x) x p
+            live_same body (Contains list) (KeepsAt c.args.kind body x) x p
                 (λ q k. ((c.requires.listed.each x q within).0 (subst (λ row. Contains row q) (list_is d) k)).0),
-            live_same body (UsesAt body x) (Contains list) x p
+            live_same body (KeepsAt c.args.kind body x) (Contains list) x p
                 (λ q k. subst (λ row. Contains row q) (sym (list_is d))
-                ((c.requires.listed.each x q within).1 (k, slice_get_within body.points q k.0 k.1))),
+                ((c.requires.listed.each x q within).1 (k, kept_within c.args.kind body x q k))),
           ))
           c.in_ok-push_found.ensures.gains);
     }
 
 pub returns : goal.returns
 returns c =
-    asked_to_last (AsksForUse c.args.ways.now.body.now) c.args.base_runs.now.items c.loop-variable.variable
+    asked_to_last (AsksFor c.args.kind c.args.ways.now.body.now) c.args.base_runs.now.items c.loop-variable.variable
     c.loop-variable.base_runs.items
-    (λ x r p h. omega (arith, use_declared c.args.ways.now.body.now x r p h, c.variables-variable-end.ensures.value))
+    (λ x r p h. omega (
+      arith,
+      declared c.args.kind c.args.ways.now.body.now x r p h,
+      c.variables-variable-end.ensures.value,
+    ))
     c.loop-variable.invariant.asked

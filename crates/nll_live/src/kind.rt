@@ -1,0 +1,56 @@
+//! What keeps variables live.
+
+ghost use Rattle.std.specs.Prelude.{◌↔◌, ◌<◌, ℕ, length, map, Contains, IfOk};
+ghost use Rattle.nll_types.specs.Types.{TypeTree};
+ghost use Rattle.nll_body.specs.Bodies.{HasType};
+ghost use Rattle.nll_live.specs.Gathering.{AreListed};
+ghost use Rattle.nll_live.specs.Kinds.{IsWanted, KeepsAt};
+
+use crate::points_by_variable::{drops_by_variable, uses_by_variable};
+use nll_body::Body;
+use nll_problem::RegionId;
+use nll_sets::Memory;
+use std::alloc::Global;
+
+/// A variable is live where it may still be used, and where it may still be dropped.
+#[derive(Clone, Copy)]
+pub(crate) enum Kind {
+    Use,
+    Drop,
+}
+
+impl Kind {
+    /// For each variable the points that use it, or those that drop it.
+    pub(crate) fn points_by_variable(
+        self,
+        alloc: Global,
+        body: &Body,
+    ) -> Result<Vec<Vec<u32>>, Memory>
+        ensures { IfOk result (λ lists. AreListed (length body.now.variables)
+            (KeepsAt self body.now) (length body.now.points)
+            (map (λ list. list.items) lists.items)) }
+    {
+        match self {
+            Kind::Use => uses_by_variable(alloc, body),
+            Kind::Drop => drops_by_variable(alloc, body),
+        }
+    }
+
+    /// The regions that a variable asks for where it is live: those of its type, or its drop
+    /// regions.
+    pub(crate) fn regions(
+        self,
+        alloc: Global,
+        body: &Body,
+        variable: u32,
+    ) -> Result<Vec<RegionId>, Memory>
+        requires { variable < length body.now.variables }
+        ensures { IfOk result (λ v. (t : TypeTree) → HasType body.now variable t
+            → (r : ℕ) → Contains v.items r ↔ IsWanted self body.now t r) }
+    {
+        match self {
+            Kind::Use => body.var_regions(alloc, variable),
+            Kind::Drop => body.var_drop_regions(alloc, variable),
+        }
+    }
+}
