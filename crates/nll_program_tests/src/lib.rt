@@ -5,7 +5,7 @@
 //! then says what they hold.
 //!
 //! Reading order: `known`, `rows`, `notes`, `comparison`, `problem_text`, `answers`, `fakes`,
-//! `program`, `examples`, then each further module of tests.
+//! `program`, `examples`, `worked`, then each further module of tests.
 #![tactic(auto)]
 
 mod known;
@@ -63,8 +63,14 @@ mod values;
 #[cfg(test)]
 mod words;
 #[cfg(test)]
+mod worked;
+#[cfg(test)]
 mod worked_bodies;
+#[cfg(test)]
+mod worked_borders;
 #[cfg(test)]
 mod worked_facts;
 #[cfg(test)]
-mod worked_owners;
+mod worked_program;
+#[cfg(test)]
+mod worked_versions;

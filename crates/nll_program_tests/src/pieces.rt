@@ -80,8 +80,8 @@ pub fn text_of(alloc: Global, pieces: &[Piece], points: &str) -> String {
     out
 }
 
-/// Ends the test unless that is what the program does with words over a text and a list.
-pub fn compare_run<R: Abort + AllocGlobal + Threads + Wait + Sync>(
+// Ends the test unless that is what the program does with words over a text and a list.
+fn compare_run<R: Abort + AllocGlobal + Threads + Wait + Sync>(
     rt: &R,
     words: &str,
     (text, list): (&str, &str),
