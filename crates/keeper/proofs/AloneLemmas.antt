@@ -1,9 +1,12 @@
 -- What the log of the only owner tells.
-use Rattle.std.proofs.Common.{◌≡◌, ◌↔◌, ℕ, ◌<◌, List, [], ◌∷◌, arith, refl, sym, ap, ◌∙◌, subst}
-use Rattle.fixpoint.specs.Rules.{Rules, AreLawful, Least}
-use Rattle.fixpoint.specs.Logs.{IsTold, AreSound, AreSettled, log_of}
-use Rattle.fixpoint.specs.State.{State, IsSound, IsDone, received_from}
+use Rattle.std.proofs.Common.{◌≡◌, ◌↔◌, ℕ, ◌<◌, IsTrue, List, [], ◌∷◌, Contains, arith, refl, sym, ap, ◌∙◌, subst, inl, ⊎_elim}
+use Rattle.fixpoint.specs.Rules.{Rules, AreLawful, Least, Sees}
+use Rattle.fixpoint.specs.Logs.{IsTold, IsWellSupported, AreSound, AreSettled, list_of, log_of, part, tells_before}
+use Rattle.fixpoint.specs.State.{State, IsSound, IsDone, list_in, received_from}
+use Rattle.fixpoint.specs.Finishing.{AreRanked}
 use Rattle.fixpoint.proofs.LawLemmas.{least_exact, in_range}
+use Rattle.fixpoint.proofs.LogLemmas.{list_own}
+use Rattle.fixpoint.proofs.RankLemmas.{ranks_low}
 
 module _ {A F G : Type 0} (rules : Rules A F G) (lawful : AreLawful rules) (o : State A G)
     (one : rules.parts o.system ≡ 1) (sound : IsSound rules o) (done : IsDone rules o) where
@@ -54,3 +57,49 @@ module _ {A F G : Type 0} (rules : Rules A F G) (lawful : AreLawful rules) (o : 
         let low = in_range rules lawful o.system sound.valid logs received are_sound f h in
         subst (λ log. IsTold rules log f) (log_is _ low) h,
   )
+
+  -- the only owner looks up in its log what it sees, whatever it received
+  own_list : (got : ℕ → List G) (f : F) → Sees rules o.system o.me f
+      → list_of rules o.system o.me o.log got f ≡ o.log
+  own_list got f sees = ⊎_elim (λ own. list_own rules o.system o.me o.log got f own)
+      (λ read. let other = lawful.others o.system sound.valid o.me f read in absurd (other.1 (only _ other.0))) sees
+
+  abbrev told : ℕ → ℕ → List G
+  told i j = part rules o.system i (log_of logs j)
+
+  supported_so : IsWellSupported rules o.system (list_of rules o.system o.me o.log (told o.me)) o.log
+  supported_so g at =
+      lawful.local o.system sound.valid (λ f. tells_before rules (rules.rank g) (list_in rules o f) f)
+      (λ f. tells_before rules (rules.rank g) (list_of rules o.system o.me o.log (told o.me) f) f) (rules.fact g)
+      (λ f sees t.
+      let mine : Sees rules o.system o.me f =
+      subst (λ k. Sees rules o.system k f) (sound.well_formed.own g at) sees in
+      subst (λ xs. IsTrue (tells_before rules (rules.rank g) xs f))
+      (own_list (received_from o) f mine ∙ sym (own_list (told o.me) f mine)) t)
+      (sound.supported g at)
+
+  pub logs_sound : AreSound rules o.system logs told
+  logs_sound = record {
+    counted = sym one;
+    well_formed = are_sound.well_formed;
+    supported = λ i low. rw (log_is i low, only i low) supported_so;
+    heard = λ i j li lj other g at. none_other i j li lj other;
+  }
+
+  pub logs_ranked : AreRanked rules o.system logs
+  logs_ranked = record {
+    next = λ i g l at more.
+        let s = sound.steps g (subst (λ xs. Contains xs g) (log_is i l) at) more in (
+          s.0,
+          ⊎_elim (λ own. inl (subst (λ xs. Contains xs s.0) (sym (log_is i l)) own))
+              (λ t.
+              let heard = sound.heard t.0 s.0 t.1 in
+              let other = lawful.others o.system sound.valid o.me (rules.fact s.0) heard.1 in
+              absurd (other.1 (only _ other.0)))
+              s.1,
+          s.2,
+        );
+    low = λ i g l at.
+        ranks_low rules lawful o.system sound.valid (λ k. o) (λ k m. sound) (λ k m. refl) (λ k m. sym (only k m))
+        (λ k j h lk lj other heard. none_other k j lk lj other) i g l (subst (λ xs. Contains xs g) (log_is i l) at);
+  }

@@ -1,8 +1,9 @@
 //! One keeper alone: an engine of one owner is solved without threads.
 
-ghost use Rattle.std.specs.Prelude.{◌≡◌, ◌↔◌, IfOk};
+ghost use Rattle.std.specs.Prelude.{◌≡◌, ◌↔◌, [], ◌∷◌, IfOk};
+ghost use Rattle.fixpoint.specs.Finishing.{AreRanked};
 ghost use Rattle.fixpoint.specs.Rules.{Least};
-ghost use Rattle.fixpoint.specs.Logs.{IsTold, IsWellFormed};
+ghost use Rattle.fixpoint.specs.Logs.{AreSound, IsTold, log_of, part};
 
 use crate::book::Book;
 use crate::engine::Engine;
@@ -10,7 +11,8 @@ use crate::settle::settle;
 use nll_sets::Memory;
 use std::alloc::Global;
 
-/// The log of the only owner of an engine. It tells exactly the least solution.
+/// The log of the only owner of an engine, of which all holds that holds of the logs of a run (`run`).
+/// It tells exactly the least solution.
 ///
 /// # Errors
 /// - `Memory`.
@@ -18,7 +20,9 @@ pub fn solve<E: Engine>(alloc: Global, engine: &E) -> Result<Vec<E::Growth>, Mem
     requires { E.rules.parts engine.now ≡ 1 }
     ensures exact { IfOk result (λ log. (f : E.Fact)
         → IsTold E.rules log.items f ↔ Least E.rules engine.now f) }
-    ensures well_formed { IfOk result (λ log. IsWellFormed E.rules engine.now 0 log.items) }
+    ensures sound { IfOk result (λ log. AreSound E.rules engine.now (log.items ∷ [])
+        (λ i j. part E.rules engine.now i (log_of (log.items ∷ []) j))) }
+    ensures ranked { IfOk result (λ log. AreRanked E.rules engine.now (log.items ∷ [])) }
 {
     let mut book = Book::new(alloc, engine, 0)?;
     let mut store = engine.store(alloc, 0)?;

@@ -245,8 +245,9 @@ pub fn first_difference<R: Threads + Wait + Copy + Send + Sync>(
     Ok(None)
 }
 
+// By this seed the graphs have 50, 7, 1, 40, 64, 64, 2, 33, 19, 57, 51 and 43 owners.
 #[test]
 fn owners_reach_what_a_search_reaches(rt: HostRuntime) -> Result<(), Fail> {
-    assert_eq!(rt; first_difference(&rt, rt.alloc(), 1, 12), Ok(None));
+    assert_eq!(rt; first_difference(&rt, rt.alloc(), 62, 12), Ok(None));
     Ok(())
 }

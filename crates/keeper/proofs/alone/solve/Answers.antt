@@ -1,6 +1,6 @@
 use Rattle.std.proofs.Common.{◌≡◌, ◌∙◌, ap, sym}
 use Rattle.fixpoint.specs.State.{State}
-use Rattle.keeper.proofs.AloneLemmas.{tells_least}
+use Rattle.keeper.proofs.AloneLemmas.{tells_least, logs_sound, logs_ranked}
 use Rattle.keeper.proofs.KeepingLemmas.{first_has}
 use Rattle.keeper.proofs.DueLemmas.{due_first}
 use Rattle.keeper.proofs.alone.solve.Goals as goal
@@ -28,4 +28,22 @@ returns-clause-exact g c =
     ∙ ap (λ (s : State _ _). s.system) c.in_ok-book.ensures in
     rw (c.into_log.ensures, ← is)
     (tells_least g.E.Rules.rules g.met.E.Rules.lawful o (rw is c.requires) c.settle.ensures.sound
+    c.in_ok-settle.ensures.done)
+
+pub returns-clause-sound : goal.returns-clause-sound
+returns-clause-sound g c =
+    let o = c.settle.new.book in
+    let is : o.system ≡ c.args.engine.now = ap (λ (s : State _ _). s.system) c.settle.ensures.grows.others
+    ∙ ap (λ (s : State _ _). s.system) c.in_ok-book.ensures in
+    rw (c.into_log.ensures, ← is)
+    (logs_sound g.E.Rules.rules g.met.E.Rules.lawful o (rw is c.requires) c.settle.ensures.sound
+    c.in_ok-settle.ensures.done)
+
+pub returns-clause-ranked : goal.returns-clause-ranked
+returns-clause-ranked g c =
+    let o = c.settle.new.book in
+    let is : o.system ≡ c.args.engine.now = ap (λ (s : State _ _). s.system) c.settle.ensures.grows.others
+    ∙ ap (λ (s : State _ _). s.system) c.in_ok-book.ensures in
+    rw (c.into_log.ensures, ← is)
+    (logs_ranked g.E.Rules.rules g.met.E.Rules.lawful o (rw is c.requires) c.settle.ensures.sound
     c.in_ok-settle.ensures.done)
