@@ -11,8 +11,8 @@ use crate::settle::settle;
 use nll_sets::Memory;
 use std::alloc::Global;
 
-/// The log of the only owner of an engine, of which all holds that holds of the logs of a run (`run`).
-/// It tells exactly the least solution.
+/// The log of the only owner of an engine. It tells exactly the least solution, and is as sound and
+/// ranked as the logs of a run.
 ///
 /// # Errors
 /// - `Memory`.
