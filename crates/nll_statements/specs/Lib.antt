@@ -5,3 +5,4 @@ pub mod Edges
 pub mod Kept
 pub mod TypePairs
 pub mod Typing
+pub mod Meant

@@ -12,5 +12,5 @@ mod statement_judgement;
 mod written;
 
 pub use edges::Exits;
-pub use statement::{Call, Make, Statement};
+pub use statement::{Call, Make, Statement, Stmt};
 pub use statement_judgement::judge_statement;

@@ -1,16 +1,18 @@
 //! Operands against types: those of a tuple or struct that is made, and those of a call.
 
-ghost use Rattle.std.specs.Prelude.{◌≡◌, ◌↔◌, ◌&&◌, ◌++◌, ◌<◌, ◌≤◌, List, Some, length, map};
+ghost use Rattle.std.specs.Prelude.{◌≡◌, ◌↔◌, ◌&&◌, ◌<◌, List, Some, length, map};
 ghost use Rattle.std.specs.Prelude.{IfOk, IsTrue};
 ghost use Rattle.std.specs.List.{flat_map, list_all};
 ghost use Rattle.nll_types.specs.Declarations.{structs_of};
 ghost use Rattle.nll_types.specs.Judging.{HaveShapes, IsJudged, have_variables};
 ghost use Rattle.nll_types.specs.Operands.{operand_of, operand_type, place_in};
 ghost use Rattle.nll_types.specs.Places.{behind, part_count, small_prefixes};
+ghost use Rattle.nll_types.specs.Rows.{numbers_of};
 ghost use Rattle.nll_types.specs.Shapes.{shape_of, is_small};
 ghost use Rattle.nll_types.specs.Table.{AreBelow, shape_in};
 ghost use Rattle.nll_types.specs.Tables.{AddsShapes};
 ghost use Rattle.nll_types.specs.Types.{TypeTree};
+ghost use Rattle.nll_types.specs.declared.typed.Typed.{Typed};
 ghost use Rattle.nll_types.specs.declared.place.Projection.TheVariants.{Field as field};
 ghost use Rattle.nll_statements.specs.TypePairs.{beside_parts, operand_types, parts_of_type};
 ghost use Rattle.nll_statements.specs.Typing as spec;
@@ -18,7 +20,7 @@ ghost use Rattle.nll_statements.specs.Typing.{pairs_agree, parts_are_small};
 
 use crate::declared::{are_operands_declared, is_operand_declared};
 use nll_sets::Memory;
-use nll_types::{Judgement, Operand, TypeTable};
+use nll_types::{Judgement, Operand, TypeTable, Typed};
 use std::alloc::Global;
 
 // Whether types of this shape have this many parts.
@@ -37,18 +39,18 @@ fn has_parts(table: &TypeTable, shape: usize, count: usize) -> bool
 fn judge_part(
     alloc: Global,
     table: &mut TypeTable,
-    variables: &[usize],
+    variables: &[Typed],
     operand: &Operand,
     shape: usize,
     place: usize,
 ) -> Result<Judgement, Memory>
-    requires variables { AreBelow (length table.old.shapes) variables.now }
+    requires variables { AreBelow (length table.old.shapes) (numbers_of variables.now) }
     requires shape { shape < length table.old.shapes }
     ensures grows { AddsShapes table.old table.new }
     ensures declared { IfOk result (λ j. j.declared
         ≡ have_variables (length variables.now) (place_in (operand_of operand.now))) }
     ensures judged { IfOk result (λ j. (types : List TypeTree) (t u : TypeTree)
-        → HaveShapes table.old.shapes variables.now types
+        → HaveShapes table.old.shapes (numbers_of variables.now) types
         → shape_in table.old.shapes shape ≡ shape_of t
         → behind (structs_of table.old.structs) (field place) t ≡ Some u
         → IsJudged
@@ -67,17 +69,17 @@ fn judge_part(
 pub(crate) fn judge_parts(
     alloc: Global,
     table: &mut TypeTable,
-    variables: &[usize],
+    variables: &[Typed],
     operands: &[Operand],
     shape: usize,
 ) -> Result<Judgement, Memory>
-    requires variables { AreBelow (length table.old.shapes) variables.now }
+    requires variables { AreBelow (length table.old.shapes) (numbers_of variables.now) }
     requires shape { shape < length table.old.shapes }
     ensures grows { AddsShapes table.old table.new }
     ensures declared { IfOk result (λ j. j.declared ≡ have_variables (length variables.now)
         (flat_map place_in (map operand_of operands.now))) }
     ensures judged { IfOk result (λ j. (types : List TypeTree) (t : TypeTree)
-        → HaveShapes table.old.shapes variables.now types
+        → HaveShapes table.old.shapes (numbers_of variables.now) types
         → shape_in table.old.shapes shape ≡ shape_of t
         → IsJudged
         (pairs_agree (beside_parts
@@ -99,24 +101,23 @@ pub(crate) fn judge_parts(
     Ok(judged)
 }
 
-/// Judges the operands of a call against types of the first of these shapes.
-pub(crate) fn judge_arguments<T>(
+/// Judges the operands of a call against the types of the parameters for which they are.
+pub(crate) fn judge_arguments(
     alloc: Global,
     table: &mut TypeTable,
-    variables: &[usize],
-    arguments: &[(Operand, T)],
-    written: &[usize],
+    variables: &[Typed],
+    arguments: &[(Operand, Typed)],
 ) -> Result<Judgement, Memory>
-    requires variables { AreBelow (length table.old.shapes) variables.now }
-    requires written { AreBelow (length table.old.shapes) written.now }
-    requires each { length arguments.now ≤ length written.now }
+    requires variables { AreBelow (length table.old.shapes) (numbers_of variables.now) }
+    requires written { AreBelow (length table.old.shapes)
+        (numbers_of (map (λ a. a.1) arguments.now)) }
     ensures grows { AddsShapes table.old table.new }
     ensures declared { IfOk result (λ j. j.declared ≡ have_variables (length variables.now)
         (flat_map place_in (map (λ a. operand_of a.0) arguments.now))) }
-    ensures judged { IfOk result (λ j. (types others : List TypeTree) (g : T → TypeTree)
-        → HaveShapes table.old.shapes variables.now types
-        → HaveShapes table.old.shapes written.now
-        (map (λ a. g a.1) arguments.now ++ others)
+    ensures judged { IfOk result (λ j. (types : List TypeTree) (g : Typed → TypeTree)
+        → HaveShapes table.old.shapes (numbers_of variables.now) types
+        → HaveShapes table.old.shapes (numbers_of (map (λ a. a.1) arguments.now))
+        (map (λ a. g a.1) arguments.now)
         → IsJudged
         (list_all
         (λ a. spec.agree (operand_type (structs_of table.old.structs) types (operand_of a.0))
@@ -127,8 +128,8 @@ pub(crate) fn judge_arguments<T>(
 {
     let mut judged = Judgement::fitting(true, true);
     for place in 0..arguments.len() {
-        let (argument, shape) = (&arguments[place], written[place]);
-        let one = table.judge_operand(alloc, variables, &argument.0, shape)?;
+        let argument = &arguments[place];
+        let one = table.judge_operand(alloc, variables, &argument.0, argument.1.shape)?;
         judged = judged.and(one);
     }
     Ok(judged)

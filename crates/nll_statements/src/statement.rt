@@ -1,6 +1,7 @@
 //! A statement or terminator at a point of a body.
 
-use nll_types::{Operand, Place};
+use nll_problem::RegionId;
+use nll_types::{Operand, Place, Typed};
 
 /// A tuple or struct of a type, made of operands, which goes to a place.
 #[derive(Drop)]
@@ -56,3 +57,6 @@ pub enum Statement<R, T> {
     /// `stop`
     Stop,
 }
+
+/// A statement or terminator of a body.
+pub type Stmt = Statement<RegionId, Typed>;

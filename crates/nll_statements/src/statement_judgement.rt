@@ -1,17 +1,19 @@
 //! Judging statements, a case a form.
 
-ghost use Rattle.std.specs.Prelude.{◌≡◌, ◌&&◌, ◌++◌, ◌+◌, ◌∷◌, [], ◌<◌, ℕ, List};
+ghost use Rattle.std.specs.Prelude.{◌≡◌, ◌&&◌, ◌++◌, ◌∷◌, [], ◌<◌, ℕ, List};
 ghost use Rattle.std.specs.Prelude.{IfOk, Option, Some, length, map, nat_lt, true};
 ghost use Rattle.std.specs.List.{flat_map, list_all};
 ghost use Rattle.nll_types.specs.Declarations.{structs_of};
 ghost use Rattle.nll_types.specs.Judging.{HaveShapes, IsJudged, have_variables};
 ghost use Rattle.nll_types.specs.Operands.{operand_of, operand_type, place_in};
 ghost use Rattle.nll_types.specs.Places.{path_of, small_prefixes};
+ghost use Rattle.nll_types.specs.Rows.{numbers_of};
 ghost use Rattle.nll_types.specs.Shapes.{shape_of, is_small};
 ghost use Rattle.nll_types.specs.Structs.{Struct};
 ghost use Rattle.nll_types.specs.Table.{AreBelow, shape_in};
 ghost use Rattle.nll_types.specs.Tables.{AddsShapes};
 ghost use Rattle.nll_types.specs.Types.{TypeTree, int};
+ghost use Rattle.nll_types.specs.declared.typed.Typed.{Typed};
 ghost use Rattle.nll_statements.specs.Kept.{statement_of};
 ghost use Rattle.nll_statements.specs.Statements.{map_statement, types_written, make, call};
 ghost use Rattle.nll_statements.specs.Written.{variables_written};
@@ -22,25 +24,25 @@ use crate::declared::is_declared;
 use crate::parts::{judge_arguments, judge_parts};
 use crate::statement::Statement;
 use nll_sets::Memory;
-use nll_types::{Judgement, Node, Operand, Place, TypeTable};
+use nll_types::{Judgement, Node, Operand, Place, TypeTable, Typed};
 use std::alloc::Global;
 
 // Judges a tuple or struct of a type of this shape that is made of operands and goes to a place.
 fn judge_make(
     alloc: Global,
     table: &mut TypeTable,
-    variables: &[usize],
+    variables: &[Typed],
     place: &Place,
     operands: &[Operand],
     shape: usize,
 ) -> Result<Judgement, Memory>
-    requires variables { AreBelow (length table.old.shapes) variables.now }
+    requires variables { AreBelow (length table.old.shapes) (numbers_of variables.now) }
     requires shape { shape < length table.old.shapes }
     ensures grows { AddsShapes table.old table.new }
     ensures declared { IfOk result (λ j. j.declared ≡ have_variables (length variables.now)
         (path_of place.now ∷ flat_map place_in (map operand_of operands.now))) }
     ensures judged { IfOk result (λ j. (types : List TypeTree) (t : TypeTree)
-        → HaveShapes table.old.shapes variables.now types
+        → HaveShapes table.old.shapes (numbers_of variables.now) types
         → shape_in table.old.shapes shape ≡ shape_of t
         → IsJudged
         (types_agree (structs_of table.old.structs) types
@@ -53,36 +55,37 @@ fn judge_make(
     Ok(parts.and(result))
 }
 
-// Judges a call with operands for parameters of types of the first of these shapes, and whose
-// result, of a type of the last, goes to a place.
-fn judge_call<T>(
+// Judges a call with operands for parameters of types, whose result, of a type, goes to a place.
+fn judge_call(
     alloc: Global,
     table: &mut TypeTable,
-    variables: &[usize],
+    variables: &[Typed],
     place: &Place,
-    arguments: &[(Operand, T)],
-    written: &[usize],
+    arguments: &[(Operand, Typed)],
+    returned: Typed,
 ) -> Result<Judgement, Memory>
-    requires variables { AreBelow (length table.old.shapes) variables.now }
-    requires written { AreBelow (length table.old.shapes) written.now }
-    requires each { length written.now ≡ length arguments.now + 1 }
+    requires variables { AreBelow (length table.old.shapes) (numbers_of variables.now) }
+    requires written { AreBelow (length table.old.shapes)
+        (numbers_of (map (λ a. a.1) arguments.now ++ returned ∷ [])) }
     ensures grows { AddsShapes table.old table.new }
     ensures declared { IfOk result (λ j. j.declared ≡ have_variables (length variables.now)
         (path_of place.now ∷ flat_map place_in (map (λ a. operand_of a.0) arguments.now))) }
-    ensures judged { IfOk result (λ j. (types : List TypeTree) (g : T → TypeTree) (t : TypeTree)
+    ensures judged { IfOk result (λ j. (types : List TypeTree) (g : Typed → TypeTree)
         (wheres : List (ℕ × ℕ)) (b : ℕ) (unwind : Option ℕ)
-        → HaveShapes table.old.shapes variables.now types
-        → HaveShapes table.old.shapes written.now (map (λ a. g a.1) arguments.now ++ t ∷ [])
+        → HaveShapes table.old.shapes (numbers_of variables.now) types
+        → HaveShapes table.old.shapes
+        (numbers_of (map (λ a. a.1) arguments.now ++ returned ∷ []))
+        (map g (map (λ a. a.1) arguments.now ++ returned ∷ []))
         → IsJudged
         (types_agree (structs_of table.old.structs) types
-        (call (path_of place.now) (map (λ a. (operand_of a.0, g a.1)) arguments.now) t wheres b
-        unwind))
+        (call (path_of place.now) (map (λ a. (operand_of a.0, g a.1)) arguments.now)
+        (g returned) wheres b unwind))
         (types_are_small (structs_of table.old.structs) types
-        (call (path_of place.now) (map (λ a. (operand_of a.0, g a.1)) arguments.now) t wheres b
-        unwind)) j) }
+        (call (path_of place.now) (map (λ a. (operand_of a.0, g a.1)) arguments.now)
+        (g returned) wheres b unwind)) j) }
 {
-    let inputs = judge_arguments(alloc, table, variables, arguments, written)?;
-    let result = table.judge_given(alloc, variables, written[arguments.len()], place)?;
+    let inputs = judge_arguments(alloc, table, variables, arguments)?;
+    let result = table.judge_given(alloc, variables, returned.shape, place)?;
     Ok(inputs.and(result))
 }
 
@@ -90,15 +93,15 @@ fn judge_call<T>(
 fn judge_switch(
     alloc: Global,
     table: &mut TypeTable,
-    variables: &[usize],
+    variables: &[Typed],
     operand: &Operand,
 ) -> Result<Judgement, Memory>
-    requires { AreBelow (length table.old.shapes) variables.now }
+    requires { AreBelow (length table.old.shapes) (numbers_of variables.now) }
     ensures grows { AddsShapes table.old table.new }
     ensures declared { IfOk result (λ j. j.declared
         ≡ have_variables (length variables.now) (place_in (operand_of operand.now))) }
     ensures judged { IfOk result (λ j. (types : List TypeTree)
-        → HaveShapes table.old.shapes variables.now types
+        → HaveShapes table.old.shapes (numbers_of variables.now) types
         → IsJudged
         (spec.agree (operand_type (structs_of table.old.structs) types (operand_of operand.now))
         (Some int))
@@ -110,18 +113,18 @@ fn judge_switch(
 }
 
 // Judges a return: the type of the return place must be small.
-fn judge_return(table: &TypeTable, variables: &[usize]) -> Judgement
-    requires { AreBelow (length table.now.shapes) variables.now }
+fn judge_return(table: &TypeTable, variables: &[Typed]) -> Judgement
+    requires { AreBelow (length table.now.shapes) (numbers_of variables.now) }
     ensures declared { result.declared ≡ nat_lt 0 (length variables.now) }
     ensures judged { (structs : List Struct) (types : List TypeTree)
-        → HaveShapes table.now.shapes variables.now types
+        → HaveShapes table.now.shapes (numbers_of variables.now) types
         → IsJudged true (small_prefixes structs types
         (record { variable = 0; projections = [] })) result }
 {
     if variables.is_empty() {
         return Judgement::fitting(false, true);
     }
-    Judgement::fitting(true, table.shapes().is_small(variables[0]))
+    Judgement::fitting(true, table.shapes().is_small(variables[0].shape))
 }
 
 // Judges a variable that occurs by itself.
@@ -132,28 +135,26 @@ fn judge_variable(count: usize, variable: u32) -> Judgement
     Judgement::fitting(is_declared(count, variable), true)
 }
 
-/// Judges a statement, whose types that are written have these shapes, in order, over variables
-/// with types of these shapes: its variables, and the types that meet in it.
+/// Judges a statement over variables of these types: its variables, and the types that meet in it.
 ///
 /// # Cost
 /// That of a look-up for each projection and each part that is made, once their shapes are in the
 /// table (not proved).
-pub fn judge_statement<R, T>(
+pub fn judge_statement<R>(
     alloc: Global,
     table: &mut TypeTable,
-    variables: &[usize],
-    statement: &Statement<R, T>,
-    written: &[usize],
+    variables: &[Typed],
+    statement: &Statement<R, Typed>,
 ) -> Result<Judgement, Memory>
-    requires variables { AreBelow (length table.old.shapes) variables.now }
-    requires written { AreBelow (length table.old.shapes) written.now }
-    requires each { length written.now ≡ length (types_written (statement_of statement.now)) }
+    requires variables { AreBelow (length table.old.shapes) (numbers_of variables.now) }
+    requires written { AreBelow (length table.old.shapes)
+        (numbers_of (types_written (statement_of statement.now))) }
     ensures grows { AddsShapes table.old table.new }
     ensures declared { IfOk result (λ j. j.declared ≡ list_all
         (λ x. nat_lt x (length variables.now)) (variables_written (statement_of statement.now))) }
-    ensures judged { IfOk result (λ j. (types : List TypeTree) (f : R → ℕ) (g : T → TypeTree)
-        → HaveShapes table.old.shapes variables.now types
-        → HaveShapes table.old.shapes written.now
+    ensures judged { IfOk result (λ j. (types : List TypeTree) (f : R → ℕ) (g : Typed → TypeTree)
+        → HaveShapes table.old.shapes (numbers_of variables.now) types
+        → HaveShapes table.old.shapes (numbers_of (types_written (statement_of statement.now)))
         (map g (types_written (statement_of statement.now)))
         → IsJudged
         (types_agree (structs_of table.old.structs) types
@@ -170,13 +171,13 @@ pub fn judge_statement<R, T>(
         }
         Statement::Make(made) => {
             let (place, operands) = (&made.place, made.operands.as_slice());
-            judge_make(alloc, table, variables, place, operands, written[0])
+            judge_make(alloc, table, variables, place, operands, made.ty.shape)
         }
         Statement::Read(place) => table.judge_read(alloc, variables, place),
         Statement::Switch(operand, _) => { judge_switch(alloc, table, variables, operand) }
         Statement::Call(call) => {
             let (place, arguments) = (&call.place, call.arguments.as_slice());
-            judge_call(alloc, table, variables, place, arguments, written)
+            judge_call(alloc, table, variables, place, arguments, call.result)
         }
         Statement::Return => Ok(judge_return(table, variables)),
         Statement::Live(variable) | Statement::Dead(variable) => {

@@ -11,5 +11,7 @@ pub mod Tables
 pub mod Sources
 pub mod Declarations
 pub mod Collecting
+pub mod Rows
+pub mod TypeCodes
 pub mod Judging
 pub mod Found

@@ -36,7 +36,7 @@ pub(crate) fn tuple(parts: Result<Vec<Ty>, Memory>) -> Result<Ty, Memory>
 }
 
 // A struct with a copy of region arguments, and type arguments, where those were made.
-fn named(
+pub(crate) fn named(
     alloc: Global,
     number: usize,
     regions: &[RegionId],

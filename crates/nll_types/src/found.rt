@@ -9,6 +9,7 @@ ghost use Rattle.nll_types.specs.Judging as spec;
 ghost use Rattle.nll_types.specs.Judging.{HaveShapes, IsJudged, have_variables};
 ghost use Rattle.nll_types.specs.Operands.{operand_of, operand_type, place_in, reference_to};
 ghost use Rattle.nll_types.specs.Places.{path_of, type_of, small_prefixes};
+ghost use Rattle.nll_types.specs.Rows.{numbers_of};
 ghost use Rattle.nll_types.specs.Shapes.{shape_of, is_small, reference_shape};
 ghost use Rattle.nll_types.specs.Table.{AreBelow, shape_in};
 ghost use Rattle.nll_types.specs.Tables.{AddsShapes};
@@ -20,6 +21,7 @@ use crate::operand::Operand;
 use crate::place::Place;
 use crate::shapes::Shapes;
 use crate::type_table::TypeTable;
+use crate::typed::Typed;
 use nll_sets::Memory;
 use std::alloc::Global;
 
@@ -60,17 +62,17 @@ impl TypeTable {
     pub(crate) fn find_place(
         &mut self,
         alloc: Global,
-        variables: &[usize],
+        variables: &[Typed],
         place: &Place,
     ) -> Result<Found, Memory>
-        requires { AreBelow (length self.old.shapes) variables.now }
+        requires { AreBelow (length self.old.shapes) (numbers_of variables.now) }
         ensures grows { AddsShapes self.old self.new }
         ensures declared { IfOk result
             (λ f. f.declared ≡ nat_lt (path_of place.now).variable (length variables.now)) }
         ensures within { IfOk result
             (λ f. IfSome f.typed (λ t. t.shape < length self.new.shapes)) }
         ensures found { IfOk result (λ f. (types : List TypeTree)
-            → HaveShapes self.old.shapes variables.now types
+            → HaveShapes self.old.shapes (numbers_of variables.now) types
             → IsFound self.new.shapes f.typed
             (type_of (structs_of self.old.structs) types (path_of place.now))
             (small_prefixes (structs_of self.old.structs) types (path_of place.now))) }
@@ -83,7 +85,7 @@ impl TypeTable {
                 typed: None,
             });
         }
-        let from = variables[variable];
+        let from = variables[variable].shape;
         match self.place_shape(alloc, from, place.projections())? {
             Some((shape, small)) => Ok(Found {
                 declared,
@@ -100,17 +102,17 @@ impl TypeTable {
     pub(crate) fn find_operand(
         &mut self,
         alloc: Global,
-        variables: &[usize],
+        variables: &[Typed],
         operand: &Operand,
     ) -> Result<Found, Memory>
-        requires { AreBelow (length self.old.shapes) variables.now }
+        requires { AreBelow (length self.old.shapes) (numbers_of variables.now) }
         ensures grows { AddsShapes self.old self.new }
         ensures declared { IfOk result (λ f. f.declared
             ≡ have_variables (length variables.now) (place_in (operand_of operand.now))) }
         ensures within { IfOk result
             (λ f. IfSome f.typed (λ t. t.shape < length self.new.shapes)) }
         ensures found { IfOk result (λ f. (types : List TypeTree)
-            → HaveShapes self.old.shapes variables.now types
+            → HaveShapes self.old.shapes (numbers_of variables.now) types
             → IsFound self.new.shapes f.typed
             (operand_type (structs_of self.old.structs) types (operand_of operand.now))
             (list_all (small_prefixes (structs_of self.old.structs) types)

@@ -1,6 +1,7 @@
 //! Types with regions, the structs that they name, and places. It knows no text and no points.
 #![tactic(auto)]
 
+mod body_types;
 mod copies;
 mod drop_regions;
 mod drop_search;
@@ -21,11 +22,14 @@ mod shapes;
 mod source;
 mod structs;
 mod substitution;
+mod trees;
 mod ty;
 mod type_shapes;
 mod type_table;
+mod typed;
 mod well_formed;
 
+pub use body_types::BodyTypes;
 pub use copies::copy;
 pub use judgement::Judgement;
 pub use laws::{
@@ -43,4 +47,5 @@ pub use structs::{Declaration, Structs};
 pub use substitution::put_in;
 pub use ty::Ty;
 pub use type_table::TypeTable;
+pub use typed::Typed;
 pub use well_formed::{has_good_fields, is_well_formed};

@@ -7,6 +7,7 @@ ghost use Rattle.nll_types.specs.Judging as spec;
 ghost use Rattle.nll_types.specs.Judging.{HaveShapes, IsJudged, have_variables};
 ghost use Rattle.nll_types.specs.Operands.{operand_of, operand_type, place_in, reference_to};
 ghost use Rattle.nll_types.specs.Places.{path_of, type_of, small_prefixes};
+ghost use Rattle.nll_types.specs.Rows.{numbers_of};
 ghost use Rattle.nll_types.specs.Shapes.{shape_of, is_small};
 ghost use Rattle.nll_types.specs.Table.{AreBelow, shape_in};
 ghost use Rattle.nll_types.specs.Tables.{AddsShapes};
@@ -17,6 +18,7 @@ use crate::judgement::Judgement;
 use crate::operand::Operand;
 use crate::place::Place;
 use crate::type_table::TypeTable;
+use crate::typed::Typed;
 use nll_sets::Memory;
 use std::alloc::Global;
 
@@ -28,16 +30,16 @@ impl TypeTable {
     pub fn judge_assigned(
         &mut self,
         alloc: Global,
-        variables: &[usize],
+        variables: &[Typed],
         operand: &Operand,
         place: &Place,
     ) -> Result<Judgement, Memory>
-        requires { AreBelow (length self.old.shapes) variables.now }
+        requires { AreBelow (length self.old.shapes) (numbers_of variables.now) }
         ensures grows { AddsShapes self.old self.new }
         ensures declared { IfOk result (λ j. j.declared ≡ have_variables (length variables.now)
             (path_of place.now ∷ place_in (operand_of operand.now))) }
         ensures judged { IfOk result (λ j. (types : List TypeTree)
-            → HaveShapes self.old.shapes variables.now types
+            → HaveShapes self.old.shapes (numbers_of variables.now) types
             → IsJudged
             (spec.agree (operand_type (structs_of self.old.structs) types (operand_of operand.now))
             (type_of (structs_of self.old.structs) types (path_of place.now)))
@@ -58,17 +60,17 @@ impl TypeTable {
     pub fn judge_borrowed(
         &mut self,
         alloc: Global,
-        variables: &[usize],
+        variables: &[Typed],
         place: &Place,
         mutable: bool,
         borrowed: &Place,
     ) -> Result<Judgement, Memory>
-        requires { AreBelow (length self.old.shapes) variables.now }
+        requires { AreBelow (length self.old.shapes) (numbers_of variables.now) }
         ensures grows { AddsShapes self.old self.new }
         ensures declared { IfOk result (λ j. j.declared ≡ have_variables (length variables.now)
             (path_of place.now ∷ path_of borrowed.now ∷ [])) }
         ensures judged { IfOk result (λ j. (types : List TypeTree) (r : ℕ)
-            → HaveShapes self.old.shapes variables.now types
+            → HaveShapes self.old.shapes (numbers_of variables.now) types
             → IsJudged
             (spec.agree
             (reference_to r mutable
@@ -90,17 +92,17 @@ impl TypeTable {
     pub fn judge_given(
         &mut self,
         alloc: Global,
-        variables: &[usize],
+        variables: &[Typed],
         shape: usize,
         place: &Place,
     ) -> Result<Judgement, Memory>
-        requires variables { AreBelow (length self.old.shapes) variables.now }
+        requires variables { AreBelow (length self.old.shapes) (numbers_of variables.now) }
         requires shape { shape < length self.old.shapes }
         ensures grows { AddsShapes self.old self.new }
         ensures declared { IfOk result (λ j. j.declared
             ≡ have_variables (length variables.now) (path_of place.now ∷ [])) }
         ensures judged { IfOk result (λ j. (types : List TypeTree) (t : TypeTree)
-            → HaveShapes self.old.shapes variables.now types
+            → HaveShapes self.old.shapes (numbers_of variables.now) types
             → shape_in self.old.shapes shape ≡ shape_of t
             → IsJudged
             (spec.agree (Some t) (type_of (structs_of self.old.structs) types (path_of place.now)))
@@ -119,17 +121,17 @@ impl TypeTable {
     pub fn judge_operand(
         &mut self,
         alloc: Global,
-        variables: &[usize],
+        variables: &[Typed],
         operand: &Operand,
         shape: usize,
     ) -> Result<Judgement, Memory>
-        requires variables { AreBelow (length self.old.shapes) variables.now }
+        requires variables { AreBelow (length self.old.shapes) (numbers_of variables.now) }
         requires shape { shape < length self.old.shapes }
         ensures grows { AddsShapes self.old self.new }
         ensures declared { IfOk result (λ j. j.declared
             ≡ have_variables (length variables.now) (place_in (operand_of operand.now))) }
         ensures judged { IfOk result (λ j. (types : List TypeTree) (t : TypeTree)
-            → HaveShapes self.old.shapes variables.now types
+            → HaveShapes self.old.shapes (numbers_of variables.now) types
             → shape_in self.old.shapes shape ≡ shape_of t
             → IsJudged
             (spec.agree (operand_type (structs_of self.old.structs) types (operand_of operand.now))
@@ -149,15 +151,15 @@ impl TypeTable {
     pub fn judge_read(
         &mut self,
         alloc: Global,
-        variables: &[usize],
+        variables: &[Typed],
         place: &Place,
     ) -> Result<Judgement, Memory>
-        requires { AreBelow (length self.old.shapes) variables.now }
+        requires { AreBelow (length self.old.shapes) (numbers_of variables.now) }
         ensures grows { AddsShapes self.old self.new }
         ensures declared { IfOk result (λ j. j.declared
             ≡ have_variables (length variables.now) (path_of place.now ∷ [])) }
         ensures judged { IfOk result (λ j. (types : List TypeTree)
-            → HaveShapes self.old.shapes variables.now types
+            → HaveShapes self.old.shapes (numbers_of variables.now) types
             → IsJudged
             (is_some (type_of (structs_of self.old.structs) types (path_of place.now)))
             (small_prefixes (structs_of self.old.structs) types (path_of place.now)) j) }

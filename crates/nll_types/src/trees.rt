@@ -1,0 +1,101 @@
+//! Types as trees, made of a shape and a row of regions.
+
+ghost use Rattle.std.specs.Prelude.{◌≡◌, ◌<◌, length, take, drop, slice_index_or, IfOk};
+ghost use Rattle.nll_types.specs.Rows.{filled, all_filled};
+ghost use Rattle.nll_types.specs.Table.{AreBelow, all_at, shape_in, shapes_in};
+ghost use Rattle.nll_types.specs.Views.{tree, trees};
+
+use crate::copies::{function, named, reference, tuple};
+use crate::node::Node;
+use crate::shapes::Shapes;
+use crate::ty::Ty;
+use nll_problem::RegionId;
+use nll_sets::Memory;
+use std::alloc::Global;
+
+// The region at a place, `'static` where there is none. The place is then the next one.
+fn take_region(regions: &[RegionId], at: &mut usize) -> RegionId
+    ensures region { result ≡ slice_index_or (drop at.old regions.now) 0 0 }
+    ensures rest { drop at.new regions.now ≡ drop 1 (drop at.old regions.now) }
+{
+    if *at >= regions.len() {
+        return RegionId(0);
+    }
+    let region = regions[*at];
+    *at += 1;
+    region
+}
+
+// The next regions, this many of them as far as there are so many. They are then passed.
+fn take_regions<'a>(regions: &'a [RegionId], count: usize, at: &mut usize) -> &'a [RegionId]
+    ensures taken { result.now ≡ take count (drop at.old regions.now) }
+    ensures rest { drop at.new regions.now ≡ drop count (drop at.old regions.now) }
+{
+    let from = (*at).min(regions.len());
+    let end = from + count.min(regions.len() - from);
+    *at = end;
+    &regions[from..end]
+}
+
+/// The type of a shape whose row of regions is at this place, which is then behind the row.
+///
+/// # Cost
+/// Linear in the type (not proved).
+#[cycle(trees)]
+pub(crate) fn tree_of(
+    alloc: Global,
+    shapes: &Shapes,
+    shape: usize,
+    regions: &[RegionId],
+    at: &mut usize,
+) -> Result<Ty, Memory>
+    requires { shape < length shapes.now }
+    ensures tree { IfOk result
+        (λ t. tree t ≡ (filled (shape_in shapes.now shape) (drop at.old regions.now)).0) }
+    ensures rest { IfOk result (λ _. drop at.new regions.now
+        ≡ (filled (shape_in shapes.now shape) (drop at.old regions.now)).1) }
+{
+    match shapes.node(shape) {
+        Node::Int => Ok(Ty::Int),
+        Node::Parameter(number) => Ok(Ty::Parameter(*number)),
+        Node::Reference(mutable, target) => {
+            let target = tree_of(alloc, shapes, *target, regions, at);
+            reference(alloc, take_region(regions, at), *mutable, target)
+        }
+        Node::Tuple(parts) => tuple(trees_of(alloc, shapes, parts.as_slice(), regions, at)),
+        Node::Named(number, count, parts) => {
+            let types = trees_of(alloc, shapes, parts.as_slice(), regions, at);
+            named(alloc, *number, take_regions(regions, *count, at), types)
+        }
+        Node::Function(inputs, output) => {
+            let inputs = trees_of(alloc, shapes, inputs.as_slice(), regions, at);
+            function(
+                alloc,
+                inputs,
+                tree_of(alloc, shapes, *output, regions, at),
+            )
+        }
+    }
+}
+
+// The types of shapes whose rows of regions are at this place, one after another.
+#[cycle(trees)]
+fn trees_of(
+    alloc: Global,
+    shapes: &Shapes,
+    parts: &[usize],
+    regions: &[RegionId],
+    at: &mut usize,
+) -> Result<Vec<Ty>, Memory>
+    requires { AreBelow (length shapes.now) parts.now }
+    ensures trees { IfOk result (λ v. trees v.items
+        ≡ (all_filled (all_at (shapes_in shapes.now) parts.now) (drop at.old regions.now)).0) }
+    ensures rest { IfOk result (λ _. drop at.new regions.now
+        ≡ (all_filled (all_at (shapes_in shapes.now) parts.now) (drop at.old regions.now)).1) }
+{
+    let mut made = Vec::with_capacity(alloc, parts.len())?;
+    for part in parts {
+        made.push_reserved(tree_of(alloc, shapes, *part, regions, at)?);
+    }
+    Ok(made)
+}
