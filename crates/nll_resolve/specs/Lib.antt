@@ -2,4 +2,3 @@ pub mod Naming
 pub mod Resolution
 pub mod ToldTypes
 pub mod Resolving
-pub mod ShapedPieces

@@ -1,31 +1,37 @@
 //! Looking up the names in a written type, once each, piece by piece.
 
-ghost use Rattle.std.specs.Prelude.{◌≡◌, ◌≤◌, ◌%◌, ◌^◌, ◌++◌, ◌∷◌, [], ℕ, true, false, length, map};
-ghost use Rattle.std.specs.Prelude.{drop, reverse, IfOk, MatchOption, OnOk};
-ghost use Rattle.nll_types.specs.Types.{TypeTree};
-ghost use Rattle.nll_statement_list.specs.TypePieces.{number_pieces, steps};
-ghost use Rattle.nll_statement_list.specs.declared.piece.Piece.{Piece as piece};
-ghost use Rattle.nll_mir_grammar.specs.TypeTexts.{add_region, make_named, make_reference};
-ghost use Rattle.nll_mir_grammar.specs.TypeTexts.{plain, written};
+ghost use Rattle.std.specs.Prelude.{◌≡◌, ◌≤◌, ◌<◌, ◌&&◌, ◌++◌, ◌∷◌, [], true, false, length, map};
+ghost use Rattle.std.specs.Prelude.{drop, reverse, take, ◌-◌, IfOk, MatchOption, OnOk};
+ghost use Rattle.nll_types.specs.Shapes.{shape_of};
+ghost use Rattle.nll_types.specs.Table.{AreBelow, IsOver, shape_in};
+ghost use Rattle.nll_types.specs.Tables.{AddsShapes, AddsTypes};
+ghost use Rattle.nll_types.specs.declared.body_types.BodyTypes.{BodyTypes as kept_types};
+ghost use Rattle.nll_format.specs.Names.{number_of};
+ghost use Rattle.nll_mir_grammar.specs.WrittenTypes.{Name as name};
+ghost use Rattle.nll_mir_grammar.specs.TypeTexts.{add_region, add_type, begin_row, make_int};
+ghost use Rattle.nll_mir_grammar.specs.TypeTexts.{make_function, make_named, make_reference};
+ghost use Rattle.nll_mir_grammar.specs.TypeTexts.{make_tuple, plain, written};
+ghost use Rattle.nll_resolve.specs.Naming.{Scope as naming_scope, has_arguments, is_among};
 ghost use Rattle.nll_resolve.specs.Naming.{is_known};
 ghost use Rattle.nll_resolve.specs.Resolution.{HasRoom, IsResolved, scope_of};
 ghost use Rattle.nll_resolve.specs.Resolving as spec;
-ghost use Rattle.nll_resolve.specs.Resolving.{state_of};
+ghost use Rattle.nll_resolve.specs.Resolving.{IsOf, Resolves, State, newest_type, run};
 
-use crate::resolved_type::ResolvedType;
-use crate::rows::{Mark, Rows, row_place, row_start, takes};
+use crate::made::{Made, pop, pop_row, push, reference_to};
+use crate::rows::{Mark, Rows, row_place, row_starts, takes};
 use crate::scope::{Scope, find};
 use nll_mir_grammar::{TypePiece, TypeText};
 use nll_problem::RegionId;
 use nll_sets::Memory;
-use nll_statement_list::{Piece, TypePieces};
+use nll_types::{BodyTypes, Node, Typed};
 use smallvec::SmallVec;
 use std::alloc::Global;
 
 /// What is resolved of a type so far.
 #[derive(Drop)]
 struct Resolving {
-    pieces: Vec<Piece>,
+    /// The shapes of the types that are made.
+    shapes: Made,
     rows: Rows,
     /// Each name so far is known.
     known: bool,
@@ -33,84 +39,56 @@ struct Resolving {
     fits: bool,
 }
 
-// The part of a number that fits a piece.
-fn low(number: usize) -> u32
-    ensures { result ≡ number % 2 ^ 32 }
+// An `int` is made.
+fn put_int(types: &mut BodyTypes, made: &mut Resolving) -> Result<(), Memory>
+    requires below { AreBelow (length types.old.table.shapes) made.old.shapes.items }
+    ensures grows { AddsShapes types.old.table types.new.table }
+    ensures made { OnOk result ((s : naming_scope)
+        → Resolves s make_int types.old made.old types.new made.new) }
 {
-    (number & 0xffff_ffff) as u32
+    push(&mut types.table, Node::Int, &mut made.shapes)
 }
 
-// Appends a number, of which this piece has the part that fits a piece.
-fn put_number(head: Piece, number: usize, pieces: &mut Vec<Piece>) -> Result<(), Memory>
-    ensures { OnOk result ((f : ℕ → piece) → f (number % 2 ^ 32) ≡ head
-        → pieces.new.items ≡ pieces.old.items ++ number_pieces f number) }
-{
-    pieces.push(head)?;
-    pieces.push(Piece::More((number >> 32) as u32))?;
-    Ok(())
-}
-
-// Appends the regions among arguments.
-fn put_regions(arguments: &[Mark], pieces: &mut Vec<Piece>) -> Result<(), Memory>
-    ensures { OnOk result (pieces.new.items
-        ≡ pieces.old.items ++ map Piece.Region (spec.regions_in arguments.now)) }
-{
-    for argument in arguments {
-        if let Mark::Region(region) = argument {
-            pieces.push(Piece::Region(region.0))?;
-        }
-    }
-    Ok(())
-}
-
-// Appends a piece, and pushes a mark onto the rows.
-fn put_marked(piece: Piece, mark: Mark, made: &mut Resolving) -> Result<(), Memory>
-    ensures { OnOk result (state_of made.new ≡ record (state_of made.old) {
-      pieces = made.old.pieces.items ++ piece ∷ [];
-      rows = mark ∷ (state_of made.old).rows;
-    }) }
-{
-    made.pieces.push(piece)?;
-    made.rows.push(mark)?;
-    Ok(())
-}
-
-// The newest row is complete, and what is made of it is appended.
-fn put_whole(piece: Piece, made: &mut Resolving) -> Result<(), Memory>
-    ensures { OnOk result (state_of made.new ≡ record (state_of made.old) {
-      pieces = made.old.pieces.items ++ piece ∷ [];
-      rows = spec.others (state_of made.old).rows;
-    }) }
-{
-    let place = row_place(made.rows.as_slice());
-    made.rows.truncate(place.saturating_sub(1));
-    made.pieces.push(piece)?;
-    Ok(())
-}
-
-// Appends a reference.
+// A reference to the newest type is made.
 fn put_reference(
     scope: &Scope<'_>,
     mutable: bool,
     region: &[u8],
+    types: &mut BodyTypes,
     made: &mut Resolving,
 ) -> Result<(), Memory>
-    requires { HasRoom scope.now }
-    ensures { OnOk result (state_of made.new
-        ≡ spec.after (scope_of scope.now) (make_reference mutable region.now) (state_of made.old)) }
+    requires room { HasRoom scope.now }
+    requires below { AreBelow (length types.old.table.shapes) made.old.shapes.items }
+    ensures grows { AddsShapes types.old.table types.new.table }
+    ensures made { OnOk result (Resolves (scope_of scope.now) (make_reference mutable region.now)
+        types.old made.old types.new made.new) }
 {
     let (number, known) = find(scope.regions, region);
     made.known &= known;
-    made.pieces
-        .push(Piece::reference(RegionId(number as u32), mutable))?;
+    let target = pop(&mut types.table, &mut made.shapes)?;
+    let shape = reference_to(&mut types.table, mutable, target)?;
+    made.shapes.push(shape)?;
+    types.regions.push(RegionId(number as u32))?;
     Ok(())
 }
 
-// Pushes a region onto the newest row.
+// A row begins.
+fn put_row(types: &BodyTypes, made: &mut Resolving) -> Result<(), Memory>
+    requires below { AreBelow (length types.now.table.shapes) made.old.shapes.items }
+    ensures made { OnOk result ((s : naming_scope)
+        → Resolves s begin_row types.now made.old types.now made.new) }
+{
+    made.rows
+        .push(Mark::Row(made.shapes.len(), types.regions.len()))?;
+    Ok(())
+}
+
+// A region is in the newest row.
 fn put_region(scope: &Scope<'_>, region: &[u8], made: &mut Resolving) -> Result<(), Memory>
-    requires { HasRoom scope.now }
-    ensures { OnOk result (state_of made.new
-        ≡ spec.after (scope_of scope.now) (add_region region.now) (state_of made.old)) }
+    requires room { HasRoom scope.now }
+    ensures made { OnOk result ((types : kept_types)
+        → AreBelow (length types.table.shapes) made.old.shapes.items
+        → Resolves (scope_of scope.now) (add_region region.now) types made.old types made.new) }
 {
     let (number, known) = find(scope.regions, region);
     made.known &= known;
@@ -118,108 +96,183 @@ fn put_region(scope: &Scope<'_>, region: &[u8], made: &mut Resolving) -> Result<
     Ok(())
 }
 
-// Appends the pieces of a name, whose arguments begin at this index in the rows.
-fn put_name(
-    scope: &Scope<'_>,
-    name: &[u8],
+// The newest type is in the newest row.
+fn put_part(made: &mut Resolving) -> Result<(), Memory>
+    ensures made { OnOk result ((s : naming_scope) (types : kept_types)
+        → AreBelow (length types.table.shapes) made.old.shapes.items
+        → Resolves s add_type types made.old types made.new) }
+{
+    made.rows.push(Mark::Part)?;
+    Ok(())
+}
+
+// The tuple of the newest row is made.
+fn put_tuple(alloc: Global, types: &mut BodyTypes, made: &mut Resolving) -> Result<(), Memory>
+    requires below { AreBelow (length types.old.table.shapes) made.old.shapes.items }
+    ensures grows { AddsShapes types.old.table types.new.table }
+    ensures made { OnOk result ((s : naming_scope)
+        → Resolves s make_tuple types.old made.old types.new made.new) }
+{
+    let parts = pop_row(alloc, &mut made.shapes, &mut made.rows)?;
+    push(&mut types.table, Node::Tuple(parts), &mut made.shapes)
+}
+
+// The function of the newest row, with the newest type as its result, is made.
+fn put_function(alloc: Global, types: &mut BodyTypes, made: &mut Resolving) -> Result<(), Memory>
+    requires below { AreBelow (length types.old.table.shapes) made.old.shapes.items }
+    ensures grows { AddsShapes types.old.table types.new.table }
+    ensures made { OnOk result ((s : naming_scope)
+        → Resolves s make_function types.old made.old types.new made.new) }
+{
+    let output = pop(&mut types.table, &mut made.shapes)?;
+    let inputs = pop_row(alloc, &mut made.shapes, &mut made.rows)?;
+    push(&mut types.table, Node::Function(inputs, output), &mut made.shapes)
+}
+
+// A type parameter is made, in place of the newest row, which begins at this place of the rows: it
+// takes no arguments.
+fn put_parameter(
+    number: usize,
     place: usize,
+    types: &mut BodyTypes,
     made: &mut Resolving,
 ) -> Result<(), Memory>
+    requires below { AreBelow (length types.old.table.shapes) made.old.shapes.items }
     requires within { place ≤ length made.old.rows.items }
     requires newest { reverse (drop place made.old.rows.items)
         ≡ spec.newest (reverse made.old.rows.items) }
-    ensures { OnOk result (state_of made.new ≡ record
-        (spec.after (scope_of scope.now) (make_named name.now) (state_of made.old)) {
-          rows = (state_of made.old).rows;
-        }) }
+    requires others { reverse (take (place - 1) made.old.rows.items)
+        ≡ spec.others (reverse made.old.rows.items) }
+    ensures grows { AddsShapes types.old.table types.new.table }
+    ensures made { OnOk result ((s : naming_scope) (n : name)
+        → is_among s.parameters n ≡ true → number_of s.parameters n ≡ number
+        → Resolves s (make_named n) types.old made.old types.new made.new) }
+{
+    let (start, regions) = row_starts(made.rows.as_slice(), place);
+    made.fits &= place == made.rows.len();
+    made.rows.truncate(place.saturating_sub(1));
+    made.shapes.truncate(start);
+    types.regions.truncate(regions);
+    push(&mut types.table, Node::Parameter(number), &mut made.shapes)
+}
+
+// Appends the regions among arguments. Answers how many there are.
+fn push_regions(arguments: &[Mark], regions: &mut Vec<RegionId>) -> Result<usize, Memory>
+    ensures count { IfOk result (λ n. n ≡ length (spec.regions_in arguments.now)) }
+    ensures regions { IfOk result
+        (λ _. regions.new.items ≡ regions.old.items ++ spec.regions_in arguments.now) }
+{
+    let before = regions.len();
+    for argument in arguments {
+        if let Mark::Region(region) = argument {
+            regions.push(*region)?;
+        }
+    }
+    Ok(regions.len() - before)
+}
+
+// A struct is made, with the newest row, which begins at this place of the rows, as its arguments.
+fn put_struct(
+    alloc: Global,
+    scope: &Scope<'_>,
+    name: &[u8],
+    types: &mut BodyTypes,
+    made: &mut Resolving,
+) -> Result<(), Memory>
+    requires other { is_among (scope_of scope.now).parameters name.now ≡ false }
+    requires below { AreBelow (length types.old.table.shapes) made.old.shapes.items }
+    ensures grows { AddsShapes types.old.table types.new.table }
+    ensures made { OnOk result (Resolves (scope_of scope.now) (make_named name.now)
+        types.old made.old types.new made.new) }
+{
+    let (number, known) = find(scope.structs, name);
+    let arguments = &made.rows.as_slice()[row_place(made.rows.as_slice())..];
+    made.known &= known;
+    made.fits &= takes(scope, number, arguments);
+    let count = push_regions(arguments, &mut types.regions)?;
+    let parts = pop_row(alloc, &mut made.shapes, &mut made.rows)?;
+    push(&mut types.table, Node::Named(number, count, parts), &mut made.shapes)
+}
+
+// What a name means is made, with the newest row as its arguments.
+fn put_named(
+    alloc: Global,
+    scope: &Scope<'_>,
+    name: &[u8],
+    types: &mut BodyTypes,
+    made: &mut Resolving,
+) -> Result<(), Memory>
+    requires below { AreBelow (length types.old.table.shapes) made.old.shapes.items }
+    ensures grows { AddsShapes types.old.table types.new.table }
+    ensures made { OnOk result (Resolves (scope_of scope.now) (make_named name.now)
+        types.old made.old types.new made.new) }
 {
     let (number, is_parameter) = find(scope.parameters, name);
     if is_parameter {
-        made.fits &= place == made.rows.len();
-        let start = row_start(made.rows.as_slice(), place);
-        made.pieces.truncate(start);
-        return put_number(Piece::Parameter(low(number)), number, &mut made.pieces);
+        let place = row_place(made.rows.as_slice());
+        return put_parameter(number, place, types, made);
     }
-    let (number, known) = find(scope.structs, name);
-    let arguments = &made.rows.as_slice()[place..];
-    made.known &= known;
-    made.fits &= takes(scope, number, arguments);
-    put_number(Piece::Named(low(number)), number, &mut made.pieces)?;
-    put_regions(arguments, &mut made.pieces)
-}
-
-// Appends a name, with the newest row as its arguments.
-fn put_named(scope: &Scope<'_>, name: &[u8], made: &mut Resolving) -> Result<(), Memory>
-    ensures { OnOk result (state_of made.new
-        ≡ spec.after (scope_of scope.now) (make_named name.now) (state_of made.old)) }
-{
-    let place = row_place(made.rows.as_slice());
-    put_name(scope, name, place, made)?;
-    made.rows.truncate(place.saturating_sub(1));
-    Ok(())
+    put_struct(alloc, scope, name, types, made)
 }
 
 // Resolves a piece.
 fn resolve_piece(
+    alloc: Global,
     scope: &Scope<'_>,
     piece: &TypePiece<'_>,
+    types: &mut BodyTypes,
     made: &mut Resolving,
 ) -> Result<(), Memory>
-    requires { HasRoom scope.now }
-    ensures { OnOk result (state_of made.new
-        ≡ spec.after (scope_of scope.now) (plain piece.now) (state_of made.old)) }
+    requires room { HasRoom scope.now }
+    requires below { AreBelow (length types.old.table.shapes) made.old.shapes.items }
+    ensures grows { AddsShapes types.old.table types.new.table }
+    ensures made { OnOk result (Resolves (scope_of scope.now) (plain piece.now)
+        types.old made.old types.new made.new) }
 {
     match piece {
-        TypePiece::Int => {
-            made.pieces.push(Piece::Int)?;
-            Ok(())
+        TypePiece::Int => put_int(types, made),
+        TypePiece::Reference(mutable, region) => {
+            put_reference(scope, *mutable, region, types, made)
         }
-        TypePiece::Reference(mutable, region) => put_reference(scope, *mutable, region, made),
-        TypePiece::Row => put_marked(Piece::Row, Mark::Row(made.pieces.len()), made),
+        TypePiece::Row => put_row(types, made),
         TypePiece::Region(region) => put_region(scope, region, made),
-        TypePiece::Part => put_marked(Piece::Part, Mark::Part, made),
-        TypePiece::Tuple => put_whole(Piece::Tuple, made),
-        TypePiece::Named(name) => put_named(scope, name, made),
-        TypePiece::Function => put_whole(Piece::Function, made),
+        TypePiece::Part => put_part(made),
+        TypePiece::Tuple => put_tuple(alloc, types, made),
+        TypePiece::Named(name) => put_named(alloc, scope, name, types, made),
+        TypePiece::Function => put_function(alloc, types, made),
     }
 }
 
-// Resolves pieces, one after another.
+// Resolves pieces, one after another. Answers the shape of the type that is made last.
 fn resolve_pieces(
+    alloc: Global,
     scope: &Scope<'_>,
     pieces: &[TypePiece<'_>],
+    types: &mut BodyTypes,
     made: &mut Resolving,
-) -> Result<(), Memory>
-    requires { HasRoom scope.now }
-    ensures { OnOk result (state_of made.new
-        ≡ spec.run (scope_of scope.now) (map plain pieces.now) (state_of made.old)) }
+) -> Result<usize, Memory>
+    requires room { HasRoom scope.now }
+    requires below { AreBelow (length types.old.table.shapes) made.old.shapes.items }
+    ensures grows { AddsShapes types.old.table types.new.table }
+    ensures within { IfOk result (λ i. i < length types.new.table.shapes) }
+    ensures shape { IfOk result (λ i. (st : State) → IsOf st types.old made.old
+        → shape_in types.new.table.shapes i
+        ≡ shape_of (newest_type (run (scope_of scope.now) (map plain pieces.now) st).made)) }
+    ensures others { IfOk result (λ _. (st : State) → IsOf st types.old made.old
+        → (types.new.regions.items
+        ≡ (run (scope_of scope.now) (map plain pieces.now) st).regions)
+        × (made.new.known ≡ (run (scope_of scope.now) (map plain pieces.now) st).known)
+        × (made.new.fits ≡ (run (scope_of scope.now) (map plain pieces.now) st).fits)) }
 {
     for piece in pieces {
-        resolve_piece(scope, piece, made)?;
+        resolve_piece(alloc, scope, piece, types, made)?;
     }
-    Ok(())
+    pop(&mut types.table, &mut made.shapes)
 }
 
-// The type that is resolved, where each name in it is known.
-fn resolved(made: Resolving) -> Option<ResolvedType>
-    requires { (t : TypeTree) × (made.pieces.items ≡ steps t) }
-    ensures { MatchOption result (made.known ≡ false) (λ r. (made.known ≡ true)
-        × ((t : TypeTree) → made.pieces.items ≡ steps t → r.tree ≡ t) × (r.fits ≡ made.fits)) }
-{
-    let Resolving {
-        pieces,
-        rows: _,
-        known,
-        fits,
-    } = made;
-    if known {
-        Some(ResolvedType::of(TypePieces::of(pieces), fits))
-    } else {
-        None
-    }
-}
-
-/// Resolves the names in a type, where each is known.
+/// Resolves the names in a type, where each is known: its shape is in the table then, and its row
+/// at the end of the list of regions. The flag stays true where each name has arguments of the
+/// kinds that it takes.
 ///
 /// # Cost
 /// Linear in the type, and one look-up a name (not proved).
@@ -227,24 +280,33 @@ pub fn resolve(
     alloc: Global,
     scope: &Scope<'_>,
     text: &TypeText<'_>,
-) -> Result<Option<ResolvedType>, Memory>
+    types: &mut BodyTypes,
+    fits: &mut bool,
+) -> Result<Option<Typed>, Memory>
     requires { HasRoom scope.now }
-    ensures { IfOk result
+    ensures adds { IfOk result (λ _. AddsTypes types.old types.new) }
+    ensures fits { IfOk result
+        (λ _. fits.new ≡ (fits.old && has_arguments (scope_of scope.now) (written text.now))) }
+    ensures resolved { IfOk result
         (λ o. MatchOption o (is_known (scope_of scope.now) (written text.now) ≡ false)
-        (IsResolved (scope_of scope.now) (written text.now))) }
+        (IsResolved (scope_of scope.now) (written text.now) types.new)) }
 {
-    let pieces = text.pieces();
+    let first = types.regions.len();
     let mut made = Resolving {
-        pieces: Vec::with_capacity(alloc, pieces.len() + 2)?,
+        shapes: SmallVec::new(alloc),
         rows: SmallVec::new(alloc),
         known: true,
         fits: true,
     };
-    match resolve_pieces(scope, pieces, &mut made) {
-        Ok(()) => Ok(resolved(made)),
-        Err(memory) => {
-            drop(made);
-            Err(memory)
-        }
+    let told = resolve_pieces(alloc, scope, text.pieces(), types, &mut made);
+    let known = made.known;
+    *fits &= made.fits;
+    // Early drop.
+    drop(made);
+    let shape = told?;
+    if known {
+        Ok(Some(Typed { shape, first }))
+    } else {
+        Ok(None)
     }
 }

@@ -13,8 +13,8 @@ use smallvec::SmallVec;
 /// An entry of a row, or the beginning of one.
 #[derive(Clone, Copy)]
 pub enum Mark {
-    /// A row begins, after this many pieces.
-    Row(usize),
+    /// A row begins, after this many types and this many regions.
+    Row(usize, usize),
     /// A region.
     Region(RegionId),
     /// A type.
@@ -34,7 +34,7 @@ pub(crate) type Rows = SmallVec<Mark, 4>;
 fn is_beginning(mark: Mark) -> bool
     ensures { result ≡ spec.is_beginning mark }
 {
-    matches!(mark, Mark::Row(_))
+    matches!(mark, Mark::Row(_, _))
 }
 
 /// Where the newest row begins: how many marks there are up to its beginning.
@@ -50,18 +50,18 @@ pub(crate) fn row_place(rows: &[Mark]) -> usize
     place
 }
 
-/// How many pieces come before the newest row, which begins at this place.
-pub(crate) fn row_start(rows: &[Mark], place: usize) -> usize
+/// How many types and how many regions come before the newest row, which begins at this place.
+pub(crate) fn row_starts(rows: &[Mark], place: usize) -> (usize, usize)
     requires within { place ≤ length rows.now }
     requires newest { reverse (drop place rows.now) ≡ spec.newest (reverse rows.now) }
-    ensures { result ≡ spec.start (reverse rows.now) }
+    ensures { result ≡ spec.starts (reverse rows.now) }
 {
     if place == 0 {
-        return 0;
+        return (0, 0);
     }
     match rows[place - 1] {
-        Mark::Row(start) => start,
-        _ => 0,
+        Mark::Row(types, regions) => (types, regions),
+        _ => (0, 0),
     }
 }
 
