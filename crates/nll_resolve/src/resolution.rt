@@ -4,7 +4,8 @@ ghost use Rattle.std.specs.Prelude.{◌≡◌, ◌≤◌, ◌<◌, ◌&&◌, ◌
 ghost use Rattle.std.specs.Prelude.{drop, reverse, take, ◌-◌, IfOk, MatchOption, OnOk};
 ghost use Rattle.nll_types.specs.Shapes.{shape_of};
 ghost use Rattle.nll_types.specs.Table.{AreBelow, IsOver, shape_in};
-ghost use Rattle.nll_types.specs.Tables.{AddsShapes, AddsTypes};
+ghost use Rattle.nll_types.specs.Grown.{AddsTypes};
+ghost use Rattle.nll_types.specs.Tables.{AddsShapes};
 ghost use Rattle.nll_types.specs.declared.body_types.BodyTypes.{BodyTypes as kept_types};
 ghost use Rattle.nll_format.specs.Names.{number_of};
 ghost use Rattle.nll_mir_grammar.specs.WrittenTypes.{Name as name};

@@ -11,6 +11,7 @@ pub mod Tables
 pub mod Sources
 pub mod Declarations
 pub mod Collecting
+pub mod Grown
 pub mod Rows
 pub mod TypeCodes
 pub mod Judging

@@ -2,7 +2,7 @@ use Rattle.std.proofs.Common.{◌≡◌, ◌+◌, ◌-◌, ◌<◌, get_or, leng
 use Rattle.std.proofs.lemmas.List.{get_or_default}
 use Rattle.nll_resolve.specs.declared.rows.Mark.TheVariants as marks
 use Rattle.nll_resolve.proofs.RowLemmas.{start_front, start_before, begins_before, no_row}
-use Rattle.nll_resolve.proofs.rows.row_start.Goals as goal
+use Rattle.nll_resolve.proofs.rows.row_starts.Goals as goal
 
 pub returns-then-place-eq0 : goal.returns-then-place-eq0
 returns-then-place-eq0 c =
