@@ -10,7 +10,8 @@ use Rattle.nll_types.specs.Types as types
 use Rattle.nll_types.specs.Views.{row_of}
 use Rattle.nll_mir_grammar.specs.WrittenTypes.{Name, WrittenType, WrittenTypes, Arguments, int, reference, tuple, named, function, none, more, no_argument, region_argument, type_argument}
 use Rattle.nll_mir_grammar.specs.TypeTexts as texts
-use Rattle.nll_mir_grammar.specs.TypeTexts.{make_reference, add_type, make_tuple, make_named, make_function}
+use Rattle.nll_mir_grammar.specs.TypeTexts.{IsType, plain, written, make_reference, add_type, make_tuple, make_named, make_function}
+use Rattle.nll_mir_grammar.specs.declared.type_text.TypePiece.{TypePiece}
 use Rattle.nll_resolve.specs.Naming.{Scope, is_among, is_known, has_arguments, meant, all_meant, regions_meant, types_meant, kinds_of, same_kinds}
 use Rattle.nll_resolve.specs.ToldTypes.{are_known, have_arguments, arguments_are_known, arguments_have_arguments}
 use Rattle.nll_resolve.specs.Resolving.{State, arguments, nothing, older, run, newest, newest_type, others, starts, is_region, regions_in, types_before, types_inside}
@@ -18,7 +19,7 @@ use Rattle.nll_resolve.specs.declared.rows.Mark.{Mark}
 use Rattle.nll_resolve.specs.declared.rows.Mark.TheVariants as marks
 
 -- what is resolved, of its parts
-abbrev state : List TypeTree → List ℕ → List Mark → Bool → Bool → State
+abbrev pub state : List TypeTree → List ℕ → List Mark → Bool → Bool → State
 state ts rs ms k f = record { made = ts; regions = rs; rows = ms; known = k; fits = f }
 
 -- it is the same where its parts are
@@ -293,9 +294,12 @@ module _ (s : Scope) where
         (and_first k (is_known s t) (arguments_are_known s args))
         (and_first f (has_arguments s t) (arguments_have_arguments s args)))))
 
-  -- the pieces of a type alone
-  pub type_alone : (t : WrittenType) (rs : List ℕ)
-      → run s (texts.steps t) (nothing rs)
-      ≡ state (meant s t ∷ []) (rs ++ region_row (meant s t)) [] (is_known s t) (has_arguments s t)
-  type_alone t rs =
-      ap (λ qs. run s qs (nothing rs)) (sym (append-nil (texts.steps t))) ∙ type_run t [] [] rs [] true true
+  -- the pieces of the text of a type alone
+  pub type_done : (kept ps : List TypePiece) (rs : List ℕ) → kept ≡ ps → IsType ps
+      → run s (map plain kept) (nothing rs)
+      ≡ state (meant s (written ps) ∷ []) (rs ++ region_row (meant s (written ps))) [] (is_known s (written ps))
+      (has_arguments s (written ps))
+  type_done kept ps rs same sound =
+      ap (λ qs. run s (map plain qs) (nothing rs)) same
+      ∙ (ap (λ qs. run s qs (nothing rs)) (sound ∙ sym (append-nil (texts.steps (written ps))))
+      ∙ type_run (written ps) [] [] rs [] true true)
