@@ -14,7 +14,7 @@ use Rattle.nll_mir_grammar.specs.TypeTexts.{IsType, plain, written, make_referen
 use Rattle.nll_mir_grammar.specs.declared.type_text.TypePiece.{TypePiece}
 use Rattle.nll_resolve.specs.Naming.{Scope, is_among, is_known, has_arguments, meant, all_meant, regions_meant, types_meant, kinds_of, same_kinds}
 use Rattle.nll_resolve.specs.ToldTypes.{are_known, have_arguments, arguments_are_known, arguments_have_arguments}
-use Rattle.nll_resolve.specs.Resolving.{State, arguments, nothing, older, run, newest, newest_type, others, starts, is_region, regions_in, types_before, types_inside}
+use Rattle.nll_resolve.specs.Resolving.{State, arguments, nothing, older, run, newest, others, starts, is_region, regions_in, types_before, types_inside}
 use Rattle.nll_resolve.specs.declared.rows.Mark.{Mark}
 use Rattle.nll_resolve.specs.declared.rows.Mark.TheVariants as marks
 
