@@ -19,7 +19,7 @@ ghost use Rattle.nll_resolve.specs.Resolving as spec;
 ghost use Rattle.nll_resolve.specs.Resolving.{IsOf, Resolves, State, newest_type, run};
 
 use crate::made::{Made, pop, pop_row, push, reference_to};
-use crate::rows::{Mark, Rows, newest_row, takes};
+use crate::rows::{Mark, Rows, are_of, newest_row, takes};
 use crate::scope::{Scope, find};
 use nll_mir_grammar::{TypePiece, TypeText};
 use nll_problem::RegionId;
@@ -143,7 +143,7 @@ fn put_parameter(
         → Resolves s (make_named n) types.old made.old types.new made.new) }
 {
     let row = newest_row(made.rows.as_slice());
-    made.fits &= row.place == made.rows.len();
+    made.fits &= are_of(&made.rows.as_slice()[row.place..], &[]);
     made.rows.truncate(row.place.saturating_sub(1));
     made.shapes.truncate(row.types);
     types.regions.truncate(row.regions);

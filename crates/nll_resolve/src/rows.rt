@@ -74,8 +74,8 @@ fn is_region(mark: Mark) -> bool
     matches!(mark, Mark::Region(_))
 }
 
-// Whether arguments are of these kinds.
-fn are_of(arguments: &[Mark], kinds: &[bool]) -> bool
+/// Whether arguments are of these kinds.
+pub(crate) fn are_of(arguments: &[Mark], kinds: &[bool]) -> bool
     ensures { result ≡ naming.same_kinds (map spec.is_region arguments.now) kinds.now }
 {
     if arguments.len() != kinds.len() {
@@ -94,9 +94,8 @@ pub(crate) fn takes(scope: &Scope<'_>, number: usize, arguments: &[Mark]) -> boo
     ensures { result ≡ naming.same_kinds (map spec.is_region arguments.now)
         (slice_index_or (scope_of scope.now).kinds number []) }
 {
-    if number < scope.kinds.len() {
-        are_of(arguments, scope.kinds[number].as_slice())
-    } else {
-        arguments.is_empty()
+    match scope.kinds.get(number) {
+        Some(kinds) => are_of(arguments, kinds.as_slice()),
+        None => are_of(arguments, &[]),
     }
 }

@@ -1,7 +1,7 @@
-use Rattle.std.proofs.Common.{◌-◌, ap, length, refl, reverse, sym, take, ◌∙◌}
+use Rattle.std.proofs.Common.{◌-◌, ap, map, refl, reverse, sym, take, ◌∙◌}
 use Rattle.nll_types.specs.Types.{parameter}
-use Rattle.nll_resolve.specs.Resolving.{others, starts, types_before}
-use Rattle.nll_resolve.proofs.KindLemmas.{begins_at_end}
+use Rattle.nll_resolve.specs.Resolving.{is_region, newest, others, starts, types_before}
+use Rattle.nll_resolve.proofs.RowLemmas.{behind_beginning}
 use Rattle.nll_resolve.proofs.ResolvedLemmas.{and_true}
 use Rattle.nll_resolve.proofs.ShapedLemmas.{both_ok, front_taken}
 use Rattle.nll_resolve.proofs.resolution.put_parameter.Goals as goal
@@ -11,8 +11,8 @@ returns-clause-made c =
     let kept = c.args.made.now in
     let told_row = c.newest_row-row.ensures in
     let row = c.newest_row-row.result in
-    let ends = begins_at_end c.as_slice.result.now row.place c.len.result told_row.within
-    (c.len.ensures.value ∙ ap length (sym c.as_slice.ensures)) told_row.newest in
+    let behind = behind_beginning c.as_slice-2.result.now c.as_slice.result.now row.place
+    (c.as_slice-2.ensures ∙ sym c.as_slice.ensures) told_row.newest in
     both_ok c.push.result (λ below told. λ s n is number. record {
       below = below;
       made = λ st a.
@@ -27,6 +27,6 @@ returns-clause-made c =
                 ∙ (ap (λ n. take n kept.rows.items) c.saturating_sub.ensures
                 ∙ ap (take (row.place - 1)) (sym c.as_slice.ensures))) ∙ (told_row.others ∙ ap others rows);
             known = a.known ∙ sym (and_true st.known);
-            fits = cc;
+            fits = let kinds = ap (map is_region) (behind ∙ ap (λ ms. reverse (newest ms)) rows) in cc;
           };
     }) c.push.ensures.below c.push.ensures.made

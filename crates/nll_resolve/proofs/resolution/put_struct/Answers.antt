@@ -1,25 +1,16 @@
-use Rattle.std.proofs.Common.{◌≡◌, ℕ, ◌-◌, List, ap, drop, length, map, reverse, sym, take, ◌∙◌}
-use Rattle.std.proofs.Math.Seq.{take-length}
-use Rattle.std.proofs.lemmas.List.{length-drop, reverse-reverse}
+use Rattle.std.proofs.Common.{◌≡◌, ℕ, ap, length, map, reverse, sym, ◌∙◌}
 use Rattle.nll_format.specs.Names.{number_of}
 use Rattle.nll_types.specs.Shapes.{ShapeList, named_shape}
 use Rattle.nll_types.specs.Types.{named}
 use Rattle.nll_resolve.specs.Resolution.{scope_of}
 use Rattle.nll_resolve.specs.Resolving.{arguments, is_region, newest, others, regions_in, starts, types_before, types_inside}
-use Rattle.nll_resolve.specs.declared.rows.Mark.{Mark}
+use Rattle.nll_resolve.proofs.RowLemmas.{behind_beginning}
 use Rattle.nll_resolve.proofs.ShapedLemmas.{both_ok, front_taken, row_taken}
 use Rattle.nll_resolve.proofs.resolution.put_struct.Goals as goal
 
 -- shapes of structs are the same where their parts are
 same_named : (n m k l : ℕ) (ts us : ShapeList) → n ≡ m → k ≡ l → ts ≡ us → named_shape n k ts ≡ named_shape m l us
 same_named n m k l ts us d e f = cc
-
--- the newest row, in order, is what stands behind its beginning
-behind_beginning : (ms rows : List Mark) (p : ℕ) → ms ≡ rows → reverse (drop p rows) ≡ newest (reverse rows)
-    → take (length ms - p) (drop p ms) ≡ reverse (newest (reverse rows))
-behind_beginning ms rows p same f =
-    ap (λ n. take n (drop p ms)) (sym (length-drop p ms))
-    ∙ (take-length (drop p ms) ∙ (ap (drop p) same ∙ (sym (reverse-reverse (drop p rows)) ∙ ap reverse f)))
 
 pub returns-clause-made : goal.returns-clause-made
 returns-clause-made c =
