@@ -48,7 +48,7 @@ three : {X : Type 0} (a b c d : List X) → (a ++ b ++ c) ++ d ≡ a ++ (b ++ (c
 three a b c d = append_assoc (a ++ b) c d ∙ append_assoc a b (c ++ d)
 
 -- what stands last in a list, and the others
-pub last_at : {X : Type 0} (xs : List X) (x d : X) → slice_index_or (xs ++ x ∷ []) (length (xs ++ x ∷ []) - 1) d ≡ x
+last_at : {X : Type 0} (xs : List X) (x d : X) → slice_index_or (xs ++ x ∷ []) (length (xs ++ x ∷ []) - 1) d ≡ x
 last_at xs x d =
     let e : length (xs ++ x ∷ []) - 1 ≡ length xs = omega (arith, length-append xs (x ∷ [])) in
     rw e (get_or-append_seam xs x [] d)

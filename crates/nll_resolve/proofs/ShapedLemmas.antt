@@ -18,7 +18,8 @@ both_ok (Ok x) f p q = f p q
 both_ok (Err y) f p q = tt
 
 pub below_take : (n m : ℕ) (is : List ℕ) → AreBelow n is → AreBelow n (take m is)
-below_take n m is b = λ k l. rw (get_or-take m is k 0 (omega (arith, l, length-take m is))) (b k (omega (arith, l, length-take m is)))
+below_take n m is b = λ k l.
+    rw (get_or-take m is k 0 (omega (arith, l, length-take m is))) (b k (omega (arith, l, length-take m is)))
 
 module _ (shapes : List Node) where
   -- all but the first, those from a place on, and those in front of it

@@ -133,7 +133,7 @@ after s make_function st =
     let others_made = record st { made = older st.made } in
     record st {
       made = types_before others_made
-      ++ function (types_inside others_made) (newest_type st.made) ∷ [];
+          ++ function (types_inside others_made) (newest_type st.made) ∷ [];
       rows = others st.rows;
     }
 

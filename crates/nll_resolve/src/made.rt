@@ -76,11 +76,7 @@ pub(crate) fn pop(table: &mut TypeTable, made: &mut Made) -> Result<usize, Memor
 }
 
 /// Takes off the shapes of the newest row, which is complete then.
-pub(crate) fn pop_row(
-    alloc: Global,
-    made: &mut Made,
-    rows: &mut Rows,
-) -> Result<Vec<usize>, Memory>
+pub(crate) fn pop_row(alloc: Global, made: &mut Made, rows: &mut Rows) -> Result<Vec<usize>, Memory>
     ensures row { IfOk result
         (λ v. v.items ≡ drop (starts (reverse rows.old.items)).0 made.old.items) }
     ensures made { OnOk result

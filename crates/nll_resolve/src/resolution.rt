@@ -1,9 +1,9 @@
 //! Looking up the names in a written type, once each, piece by piece.
 
-ghost use Rattle.std.specs.Prelude.{◌≡◌, ◌<◌, ◌&&◌, ◌++◌, ◌∷◌, [], true, false, length, map};
+ghost use Rattle.std.specs.Prelude.{◌≡◌, ◌<◌, ◌&&◌, ◌++◌, true, false, length, map};
 ghost use Rattle.std.specs.Prelude.{IfOk, MatchOption, OnOk};
 ghost use Rattle.nll_types.specs.Shapes.{shape_of};
-ghost use Rattle.nll_types.specs.Table.{AreBelow, IsOver, shape_in};
+ghost use Rattle.nll_types.specs.Table.{AreBelow, shape_in};
 ghost use Rattle.nll_types.specs.Grown.{AddsTypes};
 ghost use Rattle.nll_types.specs.Tables.{AddsShapes};
 ghost use Rattle.nll_types.specs.declared.body_types.BodyTypes.{BodyTypes as kept_types};
@@ -127,15 +127,15 @@ fn put_function(alloc: Global, types: &mut BodyTypes, made: &mut Resolving) -> R
 {
     let output = pop(&mut types.table, &mut made.shapes)?;
     let inputs = pop_row(alloc, &mut made.shapes, &mut made.rows)?;
-    push(&mut types.table, Node::Function(inputs, output), &mut made.shapes)
+    push(
+        &mut types.table,
+        Node::Function(inputs, output),
+        &mut made.shapes,
+    )
 }
 
 // A type parameter is made, in place of the newest row: it takes no arguments.
-fn put_parameter(
-    number: usize,
-    types: &mut BodyTypes,
-    made: &mut Resolving,
-) -> Result<(), Memory>
+fn put_parameter(number: usize, types: &mut BodyTypes, made: &mut Resolving) -> Result<(), Memory>
     requires { AreBelow (length types.old.table.shapes) made.old.shapes.items }
     ensures grows { AddsShapes types.old.table types.new.table }
     ensures made { OnOk result ((s : naming_scope) (n : name)
@@ -186,7 +186,11 @@ fn put_struct(
     made.fits &= takes(scope, number, arguments);
     let count = push_regions(arguments, &mut types.regions)?;
     let parts = pop_row(alloc, &mut made.shapes, &mut made.rows)?;
-    push(&mut types.table, Node::Named(number, count, parts), &mut made.shapes)
+    push(
+        &mut types.table,
+        Node::Named(number, count, parts),
+        &mut made.shapes,
+    )
 }
 
 // What a name means is made, with the newest row as its arguments.
