@@ -20,3 +20,4 @@ pub mod KeepingLemmas
 pub mod NumberLemmas
 pub mod MeetingLemmas
 pub mod RowLemmas
+pub mod FillLemmas

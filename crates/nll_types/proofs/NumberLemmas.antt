@@ -1,11 +1,15 @@
 -- The shapes of types by numbers, while the table grows.
-use Rattle.std.proofs.Common.{◌≡◌, ℕ, zero, suc, ◌<◌, ◌≤◌, List, [], ◌∷◌, length, map, refl, ap, ◌∙◌, arith, Some, None}
+use Rattle.std.proofs.Common.{◌≡◌, ℕ, zero, suc, ◌<◌, List, [], ◌∷◌, length, map, get_or, refl, sym, ap, ◌∙◌, arith, Some}
 use Rattle.std.specs.Prelude.{slice_get, slice_index}
+use Rattle.std.proofs.Math.ListN.{get_or-map}
+use Rattle.std.proofs.lemmas.List.{length-map}
 use Rattle.nll_types.specs.Types.{TypeTree}
+use Rattle.nll_types.specs.Rows.{numbers_of}
 use Rattle.nll_types.specs.Shapes.{shape_of}
 use Rattle.nll_types.specs.Table.{Extends, AreBelow, shape_in}
 use Rattle.nll_types.specs.Judging.{HaveShapes}
 use Rattle.nll_types.specs.declared.node.Node.{Node}
+use Rattle.nll_types.specs.declared.typed.Typed.{Typed}
 
 -- ---- numbers of shapes, while the table grows
 
@@ -55,12 +59,22 @@ type_there ns (i ∷ is) (u ∷ ts) (suc k) h l =
     let rest : map (shape_in ns) is ≡ map shape_of ts = cc in
     type_there ns is ts k rest (omega arith)
 
-pub no_type_there : (ns : List Node) (is : List ℕ) (ts : List TypeTree) (k : ℕ) → HaveShapes ns is ts → length is ≤ k
-    → slice_get ts k ≡ None
-no_type_there ns is [] k h l = refl
-no_type_there ns [] (u ∷ ts) k h l = absurd (let z : [] ≡ shape_of u ∷ map shape_of ts = h in cc)
-no_type_there ns (i ∷ is) (u ∷ ts) zero h l = absurd (omega arith)
-no_type_there ns (i ∷ is) (u ∷ ts) (suc k) h l =
-    let z : shape_in ns i ∷ map (shape_in ns) is ≡ shape_of u ∷ map shape_of ts = h in
-    let rest : map (shape_in ns) is ≡ map shape_of ts = cc in
-    no_type_there ns is ts k rest (omega arith)
+-- ---- variables by the numbers of their types
+
+-- where there is no variable
+abbrev pub no_variable : Typed
+no_variable = record { shape = 0; first = 0 }
+
+number_at : (vs : List Typed) (k : ℕ) → slice_index (numbers_of vs) k ≡ (get_or vs k no_variable).shape
+number_at vs k = get_or-map (λ (v : Typed). v.shape) vs k no_variable
+
+pub variable_below : (n : ℕ) (vs : List Typed) (k : ℕ) → AreBelow n (numbers_of vs) → k < length vs
+    → (get_or vs k no_variable).shape < n
+variable_below n vs k b l = (let h = b k (rw (length-map vs (λ (v : Typed). v.shape)) l) in rw (number_at vs k) at h)
+
+pub variable_there : (ns : List Node) (vs : List Typed) (ts : List TypeTree) (k : ℕ) → HaveShapes ns (numbers_of vs) ts
+    → k < length vs
+    → (t : TypeTree) × (slice_get ts k ≡ Some t) × (shape_in ns (get_or vs k no_variable).shape ≡ shape_of t)
+variable_there ns vs ts k h l =
+    let t = type_there ns (numbers_of vs) ts k h (rw (length-map vs (λ (v : Typed). v.shape)) l) in
+    (t.0, t.1, ap (shape_in ns) (sym (number_at vs k)) ∙ shape_at ns (numbers_of vs) ts k t.0 h t.1)

@@ -1,5 +1,5 @@
 -- Types as shapes and rows of regions.
-use Rattle.std.proofs.Common.{◌≡◌, ℕ, zero, suc, ◌<◌, ◌≤◌, ◌↔◌, ◌⊎◌, List, [], ◌∷◌, ◌++◌, length, map, take, drop, refl, sym, ap, ◌∙◌, subst, append_assoc, length-append, arith, ⊎_elim, inl, inr, Contains}
+use Rattle.std.proofs.Common.{◌≡◌, ℕ, zero, suc, ◌<◌, ◌↔◌, List, [], ◌∷◌, ◌++◌, length, map, take, drop, refl, sym, ap, ◌∙◌, subst, append_assoc, length-append, arith, ⊎_elim, inl, inr, Contains}
 use Rattle.std.specs.Prelude.{slice_index_or, All}
 use Rattle.std.proofs.Math.Seq.{take-append_seam, drop-append_seam}
 use Rattle.std.proofs.lemmas.List.{drop-append-le}
@@ -8,7 +8,7 @@ use Rattle.nll_sets.specs.Prefix.{IsPrefix}
 use Rattle.nll_types.specs.Types.{TypeTree, TypeTrees, int, parameter, reference, tuple, named, function, none, more, HasRegion, AnyHasRegion}
 use Rattle.nll_types.specs.Structs.{Struct, IsWellFormed, AreWellFormed}
 use Rattle.nll_types.specs.Shapes.{Shape, shape_of, shapes_of}
-use Rattle.nll_types.specs.Table.{Extends, AreBelow, shape_in}
+use Rattle.nll_types.specs.Table.{Extends, AreBelow}
 use Rattle.nll_types.specs.Judging.{HaveShapes}
 use Rattle.nll_types.specs.Rows.{region_row, region_rows, filled, all_filled, tree_at, IsTyped, HasRow, numbers_of}
 use Rattle.nll_types.specs.declared.node.Node.{Node}
