@@ -44,7 +44,8 @@ pub return_small : (structs : List Struct) (ns : List Node) (vs : List Typed) (t
     ≡ small_prefixes structs ts (record { variable = 0; projections = [] })
 return_small structs ns vs ts h l =
     let t = variable_there ns vs ts 0 h l in
-    small_agrees t.0 _ t.2 ∙ ap (λ (o : Option TypeTree). unwrap_or (option_map (small_behind structs []) o) true) (sym t.1)
+    small_agrees t.0 _ t.2
+    ∙ ap (λ (o : Option TypeTree). unwrap_or (option_map (small_behind structs []) o) true) (sym t.1)
 
 -- ---- pairs of a statement
 

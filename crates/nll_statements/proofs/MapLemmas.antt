@@ -157,7 +157,8 @@ module _ {R S T U : Type 0} (f : R → S) (g : T → U) where
   same_sources (goto b) = refl
   same_sources (switch op bs) = refl
   same_sources (drop x b unwind) = refl
-  same_sources (call p args t wheres b unwind) = ap (λ (ops : List Operand). flat_map place_in ops) (operands_same g args)
+  same_sources (call p args t wheres b unwind) =
+      ap (λ (ops : List Operand). flat_map place_in ops) (operands_same g args)
   same_sources return = refl
   same_sources stop = refl
 

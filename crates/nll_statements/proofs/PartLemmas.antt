@@ -279,8 +279,8 @@ argument_below n (y ∷ xs) zero x l is b = rw is (b 0 (omega arith))
 argument_below n (y ∷ xs) (suc k) x l is b =
     argument_below n xs k x (omega arith) is (λ j m. b (suc j) (omega arith))
 
-pub argument_shape : {W : Type 0} (ns : List Node) (h : Typed → TypeTree) (xs : List (W × Typed)) (k : ℕ) (x : W × Typed)
-    → k < length xs → x ≡ get_or xs k x
+pub argument_shape : {W : Type 0} (ns : List Node) (h : Typed → TypeTree) (xs : List (W × Typed)) (k : ℕ)
+    (x : W × Typed) → k < length xs → x ≡ get_or xs k x
     → HaveShapes ns (numbers_of (map (λ a. a.1) xs)) (map (λ a. h a.1) xs) → shape_in ns x.1.shape ≡ shape_of (h x.1)
 argument_shape ns h [] k x l is e = absurd (omega arith)
 argument_shape ns h (y ∷ xs) zero x l is e = rw is (let z : shape_in ns y.1.shape ≡ shape_of (h y.1) = cc in z)

@@ -8,9 +8,7 @@ use Rattle.nll_types.specs.Table.{at, all_at}
 use Rattle.nll_types.specs.Rows.{filled, all_filled}
 use Rattle.nll_types.specs.Views.{tree, trees}
 use Rattle.nll_types.specs.declared.ty.Ty.{Ty}
-
-abbrev Filled : Type 0
-Filled = TypeTrees × List ℕ
+use Rattle.nll_types.proofs.RowLemmas.{AllFilled}
 
 -- a row of types, and one more
 abbrev and_one : TypeTrees → TypeTree → TypeTrees
@@ -23,16 +21,16 @@ trees_push (u ∷ made) t = ap (more (tree u)) (trees_push made t)
 
 -- the types are those of the shapes of these numbers and of the first of the regions, and the rest of the regions
 abbrev pub AreFilled : List Shape → List ℕ → List ℕ → List Ty → List ℕ → Type 0
-AreFilled known is rs made rest = ◌≡◌ {A = Filled} (all_filled (all_at known is) rs) (trees made, rest)
+AreFilled known is rs made rest = ◌≡◌ {A = AllFilled} (all_filled (all_at known is) rs) (trees made, rest)
 
 filled_push : (known : List Shape) (is : List ℕ) (i : ℕ) (rs : List ℕ)
-    → ◌≡◌ {A = Filled} (all_filled (all_at known (is ++ i ∷ [])) rs) (
+    → ◌≡◌ {A = AllFilled} (all_filled (all_at known (is ++ i ∷ [])) rs) (
       and_one (all_filled (all_at known is) rs).0 (filled (at known i) (all_filled (all_at known is) rs).1).0,
       (filled (at known i) (all_filled (all_at known is) rs).1).1,
     )
 filled_push known [] i rs = refl
 filled_push known (j ∷ is) i rs =
-    ap (λ (q : Filled). (more (filled (at known j) rs).0 q.0, q.1)) (filled_push known is i (filled (at known j) rs).1)
+    ap (λ (q : AllFilled). (more (filled (at known j) rs).0 q.0, q.1)) (filled_push known is i (filled (at known j) rs).1)
 
 pub filled_more : (known : List Shape) (is : List ℕ) (k d : ℕ) (rs : List ℕ) (made : List Ty) (rest next : List ℕ)
     (t : Ty) → k < length is → AreFilled known (take k is) rs made rest
@@ -42,7 +40,7 @@ filled_more known is k d rs made rest next t l h a b =
     let i = get_or is k d in
     ap (λ (js : List ℕ). all_filled (all_at known js) rs) (take_more is k d l)
     ∙ filled_push known (take k is) i rs
-    ∙ ap (λ (p : Filled). (and_one p.0 (filled (at known i) p.1).0, (filled (at known i) p.1).1)) h
+    ∙ ap (λ (p : AllFilled). (and_one p.0 (filled (at known i) p.1).0, (filled (at known i) p.1).1)) h
     ∙ ap (λ (u : TypeTree). (and_one (trees made) u, (filled (at known i) rest).1)) (sym a)
     ∙ ap (λ (qs : List ℕ). (and_one (trees made) (tree t), qs)) (sym b)
     ∙ ap (λ (ts : TypeTrees). (ts, next)) (sym (trees_push made t))

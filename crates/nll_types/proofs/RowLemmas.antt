@@ -16,46 +16,48 @@ use Rattle.nll_types.specs.declared.typed.Typed.{Typed}
 
 -- ---- a shape filled with its row
 
-abbrev One : Type 0
-One = TypeTree × List ℕ
+-- a type, or types, and the regions that are left
+abbrev pub OneFilled : Type 0
+OneFilled = TypeTree × List ℕ
 
-abbrev Some_of : Type 0
-Some_of = TypeTrees × List ℕ
+abbrev pub AllFilled : Type 0
+AllFilled = TypeTrees × List ℕ
 
 mutual
   -- a type is its shape filled with its row
-  pub fill_row : (t : TypeTree) (rest : List ℕ) → ◌≡◌ {A = One} (filled (shape_of t) (region_row t ++ rest)) (t, rest)
+  pub fill_row : (t : TypeTree) (rest : List ℕ)
+      → ◌≡◌ {A = OneFilled} (filled (shape_of t) (region_row t ++ rest)) (t, rest)
   fill_row int rest = refl
   fill_row (parameter k) rest = refl
-  fill_row (reference r m t) rest = ap (λ (p : One). (reference (slice_index_or p.1 0 0) m p.0, drop 1 p.1))
+  fill_row (reference r m t) rest = ap (λ (p : OneFilled). (reference (slice_index_or p.1 0 0) m p.0, drop 1 p.1))
       (ap (filled (shape_of t)) (append_assoc (region_row t) (r ∷ []) rest) ∙ fill_row t (r ∷ rest))
-  fill_row (tuple ts) rest = ap (λ (p : Some_of). (tuple p.0, p.1)) (all_fill_row ts rest)
+  fill_row (tuple ts) rest = ap (λ (p : AllFilled). (tuple p.0, p.1)) (all_fill_row ts rest)
   fill_row (named s rs ts) rest =
-      ap (λ (p : Some_of). (named s (take (length rs) p.1) p.0, drop (length rs) p.1))
+      ap (λ (p : AllFilled). (named s (take (length rs) p.1) p.0, drop (length rs) p.1))
       (ap (all_filled (shapes_of ts)) (append_assoc (region_rows ts) rs rest) ∙ all_fill_row ts (rs ++ rest))
       ∙ ap (λ (qs : List ℕ). (named s qs ts, drop (length rs) (rs ++ rest))) (take-append_seam rs rest)
       ∙ ap (λ (qs : List ℕ). (named s rs ts, qs)) (drop-append_seam rs rest)
   fill_row (function ts t) rest =
-      ap (λ (p : Some_of). (function p.0 (filled (shape_of t) p.1).0, (filled (shape_of t) p.1).1))
+      ap (λ (p : AllFilled). (function p.0 (filled (shape_of t) p.1).0, (filled (shape_of t) p.1).1))
       (ap (all_filled (shapes_of ts)) (append_assoc (region_rows ts) (region_row t) rest)
       ∙ all_fill_row ts (region_row t ++ rest))
-      ∙ ap (λ (q : One). (function ts q.0, q.1)) (fill_row t rest)
+      ∙ ap (λ (q : OneFilled). (function ts q.0, q.1)) (fill_row t rest)
 
   pub all_fill_row : (ts : TypeTrees) (rest : List ℕ)
-      → ◌≡◌ {A = Some_of} (all_filled (shapes_of ts) (region_rows ts ++ rest)) (ts, rest)
+      → ◌≡◌ {A = AllFilled} (all_filled (shapes_of ts) (region_rows ts ++ rest)) (ts, rest)
   all_fill_row none rest = refl
   all_fill_row (more t ts) rest =
-      ap (λ (p : One). (more p.0 (all_filled (shapes_of ts) p.1).0, (all_filled (shapes_of ts) p.1).1))
+      ap (λ (p : OneFilled). (more p.0 (all_filled (shapes_of ts) p.1).0, (all_filled (shapes_of ts) p.1).1))
       (ap (filled (shape_of t)) (append_assoc (region_row t) (region_rows ts) rest)
       ∙ fill_row t (region_rows ts ++ rest))
-      ∙ ap (λ (q : Some_of). (more t q.0, q.1)) (all_fill_row ts rest)
+      ∙ ap (λ (q : AllFilled). (more t q.0, q.1)) (all_fill_row ts rest)
 
 module _ (ns : List Node) (regions : List ℕ) where
   -- the type of a shape and a row is the one that has them
   pub tree_is : (v : Typed) (t : TypeTree) → IsTyped ns regions v t → tree_at ns regions v ≡ t
   tree_is v t h = ap (λ (s : Shape). (filled s (drop v.first regions)).0) h.shape
       ∙ ap (λ (rs : List ℕ). (filled (shape_of t) rs).0) h.row.1
-      ∙ ap (λ (p : One). p.0) (fill_row t h.row.0)
+      ∙ ap (λ (p : OneFilled). p.0) (fill_row t h.row.0)
 
   pub has_row : (v : Typed) (t : TypeTree) → IsTyped ns regions v t → HasRow ns regions v
   has_row v t h = subst (IsTyped ns regions v) (sym (tree_is v t h)) h

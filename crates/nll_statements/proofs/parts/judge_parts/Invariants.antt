@@ -20,7 +20,8 @@ abbrev pub invariant-loop-place : goal.invariant-loop-place
 invariant-loop-place l = AddsShapes l.fn.table l.table
     × ((l.judged.declared && left_declared operand_of (length l.variables) l.operands l.place)
     ≡ have_variables (length l.variables) (flat_map place_in (map operand_of l.operands)))
-    × ((types : List TypeTree) (t : TypeTree) (ts : TypeTrees) → HaveShapes l.fn.table.shapes (numbers_of l.variables) types
+    × ((types : List TypeTree) (t : TypeTree) (ts : TypeTrees)
+    → HaveShapes l.fn.table.shapes (numbers_of l.variables) types
     → shape_in l.fn.table.shapes l.shape ≡ shape_of t → parts_of_type (structs_of l.fn.table.structs) t ≡ Some ts
     → IsSoFar l.judged
     (all_agree (operand_types (structs_of l.fn.table.structs) types (map operand_of (drop l.place l.operands)))

@@ -38,7 +38,8 @@ returns-in-Call-clause-judged g c =
     let judged = rw (arguments, first, c.deref-in-Call-3.ensures) at c.judge_call.ensures.judged in
     rw c.in-Call.is (IfOk-weaker c.judge_call.result _ _ (λ j told. λ types f h e w.
     let wheres = map {B = ℕ × ℕ} (λ x. (f x.0, f x.1)) called.wheres.items in
-    let here = told types h wheres called.target called.unwind e (rw (types_kept operand_of called.arguments.items) at w) in
+    let written = rw (types_kept operand_of called.arguments.items) at w in
+    let here = told types h wheres called.target called.unwind e written in
     subst (λ (as' : List (Operand × TypeTree)).
     IsJudged (types_agree structs types
     (call (path_of called.place) as' (h called.result) wheres called.target called.unwind))

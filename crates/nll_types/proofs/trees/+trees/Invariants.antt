@@ -12,5 +12,6 @@ decreases-trees_of l = 2 * shape_nodes_of_all (all_at (shapes_in l.shapes.now) l
 
 abbrev pub invariant-trees_of-loop-part : goal.invariant-trees_of-loop-part
 invariant-trees_of-loop-part l =
-    AreFilled (shapes_in l.shapes) (take l.part-index l.parts) (drop l.fn.at l.regions) l.made.items (drop l.at l.regions)
+    AreFilled (shapes_in l.shapes) (take l.part-index l.parts) (drop l.fn.at l.regions) l.made.items
+    (drop l.at l.regions)
     × (vec_len l.made ≡ l.part-index) × (length l.parts ≤ vec_capacity l.made)
