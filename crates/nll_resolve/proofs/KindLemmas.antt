@@ -35,7 +35,7 @@ takes_none ms (ks ∷ kinds) (suc n) h = takes_none ms kinds n (omega arith)
 
 none_first : (m : Mark) (ms : List Mark) → false ≡ same_kinds (map is_region (m ∷ ms)) []
 none_first (marks.Region r) ms = refl
-none_first (marks.Row k) ms = refl
+none_first (marks.Row k i) ms = refl
 none_first marks.Part ms = refl
 
 -- there are no arguments where there are no kinds

@@ -1,6 +1,5 @@
 pub mod NameLaws
 mod KindLemmas
 mod RowLemmas
-mod StateLemmas
-mod ResolvedLemmas
 mod ShapedLemmas
+mod ResolvedLemmas

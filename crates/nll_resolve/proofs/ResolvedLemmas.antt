@@ -1,37 +1,77 @@
 -- Running over the pieces of a written type resolves it.
-use Rattle.std.proofs.Common.{◌≡◌, Bool, true, false, ◌&&◌, List, [], ◌∷◌, ◌++◌, length, map, reverse, refl, sym, ap, ◌∙◌, append_assoc}
-use Rattle.std.proofs.Math.Seq.{take-append_seam}
-use Rattle.std.proofs.lemmas.List.{append-nil, reverse-append}
-use Rattle.std.specs.Prelude.{take, ◌||◌, if◌then◌else◌, slice_index_or, Option, Some, None, MatchOption}
+use Rattle.std.proofs.Common.{◌≡◌, ℕ, ◌-◌, Bool, true, false, ◌&&◌, List, [], ◌∷◌, ◌++◌, length, map, reverse, drop, refl, sym, ap, ◌∙◌, append_assoc, arith}
+use Rattle.std.proofs.Math.Seq.{drop-append_seam, get_or-append_seam, take-append_seam}
+use Rattle.std.proofs.lemmas.List.{append-nil, length-append, reverse-append}
+use Rattle.std.specs.Prelude.{take, ◌||◌, if◌then◌else◌, slice_index_or}
 use Rattle.nll_format.specs.Names.{number_of}
-use Rattle.nll_types.specs.Types.{TypeTree}
+use Rattle.nll_types.specs.Rows.{region_row, region_rows}
+use Rattle.nll_types.specs.Types.{TypeTree, TypeTrees}
 use Rattle.nll_types.specs.Types as types
+use Rattle.nll_types.specs.Views.{row_of}
 use Rattle.nll_mir_grammar.specs.WrittenTypes.{Name, WrittenType, WrittenTypes, Arguments, int, reference, tuple, named, function, none, more, no_argument, region_argument, type_argument}
 use Rattle.nll_mir_grammar.specs.TypeTexts as texts
 use Rattle.nll_mir_grammar.specs.TypeTexts.{IsType, plain, written, make_reference, add_type, make_tuple, make_named, make_function}
 use Rattle.nll_mir_grammar.specs.declared.type_text.TypePiece.{TypePiece}
-use Rattle.nll_statement_list.specs.TypePieces.{number_pieces, reference_piece, steps, parts}
-use Rattle.nll_statement_list.specs.declared.piece.Piece.{Piece}
-use Rattle.nll_statement_list.specs.declared.piece.Piece.TheVariants as pieces
 use Rattle.nll_resolve.specs.Naming.{Scope, is_among, is_known, has_arguments, meant, all_meant, regions_meant, types_meant, kinds_of, same_kinds}
-use Rattle.nll_resolve.specs.Resolution.{IsResolved, Resolved}
 use Rattle.nll_resolve.specs.ToldTypes.{are_known, have_arguments, arguments_are_known, arguments_have_arguments}
-use Rattle.nll_resolve.specs.Resolving.{State, arguments, nothing, run, newest, others, start, is_region, regions_in}
+use Rattle.nll_resolve.specs.Resolving.{State, arguments, nothing, older, run, newest, newest_type, others, starts, is_region, regions_in, types_before, types_inside}
 use Rattle.nll_resolve.specs.declared.rows.Mark.{Mark}
 use Rattle.nll_resolve.specs.declared.rows.Mark.TheVariants as marks
-use Rattle.nll_resolve.proofs.StateLemmas.{state, same_state, three, with_name, and_true, and_first, and_last}
 
--- pieces behind pieces
-four : {X : Type 0} (a b c d e : List X) → a ++ b ++ c ++ d ++ e ≡ a ++ (b ++ (c ++ d ++ e))
-four a b c d e =
-    ap (λ xs. xs ++ e) (append_assoc (a ++ b) c d)
-    ∙ (append_assoc (a ++ b) (c ++ d) e ∙ append_assoc a b ((c ++ d) ++ e))
+-- what is resolved, of its parts
+abbrev pub state : List TypeTree → List ℕ → List Mark → Bool → Bool → State
+state ts rs ms k f = record { made = ts; regions = rs; rows = ms; known = k; fits = f }
 
-nothing_more : (ps : List Piece) (ms : List Mark) (k f : Bool)
-    → state ps ms k f ≡ state (ps ++ []) ms (k && true) (f && true)
-nothing_more ps ms k f =
-    same_state ps (ps ++ []) ms ms k (k && true) f (f && true) (sym (append-nil ps)) refl (sym (and_true k))
-    (sym (and_true f))
+-- it is the same where its parts are
+same_state : (ts us : List TypeTree) (rs qs : List ℕ) (ms ns : List Mark) (k l f g : Bool) → ts ≡ us → rs ≡ qs
+    → ms ≡ ns → k ≡ l → f ≡ g → state ts rs ms k f ≡ state us qs ns l g
+same_state ts us rs qs ms ns k l f g a b c d e = cc
+
+-- tests in a row
+pub and_true : (a : Bool) → a && true ≡ a
+and_true true = refl
+and_true false = refl
+
+and_first : (a b c : Bool) → (a && b) && c ≡ a && (b && c)
+and_first true b c = refl
+and_first false b c = refl
+
+and_last : (a b c : Bool) → (a && b) && c ≡ a && (c && b)
+and_last true true true = refl
+and_last true true false = refl
+and_last true false true = refl
+and_last true false false = refl
+and_last false b c = refl
+
+-- lists in a row, before another
+three : {X : Type 0} (a b c d : List X) → (a ++ b ++ c) ++ d ≡ a ++ (b ++ (c ++ d))
+three a b c d = append_assoc (a ++ b) c d ∙ append_assoc a b (c ++ d)
+
+-- what stands last in a list, and the others
+pub last_at : {X : Type 0} (xs : List X) (x d : X) → slice_index_or (xs ++ x ∷ []) (length (xs ++ x ∷ []) - 1) d ≡ x
+last_at xs x d =
+    let e : length (xs ++ x ∷ []) - 1 ≡ length xs = omega (arith, length-append xs (x ∷ [])) in
+    rw e (get_or-append_seam xs x [] d)
+
+before_last : {X : Type 0} (xs : List X) (x : X) → older (xs ++ x ∷ []) ≡ xs
+before_last xs x =
+    let e : length (xs ++ x ∷ []) - 1 ≡ length xs = omega (arith, length-append xs (x ∷ [])) in
+    rw e (take-append_seam xs (x ∷ []))
+
+-- the types of a row as a list, and as a row again
+abbrev listed : TypeTrees → List TypeTree
+listed types.none = []
+listed (types.more t ts) = t ∷ listed ts
+
+row_back : (ts : TypeTrees) → row_of (listed ts) ≡ ts
+row_back types.none = refl
+row_back (types.more t ts) = ap (λ us. types.more t us) (row_back ts)
+
+nothing_more : (ts : List TypeTree) (rs : List ℕ) (ms : List Mark) (k f : Bool)
+    → state ts rs ms k f ≡ state (ts ++ []) (rs ++ []) ms (k && true) (f && true)
+nothing_more ts rs ms k f =
+    same_state ts (ts ++ []) rs (rs ++ []) ms ms k (k && true) f (f && true) (sym (append-nil ts))
+    (sym (append-nil rs)) refl (sym (and_true k)) (sym (and_true f))
 
 -- ---- what types and arguments leave in the newest row
 
@@ -43,6 +83,16 @@ part_marks (more t ts) ms = part_marks ts (marks.Part ∷ ms)
 others_behind_parts : (ts : WrittenTypes) (ms : List Mark) → others (part_marks ts ms) ≡ others ms
 others_behind_parts none ms = refl
 others_behind_parts (more t ts) ms = others_behind_parts ts (marks.Part ∷ ms)
+
+starts_behind_parts : (ts : WrittenTypes) (ms : List Mark) → starts (part_marks ts ms) ≡ starts ms
+starts_behind_parts none ms = refl
+starts_behind_parts (more t ts) ms = starts_behind_parts ts (marks.Part ∷ ms)
+
+-- what is made of a row of types that is complete
+closed : (make : TypeTrees → TypeTree) (us : TypeTrees) (ts : List TypeTree) (n : ℕ) → n ≡ length ts
+    → take n (ts ++ listed us) ++ make (row_of (drop n (ts ++ listed us))) ∷ [] ≡ ts ++ make us ∷ []
+closed make us ts n e =
+    rw (e, take-append_seam ts (listed us), drop-append_seam ts (listed us), row_back us) refl
 
 module _ (s : Scope) where
   -- the rows after arguments
@@ -62,10 +112,10 @@ module _ (s : Scope) where
   others_behind (region_argument r args) ms = others_behind args (marks.Region (number_of s.regions r) ∷ ms)
   others_behind (type_argument t args) ms = others_behind args (marks.Part ∷ ms)
 
-  start_behind : (args : Arguments) (ms : List Mark) → start (argument_marks args ms) ≡ start ms
-  start_behind no_argument ms = refl
-  start_behind (region_argument r args) ms = start_behind args (marks.Region (number_of s.regions r) ∷ ms)
-  start_behind (type_argument t args) ms = start_behind args (marks.Part ∷ ms)
+  starts_behind : (args : Arguments) (ms : List Mark) → starts (argument_marks args ms) ≡ starts ms
+  starts_behind no_argument ms = refl
+  starts_behind (region_argument r args) ms = starts_behind args (marks.Region (number_of s.regions r) ∷ ms)
+  starts_behind (type_argument t args) ms = starts_behind args (marks.Part ∷ ms)
 
   one_in_order : (m : Mark) (ms ns : List Mark) → reverse (m ∷ ms) ++ ns ≡ reverse ms ++ m ∷ ns
   one_in_order m ms ns = ap (λ xs. xs ++ ns) (reverse-append (m ∷ []) ms) ∙ append_assoc (reverse ms) (m ∷ []) ns
@@ -93,23 +143,43 @@ module _ (s : Scope) where
   -- ---- what pieces make
 
   -- what is resolved after a name, behind its arguments
-  module _ (n : Name) (args : Arguments) (ps : List Piece) (ms : List Mark) (k f : Bool) where
+  module _ (n : Name) (args : Arguments) (ts : List TypeTree) (rs : List ℕ) (ms : List Mark) (k f : Bool) where
+    abbrev row : List Mark
+    row = marks.Row (length ts) (length rs) ∷ ms
+
     abbrev before_name : State
     before_name =
-        state ((ps ++ pieces.Row ∷ []) ++ parts (types_meant s args))
-        (argument_marks args (marks.Row (length ps) ∷ ms)) (k && arguments_are_known s args)
-        (f && arguments_have_arguments s args)
+        state (ts ++ listed (types_meant s args)) (rs ++ region_rows (types_meant s args)) (argument_marks args row)
+        (k && arguments_are_known s args) (f && arguments_have_arguments s args)
+
+    in_row : arguments before_name ≡ marks_of args
+    in_row = in_order args row
+
+    -- the regions, and the start of the row
+    regions_here : regions_in (arguments before_name) ≡ regions_meant s args
+    regions_here = ap regions_in in_row ∙ regions_of_marks args
+
+    abbrev name_type : Bool → List ℕ → TypeTrees → TypeTree
+    name_type b qs us =
+        if b then types.parameter (number_of s.parameters n) else types.named (number_of s.structs n) qs us
+
+    abbrev name_done_at : Bool → State
+    name_done_at b =
+        state (types_before before_name
+        ++ name_type b (regions_in (arguments before_name)) (types_inside before_name) ∷ [])
+        (if b then take (starts before_name.rows).1 before_name.regions
+        else before_name.regions ++ regions_in (arguments before_name)) (others before_name.rows)
+        (before_name.known && (b || is_among s.structs n))
+        (before_name.fits && same_kinds (map is_region (arguments before_name))
+        (if b then [] else slice_index_or s.kinds (number_of s.structs n) []))
 
     abbrev name_meant : Bool → State
     name_meant b =
-        state (ps ++ steps (if b then types.parameter (number_of s.parameters n)
-        else types.named (number_of s.structs n) (regions_meant s args) (types_meant s args))) ms
+        let t : TypeTree = name_type b (regions_meant s args) (types_meant s args) in
+        state (ts ++ t ∷ []) (rs ++ region_row t) ms
         (k && ((b || is_among s.structs n) && arguments_are_known s args))
         (f && (same_kinds (kinds_of args) (if b then [] else slice_index_or s.kinds (number_of s.structs n) [])
         && arguments_have_arguments s args))
-
-    in_row : arguments before_name ≡ marks_of args
-    in_row = in_order args (marks.Row (length ps) ∷ ms)
 
     name_fits : (ks : List Bool)
         → (f && arguments_have_arguments s args) && same_kinds (map is_region (arguments before_name)) ks
@@ -119,138 +189,117 @@ module _ (s : Scope) where
         (ap (map is_region) in_row ∙ kinds_of_marks args)
         ∙ and_last f (arguments_have_arguments s args) (same_kinds (kinds_of args) ks)
 
-    row_gone : take (start before_name.rows) before_name.pieces ≡ ps
-    row_gone =
-        ap (λ m. take m before_name.pieces) (start_behind args (marks.Row (length ps) ∷ ms))
-        ∙ (ap (take (length ps)) (append_assoc ps (pieces.Row ∷ []) (parts (types_meant s args)))
-        ∙ take-append_seam ps (pieces.Row ∷ parts (types_meant s args)))
-
-    struct_put : before_name.pieces ++ number_pieces pieces.Named (number_of s.structs n)
-        ++ map pieces.Region (regions_in (arguments before_name))
-        ≡ ps ++ steps (types.named (number_of s.structs n) (regions_meant s args) (types_meant s args))
-    struct_put =
-        ap (λ rs. before_name.pieces ++ number_pieces pieces.Named (number_of s.structs n) ++ map pieces.Region rs)
-        (ap regions_in in_row ∙ regions_of_marks args)
-        ∙ four ps (pieces.Row ∷ []) (parts (types_meant s args)) (number_pieces pieces.Named (number_of s.structs n))
-        (map pieces.Region (regions_meant s args))
-
-    name_done : (b : Bool) → with_name s n before_name b (others before_name.rows) ≡ name_meant b
+    name_done : (b : Bool) → name_done_at b ≡ name_meant b
     name_done true =
-        same_state _ _ _ ms _ _ _ _
-        (ap (λ qs. qs ++ number_pieces pieces.Parameter (number_of s.parameters n)) row_gone)
-        (others_behind args (marks.Row (length ps) ∷ ms)) (and_last k (arguments_are_known s args) true)
-        (name_fits [])
+        same_state _ _ _ _ _ ms _ _ _ _
+        (closed (λ us. name_type true [] us) (types_meant s args) ts _ (ap (λ (p : ℕ × ℕ). p.0) (starts_behind args row)))
+        (ap (λ (p : ℕ × ℕ). take p.1 before_name.regions) (starts_behind args row)
+        ∙ (take-append_seam rs (region_rows (types_meant s args)) ∙ sym (append-nil rs)))
+        (others_behind args row) (and_last k (arguments_are_known s args) true) (name_fits [])
     name_done false =
-        same_state _ _ _ ms _ _ _ _ struct_put
-        (others_behind args (marks.Row (length ps) ∷ ms))
-        (and_last k (arguments_are_known s args) (is_among s.structs n))
+        same_state _ _ _ _ _ ms _ _ _ _
+        (closed (λ us. name_type false (regions_in (arguments before_name)) us) (types_meant s args) ts _
+        (ap (λ (p : ℕ × ℕ). p.0) (starts_behind args row))
+        ∙ ap (λ qs. ts ++ name_type false qs (types_meant s args) ∷ []) regions_here)
+        (append_assoc rs (region_rows (types_meant s args)) (regions_in (arguments before_name))
+        ∙ ap (λ qs. rs ++ (region_rows (types_meant s args) ++ qs)) regions_here)
+        (others_behind args row) (and_last k (arguments_are_known s args) (is_among s.structs n))
         (name_fits (slice_index_or s.kinds (number_of s.structs n) []))
 
   mutual
     -- the pieces of a type resolve it
-    type_run : (t : WrittenType) (rest : List texts.Piece) (ps : List Piece) (ms : List Mark) (k f : Bool)
-        → run s (texts.steps t ++ rest) (state ps ms k f)
-        ≡ run s rest (state (ps ++ steps (meant s t)) ms (k && is_known s t) (f && has_arguments s t))
-    type_run int rest ps ms k f =
-        ap (run s rest) (same_state _ _ ms ms k _ f _ refl refl (sym (and_true k)) (sym (and_true f)))
-    type_run (reference r m t) rest ps ms k f =
-        ap (λ qs. run s qs (state ps ms k f)) (append_assoc (texts.steps t) (make_reference m r ∷ []) rest)
-        ∙ (type_run t (make_reference m r ∷ rest) ps ms k f
-        ∙ ap (run s rest) (same_state _ _ ms ms _ _ _ _
-        (append_assoc ps (steps (meant s t)) (reference_piece m (number_of s.regions r) ∷ [])) refl
+    type_run : (t : WrittenType) (rest : List texts.Piece) (ts : List TypeTree) (rs : List ℕ) (ms : List Mark)
+        (k f : Bool)
+        → run s (texts.steps t ++ rest) (state ts rs ms k f)
+        ≡ run s rest (state (ts ++ meant s t ∷ []) (rs ++ region_row (meant s t)) ms (k && is_known s t)
+        (f && has_arguments s t))
+    type_run int rest ts rs ms k f =
+        ap (run s rest) (same_state _ _ _ _ ms ms k _ f _ refl (sym (append-nil rs)) refl (sym (and_true k))
+        (sym (and_true f)))
+    type_run (reference r m t) rest ts rs ms k f =
+        ap (λ qs. run s qs (state ts rs ms k f)) (append_assoc (texts.steps t) (make_reference m r ∷ []) rest)
+        ∙ (type_run t (make_reference m r ∷ rest) ts rs ms k f
+        ∙ ap (run s rest) (same_state _ _ _ _ ms ms _ _ _ _
+        (rw (last_at ts (meant s t) types.int, before_last ts (meant s t)) refl)
+        (append_assoc rs (region_row (meant s t)) (number_of s.regions r ∷ [])) refl
         (and_last k (is_known s t) (is_among s.regions r)) refl))
-    type_run (tuple ts) rest ps ms k f =
-        let row : List Mark = marks.Row (length ps) ∷ ms in
-        ap (λ qs. run s qs (state (ps ++ pieces.Row ∷ []) row k f))
-        (append_assoc (texts.part_steps ts) (make_tuple ∷ []) rest)
-        ∙ (parts_run ts (make_tuple ∷ rest) (ps ++ pieces.Row ∷ []) row k f
-        ∙ ap (run s rest) (same_state _ _ _ ms _ _ _ _
-        (append_assoc (ps ++ pieces.Row ∷ []) (parts (all_meant s ts)) (pieces.Tuple ∷ [])
-        ∙ append_assoc ps (pieces.Row ∷ []) _) (others_behind_parts ts row) refl refl))
-    type_run (named n args) rest ps ms k f =
-        let row : List Mark = marks.Row (length ps) ∷ ms in
-        ap (λ qs. run s qs (state (ps ++ pieces.Row ∷ []) row k f))
-        (append_assoc (texts.argument_steps args) (make_named n ∷ []) rest)
-        ∙ (arguments_run args (make_named n ∷ rest) (ps ++ pieces.Row ∷ []) row k f
-        ∙ ap (run s rest) (name_done n args ps ms k f (is_among s.parameters n)))
-    type_run (function ts t) rest ps ms k f =
-        let row : List Mark = marks.Row (length ps) ∷ ms in
-        ap (λ qs. run s qs (state (ps ++ pieces.Row ∷ []) row k f))
-        (three (texts.part_steps ts) (texts.steps t) (make_function ∷ []) rest)
-        ∙ (parts_run ts (texts.steps t ++ make_function ∷ rest) (ps ++ pieces.Row ∷ []) row k f
-        ∙ (type_run t (make_function ∷ rest) ((ps ++ pieces.Row ∷ []) ++ parts (all_meant s ts))
-        (part_marks ts row) (k && are_known s ts) (f && have_arguments s ts)
-        ∙ ap (run s rest) (same_state _ _ _ ms _ _ _ _
-        (four ps (pieces.Row ∷ []) (parts (all_meant s ts)) (steps (meant s t)) (pieces.Function ∷ []))
-        (others_behind_parts ts row)
-        (and_first k (are_known s ts) (is_known s t)) (and_first f (have_arguments s ts) (has_arguments s t)))))
+    type_run (tuple us) rest ts rs ms k f =
+        let row : List Mark = marks.Row (length ts) (length rs) ∷ ms in
+        ap (λ qs. run s qs (state ts rs row k f)) (append_assoc (texts.part_steps us) (make_tuple ∷ []) rest)
+        ∙ (parts_run us (make_tuple ∷ rest) ts rs row k f
+        ∙ ap (run s rest) (same_state _ _ _ _ _ ms _ _ _ _
+        (closed (λ vs. types.tuple vs) (all_meant s us) ts _
+        (ap (λ (p : ℕ × ℕ). p.0) (starts_behind_parts us row))) refl
+        (others_behind_parts us row) refl refl))
+    type_run (named n args) rest ts rs ms k f =
+        let row : List Mark = marks.Row (length ts) (length rs) ∷ ms in
+        ap (λ qs. run s qs (state ts rs row k f)) (append_assoc (texts.argument_steps args) (make_named n ∷ []) rest)
+        ∙ (arguments_run args (make_named n ∷ rest) ts rs row k f
+        ∙ ap (run s rest) (name_done n args ts rs ms k f (is_among s.parameters n)))
+    type_run (function us t) rest ts rs ms k f =
+        let row : List Mark = marks.Row (length ts) (length rs) ∷ ms in
+        let vs : List TypeTree = ts ++ listed (all_meant s us) in
+        ap (λ qs. run s qs (state ts rs row k f))
+        (three (texts.part_steps us) (texts.steps t) (make_function ∷ []) rest)
+        ∙ (parts_run us (texts.steps t ++ make_function ∷ rest) ts rs row k f
+        ∙ (type_run t (make_function ∷ rest) vs (rs ++ region_rows (all_meant s us))
+        (part_marks us row) (k && are_known s us) (f && have_arguments s us)
+        ∙ ap (run s rest) (same_state _ _ _ _ _ ms _ _ _ _
+        (rw (last_at vs (meant s t) types.int, before_last vs (meant s t))
+        (closed (λ ws. types.function ws (meant s t)) (all_meant s us) ts _
+        (ap (λ (p : ℕ × ℕ). p.0) (starts_behind_parts us row))))
+        (append_assoc rs (region_rows (all_meant s us)) (region_row (meant s t)))
+        (others_behind_parts us row)
+        (and_first k (are_known s us) (is_known s t)) (and_first f (have_arguments s us) (has_arguments s t)))))
 
     -- the pieces of types in a row put them into it
-    parts_run : (ts : WrittenTypes) (rest : List texts.Piece) (ps : List Piece) (ms : List Mark) (k f : Bool)
-        → run s (texts.part_steps ts ++ rest) (state ps ms k f)
+    parts_run : (us : WrittenTypes) (rest : List texts.Piece) (ts : List TypeTree) (rs : List ℕ) (ms : List Mark)
+        (k f : Bool)
+        → run s (texts.part_steps us ++ rest) (state ts rs ms k f)
         ≡ run s rest
-        (state (ps ++ parts (all_meant s ts)) (part_marks ts ms) (k && are_known s ts) (f && have_arguments s ts))
-    parts_run none rest ps ms k f = ap (run s rest) (nothing_more ps ms k f)
-    parts_run (more t ts) rest ps ms k f =
-        ap (λ qs. run s qs (state ps ms k f)) (append_assoc (texts.steps t) (add_type ∷ texts.part_steps ts) rest)
-        ∙ (type_run t (add_type ∷ (texts.part_steps ts ++ rest)) ps ms k f
-        ∙ (parts_run ts rest ((ps ++ steps (meant s t)) ++ pieces.Part ∷ []) (marks.Part ∷ ms) (k && is_known s t)
-        (f && has_arguments s t)
-        ∙ ap (run s rest) (same_state _ _ _ _ _ _ _ _
-        (append_assoc (ps ++ steps (meant s t)) (pieces.Part ∷ []) (parts (all_meant s ts))
-        ∙ append_assoc ps (steps (meant s t)) _) refl
-        (and_first k (is_known s t) (are_known s ts)) (and_first f (has_arguments s t) (have_arguments s ts)))))
+        (state (ts ++ listed (all_meant s us)) (rs ++ region_rows (all_meant s us)) (part_marks us ms)
+        (k && are_known s us) (f && have_arguments s us))
+    parts_run none rest ts rs ms k f = ap (run s rest) (nothing_more ts rs ms k f)
+    parts_run (more t us) rest ts rs ms k f =
+        ap (λ qs. run s qs (state ts rs ms k f)) (append_assoc (texts.steps t) (add_type ∷ texts.part_steps us) rest)
+        ∙ (type_run t (add_type ∷ (texts.part_steps us ++ rest)) ts rs ms k f
+        ∙ (parts_run us rest (ts ++ meant s t ∷ []) (rs ++ region_row (meant s t)) (marks.Part ∷ ms)
+        (k && is_known s t) (f && has_arguments s t)
+        ∙ ap (run s rest) (same_state _ _ _ _ _ _ _ _ _ _
+        (append_assoc ts (meant s t ∷ []) (listed (all_meant s us)))
+        (append_assoc rs (region_row (meant s t)) (region_rows (all_meant s us))) refl
+        (and_first k (is_known s t) (are_known s us)) (and_first f (has_arguments s t) (have_arguments s us)))))
 
     -- the pieces of arguments put them into a row
-    arguments_run : (args : Arguments) (rest : List texts.Piece) (ps : List Piece) (ms : List Mark) (k f : Bool)
-        → run s (texts.argument_steps args ++ rest) (state ps ms k f)
+    arguments_run : (args : Arguments) (rest : List texts.Piece) (ts : List TypeTree) (rs : List ℕ) (ms : List Mark)
+        (k f : Bool)
+        → run s (texts.argument_steps args ++ rest) (state ts rs ms k f)
         ≡ run s rest
-        (state (ps ++ parts (types_meant s args)) (argument_marks args ms) (k && arguments_are_known s args)
-        (f && arguments_have_arguments s args))
-    arguments_run no_argument rest ps ms k f = ap (run s rest) (nothing_more ps ms k f)
-    arguments_run (region_argument r args) rest ps ms k f =
-        arguments_run args rest ps (marks.Region (number_of s.regions r) ∷ ms) (k && is_among s.regions r) f
-        ∙ ap (run s rest) (same_state _ _ _ _ _ _ _ _ refl refl
+        (state (ts ++ listed (types_meant s args)) (rs ++ region_rows (types_meant s args)) (argument_marks args ms)
+        (k && arguments_are_known s args) (f && arguments_have_arguments s args))
+    arguments_run no_argument rest ts rs ms k f = ap (run s rest) (nothing_more ts rs ms k f)
+    arguments_run (region_argument r args) rest ts rs ms k f =
+        arguments_run args rest ts rs (marks.Region (number_of s.regions r) ∷ ms) (k && is_among s.regions r) f
+        ∙ ap (run s rest) (same_state _ _ _ _ _ _ _ _ _ _ refl refl refl
         (and_first k (is_among s.regions r) (arguments_are_known s args)) refl)
-    arguments_run (type_argument t args) rest ps ms k f =
-        ap (λ qs. run s qs (state ps ms k f))
+    arguments_run (type_argument t args) rest ts rs ms k f =
+        ap (λ qs. run s qs (state ts rs ms k f))
         (append_assoc (texts.steps t) (add_type ∷ texts.argument_steps args) rest)
-        ∙ (type_run t (add_type ∷ (texts.argument_steps args ++ rest)) ps ms k f
-        ∙ (arguments_run args rest ((ps ++ steps (meant s t)) ++ pieces.Part ∷ []) (marks.Part ∷ ms)
+        ∙ (type_run t (add_type ∷ (texts.argument_steps args ++ rest)) ts rs ms k f
+        ∙ (arguments_run args rest (ts ++ meant s t ∷ []) (rs ++ region_row (meant s t)) (marks.Part ∷ ms)
         (k && is_known s t) (f && has_arguments s t)
-        ∙ ap (run s rest) (same_state _ _ _ _ _ _ _ _
-        (append_assoc (ps ++ steps (meant s t)) (pieces.Part ∷ []) (parts (types_meant s args))
-        ∙ append_assoc ps (steps (meant s t)) _) refl
+        ∙ ap (run s rest) (same_state _ _ _ _ _ _ _ _ _ _
+        (append_assoc ts (meant s t ∷ []) (listed (types_meant s args)))
+        (append_assoc rs (region_row (meant s t)) (region_rows (types_meant s args))) refl
         (and_first k (is_known s t) (arguments_are_known s args))
         (and_first f (has_arguments s t) (arguments_have_arguments s args)))))
 
-  -- the pieces of a type alone
-  type_alone : (t : WrittenType)
-      → run s (texts.steps t) nothing ≡ state (steps (meant s t)) [] (is_known s t) (has_arguments s t)
-  type_alone t =
-      ap (λ qs. run s qs nothing) (sym (append-nil (texts.steps t))) ∙ type_run t [] [] [] true true
-
-  -- what is resolved once the program went over the pieces of a written type
-  pub type_done : (kept ps : List TypePiece) (xs : List Piece) (ms : List Mark) (st : State) → kept ≡ ps → IsType ps
-      → xs ≡ [] → ms ≡ [] → st ≡ run s (map plain kept) (state xs (reverse ms) true true)
-      → st ≡ state (steps (meant s (written ps))) [] (is_known s (written ps)) (has_arguments s (written ps))
-  type_done kept ps xs ms st same sound no_piece no_mark told =
-      told
-      ∙ (ap (λ qs. run s (map plain qs) (state xs (reverse ms) true true)) same
-      ∙ (ap (λ qs. run s qs (state xs (reverse ms) true true)) sound
-      ∙ (ap (λ qs. run s (texts.steps (written ps)) (state qs (reverse ms) true true)) no_piece
-      ∙ (ap (λ ns. run s (texts.steps (written ps)) (state [] (reverse ns) true true)) no_mark
-      ∙ type_alone (written ps)))))
-
-  -- the resolved type is the one that is meant, where each name is known
-  pub type_resolved : (t : WrittenType) (st : State) (o : Option Resolved)
-      → st ≡ state (steps (meant s t)) [] (is_known s t) (has_arguments s t)
-      → MatchOption o (st.known ≡ false) (λ r. (st.known ≡ true)
-      × ((u : TypeTree) → st.pieces ≡ steps u → r.tree ≡ u) × (r.fits ≡ st.fits))
-      → MatchOption o (is_known s t ≡ false) (IsResolved s t)
-  type_resolved t st None e unknown = sym (ap (λ (x : State). x.known) e) ∙ unknown
-  type_resolved t st (Some r) e told = record {
-    known = sym (ap (λ (x : State). x.known) e) ∙ told.0;
-    fits = told.2 ∙ ap (λ (x : State). x.fits) e;
-    tree = told.1 (meant s t) (ap (λ (x : State). x.pieces) e);
-  }
+  -- the pieces of the text of a type alone
+  pub type_done : (kept ps : List TypePiece) (rs : List ℕ) → kept ≡ ps → IsType ps
+      → run s (map plain kept) (nothing rs)
+      ≡ state (meant s (written ps) ∷ []) (rs ++ region_row (meant s (written ps))) [] (is_known s (written ps))
+      (has_arguments s (written ps))
+  type_done kept ps rs same sound =
+      ap (λ qs. run s (map plain qs) (nothing rs)) same
+      ∙ (ap (λ qs. run s qs (nothing rs)) (sound ∙ sym (append-nil (texts.steps (written ps))))
+      ∙ type_run (written ps) [] [] rs [] true true)

@@ -2,7 +2,7 @@
 use Rattle.std.proofs.Common.{◌≡◌, ℕ, true, false, ◌+◌, ◌-◌, ◌<◌, List, [], ◌∷◌, ◌++◌, get_or, length, take, drop, reverse, refl, sym, ap, ◌∙◌, append_assoc}
 use Rattle.std.proofs.lemmas.List.{reverse-append, reverse-reverse, take_more, drop_more, take-append-drop, length-drop}
 use Rattle.std.proofs.Math.Seq.{take-length}
-use Rattle.nll_resolve.specs.Resolving.{newest, others, start, is_beginning}
+use Rattle.nll_resolve.specs.Resolving.{newest, others, starts, is_beginning}
 use Rattle.nll_resolve.specs.declared.rows.Mark.{Mark}
 use Rattle.nll_resolve.specs.declared.rows.Mark.TheVariants as marks
 
@@ -13,48 +13,48 @@ rest_first ms n = ap reverse (sym (take-append-drop n ms)) ∙ reverse-append (t
 -- where all of these stand in the newest row, it goes on behind them
 newest_behind : (xs ys : List Mark) → xs ≡ newest (xs ++ ys) → newest ys ≡ []
 newest_behind [] ys e = sym e
-newest_behind (marks.Row k ∷ xs) ys e = absurd cc
+newest_behind (marks.Row k i ∷ xs) ys e = absurd cc
 newest_behind (marks.Region r ∷ xs) ys e = newest_behind xs ys cc
 newest_behind (marks.Part ∷ xs) ys e = newest_behind xs ys cc
 
-start_behind : (xs ys : List Mark) → xs ≡ newest (xs ++ ys) → start (xs ++ ys) ≡ start ys
+start_behind : (xs ys : List Mark) → xs ≡ newest (xs ++ ys) → starts (xs ++ ys) ≡ starts ys
 start_behind [] ys e = refl
-start_behind (marks.Row k ∷ xs) ys e = absurd cc
+start_behind (marks.Row k i ∷ xs) ys e = absurd cc
 start_behind (marks.Region r ∷ xs) ys e = start_behind xs ys cc
 start_behind (marks.Part ∷ xs) ys e = start_behind xs ys cc
 
 -- where no row begins, the newest row goes on
 newest_on : (m : Mark) (ms : List Mark) → is_beginning m ≡ false → newest (m ∷ ms) ≡ m ∷ newest ms
-newest_on (marks.Row k) ms e = absurd cc
+newest_on (marks.Row k i) ms e = absurd cc
 newest_on (marks.Region r) ms e = refl
 newest_on marks.Part ms e = refl
 
 others_on : (m : Mark) (ms : List Mark) → is_beginning m ≡ false → others (m ∷ ms) ≡ others ms
-others_on (marks.Row k) ms e = absurd cc
+others_on (marks.Row k i) ms e = absurd cc
 others_on (marks.Region r) ms e = refl
 others_on marks.Part ms e = refl
 
 -- where a row begins, nothing is in it
 newest_at : (m : Mark) (ms : List Mark) → is_beginning m ≡ true → newest (m ∷ ms) ≡ []
-newest_at (marks.Row k) ms e = refl
+newest_at (marks.Row k i) ms e = refl
 newest_at (marks.Region r) ms e = absurd cc
 newest_at marks.Part ms e = absurd cc
 
 others_at : (m : Mark) (ms : List Mark) → is_beginning m ≡ true → others (m ∷ ms) ≡ ms
-others_at (marks.Row k) ms e = refl
+others_at (marks.Row k i) ms e = refl
 others_at (marks.Region r) ms e = absurd cc
 others_at marks.Part ms e = absurd cc
 
 begins_of : (m : Mark) (ms : List Mark) → newest (m ∷ ms) ≡ [] → is_beginning m ≡ true
-begins_of (marks.Row k) ms e = refl
+begins_of (marks.Row k i) ms e = refl
 begins_of (marks.Region r) ms e = absurd cc
 begins_of marks.Part ms e = absurd cc
 
 -- where the rest is the newest row, the front has its start, and nothing behind that
 pub start_front : (ms : List Mark) (p : ℕ) → reverse (drop p ms) ≡ newest (reverse ms)
-    → start (reverse ms) ≡ start (reverse (take p ms))
+    → starts (reverse ms) ≡ starts (reverse (take p ms))
 start_front ms p f =
-    ap start (rest_first ms p)
+    ap starts (rest_first ms p)
     ∙ start_behind (reverse (drop p ms)) (reverse (take p ms)) (f ∙ ap newest (rest_first ms p))
 
 nothing_front : (ms : List Mark) (p : ℕ) → reverse (drop p ms) ≡ newest (reverse ms)
@@ -101,12 +101,12 @@ module _ (ms : List Mark) (n p : ℕ) (m : Mark) (next : n + 1 ≡ p) (h : n < l
   pub begins_before : reverse (drop p ms) ≡ newest (reverse ms) → is_beginning m ≡ true
   begins_before f = begins_of m (reverse (take n ms)) (ap newest (sym front_more) ∙ nothing_front ms p f)
 
-  pub start_before : reverse (drop p ms) ≡ newest (reverse ms) → start (reverse ms) ≡ start (m ∷ reverse (take n ms))
-  start_before f = start_front ms p f ∙ ap start front_more
+  pub start_before : reverse (drop p ms) ≡ newest (reverse ms) → starts (reverse ms) ≡ starts (m ∷ reverse (take n ms))
+  start_before f = start_front ms p f ∙ ap starts front_more
 
 -- a mark of another form begins no row
-pub no_row : (m : Mark) → ((k : ℕ) → m ≡ marks.Row k → ⊥) → is_beginning m ≡ true → ⊥
-no_row (marks.Row k) h e = h k refl
+pub no_row : (m : Mark) → ((k i : ℕ) → m ≡ marks.Row k i → ⊥) → is_beginning m ≡ true → ⊥
+no_row (marks.Row k i) h e = h k i refl
 no_row (marks.Region r) h e = cc
 no_row marks.Part h e = cc
 

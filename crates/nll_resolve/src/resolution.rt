@@ -305,9 +305,5 @@ pub fn resolve(
     // Early drop.
     drop(made);
     let shape = told?;
-    if known {
-        Ok(Some(Typed { shape, first }))
-    } else {
-        Ok(None)
-    }
+    Ok(known.then_some(Typed { shape, first }))
 }

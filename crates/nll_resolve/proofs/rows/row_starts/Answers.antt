@@ -14,8 +14,8 @@ returns-in-Row c =
     let n = c.args.place - 1 in
     let next : n + 1 ≡ c.args.place = omega arith in
     let within : n < length ms = omega (arith, c.requires.within) in
-    sym (start_before ms n c.args.place (marks.Row c.in-Row.start) next within
-    (sym c.in-Row.is ∙ get_or_default ms n _ (marks.Row c.in-Row.start) within) c.requires.newest)
+    sym (start_before ms n c.args.place (marks.Row c.in-Row.types c.in-Row.regions) next within
+    (sym c.in-Row.is ∙ get_or_default ms n _ (marks.Row c.in-Row.types c.in-Row.regions) within) c.requires.newest)
 
 pub returns-in_default : goal.returns-in_default
 returns-in_default c =
@@ -24,6 +24,6 @@ returns-in_default c =
     let next : n + 1 ≡ c.args.place = omega arith in
     let within : n < length ms = omega (arith, c.requires.within) in
     absurd (no_row (get_or ms n marks.Part)
-    (λ k e. c.in_default.not-Row k (get_or_default ms n _ marks.Part within ∙ e))
+    (λ k i e. c.in_default.not-Row k i (get_or_default ms n _ marks.Part within ∙ e))
     (begins_before ms n c.args.place (get_or ms n marks.Part) next within
     (get_or_default ms n marks.Part (get_or ms n marks.Part) within) c.requires.newest))

@@ -1,0 +1,27 @@
+use Rattle.std.proofs.Common.{ap, reverse, ◌∙◌}
+use Rattle.nll_types.specs.Shapes.{tuple_shape}
+use Rattle.nll_types.specs.Types.{tuple}
+use Rattle.nll_resolve.specs.Resolving.{others, starts, types_before, types_inside}
+use Rattle.nll_resolve.proofs.ShapedLemmas.{both_ok, front_taken, row_taken}
+use Rattle.nll_resolve.proofs.resolution.put_tuple.Goals as goal
+
+pub returns-clause-made : goal.returns-clause-made
+returns-clause-made c =
+    let shapes = c.args.types.now.table.shapes in
+    let kept = c.args.made.now.shapes.items in
+    let row = c.in_ok-parts.ensures in
+    both_ok c.push.result (λ below told. λ s. record {
+      below = below;
+      made = λ st a.
+          let n = (starts (reverse c.args.made.now.rows.items)).0 in
+          let start = ap (λ ms. (starts ms).0) a.rows in
+          record {
+            shapes = told (types_before st) (tuple (types_inside st))
+                (front_taken shapes n _ st.made kept c.pop_row.new.made.items a.shapes row.made start)
+                (ap tuple_shape (row_taken shapes n _ st.made kept c.in_ok-parts.parts.items a.shapes row.row start));
+            regions = a.regions;
+            rows = row.rows ∙ ap others a.rows;
+            known = a.known;
+            fits = a.fits;
+          };
+    }) c.push.ensures.below c.push.ensures.made
