@@ -62,7 +62,7 @@ fn write_line(out: &mut Transcript, line: &Line<'_>) {
         }
         Line::Blocks(count) => out.number("blocks ", *count, ""),
         Line::Block(number) => out.number("block ", *number, ""),
-        Line::At(statement) => write_statement(out, statement),
+        Line::At(statement) => write_statement(out, None, statement),
         Line::End => out.say("end"),
     }
 }
