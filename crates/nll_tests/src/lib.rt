@@ -60,6 +60,8 @@ mod type_names;
 #[cfg(test)]
 mod type_pieces;
 #[cfg(test)]
+mod type_rows;
+#[cfg(test)]
 mod type_text;
 #[cfg(test)]
 mod types;
