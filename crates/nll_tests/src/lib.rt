@@ -58,6 +58,8 @@ mod type_data;
 #[cfg(test)]
 mod type_names;
 #[cfg(test)]
+mod type_rows;
+#[cfg(test)]
 mod type_text;
 #[cfg(test)]
 mod types;
