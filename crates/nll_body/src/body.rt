@@ -282,6 +282,8 @@ impl Body {
             IsWellFormed self.now.structs (length self.now.names) 0 (tree t)) }
     {
         types_of_places_are_well_formed();
+        // Clause call.
+        let _ = self.points();
         let ty = self.var_type(alloc, place.variable())?;
         match behind(alloc, self.structs(), ty, place.projections())? {
             Some(ty) => Ok(ty),
