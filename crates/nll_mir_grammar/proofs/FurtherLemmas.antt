@@ -8,8 +8,8 @@ use Rattle.std.proofs.Math.Seq.{take-length}
 use Rattle.nll_text.specs.Tokens.{Token, region, arrow, sign}
 use Rattle.nll_mir_grammar.specs.WrittenTypes.{Name, WrittenType, WrittenTypes, Arguments, int, reference, tuple, named, function, none, more, no_argument, region_argument, type_argument}
 use Rattle.nll_mir_grammar.specs.Reading.{HasNoType, IsTypeIn}
-use Rattle.nll_mir_grammar.specs.Grammars.{Begins as Starts, HasNone, IsNotNext}
-use Rattle.nll_mir_grammar.specs.Parts.{regions}
+use Rattle.nll_text.specs.Grammars.{HasNone, IsNotNext, regions}
+use Rattle.nll_text.specs.Grammars.{Begins as Starts}
 use Rattle.nll_mir_grammar.specs.TypeTexts.{Piece, plain, steps, part_steps, argument_steps, add_region, add_type, make_reference, make_tuple, make_named, make_function, begin_row, joined_arguments, written, IsType}
 use Rattle.nll_mir_grammar.specs.OpenTypes.{Frame, behind, parts, arguments, inputs, output, joined, Steps, IsStuck, begun, complete, IsOpen, AreOpen, AreRead, ComesTo, GoesFurther, pending, Begins, IsBegun, IsCompleted, IsClosed, EndsWith, takes_region}
 use Rattle.nll_mir_grammar.specs.declared.opens.State.{State}

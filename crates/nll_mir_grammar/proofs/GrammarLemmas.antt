@@ -7,7 +7,8 @@ use Rattle.std.proofs.lemmas.List.{length-append, map-append}
 use Rattle.std.proofs.lemmas.Grind.{flat_map-append}
 use Rattle.nll_text.specs.Tokens.{Token, sign}
 use Rattle.nll_mir_grammar.specs.MirForms.{parted}
-use Rattle.nll_mir_grammar.specs.Grammars.{Puts, both, Grammar, Begins, HasNone, IsOne, IsNotNext, behind, empty, pair, many, commas, parentheses, by_kind, MayFollowLast}
+use Rattle.nll_text.specs.Grammars.{Grammar, Begins, HasNone, IsNotNext}
+use Rattle.nll_mir_grammar.specs.Grammars.{Puts, both, IsOne, behind, empty, pair, many, commas, parentheses, by_kind, MayFollowLast}
 
 -- ---- tokens
 

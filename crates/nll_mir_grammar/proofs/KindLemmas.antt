@@ -7,8 +7,9 @@ use Rattle.std.specs.Fmt.{decimal}
 use Rattle.nll_text.specs.Tokens.{Token, word, sign, arrow}
 use Rattle.nll_types.specs.Operands.{constant, copied, moved}
 use Rattle.nll_mir_grammar.specs.MirForms.{spelled_projection, block_word}
-use Rattle.nll_mir_grammar.specs.Grammars.{Begins, HasNone, IsOne, IsNotNext, behind, pair, parentheses, MayFollowAll}
-use Rattle.nll_mir_grammar.specs.Parts.{regions, any_words, names, variables, places, operands, types, tuples, arguments, mutabilities, drop_marks, parameter_lists, bounds, bound_lists, block_lists, exits}
+use Rattle.nll_text.specs.Grammars.{Begins, HasNone, IsNotNext, any_words, regions}
+use Rattle.nll_mir_grammar.specs.Grammars.{IsOne, behind, pair, parentheses, MayFollowAll}
+use Rattle.nll_mir_grammar.specs.Parts.{names, variables, places, operands, types, tuples, arguments, mutabilities, drop_marks, parameter_lists, bounds, bound_lists, block_lists, exits}
 use Rattle.nll_mir_grammar.specs.Kinds.{borrows, makes, results, signatures, structs, Right, value, borrowed, made, called, RightParts, right_sides, rights, tails, keyword_name, LineParts, line_grammars, lines}
 use Rattle.nll_mir_grammar.specs.declared.keyword.Keyword.{Keyword}
 use Rattle.nll_mir_grammar.specs.declared.keyword.Keyword.TheVariants as words

@@ -1,12 +1,9 @@
-pub mod LineTokenLemmas
-pub mod NumberLemmas
 pub mod WordLemmas
 pub mod FrontLemmas
 pub mod StepLemmas
 pub mod PieceLemmas
 pub mod FurtherLemmas
 pub mod OneTree
-pub mod TokenLemmas
 pub mod GrammarLemmas
 pub mod PartLemmas
 pub mod KindLemmas

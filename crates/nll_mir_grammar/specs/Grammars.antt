@@ -1,37 +1,17 @@
--- Grammars: how values are spelled by tokens at the front of others.
+-- Grammars that are made of others, and what readers answer.
 -- Source: project's choice. Only private contracts cite this file.
 use Rattle.std.specs.Prelude.{◌≡◌, ◌<◌, List, [], ◌∷◌, ◌++◌, map, length}
 use Rattle.std.specs.Prelude.{Option, Some, None, Result, Ok, Err}
 use Rattle.std.specs.List.{AllByRecursion, flat_map}
 use Rattle.nll_text.specs.Tokens.{Token, sign}
+use Rattle.nll_text.specs.Grammars.{Grammar, Begins, HasNone}
 use Rattle.nll_mir_grammar.specs.MirForms.{parted, in_parentheses}
-
--- How values are spelled, which of them are allowed, and what may follow each.
-pub record Grammar (A : Type 0) : Type 1 where
-  pub spells : A → List Token
-  pub IsAllowed : A → Type 0
-  pub MayFollow : A → List Token → Type 0
-
--- The tokens begin with the value, and after it come others.
-pub record Begins {A : Type 0} (g : Grammar A) (ts : List Token) (a : A) (rest : List Token) :
-    Type 0 where
-  pub joined : ts ≡ g.spells a ++ rest
-  pub allowed : g.IsAllowed a
-  pub follows : g.MayFollow a rest
-
--- the tokens begin with no value
-abbrev pub HasNone : {A : Type 0} → Grammar A → List Token → Type 0
-HasNone {A} g ts = (a : A) (rest : List Token) → Begins g ts a rest → ⊥
 
 -- tokens begin with one value at most
 abbrev pub IsOne : {A : Type 0} → Grammar A → Type 0
 IsOne {A} g =
     (ts : List Token) (a b : A) (r s : List Token) → Begins g ts a r → Begins g ts b s
     → (a ≡ b) × (r ≡ s)
-
--- the token doesn't come next
-abbrev pub IsNotNext : Token → List Token → Type 0
-IsNotNext t ts = (rest : List Token) → ts ≡ t ∷ rest → ⊥
 
 -- ---- grammars made of others
 

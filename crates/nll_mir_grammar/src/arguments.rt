@@ -2,8 +2,9 @@
 
 ghost use Rattle.std.specs.Prelude.{◌≡◌, [], IfOk, MatchOption, map};
 ghost use Rattle.nll_text.specs.Tokens as lex;
-ghost use Rattle.nll_mir_grammar.specs.LineTokens.{tokens_in};
-ghost use Rattle.nll_mir_grammar.specs.Grammars.{Begins, HasNone, Puts, behind, commas};
+ghost use Rattle.nll_text.specs.LineTokens.{tokens_in};
+ghost use Rattle.nll_text.specs.Grammars.{Begins, HasNone};
+ghost use Rattle.nll_mir_grammar.specs.Grammars.{Puts, behind, commas};
 ghost use Rattle.nll_mir_grammar.specs.Grammars.{parentheses};
 ghost use Rattle.nll_mir_grammar.specs.Lines.{argument_of};
 ghost use Rattle.nll_mir_grammar.specs.Parts as parts;
@@ -12,8 +13,8 @@ use crate::pairs::{Read, with};
 use crate::place::operand_at;
 use crate::type_front::type_behind;
 use crate::type_text::TypeText;
-use crate::words::after_sign;
 use nll_sets::Memory;
+use nll_text::after_sign;
 use nll_types::Operand;
 use std::alloc::Global;
 

@@ -2,13 +2,14 @@
 
 ghost use Rattle.std.specs.Prelude.{◌≡◌, [], IfOk, MatchOption, map};
 ghost use Rattle.nll_text.specs.Tokens as lex;
-ghost use Rattle.nll_mir_grammar.specs.LineTokens.{tokens_in};
-ghost use Rattle.nll_mir_grammar.specs.Grammars.{Begins, HasNone, Puts, behind, commas};
+ghost use Rattle.nll_text.specs.LineTokens.{tokens_in};
+ghost use Rattle.nll_text.specs.Grammars.{Begins, HasNone};
+ghost use Rattle.nll_mir_grammar.specs.Grammars.{Puts, behind, commas};
 ghost use Rattle.nll_mir_grammar.specs.Parts as parts;
 
 use crate::pairs::Read;
-use crate::words::{after_sign, region_at, word_at};
 use nll_sets::Memory;
+use nll_text::{after_sign, after_word, region_at};
 use std::alloc::Global;
 
 /// Of each pair the first region must outlive the second.
@@ -76,9 +77,9 @@ fn bounds_behind<'a>(line: &'a [u8], bounds: &mut Bounds<'a>) -> Result<Option<&
         (λ rest. Begins parts.bound_lists (tokens_in line.now)
         (map (λ w. (w.0.now, w.1.now)) bounds.new.items) (tokens_in rest.now))) }
 {
-    match word_at(line) {
-        Some((b"where", behind)) => list_bounds(behind, bounds),
-        _ => Ok(Some(line)),
+    match after_word(line, b"where") {
+        Some(behind) => list_bounds(behind, bounds),
+        None => Ok(Some(line)),
     }
 }
 

@@ -2,8 +2,9 @@
 
 ghost use Rattle.std.specs.Prelude.{IfOk, MatchOption, map};
 ghost use Rattle.nll_mir_grammar.specs.TypeTexts.{written};
-ghost use Rattle.nll_mir_grammar.specs.LineTokens.{tokens_in};
-ghost use Rattle.nll_mir_grammar.specs.Grammars.{Begins, HasNone, pair};
+ghost use Rattle.nll_text.specs.LineTokens.{tokens_in};
+ghost use Rattle.nll_text.specs.Grammars.{Begins, HasNone};
+ghost use Rattle.nll_mir_grammar.specs.Grammars.{pair};
 ghost use Rattle.nll_mir_grammar.specs.Kinds.{IsBehind, tails};
 ghost use Rattle.nll_mir_grammar.specs.Lines.{form_of, parameter_of};
 ghost use Rattle.nll_mir_grammar.specs.Parts.{drop_marks, parameter_lists, tuples};
@@ -15,8 +16,9 @@ use crate::line::{Line, ParameterText, StructText, TupleText};
 use crate::pairs::{Read, with};
 use crate::parameters::parameters_in;
 use crate::type_front::{tuple_front, type_behind};
-use crate::words::{block_at, drop_mark_at, name_at, number_at, region_at, variable_at};
+use crate::words::{block_at, drop_mark_at, name_at, variable_at};
 use nll_sets::Memory;
+use nll_text::{number_at, region_at};
 use std::alloc::Global;
 
 /// After `universal`.

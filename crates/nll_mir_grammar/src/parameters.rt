@@ -2,16 +2,18 @@
 
 ghost use Rattle.std.specs.Prelude.{◌≡◌, [], IfOk, MatchOption, map};
 ghost use Rattle.nll_text.specs.Tokens as lex;
-ghost use Rattle.nll_mir_grammar.specs.LineTokens.{tokens_in};
-ghost use Rattle.nll_mir_grammar.specs.Grammars.{Begins, HasNone, Puts, behind, commas};
+ghost use Rattle.nll_text.specs.LineTokens.{tokens_in};
+ghost use Rattle.nll_text.specs.Grammars.{Begins, HasNone};
+ghost use Rattle.nll_mir_grammar.specs.Grammars.{Puts, behind, commas};
 ghost use Rattle.nll_mir_grammar.specs.Lines.{parameter_of};
 ghost use Rattle.nll_mir_grammar.specs.MirForms.{dangling_mark};
 ghost use Rattle.nll_mir_grammar.specs.Parts as parts;
 
 use crate::line::ParameterText;
 use crate::pairs::Read;
-use crate::words::{after_sign, name_at, region_at};
+use crate::words::name_at;
 use nll_sets::Memory;
+use nll_text::{after_sign, region_at};
 use nll_types::{Parameter, Sign};
 use std::alloc::Global;
 

@@ -1,8 +1,8 @@
 //! Statements and terminators that begin with a word of their own, after that word.
 
 ghost use Rattle.std.specs.Prelude.{IfOk, MatchOption};
-ghost use Rattle.nll_mir_grammar.specs.LineTokens.{tokens_in};
-ghost use Rattle.nll_mir_grammar.specs.Grammars.{HasNone};
+ghost use Rattle.nll_text.specs.LineTokens.{tokens_in};
+ghost use Rattle.nll_text.specs.Grammars.{HasNone};
 ghost use Rattle.nll_mir_grammar.specs.Kinds.{IsBehind, tails};
 ghost use Rattle.nll_mir_grammar.specs.Lines.{form_of};
 ghost use Rattle.nll_mir_grammar.specs.declared.keyword.Keyword.TheVariants as keyword;

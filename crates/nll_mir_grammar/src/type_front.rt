@@ -3,8 +3,9 @@
 ghost use Rattle.std.specs.Prelude.{IfOk, MatchOption};
 ghost use Rattle.nll_text.specs.Tokens as lex;
 ghost use Rattle.nll_mir_grammar.specs.TypeTexts.{written};
-ghost use Rattle.nll_mir_grammar.specs.LineTokens.{tokens_in};
-ghost use Rattle.nll_mir_grammar.specs.Grammars.{Begins, HasNone, behind};
+ghost use Rattle.nll_text.specs.LineTokens.{tokens_in};
+ghost use Rattle.nll_text.specs.Grammars.{Begins, HasNone};
+ghost use Rattle.nll_mir_grammar.specs.Grammars.{behind};
 ghost use Rattle.nll_mir_grammar.specs.Parts as parts;
 ghost use Rattle.nll_mir_grammar.specs.Tuples.{parts as parts_of_tuple};
 
@@ -12,8 +13,8 @@ use crate::line::TupleText;
 use crate::pairs::Read;
 use crate::type_reader::type_at;
 use crate::type_text::TypeText;
-use crate::words::after_sign;
 use nll_sets::Memory;
+use nll_text::after_sign;
 use std::alloc::Global;
 
 /// The type at the front.

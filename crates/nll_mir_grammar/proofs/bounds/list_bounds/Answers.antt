@@ -2,7 +2,7 @@ use Rattle.std.proofs.Common.{ℕ, List}
 use Rattle.std.specs.Borrow.{Bor}
 use Rattle.nll_text.specs.Tokens.{sign}
 use Rattle.nll_mir_grammar.specs.Parts as parts
-use Rattle.nll_mir_grammar.specs.LineTokens.{tokens_in}
+use Rattle.nll_text.specs.LineTokens.{tokens_in}
 use Rattle.nll_mir_grammar.proofs.GrammarLemmas.{commas_none, put_first, put_fewer, put_next, put_last}
 use Rattle.nll_mir_grammar.proofs.PartLemmas.{bounds_before}
 use Rattle.nll_mir_grammar.proofs.bounds.list_bounds.Goals as goal

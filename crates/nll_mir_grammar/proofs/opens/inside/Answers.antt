@@ -1,4 +1,4 @@
-use Rattle.nll_mir_grammar.specs.LineTokens.{tokens_in}
+use Rattle.nll_text.specs.LineTokens.{tokens_in}
 use Rattle.nll_mir_grammar.proofs.FurtherLemmas.{further_comma, stuck_inside, further_end}
 use Rattle.nll_mir_grammar.proofs.opens.inside.Goals as goal
 

@@ -1,4 +1,4 @@
-use Rattle.nll_mir_grammar.specs.LineTokens.{tokens_in}
+use Rattle.nll_text.specs.LineTokens.{tokens_in}
 use Rattle.nll_mir_grammar.proofs.FurtherLemmas.{further_arrow}
 use Rattle.nll_mir_grammar.proofs.opens.step.Goals as goal
 

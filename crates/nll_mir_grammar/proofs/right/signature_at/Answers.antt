@@ -1,6 +1,6 @@
 use Rattle.std.proofs.Common.{map}
 use Rattle.nll_text.specs.Tokens.{sign}
-use Rattle.nll_mir_grammar.specs.LineTokens.{tokens_in}
+use Rattle.nll_text.specs.LineTokens.{tokens_in}
 use Rattle.nll_mir_grammar.specs.Grammars.{behind, parentheses}
 use Rattle.nll_mir_grammar.specs.Lines.{argument_of, result_of}
 use Rattle.nll_mir_grammar.specs.Parts as parts

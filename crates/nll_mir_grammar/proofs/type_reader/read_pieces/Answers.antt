@@ -1,6 +1,6 @@
 use Rattle.std.proofs.Common.{◌≡◌, ℕ, List, rules, sym, ◌∙◌}
 use Rattle.std.specs.Borrow.{Bor}
-use Rattle.nll_mir_grammar.specs.LineTokens.{tokens_in}
+use Rattle.nll_text.specs.LineTokens.{tokens_in}
 use Rattle.nll_mir_grammar.specs.WrittenTypes.{int}
 use Rattle.nll_mir_grammar.specs.declared.opens.State.TheVariants.{Have}
 use Rattle.nll_mir_grammar.proofs.StepLemmas.{none_here}
