@@ -8,7 +8,7 @@ use Rattle.std.proofs.lemmas.Grind.{flat_map-append}
 use Rattle.nll_text.specs.Tokens.{Token, sign}
 use Rattle.nll_mir_grammar.specs.MirForms.{parted}
 use Rattle.nll_text.specs.Grammars.{Grammar, Begins, HasNone, IsNotNext}
-use Rattle.nll_mir_grammar.specs.Grammars.{Puts, both, IsOne, behind, empty, pair, many, commas, parentheses, by_kind, MayFollowLast}
+use Rattle.nll_mir_grammar.specs.Grammars.{Puts, both, IsOne, IsBefore, IsListable, behind, empty, pair, many, commas, parentheses, by_kind, MayFollowLast}
 
 -- ---- tokens
 
@@ -214,10 +214,6 @@ record Continues {A : Type 0} (g : Grammar A) (a : A) (ts : List Token) (xs : Li
   last : MayFollowLast g a xs r
   none : HasNone (behind (sign 44) g) r
 
--- a token may stand behind each value
-abbrev pub IsBefore : {A : Type 0} → Token → Grammar A → Type 0
-IsBefore {A} t g = (a : A) (r : List Token) → g.IsAllowed a → g.MayFollow a (t ∷ r)
-
 before_more : {A : Type 0} (g : Grammar A) → IsBefore (sign 44) g → (a : A) (xs : List A) (r : List Token)
     → g.IsAllowed a → MayFollowLast g a xs r → g.MayFollow a (more_parted g xs ++ r)
 unfolding more_parted
@@ -412,15 +408,6 @@ pub all_before : {A : Type 0} (t : Token) (g : Grammar A) → IsBefore t g → (
 all_before t g before other [] r h = tt
 all_before t g before other (x ∷ xs) r h =
     (last_before t g before x xs r h.1.0 h.1.1, λ a s b. other (head_same _ _ _ _ b.joined))
-
--- Values of the grammar can be read up to the closing token.
-pub record IsListable {A : Type 0} (g : Grammar A) (c : Token) : Type 0 where
-  pub one : IsOne g
-  pub comma : IsBefore (sign 44) g
-  pub closing : IsBefore c g
-  pub other : c ≡ sign 44 → ⊥
-  -- no value begins with the closing token
-  pub opens : (a : A) (r s : List Token) → g.IsAllowed a → g.spells a ++ r ≡ c ∷ s → ⊥
 
 pub enclosed_joins : {A : Type 0} (c : Token) (g : Grammar A) → IsListable g c → Joins (commas g) (behind c empty)
 enclosed_joins c g h xs u r k l m = all_before c g h.closing h.other xs r k

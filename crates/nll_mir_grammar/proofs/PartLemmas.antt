@@ -19,9 +19,9 @@ use Rattle.nll_mir_grammar.specs.WrittenTypes.{Name, WrittenType, WrittenTypes, 
 use Rattle.nll_mir_grammar.specs.Reading.{HasNoType, IsTypeIn}
 use Rattle.nll_mir_grammar.specs.MirForms.{WrittenParameter, region_parameter, type_parameter, spelled_place, spelled_operand, dangling_mark, sign_token, block_word}
 use Rattle.nll_text.specs.Grammars.{Grammar, Begins, HasNone, any_words, prefixed, regions}
-use Rattle.nll_mir_grammar.specs.Grammars.{IsOne, behind, empty, pair, many, commas}
+use Rattle.nll_mir_grammar.specs.Grammars.{IsOne, IsBefore, IsListable, behind, empty, pair, many, commas}
 use Rattle.nll_mir_grammar.specs.Parts.{names, variables, block_names, projections, places, operands, types, tuples, arguments, marks, parameter_marks, parameters, parameter_lists, bounds, bound_lists, block_lists, exits, MayFollowMark}
-use Rattle.nll_mir_grammar.proofs.GrammarLemmas.{pair_found, IsSolid, inside_one, tail_same, head_same, signs_apart, signs_differ, behind_one, behind_none, Joins, pair_one, many_one, IsLoose, commas_one, IsBefore, IsListable, enclosed}
+use Rattle.nll_mir_grammar.proofs.GrammarLemmas.{pair_found, IsSolid, inside_one, tail_same, head_same, signs_apart, signs_differ, behind_one, behind_none, Joins, pair_one, many_one, IsLoose, commas_one, enclosed}
 use Rattle.nll_mir_grammar.proofs.OneTree.{one_tree}
 
 -- the first byte of a word, or 0

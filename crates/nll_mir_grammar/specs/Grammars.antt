@@ -61,6 +61,19 @@ commas g = record {
   MayFollow = MayFollowAll g;
 }
 
+-- the token may follow each value
+abbrev pub IsBefore : {A : Type 0} → Token → Grammar A → Type 0
+IsBefore {A} t g = (a : A) (r : List Token) → g.IsAllowed a → g.MayFollow a (t ∷ r)
+
+-- Values separated by commas can be read up to the closing token.
+pub record IsListable {A : Type 0} (g : Grammar A) (c : Token) : Type 0 where
+  pub one : IsOne g
+  pub comma : IsBefore (sign 44) g
+  pub closing : IsBefore c g
+  pub other : c ≡ sign 44 → ⊥
+  -- no value begins with the closing token
+  pub opens : (a : A) (r s : List Token) → g.IsAllowed a → g.spells a ++ r ≡ c ∷ s → ⊥
+
 -- values separated by commas, between `(` and `)`
 abbrev pub parentheses : {A : Type 0} → Grammar A → Grammar (List A)
 parentheses g = record {

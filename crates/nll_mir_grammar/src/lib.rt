@@ -15,6 +15,7 @@ mod keyword;
 mod laws;
 mod line;
 mod lines;
+mod lists;
 mod opens;
 mod operands;
 mod pairs;

@@ -1,4 +1,4 @@
-use Rattle.std.proofs.Common.{map}
+use Rattle.std.proofs.Common.{map, refl}
 use Rattle.nll_text.specs.Tokens.{sign}
 use Rattle.nll_text.specs.LineTokens.{tokens_in}
 use Rattle.nll_mir_grammar.specs.Grammars.{behind, parentheses}
@@ -22,3 +22,6 @@ returns c =
     (read_pair (parentheses parts.arguments) (behind (sign 58) results)
     (parentheses_one parts.arguments arguments_listable) signatures_join _ _ c.in-Some.arguments
     (λ v. map argument_of v.items) result_of (λ r. tokens_in r.now) _ found c.result_behind.ensures)
+
+pub values_in-requires : goal.values_in-requires
+values_in-requires c k = ((refl, tt), arguments_listable)

@@ -6,7 +6,7 @@ use Rattle.nll_mir_grammar.specs.Grammars.{behind}
 use Rattle.nll_mir_grammar.specs.Parts as parts
 use Rattle.nll_mir_grammar.proofs.GrammarLemmas.{read_pair}
 use Rattle.nll_mir_grammar.proofs.PartLemmas.{operands_one, operands_join_colon}
-use Rattle.nll_mir_grammar.proofs.arguments.argument_at.Goals as goal
+use Rattle.nll_mir_grammar.proofs.arguments.ArgumentListed.read_at.Goals as goal
 
 pub returns : goal.returns
 returns c =
