@@ -1,10 +1,13 @@
 pub mod WordLemmas
 pub mod FrontLemmas
 pub mod StepLemmas
+pub mod FrontSteps
 pub mod PieceLemmas
 pub mod FurtherLemmas
+pub mod LoopLemmas
 pub mod OneTree
 pub mod GrammarLemmas
+pub mod ListLemmas
 pub mod PartLemmas
 pub mod KindLemmas
 pub mod LineLemmas

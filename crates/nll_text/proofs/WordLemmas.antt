@@ -156,7 +156,7 @@ no_word core front rest ts e solid s none w r b =
 same_tail : {X : Type 0} (x y : X) (xs ys : List X) → x ∷ xs ≡ y ∷ ys → xs ≡ ys
 same_tail x y xs ys e = cc
 
-behind_front : (p v w : List ℕ) → p ++ v ≡ p ++ w → v ≡ w
+pub behind_front : (p v w : List ℕ) → p ++ v ≡ p ++ w → v ≡ w
 behind_front [] v w e = e
 behind_front (x ∷ p) v w e = behind_front p v w (same_tail _ _ _ _ e)
 

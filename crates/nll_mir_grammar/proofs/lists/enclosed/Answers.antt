@@ -1,5 +1,5 @@
 use Rattle.nll_text.specs.LineTokens.{tokens_in}
-use Rattle.nll_mir_grammar.proofs.GrammarLemmas.{parentheses_unopened, parentheses_without, parentheses_end}
+use Rattle.nll_mir_grammar.proofs.ListLemmas.{parentheses_unopened, parentheses_without, parentheses_end}
 use Rattle.nll_mir_grammar.proofs.lists.enclosed.Goals as goal
 
 pub returns-in_default : goal.returns-in_default

@@ -1,7 +1,7 @@
 use Rattle.std.proofs.Common.{ℕ, List}
 use Rattle.std.specs.Borrow.{Bor}
 use Rattle.nll_text.specs.LineTokens.{tokens_in}
-use Rattle.nll_mir_grammar.proofs.GrammarLemmas.{commas_none, put_first, put_fewer, put_next, put_last}
+use Rattle.nll_mir_grammar.proofs.ListLemmas.{commas_none, put_first, put_fewer, put_next, put_last}
 use Rattle.nll_mir_grammar.proofs.lists.list.Goals as goal
 
 pub returns-in_default : goal.returns-in_default

@@ -1,6 +1,6 @@
 use Rattle.std.proofs.Common.{length, map}
 use Rattle.nll_text.specs.LineTokens.{tokens_in}
-use Rattle.nll_mir_grammar.proofs.GrammarLemmas.{HasListed}
+use Rattle.nll_mir_grammar.proofs.ListLemmas.{HasListed}
 use Rattle.nll_mir_grammar.proofs.lists.list.Given as goal
 
 abbrev pub invariant-loop-following : goal.invariant-loop-following

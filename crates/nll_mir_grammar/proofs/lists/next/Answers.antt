@@ -1,6 +1,6 @@
 use Rattle.nll_text.specs.LineTokens.{tokens_in}
 use Rattle.nll_text.specs.Tokens.{sign}
-use Rattle.nll_mir_grammar.proofs.GrammarLemmas.{put_behind}
+use Rattle.nll_mir_grammar.proofs.ListLemmas.{put_behind}
 use Rattle.nll_mir_grammar.proofs.lists.next.Goals as goal
 
 pub returns-in-Some : goal.returns-in-Some

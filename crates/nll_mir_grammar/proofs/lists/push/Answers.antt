@@ -1,5 +1,5 @@
 use Rattle.nll_text.specs.LineTokens.{tokens_in}
-use Rattle.nll_mir_grammar.proofs.GrammarLemmas.{put_found}
+use Rattle.nll_mir_grammar.proofs.ListLemmas.{put_found}
 use Rattle.nll_mir_grammar.proofs.lists.push.Goals as goal
 
 pub returns-in_ok-put-in-Some : goal.returns-in_ok-put-in-Some

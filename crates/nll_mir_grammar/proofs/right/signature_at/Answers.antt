@@ -5,7 +5,8 @@ use Rattle.nll_mir_grammar.specs.Grammars.{behind, parentheses}
 use Rattle.nll_mir_grammar.specs.Lines.{argument_of, result_of}
 use Rattle.nll_mir_grammar.specs.Parts as parts
 use Rattle.nll_mir_grammar.specs.Kinds.{results}
-use Rattle.nll_mir_grammar.proofs.GrammarLemmas.{pair_none, parentheses_one, read_pair}
+use Rattle.nll_mir_grammar.proofs.GrammarLemmas.{pair_none, read_pair}
+use Rattle.nll_mir_grammar.proofs.ListLemmas.{parentheses_one}
 use Rattle.nll_mir_grammar.proofs.PartLemmas.{arguments_listable}
 use Rattle.nll_mir_grammar.proofs.KindLemmas.{signatures_join}
 use Rattle.nll_mir_grammar.proofs.right.signature_at.Goals as goal
