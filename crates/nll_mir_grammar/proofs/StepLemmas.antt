@@ -44,67 +44,16 @@ step_output fs _ t ts = record { there = λ whole rest f. f; back = λ whole res
 
 pub step_input : (fs : List Frame) (done : WrittenTypes) (t u' : WrittenType) (ts : List Token)
     → Steps Have (inputs done ∷ fs) t ts Inside (inputs (joined done (more t none)) ∷ fs) u' ts
-step_input fs done t u' ts = record {
-  there = λ whole rest f. (
-    f.0,
-    f.1,
-    f.2,
-    f.3,
-    f.4,
-    f.5,
-    f.6,
-    subst (λ z. Closes fs (function z f.4) f.5 whole rest) (sym (joined_more done t f.0)) f.7,
-  );
-  back = λ whole rest f. (
-    f.0,
-    f.1,
-    f.2,
-    f.3,
-    f.4,
-    f.5,
-    f.6,
-    subst (λ z. Closes fs (function z f.4) f.5 whole rest) (joined_more done t f.0) f.7,
-  );
-}
+step_input fs done t u' ts = record { there = λ whole rest f. f; back = λ whole rest f. f }
 
 pub step_part : (fs : List Frame) (done : WrittenTypes) (t u' : WrittenType) (ts : List Token)
     → Steps Have (parts done ∷ fs) t ts Inside (parts (joined done (more t none)) ∷ fs) u' ts
-step_part fs done t u' ts = record {
-  there = λ whole rest f. (
-    f.0,
-    f.1,
-    f.2,
-    f.3,
-    subst (λ z. Closes fs (tuple z) f.1 whole rest) (sym (joined_more done t f.0)) f.4,
-  );
-  back = λ whole rest f. (
-    f.0,
-    f.1,
-    f.2,
-    f.3,
-    subst (λ z. Closes fs (tuple z) f.1 whole rest) (joined_more done t f.0) f.4,
-  );
-}
+step_part fs done t u' ts = record { there = λ whole rest f. f; back = λ whole rest f. f }
 
 pub step_type_argument : (fs : List Frame) (n : Name) (done : Arguments) (t u' : WrittenType) (ts : List Token)
     → Steps Have (arguments n done ∷ fs) t ts Inside
     (arguments n (joined_arguments done (type_argument t no_argument)) ∷ fs) u' ts
-step_type_argument fs n done t u' ts = record {
-  there = λ whole rest f. (
-    f.0,
-    f.1,
-    f.2,
-    f.3,
-    subst (λ z. Closes fs (named n z) f.1 whole rest) (sym (joined_type done t f.0)) f.4,
-  );
-  back = λ whole rest f. (
-    f.0,
-    f.1,
-    f.2,
-    f.3,
-    subst (λ z. Closes fs (named n z) f.1 whole rest) (joined_type done t f.0) f.4,
-  );
-}
+step_type_argument fs n done t u' ts = record { there = λ whole rest f. f; back = λ whole rest f. f }
 
 -- ---- an argument
 
@@ -115,30 +64,19 @@ pub step_region : (fs : List Frame) (n : Name) (done : Arguments) (t' u' : Writt
     → Steps WantArgument (arguments n done ∷ fs) t' (region q ∷ after) Inside
     (arguments n (joined_arguments done (region_argument q no_argument)) ∷ fs) u' after
 step_region fs n done t' u' q after = record {
-  there = λ whole rest. ⊎_elim (λ f. there whole rest f.0 f.1 f.2 f.3.0 f.3.1 f.3.2 f.3.3 f.3.4)
-      (λ f. absurd (no_region q after f.0 f.1 f.2));
-  back = λ whole rest f. inl (
-    q,
-    after,
-    refl,
-    (f.0, f.1, f.2, f.3, subst (λ z. Closes fs (named n z) f.1 whole rest) (joined_region done q f.0) f.4),
-  );
+  there = λ whole rest. ⊎_elim (λ f. there whole rest f.0 f.1 f.2 f.3) (λ f. absurd (no_region q after f.0 f.1 f.2));
+  back = λ whole rest f. inl (q, after, refl, f);
 }
   where
+    row : Name → List Frame
+    row p = arguments n (joined_arguments done (region_argument p no_argument)) ∷ fs
+
     there : (whole : WrittenType) (rest : List Token) (p : Name) (mid : List Token) → region q ∷ after ≡ region p ∷ mid
-        → (us : Arguments) (other : List Token) → mid ≡ spelled_more_arguments us ++ other → ArgumentsHaveNames us
-        → Closes fs (named n (joined_arguments done (region_argument p us))) other whole rest
-        → GoesInside (arguments n (joined_arguments done (region_argument q no_argument)) ∷ fs) after whole rest
-    there whole rest p mid e us other j names c =
+        → GoesInside (row p) mid whole rest → GoesInside (row q) after whole rest
+    there whole rest p mid e g =
         let h : p ≡ q = cc in
-        let k : after ≡ mid = cc in (
-          us,
-          other,
-          k ∙ j,
-          names,
-          subst (λ z. Closes fs (named n z) other whole rest)
-              (ap (λ z. joined_arguments done (region_argument z us)) h ∙ sym (joined_region done q us)) c,
-        )
+        let k : mid ≡ after = cc in
+        subst (λ z. GoesInside (row z) after whole rest) h (subst (λ m. GoesInside (row p) m whole rest) k g)
 
 pub step_no_region : (fs : List Frame) (t' u' : WrittenType) (ts : List Token)
     → ((q : Name) (others : List Token) → ts ≡ region q ∷ others → ⊥) → Steps WantArgument fs t' ts Want fs u' ts
@@ -167,7 +105,7 @@ step_comma_part fs done t' u' after = record {
         ap (λ l. sign 44 ∷ l) (f.2.joins ∙ ap (λ l. spelled f.0 ++ l) k
         ∙ sym (append_assoc (spelled f.0) (spelled_more_parts c.0) c.1))),
     (f.2.names, c.3),
-    c.4,
+    subst (λ z. Closes fs (tuple z) c.1 whole rest) (joined_more done f.0 c.0) c.4,
   ));
 }
   where
@@ -184,7 +122,7 @@ step_comma_part fs done t' u' after = record {
             h ∙ append_assoc (spelled t) (spelled_more_parts us) mid);
         names = n.0;
       },
-      (us, mid, refl, n.1, c),
+      (us, mid, refl, n.1, subst (λ z. Closes fs (tuple z) mid whole rest) (sym (joined_more done t us)) c),
     )
 
 pub step_close_part : (fs : List Frame) (done : WrittenTypes) (t' : WrittenType) (after : List Token)
@@ -230,7 +168,7 @@ step_comma_input fs done t' u' after = record {
     c.4,
     c.5,
     c.6,
-    c.7,
+    subst (λ z. Closes fs (function z c.4) c.5 whole rest) (joined_more done f.0 c.0) c.7,
   ));
 }
   where
@@ -247,7 +185,16 @@ step_comma_input fs done t' u' after = record {
             h ∙ append_assoc (spelled t) (spelled_more_parts us) (arrow ∷ mid));
         names = n.0;
       },
-      (us, mid, refl, n.1, u, other, r, c),
+      (
+        us,
+        mid,
+        refl,
+        n.1,
+        u,
+        other,
+        r,
+        subst (λ z. Closes fs (function z u) other whole rest) (sym (joined_more done t us)) c,
+      ),
     )
 
 -- all arguments of a function are read
@@ -296,7 +243,7 @@ step_comma_argument fs n done t' u' after = record {
         c.1,
         ap (λ l. sign 44 ∷ l) (f.2 ∙ ap (λ l. region f.0 ∷ l) c.2),
         c.3,
-        c.4,
+        subst (λ z. Closes fs (named n z) c.1 whole rest) (joined_region done f.0 c.0) c.4,
       ))
       (λ f. let c = f.3 in (
         type_argument f.0 c.0,
@@ -305,7 +252,7 @@ step_comma_argument fs n done t' u' after = record {
             (f.2.joins ∙ ap (λ l. spelled f.0 ++ l) k
             ∙ sym (append_assoc (spelled f.0) (spelled_more_arguments c.0) c.1))),
         (f.2.names, c.3),
-        c.4,
+        subst (λ z. Closes fs (named n z) c.1 whole rest) (joined_type done f.0 c.0) c.4,
       ));
 }
   where
@@ -319,7 +266,7 @@ step_comma_argument fs n done t' u' after = record {
           q,
           spelled_more_arguments us ++ mid,
           (let h : after ≡ region q ∷ (spelled_more_arguments us ++ mid) = cc in h),
-          (us, mid, refl, h, c),
+          (us, mid, refl, h, subst (λ z. Closes fs (named n z) mid whole rest) (sym (joined_region done q us)) c),
         )
     there whole rest (type_argument t us) mid e h c =
         inr (
@@ -330,7 +277,7 @@ step_comma_argument fs n done t' u' after = record {
                 h ∙ append_assoc (spelled t) (spelled_more_arguments us) mid);
             names = h.0;
           },
-          (us, mid, refl, h.1, c),
+          (us, mid, refl, h.1, subst (λ z. Closes fs (named n z) mid whole rest) (sym (joined_type done t us)) c),
         )
 
 pub step_close_argument : (fs : List Frame) (n : Name) (done : Arguments) (t' : WrittenType) (after : List Token)
