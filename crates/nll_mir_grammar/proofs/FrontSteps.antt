@@ -154,27 +154,24 @@ step_shared fs t' u' q after plain = record {
     there whole rest (named s args) mid r c = absurd (let j = r.joins in cc)
     there whole rest (function ts t) mid r c = absurd (let j = r.joins in cc)
 
+no_types_free : (after : List Token) (us : WrittenTypes) (mid : List Token)
+    → sign 60 ∷ after ≡ spelled_more_parts us ++ mid → ⊥
+no_types_free after none mid e = (let h : sign 60 ≡ sign 41 = cc in apart 60 41 refl h)
+no_types_free after (more t ts) mid e = (let h : sign 60 ≡ sign 44 = cc in apart 60 44 refl h)
+
 -- no `<` stands behind a whole type
 closes_free : (fs : List Frame) (t : WrittenType) (after : List Token) (whole : WrittenType) (rest : List Token)
     → Closes fs t (sign 60 ∷ after) whole rest → ⊥
 closes_free [] t after whole rest c = c.2 after (sym c.1)
 closes_free (behind r m ∷ fs) t after whole rest c = closes_free fs (reference r m t) after whole rest c
-closes_free (parts before ∷ fs) t after whole rest c = by c.0 c.1 c.2
-  where
-    by : (us : WrittenTypes) (mid : List Token) → sign 60 ∷ after ≡ spelled_more_parts us ++ mid → ⊥
-    by none mid e = (let h : sign 60 ≡ sign 41 = cc in apart 60 41 refl h)
-    by (more t ts) mid e = (let h : sign 60 ≡ sign 44 = cc in apart 60 44 refl h)
+closes_free (parts before ∷ fs) t after whole rest c = no_types_free after c.0 c.1 c.2
 closes_free (arguments n done ∷ fs) t after whole rest c = by c.0 c.1 c.2
   where
     by : (us : Arguments) (mid : List Token) → sign 60 ∷ after ≡ spelled_more_arguments us ++ mid → ⊥
     by no_argument mid e = (let h : sign 60 ≡ sign 62 = cc in apart 60 62 refl h)
     by (region_argument q us) mid e = (let h : sign 60 ≡ sign 44 = cc in apart 60 44 refl h)
     by (type_argument t us) mid e = (let h : sign 60 ≡ sign 44 = cc in apart 60 44 refl h)
-closes_free (inputs before ∷ fs) t after whole rest c = by c.0 c.1 c.2
-  where
-    by : (us : WrittenTypes) (mid : List Token) → sign 60 ∷ after ≡ spelled_more_parts us ++ arrow ∷ mid → ⊥
-    by none mid e = (let h : sign 60 ≡ sign 41 = cc in apart 60 41 refl h)
-    by (more t ts) mid e = (let h : sign 60 ≡ sign 44 = cc in apart 60 44 refl h)
+closes_free (inputs before ∷ fs) t after whole rest c = no_types_free after c.0 c.1 c.2
 closes_free (output done ∷ fs) t after whole rest c = closes_free fs (function done t) after whole rest c
 
 -- a name and `<`
@@ -324,16 +321,17 @@ step_function : (fs : List Frame) (t' u' : WrittenType) (after : List Token)
     → Steps Want fs t' (word (codes "fn") ∷ sign 40 ∷ after) Want (inputs none ∷ fs) u' after
 step_function fs t' u' after some = record {
   there = λ whole rest f. there whole rest f.0 f.1 f.2 f.3;
-  back = λ whole rest f. (let c = f.3 in (
-    function (more f.0 c.0) c.4,
-    c.5,
+  back = λ whole rest f. (let c = f.3 in let g = c.4 in let h = g.2 in (
+    function (more f.0 c.0) h.0,
+    h.1,
     record {
       joins = ap (λ l. word (codes "fn") ∷ sign 40 ∷ l)
-          (f.2.joins ∙ ap (λ l. spelled f.0 ++ l) (c.2 ∙ ap (λ l. spelled_more_parts c.0 ++ arrow ∷ l) c.6.joins)
-          ∙ sym (function_pieces f.0 c.0 c.4 c.5));
-      names = ((f.2.names, c.3), c.6.names);
+          (f.2.joins ∙ ap (λ l. spelled f.0 ++ l) (c.2 ∙ ap (λ l. spelled_more_parts c.0 ++ l)
+          (g.1 ∙ ap (λ l. arrow ∷ l) h.2.joins))
+          ∙ sym (function_pieces f.0 c.0 h.0 h.1));
+      names = ((f.2.names, c.3), h.2.names);
     },
-    c.7,
+    h.3,
   ));
 }
   where
@@ -356,7 +354,13 @@ step_function fs t' u' after some = record {
             e ∙ function_pieces x xs t mid);
         names = r.names.0.0;
       },
-      (xs, spelled t ++ mid, refl, r.names.0.1, t, mid, record { joins = refl; names = r.names.1 }, c),
+      (
+        xs,
+        arrow ∷ (spelled t ++ mid),
+        refl,
+        r.names.0.1,
+        (spelled t ++ mid, refl, (t, mid, record { joins = refl; names = r.names.1 }, c)),
+      ),
     )
 
 -- the beginnings

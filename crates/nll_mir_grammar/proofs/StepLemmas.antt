@@ -4,7 +4,7 @@ use Rattle.nll_text.specs.Tokens.{Token, region, arrow, sign}
 use Rattle.nll_mir_grammar.specs.WrittenTypes.{Name, WrittenType, WrittenTypes, Arguments, int, reference, tuple, named, function, none, more, no_argument, region_argument, type_argument, mutability, spelled, spelled_parts, spelled_more_parts, spelled_arguments, spelled_more_arguments, HasNames, HaveNames, ArgumentsHaveNames, IsFree, BeginsWithType}
 use Rattle.nll_mir_grammar.specs.Reading.{HasNoType, IsTypeIn}
 use Rattle.nll_mir_grammar.specs.TypeTexts.{joined_arguments}
-use Rattle.nll_mir_grammar.specs.OpenTypes.{Frame, behind, parts, arguments, inputs, output, joined, Closes, GoesInside, Reads, GoesOn, GoesOnWithRegion, Finishes, Steps, IsStuck, IsNoFront}
+use Rattle.nll_mir_grammar.specs.OpenTypes.{Frame, behind, parts, arguments, inputs, output, joined, Closes, GoesInside, Reads, GoesOn, GoesOnWithRegion, Finishes, Steps, TypesGoOn, ResultGoesOn, IsStuck, IsNoFront}
 use Rattle.nll_mir_grammar.specs.declared.opens.State.{State}
 use Rattle.nll_mir_grammar.specs.declared.opens.State.TheVariants.{Want, WantArgument, Have, Inside, WantArrow}
 use Rattle.nll_mir_grammar.proofs.FrontLemmas.{apart, no_name_of}
@@ -94,136 +94,92 @@ step_no_region fs t' u' ts other =
 
 -- ---- behind a part or an argument
 
-pub step_comma_part : (fs : List Frame) (done : WrittenTypes) (t' u' : WrittenType) (after : List Token)
-    → Steps Inside (parts done ∷ fs) t' (sign 44 ∷ after) Want (parts done ∷ fs) u' after
-step_comma_part fs done t' u' after = record {
-  there = λ whole rest f. there whole rest f.0 f.1 f.2 f.3 f.4;
-  back = λ whole rest f. (let c = f.3 in (
-    more f.0 c.0,
-    c.1,
-    (let k = c.2 in
-        ap (λ l. sign 44 ∷ l) (f.2.joins ∙ ap (λ l. spelled f.0 ++ l) k
-        ∙ sym (append_assoc (spelled f.0) (spelled_more_parts c.0) c.1))),
-    (f.2.names, c.3),
-    subst (λ z. Closes fs (tuple z) c.1 whole rest) (joined_more done f.0 c.0) c.4,
-  ));
-}
-  where
-    there : (whole : WrittenType) (rest : List Token) (us : WrittenTypes) (mid : List Token)
-        → sign 44 ∷ after ≡ spelled_more_parts us ++ mid → HaveNames us
-        → Closes fs (tuple (joined done us)) mid whole rest → GoesOn (parts done ∷ fs) after whole rest
-    there whole rest none mid e n c = absurd (let h : sign 44 ≡ sign 41 = cc in apart 44 41 refl h)
-    there whole rest (more t us) mid e n c = (
-      t,
-      spelled_more_parts us ++ mid,
-      record {
-        joins =
-            (let h : after ≡ (spelled t ++ spelled_more_parts us) ++ mid = cc in
-            h ∙ append_assoc (spelled t) (spelled_more_parts us) mid);
-        names = n.0;
-      },
-      (us, mid, refl, n.1, subst (λ z. Closes fs (tuple z) mid whole rest) (sym (joined_more done t us)) c),
-    )
-
-pub step_close_part : (fs : List Frame) (done : WrittenTypes) (t' : WrittenType) (after : List Token)
-    → Steps Inside (parts done ∷ fs) t' (sign 41 ∷ after) Have fs (tuple done) after
-step_close_part fs done t' after = record {
-  there = λ whole rest f. there whole rest f.0 f.1 f.2 f.4;
-  back = λ whole rest f. (
-    none,
-    after,
-    refl,
-    tt,
-    subst (λ z. Closes fs (tuple z) after whole rest) (sym (joined_none done)) f,
-  );
-}
-  where
-    joined_none : (done : WrittenTypes) → joined done none ≡ done
-    joined_none none = refl
-    joined_none (more t ts) = ap (more t) (joined_none ts)
-
-    there : (whole : WrittenType) (rest : List Token) (us : WrittenTypes) (mid : List Token)
-        → sign 41 ∷ after ≡ spelled_more_parts us ++ mid → Closes fs (tuple (joined done us)) mid whole rest
-        → Closes fs (tuple done) after whole rest
-    there whole rest none mid e c =
-        (let h : mid ≡ after = cc in subst (λ z. Closes fs (tuple z) after whole rest) (joined_none done)
-        (subst (λ m. Closes fs (tuple (joined done none)) m whole rest) h c))
-    there whole rest (more t us) mid e c = absurd (let h : sign 41 ≡ sign 44 = cc in apart 41 44 refl h)
-
 -- nothing more behind others
 joined_nothing : (done : WrittenTypes) → joined done none ≡ done
 joined_nothing none = refl
 joined_nothing (more t ts) = ap (more t) (joined_nothing ts)
 
+-- A row of types of which these are read, and behind which this comes.
+module _ (done : WrittenTypes) (Then : WrittenTypes → List Token → Type 0) where
+  comma_there : (after : List Token) (us : WrittenTypes) (mid : List Token)
+      → sign 44 ∷ after ≡ spelled_more_parts us ++ mid → HaveNames us → Then (joined done us) mid
+      → (t : WrittenType) × (other : List Token) × Reads after t other
+      × TypesGoOn (joined done (more t none)) other Then
+  comma_there after none mid e n c = absurd (let h : sign 44 ≡ sign 41 = cc in apart 44 41 refl h)
+  comma_there after (more t us) mid e n c = (
+    t,
+    spelled_more_parts us ++ mid,
+    record {
+      joins = (let h : after ≡ (spelled t ++ spelled_more_parts us) ++ mid = cc in
+          h ∙ append_assoc (spelled t) (spelled_more_parts us) mid);
+      names = n.0;
+    },
+    (us, mid, refl, n.1, subst (λ z. Then z mid) (sym (joined_more done t us)) c),
+  )
+
+  comma_back : (after : List Token) (t : WrittenType) (other : List Token) → Reads after t other
+      → TypesGoOn (joined done (more t none)) other Then → TypesGoOn done (sign 44 ∷ after) Then
+  comma_back after t other r c = (
+    more t c.0,
+    c.1,
+    ap (λ l. sign 44 ∷ l) (r.joins ∙ ap (λ l. spelled t ++ l) c.2
+        ∙ sym (append_assoc (spelled t) (spelled_more_parts c.0) c.1)),
+    (r.names, c.3),
+    subst (λ z. Then z c.1) (joined_more done t c.0) c.4,
+  )
+
+  close_there : (after : List Token) (us : WrittenTypes) (mid : List Token)
+      → sign 41 ∷ after ≡ spelled_more_parts us ++ mid → Then (joined done us) mid → Then done after
+  close_there after none mid e c =
+      (let h : mid ≡ after = cc in
+      subst (λ z. Then z after) (joined_nothing done) (subst (λ m. Then (joined done none) m) h c))
+  close_there after (more t us) mid e c = absurd (let h : sign 41 ≡ sign 44 = cc in apart 41 44 refl h)
+
+  close_back : (after : List Token) → Then done after → TypesGoOn done (sign 41 ∷ after) Then
+  close_back after c = (none, after, refl, tt, subst (λ z. Then z after) (sym (joined_nothing done)) c)
+
+-- behind a type of a row comes `,` or `)`
+no_types : (ts : List Token) → ((rest : List Token) → ts ≡ sign 44 ∷ rest → ⊥)
+    → ((rest : List Token) → ts ≡ sign 41 ∷ rest → ⊥) → (us : WrittenTypes) (mid : List Token)
+    → ts ≡ spelled_more_parts us ++ mid → ⊥
+no_types ts comma close none mid e = close mid e
+no_types ts comma close (more t us) mid e = comma ((spelled t ++ spelled_more_parts us) ++ mid) e
+
+-- what comes behind the types of a tuple, and behind those of a function's arguments
+abbrev TupleThen : List Frame → WrittenType → List Token → WrittenTypes → List Token → Type 0
+TupleThen fs whole rest us mid = Closes fs (tuple us) mid whole rest
+
+abbrev InputsThen : List Frame → WrittenType → List Token → WrittenTypes → List Token → Type 0
+InputsThen fs whole rest = ResultGoesOn (λ u us. Closes fs u us whole rest)
+
+pub step_comma_part : (fs : List Frame) (done : WrittenTypes) (t' u' : WrittenType) (after : List Token)
+    → Steps Inside (parts done ∷ fs) t' (sign 44 ∷ after) Want (parts done ∷ fs) u' after
+step_comma_part fs done t' u' after = record {
+  there = λ whole rest f. comma_there done (TupleThen fs whole rest) after f.0 f.1 f.2 f.3 f.4;
+  back = λ whole rest f. comma_back done (TupleThen fs whole rest) after f.0 f.1 f.2 f.3;
+}
+
+pub step_close_part : (fs : List Frame) (done : WrittenTypes) (t' : WrittenType) (after : List Token)
+    → Steps Inside (parts done ∷ fs) t' (sign 41 ∷ after) Have fs (tuple done) after
+step_close_part fs done t' after = record {
+  there = λ whole rest f. close_there done (TupleThen fs whole rest) after f.0 f.1 f.2 f.4;
+  back = λ whole rest f. close_back done (TupleThen fs whole rest) after f;
+}
+
 pub step_comma_input : (fs : List Frame) (done : WrittenTypes) (t' u' : WrittenType) (after : List Token)
     → Steps Inside (inputs done ∷ fs) t' (sign 44 ∷ after) Want (inputs done ∷ fs) u' after
 step_comma_input fs done t' u' after = record {
-  there = λ whole rest f. there whole rest f.0 f.1 f.2 f.3 f.4 f.5 f.6 f.7;
-  back = λ whole rest f. (let c = f.3 in (
-    more f.0 c.0,
-    c.1,
-    ap (λ l. sign 44 ∷ l) (f.2.joins ∙ ap (λ l. spelled f.0 ++ l) c.2
-        ∙ sym (append_assoc (spelled f.0) (spelled_more_parts c.0) (arrow ∷ c.1))),
-    (f.2.names, c.3),
-    c.4,
-    c.5,
-    c.6,
-    subst (λ z. Closes fs (function z c.4) c.5 whole rest) (joined_more done f.0 c.0) c.7,
-  ));
+  there = λ whole rest f. comma_there done (InputsThen fs whole rest) after f.0 f.1 f.2 f.3 f.4;
+  back = λ whole rest f. comma_back done (InputsThen fs whole rest) after f.0 f.1 f.2 f.3;
 }
-  where
-    there : (whole : WrittenType) (rest : List Token) (us : WrittenTypes) (mid : List Token)
-        → sign 44 ∷ after ≡ spelled_more_parts us ++ arrow ∷ mid → HaveNames us → (u : WrittenType) (other : List Token)
-        → Reads mid u other → Closes fs (function (joined done us) u) other whole rest
-        → GoesOn (inputs done ∷ fs) after whole rest
-    there whole rest none mid e n u other r c = absurd (let h : sign 44 ≡ sign 41 = cc in apart 44 41 refl h)
-    there whole rest (more t us) mid e n u other r c = (
-      t,
-      spelled_more_parts us ++ arrow ∷ mid,
-      record {
-        joins = (let h : after ≡ (spelled t ++ spelled_more_parts us) ++ arrow ∷ mid = cc in
-            h ∙ append_assoc (spelled t) (spelled_more_parts us) (arrow ∷ mid));
-        names = n.0;
-      },
-      (
-        us,
-        mid,
-        refl,
-        n.1,
-        u,
-        other,
-        r,
-        subst (λ z. Closes fs (function z u) other whole rest) (sym (joined_more done t us)) c,
-      ),
-    )
 
 -- all arguments of a function are read
 pub step_close_input : (fs : List Frame) (done : WrittenTypes) (t' u' : WrittenType) (after : List Token)
     → Steps Inside (inputs done ∷ fs) t' (sign 41 ∷ after) WantArrow (output done ∷ fs) u' after
 step_close_input fs done t' u' after = record {
-  there = λ whole rest f. there whole rest f.0 f.1 f.2 f.4 f.5 f.6 f.7;
-  back = λ whole rest f. (let g = f.2 in (
-    none,
-    f.0,
-    ap (λ l. sign 41 ∷ l) f.1,
-    tt,
-    g.0,
-    g.1,
-    g.2,
-    subst (λ z. Closes fs (function z g.0) g.1 whole rest) (sym (joined_nothing done)) g.3,
-  ));
+  there = λ whole rest f. close_there done (InputsThen fs whole rest) after f.0 f.1 f.2 f.4;
+  back = λ whole rest f. close_back done (InputsThen fs whole rest) after f;
 }
-  where
-    there : (whole : WrittenType) (rest : List Token) (us : WrittenTypes) (mid : List Token)
-        → sign 41 ∷ after ≡ spelled_more_parts us ++ arrow ∷ mid → (u : WrittenType) (other : List Token)
-        → Reads mid u other → Closes fs (function (joined done us) u) other whole rest
-        → Finishes WantArrow (output done ∷ fs) u' after whole rest
-    there whole rest none mid e u other r c = (
-      mid,
-      (let h : after ≡ arrow ∷ mid = cc in h),
-      (u, other, r, subst (λ z. Closes fs (function z u) other whole rest) (joined_nothing done) c),
-    )
-    there whole rest (more t us) mid e u other r c = absurd (let h : sign 41 ≡ sign 44 = cc in apart 41 44 refl h)
 
 -- `->` of a function
 pub step_arrow : (fs : List Frame) (t' u' : WrittenType) (after : List Token)
@@ -322,20 +278,12 @@ stuck_want fs t' ts front whole rest f = by f.0 f.1 f.2
 pub stuck_part : (fs : List Frame) (done : WrittenTypes) (t' : WrittenType) (ts : List Token)
     → ((rest : List Token) → ts ≡ sign 44 ∷ rest → ⊥) → ((rest : List Token) → ts ≡ sign 41 ∷ rest → ⊥)
     → IsStuck Inside (parts done ∷ fs) t' ts
-stuck_part fs before t' ts comma close whole rest f = by f.0 f.1 f.2
-  where
-    by : (us : WrittenTypes) (mid : List Token) → ts ≡ spelled_more_parts us ++ mid → ⊥
-    by none mid e = close mid e
-    by (more t us) mid e = comma ((spelled t ++ spelled_more_parts us) ++ mid) e
+stuck_part fs before t' ts comma close whole rest f = no_types ts comma close f.0 f.1 f.2
 
 pub stuck_input : (fs : List Frame) (done : WrittenTypes) (t' : WrittenType) (ts : List Token)
     → ((rest : List Token) → ts ≡ sign 44 ∷ rest → ⊥) → ((rest : List Token) → ts ≡ sign 41 ∷ rest → ⊥)
     → IsStuck Inside (inputs done ∷ fs) t' ts
-stuck_input fs before t' ts comma close whole rest f = by f.0 f.1 f.2
-  where
-    by : (us : WrittenTypes) (mid : List Token) → ts ≡ spelled_more_parts us ++ arrow ∷ mid → ⊥
-    by none mid e = close (arrow ∷ mid) e
-    by (more t us) mid e = comma ((spelled t ++ spelled_more_parts us) ++ arrow ∷ mid) e
+stuck_input fs before t' ts comma close whole rest f = no_types ts comma close f.0 f.1 f.2
 
 pub stuck_argument : (fs : List Frame) (n : Name) (done : Arguments) (t' : WrittenType) (ts : List Token)
     → ((rest : List Token) → ts ≡ sign 44 ∷ rest → ⊥) → ((rest : List Token) → ts ≡ sign 62 ∷ rest → ⊥)

@@ -72,21 +72,30 @@ pub record Reads (tokens : List Token) (t : WrittenType) (rest : List Token) : T
   pub joins : tokens ≡ spelled t ++ rest
   pub names : HasNames t
 
--- A part or an argument of the frame is complete, and the others follow. What the frame makes then
--- goes on like this.
-abbrev pub RowGoesOn : Frame → List Token → (WrittenType → List Token → Type 0) → Type 0
-RowGoesOn (behind _ _) ts GoesOnWith = ⊥
-RowGoesOn (parts done) ts GoesOnWith =
+-- Types of a row are read, the others follow, and what all of them make goes on.
+abbrev pub TypesGoOn :
+    WrittenTypes → List Token → (WrittenTypes → List Token → Type 0) → Type 0
+TypesGoOn done ts Then =
     (us : WrittenTypes) × (mid : List Token) × (ts ≡ spelled_more_parts us ++ mid) × HaveNames us
-    × GoesOnWith (tuple (joined done us)) mid
-RowGoesOn (arguments n done) ts GoesOnWith =
+    × Then (joined done us) mid
+
+-- The result of a function with these arguments comes after an arrow, and the function goes on.
+abbrev pub ResultGoesOn :
+    (WrittenType → List Token → Type 0) → WrittenTypes → List Token → Type 0
+ResultGoesOn Then us ts =
+    (mid : List Token) × (ts ≡ arrow ∷ mid)
+    × ((u : WrittenType) × (other : List Token) × Reads mid u other × Then (function us u) other)
+
+-- A part or an argument of the frame is complete, the others follow, and what all of them make goes
+-- on.
+abbrev pub RowGoesOn : Frame → List Token → (WrittenType → List Token → Type 0) → Type 0
+RowGoesOn (behind _ _) ts Then = ⊥
+RowGoesOn (parts done) ts Then = TypesGoOn done ts (λ us mid. Then (tuple us) mid)
+RowGoesOn (arguments n done) ts Then =
     (us : Arguments) × (mid : List Token) × (ts ≡ spelled_more_arguments us ++ mid)
-    × ArgumentsHaveNames us × GoesOnWith (named n (joined_arguments done us)) mid
-RowGoesOn (inputs done) ts GoesOnWith =
-    (us : WrittenTypes) × (mid : List Token) × (ts ≡ spelled_more_parts us ++ arrow ∷ mid)
-    × HaveNames us × (u : WrittenType) × (other : List Token) × Reads mid u other
-    × GoesOnWith (function (joined done us) u) other
-RowGoesOn (output _) ts GoesOnWith = ⊥
+    × ArgumentsHaveNames us × Then (named n (joined_arguments done us)) mid
+RowGoesOn (inputs done) ts Then = TypesGoOn done ts (ResultGoesOn Then)
+RowGoesOn (output _) ts Then = ⊥
 
 -- A type is complete; the frames, the innermost first, go on and are closed. The whole type comes
 -- out, and after it the rest, which begins with no `<`.

@@ -39,7 +39,8 @@ pub fn after_word<'a>(line: &'a [u8], word: &[u8]) -> Option<&'a [u8]>
     ensures { MatchOption result (IsNotNext (tokens.word word.now) (tokens_in line.now))
         (λ rest. tokens_in line.now ≡ tokens.word word.now ∷ tokens_in rest.now) }
 {
-    let (front, rest) = behind_gap(line).split_at_checked(word.len())?;
+    let core = behind_gap(line);
+    let (front, rest) = core.split_at_checked(word.len())?;
     if !same_bytes(front, word) {
         return None;
     }

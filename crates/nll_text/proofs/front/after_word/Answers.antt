@@ -6,21 +6,22 @@ use Rattle.nll_text.proofs.front.after_word.Goals as goal
 pub returns-in_err-front : goal.returns-in_err-front
 returns-in_err-front c =
     rw c.from_residual.ensures
-    (λ ts e. too_short _ c.behind_gap.ensures.solid _ c.in_err-front.ensures.cases ts (c.behind_gap.ensures.tokens ∙ e))
+    (λ ts e. too_short _ c.behind_gap-core.ensures.solid _ c.in_err-front.ensures.cases ts
+    (c.behind_gap-core.ensures.tokens ∙ e))
 
 pub returns-then-not-same_bytes : goal.returns-then-not-same_bytes
 returns-then-not-same_bytes c ts e =
-    another_word _ c.behind_gap.ensures.solid _ _ _ c.in_ok-front.ensures.cases
+    another_word _ c.behind_gap-core.ensures.solid _ _ _ c.in_ok-front.ensures.cases
     (λ same. false≢true (sym c.if-not-same_bytes.true ∙ c.same_bytes.ensures.1 same)) ts
-    (c.behind_gap.ensures.tokens ∙ e)
+    (c.behind_gap-core.ensures.tokens ∙ e)
 
 pub returns-then-goes_on : goal.returns-then-goes_on
 returns-then-goes_on c ts e =
-    longer_word _ c.behind_gap.ensures.solid _ _ _ c.in_ok-front.ensures.cases c.if-goes_on.ensures ts
-    (c.behind_gap.ensures.tokens ∙ e)
+    longer_word _ c.behind_gap-core.ensures.solid _ _ _ c.in_ok-front.ensures.cases c.if-goes_on.ensures ts
+    (c.behind_gap-core.ensures.tokens ∙ e)
 
 pub returns : goal.returns
 returns c =
-    sym c.behind_gap.ensures.tokens
-    ∙ this_word _ c.behind_gap.ensures.solid _ _ _ c.in_ok-front.ensures.cases c.requires
+    sym c.behind_gap-core.ensures.tokens
+    ∙ this_word _ c.behind_gap-core.ensures.solid _ _ _ c.in_ok-front.ensures.cases c.requires
     (c.same_bytes.ensures.0 c.if-not-same_bytes.false) c.if-goes_on.ensures
