@@ -19,17 +19,6 @@ module _ {A F G : Type 0} (rules : Rules A F G) (lawful : AreLawful rules) (a : 
     follows = derives_more rules lawful a ok known more each f h.follows;
   }
 
-  -- the last fact that is due is known already
-  pub due_known : (known : F → Bool) (list : List F) (fact : F) → IsDue rules a i known (list ++ fact ∷ [])
-      → IsTrue (known fact) → IsDue rules a i known list
-  due_known known list fact due is = record {
-    each = λ f h. due.each f (Contains-append_left list (fact ∷ []) f h);
-    all = λ f own follows. ⊎_elim inl
-        (λ h. ⊎_elim (λ old. inr old) (λ same. inl (subst (λ x. IsTrue (known x)) same is))
-        (Contains-push_cases list fact f h))
-        (due.all f own follows);
-  }
-
   -- a fact that was due was entered, and with it what follows
   pub due_entered : (known more : F → Bool) (list new : List F) (fact : F)
       → IsDue rules a i known (list ++ fact ∷ []) → ((f : F) → more f ≡ with_fact rules fact known f)

@@ -266,13 +266,6 @@ pub record NextOn (g : Graph) (set : List Bool) (part : Run) (old now : List Boo
   pub covers : (x : ℕ) → IsIn old x → IsNext g x (x + 1) → IsWithin part (x + 1) → x < from → IsIn now (x + 1)
 
 module _ (g : Graph) (set : List Bool) (part : Run) (old : List Bool) (before : List Run) where
-  pub next_first : (from : ℕ) → from ≡ part.first - 1 → NextOn g set part old old before before from
-  next_first from is = record {
-    grows = grows_none g set (IsLedTo g set old) old before;
-    low = omega (arith, is);
-    covers = λ x h next w l. absurd (omega (arith, is, w.0, l));
-  }
-
   -- what is led to from what is reached now was led to from what was reached at first
   led_on : (now : List Bool) (after : List Run) → ((x : ℕ) → IsIn old x → IsIn set x)
       → Grows g set (IsLedTo g set old) old now before after → (x : ℕ) → IsLedTo g set now x → IsLedTo g set old x
@@ -323,14 +316,6 @@ pub record Beginning (g : Graph) (set : List Bool) (starts : List ℕ) (first : 
   pub covers : (p : ℕ) → Contains starts p → first ≤ p → p < next → IsIn now p
 
 module _ (g : Graph) (set : List Bool) (starts : List ℕ) (first : ℕ) where
-  pub beginning_first : (old : List Bool) (before : List Run) → Beginning g set starts first old old before before first
-  beginning_first old before =
-      record {
-        grows = grows_none g set (ReachesFrom g (IsIn set) starts) old before;
-        low = omega arith;
-        covers = λ p at a b. absurd (omega (arith, a, b));
-      }
-
   pub beginning_more : (old now new : List Bool) (before then after : List Run) (next start end : ℕ)
       → Contains starts start → next ≤ start → ((x : ℕ) → Contains starts x → next ≤ x → start ≤ x)
       → Beginning g set starts first old now before then next
@@ -376,10 +361,6 @@ pub record LandingOn (g : Graph) (set : List Bool) (list : List Landing) (old no
       → IsIn now (get_or list k d).to
 
 module _ (g : Graph) (set : List Bool) (list : List Landing) (old : List Bool) (before : List Run) where
-  pub landing_first : LandingOn g set list old old before before 0
-  landing_first =
-      record { grows = grows_none g set (IsLedTo g set old) old before; covers = λ k d h. absurd (omega (arith, h)) }
-
   -- a jump from what isn't reached is passed over
   pub landing_passed : (now : List Bool) (then : List Run) (count : ℕ) (l : Landing)
       → ((d : Landing) → get_or list count d ≡ l) → flag now l.from ≡ false

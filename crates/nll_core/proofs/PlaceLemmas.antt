@@ -43,12 +43,6 @@ all_nowhere place points p is h = no_all (p ∷ points) (subst (λ (x : At). Con
 pub none_before_all : (place : At) (points : List ℕ) → ((x : At) → Contains (behind place points) x → at_rank x < 0) → ⊥
 none_before_all place points before = let less = before place (0, omega arith, refl) in omega (arith, less)
 
--- an appended point
-pub pushed_behind : (place : At) (old new : List ℕ) (p : ℕ) → new ≡ old ++ p ∷ []
-    → behind place new ≡ behind place old ++ Point p ∷ []
-pushed_behind place old new p is = ap (behind place) is
-    ∙ ap (λ (xs : List At). place ∷ xs) (map-append (λ q. Point q) old (p ∷ []))
-
 pub ascend_pushed : (place : At) (old new : List ℕ) (p : ℕ) → new ≡ old ++ p ∷ [] → Ascend place old
     → ((x : At) → Contains (behind place old) x → at_rank x < at_rank (Point p)) → Ascend place new
 ascend_pushed place old new p is up before = λ f first. subst (λ xs. IsAscending (f ∷ xs)) (sym is)

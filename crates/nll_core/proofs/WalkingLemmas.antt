@@ -347,16 +347,6 @@ module _ (g : Graph) (sub : List Bool) where
     pub ends_found : ends ≡ true → (k : ℕ) × (k < count) × (k < length targets) × (g.points ≤ get_or targets k 0)
     pub ends_seen : (k : ℕ) → k < count → g.points ≤ get_or targets k 0 → ends ≡ true
 
-  pub following_first : (run : Run) (targets : List ℕ) (old : List Bool) (before : List Run)
-      → Following run targets old old before before false 0
-  following_first run targets old before =
-      record {
-        grows = grows_none (IsJumpedTo g sub run) old before;
-        covers = λ k h. absurd (omega (arith, h));
-        ends_found = λ h. absurd (false≢true h);
-        ends_seen = λ k h. absurd (omega (arith, h));
-      }
-
   pub following_more : (run : Run) (targets : List ℕ) (old now new : List Bool) (before then after : List Run)
       (ends : Bool) (count t : ℕ) → t ≡ get_or targets count 0 → count < length targets → t < g.points
       → ((x : ℕ) → Contains targets x → (y : ℕ) × IsWithin run y × IsJump g y x)
@@ -539,16 +529,6 @@ module _ (g : Graph) (sub : List Bool) where
     pub covers : (k : ℕ) → k < place → IsIn sub (point_of (constraint_at pair k))
         → IsIn now (point_of (constraint_at pair k))
     pub within : place ≤ length pair
-
-  pub entering_first : (pair : List Constraint) (old : List Bool) (before : List Run) → IsLineClosed g sub old
-      → Entering pair old old before before 0
-  entering_first pair old before closed =
-      record {
-        grows = grows_none (IsLedFrom g sub pair) old before;
-        closed = closed;
-        covers = λ k h. absurd (omega (arith, h));
-        within = omega arith;
-      }
 
   pub entering_more : (pair : List Constraint) (old now new : List Bool) (before then next : List Run)
       (place point least place' : ℕ) → PointsAscend pair → point ≡ point_of (constraint_at pair place)
