@@ -1,9 +1,9 @@
 -- What the queues of an owner say as its log grows, is looked through, and is given out.
-use Rattle.std.proofs.Common.{◌≡◌, ◌≢◌, ℕ, zero, suc, ◌+◌, ◌-◌, ◌<◌, ◌≤◌, Bool, true, false, List, [], ◌∷◌, ◌++◌, length, map, set, if◌then◌else◌, replicate, Contains, get_or, take, drop, refl, sym, ap, ◌∙◌, subst, ⊎_elim, arith, append-nil, length-append}
+use Rattle.std.proofs.Common.{◌≡◌, ℕ, zero, suc, ◌+◌, ◌-◌, ◌<◌, ◌≤◌, Bool, true, false, List, [], ◌∷◌, ◌++◌, length, map, set, if◌then◌else◌, replicate, Contains, get_or, take, drop, refl, sym, ap, ◌∙◌, subst, ⊎_elim, arith, append-nil, length-append}
 use Rattle.std.specs.List.{filter, range_with_len}
 use Rattle.std.specs.Prelude.{Option, None, Some, is_some, slice_get}
 use Rattle.std.proofs.lemmas.Bool.{cases_eq, cases_lt, false≢true}
-use Rattle.std.proofs.lemmas.List.{length-take-le, map-append, get_or-take, get_or-drop, take_all, take-append-le, take-append-drop, take-take, drop-take, drop-drop, drop-append-le, drop_more, drop-map, get_or-set_same, get_or-set_other, get_or-replicate, get_or_past, length-set, length-map, length-drop, length-replicate}
+use Rattle.std.proofs.lemmas.List.{length-take-le, map-append, get_or-take, get_or-drop, take_all, take-append-le, take-append-drop, take-take, drop-take, drop-drop, drop-append-le, drop_more, drop-map, get_or-set_same, get_or-set_other, get_or-replicate, get_or_past, length-set, length-drop, length-replicate}
 use Rattle.std.proofs.lemmas.List.Elements.{filter-append}
 use Rattle.nll_cut.specs.Partition.{Cut, reads}
 use Rattle.nll_cut.specs.Readers.{is_read}
@@ -385,7 +385,6 @@ none_queues n few = record {
         (cases_lt j n)
 
 module _ (reads : ℕ → Bool) (places : List ℕ) (old : Outboxes) where
-
   -- the next one that reads got them
   module _ (below reader : ℕ) (new : Outboxes) (g : GotPlaces reads places below old new) (from : below ≤ reader)
       (is : reads reader ≡ true) (least : (j : ℕ) → below ≤ j → j < reader → reads j ≡ false)

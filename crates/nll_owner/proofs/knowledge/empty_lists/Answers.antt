@@ -1,7 +1,5 @@
-use Rattle.std.proofs.Common.{◌≡◌, ◌+◌, ℕ, List, [], ◌∷◌, ◌++◌, map, replicate, ap, ◌∙◌}
-use Rattle.std.proofs.lemmas.List.{map-append, replicate_more}
+use Rattle.std.proofs.Common.{map, ap}
 use Rattle.std.proofs.lemmas.Result.{IfOk-from_err}
-use Rattle.nll_mail.specs.declared.growth.Growth.{Growth}
 use Rattle.nll_owner.proofs.knowledge.empty_lists.Goals as goal
 
 pub loop-init : goal.loop-init

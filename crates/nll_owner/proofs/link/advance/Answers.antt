@@ -1,5 +1,5 @@
 use Rattle.nll_owner.proofs.OwnerLemmas.{grows_none}
-use Rattle.nll_owner.proofs.FollowingLemmas.{idle, rested}
+use Rattle.nll_owner.proofs.AdvanceLemmas.{idle, rested}
 use Rattle.nll_owner.proofs.link.advance.Goals as goal
 
 pub returns-then-is_idle-clause-grows : goal.returns-then-is_idle-clause-grows

@@ -4,7 +4,8 @@ use Rattle.nll_core.proofs.SearchLemmas.{flag_within}
 use Rattle.nll_owner.specs.Following.{IsFollowed, IsLeft, OfRunOr}
 use Rattle.nll_owner.proofs.OwnerLemmas.{grows_none, grows_append, slot_still}
 use Rattle.nll_owner.proofs.RegionRunLemmas.{inside_grows}
-use Rattle.nll_owner.proofs.FollowingLemmas.{awoken, due_from, none_due_from, link_grows}
+use Rattle.nll_owner.proofs.AdvanceLemmas.{awoken, due_from, none_due_from}
+use Rattle.nll_owner.proofs.LinkLemmas.{link_grows}
 use Rattle.nll_owner.proofs.link.catch_up.Goals as goal
 
 pub loop-part-init : goal.loop-part-init

@@ -4,7 +4,8 @@ use Rattle.nll_owner.specs.Owner.{Has}
 use Rattle.nll_owner.specs.declared.region_run.RegionRun.{RegionRun}
 use Rattle.nll_owner.proofs.OwnerLemmas.{grows_none, grows_append, has_grows}
 use Rattle.nll_owner.proofs.RegionRunLemmas.{inside_grows}
-use Rattle.nll_owner.proofs.FollowingLemmas.{due_next, due_done, link_grows}
+use Rattle.nll_owner.proofs.AdvanceLemmas.{due_next, due_done}
+use Rattle.nll_owner.proofs.LinkLemmas.{link_grows}
 use Rattle.nll_owner.proofs.link.hand_all.Goals as goal
 use Rattle.nll_owner.proofs.link.hand_all.Goals.{After-index-due-number}
 

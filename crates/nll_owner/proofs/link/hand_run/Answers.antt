@@ -3,7 +3,8 @@ use Rattle.std.proofs.lemmas.Result.{IfOk-from_err}
 use Rattle.nll_owner.specs.Following.{link_shape}
 use Rattle.nll_owner.specs.declared.link.Link.{Link}
 use Rattle.nll_owner.proofs.OwnerLemmas.{grows_none}
-use Rattle.nll_owner.proofs.FollowingLemmas.{found_below, found_called, advanced_on, may_grow, own_region}
+use Rattle.nll_owner.proofs.AdvanceLemmas.{found_below, found_called, advanced_on, may_grow}
+use Rattle.nll_owner.proofs.FollowingLemmas.{own_region}
 use Rattle.nll_owner.proofs.link.hand_run.Goals as goal
 use Rattle.nll_owner.proofs.link.hand_run.Goals.{In_ok-grow_run}
 

@@ -4,7 +4,7 @@ use Rattle.nll_owner.specs.declared.owner.Owner.TheInside.{Inside}
 use Rattle.nll_owner.specs.Owner.{Owner, IsDone, Passes}
 use Rattle.nll_owner.specs.Following.{Nothing}
 use Rattle.nll_owner.proofs.TableLemmas.{tables_still}
-use Rattle.nll_owner.proofs.FollowingLemmas.{following_marked, unless_err}
+use Rattle.nll_owner.proofs.FollowingLemmas.{following_same, unless_err}
 use Rattle.nll_owner.proofs.OutboxLemmas.{queued_marked}
 use Rattle.nll_owner.proofs.owner.Owner.receive_all.Goals as goal
 
@@ -29,7 +29,7 @@ invariant_of-self c = (
       c.self.invariant.1,
   λ whole.
       let fine = sym c.is_err.ensures.value ∙ (sym (ap (λ (o : Owner). o.broken) c.mark.ensures.marks) ∙ whole) in (
-        following_marked Nothing _ _ _ (rw c.mark.ensures.marks refl)
+        following_same Nothing _ _ _ (rw c.mark.ensures.marks refl)
             (unless_err c.receive_and_queue-result.result c.receive_and_queue-result.ensures.following fine),
         queued_marked _ _ _ (rw c.mark.ensures.marks refl)
             (unless_err c.receive_and_queue-result.result c.receive_and_queue-result.ensures.queued fine),
