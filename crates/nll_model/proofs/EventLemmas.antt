@@ -308,9 +308,6 @@ module _ (q : Problem) (c : Cut) (w : State) (sound : IsSoundState q c w) (i : �
     owners_is : t.owner.cut.owners ≡ c.owners
     owners_is = ap (λ (x : Cut). x.owners) (turns.cut ∙ seat.cut)
 
-    more : ℕ → List Growth
-    more j = part s.owner.problem s.owner.cut j turns.begins.0
-
     part_more : (j : ℕ) → part_for t.owner j ≡ part_for s.owner j ++ part s.owner.problem s.owner.cut j turns.begins.0
     part_more j =
         ap (λ x. part x t.owner.cut j t.owner.log) turns.problem

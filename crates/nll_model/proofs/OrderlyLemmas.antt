@@ -47,19 +47,6 @@ goes_further came old now new one two = record {
       (two.heard j g h);
 }
 
--- it was loaded, or that was refused
-pub loaded_on : (old new : Owner) → IsPrefix old.log new.log
-    → new ≡ record old { log = new.log; clock = new.clock; loaded = new.loaded; broken = new.broken } → IsSound new
-    → GoesOn NoGrowth old new
-loaded_on old new begins is sound = record {
-  begins = begins;
-  problem = ap (λ (o : Owner). o.problem) is;
-  cut = ap (λ (o : Owner). o.cut) is;
-  me = ap (λ (o : Owner). o.me) is;
-  sound = sound;
-  heard = λ j g h. inl (subst (λ (o : Owner). Contains (received_from o j) g) is h);
-}
-
 -- it received a growth, or that was refused
 module _ (old new : Owner) (from : ℕ) (growth : Growth) (begins : IsPrefix old.log new.log)
     (is : new ≡ record old { log = new.log; received = new.received; clock = new.clock; broken = new.broken })

@@ -20,13 +20,6 @@ pub record AreSaid (q : Problem) (c : Cut) (w : State) (count : ℕ) (sets : Lis
   pub shaped : (r : ℕ) → r < count → length (set_of sets r) ≡ element_count q.graph
   pub told : (r e : ℕ) → r < count → IsIn (set_of sets r) e ↔ Says c w r e
 
-pub said_none : (q : Problem) (c : Cut) (w : State) (sets : List (List Bool)) → sets ≡ [] → AreSaid q c w 0 sets
-said_none q c w sets none = record {
-  size = ap length none;
-  shaped = λ r low. absurd (omega (arith, low));
-  told = λ r e low. absurd (omega (arith, low));
-}
-
 -- the set of one region more, which its owner has
 module _ (q : Problem) (c : Cut) (w : State) (count : ℕ) (sets : List (List Bool)) (said : AreSaid q c w count sets)
     (s : Seat) (at : IsAt w (owner_of c count) s) (xs : List Bool) (wide : length xs ≡ element_count q.graph)
@@ -64,8 +57,6 @@ module _ (q : Problem) (c : Cut) (w : State) (count : ℕ) (sets : List (List Bo
 -- the sets of all regions
 module _ (q : Problem) (c : Cut) (cut : IsCutOf q c) (w : State) (sound : IsSoundState q c w)
     (sets : List (List Bool)) (said : AreSaid q c w q.regions sets) where
-  pub said_shaped : IsShaped q sets
-  said_shaped = record { regions = said.size; elements = said.shaped }
 
   none_held : (r e : ℕ) → q.regions ≤ r → IsHeld sets r e → ⊥
   none_held r e past h =
