@@ -1,6 +1,6 @@
 -- The worklist of regions: what visits keep, and that nothing is left at the end of a sweep that changed nothing.
-use Rattle.std.proofs.Common.{◌≡◌, ◌≢◌, ℕ, ◌+◌, ◌-◌, ◌<◌, ◌≤◌, Bool, true, false, not, eqb, Result, Ok, Err, IfOk, OnOk, ◌||◌, List, Contains, AllPairs, IsTrue, length, get_or, set, replicate, drop, slice_range, refl, sym, ap, ◌∙◌, subst, inl, inr, ⊎_elim, arith, length-take, length-drop, get_or-take, get_or-drop}
-use Rattle.std.proofs.lemmas.Bool.{cases_lt, cases_eq, false≢true, true≢false, cases_Bool, eqb-true, eqb-false, not-true, not-false}
+use Rattle.std.proofs.Common.{◌≡◌, ◌≢◌, ℕ, ◌+◌, ◌-◌, ◌<◌, ◌≤◌, Bool, true, false, eqb, Result, Ok, Err, IfOk, OnOk, ◌||◌, List, Contains, AllPairs, IsTrue, length, get_or, set, replicate, drop, slice_range, refl, sym, ap, ◌∙◌, subst, inl, inr, ⊎_elim, arith, length-take, length-drop, get_or-take, get_or-drop}
+use Rattle.std.proofs.lemmas.Bool.{cases_lt, cases_eq, false≢true, true≢false, cases_Bool, eqb-true, eqb-false}
 use Rattle.std.proofs.lemmas.List.{get_or-set_other, get_or-set_same, length-set, get_or_past, set-get_or, get_or_default, get_or-replicate}
 use Rattle.nll_sets.specs.ElementSet.{flag}
 use Rattle.nll_sets.specs.Runs.{first_of, last_of, IsInRuns, IsWithin}
@@ -17,9 +17,9 @@ use Rattle.nll_core.specs.Values.{set_of, IsHeld, IsShaped}
 use Rattle.nll_core.specs.Growing.{Gains, Tells, StaysBelow, IsMet, IsClosed}
 use Rattle.nll_core.specs.Walking.{no_constraint, constraint_at, PointsAscend, IsAskedOf}
 use Rattle.nll_core.specs.Worklist.{IsTracked, IsCleared, Advances, Visits, Turns, AreOfPair, AreOfOneSup, SupsAscend}
-use Rattle.nll_core.proofs.GrowingLemmas.{tells_none, tells_append, gains_none, gains_append, gains_weaker}
+use Rattle.nll_core.proofs.GrowingLemmas.{tells_append, gains_append, gains_weaker}
 use Rattle.nll_core.proofs.SolverLemmas.{shaped_gains}
-use Rattle.nll_core.proofs.WalkingLemmas.{contained_at, each_contained}
+use Rattle.nll_core.proofs.LedWalkLemmas.{contained_at, each_contained}
 
 neither : (x y : Bool) → (x || y) ≡ false → (x ≡ false) × (y ≡ false)
 neither true y h = absurd (true≢false h)
