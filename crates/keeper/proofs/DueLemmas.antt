@@ -7,7 +7,8 @@ use Rattle.fixpoint.specs.State.{State, IsDone, list_in}
 use Rattle.fixpoint.proofs.LogLemmas.{tells_from}
 use Rattle.keeper.specs.Engine.{IsFound, Finds, with_fact, nothing}
 use Rattle.keeper.specs.Keeping.{IsDue, has}
-use Rattle.keeper.proofs.KeepingLemmas.{derives_more, or_cases, or_right, same_truth}
+use Rattle.keeper.proofs.KeepingLemmas.{derives_more}
+use Rattle.keeper.proofs.ListLemmas.{or_cases, or_right, same_truth}
 
 module _ {A F G : Type 0} (rules : Rules A F G) (lawful : AreLawful rules) (a : A) (ok : rules.valid a) (i : ℕ) where
   -- what was found by some facts is found by more
