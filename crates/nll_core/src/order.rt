@@ -37,12 +37,12 @@ pub fn order_of(
     let starts = starts_of(alloc, index.constraints(), regions)?;
     let mut descent = descent_of(alloc, starts.as_slice(), regions)?;
     for root in 0..regions {
+        enter(&mut descent, regions, root)?;
         descend(
             index.constraints(),
             starts.as_slice(),
             &mut descent,
             regions,
-            root,
         )?;
     }
     Ok(descent.left)
@@ -79,21 +79,18 @@ fn descent_of(alloc: Global, starts: &[usize], regions: u32) -> Result<Descent, 
     })
 }
 
-// Goes from a region, if it wasn't seen, to all regions that are filled from it, also indirectly.
+// Goes from the regions that were entered to all that are filled from them, also indirectly.
 fn descend(
     constraints: &[Constraint],
     starts: &[usize],
     descent: &mut Descent,
     regions: u32,
-    root: u32,
 ) -> Result<(), Memory>
-    requires root { root < regions }
     requires starts { length starts.now ≡ regions + 1 }
     requires constraints { AreOfRegions regions constraints.now }
     requires descent { IsDescent regions descent.old }
     ensures { OnOk result (IsDescent regions descent.new) }
 {
-    enter(descent, regions, root)?;
     // Each step follows a constraint or leaves a region.
     for _ in 0..constraints.len().saturating_add(starts.len()) {
         let Some(region) = descent.path.pop() else {

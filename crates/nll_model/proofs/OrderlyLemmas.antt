@@ -12,7 +12,7 @@ use Rattle.nll_owner.proofs.LogLemmas.{filter_from}
 use Rattle.nll_model.specs.State.{Seat, State, IsAt}
 use Rattle.nll_model.specs.Soundness.{IsOwner, IsOrderly, IsSoundState}
 use Rattle.nll_model.specs.Working.{GoesOn, NoGrowth, IsGrowthFrom}
-use Rattle.nll_model.proofs.EventLemmas.{set_cases}
+use Rattle.nll_model.proofs.LaneLemmas.{set_cases}
 
 -- ---- one owner
 

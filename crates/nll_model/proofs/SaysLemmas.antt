@@ -12,7 +12,7 @@ use Rattle.nll_cut.specs.Partition.{Cut, owner_of}
 use Rattle.nll_owner.specs.Logs.{IsCutOf, IsTold}
 use Rattle.nll_model.specs.State.{Seat, State, IsAt}
 use Rattle.nll_model.specs.Soundness.{Says, IsSoundState}
-use Rattle.nll_model.proofs.EventLemmas.{same_at}
+use Rattle.nll_model.proofs.LaneLemmas.{same_at}
 
 -- The sets are of the first regions, and have what the logs say of them.
 pub record AreSaid (q : Problem) (c : Cut) (w : State) (count : ℕ) (sets : List (List Bool)) : Type 0 where

@@ -10,7 +10,8 @@ invariant-loop-part l = record {
   same : link_shape l.link ≡ link_shape l.fn.link;
   awake : l.link.rests ≡ false;
   followed : IsFollowed l.knowledge l.due.region
-      (IsLeft l.knowledge l.due.place (OfRunOr (drop l.due.count l.due.runs.now) l.due.region l.next 4294967295) l.due.region) l.link;
+      (IsLeft l.knowledge l.due.place (OfRunOr (drop l.due.count l.due.runs.now) l.due.region l.next 4294967295)
+      l.due.region) l.link;
 }
 
 abbrev pub decreases-loop-part : goal.decreases-loop-part

@@ -12,7 +12,8 @@ pub grow_run-requires : goal.grow_run-requires
 grow_run-requires c =
     rw c.requires.inside.steps (may_grow c.args.knowledge.now c.args.later.now.region _ c.args.link.now c.set.result.now
     c.args.run c.requires.inside.sound c.requires.link c.set.ensures.width
-    (c.set.ensures.has c.args.later.now.region c.requires.inside.slot) c.requires.run.proper c.requires.run.has c.requires.followed)
+    (c.set.ensures.has c.args.later.now.region c.requires.inside.slot) c.requires.run.proper c.requires.run.has
+    c.requires.followed)
 
 -- the link as its frontier has grown
 abbrev then : In_ok-grow_run → Link
@@ -47,7 +48,8 @@ returns-clause-followed c =
     (then d) c.grow_run.new.found.items
     c.requires.link (c.set.ensures.has c.args.later.now.region c.requires.inside.slot) (same d)
     (rw c.requires.inside.steps at c.in_ok-grow_run.ensures.ok)
-    c.grow_runs.new.self c.grow_runs.ensures.grows c.args.later.now.place c.args.limit c.args.later.now.runs.now c.requires.inside.place
+    c.grow_runs.new.self c.grow_runs.ensures.grows c.args.later.now.place c.args.limit c.args.later.now.runs.now
+    c.requires.inside.place
     c.requires.followed c.requires.awake c.requires.awake
     (rw c.deref.ensures.value at c.in_ok-grow_runs.ensures.covers)
 

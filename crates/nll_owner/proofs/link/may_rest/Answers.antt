@@ -6,7 +6,8 @@ use Rattle.nll_owner.proofs.FollowingLemmas.{own_region}
 use Rattle.nll_owner.proofs.link.may_rest.Goals as goal
 
 pub slot-requires-clause-region : goal.slot-requires-clause-region
-slot-requires-clause-region c = own_region c.args.knowledge.now c.requires.due.inside.sound c.args.link.now.sup c.requires.link.own
+slot-requires-clause-region c =
+    own_region c.args.knowledge.now c.requires.due.inside.sound c.args.link.now.sup c.requires.link.own
 
 pub slot-requires-clause-held : goal.slot-requires-clause-held
 slot-requires-clause-held c = own_held c.args.knowledge.now c.args.link.now.sup c.requires.link.own
@@ -33,4 +34,5 @@ returns-then-link-clause-still c =
 
 pub returns-else-link-clause-all : goal.returns-else-link-clause-all
 returns-else-link-clause-all c = λ told _ x h. (c.set-own.ensures.has c.args.link.now.sup c.slot.ensures x).0
-    (c.is_seen_within.ensures told x ((c.set-inside.ensures.has c.args.due.now.region c.requires.due.inside.slot x).1 h))
+    (c.is_seen_within.ensures told x
+    ((c.set-inside.ensures.has c.args.due.now.region c.requires.due.inside.slot x).1 h))

@@ -26,7 +26,8 @@ post_to-requires-clause-ends g c =
 pub returns-in_err-posted-clause-pairs : goal.returns-in_err-posted-clause-pairs
 returns-in_err-posted-clause-pairs g c = stays_on g.M.Mail _ _ _ c.loop-to.invariant.pairs c.post_to.ensures.pairs
 
-to_in : (g : _) (c : goal.In_ok-posted g) → c.loop-to.to < g.A.Rules.rules.parts (g.A.Analysis.state c.loop-to.part).system
+to_in : (g : _) (c : goal.In_ok-posted g)
+    → c.loop-to.to < g.A.Rules.rules.parts (g.A.Analysis.state c.loop-to.part).system
 to_in g c =
     let same = ap (λ (o : State _ _). g.A.Rules.rules.parts o.system) c.loop-to.invariant.others in
     omega (arith, c.loop-to-test.true, c.owners-to-end.ensures.value, same)

@@ -123,7 +123,8 @@ loop-preserved g c =
     let back = c.in-Open.ensures.back in (
       tt,
       tt,
-      is_grown g.A.Rules.rules _ _ (g.A.Analysis.state s.new.part) (g.A.Analysis.state c.rounds-heard.new.part) f.stays.grows
+      is_grown g.A.Rules.rules _ _ (g.A.Analysis.state s.new.part) (g.A.Analysis.state c.rounds-heard.new.part)
+          f.stays.grows
           (is_given g.A.Rules.rules _ _ (g.A.Analysis.state c.loop.part)
           (g.A.Analysis.state s.new.part) s.ensures.others l.2),
       f.stays.sound,
