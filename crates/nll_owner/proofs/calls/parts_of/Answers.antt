@@ -1,6 +1,6 @@
 use Rattle.std.proofs.lemmas.Result.{IfOk-from_err}
 use Rattle.nll_owner.proofs.OutboxLemmas.{queued_first}
-use Rattle.nll_owner.proofs.owner.parts_of.Goals as goal
+use Rattle.nll_owner.proofs.calls.parts_of.Goals as goal
 
 pub new-requires-2-clause-index : goal.new-requires-2-clause-index
 new-requires-2-clause-index c = rw (← c.tables.view_is) at c.requires.tables.same_constraints

@@ -1,7 +1,7 @@
 use Rattle.nll_owner.specs.Following.{Nothing}
 use Rattle.nll_owner.proofs.OwnerLemmas.{filled_after, grows_append}
-use Rattle.nll_owner.proofs.FollowingLemmas.{following_grows}
-use Rattle.nll_owner.proofs.owner.load_and_settle.Goals as goal
+use Rattle.nll_owner.proofs.LinkLemmas.{following_grows}
+use Rattle.nll_owner.proofs.calls.load_and_settle.Goals as goal
 
 pub settle-requires-clause-following : goal.settle-requires-clause-following
 settle-requires-clause-following c = following_grows _ _ c.enter_bases.ensures.grows Nothing _ c.requires.following
