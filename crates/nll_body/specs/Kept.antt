@@ -3,31 +3,30 @@ use Rattle.std.specs.Prelude.{◌≡◌, ℕ, List, [], map}
 use Rattle.nll_problem.specs.Graph.{Graph}
 use Rattle.nll_format.specs.Labels.{Labels, Points, numbers, blocks}
 use Rattle.nll_types.specs.Declarations.{structs_of}
-use Rattle.nll_types.specs.Types.{TypeTree}
-use Rattle.nll_types.specs.Views.{tree}
-use Rattle.nll_types.specs.declared.structs.Declaration.{Declaration}
-use Rattle.nll_types.specs.declared.ty.Ty.{Ty}
-use Rattle.nll_statements.specs.Statements.{Statement}
+use Rattle.nll_types.specs.declared.body_types.BodyTypes.{BodyTypes}
+use Rattle.nll_types.specs.declared.typed.Typed.{Typed}
+use Rattle.nll_statements.specs.declared.statement.Statement.{Statement as Kept}
 use Rattle.nll_body.specs.Bodies.{BodyText, IsGraphOf, labels_of}
 use Rattle.nll_body.specs.Sound.{IsSound}
+use Rattle.nll_body.specs.Typed.{meant, trees_at}
 
 -- the first points of the blocks by which points are named
 abbrev pub starts_of : Points → List ℕ
 starts_of numbers = []
 starts_of (blocks starts) = starts
 
--- the body that labels, a graph and these lists say
-abbrev pub kept_body : Labels → List (ℕ × ℕ) → List (ℕ × ℕ) → List Declaration → List Ty
-    → List (Statement ℕ TypeTree) → Graph → BodyText
-kept_body labels outlives asserts structs variables points graph = record {
+-- the body that labels, a graph and these types and lists say
+abbrev pub kept_body : Labels → List (ℕ × ℕ) → List (ℕ × ℕ) → BodyTypes → List Typed
+    → List (Kept ℕ Typed) → Graph → BodyText
+kept_body labels outlives asserts types variables points graph = record {
   names = labels.names;
   universals = graph.universals;
   outlives = outlives;
   asserts = asserts;
-  structs = structs_of structs;
-  variables = map tree variables;
+  structs = structs_of types.table.structs;
+  variables = trees_at types variables;
   starts = starts_of labels.points;
-  points = points;
+  points = map (meant types) points;
 }
 
 -- The labels and the graph are the body's, and the body is sound.

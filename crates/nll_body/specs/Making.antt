@@ -4,7 +4,6 @@ use Rattle.std.specs.Prelude.{◌≡◌, ◌⊎◌, ◌↔◌, ℕ, ◌+◌, ◌
 use Rattle.std.specs.Prelude.{Some, slice_get, Contains}
 use Rattle.indexmap.specs.IndexSet.{insert_all}
 use Rattle.nll_problem.specs.Graph.{Graph, IsNext, IsReturn}
-use Rattle.nll_types.specs.Types.{TypeTree}
 use Rattle.nll_statements.specs.Statements.{Statement, return}
 use Rattle.nll_statements.specs.Effects.{targets}
 use Rattle.nll_body.specs.Edges.{LeadsTo, LeavesTo, edges_from, edge_count}
@@ -25,8 +24,8 @@ pub record AddsEdges {R T : Type 0} (starts : List ℕ) (p : ℕ) (i : Statement
 
 -- The graph got what the point p says, where this is: the edges that leave it, and that it is a
 -- return point if it is one.
-pub record AddsPoint (starts : List ℕ) (p : ℕ) (i : Statement ℕ TypeTree) (old new : Graph)
-    : Type 0 where
+pub record AddsPoint {R T : Type 0} (starts : List ℕ) (p : ℕ) (i : Statement R T)
+    (old new : Graph) : Type 0 where
   pub points : new.points ≡ old.points
   pub universals : new.universals ≡ old.universals
   pub next : (r q : ℕ) → IsNext new r q ↔ (IsNext old r q ⊎ ((r ≡ p) × LeavesTo starts p i q))
@@ -34,22 +33,21 @@ pub record AddsPoint (starts : List ℕ) (p : ℕ) (i : Statement ℕ TypeTree) 
   pub counted : length new.edges ≤ length old.edges + edges_from i
 
 -- each target of these is one of this many blocks
-abbrev pub AreBlocks : ℕ → List (Statement ℕ TypeTree) → Type 0
-AreBlocks count stand = (p b : ℕ) (i : Statement ℕ TypeTree) → slice_get stand p ≡ Some i
+abbrev pub AreBlocks : {R T : Type 0} → ℕ → List (Statement R T) → Type 0
+AreBlocks {R} {T} count stand = (p b : ℕ) (i : Statement R T) → slice_get stand p ≡ Some i
     → Contains (targets i) b → b < count
 
 -- each edge leads to one of the points where these are
-abbrev pub AreEnds : List ℕ → List (Statement ℕ TypeTree) → Type 0
-AreEnds starts stand = (p q : ℕ) (i : Statement ℕ TypeTree) → slice_get stand p ≡ Some i
+abbrev pub AreEnds : {R T : Type 0} → List ℕ → List (Statement R T) → Type 0
+AreEnds {R} {T} starts stand = (p q : ℕ) (i : Statement R T) → slice_get stand p ≡ Some i
     → LeavesTo starts p i q → q < length stand
 
 -- The graph has what the first n points say, where these are, and this many universal regions.
-pub record HasPoints
-    (starts : List ℕ) (count : ℕ) (stand : List (Statement ℕ TypeTree)) (n : ℕ)
-    (graph : Graph) : Type 0 where
+pub record HasPoints {R T : Type 0} (starts : List ℕ) (count : ℕ) (stand : List (Statement R T))
+    (n : ℕ) (graph : Graph) : Type 0 where
   pub points : graph.points ≡ length stand
   pub universals : graph.universals ≡ count
-  pub next : (p q : ℕ) → IsNext graph p q ↔ ((p < n) × (i : Statement ℕ TypeTree)
+  pub next : (p q : ℕ) → IsNext graph p q ↔ ((p < n) × (i : Statement R T)
       × (slice_get stand p ≡ Some i) × LeavesTo starts p i q)
   pub returns : (p : ℕ) → IsReturn graph p ↔ ((p < n) × (slice_get stand p ≡ Some return))
   pub counted : length graph.edges ≤ edge_count (take n stand)

@@ -2,8 +2,8 @@
 -- Source: project's choice.
 use Rattle.std.specs.Prelude.{map}
 use Rattle.nll_types.specs.Declarations.{structs_of}
-use Rattle.nll_types.specs.Views.{tree}
 use Rattle.nll_body.specs.Bodies.{BodyText}
+use Rattle.nll_body.specs.Typed.{HaveRows, meant, trees_at}
 use Rattle.nll_body.specs.declared.parts.BodyParts.{BodyParts}
 
 -- the body of these parts
@@ -13,8 +13,12 @@ body_of p = record {
   universals = p.universals;
   outlives = p.outlives.items;
   asserts = p.asserts.items;
-  structs = structs_of p.structs;
-  variables = map tree p.variables.items;
+  structs = structs_of p.types.table.structs;
+  variables = trees_at p.types p.variables.items;
   starts = p.starts.items;
-  points = p.points;
+  points = map (meant p.types) p.points.items;
 }
+
+-- each type of a variable, and each that is written in a statement, has its row
+abbrev pub AreTyped : BodyParts → Type 0
+AreTyped p = HaveRows p.types p.variables.items p.points.items

@@ -11,18 +11,19 @@ ghost use Rattle.nll_types.specs.Types.{TypeTree, HasRegion};
 ghost use Rattle.nll_types.specs.Views.{tree};
 ghost use Rattle.nll_statements.specs.Effects.{variables_used, defined, dropped};
 ghost use Rattle.nll_statements.specs.Statements.{Statement as standing};
-ghost use Rattle.nll_statement_list.specs.Views.{meant};
+ghost use Rattle.nll_body.specs.Typed.{IsTypedBody, meant_at};
 ghost use Rattle.nll_body.specs.Bodies.{HasType, IsGraphOf, StandsAt, labels_of};
-ghost use Rattle.nll_body.specs.Parts.{body_of};
+ghost use Rattle.nll_body.specs.Parts.{AreTyped, body_of};
 ghost use Rattle.nll_body.specs.Sound.{IsSound};
 
 use crate::edges::graph_of;
 use crate::parts::BodyParts;
+use crate::typed::{StatementAt, TypedBody};
 use nll_format::Labels;
 use nll_problem::{BuildError, Graph, RegionId};
 use nll_sets::Memory;
-use nll_statement_list::{StatementList, Stmt};
-use nll_types::{Place, Structs, Ty, place_type, types_of_places_are_well_formed};
+use nll_statements::Stmt;
+use nll_types::{BodyTypes, Place, Structs, Ty, Typed, behind, types_of_places_are_well_formed};
 use std::alloc::Global;
 use std::marker::Model;
 
@@ -31,9 +32,9 @@ pub struct Body {
     labels: Labels,
     outlives: Vec<(u32, u32)>,
     asserts: Vec<(u32, u32)>,
-    structs: Structs,
-    variables: Vec<Ty>,
-    points: StatementList,
+    types: BodyTypes,
+    variables: Vec<Typed>,
+    points: Vec<Stmt>,
     graph: Graph,
 }
 
@@ -44,7 +45,7 @@ impl Drop for Body {
             labels: _,
             outlives: _,
             asserts: _,
-            structs: _,
+            types: _,
             variables: _,
             points: _,
             graph: _,
@@ -54,9 +55,10 @@ impl Drop for Body {
 
 impl Model for Body {
     ghost use Rattle.std.specs.Coded.{codes, Coded};
-    ghost use Rattle.nll_statement_list.specs.TypeCodes.{Step, tree_code, trees_code};
+    ghost use Rattle.nll_types.specs.TypeCodes.{Step, tree_code, trees_code};
     ghost use Rattle.nll_body.specs.Bodies.{BodyText};
     ghost use Rattle.nll_body.specs.Kept.{kept_body, IsKept};
+    ghost use Rattle.nll_body.specs.Typed.{HaveRows};
 
     ghost Value = { BodyText };
 
@@ -64,18 +66,20 @@ impl Model for Body {
         Prim.hlevel (codes, tree_code step, trees_code step) };
 
     ghost view = { λ b.
-        kept_body b.labels b.outlives.items b.asserts.items b.structs b.variables.items
-        b.points b.graph };
+        kept_body b.labels b.outlives.items b.asserts.items b.types b.variables.items
+        b.points.items b.graph };
 
     ghost invariant = { λ b. IsKept
-        (kept_body b.labels b.outlives.items b.asserts.items b.structs b.variables.items
-        b.points b.graph)
-        b.labels b.graph };
+        (kept_body b.labels b.outlives.items b.asserts.items b.types b.variables.items
+        b.points.items b.graph)
+        b.labels b.graph
+        × HaveRows b.types b.variables.items b.points.items };
 }
 
 // The body of these parts, whose graph this is.
 fn assembled(parts: BodyParts, graph: Graph) -> Body
     requires sound { IsSound (body_of parts) }
+    requires typed { AreTyped parts }
     requires graph { IsGraphOf (body_of parts) graph }
     ensures { result ≡ body_of parts }
 {
@@ -83,7 +87,7 @@ fn assembled(parts: BodyParts, graph: Graph) -> Body
         labels: Labels::with_blocks(parts.names, parts.starts),
         outlives: parts.outlives,
         asserts: parts.asserts,
-        structs: parts.structs,
+        types: parts.types,
         variables: parts.variables,
         points: parts.points,
         graph,
@@ -96,12 +100,13 @@ impl Body {
     /// # Errors
     /// `Memory` alone.
     pub fn new(alloc: Global, parts: BodyParts) -> Result<Body, BuildError>
-        requires { IsSound (body_of parts) }
+        requires sound { IsSound (body_of parts) }
+        requires typed { AreTyped parts }
         ensures ok { IfOk result (λ body. body ≡ body_of parts) }
         ensures err { IfErr result (λ e. e ≡ BuildError.Memory) }
     {
         let starts = parts.starts.as_slice();
-        let told = graph_of(alloc, parts.universals, starts, &parts.points);
+        let told = graph_of(alloc, parts.universals, starts, parts.points.as_slice());
         match told {
             Ok(graph) => Ok(assembled(parts, graph)),
             Err(error) => {
@@ -133,7 +138,7 @@ impl Body {
             labels,
             outlives: _,
             asserts: _,
-            structs: _,
+            types: _,
             variables: _,
             points: _,
             graph: _,
@@ -171,11 +176,15 @@ impl Body {
         self.variables.len()
     }
 
-    /// The types of its variables.
-    pub fn variable_types(&self) -> &[Ty]
-        ensures { map tree result.now ≡ self.now.variables }
+    /// Its types, and its variables and statements with their types by number.
+    pub fn typed(&self) -> TypedBody<'_>
+        ensures { IsTypedBody self.now result }
     {
-        self.variables.as_slice()
+        TypedBody {
+            types: &self.types,
+            variables: self.variables.as_slice(),
+            points: self.points.as_slice(),
+        }
     }
 
     /// The pairs of universal regions of which the first is known to outlive the second.
@@ -196,28 +205,31 @@ impl Body {
     pub fn structs(&self) -> &Structs
         ensures { structs_of result.now ≡ self.now.structs }
     {
-        &self.structs
+        self.types.table.structs()
     }
 
-    /// The statement or terminator at a point, decoded.
+    /// The statement or terminator at a point. Takes no memory.
+    pub fn line_at(&self, point: u32) -> StatementAt<'_>
+        requires { point < length self.now.points }
+        ensures { StandsAt self.now point (meant_at result) }
+    {
+        StatementAt {
+            statement: &self.points[point as usize],
+            types: &self.types,
+        }
+    }
+
+    /// The type of a variable, as a tree.
     ///
     /// # Errors
     /// `Memory` alone.
-    pub fn line_at(&self, alloc: Global, point: u32) -> Result<Stmt, Memory>
-        requires { point < length self.now.points }
-        ensures { IfOk result (λ i. StandsAt self.now point (meant i)) }
-    {
-        self.points.statement(alloc, point as usize)
-    }
-
-    /// The type of a variable.
-    pub fn var_type(&self, variable: u32) -> &Ty
+    pub fn var_type(&self, alloc: Global, variable: u32) -> Result<Ty, Memory>
         requires { variable < length self.now.variables }
-        ensures value { HasType self.now variable (tree result.now) }
-        ensures well_formed { IsWellFormed self.now.structs (length self.now.names) 0
-            (tree result.now) }
+        ensures value { IfOk result (λ t. HasType self.now variable (tree t)) }
+        ensures well_formed { IfOk result
+            (λ t. IsWellFormed self.now.structs (length self.now.names) 0 (tree t)) }
     {
-        &self.variables[variable as usize]
+        self.types.tree(alloc, self.variables[variable as usize])
     }
 
     /// The regions that are written in the type of a variable, each once.
@@ -230,7 +242,11 @@ impl Body {
             → (r : ℕ) → Contains v.items r ↔ HasRegion t r) }
         ensures once { IfOk result (λ v. AllPairs (λ q r. q ≢ r) v.items) }
     {
-        self.structs.regions(alloc, self.var_type(variable))
+        let ty = self.var_type(alloc, variable)?;
+        let found = self.structs().regions(alloc, &ty);
+        // Early drop.
+        drop(ty);
+        found
     }
 
     /// The drop regions of the type of a variable, each once.
@@ -246,7 +262,11 @@ impl Body {
             → (r : ℕ) → Contains v.items r ↔ IsDropRegion self.now.structs t r) }
         ensures once { IfOk result (λ v. AllPairs (λ q r. q ≢ r) v.items) }
     {
-        self.structs.drop_regions(alloc, self.var_type(variable))
+        let ty = self.var_type(alloc, variable)?;
+        let found = self.structs().drop_regions(alloc, &ty);
+        // Early drop.
+        drop(ty);
+        found
     }
 
     /// The type of a place that has one.
@@ -262,7 +282,10 @@ impl Body {
             IsWellFormed self.now.structs (length self.now.names) 0 (tree t)) }
     {
         types_of_places_are_well_formed();
-        match place_type(alloc, &self.structs, self.variables.as_slice(), place)? {
+        // Clause call.
+        let _ = self.points();
+        let ty = self.var_type(alloc, place.variable())?;
+        match behind(alloc, self.structs(), ty, place.projections())? {
             Some(ty) => Ok(ty),
             None => unreachable!(),
         }
@@ -278,7 +301,7 @@ impl Body {
             → used.new.items ≡ used.old.items ++ variables_used i) }
         ensures begins { IsPrefix used.old.items used.new.items }
     {
-        self.points.uses(point as usize, used)
+        self.points[point as usize].uses(used)
     }
 
     /// The variable that is defined at a point.
@@ -289,7 +312,7 @@ impl Body {
         requires { point < length self.now.points }
         ensures { (i : standing ℕ TypeTree) → StandsAt self.now point i → result ≡ defined i }
     {
-        self.points.defines(point as usize)
+        self.points[point as usize].defines()
     }
 
     /// The variable that is dropped at a point.
@@ -297,6 +320,6 @@ impl Body {
         requires { point < length self.now.points }
         ensures { (i : standing ℕ TypeTree) → StandsAt self.now point i → result ≡ dropped i }
     {
-        self.points.drops(point as usize)
+        self.points[point as usize].drops()
     }
 }

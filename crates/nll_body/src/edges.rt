@@ -1,6 +1,6 @@
 //! The graph of a body: the edges that leave its points, and its return points.
 
-ghost use Rattle.std.specs.Prelude.{◌≡◌, ◌↔◌, ◌<◌, ◌≤◌, ◌+◌, ◌==◌, ℕ, [], length};
+ghost use Rattle.std.specs.Prelude.{◌≡◌, ◌↔◌, ◌<◌, ◌≤◌, ◌+◌, ◌==◌, ℕ, [], length, map};
 ghost use Rattle.std.specs.Prelude.{Contains, IfErr, IfOk, OnOk, IsTrue, Some, slice_get, true};
 ghost use Rattle.indexmap.specs.IndexSet.{insert_all};
 ghost use Rattle.nll_problem.specs.Answers.{AddsFact};
@@ -8,16 +8,14 @@ ghost use Rattle.nll_problem.specs.Graph.{IsNext};
 ghost use Rattle.nll_problem.specs.GraphBuilding.{bare_graph};
 ghost use Rattle.nll_problem.specs.Limits.{most_points, most_edges, most_universals};
 ghost use Rattle.nll_statements.specs.Effects.{targets};
-ghost use Rattle.nll_statements.specs.Statements.{Statement as standing, is_terminator, return};
-ghost use Rattle.nll_types.specs.Types.{TypeTree};
+ghost use Rattle.nll_statements.specs.Kept.{statement_of};
+ghost use Rattle.nll_statements.specs.Statements.{is_terminator, return};
 ghost use Rattle.nll_body.specs.Edges.{LeadsTo, LeavesTo, edges_from, edge_count};
 ghost use Rattle.nll_body.specs.Making.{AddsTargets, AddsEdges, AddsPoint};
 ghost use Rattle.nll_body.specs.Making.{AreBlocks, AreEnds, HasPoints};
-ghost use Rattle.nll_statement_list.specs.Views.{meant};
 
 use nll_problem::{BuildError, Graph, GraphBuilder};
-use nll_statement_list::{StatementList, Stmt};
-use nll_statements::Statement;
+use nll_statements::{Statement, Stmt};
 use std::alloc::Global;
 
 // Adds an edge for which there is room.
@@ -55,7 +53,7 @@ fn add_targets(
 
 // Whether it ends the body's run.
 fn is_return(statement: &Stmt) -> bool
-    ensures { IsTrue result ↔ (meant statement.now ≡ return) }
+    ensures { IsTrue result ↔ (statement_of statement.now ≡ return) }
 {
     match statement {
         Statement::Return => true,
@@ -71,16 +69,16 @@ fn add_edges(
     starts: &[u32],
     blocks: &mut Vec<u32>,
 ) -> Result<(), BuildError>
-    requires terminator { is_terminator (meant statement.now) ≡ true }
+    requires terminator { is_terminator (statement_of statement.now) ≡ true }
     requires few { graph.old.points ≤ most_points }
     requires point { point < graph.old.points }
-    requires blocks { (b : ℕ) → Contains (targets (meant statement.now)) b
+    requires blocks { (b : ℕ) → Contains (targets (statement_of statement.now)) b
         → b < length starts.now }
-    requires ends { (q : ℕ) → LeavesTo starts.now point (meant statement.now) q
+    requires ends { (q : ℕ) → LeavesTo starts.now point (statement_of statement.now) q
         → q < graph.old.points }
-    requires room { length graph.old.edges + edges_from (meant statement.now) ≤ most_edges }
+    requires room { length graph.old.edges + edges_from (statement_of statement.now) ≤ most_edges }
     ensures ok { OnOk result
-        (AddsEdges starts.now point (meant statement.now) graph.old graph.new) }
+        (AddsEdges starts.now point (statement_of statement.now) graph.old graph.new) }
     ensures err { IfErr result (λ e. e ≡ BuildError.Memory) }
 {
     blocks.clear();
@@ -88,83 +86,55 @@ fn add_edges(
     add_targets(graph, point, starts, blocks.as_slice())
 }
 
-// Adds a terminator at a point.
-fn add_terminator(
+// Adds the edges that leave a statement or terminator at a point, and the point to the return
+// points where it is one.
+fn add_next(
     graph: &mut GraphBuilder,
     point: u32,
-    statement: Stmt,
+    statement: &Stmt,
     starts: &[u32],
     blocks: &mut Vec<u32>,
 ) -> Result<(), BuildError>
-    requires terminator { is_terminator (meant statement) ≡ true }
     requires few { graph.old.points ≤ most_points }
     requires point { point < graph.old.points }
-    requires blocks { (b : ℕ) → Contains (targets (meant statement)) b
+    requires blocks { (b : ℕ) → Contains (targets (statement_of statement.now)) b
         → b < length starts.now }
-    requires ends { (q : ℕ) → LeavesTo starts.now point (meant statement) q
+    requires ends { (q : ℕ) → LeavesTo starts.now point (statement_of statement.now) q
         → q < graph.old.points }
-    requires room { length graph.old.edges + edges_from (meant statement) ≤ most_edges }
+    requires room { length graph.old.edges + edges_from (statement_of statement.now)
+        ≤ most_edges }
     ensures ok { OnOk result
-        (AddsPoint starts.now point (meant statement) graph.old graph.new) }
+        (AddsPoint starts.now point (statement_of statement.now) graph.old graph.new) }
     ensures err { IfErr result (λ e. e ≡ BuildError.Memory) }
 {
-    let returns = is_return(&statement);
-    let told = add_edges(graph, point, &statement, starts, blocks);
-    // Early drop.
-    drop(statement);
-    told?;
-    if !returns {
+    if !statement.is_terminator() {
+        return add_edge(graph, point, point + 1);
+    }
+    add_edges(graph, point, statement, starts, blocks)?;
+    if !is_return(statement) {
         return Ok(());
     }
     graph.ret(point)
 }
 
-// Adds the edges of one point of a list. Only a terminator is decoded for it.
-fn add_next(
-    alloc: Global,
-    graph: &mut GraphBuilder,
-    point: u32,
-    starts: &[u32],
-    points: &StatementList,
-    blocks: &mut Vec<u32>,
-) -> Result<(), BuildError>
-    requires few { length points.now ≤ most_points }
-    requires same { graph.old.points ≡ length points.now }
-    requires point { point < length points.now }
-    requires blocks { AreBlocks (length starts.now) points.now }
-    requires ends { AreEnds starts.now points.now }
-    requires room { (i : standing ℕ TypeTree) → slice_get points.now point ≡ Some i
-        → length graph.old.edges + edges_from i ≤ most_edges }
-    ensures ok { OnOk result ((i : standing ℕ TypeTree) → slice_get points.now point ≡ Some i
-        → AddsPoint starts.now point i graph.old graph.new) }
-    ensures err { IfErr result (λ e. e ≡ BuildError.Memory) }
-{
-    if !points.is_terminator(point as usize) {
-        return add_edge(graph, point, point + 1);
-    }
-    let statement = points.statement(alloc, point as usize)?;
-    add_terminator(graph, point, statement, starts, blocks)
-}
-
 // Adds the edges of every point to a graph that has only its points.
 fn add_points(
-    alloc: Global,
     graph: &mut GraphBuilder,
     starts: &[u32],
-    points: &StatementList,
+    points: &[Stmt],
     blocks: &mut Vec<u32>,
 ) -> Result<(), BuildError>
     requires bare { graph.old ≡ bare_graph (length points.now) graph.old.universals }
     requires few { length points.now ≤ most_points }
-    requires blocks { AreBlocks (length starts.now) points.now }
-    requires ends { AreEnds starts.now points.now }
-    requires room { edge_count points.now ≤ most_edges }
-    ensures ok { OnOk result (HasPoints starts.now graph.old.universals points.now
-        (length points.now) graph.new) }
+    requires blocks { AreBlocks (length starts.now) (map statement_of points.now) }
+    requires ends { AreEnds starts.now (map statement_of points.now) }
+    requires room { edge_count (map statement_of points.now) ≤ most_edges }
+    ensures ok { OnOk result (HasPoints starts.now graph.old.universals
+        (map statement_of points.now) (length points.now) graph.new) }
     ensures err { IfErr result (λ e. e ≡ BuildError.Memory) }
 {
     for point in 0..points.len() {
-        add_next(alloc, graph, point as u32, starts, points, blocks)?;
+        add_next(graph, point as u32, &points[point], starts, blocks)?;
     }
     Ok(())
 }
@@ -178,22 +148,22 @@ pub(crate) fn graph_of(
     alloc: Global,
     universals: u32,
     starts: &[u32],
-    points: &StatementList,
+    points: &[Stmt],
 ) -> Result<Graph, BuildError>
     requires some { 0 < length points.now }
     requires few { length points.now ≤ most_points }
     requires some_universal { 0 < universals }
     requires few_universals { universals ≤ most_universals }
-    requires blocks { AreBlocks (length starts.now) points.now }
-    requires ends { AreEnds starts.now points.now }
-    requires room { edge_count points.now ≤ most_edges }
-    ensures ok { IfOk result (λ g. HasPoints starts.now universals points.now
-        (length points.now) g) }
+    requires blocks { AreBlocks (length starts.now) (map statement_of points.now) }
+    requires ends { AreEnds starts.now (map statement_of points.now) }
+    requires room { edge_count (map statement_of points.now) ≤ most_edges }
+    ensures ok { IfOk result (λ g. HasPoints starts.now universals
+        (map statement_of points.now) (length points.now) g) }
     ensures err { IfErr result (λ e. e ≡ BuildError.Memory) }
 {
     let mut graph = GraphBuilder::new(alloc, points.len() as u32, universals)?;
     let mut blocks = Vec::new(alloc);
-    let told = add_points(alloc, &mut graph, starts, points, &mut blocks);
+    let told = add_points(&mut graph, starts, points, &mut blocks);
     // Early drop.
     drop(blocks);
     match told {

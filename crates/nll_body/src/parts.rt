@@ -1,8 +1,8 @@
 //! What a reader gathers for a body.
 
 use nll_format::Names;
-use nll_statement_list::StatementList;
-use nll_types::{Structs, Ty};
+use nll_statements::Stmt;
+use nll_types::{BodyTypes, Typed};
 
 /// The parts of a body.
 #[derive(Drop)]
@@ -15,11 +15,12 @@ pub struct BodyParts {
     pub outlives: Vec<(u32, u32)>,
     /// Of each pair of regions the first must hold, at all points, what the second holds.
     pub asserts: Vec<(u32, u32)>,
-    pub structs: Structs,
+    /// Its structs, and the shapes and the regions of all types.
+    pub types: BodyTypes,
     /// The types of its variables.
-    pub variables: Vec<Ty>,
+    pub variables: Vec<Typed>,
     /// The first point of each block.
     pub starts: Vec<u32>,
     /// The statement or terminator at each point.
-    pub points: StatementList,
+    pub points: Vec<Stmt>,
 }

@@ -6,15 +6,12 @@ use Rattle.std.specs.List.{AllByRecursion}
 use Rattle.std.specs.Str.{IsUtf8}
 use Rattle.nll_problem.specs.Limits.{most_points, most_edges, most_universals, most_regions}
 use Rattle.nll_problem.specs.Limits.{most_variables, most_structs, most_bytes}
-use Rattle.nll_types.specs.Shapes.{shape_of}
-use Rattle.nll_types.specs.Table.{shape_in, AreBelow}
 use Rattle.nll_types.specs.Declarations.{structs_of}
 use Rattle.nll_types.specs.Structs.{Struct, struct_at}
-use Rattle.nll_types.specs.Views.{tree}
-use Rattle.nll_types.specs.declared.node.Node.{Node}
-use Rattle.nll_types.specs.declared.ty.Ty.{Ty}
 use Rattle.nll_statements.specs.Statements.{Statement, is_terminator}
 use Rattle.nll_statements.specs.Edges.{edges_from, edge_count}
+use Rattle.nll_statements.specs.Kept.{statement_of}
+use Rattle.nll_body.specs.Typed.{HaveRows, meant, trees_at}
 use Rattle.nll_format.specs.Text.{IsText}
 use Rattle.nll_format.specs.declared.error.TextKind.{TextKind}
 use Rattle.nll_format.specs.declared.error.TextKind.TheVariants.{Memory}
@@ -52,22 +49,17 @@ said_by r = record {
   universals = r.regions.universals;
   outlives = r.regions.outlives.keys;
   asserts = r.regions.asserts.keys;
-  structs = structs_of r.variables.table.structs;
-  variables = map tree r.variables.types.items;
+  structs = structs_of r.variables.types.table.structs;
+  variables = trees_at r.variables.types r.variables.typed.items;
   blocks = r.points.blocks;
   starts = r.points.starts.items;
-  points = r.points.statements;
+  points = map (meant r.variables.types) r.points.statements.items;
   owes = r.points.owes;
 }
 
 -- the reader holds what lines of these forms say
 abbrev pub HoldsForms : Reader → List Form → Type 0
 HoldsForms r forms = said forms ≡ said_by r
-
--- The numbers of shapes are those of these types.
-pub record AreShapes (shapes : List Node) (numbers : List ℕ) (types : List Ty) : Type 0 where
-  pub below : AreBelow (length shapes) numbers
-  pub same : map (shape_in shapes) numbers ≡ map (λ t. shape_of (tree t)) types
 
 -- how many of the kinds are that of a region
 abbrev pub region_count : List Bool → ℕ
@@ -95,20 +87,18 @@ pub record IsReady (r : Reader) : Type 0 where
   pub few_universals : r.regions.universals ≤ most_universals
   pub few_regions : length r.regions.names ≤ most_regions
   pub no_parameter : r.structs.none ≡ []
-  pub named_structs : length r.structs.names ≡ length r.variables.table.structs
-  pub counted_kinds : length r.structs.kinds.items ≡ length r.variables.table.structs
+  pub named_structs : length r.structs.names ≡ length r.variables.types.table.structs
+  pub counted_kinds : length r.structs.kinds.items ≡ length r.variables.types.table.structs
   pub kinds :
-      AreKinds (map (λ ks. ks.items) r.structs.kinds.items) (structs_of r.variables.table.structs)
-  pub few_structs : length r.variables.table.structs ≤ most_structs
-  pub few_variables : length r.variables.types.items ≤ most_variables
-  pub shapes :
-      AreShapes r.variables.table.shapes r.variables.shapes.items r.variables.types.items
+      AreKinds (map (λ ks. ks.items) r.structs.kinds.items) (structs_of r.variables.types.table.structs)
+  pub few_structs : length r.variables.types.table.structs ≤ most_structs
+  pub few_variables : length r.variables.typed.items ≤ most_variables
+  pub rows : HaveRows r.variables.types r.variables.typed.items r.points.statements.items
   pub few_blocks : r.points.blocks ≤ most_points
   pub no_start : rank r.reached < 7 → length r.points.starts.items ≡ 0
   pub starts : length r.points.starts.items ≤ r.points.blocks
-  pub few_points : length r.points.statements ≤ most_points
-  pub counted_points : r.points.count ≡ length r.points.statements
-  pub edges : r.points.edges ≡ edge_count r.points.statements
+  pub few_points : length r.points.statements.items ≤ most_points
+  pub edges : r.points.edges ≡ edge_count (map statement_of r.points.statements.items)
   pub few_edges : r.points.edges ≤ most_edges
 
 -- ---- one line
@@ -154,7 +144,7 @@ pub record IsAdmitted (s : Said) (i : Statement Name WrittenType) (a : Admitted)
   pub fine : first_fault s (at_point i) ≡ None
   pub same : said_by r ≡ s
   pub ready : IsReady r
-  pub few : length r.points.statements < most_points
+  pub few : length r.points.statements.items < most_points
   pub counted : a.edges ≡ r.points.edges + edges_from i
   pub few_edges : a.edges ≤ most_edges
   pub ends : a.ends ≡ is_terminator i

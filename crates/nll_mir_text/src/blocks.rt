@@ -1,30 +1,32 @@
 //! Lines of the blocks, and the statements at points.
 
-ghost use Rattle.std.specs.Prelude.{◌≡◌, Some, IfOk, IfErr, OnOk};
+ghost use Rattle.std.specs.Prelude.{◌≡◌, Bool, Some, true, false, IfOk, IfErr, MatchOption, OnOk};
 ghost use Rattle.nll_mir_grammar.specs.MirForms as forms;
 ghost use Rattle.nll_mir_grammar.specs.Lines.{form_of};
-ghost use Rattle.nll_mir_text.specs.MirFaults.{first_fault};
 ghost use Rattle.nll_mir_grammar.specs.WrittenTypes.{Name, WrittenType};
-ghost use Rattle.nll_statements.specs.Kept.{statement_of};
-ghost use Rattle.nll_statements.specs.Statements.{Statement as written_statement};
-ghost use Rattle.nll_mir_text.specs.MirReading.{said_by, IsAdmitted, IsDue, IsReady};
-ghost use Rattle.nll_mir_text.specs.MirReading.{IsTaken, IsRefused};
-ghost use Rattle.nll_mir_text.specs.ResolvedLines.{IsPlaced};
-ghost use Rattle.nll_mir_text.specs.MirSteps.{statement_meant};
-ghost use Rattle.nll_mir_text.specs.ResolvedStatements.{as_resolved, AreExits, IsOfPoint};
 ghost use Rattle.nll_mir_grammar.specs.declared.line.Line.TheVariants as lines;
+ghost use Rattle.nll_statements.specs.Kept.{statement_of};
+ghost use Rattle.nll_statements.specs.Meant.{HasRows};
+ghost use Rattle.nll_statements.specs.Statements.{Statement as written_statement};
+ghost use Rattle.nll_mir_text.specs.MirFaults.{first_fault, is_in_order};
+ghost use Rattle.nll_mir_text.specs.MirReading.{said_by, scope_in, IsAdmitted, IsDue, IsReady};
+ghost use Rattle.nll_mir_text.specs.MirReading.{IsTaken, IsRefused};
+ghost use Rattle.nll_mir_text.specs.ResolvedLines.{IsGrown, IsPlaced};
+ghost use Rattle.nll_mir_text.specs.ResolvedStatements.{as_written, has_names};
+ghost use Rattle.nll_mir_text.specs.ResolvedStatements.{AreExits, IsOfPoint};
 
 use crate::groups::Group;
-use crate::next_point::{Admitted, JudgedPoint, add_point, judge_point};
+use crate::next_point::{Admitted, JudgedPoint, add_point};
 use crate::ranges::targets_are_blocks;
 use crate::reader::Reader;
 use crate::resolution::resolve_statement;
+use crate::tables::scope_in;
 use nll_format::TextKind;
 use nll_mir_grammar::TypeText;
-use nll_problem::{Kind, MAX_EDGES, MAX_POINTS, RegionId};
-use nll_resolve::ResolvedType;
+use nll_problem::{Kind, MAX_EDGES, MAX_POINTS};
 use nll_sets::Memory;
-use nll_statements::Statement;
+use nll_statements::{Statement, Stmt, judge_statement};
+use nll_types::Judgement;
 
 impl Reader {
     /// Begins a block.
@@ -36,7 +38,7 @@ impl Reader {
         if number as usize != self.points.starts.len() || number >= self.points.blocks {
             return Err(TextKind::Range);
         }
-        let start = self.points.count as u32;
+        let start = self.points.statements.len() as u32;
         self.points.starts.push(start)?;
         self.points.owes = true;
         self.reached = Group::Blocks;
@@ -58,19 +60,15 @@ impl Reader {
     }
 
     // What there is with a statement, unless it has a fault by what was judged of it.
-    fn admit_judged(
-        &self,
-        judged: JudgedPoint,
-        statement: &Statement<RegionId, ResolvedType>,
-    ) -> Result<Admitted, TextKind>
+    fn admit_judged(&self, judged: JudgedPoint, statement: &Stmt) -> Result<Admitted, TextKind>
         requires ready { IsReady self.now }
         requires exits { AreExits judged.exits (statement_of statement.now) }
         ensures admitted { IfOk result (λ a. (i : written_statement Name WrittenType)
-            → IsPlaced self.now i statement.now
+            (fits : Bool) → IsPlaced self.now i statement.now fits
             → IsOfPoint (said_by self.now) i judged.judgement
             → IsAdmitted (said_by self.now) i a self.now) }
         ensures refused { IfErr result (λ kind. (i : written_statement Name WrittenType)
-            → IsPlaced self.now i statement.now
+            (fits : Bool) → IsPlaced self.now i statement.now fits
             → IsOfPoint (said_by self.now) i judged.judgement
             → IsRefused (said_by self.now) (forms.at_point i) kind) }
     {
@@ -86,7 +84,7 @@ impl Reader {
         if !judged.judgement.small {
             return Err(TextKind::TypeSize);
         }
-        if self.points.count >= MAX_POINTS as usize {
+        if self.points.statements.len() >= MAX_POINTS as usize {
             return Err(TextKind::Limit(Kind::Points));
         }
         let edges = self.points.edges + judged.exits.edges;
@@ -99,29 +97,51 @@ impl Reader {
         })
     }
 
+    // Judges what is to be at the next point, the names in whose types have the arguments that they
+    // take or not, and finds how it goes on. The shapes of its types are in the table then.
+    fn judge(&mut self, statement: &Stmt, fits: bool) -> Result<JudgedPoint, Memory>
+        requires ready { IsReady self.old }
+        requires rows { HasRows self.old.variables.types.table.shapes
+            self.old.variables.types.regions.items (statement_of statement.now) }
+        ensures grown { IfOk result (λ _. IsGrown self.old self.new) }
+        ensures judged { IfOk result (λ j. (i : written_statement Name WrittenType)
+            → IsPlaced self.old i statement.now fits
+            → IsOfPoint (said_by self.old) i j.judgement
+            × IsPlaced self.new i statement.now fits) }
+        ensures exits { IfOk result (λ j. AreExits j.exits (statement_of statement.now)) }
+    {
+        let exits = statement.exits(self.alloc)?;
+        let (table, variables) = (&mut self.variables.types.table, &self.variables.typed);
+        let judged = judge_statement(self.alloc, table, variables.as_slice(), statement)?;
+        let judgement = Judgement {
+            fits: fits & judged.fits,
+            ..judged
+        };
+        Ok(JudgedPoint { judgement, exits })
+    }
+
     // Judges what is to be at the next point: what there is with it.
-    fn admit(&mut self, statement: &Statement<RegionId, ResolvedType>) -> Result<Admitted, TextKind>
-        requires { IsReady self.old }
+    fn admit(&mut self, statement: &Stmt, fits: bool) -> Result<Admitted, TextKind>
+        requires ready { IsReady self.old }
+        requires rows { HasRows self.old.variables.types.table.shapes
+            self.old.variables.types.regions.items (statement_of statement.now) }
         ensures admitted { IfOk result (λ a. (i : written_statement Name WrittenType)
-            → IsPlaced self.old i statement.now
-            → IsAdmitted (said_by self.old) i a self.new) }
+            → IsPlaced self.old i statement.now fits
+            → IsAdmitted (said_by self.old) i a self.new
+            × IsPlaced self.new i statement.now fits) }
         ensures refused { IfErr result (λ kind. (i : written_statement Name WrittenType)
-            → IsPlaced self.old i statement.now
+            → IsPlaced self.old i statement.now fits
             → IsRefused (said_by self.old) (forms.at_point i) kind) }
     {
-        let judged = judge_point(self.alloc, &mut self.variables, statement)?;
+        let judged = self.judge(statement, fits)?;
         self.admit_judged(judged, statement)
     }
 
     // Writes an admitted statement at the next point.
-    fn put(
-        &mut self,
-        statement: &Statement<RegionId, ResolvedType>,
-        admitted: Admitted,
-    ) -> Result<(), Memory>
-        ensures { OnOk result ((i : written_statement Name WrittenType)
+    fn put(&mut self, statement: Stmt, admitted: Admitted) -> Result<(), Memory>
+        ensures { OnOk result ((i : written_statement Name WrittenType) (fits : Bool)
             → IsAdmitted (said_by self.old) i admitted self.old
-            → as_resolved (statement_of statement.now) ≡ statement_meant (said_by self.old) i
+            → IsPlaced self.old i statement fits
             → IsTaken (said_by self.old) (forms.at_point i) self.new) }
     {
         add_point(&mut self.points, statement, admitted)?;
@@ -130,34 +150,43 @@ impl Reader {
     }
 
     // Adds the statement at the next point, over numbers, unless it has a fault.
-    fn add_judged(&mut self, statement: &Statement<RegionId, ResolvedType>) -> Result<(), TextKind>
-        requires { IsReady self.old }
+    fn add_resolved(&mut self, statement: Stmt, fits: bool) -> Result<(), TextKind>
+        requires ready { IsReady self.old }
+        requires rows { HasRows self.old.variables.types.table.shapes
+            self.old.variables.types.regions.items (statement_of statement) }
         ensures taken { OnOk result ((i : written_statement Name WrittenType)
-            → IsPlaced self.old i statement.now
+            → IsPlaced self.old i statement fits
             → IsTaken (said_by self.old) (forms.at_point i) self.new) }
         ensures refused { IfErr result (λ kind. (i : written_statement Name WrittenType)
-            → IsPlaced self.old i statement.now
+            → IsPlaced self.old i statement fits
             → IsRefused (said_by self.old) (forms.at_point i) kind) }
     {
-        let admitted = self.admit(statement)?;
-        self.put(statement, admitted)?;
-        Ok(())
+        match self.admit(&statement, fits) {
+            Ok(admitted) => Ok(self.put(statement, admitted)?),
+            Err(kind) => {
+                drop(statement);
+                Err(kind)
+            }
+        }
     }
 
-    // Adds the statement at the next point, over numbers.
-    fn add_resolved(&mut self, statement: Statement<RegionId, ResolvedType>) -> Result<(), TextKind>
-        requires { IsReady self.old }
-        ensures taken { OnOk result ((i : written_statement Name WrittenType)
-            → IsPlaced self.old i statement
-            → IsTaken (said_by self.old) (forms.at_point i) self.new) }
-        ensures refused { IfErr result (λ kind. (i : written_statement Name WrittenType)
-            → IsPlaced self.old i statement
-            → IsRefused (said_by self.old) (forms.at_point i) kind) }
+    // The statement of a line over numbers, where each name in it is declared.
+    fn resolve(
+        &mut self,
+        statement: Statement<&[u8], TypeText<'_>>,
+        fits: &mut bool,
+    ) -> Result<Option<Stmt>, Memory>
+        requires ready { IsReady self.old }
+        requires order { is_in_order (said_by self.old) (form_of (lines.At statement)) ≡ true }
+        requires fitting { fits.old ≡ true }
+        ensures grown { IfOk result (λ _. IsGrown self.old self.new) }
+        ensures resolved { IfOk result (λ o. MatchOption o
+            (has_names (scope_in self.old.regions self.old.structs)
+            (as_written statement.entry) ≡ false)
+            (λ i. IsPlaced self.new (as_written statement.entry) i fits.new)) }
     {
-        let taken = self.add_judged(&statement);
-        // Early drop.
-        drop(statement);
-        taken
+        let scope = scope_in(&self.regions, &self.structs);
+        resolve_statement(self.alloc, &scope, statement, &mut self.variables.types, fits)
     }
 
     /// Adds the statement at the next point.
@@ -171,8 +200,9 @@ impl Reader {
         ensures refused { IfErr result
             (IsRefused (said_by self.old) (form_of (lines.At statement.entry))) }
     {
-        match resolve_statement(self.alloc, &self.regions, &self.structs, statement)? {
-            Some(resolved) => self.add_resolved(resolved),
+        let mut fits = true;
+        match self.resolve(statement, &mut fits)? {
+            Some(resolved) => self.add_resolved(resolved, fits),
             None => Err(TextKind::Unknown),
         }
     }

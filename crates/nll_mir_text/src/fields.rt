@@ -1,19 +1,20 @@
 //! The fields of a struct: judging them, and making their types.
 
-ghost use Rattle.std.specs.Prelude.{◌≡◌, ◌<◌, ◌^◌, ◌++◌, true, false, length, map, IfOk, OnOk};
+ghost use Rattle.std.specs.Prelude.{◌≡◌, ◌<◌, ◌^◌, ◌&&◌, ◌++◌, true, false, length, map, IfOk, OnOk};
 ghost use Rattle.std.specs.Prelude.{MatchOption};
 ghost use Rattle.std.specs.List.{list_all};
 ghost use Rattle.nll_types.specs.Shapes.{is_small_shape, tuple_shape, shapes_of};
 ghost use Rattle.nll_types.specs.Table.{AreBelow, shape_in};
-ghost use Rattle.nll_types.specs.Tables.{AddsShapes};
+ghost use Rattle.nll_types.specs.Grown.{AddsTypes};
+ghost use Rattle.nll_types.specs.Rows.{tree_at};
 ghost use Rattle.nll_types.specs.Types.{TypeTrees, tuple};
 ghost use Rattle.nll_types.specs.Views.{tree, trees};
 ghost use Rattle.nll_mir_grammar.specs.TypeTexts.{written};
 ghost use Rattle.nll_mir_grammar.specs.WrittenTypes.{WrittenType};
 ghost use Rattle.nll_mir_grammar.specs.Lines.{parameter_of};
 ghost use Rattle.nll_mir_grammar.specs.Tuples.{IsTuple, parts};
-ghost use Rattle.nll_resolve.specs.Naming.{Scope as naming_scope, is_known};
-ghost use Rattle.nll_resolve.specs.Resolution.{IsResolved, tree_of};
+ghost use Rattle.nll_resolve.specs.Naming.{Scope as naming_scope, has_arguments, is_known};
+ghost use Rattle.nll_resolve.specs.Resolution.{IsResolved};
 ghost use Rattle.nll_mir_text.specs.StructLines.{regions_in, types_in};
 ghost use Rattle.nll_statements.specs.Typing as typing;
 ghost use Rattle.nll_mir_text.specs.StructLines.{AreJudged, own_scope, region_marks, type_marks};
@@ -22,9 +23,9 @@ use crate::own_names::OwnNames;
 use crate::parameters::push_marks;
 use crate::tables::StructNames;
 use nll_mir_grammar::{ParameterText, StructText, TypeText};
-use nll_resolve::{ResolvedType, Scope, resolve};
+use nll_resolve::{Scope, resolve};
 use nll_sets::Memory;
-use nll_types::{Declaration, Node, Shapes, Ty, TypeTable};
+use nll_types::{BodyTypes, Declaration, Node, Shapes, Ty, Typed};
 use std::alloc::Global;
 
 /// What is judged of the fields of a struct.
@@ -61,17 +62,23 @@ fn has_small_parts(shapes: &Shapes, shape: usize) -> bool
     }
 }
 
-/// The fields of a struct, as a tuple, where each name in them is known.
+/// The fields of a struct, as a tuple, where each name in them is known. The flag stays true where
+/// each name in them has arguments of the kinds that it takes.
 pub fn resolve_fields(
     alloc: Global,
     own: &OwnNames,
     structs: &StructNames,
     fields: &TypeText<'_>,
-) -> Result<Option<ResolvedType>, Memory>
+    types: &mut BodyTypes,
+    fits: &mut bool,
+) -> Result<Option<Typed>, Memory>
     requires { length own.now.regions < 2 ^ 32 }
-    ensures { IfOk result (λ o. MatchOption o
+    ensures adds { IfOk result (λ _. AddsTypes types.old types.new) }
+    ensures fits { IfOk result (λ _. fits.new
+        ≡ (fits.old && has_arguments (own_scope own.now structs.now) (written fields.now))) }
+    ensures resolved { IfOk result (λ o. MatchOption o
         (is_known (own_scope own.now structs.now) (written fields.now) ≡ false)
-        (IsResolved (own_scope own.now structs.now) (written fields.now))) }
+        (IsResolved (own_scope own.now structs.now) (written fields.now) types.new)) }
 {
     let scope = Scope {
         regions: &own.regions,
@@ -79,25 +86,19 @@ pub fn resolve_fields(
         structs: &structs.names,
         kinds: structs.kinds.as_slice(),
     };
-    resolve(alloc, &scope, fields)
+    resolve(alloc, &scope, fields, types, fits)
 }
 
-/// Judges the fields of a struct, and adds their shapes to the table.
-pub fn judge_fields(
-    alloc: Global,
-    table: &mut TypeTable,
-    fields: &ResolvedType,
-) -> Result<JudgedFields, Memory>
-    ensures grows { AddsShapes table.old table.new }
-    ensures judged { IfOk result (λ j. (s : naming_scope) (t : WrittenType) → IsTuple t
-        → IsResolved s t fields.now → AreJudged s (parts t) j) }
+/// Judges the fields of a struct, a tuple by number, in which names have the arguments that they
+/// take or not.
+pub fn judge_fields(types: &BodyTypes, fields: Typed, fits: bool) -> JudgedFields
+    requires { fields.shape < length types.now.table.shapes }
+    ensures { (s : naming_scope) (t : WrittenType) → IsTuple t
+        → IsResolved s t types.now fields → fits ≡ has_arguments s t
+        → AreJudged s (parts t) result }
 {
-    let shape = fields.shape(alloc, table)?;
-    let small = has_small_parts(table.shapes(), shape);
-    Ok(JudgedFields {
-        fits: fields.fits(),
-        small,
-    })
+    let small = has_small_parts(types.table.shapes(), fields.shape);
+    JudgedFields { fits, small }
 }
 
 // The parts of a tuple.
@@ -108,15 +109,6 @@ fn parts_of(alloc: Global, ty: Ty) -> Vec<Ty>
         Ty::Tuple(parts) => parts,
         _ => Vec::new(alloc),
     }
-}
-
-// The types of the fields of a struct. It recurses to their depth.
-fn fields_meant(alloc: Global, fields: &ResolvedType) -> Result<Vec<Ty>, Memory>
-    ensures { IfOk result (λ v. (ts : TypeTrees) → tree_of fields.now ≡ tuple ts
-        → trees v.items ≡ ts) }
-{
-    let ty = fields.ty(alloc)?;
-    Ok(parts_of(alloc, ty))
 }
 
 // What is declared by parameters, with these types of fields.
@@ -148,12 +140,14 @@ fn declared_with(
     }
 }
 
-/// What a struct line declares, whose fields are resolved.
+/// What a struct line declares, whose fields are a tuple of this number.
 pub fn declaration(
     alloc: Global,
     text: &StructText<'_>,
-    fields: &ResolvedType,
+    types: &BodyTypes,
+    fields: Typed,
 ) -> Result<Declaration, Memory>
+    requires { fields.shape < length types.now.table.shapes }
     ensures regions { IfOk result (λ d.
         d.regions.items ≡ map (λ p. p.1)
         (regions_in (map parameter_of text.now.parameters.items))) }
@@ -161,9 +155,10 @@ pub fn declaration(
         d.types.items ≡ map (λ p. p.1)
         (types_in (map parameter_of text.now.parameters.items))) }
     ensures has_drop { IfOk result (λ d. d.has_drop ≡ text.now.has_drop) }
-    ensures fields { IfOk result (λ d. (ts : TypeTrees) → tree_of fields.now ≡ tuple ts
+    ensures fields { IfOk result (λ d. (ts : TypeTrees)
+        → tree_at types.now.table.shapes types.now.regions.items fields ≡ tuple ts
         → trees d.fields.items ≡ ts) }
 {
-    let fields = fields_meant(alloc, fields)?;
+    let fields = parts_of(alloc, types.tree(alloc, fields)?);
     declared_with(alloc, text.parameters.as_slice(), text.has_drop, fields)
 }

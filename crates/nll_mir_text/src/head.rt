@@ -1,8 +1,8 @@
 //! Lines of the head: regions, structs, variables, and how many blocks there must be.
 
-ghost use Rattle.std.specs.Prelude.{◌≡◌, map, Some, None, true, false};
-ghost use Rattle.std.specs.Prelude.{IfOk, IfErr, OnOk, OnErr};
-ghost use Rattle.nll_resolve.specs.Naming.{is_among};
+ghost use Rattle.std.specs.Prelude.{◌≡◌, ◌<◌, ◌^◌, length, map, Some, None, true, false};
+ghost use Rattle.std.specs.Prelude.{IfOk, IfErr, MatchOption, OnOk, OnErr};
+ghost use Rattle.nll_resolve.specs.Naming.{has_arguments, is_among, is_known};
 ghost use Rattle.nll_resolve.specs.Resolution.{IsResolved};
 ghost use Rattle.nll_format.specs.Names.{number_of};
 ghost use Rattle.nll_mir_grammar.specs.TypeTexts.{written};
@@ -11,26 +11,25 @@ ghost use Rattle.nll_mir_grammar.specs.MirForms as forms;
 ghost use Rattle.nll_mir_grammar.specs.Lines.{parameter_of};
 ghost use Rattle.nll_mir_grammar.specs.Tuples.{IsTuple, parts};
 ghost use Rattle.nll_mir_text.specs.MirFaults.{first_fault, is_universal};
-ghost use Rattle.nll_mir_text.specs.MirReading.{said_by, IsReady};
+ghost use Rattle.nll_mir_text.specs.MirReading.{said_by, scope_in, IsReady};
 ghost use Rattle.nll_mir_text.specs.MirReading.{IsDue, IsTaken, IsRefused};
 ghost use Rattle.nll_mir_text.specs.MirReading.{struct_form};
 ghost use Rattle.nll_mir_text.specs.StructLines.{AreJudged, AreOwn, own_scope};
-ghost use Rattle.nll_mir_text.specs.ResolvedLines.{IsOfVariable};
-ghost use Rattle.nll_mir_text.specs.ResolvedStatements.{IsOfType};
+ghost use Rattle.nll_mir_text.specs.ResolvedLines.{IsGrown, IsOfVariable};
 
 use crate::fields::{JudgedFields, declaration, judge_fields, resolve_fields};
 use crate::groups::Group;
-use crate::judged_type::{JudgedType, judge_type};
 use crate::limits::{MAX_STRUCTS, MAX_VARIABLES};
 use crate::own_names::{OwnNames, gather_names, redeclares};
 use crate::parameters::kinds;
 use crate::reader::Reader;
-use crate::resolution::resolve_type;
+use crate::tables::scope_in;
 use nll_format::TextKind;
 use nll_mir_grammar::{StructText, TypeText};
 use nll_problem::{Kind, MAX_POINTS, MAX_REGIONS, MAX_UNIVERSALS};
-use nll_resolve::ResolvedType;
+use nll_resolve::resolve;
 use nll_sets::Memory;
+use nll_types::Typed;
 
 impl Reader {
     /// Adds a universal region.
@@ -148,6 +147,26 @@ impl Reader {
         Ok(())
     }
 
+    // The type of a variable, where each name in it is declared.
+    fn resolve_variable(
+        &mut self,
+        text: &TypeText<'_>,
+        fits: &mut bool,
+    ) -> Result<Option<Typed>, Memory>
+        requires ready { IsReady self.old }
+        requires fitting { fits.old ≡ true }
+        ensures grown { IfOk result (λ _. IsGrown self.old self.new) }
+        ensures fits { IfOk result (λ _. fits.new ≡ has_arguments
+            (scope_in self.old.regions self.old.structs) (written text.now)) }
+        ensures resolved { IfOk result (λ o. MatchOption o
+            (is_known (scope_in self.old.regions self.old.structs) (written text.now) ≡ false)
+            (IsResolved (scope_in self.new.regions self.new.structs) (written text.now)
+            self.new.variables.types)) }
+    {
+        let scope = scope_in(&self.regions, &self.structs);
+        resolve(self.alloc, &scope, text, &mut self.variables.types, fits)
+    }
+
     /// Declares a variable.
     pub(crate) fn add_variable(&mut self, number: u32, text: &TypeText<'_>) -> Result<(), TextKind>
         requires { IsDue self.old (forms.variable number (written text.now)) }
@@ -156,60 +175,42 @@ impl Reader {
         ensures refused { IfErr result
             (IsRefused (said_by self.old) (forms.variable number (written text.now))) }
     {
-        match resolve_type(self.alloc, &self.regions, &self.structs, text)? {
-            Some(ty) => {
-                let taken = self.add_resolved_variable(number, &ty);
-                // Early drop.
-                drop(ty);
-                taken
-            }
+        let mut fits = true;
+        match self.resolve_variable(text, &mut fits)? {
+            Some(ty) => self.add_resolved_variable(number, ty, fits),
             None => Err(TextKind::Unknown),
         }
     }
 
-    // Declares a variable whose type is resolved.
-    fn add_resolved_variable(&mut self, number: u32, ty: &ResolvedType) -> Result<(), TextKind>
-        requires { IsReady self.old }
-        ensures taken { OnOk result ((t : WrittenType) → IsOfVariable self.old number t ty.now
-            → IsTaken (said_by self.old) (forms.variable number t) self.new) }
-        ensures refused { IfErr result (λ kind. (t : WrittenType)
-            → IsOfVariable self.old number t ty.now
-            → IsRefused (said_by self.old) (forms.variable number t) kind) }
-    {
-        let judged = judge_type(self.alloc, &mut self.variables.table, ty)?;
-        self.add_judged_variable(number, ty, judged)
-    }
-
-    // Declares a variable whose type is judged.
-    fn add_judged_variable(
+    // Declares a variable of this type, the names in which have the arguments that they take or
+    // not.
+    fn add_resolved_variable(
         &mut self,
         number: u32,
-        ty: &ResolvedType,
-        judged: JudgedType,
+        ty: Typed,
+        fits: bool,
     ) -> Result<(), TextKind>
         requires ready { IsReady self.old }
-        requires judged { IsOfType self.old.variables.table.shapes ty.now judged }
-        ensures taken { OnOk result ((t : WrittenType) → IsOfVariable self.old number t ty.now
+        requires within { ty.shape < length self.old.variables.types.table.shapes }
+        ensures taken { OnOk result ((t : WrittenType) → IsOfVariable self.old number t ty fits
             → IsTaken (said_by self.old) (forms.variable number t) self.new) }
         ensures refused { IfErr result (λ kind. (t : WrittenType)
-            → IsOfVariable self.old number t ty.now
+            → IsOfVariable self.old number t ty fits
             → IsRefused (said_by self.old) (forms.variable number t) kind) }
     {
-        if number as usize != self.variables.types.len() {
+        if number as usize != self.variables.typed.len() {
             return Err(TextKind::Range);
         }
-        if !ty.fits() {
+        if !fits {
             return Err(TextKind::Shape);
         }
-        if !judged.small {
+        if !self.variables.types.table.shapes().is_small(ty.shape) {
             return Err(TextKind::TypeSize);
         }
-        if self.variables.types.len() >= MAX_VARIABLES {
+        if self.variables.typed.len() >= MAX_VARIABLES {
             return Err(TextKind::Limit(Kind::Variables));
         }
-        let ty = ty.ty(self.alloc)?;
-        self.variables.types.push(ty)?;
-        self.variables.shapes.push(judged.shape)?;
+        self.variables.typed.push(ty)?;
         self.reached = Group::Variables;
         Ok(())
     }
@@ -227,6 +228,30 @@ impl Reader {
         taken
     }
 
+    // The fields of a struct, as a tuple, where each name in them is known.
+    fn resolve_struct(
+        &mut self,
+        own: &OwnNames,
+        text: &StructText<'_>,
+        fits: &mut bool,
+    ) -> Result<Option<Typed>, Memory>
+        requires ready { IsReady self.old }
+        requires own { length own.now.regions < 2 ^ 32 }
+        requires fitting { fits.old ≡ true }
+        ensures grown { IfOk result (λ _. IsGrown self.old self.new) }
+        ensures structs { IfOk result (λ _. self.new.structs ≡ self.old.structs) }
+        ensures fits { IfOk result (λ _. fits.new ≡ has_arguments
+            (own_scope own.now self.old.structs) (written text.now.fields)) }
+        ensures resolved { IfOk result (λ o. MatchOption o
+            (is_known (own_scope own.now self.old.structs) (written text.now.fields) ≡ false)
+            (IsResolved (own_scope own.now self.old.structs) (written text.now.fields)
+            self.new.variables.types)) }
+    {
+        let fields = text.fields.as_type();
+        let types = &mut self.variables.types;
+        resolve_fields(self.alloc, own, &self.structs, fields, types, fits)
+    }
+
     // Declares a struct with these names of its own.
     fn add_named_struct(&mut self, own: &OwnNames, text: &StructText<'_>) -> Result<(), TextKind>
         requires due { IsDue self.old (struct_form text.now) }
@@ -234,34 +259,33 @@ impl Reader {
         ensures taken { OnOk result (IsTaken (said_by self.old) (struct_form text.now) self.new) }
         ensures refused { IfErr result (IsRefused (said_by self.old) (struct_form text.now)) }
     {
-        let fields = text.fields.as_type();
-        match resolve_fields(self.alloc, own, &self.structs, fields)? {
-            Some(fields) => {
-                let taken = self.add_resolved_struct(own, text, &fields);
-                // Early drop.
-                drop(fields);
-                taken
-            }
+        let mut fits = true;
+        match self.resolve_struct(own, text, &mut fits)? {
+            Some(fields) => self.add_resolved_struct(own, text, fields, fits),
             None => Err(TextKind::Unknown),
         }
     }
 
-    // Declares a struct whose fields are resolved.
+    // Declares a struct whose fields are a tuple of this number, the names in which have the
+    // arguments that they take or not.
     fn add_resolved_struct(
         &mut self,
         own: &OwnNames,
         text: &StructText<'_>,
-        fields: &ResolvedType,
+        fields: Typed,
+        fits: bool,
     ) -> Result<(), TextKind>
         requires due { IsDue self.old (struct_form text.now) }
         requires own { AreOwn (map parameter_of text.now.parameters.items) own.now }
         requires fields { IsResolved (own_scope own.now self.old.structs)
-            (written text.now.fields) fields.now }
+            (written text.now.fields) self.old.variables.types fields }
+        requires fits { fits ≡ has_arguments (own_scope own.now self.old.structs)
+            (written text.now.fields) }
         requires tuple { IsTuple (written text.now.fields) }
         ensures taken { OnOk result (IsTaken (said_by self.old) (struct_form text.now) self.new) }
         ensures refused { IfErr result (IsRefused (said_by self.old) (struct_form text.now)) }
     {
-        let judged = judge_fields(self.alloc, &mut self.variables.table, fields)?;
+        let judged = judge_fields(&self.variables.types, fields, fits);
         self.add_judged_struct(own, text, fields, judged)
     }
 
@@ -270,13 +294,13 @@ impl Reader {
         &mut self,
         own: &OwnNames,
         text: &StructText<'_>,
-        fields: &ResolvedType,
+        fields: Typed,
         judged: JudgedFields,
     ) -> Result<(), TextKind>
         requires due { IsDue self.old (struct_form text.now) }
         requires own { AreOwn (map parameter_of text.now.parameters.items) own.now }
         requires fields { IsResolved (own_scope own.now self.old.structs)
-            (written text.now.fields) fields.now }
+            (written text.now.fields) self.old.variables.types fields }
         requires tuple { IsTuple (written text.now.fields) }
         requires judged { AreJudged (own_scope own.now self.old.structs)
             (parts (written text.now.fields)) judged }
@@ -309,19 +333,22 @@ impl Reader {
         &mut self,
         own: &OwnNames,
         text: &StructText<'_>,
-        fields: &ResolvedType,
+        fields: Typed,
     ) -> Result<(), Memory>
         requires due { IsDue self.old (struct_form text.now) }
         requires own { AreOwn (map parameter_of text.now.parameters.items) own.now }
         requires fields { IsResolved (own_scope own.now self.old.structs)
-            (written text.now.fields) fields.now }
+            (written text.now.fields) self.old.variables.types fields }
         requires tuple { IsTuple (written text.now.fields) }
         requires fine { first_fault (said_by self.old) (struct_form text.now) ≡ None }
         ensures { OnOk result (IsTaken (said_by self.old) (struct_form text.now) self.new) }
     {
         let parameters = text.parameters.as_slice();
-        let declaration = declaration(self.alloc, text, fields)?;
-        self.variables.table.declare(self.alloc, declaration)?;
+        let declaration = declaration(self.alloc, text, &self.variables.types, fields)?;
+        self.variables
+            .types
+            .table
+            .declare(self.alloc, declaration)?;
         let kinds = kinds(self.alloc, parameters)?;
         self.structs.add(self.alloc, text.name, kinds)?;
         self.reached = Group::Structs;

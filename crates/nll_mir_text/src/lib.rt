@@ -8,7 +8,6 @@ mod fields;
 mod groups;
 mod head;
 mod header;
-mod judged_type;
 mod laws;
 mod limits;
 mod mir;
@@ -18,7 +17,6 @@ mod parameters;
 mod ranges;
 mod reader;
 mod resolution;
-mod shapes;
 mod tables;
 mod text;
 

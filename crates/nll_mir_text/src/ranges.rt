@@ -5,9 +5,7 @@ ghost use Rattle.std.specs.List.{list_all};
 ghost use Rattle.nll_statements.specs.Effects.{other_block, targets};
 ghost use Rattle.nll_statements.specs.Kept.{statement_of};
 
-use nll_problem::RegionId;
-use nll_resolve::ResolvedType;
-use nll_statements::Statement;
+use nll_statements::{Statement, Stmt};
 
 // Whether a number is below an end.
 fn is_below(number: u32, end: usize) -> bool
@@ -39,7 +37,7 @@ fn exits_are_blocks(count: usize, block: u32, unwind: Option<u32>) -> bool
 }
 
 /// Whether the blocks to which a statement goes on are among the first this many.
-pub fn targets_are_blocks(count: u32, statement: &Statement<RegionId, ResolvedType>) -> bool
+pub fn targets_are_blocks(count: u32, statement: &Stmt) -> bool
     ensures { result ≡ list_all (λ x. nat_lt x count) (targets (statement_of statement.now)) }
 {
     let count = count as usize;

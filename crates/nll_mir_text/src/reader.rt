@@ -2,14 +2,13 @@
 
 ghost use Rattle.std.specs.Prelude.{◌≡◌, ◌↔◌, List, [], false, IsTrue, IfOk, IfErr, OnOk};
 ghost use Rattle.nll_mir_grammar.specs.MirForms.{Form};
-ghost use Rattle.nll_types.specs.Declarations.{structs_of};
 ghost use Rattle.nll_mir_grammar.specs.Lines.{form_of};
 ghost use Rattle.nll_mir_text.specs.MirFaults as faults;
 ghost use Rattle.nll_mir_text.specs.MirFaults.{is_in_order};
 ghost use Rattle.nll_mir_text.specs.MirSteps as steps;
 ghost use Rattle.nll_mir_text.specs.MirReading.{said_by, HoldsForms, IsReady, HasTexts};
 ghost use Rattle.nll_mir_text.specs.MirReading.{HasFewParameters, IsDue, IsTaken, IsRefused};
-ghost use Rattle.nll_body.specs.Parts.{body_of};
+ghost use Rattle.nll_body.specs.Parts.{AreTyped, body_of};
 ghost use Rattle.nll_mir_text.specs.MirText.{body_said, mir};
 
 use crate::groups::{Group, group_of};
@@ -19,8 +18,7 @@ use nll_body::BodyParts;
 use nll_format::{LineReader, Names, TextKind, pass_over};
 use nll_mir_grammar::{Line, Version, line_of};
 use nll_sets::Memory;
-use nll_statement_list::StatementList;
-use nll_types::{Structs, Ty, TypeTable};
+use nll_types::BodyTypes;
 use std::alloc::Global;
 
 /// What the lines read so far say.
@@ -38,16 +36,14 @@ pub struct Reader {
 fn no_points(alloc: Global) -> Points
     ensures blocks { result.blocks ≡ 0 }
     ensures starts { result.starts.items ≡ [] }
-    ensures statements { result.statements ≡ [] }
-    ensures count { result.count ≡ 0 }
+    ensures statements { result.statements.items ≡ [] }
     ensures edges { result.edges ≡ 0 }
     ensures owes { result.owes ≡ false }
 {
     Points {
         blocks: 0,
         starts: Vec::new(alloc),
-        statements: StatementList::new(alloc),
-        count: 0,
+        statements: Vec::new(alloc),
         edges: 0,
         owes: false,
     }
@@ -58,14 +54,6 @@ fn names_of(regions: Regions) -> Names
     ensures { result ≡ regions.names }
 {
     regions.names
-}
-
-// The structs and the types of the variables.
-fn declarations(variables: Variables) -> (Structs, Vec<Ty>)
-    ensures structs { structs_of result.0 ≡ structs_of variables.table.structs }
-    ensures types { result.1 ≡ variables.types }
-{
-    (variables.table.into_structs(), variables.types)
 }
 
 impl Reader {
@@ -91,9 +79,8 @@ impl Reader {
                 none: Names::empty(alloc),
             },
             variables: Variables {
-                table: TypeTable::new(alloc),
-                types: Vec::new(alloc),
-                shapes: Vec::new(alloc),
+                types: BodyTypes::new(alloc),
+                typed: Vec::new(alloc),
             },
             points: no_points(alloc),
         })
@@ -192,7 +179,8 @@ impl Reader {
         requires ready { IsReady self }
         requires outlives { outlives.items ≡ (said_by self).outlives }
         requires asserts { asserts.items ≡ (said_by self).asserts }
-        ensures { body_of result ≡ body_said (said_by self) }
+        ensures body { body_of result ≡ body_said (said_by self) }
+        ensures typed { AreTyped result }
     {
         let Reader {
             regions,
@@ -203,14 +191,13 @@ impl Reader {
         } = self;
         drop(structs);
         let universals = regions.universals as u32;
-        let (structs, variables) = declarations(variables);
         BodyParts {
             names: names_of(regions),
             universals,
             outlives,
             asserts,
-            structs,
-            variables,
+            types: variables.types,
+            variables: variables.typed,
             starts: points.starts,
             points: points.statements,
         }

@@ -1,54 +1,31 @@
 //! Resolving the names in a statement, once each: regions and types become numbers.
 
-ghost use Rattle.std.specs.Prelude.{◌≡◌, ◌⊎◌, ◌≤◌, ◌++◌, length, map, true, false, Some, None, [], ◌∷◌};
-ghost use Rattle.std.specs.Prelude.{IfOk, IfSome, MatchOption, Ok};
+ghost use Rattle.std.specs.Prelude.{◌≡◌, ◌⊎◌, ◌<◌, ◌^◌, ◌&&◌, ◌++◌, length, map, true, false, Some, None, [], ◌∷◌};
+ghost use Rattle.std.specs.Prelude.{IfOk, MatchOption, Ok};
 ghost use Rattle.std.specs.List.{list_all};
-ghost use Rattle.nll_problem.specs.Limits.{most_regions};
 ghost use Rattle.nll_format.specs.Names.{number_of};
 ghost use Rattle.nll_mir_grammar.specs.TypeTexts.{written};
 ghost use Rattle.nll_statements.specs.Kept.{call_of, statement_of};
-ghost use Rattle.nll_statements.specs.Statements.{map_statement};
-ghost use Rattle.nll_resolve.specs.Naming.{is_among, is_known};
-ghost use Rattle.nll_resolve.specs.Resolution.{IsResolved};
-ghost use Rattle.nll_mir_text.specs.MirReading.{scope_in};
+ghost use Rattle.nll_statements.specs.Statements.{map_statement, types_written};
+ghost use Rattle.nll_types.specs.Grown.{AddsTypes};
+ghost use Rattle.nll_resolve.specs.Naming.{has_arguments, is_among, is_known};
+ghost use Rattle.nll_resolve.specs.Resolution.{HasRoom, IsResolved, scope_of};
 ghost use Rattle.nll_mir_text.specs.ResolvedStatements.{as_written, has_names, is_bound, bound_numbers};
 ghost use Rattle.nll_mir_text.specs.ResolvedStatements.{AreOfArguments, IsOfStatement};
+ghost use Rattle.nll_mir_text.specs.ResolvedStatements.{FitOf, MadeOf};
 
-use crate::tables::{Regions, StructNames};
 use nll_format::Names;
 use nll_mir_grammar::TypeText;
 use nll_problem::RegionId;
-use nll_resolve::{ResolvedType, Scope, resolve};
+use nll_resolve::{Scope, resolve};
 use nll_sets::Memory;
-use nll_statements::{Call, Make, Statement};
-use nll_types::{Operand, Place};
+use nll_statements::{Call, Make, Statement, Stmt};
+use nll_types::{BodyTypes, Operand, Place, Typed};
 use std::alloc::Global;
-
-/// A type of a variable or of a statement, where each name in it is declared.
-pub fn resolve_type(
-    alloc: Global,
-    regions: &Regions,
-    structs: &StructNames,
-    text: &TypeText<'_>,
-) -> Result<Option<ResolvedType>, Memory>
-    requires none { structs.now.none ≡ [] }
-    requires few { length regions.now.names ≤ most_regions }
-    ensures { IfOk result (λ o. MatchOption o
-        (is_known (scope_in regions.now structs.now) (written text.now) ≡ false)
-        (IsResolved (scope_in regions.now structs.now) (written text.now))) }
-{
-    let scope = Scope {
-        regions: &regions.names,
-        parameters: &structs.none,
-        structs: &structs.names,
-        kinds: structs.kinds.as_slice(),
-    };
-    resolve(alloc, &scope, text)
-}
 
 // The number of a region, where its name is declared.
 fn resolve_region(names: &Names, name: &[u8]) -> Option<RegionId>
-    requires { length names.now ≤ most_regions }
+    requires { length names.now < 2 ^ 32 }
     ensures { MatchOption result (is_among names.now name.now ≡ false)
         (λ r. (is_among names.now name.now ≡ true) × (r ≡ number_of names.now name.now)) }
 {
@@ -60,7 +37,7 @@ fn resolve_region(names: &Names, name: &[u8]) -> Option<RegionId>
 
 // The numbers of a bound's regions, where both names are declared.
 fn resolve_bound(names: &Names, bound: &(&[u8], &[u8])) -> Option<(RegionId, RegionId)>
-    requires { length names.now ≤ most_regions }
+    requires { length names.now < 2 ^ 32 }
     ensures { MatchOption result (is_bound names.now bound.now ≡ false)
         (λ w. (is_bound names.now bound.now ≡ true) × (w ≡ bound_numbers names.now bound.now)) }
 {
@@ -79,7 +56,7 @@ fn push_bounds(
     bounds: &[(&[u8], &[u8])],
     made: &mut Vec<(RegionId, RegionId)>,
 ) -> Result<bool, Memory>
-    requires { length names.now ≤ most_regions }
+    requires { length names.now < 2 ^ 32 }
     ensures known { IfOk result (λ known. known ≡ list_all (is_bound names.now) bounds.now) }
     ensures made { IfOk result (λ known. known ≡ true
         → made.new.items ≡ made.old.items ++ map (bound_numbers names.now) bounds.now) }
@@ -99,7 +76,7 @@ fn resolve_bounds(
     names: &Names,
     bounds: &[(&[u8], &[u8])],
 ) -> Result<Option<Vec<(RegionId, RegionId)>>, Memory>
-    requires { length names.now ≤ most_regions }
+    requires { length names.now < 2 ^ 32 }
     ensures { IfOk result (λ o. MatchOption o
         (list_all (is_bound names.now) bounds.now ≡ false)
         (λ v. (list_all (is_bound names.now) bounds.now ≡ true)
@@ -110,22 +87,25 @@ fn resolve_bounds(
     if known { Ok(Some(made)) } else { Ok(None) }
 }
 
-// An argument of a call, where each name in its type is declared. Only its type is made again.
+// An argument of a call, where each name in its type is declared. Its operand is moved.
 fn resolve_argument(
     alloc: Global,
-    regions: &Regions,
-    structs: &StructNames,
+    scope: &Scope<'_>,
     argument: (Operand, TypeText<'_>),
-) -> Result<Option<(Operand, ResolvedType)>, Memory>
-    requires none { structs.now.none ≡ [] }
-    requires few { length regions.now.names ≤ most_regions }
-    ensures { IfOk result (λ o. MatchOption o
-        (is_known (scope_in regions.now structs.now) (written argument.entry.1) ≡ false)
+    types: &mut BodyTypes,
+    fits: &mut bool,
+) -> Result<Option<(Operand, Typed)>, Memory>
+    requires { HasRoom scope.now }
+    ensures adds { IfOk result (λ _. AddsTypes types.old types.new) }
+    ensures fits { IfOk result (λ _. fits.new
+        ≡ (fits.old && has_arguments (scope_of scope.now) (written argument.entry.1))) }
+    ensures resolved { IfOk result (λ o. MatchOption o
+        (is_known (scope_of scope.now) (written argument.entry.1) ≡ false)
         (λ a. (a.0 ≡ argument.entry.0)
-        × IsResolved (scope_in regions.now structs.now) (written argument.entry.1) a.1)) }
+        × IsResolved (scope_of scope.now) (written argument.entry.1) types.new a.1)) }
 {
     let (operand, text) = argument;
-    let ty = resolve_type(alloc, regions, structs, &text);
+    let ty = resolve(alloc, scope, &text, types, fits);
     // Early drop.
     drop(text);
     match ty {
@@ -144,23 +124,26 @@ fn resolve_argument(
 // Appends the arguments of a call. Answers whether all names in their types are declared.
 fn push_arguments(
     alloc: Global,
-    regions: &Regions,
-    structs: &StructNames,
+    scope: &Scope<'_>,
     arguments: Vec<(Operand, TypeText<'_>)>,
-    made: &mut Vec<(Operand, ResolvedType)>,
+    types: &mut BodyTypes,
+    fits: &mut bool,
+    made: &mut Vec<(Operand, Typed)>,
 ) -> Result<bool, Memory>
-    requires none { structs.now.none ≡ [] }
-    requires few { length regions.now.names ≤ most_regions }
+    requires room { HasRoom scope.now }
     requires empty { made.old.items ≡ [] }
+    ensures adds { IfOk result (λ _. AddsTypes types.old types.new) }
     ensures unknown { IfOk result (λ known. known ≡ false
-        → list_all (λ a. is_known (scope_in regions.now structs.now) (written a.1))
-        arguments.entry.items ≡ false) }
+        → list_all (λ a. is_known (scope_of scope.now) (written a.1)) arguments.entry.items
+        ≡ false) }
     ensures made { IfOk result (λ known. known ≡ true
-        → AreOfArguments (scope_in regions.now structs.now) arguments.entry.items
-        made.new.items) }
+        → AreOfArguments (scope_of scope.now) arguments.entry.items types.new made.new.items) }
+    ensures fits { IfOk result (λ known. known ≡ true → fits.new ≡ (fits.old
+        && list_all (λ a. has_arguments (scope_of scope.now) (written a.1))
+        arguments.entry.items)) }
 {
     for argument in arguments {
-        match resolve_argument(alloc, regions, structs, argument)? {
+        match resolve_argument(alloc, scope, argument, types, fits)? {
             Some(resolved) => made.push(resolved)?,
             None => return Ok(false),
         }
@@ -171,19 +154,23 @@ fn push_arguments(
 // The arguments of a call, where all names in their types are declared.
 fn resolve_arguments(
     alloc: Global,
-    regions: &Regions,
-    structs: &StructNames,
+    scope: &Scope<'_>,
     arguments: Vec<(Operand, TypeText<'_>)>,
-) -> Result<Option<Vec<(Operand, ResolvedType)>>, Memory>
-    requires none { structs.now.none ≡ [] }
-    requires few { length regions.now.names ≤ most_regions }
-    ensures { IfOk result (λ o. MatchOption o
-        (list_all (λ a. is_known (scope_in regions.now structs.now) (written a.1))
-        arguments.entry.items ≡ false)
-        (λ v. AreOfArguments (scope_in regions.now structs.now) arguments.entry.items v.items)) }
+    types: &mut BodyTypes,
+    fits: &mut bool,
+) -> Result<Option<Vec<(Operand, Typed)>>, Memory>
+    requires { HasRoom scope.now }
+    ensures adds { IfOk result (λ _. AddsTypes types.old types.new) }
+    ensures made { IfOk result (λ o. MatchOption o
+        (list_all (λ a. is_known (scope_of scope.now) (written a.1)) arguments.entry.items
+        ≡ false)
+        (λ v. AreOfArguments (scope_of scope.now) arguments.entry.items types.new v.items)) }
+    ensures fits { IfOk result (λ o. MatchOption o ⊤ (λ _. fits.new ≡ (fits.old
+        && list_all (λ a. has_arguments (scope_of scope.now) (written a.1))
+        arguments.entry.items))) }
 {
     let mut made = Vec::with_capacity(alloc, arguments.len())?;
-    match push_arguments(alloc, regions, structs, arguments, &mut made) {
+    match push_arguments(alloc, scope, arguments, types, fits, &mut made) {
         Ok(true) => Ok(Some(made)),
         Ok(false) => {
             drop(made);
@@ -199,22 +186,21 @@ fn resolve_arguments(
 // A call of these parts, unless one of them lacked memory or has a name that isn't declared.
 fn call_with(
     place: Place,
-    arguments: Result<Option<Vec<(Operand, ResolvedType)>>, Memory>,
-    ty: Result<Option<ResolvedType>, Memory>,
+    arguments: Result<Option<Vec<(Operand, Typed)>>, Memory>,
+    returned: Result<Option<Typed>, Memory>,
     wheres: Result<Option<Vec<(RegionId, RegionId)>>, Memory>,
-    target: u32,
-    unwind: Option<u32>,
-) -> Result<Option<Call<RegionId, ResolvedType>>, Memory>
+    exits: (u32, Option<u32>),
+) -> Result<Option<Call<RegionId, Typed>>, Memory>
     ensures { IfOk result (λ o. MatchOption o
-        ((arguments ≡ Ok None) ⊎ (ty ≡ Ok None) ⊎ (wheres ≡ Ok None))
+        ((arguments ≡ Ok None) ⊎ (returned ≡ Ok None) ⊎ (wheres ≡ Ok None))
         (λ c. (c.place ≡ place) × (arguments ≡ Ok (Some c.arguments))
-        × (ty ≡ Ok (Some c.result)) × (wheres ≡ Ok (Some c.wheres))
-        × (c.target ≡ target) × (c.unwind ≡ unwind))) }
+        × (returned ≡ Ok (Some c.result)) × (wheres ≡ Ok (Some c.wheres))
+        × (c.target ≡ exits.0) × (c.unwind ≡ exits.1))) }
 {
     let Some(arguments) = arguments? else {
         return Ok(None);
     };
-    let Some(result) = ty? else {
+    let Some(result) = returned? else {
         return Ok(None);
     };
     let Some(wheres) = wheres? else {
@@ -225,25 +211,29 @@ fn call_with(
         arguments,
         result,
         wheres,
-        target,
-        unwind,
+        target: exits.0,
+        unwind: exits.1,
     }))
 }
 
 // A call, where its names are declared. Its place and its operands are moved.
 fn resolve_call(
     alloc: Global,
-    regions: &Regions,
-    structs: &StructNames,
+    scope: &Scope<'_>,
     call: Call<&[u8], TypeText<'_>>,
-) -> Result<Option<Call<RegionId, ResolvedType>>, Memory>
-    requires none { structs.now.none ≡ [] }
-    requires few { length regions.now.names ≤ most_regions }
-    ensures { IfOk result (λ o. MatchOption o
-        (has_names (scope_in regions.now structs.now)
+    types: &mut BodyTypes,
+    fits: &mut bool,
+) -> Result<Option<Call<RegionId, Typed>>, Memory>
+    requires { HasRoom scope.now }
+    ensures adds { IfOk result (λ _. AddsTypes types.old types.new) }
+    ensures made { IfOk result (λ o. MatchOption o
+        (has_names (scope_of scope.now)
         (map_statement (λ r. r.now) written (call_of call.entry)) ≡ false)
-        (λ c. IsOfStatement (scope_in regions.now structs.now)
-        (map_statement (λ r. r.now) written (call_of call.entry)) (call_of c))) }
+        (λ c. IsOfStatement (scope_of scope.now)
+        (map_statement (λ r. r.now) written (call_of call.entry)) types.new (call_of c))) }
+    ensures fits { IfOk result (λ o. MatchOption o ⊤ (λ _. fits.new ≡ (fits.old
+        && list_all (has_arguments (scope_of scope.now)) (types_written
+        (map_statement (λ r. r.now) written (call_of call.entry)))))) }
 {
     let Call {
         place,
@@ -253,30 +243,30 @@ fn resolve_call(
         target,
         unwind,
     } = call;
-    let wheres = resolve_bounds(alloc, &regions.names, bounds.as_slice());
+    let wheres = resolve_bounds(alloc, scope.regions, bounds.as_slice());
     drop(bounds);
-    let ty = resolve_type(alloc, regions, structs, &text);
+    let arguments = resolve_arguments(alloc, scope, arguments, types, fits);
+    let ty = resolve(alloc, scope, &text, types, fits);
     drop(text);
-    let arguments = resolve_arguments(alloc, regions, structs, arguments);
-    call_with(place, arguments, ty, wheres, target, unwind)
+    call_with(place, arguments, ty, wheres, (target, unwind))
 }
 
 // A call, as a statement.
 fn resolve_called(
     alloc: Global,
-    regions: &Regions,
-    structs: &StructNames,
+    scope: &Scope<'_>,
     call: Box<Call<&[u8], TypeText<'_>>>,
-) -> Result<Option<Statement<RegionId, ResolvedType>>, Memory>
-    requires none { structs.now.none ≡ [] }
-    requires few { length regions.now.names ≤ most_regions }
-    ensures { IfOk result (λ o. MatchOption o
-        (has_names (scope_in regions.now structs.now) (as_written (Statement.Call call.entry))
-        ≡ false)
-        (λ i. IsOfStatement (scope_in regions.now structs.now)
-        (as_written (Statement.Call call.entry)) (statement_of i))) }
+    types: &mut BodyTypes,
+    fits: &mut bool,
+) -> Result<Option<Stmt>, Memory>
+    requires { HasRoom scope.now }
+    ensures adds { IfOk result (λ _. AddsTypes types.old types.new) }
+    ensures made { IfOk result
+        (λ o. MadeOf (scope_of scope.now) (as_written (Statement.Call call.entry)) types.new o) }
+    ensures fits { IfOk result (λ o. FitOf (scope_of scope.now)
+        (as_written (Statement.Call call.entry)) fits.old fits.new o) }
 {
-    match resolve_call(alloc, regions, structs, Box::into_inner(call))? {
+    match resolve_call(alloc, scope, Box::into_inner(call), types, fits)? {
         Some(call) => Ok(Some(Statement::Call(Box::new(alloc, call)?))),
         None => Ok(None),
     }
@@ -285,23 +275,26 @@ fn resolve_called(
 // A tuple or struct that is made, where the names in its type are declared.
 fn resolve_made(
     alloc: Global,
-    regions: &Regions,
-    structs: &StructNames,
+    scope: &Scope<'_>,
     made: Make<TypeText<'_>>,
-) -> Result<Option<Make<ResolvedType>>, Memory>
-    requires none { structs.now.none ≡ [] }
-    requires few { length regions.now.names ≤ most_regions }
-    ensures { IfOk result (λ o. MatchOption o
-        (is_known (scope_in regions.now structs.now) (written made.entry.ty) ≡ false)
+    types: &mut BodyTypes,
+    fits: &mut bool,
+) -> Result<Option<Make<Typed>>, Memory>
+    requires { HasRoom scope.now }
+    ensures adds { IfOk result (λ _. AddsTypes types.old types.new) }
+    ensures made { IfOk result (λ o. MatchOption o
+        (is_known (scope_of scope.now) (written made.entry.ty) ≡ false)
         (λ m. (m.place ≡ made.entry.place) × (m.operands ≡ made.entry.operands)
-        × IsResolved (scope_in regions.now structs.now) (written made.entry.ty) m.ty)) }
+        × IsResolved (scope_of scope.now) (written made.entry.ty) types.new m.ty)) }
+    ensures fits { IfOk result (λ _. fits.new
+        ≡ (fits.old && has_arguments (scope_of scope.now) (written made.entry.ty))) }
 {
     let Make {
         place,
         ty: text,
         operands,
     } = made;
-    let ty = resolve_type(alloc, regions, structs, &text);
+    let ty = resolve(alloc, scope, &text, types, fits);
     // Early drop.
     drop(text);
     match ty {
@@ -326,19 +319,19 @@ fn resolve_made(
 // A tuple or struct that is made, as a statement.
 fn resolve_make(
     alloc: Global,
-    regions: &Regions,
-    structs: &StructNames,
+    scope: &Scope<'_>,
     made: Box<Make<TypeText<'_>>>,
-) -> Result<Option<Statement<RegionId, ResolvedType>>, Memory>
-    requires none { structs.now.none ≡ [] }
-    requires few { length regions.now.names ≤ most_regions }
-    ensures { IfOk result (λ o. MatchOption o
-        (has_names (scope_in regions.now structs.now) (as_written (Statement.Make made.entry))
-        ≡ false)
-        (λ i. IsOfStatement (scope_in regions.now structs.now)
-        (as_written (Statement.Make made.entry)) (statement_of i))) }
+    types: &mut BodyTypes,
+    fits: &mut bool,
+) -> Result<Option<Stmt>, Memory>
+    requires { HasRoom scope.now }
+    ensures adds { IfOk result (λ _. AddsTypes types.old types.new) }
+    ensures made { IfOk result
+        (λ o. MadeOf (scope_of scope.now) (as_written (Statement.Make made.entry)) types.new o) }
+    ensures fits { IfOk result (λ o. FitOf (scope_of scope.now)
+        (as_written (Statement.Make made.entry)) fits.old fits.new o) }
 {
-    match resolve_made(alloc, regions, structs, Box::into_inner(made))? {
+    match resolve_made(alloc, scope, Box::into_inner(made), types, fits)? {
         Some(made) => Ok(Some(Statement::Make(Box::new(alloc, made)?))),
         None => Ok(None),
     }
@@ -351,8 +344,8 @@ fn resolve_borrow(
     region: &[u8],
     mutable: bool,
     source: Place,
-) -> Option<Statement<RegionId, ResolvedType>>
-    requires { length names.now ≤ most_regions }
+) -> Option<Stmt>
+    requires { length names.now < 2 ^ 32 }
     ensures { MatchOption result (is_among names.now region.now ≡ false)
         (λ i. (is_among names.now region.now ≡ true)
         × (i ≡ Statement.Borrow target (number_of names.now region.now) mutable
@@ -368,26 +361,28 @@ fn resolve_borrow(
     }
 }
 
-/// A statement over numbers, where each name in it is declared. Each name is looked up once.
+/// A statement over numbers, where each name in it is declared. Each name is looked up once. The
+/// flag stays true where each name in its types has arguments of the kinds that it takes.
 pub fn resolve_statement(
     alloc: Global,
-    regions: &Regions,
-    structs: &StructNames,
+    scope: &Scope<'_>,
     statement: Statement<&[u8], TypeText<'_>>,
-) -> Result<Option<Statement<RegionId, ResolvedType>>, Memory>
-    requires none { structs.now.none ≡ [] }
-    requires few { length regions.now.names ≤ most_regions }
-    ensures { IfOk result (λ o. MatchOption o
-        (has_names (scope_in regions.now structs.now) (as_written statement.entry) ≡ false)
-        (λ i. IsOfStatement (scope_in regions.now structs.now) (as_written statement.entry)
-        (statement_of i))) }
+    types: &mut BodyTypes,
+    fits: &mut bool,
+) -> Result<Option<Stmt>, Memory>
+    requires { HasRoom scope.now }
+    ensures adds { IfOk result (λ _. AddsTypes types.old types.new) }
+    ensures made { IfOk result
+        (λ o. MadeOf (scope_of scope.now) (as_written statement.entry) types.new o) }
+    ensures fits { IfOk result
+        (λ o. FitOf (scope_of scope.now) (as_written statement.entry) fits.old fits.new o) }
 {
     match statement {
         Statement::Assign(target, operand) => Ok(Some(Statement::Assign(target, operand))),
         Statement::Borrow(target, region, mutable, source) => {
-            Ok(resolve_borrow(&regions.names, target, region, mutable, source))
+            Ok(resolve_borrow(scope.regions, target, region, mutable, source))
         }
-        Statement::Make(made) => resolve_make(alloc, regions, structs, made),
+        Statement::Make(made) => resolve_make(alloc, scope, made, types, fits),
         Statement::Read(source) => Ok(Some(Statement::Read(source))),
         Statement::Live(variable) => Ok(Some(Statement::Live(variable))),
         Statement::Dead(variable) => Ok(Some(Statement::Dead(variable))),
@@ -397,7 +392,7 @@ pub fn resolve_statement(
         Statement::Drop(variable, block, unwind) => {
             Ok(Some(Statement::Drop(variable, block, unwind)))
         }
-        Statement::Call(call) => resolve_called(alloc, regions, structs, call),
+        Statement::Call(call) => resolve_called(alloc, scope, call, types, fits),
         Statement::Return => Ok(Some(Statement::Return)),
         Statement::Stop => Ok(Some(Statement::Stop)),
     }

@@ -3,12 +3,15 @@
 ghost use Rattle.std.specs.Prelude.{◌≡◌, ◌++◌, ◌∷◌, [], false, map, OnOk};
 ghost use Rattle.std.specs.Str.{IsUtf8};
 ghost use Rattle.nll_resolve.specs.Naming.{is_among};
+ghost use Rattle.nll_resolve.specs.Resolution.{scope_of};
+ghost use Rattle.nll_mir_text.specs.MirReading as spec;
 
 use indexmap::IndexSet;
 use nll_format::Names;
 use nll_sets::Memory;
-use nll_statement_list::StatementList;
-use nll_types::{Ty, TypeTable};
+use nll_resolve::Scope;
+use nll_statements::Stmt;
+use nll_types::{BodyTypes, Typed};
 use std::alloc::Global;
 
 /// The regions: their names, `'static` first, how many of them are universal, which of those are
@@ -47,12 +50,11 @@ impl StructNames {
     }
 }
 
-/// The structs, the types of the variables, and the numbers of their shapes.
+/// The structs and all types, and those of the variables.
 #[derive(Drop)]
 pub struct Variables {
-    pub table: TypeTable,
-    pub types: Vec<Ty>,
-    pub shapes: Vec<usize>,
+    pub types: BodyTypes,
+    pub typed: Vec<Typed>,
 }
 
 /// The blocks, and the statement or terminator at each point.
@@ -62,11 +64,22 @@ pub struct Points {
     pub blocks: u32,
     /// The first point of each block that is there.
     pub starts: Vec<u32>,
-    pub statements: StatementList,
-    /// How many points there are.
-    pub count: usize,
+    pub statements: Vec<Stmt>,
     /// How many edges leave the points.
     pub edges: usize,
     /// Whether the last block still lacks its terminator.
     pub owes: bool,
+}
+
+/// What names mean in the types of variables and of statements.
+pub fn scope_in<'a>(regions: &'a Regions, structs: &'a StructNames) -> Scope<'a>
+    requires { structs.now.none ≡ [] }
+    ensures { scope_of result ≡ spec.scope_in regions.now structs.now }
+{
+    Scope {
+        regions: &regions.names,
+        parameters: &structs.none,
+        structs: &structs.names,
+        kinds: structs.kinds.as_slice(),
+    }
 }

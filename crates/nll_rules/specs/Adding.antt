@@ -17,7 +17,6 @@ use Rattle.nll_types.specs.Types.{TypeTree}
 use Rattle.nll_statements.specs.Statements.{Statement}
 use Rattle.nll_body.specs.Bodies.{BodyText, IsGraphOf, StandsAt}
 use Rattle.nll_rules.specs.Asking.{Asks}
-use Rattle.nll_rules.specs.Knowing.{KnownTypes}
 use Rattle.nll_rules.specs.BodyProblem.{IsAskedAt, HasTooMany}
 use Rattle.nll_rules.specs.declared.error.RuleError.{RuleError}
 use Rattle.nll_rules.specs.declared.error.RuleError.TheVariants as told
@@ -116,7 +115,3 @@ IsPairAskedAt body p x = (i : Statement ℕ TypeTree) × StandsAt body p i
 -- the pairs are exactly those that the statement at p asks
 abbrev pub AreAskedAt : BodyText → ℕ → List (ℕ × ℕ) → Type 0
 AreAskedAt body p pairs = (x : ℕ × ℕ) → Contains pairs x ↔ IsPairAskedAt body p x
-
--- the structs and the variables are those of the body
-abbrev pub IsOfBody : BodyText → KnownTypes → Type 0
-IsOfBody body k = (k.structs ≡ body.structs) × (k.variables ≡ body.variables)

@@ -4,12 +4,14 @@ ghost use Rattle.std.specs.Prelude.{◌≡◌, ◌<◌, [], IfOk, IfSome, OnOk, 
 ghost use Rattle.nll_types.specs.Operands as operands;
 ghost use Rattle.nll_types.specs.Operands.{operand_of};
 ghost use Rattle.nll_types.specs.Places.{behind, path_of, type_of};
+ghost use Rattle.nll_types.specs.Rows.{numbers_of, tree_at};
+ghost use Rattle.nll_types.specs.Table.{AreBelow};
 ghost use Rattle.nll_types.specs.Types.{reference};
-ghost use Rattle.nll_types.specs.Views.{tree};
 ghost use Rattle.nll_types.specs.declared.place.Projection.TheVariants.{Field as field};
-ghost use Rattle.nll_statements.specs.Kept.{statement_of};
+ghost use Rattle.nll_statements.specs.Kept.{call_of, statement_of};
+ghost use Rattle.nll_statements.specs.Meant.{meant_by};
 ghost use Rattle.nll_statements.specs.Statements as spec;
-ghost use Rattle.nll_statements.specs.Statements.{map_statement};
+ghost use Rattle.nll_statements.specs.Statements.{types_written};
 ghost use Rattle.nll_rules.specs.Asking.{Asks};
 ghost use Rattle.nll_rules.specs.Knowing.{Learns};
 ghost use Rattle.nll_rules.specs.Layers.{type_in};
@@ -20,8 +22,8 @@ use crate::known::Known;
 use crate::layer::Layer;
 use nll_problem::RegionId;
 use nll_sets::Memory;
-use nll_statements::{Call, Make, Statement};
-use nll_types::{Operand, Place, Ty};
+use nll_statements::{Call, Make, Statement, Stmt};
+use nll_types::{Operand, Place, Typed};
 use std::alloc::Global;
 
 /// The pairs of regions that are asked, the first of which must outlive the second, and scratch
@@ -254,15 +256,22 @@ impl<'a> Known<'a> {
     }
 
     // Appends what making a tuple or struct of operands, for a place, asks.
-    fn ask_make(&mut self, alloc: Global, make: &Make<Ty>, asked: &mut Asked) -> Result<(), Memory>
+    fn ask_make(
+        &mut self,
+        alloc: Global,
+        make: &Make<Typed>,
+        asked: &mut Asked,
+    ) -> Result<(), Memory>
+        requires { make.now.ty.shape < length self.old.shapes }
         ensures learns { Learns self.old self.new }
         ensures asked { OnOk result (AddsPairs
             (Asks self.old.structs self.old.variables
-            (spec.make (path_of make.now.place) (tree make.now.ty)
+            (spec.make (path_of make.now.place)
+            (tree_at self.old.shapes self.old.regions make.now.ty)
             (map operand_of make.now.operands.items)))
             asked.old.pairs.items asked.new.pairs.items) }
     {
-        let made = self.written(alloc, &make.ty)?;
+        let made = self.written(alloc, make.ty)?;
         self.ask_parts(alloc, made, make.operands.as_slice(), asked)?;
         self.ask_into(alloc, Some(made), &make.place, asked)
     }
@@ -271,18 +280,19 @@ impl<'a> Known<'a> {
     fn ask_input(
         &mut self,
         alloc: Global,
-        argument: &(Operand, Ty),
+        argument: &(Operand, Typed),
         asked: &mut Asked,
     ) -> Result<(), Memory>
+        requires { argument.now.1.shape < length self.old.shapes }
         ensures learns { Learns self.old self.new }
         ensures asked { OnOk result (AddsPairs
             (BothAsk self.old.structs
             (operands.operand_type self.old.structs self.old.variables
             (operand_of argument.now.0))
-            (Some (tree argument.now.1)))
+            (Some (tree_at self.old.shapes self.old.regions argument.now.1)))
             asked.old.pairs.items asked.new.pairs.items) }
     {
-        let other = self.written(alloc, &argument.1)?;
+        let other = self.written(alloc, argument.1)?;
         self.ask_from(alloc, &argument.0, Some(other), asked)
     }
 
@@ -290,13 +300,16 @@ impl<'a> Known<'a> {
     fn ask_inputs(
         &mut self,
         alloc: Global,
-        arguments: &[(Operand, Ty)],
+        arguments: &[(Operand, Typed)],
         asked: &mut Asked,
     ) -> Result<(), Memory>
+        requires { AreBelow (length self.old.shapes)
+            (numbers_of (map (λ a. a.1) arguments.now)) }
         ensures learns { Learns self.old self.new }
         ensures asked { OnOk result (AddsPairs
             (AtOne (InputAsks self.old.structs self.old.variables
-            (map (λ a. (operand_of a.0, tree a.1)) arguments.now)))
+            (map (λ a. (operand_of a.0, tree_at self.old.shapes self.old.regions a.1))
+            arguments.now)))
             asked.old.pairs.items asked.new.pairs.items) }
     {
         for place in 0..arguments.len() {
@@ -309,13 +322,14 @@ impl<'a> Known<'a> {
     fn ask_result(
         &mut self,
         alloc: Global,
-        ty: &Ty,
+        ty: Typed,
         place: &Place,
         asked: &mut Asked,
     ) -> Result<(), Memory>
+        requires { ty.shape < length self.old.shapes }
         ensures learns { Learns self.old self.new }
         ensures asked { OnOk result (AddsPairs
-            (BothAsk self.old.structs (Some (tree ty.now))
+            (BothAsk self.old.structs (Some (tree_at self.old.shapes self.old.regions ty))
             (type_of self.old.structs self.old.variables (path_of place.now)))
             asked.old.pairs.items asked.new.pairs.items) }
     {
@@ -327,19 +341,19 @@ impl<'a> Known<'a> {
     fn ask_call(
         &mut self,
         alloc: Global,
-        call: &Call<RegionId, Ty>,
+        call: &Call<RegionId, Typed>,
         asked: &mut Asked,
     ) -> Result<(), Memory>
+        requires { AreBelow (length self.old.shapes)
+            (numbers_of (types_written (call_of call.now))) }
         ensures learns { Learns self.old self.new }
         ensures asked { OnOk result (AddsPairs
             (Asks self.old.structs self.old.variables
-            (spec.call (path_of call.now.place)
-            (map (λ a. (operand_of a.0, tree a.1)) call.now.arguments.items)
-            (tree call.now.result) call.now.wheres.items call.now.target call.now.unwind))
+            (meant_by self.old.shapes self.old.regions (call_of call.now)))
             asked.old.pairs.items asked.new.pairs.items) }
     {
         self.ask_inputs(alloc, call.arguments.as_slice(), asked)?;
-        self.ask_result(alloc, &call.result, &call.place, asked)?;
+        self.ask_result(alloc, call.result, &call.place, asked)?;
         asked.pairs.extend_from_slice(call.wheres.as_slice())?;
         Ok(())
     }
@@ -355,13 +369,15 @@ impl<'a> Known<'a> {
     pub(crate) fn asks(
         &mut self,
         alloc: Global,
-        statement: &Statement<RegionId, Ty>,
+        statement: &Stmt,
         asked: &mut Asked,
     ) -> Result<(), Memory>
+        requires { AreBelow (length self.old.shapes)
+            (numbers_of (types_written (statement_of statement.now))) }
         ensures learns { Learns self.old self.new }
         ensures asked { OnOk result (AddsPairs
             (Asks self.old.structs self.old.variables
-            (map_statement (λ r. r) tree (statement_of statement.now)))
+            (meant_by self.old.shapes self.old.regions (statement_of statement.now)))
             asked.old.pairs.items asked.new.pairs.items) }
     {
         match statement {

@@ -4,9 +4,10 @@
 ghost use Rattle.std.specs.Prelude.{◌≡◌, ◌<◌, ℕ, Contains, IfErr, OnOk, length};
 ghost use Rattle.nll_problem.specs.At.{IsAmong};
 ghost use Rattle.nll_body.specs.Sound.{IsSound};
-ghost use Rattle.nll_rules.specs.Adding.{AddsConstraints, AreAskedAt, AreRegions, IsOfBody};
+ghost use Rattle.nll_rules.specs.Adding.{AddsConstraints, AreAskedAt, AreRegions};
 ghost use Rattle.nll_rules.specs.Adding.{IsOfPair, IsOfPairs, IsOfPairsEverywhere, IsRefused};
 ghost use Rattle.nll_rules.specs.Adding.{everywhere};
+ghost use Rattle.nll_rules.specs.Knowing.{IsOfBody};
 ghost use Rattle.nll_rules.specs.BodyProblem.{IsAskedAt, IsAskedSomewhere, IsConstraint};
 
 use crate::asking::Asked;
@@ -73,7 +74,7 @@ fn add_asked(alloc: Global, body: &Body, builder: &mut ProblemBuilder) -> Result
         (AddsConstraints (IsAskedSomewhere body.now) builder.old builder.new) }
     ensures err { IfErr result (IsRefused (IsAskedSomewhere body.now) builder.old) }
 {
-    let mut known = Known::new(alloc, body.structs(), body.variable_types())?;
+    let mut known = Known::new(alloc, body.typed())?;
     let mut asked = Asked::new(alloc);
     let told = add_points(alloc, body, &mut known, &mut asked, builder);
     // Early drop.
@@ -139,11 +140,7 @@ fn find_asked(
     ensures asked { OnOk result (AreAskedAt body.now point asked.new.pairs.items) }
 {
     asked.pairs.clear();
-    let statement = body.line_at(alloc, point)?;
-    let told = known.asks(alloc, &statement, asked);
-    // Early drop.
-    drop(statement);
-    told?;
+    known.asks(alloc, known.statement(point), asked)?;
     keep_once(&mut asked.pairs);
     Ok(())
 }

@@ -1,27 +1,32 @@
 //! What is known of the types of a body.
 
-ghost use Rattle.std.specs.Prelude.{◌≡◌, ◌<◌, length, map, option_map, slice_get};
+ghost use Rattle.std.specs.Prelude.{◌≡◌, ◌<◌, Some, length, map, option_map, slice_get};
 ghost use Rattle.std.specs.Prelude.{IfNone, IfOk, IfSome, OnOk};
 ghost use Rattle.nll_types.specs.Declarations.{structs_of};
 ghost use Rattle.nll_types.specs.Places.{behind};
+ghost use Rattle.nll_types.specs.Rows.{numbers_of, tree_at};
+ghost use Rattle.nll_types.specs.Table.{AreBelow};
 ghost use Rattle.nll_types.specs.Types.{reference};
-ghost use Rattle.nll_types.specs.Views.{tree};
 ghost use Rattle.nll_types.specs.declared.place.Projection.TheVariants.{Field as field};
+ghost use Rattle.nll_statements.specs.Kept.{statement_of};
 ghost use Rattle.nll_rules.specs.Knowing.{Learns};
-ghost use Rattle.nll_rules.specs.Layers.{IsOfEarlier, form, layered, type_in, types_in};
+ghost use Rattle.nll_rules.specs.Layers.{AreEarlier, IsOfEarlier, KeepsTypes, form, layered};
+ghost use Rattle.nll_rules.specs.Layers.{type_in, types_in};
 ghost use Rattle.nll_rules.specs.Pairs.{AddsPairs};
 ghost use Rattle.nll_rules.specs.Subtyping.{SubtypeAsks};
 
 use crate::forms::as_reference;
-use crate::interning::{number_of, numbers_of};
+use crate::interning::number_of;
 use crate::layer::Layer;
 use crate::meetings::{Meeting, Meetings, ask_once};
 use crate::parts::{Part, part_once};
 use crate::types::Types;
 use indexmap::IndexMap;
+use nll_body::TypedBody;
 use nll_problem::RegionId;
 use nll_sets::Memory;
-use nll_types::{Structs, Ty};
+use nll_statements::Stmt;
+use nll_types::{BodyTypes, Typed};
 use std::alloc::Global;
 use std::marker::Model;
 
@@ -29,7 +34,7 @@ use std::marker::Model;
 /// each other. Each is found once.
 #[derive(Drop)]
 pub(crate) struct Known<'a> {
-    structs: &'a Structs,
+    body: TypedBody<'a>,
     types: Types,
     variables: Vec<usize>,
     parts: IndexMap<Part, usize>,
@@ -39,8 +44,9 @@ pub(crate) struct Known<'a> {
 impl<'a> Model for Known<'a> {
     ghost use Rattle.std.specs.Prelude.{length, map};
     ghost use Rattle.std.specs.Coded.{codes, Coded};
-    ghost use Rattle.nll_statement_list.specs.TypeCodes.{Step, tree_code, trees_code};
+    ghost use Rattle.nll_types.specs.TypeCodes.{Step, tree_code, trees_code};
     ghost use Rattle.nll_types.specs.Declarations.{structs_of};
+    ghost use Rattle.nll_statements.specs.Kept.{statement_of};
     ghost use Rattle.nll_rules.specs.Knowing.{AreRight, IsMeeting, IsPart, KnownTypes};
     ghost use Rattle.nll_rules.specs.Layers.{AreEarlier, type_in};
 
@@ -50,14 +56,57 @@ impl<'a> Model for Known<'a> {
         Prim.hlevel (codes, tree_code step, trees_code step) };
 
     ghost view = { λ k. record {
-      structs = structs_of k.structs.now;
+      structs = structs_of k.body.types.now.table.structs;
+      shapes = k.body.types.now.table.shapes;
+      regions = k.body.types.now.regions.items;
+      points = map statement_of k.body.points.now;
       variables = map (type_in k.types) k.variables.items;
       layers = k.types;
     } };
 
     ghost invariant = { λ k. AreEarlier (length k.types) k.variables.items
-        × AreRight (IsPart (structs_of k.structs.now) k.types) k.parts.entries
-        × AreRight (IsMeeting (structs_of k.structs.now) k.types) k.meetings.entries };
+        × AreRight (IsPart (structs_of k.body.types.now.table.structs) k.types) k.parts.entries
+        × AreRight (IsMeeting (structs_of k.body.types.now.table.structs) k.types) k.meetings.entries };
+}
+
+// The number of a type that is written.
+fn number_written(
+    alloc: Global,
+    body: &BodyTypes,
+    types: &mut Types,
+    ty: Typed,
+) -> Result<usize, Memory>
+    requires { ty.shape < length body.now.table.shapes }
+    ensures keeps { KeepsTypes types.old types.new }
+    ensures within { IfOk result (λ i. i < length types.new) }
+    ensures at { IfOk result (λ i. type_in types.new i
+        ≡ tree_at body.now.table.shapes body.now.regions.items ty) }
+{
+    let tree = body.tree(alloc, ty)?;
+    let number = number_of(alloc, types, &tree, &None);
+    // Early drop.
+    drop(tree);
+    number
+}
+
+// The numbers of types that are written.
+fn all_written(
+    alloc: Global,
+    body: &BodyTypes,
+    types: &mut Types,
+    written: &[Typed],
+) -> Result<Vec<usize>, Memory>
+    requires { AreBelow (length body.now.table.shapes) (numbers_of written.now) }
+    ensures keeps { KeepsTypes types.old types.new }
+    ensures within { IfOk result (λ v. AreEarlier (length types.new) v.items) }
+    ensures at { IfOk result (λ v. map (type_in types.new) v.items
+        ≡ map (tree_at body.now.table.shapes body.now.regions.items) written.now) }
+{
+    let mut numbers = Vec::with_capacity(alloc, written.len())?;
+    for ty in written {
+        numbers.push_reserved(number_written(alloc, body, types, *ty)?);
+    }
+    Ok(numbers)
 }
 
 impl<'a> Known<'a> {
@@ -67,16 +116,21 @@ impl<'a> Known<'a> {
     /// Linear in the types (not proved).
     pub(crate) fn new(
         alloc: Global,
-        structs: &'a Structs,
-        variables: &[Ty],
+        body: TypedBody<'a>,
     ) -> Result<Known<'a>, Memory>
-        ensures structs { IfOk result (λ k. k.structs ≡ structs_of structs.now) }
-        ensures variables { IfOk result (λ k. k.variables ≡ map tree variables.now) }
+        requires { AreBelow (length body.types.now.table.shapes) (numbers_of body.variables.now) }
+        ensures structs { IfOk result (λ k. k.structs ≡ structs_of body.types.now.table.structs) }
+        ensures shapes { IfOk result (λ k. k.shapes ≡ body.types.now.table.shapes) }
+        ensures regions { IfOk result (λ k. k.regions ≡ body.types.now.regions.items) }
+        ensures points { IfOk result (λ k. k.points ≡ map statement_of body.points.now) }
+        ensures variables { IfOk result (λ k. k.variables ≡ map
+            (tree_at body.types.now.table.shapes body.types.now.regions.items)
+            body.variables.now) }
     {
         let mut types = Types::new(alloc);
-        let numbers = numbers_of(alloc, &mut types, variables, &None)?;
+        let numbers = all_written(alloc, body.types, &mut types, body.variables)?;
         Ok(Known {
-            structs,
+            body,
             types,
             variables: numbers,
             parts: IndexMap::new(alloc),
@@ -84,13 +138,24 @@ impl<'a> Known<'a> {
         })
     }
 
+    /// The statement or terminator at a point.
+    pub(crate) fn statement(&self, point: u32) -> &'a Stmt
+        requires { point < length self.now.points }
+        ensures { slice_get self.now.points point ≡ Some (statement_of result.now) }
+    {
+        &self.body.points[point as usize]
+    }
+
     /// The number of a type that is written.
-    pub(crate) fn written(&mut self, alloc: Global, ty: &Ty) -> Result<usize, Memory>
+    pub(crate) fn written(&mut self, alloc: Global, ty: Typed) -> Result<usize, Memory>
+        requires { ty.shape < length self.old.shapes }
         ensures learns { Learns self.old self.new }
         ensures within { IfOk result (λ i. i < length self.new.layers) }
-        ensures at { IfOk result (λ i. type_in self.new.layers i ≡ tree ty.now) }
+        ensures at { IfOk result
+            (λ i. type_in self.new.layers i ≡ tree_at self.old.shapes self.old.regions ty) }
     {
-        number_of(alloc, &mut self.types, ty, &None)
+        let body = self.body.types;
+        number_written(alloc, body, &mut self.types, ty)
     }
 
     /// The number of the type that a layer makes of others.
@@ -117,7 +182,7 @@ impl<'a> Known<'a> {
         ensures at { IfOk result (λ o. option_map (type_in self.new.layers) o
             ≡ behind self.old.structs (field place) (type_in self.old.layers number)) }
     {
-        let structs = self.structs;
+        let structs = self.body.types.table.structs();
         part_once(
             alloc,
             structs,
@@ -164,7 +229,7 @@ impl<'a> Known<'a> {
             (type_in self.old.layers other))
             asked.old.items asked.new.items) }
     {
-        let structs = self.structs;
+        let structs = self.body.types.table.structs();
         let meeting = Meeting { one, other };
         ask_once(
             alloc,

@@ -1,22 +1,45 @@
 -- What is judged of a call, put together.
-use Rattle.std.proofs.Common.{◌≡◌, ℕ, Bool, true, List, [], ◌∷◌, ◌++◌, length, map, refl, sym, ap, ◌∙◌, Option, Some}
-use Rattle.std.specs.Prelude.{◌&&◌, slice_get}
+use Rattle.std.proofs.Common.{◌≡◌, ℕ, zero, suc, ◌<◌, arith, Bool, true, List, [], ◌∷◌, ◌++◌, map, refl, sym, ap, ◌∙◌, Option, Some}
+use Rattle.std.specs.Prelude.{◌&&◌}
 use Rattle.std.specs.List.{list_all, flat_map}
 use Rattle.std.proofs.lemmas.List.Folds.{list_all-append, list_all-map}
 use Rattle.nll_types.specs.Types.{TypeTree}
 use Rattle.nll_types.specs.Structs.{Struct}
 use Rattle.nll_types.specs.Places.{PlacePath, type_of, small_prefixes}
 use Rattle.nll_types.specs.Operands.{Operand, operand_type, place_in}
-use Rattle.nll_types.specs.Shapes.{is_small}
+use Rattle.nll_types.specs.Judging.{HaveShapes}
+use Rattle.nll_types.specs.Rows.{numbers_of}
+use Rattle.nll_types.specs.Shapes.{is_small, shape_of}
+use Rattle.nll_types.specs.Table.{AreBelow, shape_in}
+use Rattle.nll_types.specs.declared.node.Node.{Node}
+use Rattle.nll_types.specs.declared.typed.Typed.{Typed}
 use Rattle.nll_statements.specs.Statements.{call}
 use Rattle.nll_statements.specs.Typing.{agree, types_agree, types_are_small}
 use Rattle.nll_statements.proofs.JudgedLemmas.{call_order, last_agrees}
 
--- the type behind those of the operands
-pub last_type : {X : Type 0} (h : X → TypeTree) (xs : List X) (t : TypeTree)
-    → slice_get (map h xs ++ t ∷ []) (length xs) ≡ Some t
-last_type h [] t = refl
-last_type h (x ∷ xs) t = last_type h xs t
+-- the types of the operands, and that of the result
+pub call_below : {W : Type 0} (n : ℕ) (xs : List (W × Typed)) (v : Typed)
+    → AreBelow n (numbers_of (map (λ a. a.1) xs ++ v ∷ []))
+    → AreBelow n (numbers_of (map (λ a. a.1) xs)) × (v.shape < n)
+call_below n [] v b = (λ k l. absurd (omega arith), b 0 (omega arith))
+call_below n (x ∷ xs) v b =
+    (let rest = call_below n xs v (λ k l. b (suc k) (omega arith)) in
+    (below_first (b 0 (omega arith)) rest.0, rest.1))
+  where
+    below_first : x.1.shape < n → AreBelow n (numbers_of (map (λ a. a.1) xs))
+        → AreBelow n (x.1.shape ∷ numbers_of (map (λ a. a.1) xs))
+    below_first h rest zero l = h
+    below_first h rest (suc k) l = rest k (omega arith)
+
+pub call_shapes : {W : Type 0} (ns : List Node) (h : Typed → TypeTree) (xs : List (W × Typed)) (v : Typed)
+    → HaveShapes ns (numbers_of (map (λ a. a.1) xs ++ v ∷ [])) (map h (map (λ a. a.1) xs ++ v ∷ []))
+    → HaveShapes ns (numbers_of (map (λ a. a.1) xs)) (map (λ a. h a.1) xs) × (shape_in ns v.shape ≡ shape_of (h v))
+call_shapes ns h [] v e = (refl, cc)
+call_shapes ns h (x ∷ xs) v e =
+    let here : shape_in ns x.1.shape ≡ shape_of (h x.1) = cc in
+    let rest = call_shapes ns h xs v cc in
+    let first = rest.0 in
+    (cc, rest.1)
 
 map_twice : {X Y Z : Type 0} (f : X → Y) (g : Y → Z) (xs : List X) → map g (map f xs) ≡ map (λ x. g (f x)) xs
 map_twice f g [] = refl
@@ -65,11 +88,10 @@ pub arguments_mapped : {W T : Type 0} (op : W → Operand) (h : T → TypeTree) 
 arguments_mapped {W} {T} op h xs =
     sym (map_twice {Y = Operand × T} {Z = Operand × TypeTree} (λ x. (op x.0, x.1)) (λ a. (a.0, h a.1)) xs)
 
-pub written_mapped : {W T : Type 0} (op : W → Operand) (h : T → TypeTree) (xs : List (W × T)) (t : T)
-    → map h (map {A = Operand × T} (λ a. a.1) (map {B = Operand × T} (λ x. (op x.0, x.1)) xs) ++ t ∷ [])
-    ≡ map (λ x. h x.1) xs ++ h t ∷ []
-written_mapped op h [] t = refl
-written_mapped op h (x ∷ xs) t = ap (λ z. h x.1 ∷ z) (written_mapped op h xs t)
+-- the types of the code's call
+pub types_kept : {W T : Type 0} (op : W → Operand) (xs : List (W × T))
+    → map (λ a. a.1) (map {B = Operand × T} (λ x. (op x.0, x.1)) xs) ≡ map (λ x. x.1) xs
+types_kept {W} {T} op xs = map_twice {Y = Operand × T} (λ x. (op x.0, x.1)) (λ a. a.1) xs
 
 -- the operands of the code's call
 pub operands_mapped : {W T : Type 0} (op : W → Operand) (xs : List (W × T))

@@ -1,16 +1,18 @@
 -- What is judged of parts of a statement, put together.
-use Rattle.std.proofs.Common.{◌≡◌, ℕ, ◌<◌, Bool, true, false, Option, List, [], ◌∷◌, ◌++◌, length, refl, sym, ap, ◌∙◌}
-use Rattle.std.specs.Prelude.{◌&&◌, option_map, slice_index, unwrap_or}
+use Rattle.std.proofs.Common.{◌≡◌, ◌<◌, Bool, true, false, Option, List, [], ◌∷◌, ◌++◌, length, get_or, refl, sym, ap, ◌∙◌}
+use Rattle.std.specs.Prelude.{◌&&◌, option_map, unwrap_or}
 use Rattle.std.proofs.lemmas.List.Folds.{list_all-append}
 use Rattle.nll_types.specs.Types.{TypeTree}
 use Rattle.nll_types.specs.Structs.{Struct}
 use Rattle.nll_types.specs.Places.{small_behind, small_prefixes}
+use Rattle.nll_types.specs.Rows.{numbers_of}
 use Rattle.nll_types.specs.Shapes.{is_small_shape}
 use Rattle.nll_types.specs.Table.{shape_in}
 use Rattle.nll_types.specs.Judging.{HaveShapes, IsJudged}
 use Rattle.nll_types.specs.declared.judgement.Judgement.{Judgement}
 use Rattle.nll_types.specs.declared.node.Node.{Node}
-use Rattle.nll_types.proofs.NumberLemmas.{shape_at, type_there}
+use Rattle.nll_types.specs.declared.typed.Typed.{Typed}
+use Rattle.nll_types.proofs.NumberLemmas.{no_variable, variable_there}
 use Rattle.nll_types.proofs.MeetingLemmas.{small_agrees}
 use Rattle.nll_statements.specs.Typing.{agree, pairs_agree}
 
@@ -36,13 +38,13 @@ both_judged f s g t one other j a b e d = record {
 }
 
 -- the type of the return place
-pub return_small : (structs : List Struct) (ns : List Node) (is : List ℕ) (ts : List TypeTree) → HaveShapes ns is ts
-    → 0 < length is
-    → is_small_shape (shape_in ns (slice_index is 0))
+pub return_small : (structs : List Struct) (ns : List Node) (vs : List Typed) (ts : List TypeTree)
+    → HaveShapes ns (numbers_of vs) ts → 0 < length vs
+    → is_small_shape (shape_in ns (get_or vs 0 no_variable).shape)
     ≡ small_prefixes structs ts (record { variable = 0; projections = [] })
-return_small structs ns is ts h l =
-    let t = type_there ns is ts 0 h l in
-    small_agrees t.0 _ (shape_at ns is ts 0 t.0 h t.1)
+return_small structs ns vs ts h l =
+    let t = variable_there ns vs ts 0 h l in
+    small_agrees t.0 _ t.2
     ∙ ap (λ (o : Option TypeTree). unwrap_or (option_map (small_behind structs []) o) true) (sym t.1)
 
 -- ---- pairs of a statement

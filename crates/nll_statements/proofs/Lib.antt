@@ -5,3 +5,4 @@ pub mod TypePairLemmas
 pub mod JudgedLemmas
 pub mod PartLemmas
 pub mod CallLemmas
+pub mod MeantLemmas

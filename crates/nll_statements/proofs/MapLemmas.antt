@@ -1,10 +1,10 @@
 -- Other regions and types leave what else is written in a statement as it is.
-use Rattle.std.proofs.Common.{◌≡◌, List, [], ◌∷◌, ◌++◌, map, refl, ap, ◌∙◌}
+use Rattle.std.proofs.Common.{◌≡◌, ◌↔◌, List, [], ◌∷◌, ◌++◌, map, refl, ap, ◌∙◌}
 use Rattle.std.specs.List.{flat_map}
 use Rattle.nll_types.specs.Places.{PlacePath}
 use Rattle.nll_types.specs.Operands.{Operand}
 use Rattle.nll_statements.specs.Statements.{Statement, map_statement, types_written, is_terminator, return, assign, borrow, make, read, live, dead, nop, goto, switch, drop, call, stop}
-use Rattle.nll_statements.specs.Effects.{operands_of, place_in, targets}
+use Rattle.nll_statements.specs.Effects.{operands_of, place_in, targets, target_of, sources_of, variables_used, defined, dropped}
 use Rattle.nll_statements.specs.Written.{regions_written, variables_written}
 use Rattle.nll_statements.specs.Edges.{edges_from}
 
@@ -129,6 +129,95 @@ module _ {R S T U : Type 0} (f : R → S) (g : T → U) where
   types_mapped (call p args t wheres b unwind) = arguments_mapped g args t
   types_mapped return = refl
   types_mapped stop = refl
+
+  -- it uses, defines and drops the same variables
+  pub same_target : (i : Statement R T) → target_of (map_statement f g i) ≡ target_of i
+  same_target (assign p op) = refl
+  same_target (borrow p r m q) = refl
+  same_target (make p t ops) = refl
+  same_target (read p) = refl
+  same_target (live x) = refl
+  same_target (dead x) = refl
+  same_target nop = refl
+  same_target (goto b) = refl
+  same_target (switch op bs) = refl
+  same_target (drop x b unwind) = refl
+  same_target (call p args t wheres b unwind) = refl
+  same_target return = refl
+  same_target stop = refl
+
+  pub same_sources : (i : Statement R T) → sources_of (map_statement f g i) ≡ sources_of i
+  same_sources (assign p op) = refl
+  same_sources (borrow p r m q) = refl
+  same_sources (make p t ops) = refl
+  same_sources (read p) = refl
+  same_sources (live x) = refl
+  same_sources (dead x) = refl
+  same_sources nop = refl
+  same_sources (goto b) = refl
+  same_sources (switch op bs) = refl
+  same_sources (drop x b unwind) = refl
+  same_sources (call p args t wheres b unwind) =
+      ap (λ (ops : List Operand). flat_map place_in ops) (operands_same g args)
+  same_sources return = refl
+  same_sources stop = refl
+
+  pub same_used : (i : Statement R T) → variables_used (map_statement f g i) ≡ variables_used i
+  same_used i = rw (same_target i, same_sources i) refl
+
+  pub same_defined : (i : Statement R T) → defined (map_statement f g i) ≡ defined i
+  same_defined (assign p op) = refl
+  same_defined (borrow p r m q) = refl
+  same_defined (make p t ops) = refl
+  same_defined (read p) = refl
+  same_defined (live x) = refl
+  same_defined (dead x) = refl
+  same_defined nop = refl
+  same_defined (goto b) = refl
+  same_defined (switch op bs) = refl
+  same_defined (drop x b unwind) = refl
+  same_defined (call p args t wheres b unwind) = refl
+  same_defined return = refl
+  same_defined stop = refl
+
+  pub same_dropped : (i : Statement R T) → dropped (map_statement f g i) ≡ dropped i
+  same_dropped (assign p op) = refl
+  same_dropped (borrow p r m q) = refl
+  same_dropped (make p t ops) = refl
+  same_dropped (read p) = refl
+  same_dropped (live x) = refl
+  same_dropped (dead x) = refl
+  same_dropped nop = refl
+  same_dropped (goto b) = refl
+  same_dropped (switch op bs) = refl
+  same_dropped (drop x b unwind) = refl
+  same_dropped (call p args t wheres b unwind) = refl
+  same_dropped return = refl
+  same_dropped stop = refl
+
+  pub same_return : (i : Statement R T) → (i ≡ return) ↔ (map_statement f g i ≡ return)
+  same_return (assign p op) = (λ e. absurd cc, λ e. absurd cc)
+  same_return (borrow p r m q) = (λ e. absurd cc, λ e. absurd cc)
+  same_return (make p t ops) = (λ e. absurd cc, λ e. absurd cc)
+  same_return (read p) = (λ e. absurd cc, λ e. absurd cc)
+  same_return (live x) = (λ e. absurd cc, λ e. absurd cc)
+  same_return (dead x) = (λ e. absurd cc, λ e. absurd cc)
+  same_return nop = (λ e. absurd cc, λ e. absurd cc)
+  same_return (goto b) = (λ e. absurd cc, λ e. absurd cc)
+  same_return (switch op bs) = (λ e. absurd cc, λ e. absurd cc)
+  same_return (drop x b unwind) = (λ e. absurd cc, λ e. absurd cc)
+  same_return (call p args t wheres b unwind) = (λ e. absurd cc, λ e. absurd cc)
+  same_return return = (λ e. refl, λ e. refl)
+  same_return stop = (λ e. absurd cc, λ e. absurd cc)
+
+identity : {X : Type 0} (xs : List X) → map (λ x. x) xs ≡ xs
+identity [] = refl
+identity (x ∷ xs) = ap (λ ys. x ∷ ys) (identity xs)
+
+-- the regions that occur outside types stay where types alone become others
+pub same_regions : {R T U : Type 0} (g : T → U) (i : Statement R T)
+    → regions_written (map_statement (λ r. r) g i) ≡ regions_written i
+same_regions g i = regions_mapped (λ r. r) g i ∙ identity (regions_written i)
 
 -- ---- two changes, one after the other
 

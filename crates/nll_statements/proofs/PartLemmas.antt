@@ -1,6 +1,6 @@
 -- The parts of types, one after another.
 use Rattle.std.proofs.Common.{◌≡◌, ℕ, zero, suc, ◌+◌, ◌<◌, ◌≤◌, ◌↔◌, Bool, true, false, List, [], ◌∷◌, ◌++◌, length, map, drop, get_or, refl, sym, ap, ◌∙◌, arith, Option, Some, None}
-use Rattle.std.specs.Prelude.{option_map, ◌&&◌, nat_lt, slice_get, IsTrue}
+use Rattle.std.specs.Prelude.{option_map, ◌&&◌, nat_lt, IsTrue}
 use Rattle.std.proofs.lemmas.List.{length-map, drop_all}
 use Rattle.std.specs.List.{list_all, flat_map}
 use Rattle.std.proofs.Math.Seq.{drop-cons}
@@ -9,13 +9,15 @@ use Rattle.std.proofs.lemmas.List.Folds.{list_all-append}
 use Rattle.nll_types.specs.Types.{TypeTree, TypeTrees, int, parameter, reference, tuple, named, function, none, more, type_at, type_count}
 use Rattle.nll_types.specs.Structs.{Struct, struct_at, put_in, put_in_all}
 use Rattle.nll_types.specs.Places.{PlacePath, behind, part_count, small_prefixes}
-use Rattle.nll_types.specs.Judging.{IsJudged, have_variables}
+use Rattle.nll_types.specs.Judging.{HaveShapes, IsJudged, have_variables}
 use Rattle.nll_types.specs.Operands.{Operand, operand_of, operand_type, place_in}
+use Rattle.nll_types.specs.Rows.{numbers_of}
 use Rattle.nll_types.specs.Shapes.{is_small, shape_of, behind_shape}
-use Rattle.nll_types.specs.Table.{shape_in}
+use Rattle.nll_types.specs.Table.{AreBelow, shape_in}
 use Rattle.nll_types.specs.declared.judgement.Judgement.{Judgement}
 use Rattle.nll_types.specs.declared.node.Node.{Node}
 use Rattle.nll_types.specs.declared.operand.Operand.{Operand as Written}
+use Rattle.nll_types.specs.declared.typed.Typed.{Typed}
 use Rattle.nll_types.specs.declared.place.Projection.TheVariants.{Field}
 use Rattle.nll_types.proofs.ShapeLemmas.{behind_agrees}
 use Rattle.nll_statements.specs.TypePairs.{beside, beside_parts, operand_types, parts_of_type}
@@ -269,12 +271,22 @@ module _ (structs : List Struct) (types : List TypeTree) where
 
 -- ---- operands of a call
 
--- the type at a place of a list that begins with those of the operands
-pub type_of_argument : {X : Type 0} (h : X → TypeTree) (xs : List X) (others : List TypeTree) (k : ℕ) (x : X)
-    → k < length xs → x ≡ get_or xs k x → slice_get (map h xs ++ others) k ≡ Some (h x)
-type_of_argument h [] others k x l is = absurd (omega arith)
-type_of_argument h (y ∷ xs) others zero x l is = ap (λ z. Some (h z)) (sym is)
-type_of_argument h (y ∷ xs) others (suc k) x l is = type_of_argument h xs others k x (omega arith) is
+-- the type that is written beside an operand
+pub argument_below : {W : Type 0} (n : ℕ) (xs : List (W × Typed)) (k : ℕ) (x : W × Typed) → k < length xs
+    → x ≡ get_or xs k x → AreBelow n (numbers_of (map (λ a. a.1) xs)) → x.1.shape < n
+argument_below n [] k x l is b = absurd (omega arith)
+argument_below n (y ∷ xs) zero x l is b = rw is (b 0 (omega arith))
+argument_below n (y ∷ xs) (suc k) x l is b =
+    argument_below n xs k x (omega arith) is (λ j m. b (suc j) (omega arith))
+
+pub argument_shape : {W : Type 0} (ns : List Node) (h : Typed → TypeTree) (xs : List (W × Typed)) (k : ℕ)
+    (x : W × Typed) → k < length xs → x ≡ get_or xs k x
+    → HaveShapes ns (numbers_of (map (λ a. a.1) xs)) (map (λ a. h a.1) xs) → shape_in ns x.1.shape ≡ shape_of (h x.1)
+argument_shape ns h [] k x l is e = absurd (omega arith)
+argument_shape ns h (y ∷ xs) zero x l is e = rw is (let z : shape_in ns y.1.shape ≡ shape_of (h y.1) = cc in z)
+argument_shape ns h (y ∷ xs) (suc k) x l is e =
+    let rest : HaveShapes ns (numbers_of (map (λ a. a.1) xs)) (map (λ a. h a.1) xs) = cc in
+    argument_shape ns h xs k x (omega arith) is rest
 
 module _ {X : Type 0} (structs : List Struct) (types : List TypeTree) (op : X → Operand) (h : X → TypeTree) where
   abbrev pub rest_fits : List X → Bool

@@ -19,3 +19,5 @@ pub mod WayLemmas
 pub mod KeepingLemmas
 pub mod NumberLemmas
 pub mod MeetingLemmas
+pub mod RowLemmas
+pub mod FillLemmas

@@ -29,15 +29,6 @@ pub within_later : (old new : List Node) (o : Option TypedShape) → Extends old
 within_later old new None e b = tt
 within_later old new (Some f) e b = let m = e.longer in omega arith
 
-pub no_place : (structs : List Struct) (ns : List Node) (ts : List TypeTree) (p : PlacePath)
-    → slice_get ts p.variable ≡ None
-    → IsFound ns None (type_of structs ts p) (small_prefixes structs ts p)
-no_place structs ns ts p e = record {
-  shape = ap (λ (o : Option TypeTree). option_map shape_of (option_and_then (behind_all structs p.projections) o))
-      (sym e);
-  small = tt;
-}
-
 pub place_is : (structs : List Struct) (ns : List Node) (ts : List TypeTree) (p : PlacePath) (t : TypeTree)
     (o : Option TypedShape) → slice_get ts p.variable ≡ Some t
     → option_map (λ (f : TypedShape). shape_in ns f.shape) o ≡ option_map shape_of (behind_all structs p.projections t)

@@ -1,11 +1,13 @@
 -- The shapes of types by numbers, while the table grows.
-use Rattle.std.proofs.Common.{◌≡◌, ℕ, zero, suc, ◌<◌, ◌≤◌, List, [], ◌∷◌, length, map, refl, ap, ◌∙◌, arith, Some, None}
-use Rattle.std.specs.Prelude.{slice_get, slice_index}
+use Rattle.std.proofs.Common.{◌≡◌, ℕ, zero, suc, ◌<◌, List, [], ◌∷◌, length, map, get_or, refl, ◌∙◌, arith, Some}
+use Rattle.std.specs.Prelude.{slice_get}
 use Rattle.nll_types.specs.Types.{TypeTree}
+use Rattle.nll_types.specs.Rows.{numbers_of}
 use Rattle.nll_types.specs.Shapes.{shape_of}
 use Rattle.nll_types.specs.Table.{Extends, AreBelow, shape_in}
 use Rattle.nll_types.specs.Judging.{HaveShapes}
 use Rattle.nll_types.specs.declared.node.Node.{Node}
+use Rattle.nll_types.specs.declared.typed.Typed.{Typed}
 
 -- ---- numbers of shapes, while the table grows
 
@@ -29,38 +31,29 @@ pub shape_later : (old new : List Node) (i : ℕ) (t : TypeTree) → Extends old
     → shape_in old i ≡ shape_of t → shape_in new i ≡ shape_of t
 shape_later old new i t e b h = e.kept i b ∙ h
 
--- ---- one of the numbers
+-- ---- variables by the numbers of their types
 
-pub shape_at : (ns : List Node) (is : List ℕ) (ts : List TypeTree) (k : ℕ) (t : TypeTree) → HaveShapes ns is ts
-    → slice_get ts k ≡ Some t → shape_in ns (slice_index is k) ≡ shape_of t
-shape_at ns is [] k t h e = absurd cc
-shape_at ns [] (u ∷ ts) k t h e = absurd (let z : [] ≡ shape_of u ∷ map shape_of ts = h in cc)
-shape_at ns (i ∷ is) (u ∷ ts) zero t h e =
-    let z : shape_in ns i ∷ map (shape_in ns) is ≡ shape_of u ∷ map shape_of ts = h in
-    let a : shape_in ns i ≡ shape_of u = cc in
-    let b : u ≡ t = cc in
-    a ∙ ap shape_of b
-shape_at ns (i ∷ is) (u ∷ ts) (suc k) t h e =
-    let z : shape_in ns i ∷ map (shape_in ns) is ≡ shape_of u ∷ map shape_of ts = h in
-    let rest : map (shape_in ns) is ≡ map shape_of ts = cc in
-    shape_at ns is ts k t rest e
+-- where there is no variable
+abbrev pub no_variable : Typed
+no_variable = record { shape = 0; first = 0 }
 
-pub type_there : (ns : List Node) (is : List ℕ) (ts : List TypeTree) (k : ℕ) → HaveShapes ns is ts → k < length is
-    → (t : TypeTree) × (slice_get ts k ≡ Some t)
-type_there ns [] ts k h l = absurd (omega arith)
-type_there ns (i ∷ is) [] k h l = absurd (let z : shape_in ns i ∷ map (shape_in ns) is ≡ [] = h in cc)
-type_there ns (i ∷ is) (u ∷ ts) zero h l = (u, refl)
-type_there ns (i ∷ is) (u ∷ ts) (suc k) h l =
-    let z : shape_in ns i ∷ map (shape_in ns) is ≡ shape_of u ∷ map shape_of ts = h in
-    let rest : map (shape_in ns) is ≡ map shape_of ts = cc in
-    type_there ns is ts k rest (omega arith)
+pub variable_below : (n : ℕ) (vs : List Typed) (k : ℕ) → AreBelow n (numbers_of vs) → k < length vs
+    → (get_or vs k no_variable).shape < n
+variable_below n [] k b l = absurd (omega arith)
+variable_below n (v ∷ vs) zero b l = b 0 (omega arith)
+variable_below n (v ∷ vs) (suc k) b l = variable_below n vs k (λ j m. b (suc j) (omega arith)) (omega arith)
 
-pub no_type_there : (ns : List Node) (is : List ℕ) (ts : List TypeTree) (k : ℕ) → HaveShapes ns is ts → length is ≤ k
-    → slice_get ts k ≡ None
-no_type_there ns is [] k h l = refl
-no_type_there ns [] (u ∷ ts) k h l = absurd (let z : [] ≡ shape_of u ∷ map shape_of ts = h in cc)
-no_type_there ns (i ∷ is) (u ∷ ts) zero h l = absurd (omega arith)
-no_type_there ns (i ∷ is) (u ∷ ts) (suc k) h l =
-    let z : shape_in ns i ∷ map (shape_in ns) is ≡ shape_of u ∷ map shape_of ts = h in
-    let rest : map (shape_in ns) is ≡ map shape_of ts = cc in
-    no_type_there ns is ts k rest (omega arith)
+-- a variable has a type, and the type has the variable's shape
+pub variable_there : (ns : List Node) (vs : List Typed) (ts : List TypeTree) (k : ℕ)
+    → HaveShapes ns (numbers_of vs) ts → k < length vs
+    → (t : TypeTree) × (slice_get ts k ≡ Some t) × (shape_in ns (get_or vs k no_variable).shape ≡ shape_of t)
+variable_there ns [] ts k h l = absurd (omega arith)
+variable_there ns (v ∷ vs) [] k h l =
+    absurd (let z : shape_in ns v.shape ∷ map (shape_in ns) (numbers_of vs) ≡ [] = h in cc)
+variable_there ns (v ∷ vs) (t ∷ ts) zero h l =
+    let z : shape_in ns v.shape ∷ map (shape_in ns) (numbers_of vs) ≡ shape_of t ∷ map shape_of ts = h in
+    (t, refl, cc)
+variable_there ns (v ∷ vs) (t ∷ ts) (suc k) h l =
+    let z : shape_in ns v.shape ∷ map (shape_in ns) (numbers_of vs) ≡ shape_of t ∷ map shape_of ts = h in
+    let rest : map (shape_in ns) (numbers_of vs) ≡ map shape_of ts = cc in
+    variable_there ns vs ts k rest (omega arith)

@@ -41,7 +41,7 @@ pub use node::Node;
 pub use operand::Operand;
 pub use parameter::{Parameter, Sign};
 pub use place::{Place, Projection};
-pub use place_types::{field_type, place_type};
+pub use place_types::{behind, field_type, place_type};
 pub use shapes::Shapes;
 pub use structs::{Declaration, Structs};
 pub use substitution::put_in;

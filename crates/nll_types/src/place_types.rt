@@ -111,6 +111,22 @@ fn type_from(
     Ok(Some(current))
 }
 
+/// The type behind projections from a type, where there is one.
+///
+/// # Cost
+/// Linear in the type and in those of the fields of structs on the way (not proved).
+pub fn behind(
+    alloc: Global,
+    structs: &Structs,
+    ty: Ty,
+    projections: &[Projection],
+) -> Result<Option<Ty>, Memory>
+    ensures { IfOk result (λ o. option_map tree o
+        ≡ behind_all (structs_of structs.now) projections.now (tree ty)) }
+{
+    type_from(alloc, structs, ty, projections, 0)
+}
+
 /// The type of a place over variables of these types, where it has one.
 ///
 /// # Cost

@@ -69,11 +69,7 @@ pub(crate) fn tree_of(
         }
         Node::Function(inputs, output) => {
             let inputs = trees_of(alloc, shapes, inputs.as_slice(), regions, at);
-            function(
-                alloc,
-                inputs,
-                tree_of(alloc, shapes, *output, regions, at),
-            )
+            function(alloc, inputs, tree_of(alloc, shapes, *output, regions, at))
         }
     }
 }

@@ -4,6 +4,7 @@ use Rattle.std.specs.List.{list_all, flat_map}
 use Rattle.nll_types.specs.Declarations.{structs_of}
 use Rattle.nll_types.specs.Operands.{operand_of, place_in}
 use Rattle.nll_types.specs.Places.{small_prefixes}
+use Rattle.nll_types.specs.Rows.{numbers_of}
 use Rattle.nll_types.specs.Shapes.{shape_of}
 use Rattle.nll_types.specs.Table.{shape_in}
 use Rattle.nll_types.specs.Tables.{AddsShapes}
@@ -19,7 +20,8 @@ abbrev pub invariant-loop-place : goal.invariant-loop-place
 invariant-loop-place l = AddsShapes l.fn.table l.table
     × ((l.judged.declared && left_declared operand_of (length l.variables) l.operands l.place)
     ≡ have_variables (length l.variables) (flat_map place_in (map operand_of l.operands)))
-    × ((types : List TypeTree) (t : TypeTree) (ts : TypeTrees) → HaveShapes l.fn.table.shapes l.variables types
+    × ((types : List TypeTree) (t : TypeTree) (ts : TypeTrees)
+    → HaveShapes l.fn.table.shapes (numbers_of l.variables) types
     → shape_in l.fn.table.shapes l.shape ≡ shape_of t → parts_of_type (structs_of l.fn.table.structs) t ≡ Some ts
     → IsSoFar l.judged
     (all_agree (operand_types (structs_of l.fn.table.structs) types (map operand_of (drop l.place l.operands)))

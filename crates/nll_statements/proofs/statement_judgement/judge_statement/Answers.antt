@@ -1,17 +1,18 @@
-use Rattle.std.proofs.Common.{◌≡◌, ℕ, List, [], ◌∷◌, length, map, refl, sym, ap, ◌∙◌, subst, Some}
+use Rattle.std.proofs.Common.{◌≡◌, ℕ, List, ◌∷◌, length, map, refl, sym, ap, ◌∙◌, subst, Some}
 use Rattle.std.specs.List.{flat_map, list_all}
 use Rattle.nll_types.specs.Declarations.{structs_of}
 use Rattle.nll_types.specs.Operands.{Operand, operand_of, operand_type, place_in}
 use Rattle.nll_types.specs.Places.{path_of, type_of, small_prefixes}
+use Rattle.nll_types.specs.Shapes.{shape_of}
+use Rattle.nll_types.specs.Table.{shape_in}
 use Rattle.nll_types.specs.Types.{TypeTree, int}
 use Rattle.nll_statements.specs.Statements.{call}
 use Rattle.nll_statements.specs.TypePairs.{reference_to}
 use Rattle.nll_types.specs.Judging.{IsJudged, have_variables}
 use Rattle.nll_statements.specs.Typing.{types_agree, types_are_small}
-use Rattle.nll_statements.proofs.CallLemmas.{arguments_mapped, operands_mapped, written_mapped}
+use Rattle.nll_statements.proofs.CallLemmas.{arguments_mapped, operands_mapped, types_kept}
 use Rattle.nll_types.proofs.MeetingLemmas.{judged_as}
 use Rattle.nll_statements.proofs.JudgedLemmas.{and_right_true, assign_order, borrow_order, return_order, switch_order, one_agrees}
-use Rattle.nll_types.proofs.NumberLemmas.{shape_at}
 use Rattle.std.proofs.lemmas.Result.{IfOk-weaker}
 use Rattle.nll_statements.proofs.statement_judgement.judge_statement.Goals as goal
 
@@ -34,11 +35,11 @@ returns-in-Call-clause-judged g c =
     let second = c.deref-in-Call-2.ensures in
     let slice = c.as_slice-arguments.ensures.value in
     let arguments : c.as_slice-arguments.result.now ≡ called.arguments.items = cc in
-    let judged = rw (arguments, first) at c.judge_call.ensures.judged in
+    let judged = rw (arguments, first, c.deref-in-Call-3.ensures) at c.judge_call.ensures.judged in
     rw c.in-Call.is (IfOk-weaker c.judge_call.result _ _ (λ j told. λ types f h e w.
     let wheres = map {B = ℕ × ℕ} (λ x. (f x.0, f x.1)) called.wheres.items in
-    let written = written_mapped operand_of h called.arguments.items called.result in
-    let here = told types h (h called.result) wheres called.target called.unwind e (rw written at w) in
+    let written = rw (types_kept operand_of called.arguments.items) at w in
+    let here = told types h wheres called.target called.unwind e written in
     subst (λ (as' : List (Operand × TypeTree)).
     IsJudged (types_agree structs types
     (call (path_of called.place) as' (h called.result) wheres called.target called.unwind))
@@ -100,7 +101,14 @@ pub judge_call-requires-clause-variables : goal.judge_call-requires-clause-varia
 judge_call-requires-clause-variables g c = c.requires.variables
 
 pub judge_call-requires-clause-written : goal.judge_call-requires-clause-written
-judge_call-requires-clause-written g c = c.requires.written
+judge_call-requires-clause-written g c =
+    let called = c.in-Call.call.value in
+    let first = c.deref-in-Call.ensures in
+    let second = c.deref-in-Call-2.ensures in
+    let slice = c.as_slice-arguments.ensures.value in
+    let arguments : c.as_slice-arguments.result.now ≡ called.arguments.items = cc in
+    rw (arguments, c.deref-in-Call-3.ensures)
+    (rw (types_kept operand_of called.arguments.items) at (rw c.in-Call.is at c.requires.written))
 
 pub returns-in-Read-clause-judged : goal.returns-in-Read-clause-judged
 returns-in-Read-clause-judged g c =
@@ -124,8 +132,8 @@ returns-in-Make-clause-judged g c =
     let second = c.deref-in-Make.ensures in
     let operands : c.as_slice-operands.result.now ≡ made.operands.items = cc in
     rw c.in-Make.is (IfOk-weaker c.judge_make.result _ _ (λ j told. λ types f h e w.
-    told types (h made.ty) e (shape_at c.args.table.now.shapes c.args.written.now (h made.ty ∷ []) 0
-    (h made.ty) w refl)) (rw (operands, first) at c.judge_make.ensures.judged))
+    told types (h made.ty) e (let z : shape_in c.args.table.now.shapes made.ty.shape ≡ shape_of (h made.ty) = cc in z))
+    (rw (operands, first, c.deref-in-Make-2.ensures) at c.judge_make.ensures.judged))
 
 pub returns-in-Assign-clause-declared : goal.returns-in-Assign-clause-declared
 returns-in-Assign-clause-declared g c = rw c.in-Assign.is c.judge_assigned.ensures.declared
