@@ -65,10 +65,3 @@ pub received_on : {A G : Type 0} (old middle new : State A G) → middle ≡ rec
     → new ≡ record middle { received = new.received } → new ≡ record old { received = new.received }
 received_on {A} {G} old middle new first then =
     then ∙ ap (λ (o : State A G). record o { received = new.received }) first
-
--- the lists, and then the log
-pub received_grows : {A G : Type 0} (old middle new : State A G) → middle ≡ record old { received = middle.received }
-    → new ≡ record middle { log = new.log } → new ≡ record old { log = new.log; received = new.received }
-received_grows {A} {G} old middle new first then =
-    then ∙ (ap (λ (o : State A G). record o { log = new.log }) first
-    ∙ ap (λ xs. record old { log = new.log; received = xs }) (sym (ap (λ (o : State A G). o.received) then)))

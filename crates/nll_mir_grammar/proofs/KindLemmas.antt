@@ -7,12 +7,14 @@ use Rattle.std.specs.Fmt.{decimal}
 use Rattle.nll_text.specs.Tokens.{Token, word, sign, arrow}
 use Rattle.nll_types.specs.Operands.{constant, copied, moved}
 use Rattle.nll_mir_grammar.specs.MirForms.{spelled_projection, block_word}
-use Rattle.nll_mir_grammar.specs.Grammars.{Begins, HasNone, IsOne, IsNotNext, behind, pair, parentheses, MayFollowAll}
-use Rattle.nll_mir_grammar.specs.Parts.{regions, any_words, names, variables, places, operands, types, tuples, arguments, mutabilities, drop_marks, parameter_lists, bounds, bound_lists, block_lists, exits}
+use Rattle.nll_text.specs.Grammars.{Begins, HasNone, IsNotNext, any_words, regions}
+use Rattle.nll_mir_grammar.specs.Grammars.{IsOne, behind, pair, parentheses, MayFollowAll}
+use Rattle.nll_mir_grammar.specs.Parts.{names, variables, places, operands, types, tuples, arguments, mutabilities, drop_marks, parameter_lists, bounds, bound_lists, block_lists, exits}
 use Rattle.nll_mir_grammar.specs.Kinds.{borrows, makes, results, signatures, structs, Right, value, borrowed, made, called, RightParts, right_sides, rights, tails, keyword_name, LineParts, line_grammars, lines}
 use Rattle.nll_mir_grammar.specs.declared.keyword.Keyword.{Keyword}
 use Rattle.nll_mir_grammar.specs.declared.keyword.Keyword.TheVariants as words
-use Rattle.nll_mir_grammar.proofs.GrammarLemmas.{head_same, signs_apart, signs_differ, behind_one, behind_none, Joins, pair_one, parentheses_one, all_before, empty_one, kinds_one}
+use Rattle.nll_mir_grammar.proofs.GrammarLemmas.{head_same, signs_apart, signs_differ, behind_one, behind_none, Joins, pair_one, kinds_one}
+use Rattle.nll_mir_grammar.proofs.ListLemmas.{parentheses_one, all_before, empty_one}
 use Rattle.nll_mir_grammar.proofs.PartLemmas.{words_apart, regions_join, words_join, names_join, variables_join, any_bounds, blocks_one, regions_one, any_words_one, names_one, prefixed_one, places_one, operands_one, types_one, tuples_one, mark_one, parameter_lists_one, bound_lists_one, block_lists_one, exits_one, operands_listable, arguments_listable, bounds_before, no_projection, operands_before, mark_before}
 
 -- ---- what stands behind what

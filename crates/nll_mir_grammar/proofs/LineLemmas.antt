@@ -18,8 +18,9 @@ use Rattle.nll_statements.specs.Statements.{assign, borrow, make, read, live, de
 use Rattle.nll_mir_grammar.specs.MirForms.{Form, universal, outlives, further, assert_line, struct_line, variable, blocks, block, at_point, end, spelled_form, IsWritable, IsWritableOperand, IsSpelled}
 use Rattle.nll_mir_grammar.specs.Versions.{is_of_version, IsSpelledIn}
 use Rattle.nll_mir_grammar.specs.declared.version.Version.{Version}
-use Rattle.nll_mir_grammar.specs.Grammars.{Begins, HasNone, IsNotNext, behind, pair}
-use Rattle.nll_mir_grammar.specs.Parts.{any_words, places, operands, arguments, block_names, MayFollowOperand, MayFollowUnwind}
+use Rattle.nll_text.specs.Grammars.{Begins, HasNone, IsNotNext, any_words}
+use Rattle.nll_mir_grammar.specs.Grammars.{behind, pair}
+use Rattle.nll_mir_grammar.specs.Parts.{places, operands, arguments, block_names, MayFollowOperand, MayFollowUnwind}
 use Rattle.nll_mir_grammar.specs.Kinds.{borrows, makes, signatures, value, borrowed, made, called, rights, tails, keyword_name, LineParts, line_grammars, lines, parts_of, IsLine, IsRightSide, IsBehind, HasNoKeyword}
 use Rattle.nll_mir_grammar.specs.declared.keyword.Keyword.{Keyword}
 use Rattle.nll_mir_grammar.specs.declared.keyword.Keyword.TheVariants as words

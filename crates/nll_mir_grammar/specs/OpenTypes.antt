@@ -5,7 +5,7 @@ use Rattle.std.specs.Prelude.{◌*◌, length, reverse, map, codes}
 use Rattle.nll_text.specs.Tokens.{Token, word, region, arrow, sign}
 use Rattle.nll_mir_grammar.specs.WrittenTypes.{Name, WrittenType, WrittenTypes, Arguments}
 use Rattle.nll_mir_grammar.specs.WrittenTypes.{reference, tuple, named, function, none, more}
-use Rattle.nll_mir_grammar.specs.WrittenTypes.{region_argument, type_argument}
+use Rattle.nll_mir_grammar.specs.WrittenTypes.{no_argument, region_argument, type_argument}
 use Rattle.nll_mir_grammar.specs.WrittenTypes.{spelled, spelled_more_parts}
 use Rattle.nll_mir_grammar.specs.WrittenTypes.{spelled_more_arguments, is_capital}
 use Rattle.nll_mir_grammar.specs.WrittenTypes.{HasNames, HaveNames, ArgumentsHaveNames, IsFree}
@@ -72,39 +72,49 @@ pub record Reads (tokens : List Token) (t : WrittenType) (rest : List Token) : T
   pub joins : tokens ≡ spelled t ++ rest
   pub names : HasNames t
 
+-- Types of a row are read, the others follow, and what all of them make goes on.
+abbrev pub TypesGoOn :
+    WrittenTypes → List Token → (WrittenTypes → List Token → Type 0) → Type 0
+TypesGoOn done ts Then =
+    (us : WrittenTypes) × (mid : List Token) × (ts ≡ spelled_more_parts us ++ mid) × HaveNames us
+    × Then (joined done us) mid
+
+-- The result of a function with these arguments comes after an arrow, and the function goes on.
+abbrev pub ResultGoesOn :
+    (WrittenType → List Token → Type 0) → WrittenTypes → List Token → Type 0
+ResultGoesOn Then us ts =
+    (mid : List Token) × (ts ≡ arrow ∷ mid)
+    × ((u : WrittenType) × (other : List Token) × Reads mid u other × Then (function us u) other)
+
+-- A part or an argument of the frame is complete, the others follow, and what all of them make goes
+-- on.
+abbrev pub RowGoesOn : Frame → List Token → (WrittenType → List Token → Type 0) → Type 0
+RowGoesOn (behind _ _) ts Then = ⊥
+RowGoesOn (parts done) ts Then = TypesGoOn done ts (λ us mid. Then (tuple us) mid)
+RowGoesOn (arguments n done) ts Then =
+    (us : Arguments) × (mid : List Token) × (ts ≡ spelled_more_arguments us ++ mid)
+    × ArgumentsHaveNames us × Then (named n (joined_arguments done us)) mid
+RowGoesOn (inputs done) ts Then = TypesGoOn done ts (ResultGoesOn Then)
+RowGoesOn (output _) ts Then = ⊥
+
 -- A type is complete; the frames, the innermost first, go on and are closed. The whole type comes
 -- out, and after it the rest, which begins with no `<`.
 abbrev pub Closes : List Frame → WrittenType → List Token → WrittenType → List Token → Type 0
 Closes [] t ts whole rest = (t ≡ whole) × (ts ≡ rest) × IsFree rest
 Closes (behind r m ∷ frames) t ts whole rest = Closes frames (reference r m t) ts whole rest
 Closes (parts done ∷ frames) t ts whole rest =
-    (us : WrittenTypes) × (mid : List Token) × (ts ≡ spelled_more_parts us ++ mid) × HaveNames us
-    × Closes frames (tuple (joined done (more t us))) mid whole rest
+    RowGoesOn (parts (joined done (more t none))) ts (λ u us. Closes frames u us whole rest)
 Closes (arguments n done ∷ frames) t ts whole rest =
-    (us : Arguments) × (mid : List Token) × (ts ≡ spelled_more_arguments us ++ mid)
-    × ArgumentsHaveNames us
-    × Closes frames (named n (joined_arguments done (type_argument t us))) mid whole rest
+    RowGoesOn (arguments n (joined_arguments done (type_argument t no_argument))) ts
+    (λ u us. Closes frames u us whole rest)
 Closes (inputs done ∷ frames) t ts whole rest =
-    (us : WrittenTypes) × (mid : List Token) × (ts ≡ spelled_more_parts us ++ arrow ∷ mid)
-    × HaveNames us × (u : WrittenType) × (other : List Token) × Reads mid u other
-    × Closes frames (function (joined done (more t us)) u) other whole rest
+    RowGoesOn (inputs (joined done (more t none))) ts (λ u us. Closes frames u us whole rest)
 Closes (output done ∷ frames) t ts whole rest = Closes frames (function done t) ts whole rest
 
 -- A part or an argument of the innermost frame is complete, and the frames go on.
 abbrev pub GoesInside : List Frame → List Token → WrittenType → List Token → Type 0
 GoesInside [] ts whole rest = ⊥
-GoesInside (behind _ _ ∷ frames) ts whole rest = ⊥
-GoesInside (parts done ∷ frames) ts whole rest =
-    (us : WrittenTypes) × (mid : List Token) × (ts ≡ spelled_more_parts us ++ mid) × HaveNames us
-    × Closes frames (tuple (joined done us)) mid whole rest
-GoesInside (arguments n done ∷ frames) ts whole rest =
-    (us : Arguments) × (mid : List Token) × (ts ≡ spelled_more_arguments us ++ mid)
-    × ArgumentsHaveNames us × Closes frames (named n (joined_arguments done us)) mid whole rest
-GoesInside (inputs done ∷ frames) ts whole rest =
-    (us : WrittenTypes) × (mid : List Token) × (ts ≡ spelled_more_parts us ++ arrow ∷ mid)
-    × HaveNames us × (u : WrittenType) × (other : List Token) × Reads mid u other
-    × Closes frames (function (joined done us) u) other whole rest
-GoesInside (output _ ∷ frames) ts whole rest = ⊥
+GoesInside (f ∷ frames) ts whole rest = RowGoesOn f ts (λ u us. Closes frames u us whole rest)
 
 -- A type comes, and the frames go on.
 abbrev pub GoesOn : List Frame → List Token → WrittenType → List Token → Type 0
@@ -118,9 +128,8 @@ GoesOnWithRegion (behind _ _ ∷ frames) ts whole rest = ⊥
 GoesOnWithRegion (parts _ ∷ frames) ts whole rest = ⊥
 GoesOnWithRegion (arguments n done ∷ frames) ts whole rest =
     (q : Name) × (mid : List Token) × (ts ≡ region q ∷ mid)
-    × ((us : Arguments) × (other : List Token) × (mid ≡ spelled_more_arguments us ++ other)
-    × ArgumentsHaveNames us
-    × Closes frames (named n (joined_arguments done (region_argument q us))) other whole rest)
+    × GoesInside (arguments n (joined_arguments done (region_argument q no_argument)) ∷ frames) mid
+    whole rest
 GoesOnWithRegion (inputs _ ∷ frames) ts whole rest = ⊥
 GoesOnWithRegion (output _ ∷ frames) ts whole rest = ⊥
 

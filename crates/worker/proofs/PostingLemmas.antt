@@ -105,24 +105,8 @@ module _ {A F G : Type 0} (rules : Rules A F G) where
         omega (arith, within, ap length same, one_more)
 
   module _ (first now : State A G) (to : ℕ) (sent : List G) (p : Posting first now to sent) where
-    pub posting_front : IsPrefix sent (part_for rules first to)
-    posting_front = (
-      drop (given_to now to) (part_for rules first to),
-      sym (take-append-drop (given_to now to) (part_for rules first to))
-          ∙ ap (λ xs. xs ++ drop (given_to now to) (part_for rules first to)) (sym p.posted),
-    )
-
     part_same_now : part_for rules now to ≡ part_for rules first to
     part_same_now = ap (λ (o : State A G). part_for rules o to) p.others
-
-    pub posted_all : given_to now to ≡ length (part_for rules now to) → sent ≡ part_for rules first to
-    posted_all all =
-        p.posted ∙ (ap (λ n. take n (part_for rules first to)) (all ∙ ap length part_same_now) ∙ take_all
-        (part_for rules first to))
-
-    pub given_all : given_to now to ≡ length (part_for rules now to) → given_to now to ≡ length
-        (part_for rules first to)
-    given_all all = all ∙ ap length part_same_now
 
     -- fewer than 2 ^ 37 were posted
     pub posted_few : length sent < 2 ^ 37
@@ -133,8 +117,3 @@ module _ {A F G : Type 0} (rules : Rules A F G) where
         (subst (λ xs. given_to now to ≤ length xs) part_same_now n) in
         let few = filter_le (λ (g : G). rules.reads now.system to (rules.fact g)) now.log in
         omega (arith, l, n, few, p.sound.few)
-
-  pub posting_none : (o : State A G) (to : ℕ) (sent : List G) → IsSound rules o → sent ≡ take
-      (given_to o to) (part_for rules o to)
-      → Posting o o to sent
-  posting_none o to sent sound is = record { sound = sound; others = refl; other_given = λ j h. refl; posted = is }
