@@ -30,9 +30,9 @@ pub some_same : {R T : Type 0} (i j : Statement R T) → Some i ≡ Some j → i
 some_same i j h = cc
 
 -- one point more
-pub points_step : {R T : Type 0} (starts : List ℕ) (count : ℕ) (stand : List (Statement R T)) (k : ℕ) (i : Statement R T)
-    (old new : Graph) → HasPoints starts count stand k old → slice_get stand k ≡ Some i → AddsPoint starts k i old new
-    → HasPoints starts count stand (k + 1) new
+pub points_step : {R T : Type 0} (starts : List ℕ) (count : ℕ) (stand : List (Statement R T)) (k : ℕ)
+    (i : Statement R T) (old new : Graph) → HasPoints starts count stand k old → slice_get stand k ≡ Some i
+    → AddsPoint starts k i old new → HasPoints starts count stand (k + 1) new
 points_step starts count stand k i old new has at adds = record {
   points = adds.points ∙ has.points;
   universals = adds.universals ∙ has.universals;
@@ -73,9 +73,9 @@ points_step starts count stand k i old new has at adds = record {
 }
 
 -- there is room for the edges of one point more
-pub points_room : {R T : Type 0} (starts : List ℕ) (count : ℕ) (stand : List (Statement R T)) (k : ℕ) (i : Statement R T)
-    (old : Graph) → HasPoints starts count stand k old → slice_get stand k ≡ Some i → edge_count stand ≤ most_edges
-    → length old.edges + edges_from i ≤ most_edges
+pub points_room : {R T : Type 0} (starts : List ℕ) (count : ℕ) (stand : List (Statement R T)) (k : ℕ)
+    (i : Statement R T) (old : Graph) → HasPoints starts count stand k old → slice_get stand k ≡ Some i
+    → edge_count stand ≤ most_edges → length old.edges + edges_from i ≤ most_edges
 points_room starts count stand k i old has at room =
     let more = sum_by_more_le edges_from stand k i (slice_get_within stand k i at) in
     let last : get_or stand k i ≡ i = get_or_from_slice_get stand k i i at in

@@ -1,5 +1,5 @@
 -- What a body of the code keeps is the body of its parts.
-use Rattle.std.proofs.Common.{◌≡◌, ◌<◌, ℕ, List, map, length, get_or, Some, ap, refl, sym, ◌∙◌, subst, arith}
+use Rattle.std.proofs.Common.{◌≡◌, ◌<◌, ℕ, List, map, length, get_or, ap, refl, sym, ◌∙◌, subst, arith}
 use Rattle.std.proofs.lemmas.List.{length-map}
 use Rattle.std.proofs.lemmas.Option.{get_or_from_slice_get, same_Some, slice_get_within, slice_get_read}
 use Rattle.nll_problem.specs.Graph.{Graph}
@@ -15,7 +15,7 @@ use Rattle.nll_statements.specs.declared.statement.Statement.{Statement as Kept}
 use Rattle.nll_body.specs.Bodies.{BodyText, HasType, StandsAt, IsGraphOf}
 use Rattle.nll_body.specs.Kept.{kept_body, IsKept}
 use Rattle.nll_body.specs.Sound.{IsSound}
-use Rattle.nll_body.specs.Typed.{HaveRows, meant, trees_at}
+use Rattle.nll_body.specs.Typed.{meant, trees_at}
 use Rattle.nll_body.proofs.MeantLemmas.{mapped_at}
 
 module _ (outlives asserts : List (ℕ × ℕ)) (types : BodyTypes) (variables : List Typed)
@@ -51,12 +51,12 @@ module _ (outlives asserts : List (ℕ × ℕ)) (types : BodyTypes) (variables :
 
   module _ (labels : Labels) (graph : Graph) (body : BodyText)
       (is : kept_body labels outlives asserts types variables points graph ≡ body) where
-    pub variable_within : (x : ℕ) → x < length body.variables → x < length variables
+    variable_within : (x : ℕ) → x < length body.variables → x < length variables
     variable_within x within =
         let same = ap (λ (b : BodyText). length b.variables) is in
         omega (arith, same, within, length-map variables (tree_at types.table.shapes types.regions.items))
 
-    pub point_within : (p : ℕ) → p < length body.points → p < length points
+    point_within : (p : ℕ) → p < length body.points → p < length points
     point_within p within =
         let same = ap (λ (b : BodyText). length b.points) is in
         omega (arith, same, within, length-map points (meant types))

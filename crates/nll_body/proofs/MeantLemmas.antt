@@ -1,18 +1,17 @@
 -- The graph of statements is that of what they mean.
 use Rattle.std.proofs.Common.{◌≡◌, ℕ, ◌+◌, ◌<◌, ◌≤◌, List, [], ◌∷◌, map, length, Contains, Option, Some, None, slice_get, inl, inr, refl, sym, ap, ◌∙◌, subst, ⊎_elim, take}
-use Rattle.std.specs.Prelude.{option_map, sum_by}
+use Rattle.std.specs.Prelude.{option_map}
 use Rattle.std.proofs.lemmas.List.{length-map, take-map}
 use Rattle.std.proofs.lemmas.List.Sums.{sum_by-cons}
 use Rattle.std.proofs.lemmas.Option.{none-some, same_Some, slice_get-map}
 use Rattle.nll_problem.specs.Graph.{Graph}
 use Rattle.nll_statements.specs.Statements.{Statement, map_statement, return}
-use Rattle.nll_statements.specs.Effects.{targets}
 use Rattle.nll_statements.proofs.MapLemmas.{same_terminator, same_targets, same_edges, same_return}
 use Rattle.nll_body.specs.Edges.{LeadsTo, LeavesTo, edges_from, edge_count}
 use Rattle.nll_body.specs.Making.{AreBlocks, AreEnds, HasPoints}
 
 -- what stands at a place of a mapped list comes from there
-pub mapped_from : {X Y : Type 0} (f : X → Y) (xs : List X) (p : ℕ) (y : Y) → slice_get (map f xs) p ≡ Some y
+mapped_from : {X Y : Type 0} (f : X → Y) (xs : List X) (p : ℕ) (y : Y) → slice_get (map f xs) p ≡ Some y
     → (x : X) × (slice_get xs p ≡ Some x) × (f x ≡ y)
 mapped_from {X} {Y} f xs p y h = by (slice_get xs p) refl
   where

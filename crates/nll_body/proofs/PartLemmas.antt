@@ -1,5 +1,5 @@
 -- The parts of a body that is sound can be made into its graph.
-use Rattle.std.proofs.Common.{◌≡◌, ◌≤◌, ℕ, List, length, map, sym, subst}
+use Rattle.std.proofs.Common.{◌≡◌, ◌≤◌, length, map, sym, subst}
 use mathlib.Core.List.{map-map}
 use Rattle.std.proofs.lemmas.List.{length-map}
 use Rattle.nll_problem.specs.Graph.{Graph}

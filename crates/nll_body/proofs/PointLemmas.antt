@@ -34,8 +34,9 @@ nowhere starts q led = none_there led.1
     none_there h = absurd (omega (arith, h.1))
 
 -- the edge behind a statement
-pub statement_edge : {R T : Type 0} (starts : List ℕ) (p : ℕ) (i : Statement R T) (old new : Graph) → is_terminator i ≡ false
-    → AddsFact old.edges new.edges (p, p + 1) → new ≡ record old { edges = new.edges } → AddsEdges starts p i old new
+pub statement_edge : {R T : Type 0} (starts : List ℕ) (p : ℕ) (i : Statement R T) (old new : Graph)
+    → is_terminator i ≡ false → AddsFact old.edges new.edges (p, p + 1) → new ≡ record old { edges = new.edges }
+    → AddsEdges starts p i old new
 statement_edge starts p i old new plain adds same = record {
   others = same;
   next = λ r q. (
@@ -50,8 +51,8 @@ statement_edge starts p i old new plain adds same = record {
 }
 
 -- the edges behind a terminator
-pub terminator_edges : {R T : Type 0} (starts : List ℕ) (p : ℕ) (i : Statement R T) (old new : Graph) → is_terminator i ≡ true
-    → AddsTargets starts p (targets i) old new → AddsEdges starts p i old new
+pub terminator_edges : {R T : Type 0} (starts : List ℕ) (p : ℕ) (i : Statement R T) (old new : Graph)
+    → is_terminator i ≡ true → AddsTargets starts p (targets i) old new → AddsEdges starts p i old new
 terminator_edges starts p i old new ends adds = record {
   others = adds.others;
   next = λ r q. (
@@ -85,8 +86,8 @@ return_point starts p i old mid new adds is returned same =
     }
 
 -- any other point
-pub other_point : {R T : Type 0} (starts : List ℕ) (p : ℕ) (i : Statement R T) (old new : Graph) → AddsEdges starts p i old new
-    → (i ≡ return → ⊥) → AddsPoint starts p i old new
+pub other_point : {R T : Type 0} (starts : List ℕ) (p : ℕ) (i : Statement R T) (old new : Graph)
+    → AddsEdges starts p i old new → (i ≡ return → ⊥) → AddsPoint starts p i old new
 other_point starts p i old new adds isnt =
     let before : new.returns ≡ old.returns = ap (λ (g : Graph). g.returns) adds.others in
     record {
