@@ -6,6 +6,7 @@ pub mod FormLemmas
 pub mod KnowingLemmas
 pub mod ReborrowLemmas
 pub mod StatementLemmas
+pub mod TypedLemmas
 pub mod AddingLemmas
 pub mod PointLemmas
 pub mod WholeLemmas

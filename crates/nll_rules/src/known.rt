@@ -119,13 +119,14 @@ impl<'a> Known<'a> {
         body: TypedBody<'a>,
     ) -> Result<Known<'a>, Memory>
         requires { AreBelow (length body.types.now.table.shapes) (numbers_of body.variables.now) }
-        ensures structs { IfOk result (λ k. k.structs ≡ structs_of body.types.now.table.structs) }
-        ensures shapes { IfOk result (λ k. k.shapes ≡ body.types.now.table.shapes) }
-        ensures regions { IfOk result (λ k. k.regions ≡ body.types.now.regions.items) }
-        ensures points { IfOk result (λ k. k.points ≡ map statement_of body.points.now) }
+        ensures structs { IfOk result
+            (λ k. k.structs ≡ structs_of body.entry.types.now.table.structs) }
+        ensures shapes { IfOk result (λ k. k.shapes ≡ body.entry.types.now.table.shapes) }
+        ensures regions { IfOk result (λ k. k.regions ≡ body.entry.types.now.regions.items) }
+        ensures points { IfOk result (λ k. k.points ≡ map statement_of body.entry.points.now) }
         ensures variables { IfOk result (λ k. k.variables ≡ map
-            (tree_at body.types.now.table.shapes body.types.now.regions.items)
-            body.variables.now) }
+            (tree_at body.entry.types.now.table.shapes body.entry.types.now.regions.items)
+            body.entry.variables.now) }
     {
         let mut types = Types::new(alloc);
         let numbers = all_written(alloc, body.types, &mut types, body.variables)?;
