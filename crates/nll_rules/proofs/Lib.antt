@@ -1,5 +1,6 @@
 pub mod PairLemmas
 pub mod SubtypeLemmas
+pub mod SignLemmas
 pub mod LayerLemmas
 pub mod InterningLemmas
 pub mod FormLemmas

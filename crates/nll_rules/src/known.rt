@@ -66,7 +66,8 @@ impl<'a> Model for Known<'a> {
 
     ghost invariant = { λ k. AreEarlier (length k.types) k.variables.items
         × AreRight (IsPart (structs_of k.body.types.now.table.structs) k.types) k.parts.entries
-        × AreRight (IsMeeting (structs_of k.body.types.now.table.structs) k.types) k.meetings.entries };
+        × AreRight (IsMeeting (structs_of k.body.types.now.table.structs) k.types)
+        k.meetings.entries };
 }
 
 // The number of a type that is written.
@@ -114,10 +115,7 @@ impl<'a> Known<'a> {
     ///
     /// # Cost
     /// Linear in the types (not proved).
-    pub(crate) fn new(
-        alloc: Global,
-        body: TypedBody<'a>,
-    ) -> Result<Known<'a>, Memory>
+    pub(crate) fn new(alloc: Global, body: TypedBody<'a>) -> Result<Known<'a>, Memory>
         requires { AreBelow (length body.types.now.table.shapes) (numbers_of body.variables.now) }
         ensures structs { IfOk result
             (λ k. k.structs ≡ structs_of body.entry.types.now.table.structs) }
