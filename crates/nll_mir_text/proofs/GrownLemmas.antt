@@ -1,49 +1,127 @@
--- A table of types that gets further shapes leaves what a reader's lines say.
-use Rattle.std.proofs.Common.{◌≡◌, ◌∙◌, refl, ap, sym, length}
+-- Types that are added leave what a reader's lines say.
+use Rattle.std.proofs.Common.{◌≡◌, ◌∙◌, ℕ, ◌≤◌, Bool, true, List, [], ◌∷◌, length, map, refl, ap, sym, subst, suc, arith}
+use Rattle.std.specs.Prelude.{◌&&◌, All, Option, Some, None, MatchOption, Result, Ok, Err, IfOk}
+use Rattle.std.specs.List.{list_all}
+use Rattle.nll_sets.proofs.PrefixLemmas.{prefix_same}
+use Rattle.nll_types.specs.Grown.{AddsTypes}
 use Rattle.nll_types.specs.Tables.{Tables, AddsShapes}
-use Rattle.nll_mir_grammar.specs.MirForms.{Form}
-use Rattle.nll_mir_text.specs.MirSaid.{Said}
+use Rattle.nll_types.specs.declared.body_types.BodyTypes.{BodyTypes}
+use Rattle.nll_types.specs.declared.typed.Typed.{Typed}
+use Rattle.nll_types.proofs.RowLemmas.{trees_later, rows_later}
+use Rattle.nll_statements.specs.Kept.{statement_of}
+use Rattle.nll_statements.specs.Meant.{HasRows}
+use Rattle.nll_statements.specs.Statements.{Statement, types_written}
+use Rattle.nll_statements.specs.declared.statement.Statement.{Statement as Kept}
+use Rattle.nll_statements.proofs.MeantLemmas.{meant_later, has_rows_later}
+use Rattle.nll_body.specs.Typed.{HaveRows, meant, trees_at}
+use Rattle.nll_mir_grammar.specs.MirForms.{Form, at_point}
+use Rattle.nll_mir_grammar.specs.WrittenTypes.{Name, WrittenType}
+use Rattle.nll_resolve.specs.Naming.{Scope, has_arguments}
+use Rattle.nll_mir_text.specs.MirSaid.{Said, group}
 use Rattle.nll_mir_text.specs.MirFaults.{is_in_order}
-use Rattle.nll_mir_text.specs.MirReading.{said_by, IsReady, IsDue}
+use Rattle.nll_mir_text.specs.MirReading.{said_by, scope_in, IsReady, IsDue}
+use Rattle.nll_mir_text.specs.ResolvedLines.{IsGrown, IsPlaced}
+use Rattle.nll_mir_text.specs.ResolvedStatements.{has_names, FitOf, IsOfStatement, MadeOf}
 use Rattle.nll_mir_text.specs.declared.reader.Reader.{Reader}
-use Rattle.nll_mir_text.proofs.ShapeLemmas.{shapes_extended}
 
--- the reader with another table
-abbrev pub grown : Reader → Tables → Reader
-grown r t = record r { variables = record r.variables { table = t } }
+module _ (old new : BodyTypes) (grows : AddsTypes old new) where
+  -- statements mean what they meant
+  pub points_later : (is : List (Kept ℕ Typed))
+      → All (λ i. HasRows old.table.shapes old.regions.items (statement_of i)) is
+      → map (meant new) is ≡ map (meant old) is
+  points_later [] h = refl
+  points_later (i ∷ is) h =
+      let here = meant_later _ _ _ _ grows.table.extends grows.regions (statement_of i) (h 0 i (omega arith)) in
+      let rest = points_later is (λ k d l. h (suc k) d (omega arith)) in
+      cc
 
-module _ (r : Reader) (t : Tables) (grows : AddsShapes r.variables.table t) where
+  -- a statement over numbers is what it was
+  pub statement_later : (s : Scope) (i : Statement Name WrittenType) (k : Statement ℕ Typed)
+      → IsOfStatement s i old k → IsOfStatement s i new k
+  statement_later s i k h = record {
+    known = h.known;
+    rows = has_rows_later _ _ _ _ grows.table.extends grows.regions k h.rows;
+    meant = meant_later _ _ _ _ grows.table.extends grows.regions k h.rows ∙ h.meant;
+  }
+
+  pub have_rows_later : (vs : List Typed) (is : List (Kept ℕ Typed)) → HaveRows old vs is → HaveRows new vs is
+  have_rows_later vs is h = record {
+    variables = rows_later _ _ _ _ grows.table.extends grows.regions vs h.variables;
+    points = λ k d l. has_rows_later _ _ _ _ grows.table.extends grows.regions _ (h.points k d l);
+  }
+
+-- the reader with other types
+abbrev pub grown : Reader → BodyTypes → Reader
+grown r t = record r { variables = record r.variables { types = t } }
+
+module _ (r : Reader) (t : BodyTypes) (grows : AddsTypes r.variables.types t) (h : IsReady r) where
   pub said_grown : said_by (grown r t) ≡ said_by r
-  said_grown = rw grows.structs refl
+  said_grown =
+      let structs = grows.table.structs in
+      let variables = trees_later _ _ _ _ grows.table.extends grows.regions _ h.rows.variables in
+      let points = points_later r.variables.types t grows _ h.rows.points in
+      rw (structs, variables, points) refl
 
-  pub ready_grown : IsReady r → IsReady (grown r t)
-  ready_grown h = record {
+  pub ready_grown : IsReady (grown r t)
+  ready_grown = record {
     static = h.static;
     universals = h.universals;
     few_universals = h.few_universals;
     few_regions = h.few_regions;
     no_parameter = h.no_parameter;
-    named_structs = h.named_structs ∙ sym (ap length grows.structs);
-    counted_kinds = h.counted_kinds ∙ sym (ap length grows.structs);
-    kinds = rw grows.structs h.kinds;
-    few_structs = rw grows.structs h.few_structs;
+    named_structs = h.named_structs ∙ sym (ap length grows.table.structs);
+    counted_kinds = h.counted_kinds ∙ sym (ap length grows.table.structs);
+    kinds = rw grows.table.structs h.kinds;
+    few_structs = rw grows.table.structs h.few_structs;
     few_variables = h.few_variables;
-    shapes = shapes_extended _ _ _ _ grows.extends h.shapes;
+    rows = have_rows_later r.variables.types t grows _ _ h.rows;
     few_blocks = h.few_blocks;
     no_start = h.no_start;
     starts = h.starts;
     few_points = h.few_points;
-    counted_points = h.counted_points;
     edges = h.edges;
     few_edges = h.few_edges;
   }
 
-  -- the reader is still prepared for a line
-  pub due_grown : (f : Form) → IsDue r f → IsDue (grown r t) f
-  due_grown f h = record {
-    ready = ready_grown h.ready;
-    order = ap (λ (s : Said). is_in_order s f) said_grown ∙ h.order;
-    follows = h.follows;
-    texts = h.texts;
-    few = h.few;
+  pub is_grown : IsGrown r (grown r t)
+  is_grown = record { said = said_grown; ready = ready_grown }
+
+  -- a line that was in order is, and a statement is still that of its line
+  pub placed_grown : (i : Statement Name WrittenType) (k : Kept ℕ Typed) (fits : Bool) → IsPlaced r i k fits
+      → IsPlaced (grown r t) i k fits
+  placed_grown i k fits p = record {
+    order = ap (λ (s : Said). is_in_order s (at_point i)) said_grown ∙ p.order;
+    of = statement_later r.variables.types t grows (scope_in r.regions r.structs) i (statement_of k) p.of;
+    fits = p.fits;
   }
+
+-- a reader that says what it said is still prepared for a line
+pub due_grown : (old new : Reader) (f : Form) → IsGrown old new → IsDue old f → IsDue new f
+due_grown old new f g h = record {
+  ready = g.ready;
+  order = ap (λ (s : Said). is_in_order s f) g.said ∙ h.order;
+  follows = subst (λ n. n ≤ group f) (sym (ap (λ (s : Said). s.reached) g.said)) h.follows;
+  texts = h.texts;
+  few = h.few;
+}
+
+-- a table with more shapes
+pub adds_table : (types : BodyTypes) (t : Tables) → AddsShapes types.table t
+    → AddsTypes types (record types { table = t })
+adds_table types t grows = record { table = grows; regions = prefix_same types.regions.items }
+
+-- a statement that is made of a line that is in order
+pub placed_of : {E : Type 0} (r : Reader) (t : BodyTypes) (i : Statement Name WrittenType)
+    (o : Result (Option (Kept ℕ Typed)) E) (first last : Bool) → IsReady r
+    → is_in_order (said_by r) (at_point i) ≡ true → first ≡ true
+    → IfOk o (λ _. AddsTypes r.variables.types t) → IfOk o (MadeOf (scope_in r.regions r.structs) i t)
+    → IfOk o (FitOf (scope_in r.regions r.structs) i first last)
+    → IfOk o (λ k. MatchOption k (has_names (scope_in r.regions r.structs) i ≡ false)
+    (λ k. IsPlaced (grown r t) i k last))
+placed_of r t i (Err e) first last ready order flag adds made fit = tt
+placed_of r t i (Ok None) first last ready order flag adds made fit = made
+placed_of r t i (Ok (Some k)) first last ready order flag adds made fit = record {
+  order = ap (λ (s : Said). is_in_order s (at_point i)) (said_grown r t adds ready) ∙ order;
+  of = made;
+  fits = fit ∙ ap (λ b. b && list_all (has_arguments (scope_in r.regions r.structs)) (types_written i)) flag;
+}

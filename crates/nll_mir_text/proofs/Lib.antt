@@ -14,7 +14,6 @@ pub mod PointLemmas
 pub mod SaidLemmas
 pub mod ShapeLemmas
 pub mod SoundLemmas
-pub mod StatementLemmas
 pub mod StructLemmas
 pub mod TextLemmas
 pub mod TypedLemmas

@@ -4,18 +4,18 @@ use Rattle.std.specs.Prelude.{◌&&◌, nat_lt, nat_le}
 use Rattle.std.proofs.lemmas.Bool.{le-leb, lt-leb, lt-ltb, le-ltb}
 use Rattle.std.specs.List.{list_all}
 use Rattle.std.proofs.lemmas.List.{length-map}
-use Rattle.std.proofs.lemmas.List.Sums.{fold_push}
+use Rattle.std.proofs.lemmas.List.Sums.{sum_by-cons, sum_by_push}
 use Rattle.nll_problem.specs.Limits.{most_points, most_edges}
 use Rattle.nll_problem.specs.declared.error.Kind.TheVariants.{Points, Edges}
 use Rattle.nll_format.specs.Names.{number_of}
 use Rattle.nll_format.specs.declared.error.TextKind.{TextKind}
 use Rattle.nll_format.specs.declared.error.TextKind.TheVariants.{Syntax, Unknown, Range, Shape, TypeSize, Limit}
 use Rattle.nll_types.specs.Types.{TypeTree}
-use Rattle.nll_types.specs.Declarations.{structs_of}
 use Rattle.nll_types.specs.Judging.{IsJudged}
-use Rattle.nll_types.specs.Shapes.{shape_of}
-use Rattle.nll_types.specs.Table.{shape_in}
-use Rattle.nll_types.specs.Views.{tree}
+use Rattle.nll_types.specs.Rows.{tree_at}
+use Rattle.nll_types.specs.Structs.{Struct}
+use Rattle.nll_types.specs.declared.body_types.BodyTypes.{BodyTypes}
+use Rattle.nll_types.specs.declared.typed.Typed.{Typed}
 use Rattle.nll_types.specs.declared.judgement.Judgement.{Judgement}
 use Rattle.nll_mir_grammar.specs.WrittenTypes.{Name, WrittenType}
 use Rattle.nll_statements.specs.Statements.{Statement, types_written, is_terminator}
@@ -24,29 +24,24 @@ use Rattle.nll_statements.specs.Written.{regions_written, variables_written}
 use Rattle.nll_statements.specs.Edges.{edges_from, edge_count}
 use Rattle.nll_statements.proofs.MapLemmas.{same_terminator, same_targets, same_edges, same_variables}
 use Rattle.nll_resolve.specs.Naming.{Scope, is_among, is_known, has_arguments, meant}
-use Rattle.nll_resolve.specs.Resolution.{Resolved, tree_of}
+use Rattle.nll_statements.specs.Kept.{statement_of}
+use Rattle.nll_statements.specs.declared.statement.Statement.{Statement as Kept}
+use Rattle.nll_body.specs.Typed.{meant as meant_with}
 use Rattle.nll_statements.specs.Typing.{types_agree, types_are_small}
 use Rattle.nll_mir_grammar.specs.MirForms.{at_point}
-use Rattle.nll_mir_text.specs.declared.tables.Regions.{Regions}
-use Rattle.nll_mir_text.specs.declared.tables.StructNames.{StructNames}
-use Rattle.nll_mir_text.specs.declared.tables.Variables.{Variables}
+use Rattle.nll_mir_text.specs.declared.reader.Reader.{Reader}
 use Rattle.nll_mir_text.specs.MirSaid.{Said}
 use Rattle.nll_mir_text.specs.MirSteps.{says, statement_meant}
 use Rattle.nll_mir_text.specs.MirFaults.{are_declared, is_in_order, knows, has_targets, shapes_fit, first_fault}
-use Rattle.nll_mir_text.specs.MirReading.{AreShapes, scope_in}
-use Rattle.nll_mir_text.specs.ResolvedStatements.{as_resolved, declared_by, has_names, IsOfPoint, IsOfStatement}
+use Rattle.nll_mir_text.specs.MirReading.{said_by, scope_in}
+use Rattle.nll_mir_text.specs.ResolvedLines.{IsPlaced}
+use Rattle.nll_mir_text.specs.ResolvedStatements.{has_names, IsOfPoint, IsOfStatement}
 
 second : (a b : Bool) → (a && b) ≡ true → b ≡ true
 second true b h = h
 second false b h = absurd cc
 
 -- ---- what is judged
-
--- as many shapes as types are kept of variables
-pub as_many : (v : Variables) → AreShapes v.table.shapes v.shapes.items v.types.items
-    → length v.shapes.items ≡ length v.types.items
-as_many v are = sym (length-map v.shapes.items (shape_in v.table.shapes))
-    ∙ (ap length are.same ∙ length-map v.types.items (λ t. shape_of (tree t)))
 
 first : (a b : Bool) → (a && b) ≡ true → a ≡ true
 first true b h = refl
@@ -57,75 +52,74 @@ all_three true b c h = sym h
 all_three false b c h = refl
 
 -- what stands over numbers has the variables, the targets and the edges of what is written
-module _ (s : Scope) (i : Statement Name WrittenType) (r : Statement ℕ Resolved) (of : IsOfStatement s i r) where
+module _ (s : Scope) (i : Statement Name WrittenType) (types : BodyTypes) (r : Statement ℕ Typed)
+    (of : IsOfStatement s i types r) where
+  abbrev tree : Typed → TypeTree
+  tree = tree_at types.table.shapes types.regions.items
+
   pub variables_resolved : variables_written r ≡ variables_written i
   variables_resolved =
-      sym (same_variables (λ r. r) tree_of r)
+      sym (same_variables (λ r. r) tree r)
       ∙ (ap (λ (m : Statement ℕ TypeTree). variables_written m) of.meant
       ∙ same_variables (number_of s.regions) (meant s) i)
 
   pub targets_resolved : targets r ≡ targets i
-  targets_resolved = sym (same_targets (λ r. r) tree_of r)
+  targets_resolved = sym (same_targets (λ r. r) tree r)
       ∙ (ap (λ (m : Statement ℕ TypeTree). targets m) of.meant ∙ same_targets (number_of s.regions) (meant s) i)
 
   pub edges_resolved : edges_from r ≡ edges_from i
-  edges_resolved = sym (same_edges (λ r. r) tree_of r)
+  edges_resolved = sym (same_edges (λ r. r) tree r)
       ∙ (ap (λ (m : Statement ℕ TypeTree). edges_from m) of.meant ∙ same_edges (number_of s.regions) (meant s) i)
 
   pub ends_resolved : is_terminator r ≡ is_terminator i
-  ends_resolved = sym (same_terminator (λ r. r) tree_of r)
+  ends_resolved = sym (same_terminator (λ r. r) tree r)
       ∙ (ap (λ (m : Statement ℕ TypeTree). is_terminator m) of.meant
       ∙ same_terminator (number_of s.regions) (meant s) i)
 
-module _ (regions : Regions) (structs : StructNames) (variables : Variables) (i : Statement Name WrittenType)
-    (r : Statement ℕ Resolved) (of : IsOfStatement (scope_in regions structs) i r) where
-  abbrev declared_in : Said
-  declared_in = declared_by regions structs variables
+module _ (r : Reader) (i : Statement Name WrittenType) (k : Kept ℕ Typed) (fits : Bool)
+    (placed : IsPlaced r i k fits) where
+  abbrev variables : List TypeTree
+  variables = (said_by r).variables
 
-  abbrev scope : Scope
-  scope = scope_in regions structs
+  abbrev structs : List Struct
+  structs = (said_by r).structs
 
-  knows_is : (declared : Bool) → declared
-      ≡ list_all (λ x. nat_lt x (length variables.types.items)) (variables_written r) → declared ≡ knows declared_in i
+  knows_is : (declared : Bool)
+      → declared ≡ list_all (λ x. nat_lt x (length r.variables.typed.items)) (variables_written (statement_of k))
+      → declared ≡ knows (said_by r) i
   knows_is declared d =
-      let declared_is : declared ≡ list_all (λ x. nat_lt x (length (map tree variables.types.items)))
-      (variables_written i) =
-      d ∙ (ap (λ m. list_all (λ x. nat_lt x m) (variables_written r)) (sym (length-map variables.types.items tree))
-      ∙ ap (list_all (λ x. nat_lt x (length (map tree variables.types.items)))) (variables_resolved scope i r of)) in
-      declared_is ∙ all_three _ _ _ of.known
+      let counted = length-map r.variables.typed.items
+      (tree_at r.variables.types.table.shapes r.variables.types.regions.items) in
+      let declared_is : declared ≡ list_all (λ x. nat_lt x (length variables)) (variables_written i) =
+      d ∙ (ap (λ m. list_all (λ x. nat_lt x m) (variables_written (statement_of k))) (sym counted)
+      ∙ ap (list_all (λ x. nat_lt x (length variables)))
+      (variables_resolved (scope_in r.regions r.structs) i r.variables.types (statement_of k) placed.of)) in
+      declared_is ∙ all_three _ _ _ placed.of.known
 
-  fits_is : (types agree : Bool)
-      → types ≡ list_all (λ t. t.fits) (types_written r)
-      → agree ≡ types_agree (structs_of variables.table.structs) (map tree variables.types.items) (as_resolved r)
-      → (types && agree) ≡ shapes_fit declared_in i
-  fits_is types agree t a =
-      let types_are : types ≡ list_all (has_arguments scope) (types_written i) = t ∙ of.fits in
-      let agree_is : agree ≡ types_agree (structs_of variables.table.structs) (map tree variables.types.items)
-      (statement_meant declared_in i) =
-      a ∙ ap (types_agree (structs_of variables.table.structs) (map tree variables.types.items)) of.meant in
-      rw (types_are, agree_is) refl
+  fits_is : (agree : Bool) → agree ≡ types_agree structs variables (meant_with r.variables.types k)
+      → (fits && agree) ≡ shapes_fit (said_by r) i
+  fits_is agree a =
+      let agree_is : agree ≡ types_agree structs variables (statement_meant (said_by r) i) =
+      a ∙ ap (types_agree structs variables) placed.of.meant in
+      rw (placed.fits, agree_is) refl
 
   -- what is judged of the statement
-  pub point_judged : (types_fit : Bool) (judged j : Judgement)
-      → j.declared ≡ judged.declared
-      → j.fits ≡ (types_fit && judged.fits)
+  pub point_judged : (judged j : Judgement) → j.declared ≡ judged.declared → j.fits ≡ (fits && judged.fits)
       → j.small ≡ judged.small
-      → judged.declared ≡ list_all (λ x. nat_lt x (length variables.types.items)) (variables_written r)
-      → types_fit ≡ list_all (λ t. t.fits) (types_written r)
-      → IsJudged (types_agree (structs_of variables.table.structs) (map tree variables.types.items) (as_resolved r))
-      (types_are_small (structs_of variables.table.structs) (map tree variables.types.items) (as_resolved r)) judged
-      → IsOfPoint declared_in i j
-  point_judged types_fit judged j declared fits small d t e = record {
+      → judged.declared
+      ≡ list_all (λ x. nat_lt x (length r.variables.typed.items)) (variables_written (statement_of k))
+      → IsJudged (types_agree structs variables (meant_with r.variables.types k))
+      (types_are_small structs variables (meant_with r.variables.types k)) judged
+      → IsOfPoint (said_by r) i j
+  point_judged judged j declared fit small d e = record {
     known = declared ∙ knows_is judged.declared d;
-    fits = fits ∙ fits_is types_fit judged.fits t e.fits;
-    fits_small = λ fit.
-        let agreed : types_agree (structs_of variables.table.structs) (map tree variables.types.items) (as_resolved r)
-        ≡ true =
-        sym e.fits ∙ second types_fit judged.fits (sym fits ∙ fit) in
+    fits = fit ∙ fits_is judged.fits e.fits;
+    fits_small = λ told.
+        let agreed : types_agree structs variables (meant_with r.variables.types k) ≡ true =
+        sym e.fits ∙ second fits judged.fits (sym fit ∙ told) in
         small ∙ (e.fits_small
-        ∙ (ap (λ b. b && types_are_small (structs_of variables.table.structs) (map tree variables.types.items)
-        (as_resolved r)) agreed
-        ∙ ap (types_are_small (structs_of variables.table.structs) (map tree variables.types.items)) of.meant));
+        ∙ (ap (λ b. b && types_are_small structs variables (meant_with r.variables.types k)) agreed
+        ∙ ap (types_are_small structs variables) placed.of.meant));
   }
 
 unknown_last : (a b c : Bool) → (b && c) ≡ false → (a && b && c) ≡ false
@@ -137,17 +131,6 @@ pub names_unknown : (s : Said) (i : Statement Name WrittenType) → has_names s.
 names_unknown s i none =
     unknown_last (are_declared s (variables_written i)) (list_all (is_among s.scope.regions) (regions_written i))
     (list_all (is_known s.scope) (types_written i)) none
-
--- what is judged of the statement stands, where the types and the structs are the same
-pub judged_same : (regions : Regions) (structs : StructNames) (old new : Variables) (i : Statement Name WrittenType)
-    (j : Judgement)
-    → new.types.items ≡ old.types.items → new.table.structs ≡ old.table.structs
-    → IsOfPoint (declared_by regions structs old) i j → IsOfPoint (declared_by regions structs new) i j
-judged_same regions structs old new i j types declared told = record {
-  known = rw types told.known;
-  fits = rw (types, declared) told.fits;
-  fits_small = rw (types, declared) told.fits_small;
-}
 
 -- ---- faults
 
@@ -229,10 +212,10 @@ module _ (s : Said) (i : Statement Name WrittenType) (order : is_in_order s (at_
             by_none a b c d e h k l m n = rw (h, k, l, m, n) refl
 
 -- the targets of a statement over numbers are blocks
-pub targets_are : (s : Said) (i : Statement Name WrittenType) (r : Statement ℕ Resolved)
-    → IsOfStatement s.scope i r → (b : Bool) → b ≡ list_all (λ x. nat_lt x s.blocks) (targets r)
+pub targets_are : (s : Said) (i : Statement Name WrittenType) (types : BodyTypes) (r : Statement ℕ Typed)
+    → IsOfStatement s.scope i types r → (b : Bool) → b ≡ list_all (λ x. nat_lt x s.blocks) (targets r)
     → b ≡ has_targets s i
-targets_are s i r of b h = h ∙ ap (list_all (λ x. nat_lt x s.blocks)) (targets_resolved s.scope i r of)
+targets_are s i types r of b h = h ∙ ap (list_all (λ x. nat_lt x s.blocks)) (targets_resolved s.scope i types r of)
 
 -- ---- what is said
 
@@ -246,8 +229,17 @@ pub point_said : (s : Said) (i : Statement Name WrittenType) (points : List (Sta
 point_said s i points owes blocks starts b c h k = rw (b, c, h, k) refl
 
 -- its edges are counted too
-pub edges_more : (s : Said) (points : List (Statement ℕ TypeTree)) (i : Statement Name WrittenType)
-    → edge_count (points ++ statement_meant s i ∷ []) ≡ edge_count points + edges_from i
-edges_more s points i =
-    fold_push (λ n (j : Statement ℕ TypeTree). n + edges_from j) 0 points (statement_meant s i)
-    ∙ ap (λ n. edge_count points + n) (same_edges (number_of s.scope.regions) (meant s.scope) i)
+pub edges_more : {R T : Type 0} (points : List (Statement R T)) (i : Statement R T)
+    → edge_count (points ++ i ∷ []) ≡ edge_count points + edges_from i
+edges_more points i = sum_by_push edges_from points i
+
+-- as many edges leave the points as they are meant
+pub edges_meant : (types : BodyTypes) (is : List (Kept ℕ Typed))
+    → edge_count (map (meant_with types) is) ≡ edge_count (map statement_of is)
+edges_meant types [] = refl
+edges_meant types (i ∷ is) =
+    sum_by-cons edges_from (meant_with types i) (map (meant_with types) is)
+    ∙ (rw (
+      same_edges (λ r. r) (tree_at types.table.shapes types.regions.items) (statement_of i),
+      edges_meant types is,
+    ) (sym (sum_by-cons edges_from (statement_of i) (map statement_of is))))

@@ -1,5 +1,6 @@
 -- A struct line with which nothing is wrong is taken.
-use Rattle.std.proofs.Common.{◌≡◌, ◌+◌, ◌<◌, ◌≤◌, ◌^◌, ◌-◌, Bool, None, List, [], ◌∷◌, ◌++◌, length, map, refl, sym, ap, ◌∙◌, subst, arith, length-append}
+use Rattle.std.proofs.Common.{◌≡◌, ℕ, ◌+◌, ◌<◌, ◌≤◌, ◌^◌, ◌-◌, Bool, None, List, [], ◌∷◌, ◌++◌, length, map, refl, sym, ap, ◌∙◌, subst, arith, length-append}
+use Rattle.std.specs.Prelude.{All}
 use Rattle.std.proofs.lemmas.List.{length-map, map_push}
 use Rattle.nll_problem.specs.Limits.{most_bytes}
 use Rattle.nll_types.specs.Structs.{Struct, HasGoodFields}
@@ -8,7 +9,12 @@ use Rattle.nll_types.specs.Types.{TypeTree, tuple}
 use Rattle.nll_types.specs.Views.{trees}
 use Rattle.nll_types.specs.Declarations.{structs_of}
 use Rattle.nll_types.specs.Declarations as kept
+use Rattle.nll_types.specs.Rows.{HasRow, tree_at}
 use Rattle.nll_types.specs.declared.node.Node.{Node}
+use Rattle.nll_types.specs.declared.typed.Typed.{Typed}
+use Rattle.nll_statements.specs.Kept.{statement_of}
+use Rattle.nll_statements.specs.Meant.{HasRows, meant_by}
+use Rattle.nll_statements.specs.declared.statement.Statement.{Statement as Kept}
 use Rattle.nll_types.specs.declared.structs.Declaration.{Declaration}
 use Rattle.nll_mir_grammar.specs.WrittenTypes.{Name, WrittenType, WrittenTypes}
 use Rattle.nll_mir_grammar.specs.TypeTexts.{written}
@@ -22,7 +28,7 @@ use Rattle.nll_mir_text.specs.MirSaid.{Said, scope_inside}
 use Rattle.nll_mir_text.specs.StructLines.{is_region, regions_in, types_in}
 use Rattle.nll_mir_text.specs.MirSteps.{says, declared}
 use Rattle.nll_mir_text.specs.MirFaults.{first_fault}
-use Rattle.nll_mir_text.specs.MirReading.{said_by, AreKinds, AreShapes, IsDue, IsTaken, struct_form}
+use Rattle.nll_mir_text.specs.MirReading.{said_by, AreKinds, IsDue, IsTaken, struct_form}
 use Rattle.nll_mir_text.specs.StructLines.{AreOwn, own_scope}
 use Rattle.nll_mir_text.specs.declared.own_names.OwnNames.{OwnNames}
 use Rattle.nll_mir_text.specs.declared.reader.Reader.{Reader}
@@ -30,12 +36,15 @@ use Rattle.nll_mir_text.specs.declared.tables.StructNames.{StructNames}
 use Rattle.nll_mir_text.proofs.OwnLemmas.{few_regions, own_scope_is}
 use Rattle.nll_mir_text.proofs.StructLemmas.{IsFine, struct_fine, kinds_pushed, regions_declared, types_declared, good_fields}
 
--- what is said with other structs
-abbrev said_with : Said → List Name → List (List Bool) → List Struct → Said
-said_with s names kinds structs = record s {
+-- what is said with other structs and shapes
+abbrev said_with : Reader → List Name → List (List Bool) → List Struct → List Node → Said
+said_with r names kinds structs ns = record (said_by r) {
   reached = 5;
-  scope = record s.scope { structs = names; kinds = kinds };
+  scope = record (said_by r).scope { structs = names; kinds = kinds };
   structs = structs;
+  variables = map (tree_at ns r.variables.types.regions.items) r.variables.typed.items;
+  points = map (λ (i : Kept ℕ Typed). meant_by ns r.variables.types.regions.items (statement_of i))
+      r.points.statements.items;
 }
 
 -- the tree of resolved fields is a tuple of what they mean
@@ -80,33 +89,37 @@ module _ (r : Reader) (own : OwnNames) (text : StructText) (due : IsDue r (struc
     pub few_declared : length d.regions.items < 2 ^ 32 - 1
     few_declared = omega (arith, few_in, ap length regions, length-map (regions_in parameters) (λ p. p.1))
 
-    counted_structs : length (structs_of r.variables.table.structs) ≡ length r.variables.table.structs
-    counted_structs = length-map r.variables.table.structs kept.declared
+    counted_structs : length (structs_of r.variables.types.table.structs) ≡ length r.variables.types.table.structs
+    counted_structs = length-map r.variables.types.table.structs kept.declared
 
-    pub good_declared : HasGoodFields (structs_of r.variables.table.structs) (kept.declared d)
-    good_declared = subst (HasGoodFields (structs_of r.variables.table.structs)) (sym declares)
+    pub good_declared : HasGoodFields (structs_of r.variables.types.table.structs) (kept.declared d)
+    good_declared = subst (HasGoodFields (structs_of r.variables.types.table.structs)) (sym declares)
         (good_fields (said_by r) parameters text.has_drop fields due.ready.kinds
         (due.ready.named_structs ∙ sym counted_structs) is_fine.known is_fine.has)
 
-    module _ (t : Tables) (s : StructNames) (structs : t.structs ≡ r.variables.table.structs ++ d ∷ [])
-        (shapes : t.shapes ≡ r.variables.table.shapes) (names : s.names ≡ r.structs.names ++ text.name.now ∷ [])
+    module _ (t : Tables) (s : StructNames) (structs : t.structs ≡ r.variables.types.table.structs ++ d ∷ [])
+        (shapes : t.shapes ≡ r.variables.types.table.shapes) (names : s.names ≡ r.structs.names ++ text.name.now ∷ [])
         (kinds : map (λ ks. ks.items) s.kinds.items
         ≡ map (λ ks. ks.items) r.structs.kinds.items ++ map is_region parameters ∷ [])
         (none : s.none ≡ r.structs.none) where
       abbrev after : Reader
-      after = record r { reached = Structs; structs = s; variables = record r.variables { table = t } }
+      after = record r { reached = Structs; structs = s; variables = record r.variables { types = record r.variables.types { table = t } } }
 
-      more_structs : structs_of t.structs ≡ structs_of r.variables.table.structs ++ more ∷ []
+      more_structs : structs_of t.structs ≡ structs_of r.variables.types.table.structs ++ more ∷ []
       more_structs = ap structs_of structs
-          ∙ (map_push kept.declared r.variables.table.structs d
-          ∙ ap (λ x. structs_of r.variables.table.structs ++ x ∷ []) declares)
+          ∙ (map_push kept.declared r.variables.types.table.structs d
+          ∙ ap (λ x. structs_of r.variables.types.table.structs ++ x ∷ []) declares)
+
+      abbrev same : List Node
+      same = r.variables.types.table.shapes
 
       more_said : said_by after ≡ says (said_by r) (struct_form text)
       more_said =
-          ap (λ xs. said_with (said_by r) xs (map (λ ks. ks.items) s.kinds.items) (structs_of t.structs)) names
-          ∙ (ap (λ xs. said_with (said_by r) (r.structs.names ++ text.name.now ∷ []) xs (structs_of t.structs)) kinds
-          ∙ ap (λ xs. said_with (said_by r) (r.structs.names ++ text.name.now ∷ [])
-          (map (λ ks. ks.items) r.structs.kinds.items ++ map is_region parameters ∷ []) xs) more_structs)
+          ap (λ ns. said_with r s.names (map (λ ks. ks.items) s.kinds.items) (structs_of t.structs) ns) shapes
+          ∙ (ap (λ xs. said_with r xs (map (λ ks. ks.items) s.kinds.items) (structs_of t.structs) same) names
+          ∙ (ap (λ xs. said_with r (r.structs.names ++ text.name.now ∷ []) xs (structs_of t.structs) same) kinds
+          ∙ ap (λ xs. said_with r (r.structs.names ++ text.name.now ∷ [])
+          (map (λ ks. ks.items) r.structs.kinds.items ++ map is_region parameters ∷ []) xs same) more_structs))
 
       more_kinds : AreKinds (map (λ ks. ks.items) s.kinds.items) (structs_of t.structs)
       more_kinds =
@@ -119,8 +132,8 @@ module _ (r : Reader) (own : OwnNames) (text : StructText) (due : IsDue r (struc
           (regions_declared (said_by r) parameters text.has_drop fields)
           (types_declared (said_by r) parameters text.has_drop fields)))
 
-      more_counted : length t.structs ≡ length r.variables.table.structs + 1
-      more_counted = omega (arith, ap length structs, length-append r.variables.table.structs (d ∷ []))
+      more_counted : length t.structs ≡ length r.variables.types.table.structs + 1
+      more_counted = omega (arith, ap length structs, length-append r.variables.types.table.structs (d ∷ []))
 
       pub taken : IsTaken (said_by r) (struct_form text) after
       taken = record {
@@ -153,14 +166,17 @@ module _ (r : Reader) (own : OwnNames) (text : StructText) (due : IsDue r (struc
           kinds = more_kinds;
           few_structs = omega (arith, more_counted, is_fine.few, counted_structs);
           few_variables = due.ready.few_variables;
-          shapes =
-              subst (λ (ns : List Node). AreShapes ns r.variables.shapes.items r.variables.types.items)
-              (sym shapes) due.ready.shapes;
+          rows = record {
+            variables = subst (λ (ns : List Node). All (HasRow ns r.variables.types.regions.items) r.variables.typed.items)
+                (sym shapes) due.ready.rows.variables;
+            points = subst (λ (ns : List Node). All (λ (i : Kept ℕ Typed).
+                HasRows ns r.variables.types.regions.items (statement_of i)) r.points.statements.items)
+                (sym shapes) due.ready.rows.points;
+          };
           few_blocks = due.ready.few_blocks;
           no_start = λ _. due.ready.no_start (omega (arith, due.follows));
           starts = due.ready.starts;
           few_points = due.ready.few_points;
-          counted_points = due.ready.counted_points;
           edges = due.ready.edges;
           few_edges = due.ready.few_edges;
         };

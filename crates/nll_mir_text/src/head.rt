@@ -240,6 +240,7 @@ impl Reader {
         requires fitting { fits.old ≡ true }
         ensures grown { IfOk result (λ _. IsGrown self.old self.new) }
         ensures structs { IfOk result (λ _. self.new.structs ≡ self.old.structs) }
+        ensures tuple { IsTuple (written text.now.fields) }
         ensures fits { IfOk result (λ _. fits.new ≡ has_arguments
             (own_scope own.now self.old.structs) (written text.now.fields)) }
         ensures resolved { IfOk result (λ o. MatchOption o

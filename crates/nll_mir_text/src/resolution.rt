@@ -1,7 +1,7 @@
 //! Resolving the names in a statement, once each: regions and types become numbers.
 
-ghost use Rattle.std.specs.Prelude.{◌≡◌, ◌⊎◌, ◌<◌, ◌^◌, ◌&&◌, ◌++◌, length, map, true, false, Some, None, [], ◌∷◌};
-ghost use Rattle.std.specs.Prelude.{IfOk, MatchOption, Ok};
+ghost use Rattle.std.specs.Prelude.{◌≡◌, ◌⊎◌, ◌<◌, ◌^◌, ◌&&◌, ◌++◌, ◌∷◌, [], ⊤, length, map};
+ghost use Rattle.std.specs.Prelude.{IfOk, MatchOption, OnErr, Ok, Some, None, true, false};
 ghost use Rattle.std.specs.List.{list_all};
 ghost use Rattle.nll_format.specs.Names.{number_of};
 ghost use Rattle.nll_mir_grammar.specs.TypeTexts.{written};
@@ -191,19 +191,23 @@ fn call_with(
     wheres: Result<Option<Vec<(RegionId, RegionId)>>, Memory>,
     exits: (u32, Option<u32>),
 ) -> Result<Option<Call<RegionId, Typed>>, Memory>
-    ensures { IfOk result (λ o. MatchOption o
+    ensures done { IfOk result (λ _. OnErr arguments ⊥ × OnErr returned ⊥) }
+    ensures made { IfOk result (λ o. MatchOption o
         ((arguments ≡ Ok None) ⊎ (returned ≡ Ok None) ⊎ (wheres ≡ Ok None))
         (λ c. (c.place ≡ place) × (arguments ≡ Ok (Some c.arguments))
         × (returned ≡ Ok (Some c.result)) × (wheres ≡ Ok (Some c.wheres))
         × (c.target ≡ exits.0) × (c.unwind ≡ exits.1))) }
 {
-    let Some(arguments) = arguments? else {
+    let arguments = arguments?;
+    let returned = returned?;
+    let wheres = wheres?;
+    let Some(arguments) = arguments else {
         return Ok(None);
     };
-    let Some(result) = returned? else {
+    let Some(result) = returned else {
         return Ok(None);
     };
-    let Some(wheres) = wheres? else {
+    let Some(wheres) = wheres else {
         return Ok(None);
     };
     Ok(Some(Call {

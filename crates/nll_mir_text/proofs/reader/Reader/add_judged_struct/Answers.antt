@@ -84,6 +84,12 @@ declare_struct-requires-clause-due c = c.requires.due
 pub declare_struct-requires-clause-own : goal.declare_struct-requires-clause-own
 declare_struct-requires-clause-own c = c.requires.own
 
+pub declare_struct-requires-clause-fields : goal.declare_struct-requires-clause-fields
+declare_struct-requires-clause-fields c = c.requires.fields
+
+pub declare_struct-requires-clause-tuple : goal.declare_struct-requires-clause-tuple
+declare_struct-requires-clause-tuple c = c.requires.tuple
+
 pub declare_struct-requires-clause-fine : goal.declare_struct-requires-clause-fine
 declare_struct-requires-clause-fine c =
     let r = c.args.self.now in
@@ -98,7 +104,7 @@ declare_struct-requires-clause-fine c =
       c.if-len-ge-MAX_STRUCTS.false,
       c.len.ensures,
       c.requires.due.ready.named_structs,
-      length-map r.variables.table.structs kept.declared,
+      length-map r.variables.types.table.structs kept.declared,
     ))
 
 pub returns-clause-taken : goal.returns-clause-taken

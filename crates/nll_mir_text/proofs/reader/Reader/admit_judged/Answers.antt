@@ -1,85 +1,96 @@
-use Rattle.std.proofs.Common.{refl, sym, ◌∙◌, inr, arith}
+use Rattle.std.proofs.Common.{◌≡◌, refl, sym, ◌∙◌, inr, length, map, arith}
+use Rattle.std.proofs.lemmas.List.{length-map}
 use Rattle.std.proofs.lemmas.Bool.{not-true, not-false}
+use Rattle.nll_statements.specs.Edges.{edge_count}
 use Rattle.nll_statements.specs.Kept.{statement_of}
+use Rattle.nll_body.specs.Typed.{meant as meant_with}
+use Rattle.nll_mir_text.specs.declared.reader.Reader.{Reader}
 use Rattle.nll_mir_text.specs.MirReading.{said_by, scope_in}
 use Rattle.nll_mir_text.proofs.PointLemmas.{undeclared, out_of_range, unfit, too_large, too_many_points}
-use Rattle.nll_mir_text.proofs.PointLemmas.{too_many_edges, no_fault, targets_are, edges_resolved, ends_resolved}
+use Rattle.nll_mir_text.proofs.PointLemmas.{too_many_edges, no_fault, edges_meant, targets_are, edges_resolved, ends_resolved}
 use Rattle.nll_mir_text.proofs.reader.Reader.admit_judged.Goals as goal
 
+-- as many points are said as there are statements
+counted : (r : Reader) → length (said_by r).points ≡ length r.points.statements.items
+counted r = length-map r.points.statements.items (meant_with r.variables.types)
+
+same_count : (r : Reader) → edge_count (said_by r).points ≡ edge_count (map statement_of r.points.statements.items)
+same_count r = edges_meant r.variables.types r.points.statements.items
+
 pub returns-then-not-judged-clause-refused : goal.returns-then-not-judged-clause-refused
-returns-then-not-judged-clause-refused c = λ i placed told.
+returns-then-not-judged-clause-refused c = λ i fits placed told.
     let s = said_by c.args.self.now in
     inr (undeclared s i placed.order (sym told.known ∙ (not-true _ c.if-not-judged.true)))
 
 pub returns-then-not-targets_are_blocks-clause-refused : goal.returns-then-not-targets_are_blocks-clause-refused
-returns-then-not-targets_are_blocks-clause-refused c = λ i placed told.
+returns-then-not-targets_are_blocks-clause-refused c = λ i fits placed told.
     let s = said_by c.args.self.now in
     let known = sym told.known ∙ (not-false _ c.if-not-judged.false) in
-    let blocks = sym (targets_are s i (statement_of c.args.statement.now) placed.of _ c.targets_are_blocks.ensures)
+    let blocks = sym (targets_are s i _ (statement_of c.args.statement.now) placed.of _ c.targets_are_blocks.ensures)
     ∙ c.if-not-targets_are_blocks.true in
     inr (out_of_range s i placed.order known blocks)
 
 pub returns-then-not-judged-2-clause-refused : goal.returns-then-not-judged-2-clause-refused
-returns-then-not-judged-2-clause-refused c = λ i placed told.
+returns-then-not-judged-2-clause-refused c = λ i fits placed told.
     let s = said_by c.args.self.now in
     let known = sym told.known ∙ (not-false _ c.if-not-judged.false) in
-    let blocks = sym (targets_are s i (statement_of c.args.statement.now) placed.of _ c.targets_are_blocks.ensures)
+    let blocks = sym (targets_are s i _ (statement_of c.args.statement.now) placed.of _ c.targets_are_blocks.ensures)
     ∙ c.if-not-targets_are_blocks.false in
     inr (unfit s i placed.order known blocks (sym told.fits ∙ (not-true _ c.if-not-judged-2.true)))
 
 pub returns-then-not-judged-3-clause-refused : goal.returns-then-not-judged-3-clause-refused
-returns-then-not-judged-3-clause-refused c = λ i placed told.
+returns-then-not-judged-3-clause-refused c = λ i fits placed told.
     let s = said_by c.args.self.now in
     let known = sym told.known ∙ (not-false _ c.if-not-judged.false) in
-    let blocks = sym (targets_are s i (statement_of c.args.statement.now) placed.of _ c.targets_are_blocks.ensures)
+    let blocks = sym (targets_are s i _ (statement_of c.args.statement.now) placed.of _ c.targets_are_blocks.ensures)
     ∙ c.if-not-targets_are_blocks.false in
     inr (too_large s i placed.order known blocks (sym told.fits ∙ (not-false _ c.if-not-judged-2.false))
     (sym (told.fits_small (not-false _ c.if-not-judged-2.false)) ∙ (not-true _ c.if-not-judged-3.true)))
 
-pub returns-then-self-clause-refused : goal.returns-then-self-clause-refused
-returns-then-self-clause-refused c = λ i placed told.
+pub returns-then-len-ge-MAX_POINTS-clause-refused : goal.returns-then-len-ge-MAX_POINTS-clause-refused
+returns-then-len-ge-MAX_POINTS-clause-refused c = λ i fits placed told.
     let s = said_by c.args.self.now in
     let known = sym told.known ∙ (not-false _ c.if-not-judged.false) in
-    let blocks = sym (targets_are s i (statement_of c.args.statement.now) placed.of _ c.targets_are_blocks.ensures)
+    let blocks = sym (targets_are s i _ (statement_of c.args.statement.now) placed.of _ c.targets_are_blocks.ensures)
     ∙ c.if-not-targets_are_blocks.false in
     inr (too_many_points s i placed.order known blocks (sym told.fits ∙ (not-false _ c.if-not-judged-2.false))
     (sym (told.fits_small (not-false _ c.if-not-judged-2.false)) ∙ (not-false _ c.if-not-judged-3.false))
-    (omega (arith, c.requires.ready.counted_points, c.if-self.true)))
+    (omega (arith, counted c.args.self.now, c.len.ensures, c.if-len-ge-MAX_POINTS.true)))
 
 pub returns-then-edges-gt-MAX_EDGES-clause-refused : goal.returns-then-edges-gt-MAX_EDGES-clause-refused
-returns-then-edges-gt-MAX_EDGES-clause-refused c = λ i placed told.
+returns-then-edges-gt-MAX_EDGES-clause-refused c = λ i fits placed told.
     let s = said_by c.args.self.now in
     let known = sym told.known ∙ (not-false _ c.if-not-judged.false) in
-    let blocks = sym (targets_are s i (statement_of c.args.statement.now) placed.of _ c.targets_are_blocks.ensures)
+    let blocks = sym (targets_are s i _ (statement_of c.args.statement.now) placed.of _ c.targets_are_blocks.ensures)
     ∙ c.if-not-targets_are_blocks.false in
     let edges =
-    edges_resolved (scope_in c.args.self.now.regions c.args.self.now.structs) i
+    edges_resolved (scope_in c.args.self.now.regions c.args.self.now.structs) i _
     (statement_of c.args.statement.now) placed.of in
     inr (too_many_edges s i placed.order known blocks (sym told.fits ∙ (not-false _ c.if-not-judged-2.false))
     (sym (told.fits_small (not-false _ c.if-not-judged-2.false)) ∙ (not-false _ c.if-not-judged-3.false))
-    (omega (arith, c.requires.ready.counted_points, c.if-self.false))
-    (omega (arith, c.requires.exits.edges, edges, c.requires.ready.edges, c.if-edges-gt-MAX_EDGES.true)))
+    (omega (arith, counted c.args.self.now, c.len.ensures, c.if-len-ge-MAX_POINTS.false))
+    (omega (arith, c.requires.exits.edges, edges, c.requires.ready.edges, same_count c.args.self.now, c.if-edges-gt-MAX_EDGES.true)))
 
 pub returns-clause-admitted : goal.returns-clause-admitted
-returns-clause-admitted c = λ i placed told.
+returns-clause-admitted c = λ i fits placed told.
     let s = said_by c.args.self.now in
     let known = sym told.known ∙ (not-false _ c.if-not-judged.false) in
-    let blocks = sym (targets_are s i (statement_of c.args.statement.now) placed.of _ c.targets_are_blocks.ensures)
+    let blocks = sym (targets_are s i _ (statement_of c.args.statement.now) placed.of _ c.targets_are_blocks.ensures)
     ∙ c.if-not-targets_are_blocks.false in
     let edges =
-    edges_resolved (scope_in c.args.self.now.regions c.args.self.now.structs) i
+    edges_resolved (scope_in c.args.self.now.regions c.args.self.now.structs) i _
     (statement_of c.args.statement.now) placed.of in
     record {
       fine = no_fault s i placed.order known blocks (sym told.fits ∙ (not-false _ c.if-not-judged-2.false))
           (sym (told.fits_small (not-false _ c.if-not-judged-2.false)) ∙ (not-false _ c.if-not-judged-3.false))
-          (omega (arith, c.requires.ready.counted_points, c.if-self.false))
-          (omega (arith, c.requires.exits.edges, edges, c.requires.ready.edges, c.if-edges-gt-MAX_EDGES.false));
+          (omega (arith, counted c.args.self.now, c.len.ensures, c.if-len-ge-MAX_POINTS.false))
+          (omega (arith, c.requires.exits.edges, edges, c.requires.ready.edges, same_count c.args.self.now, c.if-edges-gt-MAX_EDGES.false));
       same = refl;
       ready = c.requires.ready;
-      few = omega (arith, c.requires.ready.counted_points, c.if-self.false);
+      few = omega (arith, c.len.ensures, c.if-len-ge-MAX_POINTS.false);
       counted = omega (arith, c.requires.exits.edges, edges);
       few_edges = omega (arith, c.if-edges-gt-MAX_EDGES.false);
       ends = c.requires.exits.ends
-          ∙ ends_resolved (scope_in c.args.self.now.regions c.args.self.now.structs) i
+          ∙ ends_resolved (scope_in c.args.self.now.regions c.args.self.now.structs) i _
           (statement_of c.args.statement.now) placed.of;
     }

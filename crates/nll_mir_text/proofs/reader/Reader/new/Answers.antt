@@ -31,13 +31,14 @@ returns-clause-ready c =
           record { regions = λ n l. absurd (omega (arith, l)); types = λ n l. absurd (omega (arith, l)) };
       few_structs = omega (arith, ap length c.new-5.ensures.structs);
       few_variables = omega (arith, ap length c.new-6.ensures.items);
-      shapes =
-          rw (c.new-7.ensures.items, c.new-6.ensures.items) record { below = λ k h. absurd (omega arith); same = refl };
+      rows = record {
+        variables = rw c.new-6.ensures.items (λ k d l. absurd (omega (arith, l)));
+        points = rw p.statements (λ k d l. absurd (omega (arith, l)));
+      };
       few_blocks = omega (arith, p.blocks);
       no_start = λ h. ap length p.starts;
       starts = omega (arith, ap length p.starts);
       few_points = omega (arith, ap length p.statements);
-      counted_points = omega (arith, p.count, ap length p.statements);
       edges = rw (p.edges, p.statements) refl;
       few_edges = omega (arith, p.edges);
     }

@@ -1,23 +1,53 @@
-use Rattle.std.proofs.Common.{◌≡◌, ℕ, [], ◌∷◌, ◌++◌, length, not, ap, ◌∙◌, arith}
-use Rattle.std.proofs.lemmas.List.{length-append}
+use Rattle.std.proofs.Common.{◌≡◌, ℕ, List, [], ◌∷◌, ◌++◌, length, map, not, ap, sym, ◌∙◌, subst, arith}
+use Rattle.std.specs.Prelude.{All}
+use Rattle.std.proofs.lemmas.List.{length-append, map_push}
+use Rattle.std.proofs.lemmas.List.Elements.{All-push}
 use Rattle.nll_types.specs.Types.{TypeTree}
-use Rattle.nll_statements.specs.Statements.{Statement}
+use Rattle.nll_types.specs.declared.typed.Typed.{Typed}
 use Rattle.nll_statements.specs.Edges.{edge_count}
+use Rattle.nll_statements.specs.Kept.{statement_of}
+use Rattle.nll_statements.specs.Meant.{HasRows}
+use Rattle.nll_statements.specs.Statements.{Statement}
+use Rattle.nll_statements.specs.declared.statement.Statement.{Statement as Kept}
+use Rattle.nll_body.specs.Typed.{meant as meant_with}
 use Rattle.nll_mir_text.specs.MirSteps.{statement_meant}
-use Rattle.nll_mir_text.specs.MirReading.{said_by}
-use Rattle.nll_mir_text.proofs.PointLemmas.{point_said, edges_more}
+use Rattle.nll_mir_text.specs.MirReading.{said_by, scope_in}
+use Rattle.nll_mir_text.proofs.PointLemmas.{point_said, edges_more, edges_resolved}
 use Rattle.nll_mir_text.proofs.reader.Reader.put.Goals as goal
 
 pub returns : goal.returns
-returns c = λ i h meaning.
-    let s = said_by c.args.self.now in
+returns c = λ i fits h placed.
+    let old = c.args.self.now in
+    let s = said_by old in
     let r = h.ready in
-    let kept = c.args.self.now.points.statements in
+    let types = old.variables.types in
+    let kept = old.points.statements.items in
+    let k = c.args.statement in
+    let new = c.add_point.new.points.statements.items in
     let e = c.in_ok-add_point.ensures in
-    let stand : c.add_point.new.points.statements ≡ kept ++ statement_meant s i ∷ [] =
-    e.statements ∙ ap (λ (m : Statement ℕ TypeTree). kept ++ m ∷ []) meaning in
-    let counted : c.add_point.new.points.edges ≡ edge_count c.add_point.new.points.statements =
-    omega (arith, e.edges, r.edges, h.counted, edges_more s kept i, ap edge_count stand) in
+    let stand : map (meant_with types) new ≡ s.points ++ statement_meant s i ∷ [] =
+    ap (map (meant_with types)) e.statements
+    ∙ (map_push (meant_with types) kept k
+    ∙ ap (λ (m : Statement ℕ TypeTree). s.points ++ m ∷ []) placed.of.meant) in
+    let more : edge_count (map statement_of new) ≡ edge_count (map statement_of (kept ++ k ∷ [])) =
+    ap (λ (is : List (Kept ℕ Typed)). edge_count (map statement_of is)) e.statements in
+    let last : edge_count (map statement_of (kept ++ k ∷ []))
+    ≡ edge_count (map statement_of kept ++ statement_of k ∷ []) =
+    ap (λ (is : List (Statement ℕ Typed)). edge_count is) (map_push statement_of kept k) in
+    let counted : c.add_point.new.points.edges ≡ edge_count (map statement_of new) =
+    omega (
+      arith,
+      e.edges,
+      r.edges,
+      h.counted,
+      more,
+      last,
+      edges_more (map statement_of kept) (statement_of k),
+      edges_resolved (scope_in old.regions old.structs) i types (statement_of k) placed.of,
+    ) in
+    let points =
+    All-push (λ (j : Kept ℕ Typed). HasRows types.table.shapes types.regions.items (statement_of j)) kept k
+    r.rows.points placed.of.rows in
     record {
       fine = h.fine;
       says = point_said s i _ _ _ _ e.blocks (ap (λ v. v.items) e.starts) stand
@@ -33,12 +63,15 @@ returns c = λ i h meaning.
         kinds = r.kinds;
         few_structs = r.few_structs;
         few_variables = r.few_variables;
-        shapes = r.shapes;
+        rows = record {
+          variables = r.rows.variables;
+          points = subst (All (λ (j : Kept ℕ Typed). HasRows types.table.shapes types.regions.items (statement_of j)))
+              (sym e.statements) points;
+        };
         few_blocks = omega (arith, e.blocks, r.few_blocks);
         no_start = λ h. absurd (omega (arith, h));
         starts = omega (arith, e.blocks, ap (λ v. length v.items) e.starts, r.starts);
-        few_points = omega (arith, ap length stand, length-append kept (statement_meant s i ∷ []), h.few);
-        counted_points = e.count;
+        few_points = omega (arith, ap length e.statements, length-append kept (k ∷ []), h.few);
         edges = counted;
         few_edges = omega (arith, e.edges, h.few_edges);
       };
