@@ -105,15 +105,8 @@ pub form_kept : (line : List ℕ) (f : Form) → HasForm line f → is_skipped l
 form_kept line f h = kept_parts f h
   where
     kept_parts : (g : Form) → Spells line (parts g) → is_skipped line ≡ false
-    kept_parts (points n) k = spelled_kept _ _ _ k
-    kept_parts (universal a) k = spelled_kept _ _ _ k
-    kept_parts (outlives a b) k = spelled_kept _ _ _ k
-    kept_parts (further x) k = spelled_kept _ _ _ k
-    kept_parts (next p q) k = spelled_kept _ _ _ k
-    kept_parts (return p) k = spelled_kept _ _ _ k
-    kept_parts (base x p) k = spelled_kept _ _ _ k
-    kept_parts (constraint a b p) k = spelled_kept _ _ _ k
     kept_parts end k = spelled_kept _ _ _ k
+    kept_parts _ k = spelled_kept _ _ _ k
 
 -- the names in parts of a line are UTF-8
 texts_of : (line : List ℕ) (these : List Part) → IsMadeOf line (map token_of these) → AllByRecursion IsText these

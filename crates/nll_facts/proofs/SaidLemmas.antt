@@ -156,15 +156,8 @@ none_yet [] e = refl
 none_yet (f ∷ forms) e = absurd (no_group f (omega arith))
   where
     no_group : (f : Form) → group f ≡ 0 → ⊥
-    no_group (points n) h = omega arith
-    no_group (universal a) h = omega arith
-    no_group (outlives a b) h = omega arith
-    no_group (further x) h = omega arith
-    no_group (next p q) h = omega arith
-    no_group (return p) h = omega arith
-    no_group (base x p) h = omega arith
-    no_group (constraint a b p) h = omega arith
     no_group end h = omega arith
+    no_group _ h = omega arith
 
 -- ---- the order of lines
 
@@ -178,15 +171,8 @@ not_false false e = absurd cc
 
 -- a line without a fault stands in order
 pub in_order : (s : Said) (f : Form) → first_fault s f ≡ None → is_in_order s f ≡ true
-in_order s (points n) e = not_false _ (guard _ _ _ e)
-in_order s (universal a) e = not_false _ (guard _ _ _ e)
-in_order s (outlives a b) e = not_false _ (guard _ _ _ e)
-in_order s (further x) e = not_false _ (guard _ _ _ e)
-in_order s (next p q) e = not_false _ (guard _ _ _ e)
-in_order s (return p) e = not_false _ (guard _ _ _ e)
-in_order s (base x p) e = not_false _ (guard _ _ _ e)
-in_order s (constraint a b p) e = not_false _ (guard _ _ _ e)
 in_order s end e = not_false _ (guard _ _ _ e)
+in_order s _ e = not_false _ (guard _ _ _ e)
 
 ordered : (r g : ℕ) (rep : Bool) → (ltb r g || (eqb r g && rep)) && (ltb 0 r || eqb g 1) ≡ true → r ≤ g
 ordered r g rep e = grind (arith, nat_tests)

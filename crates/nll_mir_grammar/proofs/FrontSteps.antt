@@ -23,13 +23,12 @@ step_int fs t' after = record {
         → Reads (word (codes "int") ∷ after) t mid → Closes fs t mid whole rest → Closes fs int after whole rest
     there whole rest int mid r c =
         subst (λ m. Closes fs int m whole rest) (let j = r.joins in let e : mid ≡ after = cc in e) c
-    there whole rest (reference q m t) mid r c = absurd (let j = r.joins in cc)
-    there whole rest (tuple ts) mid r c = absurd (let j = r.joins in cc)
     there whole rest (named s args) mid r c =
         absurd (let j = r.joins in let e : codes "int" ≡ s = cc in
         int_no_name (subst (λ z. is_capital z ≡ true) (sym e) r.names.0))
     there whole rest (function ts t) mid r c =
         absurd (let j = r.joins in let e : codes "fn" ≡ codes "int" = cc in fn_no_int e)
+    there whole rest t mid r c = absurd (let j = r.joins in cc)
 
 -- `()`
 step_unit : (fs : List Frame) (t' : WrittenType) (after : List Token)
@@ -41,7 +40,6 @@ step_unit fs t' after = record {
   where
     there : (whole : WrittenType) (rest : List Token) (t : WrittenType) (mid : List Token)
         → Reads (sign 40 ∷ sign 41 ∷ after) t mid → Closes fs t mid whole rest → Closes fs (tuple none) after whole rest
-    there whole rest int mid r c = absurd (let j = r.joins in cc)
     there whole rest (reference q m t) mid r c =
         absurd (let j = r.joins in let e : sign 40 ≡ sign 38 = cc in apart 40 38 refl e)
     there whole rest (tuple none) mid r c =
@@ -50,8 +48,7 @@ step_unit fs t' after = record {
         absurd (let j = r.joins in let e : sign 41 ∷ after ≡ (spelled t ++ spelled_more_parts ts) ++ mid = cc in
         no_closing t (spelled_more_parts ts ++ mid) after
         (sym (e ∙ append_assoc (spelled t) (spelled_more_parts ts) mid)))
-    there whole rest (named s args) mid r c = absurd (let j = r.joins in cc)
-    there whole rest (function ts t) mid r c = absurd (let j = r.joins in cc)
+    there whole rest t mid r c = absurd (let j = r.joins in cc)
 
 -- `(` of a tuple that has parts
 step_tuple : (fs : List Frame) (t' u' : WrittenType) (after : List Token)
@@ -75,7 +72,6 @@ step_tuple fs t' u' after some = record {
   where
     there : (whole : WrittenType) (rest : List Token) (t : WrittenType) (mid : List Token)
         → Reads (sign 40 ∷ after) t mid → Closes fs t mid whole rest → GoesOn (parts none ∷ fs) after whole rest
-    there whole rest int mid r c = absurd (let j = r.joins in cc)
     there whole rest (reference q m t) mid r c =
         absurd (let j = r.joins in let e : sign 40 ≡ sign 38 = cc in apart 40 38 refl e)
     there whole rest (tuple none) mid r c = absurd (some mid (let j = r.joins in cc))
@@ -90,8 +86,7 @@ step_tuple fs t' u' after some = record {
       },
       (ts, mid, refl, r.names.1, c),
     )
-    there whole rest (named s args) mid r c = absurd (let j = r.joins in cc)
-    there whole rest (function ts t) mid r c = absurd (let j = r.joins in cc)
+    there whole rest t mid r c = absurd (let j = r.joins in cc)
 
 -- `&`, a region and `mut`
 step_mut : (fs : List Frame) (t' u' : WrittenType) (q : Name) (after : List Token)
@@ -109,7 +104,6 @@ step_mut fs t' u' q after = record {
     there : (whole : WrittenType) (rest : List Token) (t : WrittenType) (mid : List Token)
         → Reads (sign 38 ∷ region q ∷ word (codes "mut") ∷ after) t mid → Closes fs t mid whole rest
         → GoesOn (behind q true ∷ fs) after whole rest
-    there whole rest int mid r c = absurd (let j = r.joins in cc)
     there whole rest (reference p true t) mid r c = (
       t,
       mid,
@@ -121,8 +115,7 @@ step_mut fs t' u' q after = record {
         let e : spelled t ++ mid ≡ word (codes "mut") ∷ after = cc in e))
     there whole rest (tuple ts) mid r c =
         absurd (let j = r.joins in let e : sign 38 ≡ sign 40 = cc in apart 38 40 refl e)
-    there whole rest (named s args) mid r c = absurd (let j = r.joins in cc)
-    there whole rest (function ts t) mid r c = absurd (let j = r.joins in cc)
+    there whole rest t mid r c = absurd (let j = r.joins in cc)
 
 -- `&` and a region, and no `mut`
 step_shared : (fs : List Frame) (t' u' : WrittenType) (q : Name) (after : List Token)
@@ -141,7 +134,6 @@ step_shared fs t' u' q after plain = record {
     there : (whole : WrittenType) (rest : List Token) (t : WrittenType) (mid : List Token)
         → Reads (sign 38 ∷ region q ∷ after) t mid → Closes fs t mid whole rest
         → GoesOn (behind q false ∷ fs) after whole rest
-    there whole rest int mid r c = absurd (let j = r.joins in cc)
     there whole rest (reference p true t) mid r c = absurd (plain (spelled t ++ mid) (let j = r.joins in cc))
     there whole rest (reference p false t) mid r c = (
       t,
@@ -151,8 +143,7 @@ step_shared fs t' u' q after plain = record {
     )
     there whole rest (tuple ts) mid r c =
         absurd (let j = r.joins in let e : sign 38 ≡ sign 40 = cc in apart 38 40 refl e)
-    there whole rest (named s args) mid r c = absurd (let j = r.joins in cc)
-    there whole rest (function ts t) mid r c = absurd (let j = r.joins in cc)
+    there whole rest t mid r c = absurd (let j = r.joins in cc)
 
 no_types_free : (after : List Token) (us : WrittenTypes) (mid : List Token)
     → sign 60 ∷ after ≡ spelled_more_parts us ++ mid → ⊥
@@ -205,8 +196,6 @@ step_generic fs t' u' s after name = record {
     there whole rest int mid r c =
         absurd (let j = r.joins in let e : mid ≡ sign 60 ∷ after = cc in
         closes_free fs int after whole rest (subst (λ m. Closes fs int m whole rest) e c))
-    there whole rest (reference p m t) mid r c = absurd (let j = r.joins in cc)
-    there whole rest (tuple ts) mid r c = absurd (let j = r.joins in cc)
     there whole rest (function ts t) mid r c =
         absurd (let j = r.joins in let e : codes "fn" ≡ s = cc in
         fn_no_name (subst (λ z. is_capital z ≡ true) (sym e) name))
@@ -246,6 +235,7 @@ step_generic fs t' u' s after name = record {
                 (let j = r.joins in let e : n ≡ s = cc in e) c,
           ),
         )
+    there whole rest t mid r c = absurd (let j = r.joins in cc)
 
 -- a name without arguments
 step_name : (fs : List Frame) (t' : WrittenType) (s : Name) (after : List Token) → is_capital s ≡ true → IsFree after
@@ -260,8 +250,6 @@ step_name fs t' s after name plain = record {
     there whole rest int mid r c =
         absurd (let j = r.joins in let e : codes "int" ≡ s = cc in
         int_no_name (subst (λ z. is_capital z ≡ true) (sym e) name))
-    there whole rest (reference p m t) mid r c = absurd (let j = r.joins in cc)
-    there whole rest (tuple ts) mid r c = absurd (let j = r.joins in cc)
     there whole rest (function ts t) mid r c =
         absurd (let j = r.joins in let e : codes "fn" ≡ s = cc in
         fn_no_name (subst (λ z. is_capital z ≡ true) (sym e) name))
@@ -273,6 +261,7 @@ step_name fs t' s after name plain = record {
         absurd (plain (region q ∷ (spelled_more_arguments us ++ mid)) (let j = r.joins in cc))
     there whole rest (named n (type_argument t us)) mid r c =
         absurd (plain ((spelled t ++ spelled_more_arguments us) ++ mid) (let j = r.joins in cc))
+    there whole rest t mid r c = absurd (let j = r.joins in cc)
 
 -- the tokens of a function that has arguments, one piece after another
 function_pieces : (x : WrittenType) (us : WrittenTypes) (u : WrittenType) (other : List Token)
@@ -303,8 +292,6 @@ step_thunk fs t' u' after = record {
         → Reads (word (codes "fn") ∷ sign 40 ∷ sign 41 ∷ after) t mid → Closes fs t mid whole rest
         → Finishes WantArrow (output none ∷ fs) u' after whole rest
     there whole rest int mid r c = absurd (let j = r.joins in let e : codes "fn" ≡ codes "int" = cc in fn_no_int e)
-    there whole rest (reference q m t) mid r c = absurd (let j = r.joins in cc)
-    there whole rest (tuple ts) mid r c = absurd (let j = r.joins in cc)
     there whole rest (named s args) mid r c =
         absurd (let j = r.joins in let e : codes "fn" ≡ s = cc in
         fn_no_name (subst (λ z. is_capital z ≡ true) (sym e) r.names.0))
@@ -314,6 +301,7 @@ step_thunk fs t' u' after = record {
         absurd (let j = r.joins in let e : sign 41 ∷ after
         ≡ ((spelled x ++ spelled_more_parts xs) ++ arrow ∷ spelled t) ++ mid = cc in
         no_closing x (spelled_more_parts xs ++ arrow ∷ (spelled t ++ mid)) after (sym (e ∙ function_pieces x xs t mid)))
+    there whole rest t mid r c = absurd (let j = r.joins in cc)
 
 -- `fn (` of a function that has arguments
 step_function : (fs : List Frame) (t' u' : WrittenType) (after : List Token)
@@ -339,8 +327,6 @@ step_function fs t' u' after some = record {
         → Reads (word (codes "fn") ∷ sign 40 ∷ after) t mid → Closes fs t mid whole rest
         → GoesOn (inputs none ∷ fs) after whole rest
     there whole rest int mid r c = absurd (let j = r.joins in let e : codes "fn" ≡ codes "int" = cc in fn_no_int e)
-    there whole rest (reference q m t) mid r c = absurd (let j = r.joins in cc)
-    there whole rest (tuple ts) mid r c = absurd (let j = r.joins in cc)
     there whole rest (named s args) mid r c =
         absurd (let j = r.joins in let e : codes "fn" ≡ s = cc in
         fn_no_name (subst (λ z. is_capital z ≡ true) (sym e) r.names.0))
@@ -362,6 +348,7 @@ step_function fs t' u' after some = record {
         (spelled t ++ mid, refl, (t, mid, record { joins = refl; names = r.names.1 }, c)),
       ),
     )
+    there whole rest t mid r c = absurd (let j = r.joins in cc)
 
 -- the beginnings
 pub front_int : (fs : List Frame) (t' : WrittenType) (ts rest : List Token) → Begins fronts.Int ts rest

@@ -50,8 +50,6 @@ comma_so ts rest s' next frames t ps os is few f step state r =
 pub further_comma : (ts rest : List Token) (frames : List Frame) (t : WrittenType) (c : ℕ) (s' : State)
     (ps : List TypePiece) (os : List Open) → EndsWith frames c s' → ts ≡ sign 44 ∷ rest
     → AreRead Inside frames t ps os → GoesFurther Inside frames t os ts s' ps os rest
-further_comma ts rest [] t c s' ps os ends is r = absurd ends
-further_comma ts rest (behind _ _ ∷ frames) t c s' ps os ends is r = absurd ends
 further_comma ts rest (parts done ∷ frames) t c s' ps os ends is r =
     comma_so ts rest s' Want (parts done ∷ frames) t ps os is (omega arith) refl
     (step_comma_part frames done t t rest) ends.1 r
@@ -61,14 +59,12 @@ further_comma ts rest (arguments n done ∷ frames) t c s' ps os ends is r =
 further_comma ts rest (inputs done ∷ frames) t c s' ps os ends is r =
     comma_so ts rest s' Want (inputs done ∷ frames) t ps os is (omega arith) refl
     (step_comma_input frames done t t rest) ends.1 r
-further_comma ts rest (output _ ∷ frames) t c s' ps os ends is r = absurd ends
+further_comma ts rest _ t c s' ps os ends is r = absurd ends
 
 -- neither a comma nor the closing sign
 pub stuck_inside : (ts : List Token) (frames : List Frame) (t : WrittenType) (c : ℕ) (s : State)
     → EndsWith frames c s → ((rest : List Token) → ts ≡ sign 44 ∷ rest → ⊥)
     → ((rest : List Token) → ts ≡ sign c ∷ rest → ⊥) → IsStuck Inside frames t ts
-stuck_inside ts [] t c s ends comma close = absurd ends
-stuck_inside ts (behind _ _ ∷ frames) t c s ends comma close = absurd ends
 stuck_inside ts (parts done ∷ frames) t c s ends comma close =
     stuck_part frames done t ts comma (subst (λ (z : ℕ). (rest : List Token) → ts ≡ sign z ∷ rest → ⊥) ends.0 close)
 stuck_inside ts (arguments n done ∷ frames) t c s ends comma close =
@@ -76,7 +72,7 @@ stuck_inside ts (arguments n done ∷ frames) t c s ends comma close =
     (subst (λ (z : ℕ). (rest : List Token) → ts ≡ sign z ∷ rest → ⊥) ends.0 close)
 stuck_inside ts (inputs done ∷ frames) t c s ends comma close =
     stuck_input frames done t ts comma (subst (λ (z : ℕ). (rest : List Token) → ts ≡ sign z ∷ rest → ⊥) ends.0 close)
-stuck_inside ts (output _ ∷ frames) t c s ends comma close = absurd ends
+stuck_inside ts _ t c s ends comma close = absurd ends
 
 -- `->` comes, or it doesn't
 pub further_arrow : {R : Type 0} (told : Option (State × R)) (after : R → List Token) (ts : List Token)
@@ -116,9 +112,6 @@ pub further_region : (ts rest : List Token) (frames : List Frame) (t : WrittenTy
     (os : List Open) (q : Bor (List ℕ)) (s : State) → takes_region frames ≡ true
     → Starts regions ts q.now rest → (s ≡ Inside) × (ps' ≡ ps ++ kept.Region q ∷ [])
     → AreRead WantArgument frames t ps os → GoesFurther WantArgument frames t os ts s ps' os rest
-further_region ts rest [] t ps ps' os q s takes is h r = absurd (false≢true takes)
-further_region ts rest (behind _ _ ∷ frames) t ps ps' os q s takes is h r = absurd (false≢true takes)
-further_region ts rest (parts _ ∷ frames) t ps ps' os q s takes is h r = absurd (false≢true takes)
 further_region ts rest (arguments n done ∷ frames) t ps ps' os q s takes is h r =
     let more_done = joined_arguments done (region_argument q.now no_argument) in
     let less = one_less (region q.now) ts rest is.joined in
@@ -145,8 +138,7 @@ further_region ts rest (arguments n done ∷ frames) t ps ps' os q s takes is h 
         ((done', (let e = h.0.1 in let k : n ≡ p.now = cc in ap (λ z. arguments z done') k)), h.1)
     same_open done' (opens.Inputs ∷ rev) h = (let e = h.0.1 in absurd cc)
     same_open done' (opens.Output ∷ rev) h = (let e = h.0.1 in absurd cc)
-further_region ts rest (inputs _ ∷ frames) t ps ps' os q s takes is h r = absurd (false≢true takes)
-further_region ts rest (output _ ∷ frames) t ps ps' os q s takes is h r = absurd (false≢true takes)
+further_region ts rest _ t ps ps' os q s takes is h r = absurd (false≢true takes)
 
 -- ---- the loop
 

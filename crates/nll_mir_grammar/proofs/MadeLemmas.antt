@@ -168,7 +168,6 @@ real_statement c (make p t ops) =
 real_statement c (read p) = (tt, real_place p)
 real_statement c (live x) = (tt, (tt, tt))
 real_statement c (dead x) = (tt, (tt, tt))
-real_statement c nop = (tt, tt)
 real_statement c (goto b) = (tt, (tt, tt))
 real_statement c (switch op bs) =
     (tt, real_append (spelled_operand op) (map block_word bs) (real_operand op) (real_blocks bs))
@@ -185,13 +184,10 @@ real_statement c (call p args t ws b u) =
         ),
       ),
     )
-real_statement c return = (tt, tt)
-real_statement c stop = (tt, tt)
+real_statement c _ = (tt, tt)
 
 pub real_form : (c : List ℕ) (f : Form) → AreReal (spelled_form c f)
-real_form c (universal a) = (tt, (tt, tt))
 real_form c (outlives a b) = (tt, (tt, (tt, tt)))
-real_form c (further x) = (tt, (tt, tt))
 real_form c (assert_line a b) = (tt, (tt, (refl, (tt, tt))))
 real_form c (struct_line n ps d ts) = (
   tt,
@@ -202,10 +198,9 @@ real_form c (struct_line n ps d ts) = (
   ),
 )
 real_form c (variable x t) = (tt, (tt, (refl, real_type t)))
-real_form c (blocks n) = (tt, (tt, tt))
-real_form c (block n) = (tt, (tt, tt))
 real_form c (at_point s) = real_statement c s
 real_form c end = (tt, tt)
+real_form c _ = (tt, (tt, tt))
 
 -- ---- a line has the form that the tokens in it spell
 

@@ -85,12 +85,8 @@ step_no_region fs t' u' ts other =
   where
     by : (whole : WrittenType) (rest : List Token) (gs : List Frame) → GoesOnWithRegion gs ts whole rest
         → GoesOn gs ts whole rest
-    by whole rest [] f = absurd f
-    by whole rest (behind _ _ ∷ gs) f = absurd f
-    by whole rest (parts _ ∷ gs) f = absurd f
     by whole rest (arguments n done ∷ gs) f = absurd (other f.0 f.1 f.2)
-    by whole rest (inputs _ ∷ gs) f = absurd f
-    by whole rest (output _ ∷ gs) f = absurd f
+    by whole rest _ f = absurd f
 
 -- ---- behind a part or an argument
 
@@ -302,12 +298,8 @@ pub stuck_region : (fs : List Frame) (t' : WrittenType) (q : Name) (after : List
 stuck_region fs t' q after other whole rest = ⊎_elim (by fs refl) (λ f. no_region q after f.0 f.1 f.2)
   where
     by : (gs : List Frame) → fs ≡ gs → GoesOnWithRegion gs (region q ∷ after) whole rest → ⊥
-    by [] e f = f
-    by (behind _ _ ∷ gs) e f = f
-    by (parts _ ∷ gs) e f = f
     by (arguments n done ∷ gs) e f = other n done gs e
-    by (inputs _ ∷ gs) e f = f
-    by (output _ ∷ gs) e f = f
+    by _ e f = f
 
 -- ---- the end
 

@@ -89,13 +89,12 @@ ResultGoesOn Then us ts =
 -- A part or an argument of the frame is complete, the others follow, and what all of them make goes
 -- on.
 abbrev pub RowGoesOn : Frame → List Token → (WrittenType → List Token → Type 0) → Type 0
-RowGoesOn (behind _ _) ts Then = ⊥
 RowGoesOn (parts done) ts Then = TypesGoOn done ts (λ us mid. Then (tuple us) mid)
 RowGoesOn (arguments n done) ts Then =
     (us : Arguments) × (mid : List Token) × (ts ≡ spelled_more_arguments us ++ mid)
     × ArgumentsHaveNames us × Then (named n (joined_arguments done us)) mid
 RowGoesOn (inputs done) ts Then = TypesGoOn done ts (ResultGoesOn Then)
-RowGoesOn (output _) ts Then = ⊥
+RowGoesOn _ ts Then = ⊥
 
 -- A type is complete; the frames, the innermost first, go on and are closed. The whole type comes
 -- out, and after it the rest, which begins with no `<`.
@@ -123,15 +122,11 @@ GoesOn frames ts whole rest =
 
 -- A region comes as an argument of the innermost frame, and the frames go on.
 abbrev pub GoesOnWithRegion : List Frame → List Token → WrittenType → List Token → Type 0
-GoesOnWithRegion [] ts whole rest = ⊥
-GoesOnWithRegion (behind _ _ ∷ frames) ts whole rest = ⊥
-GoesOnWithRegion (parts _ ∷ frames) ts whole rest = ⊥
 GoesOnWithRegion (arguments n done ∷ frames) ts whole rest =
     (q : Name) × (mid : List Token) × (ts ≡ region q ∷ mid)
     × GoesInside (arguments n (joined_arguments done (region_argument q no_argument)) ∷ frames) mid
     whole rest
-GoesOnWithRegion (inputs _ ∷ frames) ts whole rest = ⊥
-GoesOnWithRegion (output _ ∷ frames) ts whole rest = ⊥
+GoesOnWithRegion _ ts whole rest = ⊥
 
 -- The tokens complete what is begun: the whole type comes out, and after it the rest. Where a type
 -- is complete, it is `t`.
@@ -174,10 +169,7 @@ begun (output done ∷ frames) = begun frames ++ begin_row ∷ part_steps done
 -- the pieces of the type that is complete, where one is
 abbrev pub complete : State → WrittenType → List Piece
 complete Have t = steps t
-complete Want t = []
-complete WantArgument t = []
-complete Inside t = []
-complete WantArrow t = []
+complete _ t = []
 
 -- The frame is what is open, with something that is read of it.
 abbrev pub IsOpen : Open → Frame → Type 0
@@ -203,11 +195,9 @@ pub record AreRead (s : State) (frames : List Frame) (t : WrittenType) (ps : Lis
 -- how many steps that take no token may come, apart from those that complete a reference or a
 -- function
 abbrev pub pending : State → ℕ
-pending Want = 0
 pending WantArgument = 1
 pending Have = 1
-pending Inside = 0
-pending WantArrow = 0
+pending _ = 0
 
 -- From these frames and this type the code reached others, and the same types come out.
 pub record ComesTo (s : State) (frames : List Frame) (t : WrittenType) (ts : List Token)
@@ -242,22 +232,16 @@ pub record IsCompleted (frames : List Frame) (t : WrittenType) (opened : List Op
 
 -- the innermost frame takes a region
 abbrev pub takes_region : List Frame → Bool
-takes_region [] = false
-takes_region (behind _ _ ∷ frames) = false
-takes_region (parts _ ∷ frames) = false
 takes_region (arguments _ _ ∷ frames) = true
-takes_region (inputs _ ∷ frames) = false
-takes_region (output _ ∷ frames) = false
+takes_region _ = false
 
 -- The sign closes what is innermost in the frames, which has parts, and this may come after a
 -- comma.
 abbrev pub EndsWith : List Frame → ℕ → State → Type 0
-EndsWith [] c s = ⊥
-EndsWith (behind _ _ ∷ frames) c s = ⊥
 EndsWith (parts _ ∷ frames) c s = (c ≡ 41) × (s ≡ Want)
 EndsWith (arguments _ _ ∷ frames) c s = (c ≡ 62) × (s ≡ WantArgument)
 EndsWith (inputs _ ∷ frames) c s = (c ≡ 41) × (s ≡ Want)
-EndsWith (output _ ∷ frames) c s = ⊥
+EndsWith _ c s = ⊥
 
 -- The innermost thing that was open is closed by this sign, and the same types come out.
 pub record IsClosed (frames : List Frame) (t : WrittenType) (c : ℕ) (opened : List Open)
