@@ -236,24 +236,6 @@ pub ok_gives : {T E P : Type 0} (r : Result T E) → OnOk r P → is_ok r ≡ tr
 ok_gives (Ok x) p h = p
 ok_gives (Err e) p h = absurd (false≢true h)
 
--- ---- lists that vectors hold, of which one is read at a place
-
-module _ {V : Type 0} (f : V → List Growth) (lists : List V) (p : ℕ) (v : V) (within : p < length (map f lists))
-    (is : v ≡ get_or lists p v) where
-  place : p < length lists
-  place = omega (arith, within, length-map lists f)
-
-  pub list_at : f v ≡ get_or (map f lists) p []
-  list_at = sym (get_or-map f lists p v [] place ∙ ap f (sym is))
-
-  pub lists_kept : (kept : V) → f kept ≡ f v → map f (set lists p kept) ≡ map f lists
-  lists_kept kept same = map-set_same f lists p kept v (same ∙ ap f is)
-
-  pub lists_pushed : (pushed : V) (g : Growth) → f pushed ≡ f v ++ g ∷ []
-      → map f (set lists p pushed) ≡ with_growth (map f lists) p g
-  lists_pushed pushed g more = map-set f lists p pushed
-      ∙ ap (set (map f lists) p) (more ∙ ap (λ xs. xs ++ g ∷ []) list_at)
-
 pub on_err_always : {T E P : Type 0} (r : Result T E) → P → OnErr r P
 on_err_always (Ok x) p = tt
 on_err_always (Err e) p = p

@@ -9,7 +9,7 @@ use Rattle.nll_mail.specs.declared.growth.Growth.{Growth}
 use Rattle.nll_owner.specs.Logs.{IsTold}
 use Rattle.nll_owner.specs.Owner.{Owner, Has, with_growth, with_growths, GotBeginning}
 use Rattle.nll_owner.specs.Keeping.{HasAllBeside, HasBeside}
-use Rattle.nll_owner.proofs.LogLemmas.{contains_cases}
+use Rattle.fixpoint.proofs.ListLemmas.{contains_cases}
 
 abbrev Lists : Type 0
 Lists = List (List Growth)
