@@ -1,22 +1,17 @@
 -- What an owner gives out to another, one growth after the other, and what is posted of it.
-use Rattle.std.proofs.Common.{◌≡◌, ◌≢◌, ℕ, zero, suc, ◌+◌, ◌-◌, ◌^◌, ◌<◌, ◌≤◌, List, [], ◌∷◌, ◌++◌, length, take, drop, set, slice_get, Some, Bool, true, false, cond, if◌then◌else◌, Contains, append-nil, get_or, refl, sym, ap, ◌∙◌, subst, arith}
+use Rattle.std.proofs.Common.{if◌then◌else◌, ◌≡◌, ◌≢◌, ℕ, suc, ◌+◌, ◌-◌, ◌^◌, ◌<◌, ◌≤◌, List, [], ◌∷◌, ◌++◌, length, take, set, slice_get, Some, Bool, false, Contains, refl, sym, ap, ◌∙◌, subst, arith}
 use Rattle.std.proofs.lemmas.Option.{slice_get_within}
-use Rattle.std.proofs.lemmas.List.{get_or-set_same, get_or-set_other, take-append-drop}
-use Rattle.nll_sets.specs.Prefix.{IsPrefix}
-use Rattle.fixpoint.specs.State.{State, IsSound, part_for, given_to, with_growths}
-use Rattle.fixpoint.proofs.ListLemmas.{filter_le, take_all, take_length, take_more}
+use Rattle.std.proofs.lemmas.List.{get_or-set_same, get_or-set_other}
+use Rattle.fixpoint.specs.State.{State, IsSound, part_for, given_to}
+use Rattle.fixpoint.proofs.ListLemmas.{filter_le, take_length, take_more}
 use Rattle.fixpoint.specs.Rules.{Rules}
 use Rattle.std.specs.List.{filter}
-use Rattle.std.proofs.lemmas.List.{set-get_or}
 
 pub filter_none : {X : Type 0} (p : X → Bool) (xs : List X) → ((x : X) → Contains xs x → p x ≡ false) → filter p xs ≡ []
 filter_none p [] all = refl
 filter_none {X} p (x ∷ xs) all =
     subst (λ (b : Bool). (if b then x ∷ filter p xs else filter p xs) ≡ []) (sym (all x (0, omega arith, refl)))
     (filter_none p xs (λ y h. all y (suc h.0, (let l = h.1 in omega arith), h.2)))
-
-pub with_none : {G : Type 0} (lists : List (List G)) (j : ℕ) → with_growths lists j [] ≡ lists
-with_none lists j = ap (λ xs. set lists j xs) (append-nil (get_or lists j [])) ∙ set-get_or lists j []
 
 module _ {A F G : Type 0} (rules : Rules A F G) where
   -- The owner gave out more to `to`, and just that was posted.
