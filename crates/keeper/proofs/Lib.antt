@@ -1,7 +1,6 @@
 pub mod KeepingLemmas
 pub mod FirstPartLemmas
 pub mod ListLemmas
-pub mod ReceivingLemmas
 pub mod DealingLemmas
 pub mod DueLemmas
 pub mod WholeLemmas

@@ -116,7 +116,7 @@ module _ (q : Problem) (c : Cut) (w : State) (sound : IsSoundState q c w) (i : �
         given = seat.given;
         done = seat.done;
         unloaded = λ h. absurd (false≢true (sym h ∙ loaded));
-        own = lane i ∙ ap owed_lane seat.own;
+        own = get_or-map owed_lane s.lanes i empty_lane ∙ ap owed_lane seat.own;
         fresh = λ h j. ap (λ (l : Lane). l.fresh) (get_or-map owed_lane s.lanes j empty_lane);
       }
 

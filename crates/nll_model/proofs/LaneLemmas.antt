@@ -6,7 +6,7 @@ use Rattle.std.proofs.lemmas.List.Sums.{sum_by-cons}
 use Rattle.nll_problem.specs.Problem.{Problem}
 use Rattle.nll_cut.specs.Partition.{Cut, owner_of, reads}
 use Rattle.nll_cut.proofs.ReadLemmas.{reads_tells}
-use Rattle.nll_owner.proofs.LogLemmas.{contains_head, contains_tail}
+use Rattle.fixpoint.proofs.ListLemmas.{contains_head, contains_tail}
 use Rattle.nll_mail.specs.declared.growth.Growth.{Growth}
 use Rattle.nll_owner.specs.Logs.{part}
 use Rattle.nll_model.specs.State.{Lane}

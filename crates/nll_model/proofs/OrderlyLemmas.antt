@@ -8,7 +8,7 @@ use Rattle.nll_cut.specs.Partition.{Cut}
 use Rattle.nll_mail.specs.declared.growth.Growth.{Growth}
 use Rattle.nll_owner.specs.Logs.{IsPrefix}
 use Rattle.nll_owner.specs.Owner.{Owner, IsSound, received_from, with_growth}
-use Rattle.nll_owner.proofs.LogLemmas.{filter_from}
+use Rattle.fixpoint.proofs.ListLemmas.{filter_from}
 use Rattle.nll_model.specs.State.{Seat, State, IsAt}
 use Rattle.nll_model.specs.Soundness.{IsOwner, IsOrderly, IsSoundState}
 use Rattle.nll_model.specs.Working.{GoesOn, NoGrowth, IsGrowthFrom}

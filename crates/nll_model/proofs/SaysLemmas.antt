@@ -57,7 +57,6 @@ module _ (q : Problem) (c : Cut) (w : State) (count : ℕ) (sets : List (List Bo
 -- the sets of all regions
 module _ (q : Problem) (c : Cut) (cut : IsCutOf q c) (w : State) (sound : IsSoundState q c w)
     (sets : List (List Bool)) (said : AreSaid q c w q.regions sets) where
-
   none_held : (r e : ℕ) → q.regions ≤ r → IsHeld sets r e → ⊥
   none_held r e past h =
       false≢true (subst (λ ys. flag ys e ≡ true) (get_or_past sets r [] (omega (arith, past, said.size))) h)

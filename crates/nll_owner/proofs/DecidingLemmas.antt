@@ -6,7 +6,7 @@ use Rattle.nll_owner.specs.Following.{OfRun}
 use Rattle.nll_owner.specs.Logs.{IsTold}
 use Rattle.nll_owner.specs.RegionRuns.{IsToldByRuns}
 use Rattle.nll_owner.specs.declared.region_run.RegionRun.{RegionRun}
-use Rattle.nll_owner.proofs.LogLemmas.{contains_head, contains_tail, contains_cases}
+use Rattle.fixpoint.proofs.ListLemmas.{contains_head, contains_tail, contains_cases}
 
 -- it holds, or it doesn't
 abbrev pub Decided : Type 0 → Type 0

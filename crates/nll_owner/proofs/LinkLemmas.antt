@@ -23,7 +23,8 @@ use Rattle.nll_owner.specs.Following.{IsLinkOf, AreLinksOf, link_shape, constrai
 use Rattle.nll_owner.specs.RegionRuns.{IsToldByRuns}
 use Rattle.nll_owner.specs.declared.due.Due.{Due}
 use Rattle.nll_owner.specs.declared.link.Link.{Link}
-use Rattle.nll_owner.proofs.LogLemmas.{contains_head, contains_tail, contains_cases, list_own, list_other}
+use Rattle.nll_owner.proofs.LogLemmas.{list_own, list_other}
+use Rattle.fixpoint.proofs.ListLemmas.{contains_head, contains_tail, contains_cases}
 use Rattle.nll_owner.proofs.OwnerLemmas.{has_grows, grows_le}
 
 -- ---- lists

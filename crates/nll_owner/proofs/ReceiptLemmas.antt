@@ -1,10 +1,9 @@
 -- What an owner has once it received a growth.
-use Rattle.std.proofs.Common.{◌≡◌, ◌≢◌, ℕ, max, ◌^◌, ◌<◌, ◌≤◌, Bool, true, false, not, cond, List, [], ◌∷◌, ◌++◌, length, map, set, Contains, get_or, eqb, refl, sym, ap, ◌∙◌, subst, inl, inr, ◌⊎◌, ⊎_elim, arith}
+use Rattle.std.proofs.Common.{◌≡◌, ◌≢◌, ℕ, max, ◌^◌, ◌<◌, ◌≤◌, Bool, true, false, not, cond, List, [], ◌∷◌, ◌++◌, length, Contains, eqb, refl, sym, ap, ◌∙◌, subst, inl, inr, ◌⊎◌, ⊎_elim, arith}
 use Rattle.std.specs.Prelude.{Result, Ok, Err, OnOk, OnErr, is_ok}
 use Rattle.std.proofs.lemmas.Bool.{cases_eq, cases_lt, false≢true}
-use Rattle.std.proofs.lemmas.List.{get_or-map, length-map, map-set, get_or-set_same, get_or-set_other, length-set}
+use Rattle.std.proofs.lemmas.List.{get_or-set_same, get_or-set_other, length-set}
 use Rattle.std.proofs.lemmas.List.Elements.{Contains-append_left, Contains-push, Contains-push_cases}
-use Rattle.std.proofs.Math.Seq.{map-set_same}
 use Rattle.nll_problem.specs.Graph.{element_count}
 use Rattle.nll_core.specs.Growing.{missing_pairs, Gains, Tells as ValuesTells}
 use Rattle.nll_core.specs.Values.{set_of, holds, IsHeld, with_element}
@@ -235,24 +234,6 @@ module _ (o : Owner) (slots : List ℕ) (values : List (List Bool)) (kept : IsKe
 pub ok_gives : {T E P : Type 0} (r : Result T E) → OnOk r P → is_ok r ≡ true → P
 ok_gives (Ok x) p h = p
 ok_gives (Err e) p h = absurd (false≢true h)
-
--- ---- lists that vectors hold, of which one is read at a place
-
-module _ {V : Type 0} (f : V → List Growth) (lists : List V) (p : ℕ) (v : V) (within : p < length (map f lists))
-    (is : v ≡ get_or lists p v) where
-  place : p < length lists
-  place = omega (arith, within, length-map lists f)
-
-  pub list_at : f v ≡ get_or (map f lists) p []
-  list_at = sym (get_or-map f lists p v [] place ∙ ap f (sym is))
-
-  pub lists_kept : (kept : V) → f kept ≡ f v → map f (set lists p kept) ≡ map f lists
-  lists_kept kept same = map-set_same f lists p kept v (same ∙ ap f is)
-
-  pub lists_pushed : (pushed : V) (g : Growth) → f pushed ≡ f v ++ g ∷ []
-      → map f (set lists p pushed) ≡ with_growth (map f lists) p g
-  lists_pushed pushed g more = map-set f lists p pushed
-      ∙ ap (set (map f lists) p) (more ∙ ap (λ xs. xs ++ g ∷ []) list_at)
 
 pub on_err_always : {T E P : Type 0} (r : Result T E) → P → OnErr r P
 on_err_always (Ok x) p = tt

@@ -10,7 +10,8 @@ use Rattle.nll_core.specs.Growing.{Gains}
 use Rattle.nll_cut.specs.Partition.{Cut, owner_of, reads}
 use Rattle.nll_owner.specs.Owner.{Owner, Has, IsSound, received_from}
 use Rattle.nll_owner.specs.Keeping.{holds_region, held_below, held_regions, IsSlot, IsSlotIn, AreSlotted}
-use Rattle.nll_owner.proofs.LogLemmas.{filter_from, filter_to, list_other}
+use Rattle.nll_owner.proofs.LogLemmas.{list_other}
+use Rattle.fixpoint.proofs.ListLemmas.{filter_from, filter_to}
 
 -- ---- numbers that follow each other
 

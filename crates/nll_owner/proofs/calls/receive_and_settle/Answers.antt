@@ -5,7 +5,7 @@ use Rattle.nll_owner.specs.Logs.{IsPrefix}
 use Rattle.nll_owner.specs.Owner.{Owner}
 use Rattle.nll_owner.proofs.OwnerLemmas.{filled_from, read_region}
 use Rattle.nll_owner.proofs.FollowingLemmas.{following_told}
-use Rattle.nll_owner.proofs.ReceivingLemmas.{got_all}
+use Rattle.fixpoint.proofs.ReceivingLemmas.{got_all}
 use Rattle.nll_owner.proofs.calls.receive_and_settle.Goals as goal
 
 pub follow_all-requires-clause-regions : goal.follow_all-requires-clause-regions

@@ -4,7 +4,7 @@ use Rattle.nll_owner.specs.Keeping.{Grows}
 use Rattle.nll_owner.specs.Following.{HasCaughtUp}
 use Rattle.nll_owner.specs.LinkRows.{Row, row_of_links}
 use Rattle.nll_owner.specs.declared.link.Link.{Link}
-use Rattle.nll_owner.proofs.LogLemmas.{contains_head, contains_only}
+use Rattle.fixpoint.proofs.ListLemmas.{contains_head, contains_only}
 use Rattle.nll_owner.proofs.OwnerLemmas.{grows_none}
 use Rattle.nll_owner.proofs.link_row.LinkRow.advance.Goals as goal
 use Rattle.nll_owner.proofs.link_row.LinkRow.advance.Goals.{in-None, in-One, in-Many}

@@ -5,7 +5,6 @@ use Rattle.std.proofs.lemmas.Bool.{cases_lt}
 use Rattle.std.proofs.lemmas.List.{get_or-set_same, length-set, set-get_or, set-set, set_past}
 use Rattle.std.proofs.lemmas.List.{take-append-drop, take_more}
 use Rattle.fixpoint.specs.State.{State, with_growths, GotBeginning}
-use Rattle.keeper.specs.Keeping.{with_growth}
 
 module _ {G : Type 0} where
   -- with no growths more the lists are as they were
@@ -14,7 +13,7 @@ module _ {G : Type 0} where
 
   -- with growths, and then with one more
   pub with_more : (lists : List (List G)) (j : ℕ) (gs : List G) (g : G)
-      → with_growth (with_growths lists j gs) j g ≡ with_growths lists j (gs ++ g ∷ [])
+      → with_growths (with_growths lists j gs) j (g ∷ []) ≡ with_growths lists j (gs ++ g ∷ [])
   with_more lists j gs g =
       let old : List G = get_or lists j [] in
       ⊎_elim
@@ -41,11 +40,22 @@ module _ {G : Type 0} where
       → GotBeginning lists j gs new
   got_none lists j gs new is = ([], (gs, refl), is ∙ sym (with_none lists j))
 
+  pub got_all : (lists : List (List G)) (j : ℕ) (gs : List G) (new : List (List G)) → new ≡ with_growths lists j gs
+      → GotBeginning lists j gs new
+  got_all lists j gs new is = (gs, ([], sym (append-nil gs)), is)
+
   -- a beginning of one growth is none, or that one
   first_of_one : (some rest : List G) (g : G) → g ∷ [] ≡ some ++ rest → (some ≡ []) ⊎ (some ≡ g ∷ [])
   first_of_one [] rest g is = inl refl
   first_of_one (x ∷ []) rest g is = inr cc
   first_of_one (x ∷ y ∷ more) rest g is = absurd (omega (arith, ap length is))
+
+  pub got_one : (lists : List (List G)) (j : ℕ) (g : G) (new : List (List G)) → GotBeginning lists j (g ∷ []) new
+      → (new ≡ lists) ⊎ (new ≡ with_growths lists j (g ∷ []))
+  got_one lists j g new got = ⊎_elim
+      (λ none. inl (got.2 ∙ (ap (with_growths lists j) none ∙ with_none lists j)))
+      (λ all. inr (got.2 ∙ ap (with_growths lists j) all))
+      (first_of_one got.0 got.1.0 g got.1.1)
 
   -- some growths were received, and then perhaps the next one
   pub got_next : (lists middle new : List (List G)) (j i : ℕ) (gs : List G) (g : G) → i < length gs
@@ -56,7 +66,7 @@ module _ {G : Type 0} where
       (got.2 ∙ (ap (with_growths middle j) none ∙ (with_none middle j ∙ is))))
       (λ all. got_first lists j (i + 1) gs new
       (got.2 ∙ (ap (with_growths middle j) all
-      ∙ (ap (λ xs. with_growth xs j g) is
+      ∙ (ap (λ xs. with_growths xs j (g ∷ [])) is
       ∙ (with_more lists j (take i gs) g ∙ ap (with_growths lists j) (sym (take_next gs i g low at)))))))
       (first_of_one got.0 got.1.0 g got.1.1)
 
