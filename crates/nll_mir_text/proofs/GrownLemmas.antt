@@ -1,5 +1,5 @@
 -- Types that are added leave what a reader's lines say.
-use Rattle.std.proofs.Common.{◌≡◌, ◌∙◌, ℕ, ◌≤◌, Bool, true, List, [], ◌∷◌, length, map, refl, ap, sym, subst, suc, arith}
+use Rattle.std.proofs.Common.{◌≡◌, ◌∙◌, ℕ, ◌≤◌, Bool, true, false, List, [], ◌∷◌, length, map, refl, ap, sym, subst, suc, arith}
 use Rattle.std.specs.Prelude.{◌&&◌, All, Option, Some, None, MatchOption, Result, Ok, Err, IfOk}
 use Rattle.std.specs.List.{list_all}
 use Rattle.nll_sets.proofs.PrefixLemmas.{prefix_same}

@@ -1,11 +1,10 @@
-use Rattle.std.proofs.Common.{refl, sym, subst, inl}
-use Rattle.std.proofs.lemmas.Result.{on_ok_weaker, IfErr-weaker}
+use Rattle.std.proofs.Common.{sym, subst}
 use Rattle.nll_mir_grammar.specs.MirForms.{at_point}
 use Rattle.nll_mir_text.specs.MirReading.{IsAdmitted, IsTaken}
 use Rattle.nll_mir_text.proofs.reader.Reader.add_resolved.Goals as goal
 
-pub returns-in-Ok-clause-taken : goal.returns-in-Ok-clause-taken
-returns-in-Ok-clause-taken c = λ i placed.
+pub returns-in_ok-put-in-Ok-clause-taken : goal.returns-in_ok-put-in-Ok-clause-taken
+returns-in_ok-put-in-Ok-clause-taken c = λ i placed.
     let h = (rw c.in-Ok.is at c.admit.ensures.admitted) i placed in
     subst (λ s. IsTaken s (at_point i) c.put.new.self) h.0.same
     (c.in_ok-put.ensures i c.args.fits

@@ -1,5 +1,5 @@
 use Rattle.std.proofs.Common.{◌≡◌, ◌∙◌, ℕ, List, [], ◌∷◌, ◌++◌, true, length, map, ap, refl, sym, subst, inr, arith, length-append}
-use Rattle.std.specs.Prelude.{◌==◌, All}
+use Rattle.std.specs.Prelude.{◌==◌, All, vec_len}
 use Rattle.std.proofs.lemmas.Bool.{not-true, not-false, eq-eqb}
 use Rattle.std.proofs.lemmas.List.{length-map, map_push}
 use Rattle.std.proofs.lemmas.List.Elements.{All-push}
@@ -24,8 +24,9 @@ counted : (r : Reader) → length (said_by r).variables ≡ length r.variables.t
 counted r = length-map r.variables.typed.items
     (tree_at r.variables.types.table.shapes r.variables.types.regions.items)
 
-next_is : (r : Reader) (x n : ℕ) → n ≡ length r.variables.typed.items → x ≡ n → (x == length (said_by r).variables) ≡ true
-next_is r x n e same = eq-eqb x (length (said_by r).variables) (omega (arith, counted r, e, same))
+next_is : (r : Reader) (x n : ℕ) → n ≡ vec_len r.variables.typed → x ≡ n
+    → (x == length (said_by r).variables) ≡ true
+next_is r x n e same = eq-eqb x (length (said_by r).variables) (omega (arith, counted r, e, same, r.variables.typed.ok.0))
 
 pub returns-then-number-len-clause-refused : goal.returns-then-number-len-clause-refused
 returns-then-number-len-clause-refused c = λ t of.
@@ -38,14 +39,14 @@ returns-then-not-fits-clause-refused c = λ t of.
     let r = c.args.self.now in
     let next = next_is r c.args.number _ c.len.ensures c.if-number-len.false in
     inr (type_unfit (said_by r) c.args.number t of.order of.of.known next
-    (sym of.fits ∙ not-true _ c.if-not-fits.true))
+    (sym of.fits ∙ c.if-not-fits.true))
 
 pub returns-then-not-is_small-clause-refused : goal.returns-then-not-is_small-clause-refused
 returns-then-not-is_small-clause-refused c = λ t of.
     let r = c.args.self.now in
     let next = next_is r c.args.number _ c.len.ensures c.if-number-len.false in
     inr (type_too_large (said_by r) c.args.number t of.order of.of.known next
-    (sym of.fits ∙ not-false _ c.if-not-fits.false)
+    (sym of.fits ∙ c.if-not-fits.false)
     (sym (small_of_shape (meant (said_by r).scope t) _ of.of.typed.shape)
     ∙ (sym (rw c.shapes.ensures at c.is_small.ensures) ∙ not-true _ c.if-not-is_small.true)))
 
@@ -54,7 +55,7 @@ returns-then-len-ge-MAX_VARIABLES-clause-refused c = λ t of.
     let r = c.args.self.now in
     let next = next_is r c.args.number _ c.len.ensures c.if-number-len.false in
     inr (too_many_variables (said_by r) c.args.number t of.order of.of.known next
-    (sym of.fits ∙ not-false _ c.if-not-fits.false)
+    (sym of.fits ∙ c.if-not-fits.false)
     (sym (small_of_shape (meant (said_by r).scope t) _ of.of.typed.shape)
     ∙ (sym (rw c.shapes.ensures at c.is_small.ensures) ∙ not-false _ c.if-not-is_small.false))
     (omega (arith, c.if-len-ge-MAX_VARIABLES.true, c.len-2.ensures, r.variables.typed.ok.0, counted r)))
@@ -72,7 +73,7 @@ returns-clause-taken c = λ t of.
     ∙ ap (λ (u : TypeTree). map tree typed ++ u ∷ []) last) in
     record {
       fine = variable_fine (said_by old) c.args.number t of.order of.of.known next
-          (sym of.fits ∙ not-false _ c.if-not-fits.false)
+          (sym of.fits ∙ c.if-not-fits.false)
           (sym (small_of_shape (meant (said_by old).scope t) _ of.of.typed.shape)
           ∙ (sym (rw c.shapes.ensures at c.is_small.ensures) ∙ not-false _ c.if-not-is_small.false))
           (omega (arith, c.if-len-ge-MAX_VARIABLES.false, c.len-2.ensures, old.variables.typed.ok.0, counted old));
@@ -94,6 +95,7 @@ returns-clause-taken c = λ t of.
               length-append typed (c.args.ty ∷ []),
               c.if-len-ge-MAX_VARIABLES.false,
               c.len-2.ensures,
+              old.variables.typed.ok.0,
             );
         rows = record {
           variables = subst (All (HasRow types.table.shapes types.regions.items)) (sym c.in_ok-push.ensures.items)

@@ -47,15 +47,15 @@ returns-then-not-judged-3-clause-refused c = λ i fits placed told.
     inr (too_large s i placed.order known blocks (sym told.fits ∙ (not-false _ c.if-not-judged-2.false))
     (sym (told.fits_small (not-false _ c.if-not-judged-2.false)) ∙ (not-true _ c.if-not-judged-3.true)))
 
-pub returns-then-len-ge-MAX_POINTS-clause-refused : goal.returns-then-len-ge-MAX_POINTS-clause-refused
-returns-then-len-ge-MAX_POINTS-clause-refused c = λ i fits placed told.
+pub returns-then-len-clause-refused : goal.returns-then-len-clause-refused
+returns-then-len-clause-refused c = λ i fits placed told.
     let s = said_by c.args.self.now in
     let known = sym told.known ∙ (not-false _ c.if-not-judged.false) in
     let blocks = sym (targets_are s i _ (statement_of c.args.statement.now) placed.of _ c.targets_are_blocks.ensures)
     ∙ c.if-not-targets_are_blocks.false in
     inr (too_many_points s i placed.order known blocks (sym told.fits ∙ (not-false _ c.if-not-judged-2.false))
     (sym (told.fits_small (not-false _ c.if-not-judged-2.false)) ∙ (not-false _ c.if-not-judged-3.false))
-    (omega (arith, counted c.args.self.now, c.len.ensures, c.if-len-ge-MAX_POINTS.true)))
+    (omega (arith, counted c.args.self.now, c.len.ensures, c.args.self.now.points.statements.ok.0, c.if-len.true)))
 
 pub returns-then-edges-gt-MAX_EDGES-clause-refused : goal.returns-then-edges-gt-MAX_EDGES-clause-refused
 returns-then-edges-gt-MAX_EDGES-clause-refused c = λ i fits placed told.
@@ -68,7 +68,7 @@ returns-then-edges-gt-MAX_EDGES-clause-refused c = λ i fits placed told.
     (statement_of c.args.statement.now) placed.of in
     inr (too_many_edges s i placed.order known blocks (sym told.fits ∙ (not-false _ c.if-not-judged-2.false))
     (sym (told.fits_small (not-false _ c.if-not-judged-2.false)) ∙ (not-false _ c.if-not-judged-3.false))
-    (omega (arith, counted c.args.self.now, c.len.ensures, c.if-len-ge-MAX_POINTS.false))
+    (omega (arith, counted c.args.self.now, c.len.ensures, c.args.self.now.points.statements.ok.0, c.if-len.false))
     (omega (arith, c.requires.exits.edges, edges, c.requires.ready.edges, same_count c.args.self.now, c.if-edges-gt-MAX_EDGES.true)))
 
 pub returns-clause-admitted : goal.returns-clause-admitted
@@ -83,11 +83,11 @@ returns-clause-admitted c = λ i fits placed told.
     record {
       fine = no_fault s i placed.order known blocks (sym told.fits ∙ (not-false _ c.if-not-judged-2.false))
           (sym (told.fits_small (not-false _ c.if-not-judged-2.false)) ∙ (not-false _ c.if-not-judged-3.false))
-          (omega (arith, counted c.args.self.now, c.len.ensures, c.if-len-ge-MAX_POINTS.false))
+          (omega (arith, counted c.args.self.now, c.len.ensures, c.args.self.now.points.statements.ok.0, c.if-len.false))
           (omega (arith, c.requires.exits.edges, edges, c.requires.ready.edges, same_count c.args.self.now, c.if-edges-gt-MAX_EDGES.false));
       same = refl;
       ready = c.requires.ready;
-      few = omega (arith, c.len.ensures, c.if-len-ge-MAX_POINTS.false);
+      few = omega (arith, c.len.ensures, c.args.self.now.points.statements.ok.0, c.if-len.false);
       counted = omega (arith, c.requires.exits.edges, edges);
       few_edges = omega (arith, c.if-edges-gt-MAX_EDGES.false);
       ends = c.requires.exits.ends

@@ -1,10 +1,14 @@
-use Rattle.std.proofs.Common.{arith}
+use Rattle.std.proofs.Common.{length, ap, subst, arith}
+use Rattle.std.specs.Prelude.{IfOk}
 use Rattle.std.proofs.lemmas.Result.{IfOk-weaker}
+use Rattle.nll_resolve.specs.Naming.{Scope}
+use Rattle.nll_mir_text.specs.ResolvedStatements.{as_written, FitOf, MadeOf}
 use Rattle.nll_mir_text.proofs.GrownLemmas.{is_grown, placed_of}
 use Rattle.nll_mir_text.proofs.reader.Reader.resolve.Goals as goal
 
 pub resolve_statement-requires : goal.resolve_statement-requires
-resolve_statement-requires c = rw c.scope_in-scope.ensures (omega (arith, c.requires.ready.few_regions))
+resolve_statement-requires c =
+    omega (arith, ap (λ (s : Scope). length s.regions) c.scope_in-scope.ensures, c.requires.ready.few_regions)
 
 pub returns-clause-grown : goal.returns-clause-grown
 returns-clause-grown c = IfOk-weaker c.resolve_statement.result _ _
@@ -12,6 +16,11 @@ returns-clause-grown c = IfOk-weaker c.resolve_statement.result _ _
 
 pub returns-clause-resolved : goal.returns-clause-resolved
 returns-clause-resolved c =
-    let e = rw c.scope_in-scope.ensures at c.resolve_statement.ensures in
-    placed_of c.args.self.now _ _ c.resolve_statement.result _ _ c.requires.ready c.requires.order c.requires.fitting
-    e.adds e.made e.fits
+    let i = as_written c.args.statement in
+    let made = subst (λ (s : Scope). IfOk c.resolve_statement.result (MadeOf s i c.resolve_statement.new.types))
+    c.scope_in-scope.ensures c.resolve_statement.ensures.made in
+    let fits = subst (λ (s : Scope). IfOk c.resolve_statement.result
+    (FitOf s i c.args.fits.now c.resolve_statement.new.fits)) c.scope_in-scope.ensures c.resolve_statement.ensures.fits in
+    placed_of c.args.self.now c.resolve_statement.new.types i c.resolve_statement.result c.args.fits.now
+    c.resolve_statement.new.fits c.requires.ready c.requires.order c.requires.fitting
+    c.resolve_statement.ensures.adds made fits

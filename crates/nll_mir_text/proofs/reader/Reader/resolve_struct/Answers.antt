@@ -1,4 +1,4 @@
-use Rattle.std.proofs.Common.{◌∙◌, ap, sym}
+use Rattle.std.proofs.Common.{◌∙◌, ap}
 use Rattle.std.specs.Prelude.{◌&&◌}
 use Rattle.std.proofs.lemmas.Result.{IfOk-weaker}
 use Rattle.nll_mir_grammar.specs.TypeTexts.{written}
@@ -12,14 +12,14 @@ returns-clause-grown c = IfOk-weaker c.resolve_fields.result _ _
     (λ o adds. is_grown c.args.self.now _ adds c.requires.ready) c.resolve_fields.ensures.adds
 
 pub returns-clause-tuple : goal.returns-clause-tuple
-returns-clause-tuple c = rw (sym c.as_type-fields.ensures.value) c.as_type-fields.ensures.tuple
+returns-clause-tuple c = c.as_type-fields.ensures.tuple
 
 pub returns-clause-fits : goal.returns-clause-fits
 returns-clause-fits c =
     let s = own_scope c.args.own.now c.args.self.now.structs in
-    let e = rw c.as_type-fields.ensures.value at c.resolve_fields.ensures in
+    let e = rw c.as_type-fields.ensures.value at c.resolve_fields.ensures.fits in
     IfOk-weaker c.resolve_fields.result _ _
-    (λ o fit. fit ∙ ap (λ b. b && has_arguments s (written c.args.text.now.fields)) c.requires.fitting) e.fits
+    (λ o fit. fit ∙ ap (λ b. b && has_arguments s (written c.args.text.now.fields)) c.requires.fitting) e
 
 pub returns-clause-resolved : goal.returns-clause-resolved
-returns-clause-resolved c = let e = rw c.as_type-fields.ensures.value at c.resolve_fields.ensures in e.resolved
+returns-clause-resolved c = rw c.as_type-fields.ensures.value at c.resolve_fields.ensures.resolved

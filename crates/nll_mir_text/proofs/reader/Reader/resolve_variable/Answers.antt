@@ -1,14 +1,16 @@
-use Rattle.std.proofs.Common.{◌∙◌, ap, arith}
-use Rattle.std.specs.Prelude.{◌&&◌}
+use Rattle.std.proofs.Common.{◌≡◌, ◌∙◌, false, length, ap, subst, arith}
+use Rattle.std.specs.Prelude.{◌&&◌, IfOk, MatchOption}
 use Rattle.std.proofs.lemmas.Result.{IfOk-weaker}
 use Rattle.nll_mir_grammar.specs.TypeTexts.{written}
-use Rattle.nll_resolve.specs.Naming.{has_arguments}
+use Rattle.nll_resolve.specs.Naming.{Scope, has_arguments, is_known}
+use Rattle.nll_resolve.specs.Resolution.{IsResolved}
 use Rattle.nll_mir_text.specs.MirReading.{scope_in}
 use Rattle.nll_mir_text.proofs.GrownLemmas.{is_grown}
 use Rattle.nll_mir_text.proofs.reader.Reader.resolve_variable.Goals as goal
 
 pub resolve-requires : goal.resolve-requires
-resolve-requires c = rw c.scope_in-scope.ensures (omega (arith, c.requires.ready.few_regions))
+resolve-requires c =
+    omega (arith, ap (λ (s : Scope). length s.regions) c.scope_in-scope.ensures, c.requires.ready.few_regions)
 
 pub returns-clause-grown : goal.returns-clause-grown
 returns-clause-grown c = IfOk-weaker c.resolve.result _ _
@@ -16,10 +18,15 @@ returns-clause-grown c = IfOk-weaker c.resolve.result _ _
 
 pub returns-clause-fits : goal.returns-clause-fits
 returns-clause-fits c =
-    let s = scope_in c.args.self.now.regions c.args.self.now.structs in
-    let e = rw c.scope_in-scope.ensures at c.resolve.ensures in
+    let t = written c.args.text.now in
+    let told = subst (λ (s : Scope). IfOk c.resolve.result (λ _. c.resolve.new.fits ≡ (c.args.fits.now && has_arguments s t)))
+    c.scope_in-scope.ensures c.resolve.ensures.fits in
     IfOk-weaker c.resolve.result _ _
-    (λ o fit. fit ∙ ap (λ b. b && has_arguments s (written c.args.text.now)) c.requires.fitting) e.fits
+    (λ o fit. fit ∙ ap (λ b. b && has_arguments (scope_in c.args.self.now.regions c.args.self.now.structs) t)
+    c.requires.fitting) told
 
 pub returns-clause-resolved : goal.returns-clause-resolved
-returns-clause-resolved c = let e = rw c.scope_in-scope.ensures at c.resolve.ensures in e.resolved
+returns-clause-resolved c =
+    let t = written c.args.text.now in
+    subst (λ (s : Scope). IfOk c.resolve.result (λ o. MatchOption o (is_known s t ≡ false)
+    (IsResolved s t c.resolve.new.types))) c.scope_in-scope.ensures c.resolve.ensures.resolved
