@@ -6,14 +6,12 @@ use Rattle.std.proofs.lemmas.Bool.{eqb-true}
 use Rattle.std.proofs.lemmas.Map.Views.{Contains-from_lookup}
 use Rattle.std.specs.Map.{lookup}
 use Rattle.std.proofs.lemmas.List.Elements.{Contains-push_cases, Contains-append_cases, Contains-append_left, Contains-append_right}
-use Rattle.nll_types.specs.Types.{TypeTree, none, more}
-use Rattle.nll_types.specs.Views.{tree, trees}
-use Rattle.nll_types.specs.declared.ty.Ty.{Ty}
+use Rattle.nll_types.specs.Types.{TypeTree}
 use Rattle.nll_types.specs.Structs.{Struct}
 use Rattle.nll_types.specs.Places.{behind}
 use Rattle.nll_types.specs.declared.place.Projection.TheVariants.{Field}
 use Rattle.nll_rules.specs.Knowing.{AreRight, IsPart, IsMeeting, KnownTypes, Learns}
-use Rattle.nll_rules.specs.Layers.{AreEarlier, KeepsTypes, all_numbered, numbered, type_in, types_in}
+use Rattle.nll_rules.specs.Layers.{AreEarlier, KeepsTypes, type_in, types_in}
 use Rattle.nll_rules.proofs.InterningLemmas.{earlier_more, keeps_same, keeps_then, map_stays}
 use Rattle.nll_rules.specs.Pairs.{AddsPairs}
 use Rattle.nll_problem.specs.Problem.{SameSet}

@@ -12,7 +12,7 @@ use Rattle.nll_rules.specs.Pairs.{AtOne, ArgumentAsks}
 use Rattle.nll_rules.specs.Positions.{sign_or, target_sign, times}
 use Rattle.nll_rules.specs.Signs.{RowsAsk, all_signs, sign_row, signs}
 use Rattle.nll_rules.specs.Subtyping.{IsAsked, SubtypeAsksBehind}
-use Rattle.nll_rules.proofs.SubtypeLemmas.{asked_as, asked_of, asks_function, asks_named, asks_reference, asks_tuple, get_below, int_asks, parameter_asks, times_covariant}
+use Rattle.nll_rules.proofs.SubtypeLemmas.{asked_as, asked_of, asks_function, asks_named, asks_reference, asks_tuple, get_below, int_asks, parameter_asks, some_is, times_covariant}
 
 both_ways : {A B C : Type 0} → A ↔ B → B ↔ C → A ↔ C
 both_ways f g = (λ a. g.0 (f.0 a), λ c. f.1 (g.1 c))
@@ -28,9 +28,6 @@ swapped f g = (⊎_elim (λ a. inr (f.0 a)) (λ b. inl (g.0 b)), ⊎_elim (λ d.
 
 neither : {A B : Type 0} → (A → ⊥) → (B → ⊥) → A ↔ B
 neither f g = (λ a. absurd (f a), λ b. absurd (g b))
-
-some_is : {X : Type 0} (a b : X) → Some a ≡ Some b → a ≡ b
-some_is a b e = cc
 
 -- ---- rows behind one another
 

@@ -354,7 +354,7 @@ get_below [] k x e = absurd cc
 get_below (y ∷ ys) zero x e = omega arith
 get_below (y ∷ ys) (suc k) x e = (let h = get_below ys k x e in omega arith)
 
-some_is : {X : Type 0} (a b : X) → Some a ≡ Some b → a ≡ b
+pub some_is : {X : Type 0} (a b : X) → Some a ≡ Some b → a ≡ b
 some_is a b e = cc
 
 -- what two region arguments ask is what their place asks

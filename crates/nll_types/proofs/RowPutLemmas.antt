@@ -4,7 +4,7 @@ use Rattle.std.specs.List.{flat_map}
 use Rattle.std.proofs.Math.Seq.{take-append_seam}
 use Rattle.std.proofs.lemmas.List.Concat.{flat_map-append}
 use Rattle.nll_sets.specs.Prefix.{IsPrefix}
-use Rattle.nll_types.specs.Items.{Item, all_items, item_row, items, parameter_item, region_item, rows_before}
+use Rattle.nll_types.specs.Items.{all_items, item_row, items, region_item, rows_before}
 use Rattle.nll_types.specs.Rows.{region_row, region_rows}
 use Rattle.nll_types.specs.Structs.{argument, put_in, put_in_all, region_in}
 use Rattle.nll_types.specs.Types.{TypeTree, TypeTrees, int, parameter, reference, tuple, named, function, none, more, type_at}
