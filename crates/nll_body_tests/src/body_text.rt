@@ -3,7 +3,7 @@ ghost use Rattle.std.specs.Prelude.{◌<◌, length};
 
 use super::comparison::compare;
 use super::pieces::{write_number, write_numbers, write_piece};
-use super::types::{write_places, write_variables};
+use super::types::{write_places, write_typed, write_variables};
 use nll_body::{Body, Stmt};
 use nll_format::{Labels, PointName, TextError};
 use nll_mir_text::read_mir;
@@ -26,6 +26,8 @@ pub enum Asked {
     Variables,
     /// The regions of the types of the places that `types` has.
     Places,
+    /// The regions of the types of variables and statements, by number.
+    Typed,
 }
 
 // ---- writing
@@ -158,6 +160,7 @@ fn write_asked(rt: &impl Abort, alloc: Global, out: &mut String, body: &Body, as
         Asked::First => write_first(rt, alloc, out, body),
         Asked::Variables => write_variables(rt, alloc, out, body),
         Asked::Places => write_places(rt, alloc, out, body),
+        Asked::Typed => write_typed(rt, alloc, out, body),
     }
 }
 

@@ -7,17 +7,19 @@ ghost use Rattle.nll_types.specs.Views.{tree};
 
 use super::body_text::{Asked, compare_lines};
 use super::pieces::{write_number, write_piece};
-use nll_body::Body;
+use nll_body::{Body, StatementAt, TypedBody};
 use nll_problem::RegionId;
 use nll_sets::Memory;
-use nll_types::{Place, Projection, Ty, behind};
+use nll_statements::Statement;
+use nll_types::{BodyTypes, Place, Projection, Structs, Ty, Typed, behind, is_well_formed};
 use smallvec::SmallVec;
 use std::alloc::Global;
 use std::process::Abort;
 
-// A body whose variables have references, a tuple and a struct.
+// A body whose variables have references, a tuple and a struct, and which makes a tuple.
 const BODY: &str = "nll-mir 1|region 'a|region 'b|region 'c|struct W<'x +>(&'x int)|let _0: int|\
-    let _1: &'a mut &'b int|let _2: (int, W<'c>)|blocks 1|block bb0|stop|end|";
+    let _1: &'a mut &'b int|let _2: (int, W<'c>)|blocks 1|block bb0|\
+    _2 = make (int, W<'b>)(const, copy _2.1)|stop|end|";
 
 // Writes which of the first four regions are among these.
 fn write_which(rt: &impl Abort, out: &mut String, regions: &[RegionId]) {
@@ -69,11 +71,12 @@ fn write_place(
     body: &Body,
     place: &Place,
 ) -> Result<(), Memory> {
-    if place.variable() as usize >= body.variables() {
+    let variable = place.variable();
+    if variable as usize >= body.variables() {
         write_piece(rt, out, " none");
         return Ok(());
     }
-    let ty = body.var_type(alloc, place.variable())?;
+    let ty = body.var_type(alloc, variable)?;
     match behind(alloc, body.structs(), ty, place.projections())? {
         Some(ty) => {
             drop(ty);
@@ -105,11 +108,60 @@ pub fn write_places(rt: &impl Abort, alloc: Global, out: &mut String, body: &Bod
     }
 }
 
+// Writes the regions of a type of a body of four regions.
+fn write_tree(rt: &impl Abort, alloc: Global, out: &mut String, structs: &Structs, ty: &Ty) {
+    if is_well_formed(structs, ty, 4, 0) {
+        let regions = structs.regions(alloc, ty).expect(rt, "memory");
+        write_which(rt, out, regions.as_slice());
+    }
+}
+
+// Writes the regions of a type by number.
+fn write_number_of(rt: &impl Abort, alloc: Global, out: &mut String, types: &BodyTypes, ty: Typed) {
+    write_piece(rt, out, "|");
+    if ty.shape < types.table.shapes().len() {
+        let ty = types.tree(alloc, ty).expect(rt, "memory");
+        write_tree(rt, alloc, out, types.table.structs(), &ty);
+    }
+}
+
+// Writes the regions of the type that is made at a point, if one is.
+fn write_made(rt: &impl Abort, alloc: Global, out: &mut String, line: StatementAt<'_>) {
+    if let Statement::Make(made) = line.statement {
+        write_number_of(rt, alloc, out, line.types, made.ty);
+    }
+}
+
+/// Writes the regions of the types that go by number: of the variables, of the statements, and of
+/// the statement at each point.
+pub fn write_typed(rt: &impl Abort, alloc: Global, out: &mut String, body: &Body) {
+    let TypedBody {
+        types,
+        variables,
+        points,
+    } = body.typed();
+    for ty in variables {
+        write_number_of(rt, alloc, out, types, *ty);
+    }
+    for statement in points {
+        write_made(rt, alloc, out, StatementAt { statement, types });
+    }
+    for point in 0..body.points() {
+        write_made(rt, alloc, out, body.line_at(point));
+    }
+}
+
 // The regions of each variable's type: of the second those of a reference to a reference, of the
 // third that of a struct in a tuple.
 #[test]
 fn variables_have_types(rt: HostRuntime) {
     compare_lines(&rt, rt.alloc(), Asked::Variables, BODY, "|| 1 2| 3");
+}
+
+// By number the types are the same. The tuple that is made has a region of its own.
+#[test]
+fn types_go_by_number(rt: HostRuntime) {
+    compare_lines(&rt, rt.alloc(), Asked::Typed, BODY, "|| 1 2| 3| 2| 2");
 }
 
 const DEREF: Projection = Projection::Deref;
