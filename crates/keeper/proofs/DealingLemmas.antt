@@ -46,16 +46,6 @@ module _ {A F G : Type 0} (rules : Rules A F G) (a : A) (g : G) where
       left = λ j above. dealt.left j (omega (arith, above));
     }
 
-  -- what each owner receives of a log with this growth behind
-  pub parts_more : (log : List G) (old new : List (List G)) → AreParts rules a log old
-      → AreDealt rules a g (length old) old new → AreParts rules a (log ++ g ∷ []) new
-  parts_more log old new parts dealt = record {
-    counted = dealt.counted ∙ parts.counted;
-    each = λ j low. dealt.got j (omega (arith, low, parts.counted)) (omega (arith, low, parts.counted))
-        ∙ (ap (λ xs. xs ++ part rules a j (g ∷ [])) (parts.each j low)
-        ∙ sym (filter-append (λ (h : G). rules.reads a j (rules.fact h)) log (g ∷ [])));
-  }
-
 module _ {A F G : Type 0} (rules : Rules A F G) (b a : A) (system : a ≡ b) (lists : List (List G)) where
   -- what the lists had of the log they have of the beginning of a longer one
   pub parts_front : (old log rest : List G) (place : ℕ) → log ≡ old ++ rest → place ≡ length old

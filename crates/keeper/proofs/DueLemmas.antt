@@ -7,7 +7,8 @@ use Rattle.fixpoint.specs.State.{State, IsDone, list_in}
 use Rattle.fixpoint.proofs.LogLemmas.{tells_from}
 use Rattle.keeper.specs.Engine.{IsFound, Finds, with_fact, nothing}
 use Rattle.keeper.specs.Keeping.{IsDue, has}
-use Rattle.keeper.proofs.KeepingLemmas.{derives_more, or_cases, or_right, same_truth}
+use Rattle.keeper.proofs.KeepingLemmas.{derives_more}
+use Rattle.keeper.proofs.ListLemmas.{or_cases, or_right, same_truth}
 
 module _ {A F G : Type 0} (rules : Rules A F G) (lawful : AreLawful rules) (a : A) (ok : rules.valid a) (i : ℕ) where
   -- what was found by some facts is found by more
@@ -17,17 +18,6 @@ module _ {A F G : Type 0} (rules : Rules A F G) (lawful : AreLawful rules) (a : 
     own = h.own;
     proper = h.proper;
     follows = derives_more rules lawful a ok known more each f h.follows;
-  }
-
-  -- the last fact that is due is known already
-  pub due_known : (known : F → Bool) (list : List F) (fact : F) → IsDue rules a i known (list ++ fact ∷ [])
-      → IsTrue (known fact) → IsDue rules a i known list
-  due_known known list fact due is = record {
-    each = λ f h. due.each f (Contains-append_left list (fact ∷ []) f h);
-    all = λ f own follows. ⊎_elim inl
-        (λ h. ⊎_elim (λ old. inr old) (λ same. inl (subst (λ x. IsTrue (known x)) same is))
-        (Contains-push_cases list fact f h))
-        (due.all f own follows);
   }
 
   -- a fact that was due was entered, and with it what follows

@@ -1,41 +1,19 @@
 -- What a part has after a step.
-use Rattle.std.proofs.Common.{◌≡◌, ◌≢◌, ℕ, suc, max, ◌+◌, ◌<◌, ◌≤◌, Bool, true, false, cond, ◌||◌, List, [], ◌∷◌, ◌++◌, length, map, set, replicate, Contains, AllPairs, IsTrue, get_or, eqb, refl, sym, ap, ◌∙◌, subst, inl, inr, ◌⊎◌, ⊎_elim, arith, length-append}
-use Rattle.std.specs.List.{filter}
-use Rattle.std.specs.Prelude.{Result, Ok, Err, OnOk, OnErr}
-use Rattle.std.proofs.lemmas.Bool.{cases_eq, cases_lt, false≢true}
-use Rattle.std.proofs.lemmas.List.{get_or-map, length-map, map-set, get_or_default, get_or-replicate, get_or_past, get_or-set_same, get_or-set_other, length-set, length-replicate}
+use Rattle.std.proofs.Common.{◌≡◌, ◌≢◌, ℕ, max, ◌+◌, ◌<◌, ◌≤◌, Bool, true, false, cond, List, [], ◌∷◌, ◌++◌, length, map, set, Contains, AllPairs, IsTrue, get_or, eqb, refl, sym, ap, ◌∙◌, subst, inl, inr, ◌⊎◌, ⊎_elim, arith, length-append}
+use Rattle.std.proofs.lemmas.Bool.{cases_eq, cases_lt}
+use Rattle.std.proofs.lemmas.List.{get_or-map, length-map, get_or_default, get_or-set_same, get_or-set_other, length-set}
 use Rattle.std.proofs.lemmas.List.Elements.{Contains-append_left, Contains-push, Contains-push_cases, filter-append}
 use Rattle.std.proofs.lemmas.List.Quantifiers.{all_pairs_push}
-use Rattle.std.proofs.Math.Seq.{map-set_same}
 use Rattle.fixpoint.specs.Limits.{most_growths}
 use Rattle.fixpoint.specs.Rules.{Rules, AreLawful}
 use Rattle.fixpoint.specs.Logs.{IsTold, IsWellFormed, IsWellSupported, tells, tells_before, part}
-use Rattle.fixpoint.specs.State.{State, IsSound, IsNoted, Passes, list_in, received_from, part_for, given_to, first_state}
+use Rattle.fixpoint.specs.State.{State, IsSound, IsNoted, Passes, list_in, received_from, part_for, given_to}
 use Rattle.fixpoint.proofs.LogLemmas.{list_own, list_other, tells_from, tells_to, before_from, before_to}
 use Rattle.keeper.specs.Engine.{IsFound, with_fact}
 use Rattle.keeper.specs.Keeping.{IsKept, has, with_growth}
+use Rattle.keeper.proofs.ListLemmas.{IsIn, or_cases, or_left, or_right, same_truth}
 
--- two truth values that follow from each other are one
-pub same_truth : (a b : Bool) → (a ≡ true → b ≡ true) → (b ≡ true → a ≡ true) → a ≡ b
-same_truth true b to from = sym (to refl)
-same_truth false true to from = from refl
-same_truth false false to from = refl
-
-pub or_cases : (a b : Bool) → (a || b) ≡ true → (a ≡ true) ⊎ (b ≡ true)
-or_cases true b h = inl refl
-or_cases false b h = inr h
-
-pub or_left : (a b : Bool) → a ≡ true → (a || b) ≡ true
-or_left true b h = refl
-or_left false b h = absurd (false≢true h)
-
-pub or_right : (a b : Bool) → b ≡ true → (a || b) ≡ true
-or_right true b h = refl
-or_right false b h = h
-
--- all that is in one list is in the other
-abbrev pub IsIn : {X : Type 0} → List X → List X → Type 0
-IsIn {X} xs ys = (x : X) → Contains xs x → Contains ys x
+-- ---- a part that goes on
 
 module _ {A F G : Type 0} (rules : Rules A F G) (lawful : AreLawful rules) where
   -- what follows from facts follows from more of them
@@ -463,106 +441,3 @@ module _ {A F G : Type 0} (rules : Rules A F G) (lawful : AreLawful rules) where
       top = kept.top;
       early = kept.early;
     }
-
-  -- ---- a part that has done nothing yet
-
-  module _ (a : A) (ok : rules.valid a) (i : ℕ) (me : i < rules.parts a) where
-    abbrev first : State A G
-    first = first_state rules a i
-
-    no_growth : (g : G) → Contains [] g → ⊥
-    no_growth g h = omega (arith, h.1)
-
-    none_heard : (j : ℕ) (g : G) → Contains (received_from first j) g → ⊥
-    none_heard j g h = no_growth g (subst (λ (xs : List G). Contains xs g) none h)
-      where
-        none : received_from first j ≡ []
-        none = ⊎_elim
-            (λ within. get_or-replicate (rules.parts a) j [] [] within)
-            (λ past. get_or_past (replicate (rules.parts a) []) j []
-            (omega (arith, past, length-replicate {A = List G} (rules.parts a) [])))
-            (cases_lt j (rules.parts a))
-
-    zero_at : (j : ℕ) → ◌≡◌ {A = ℕ} (get_or (replicate (rules.parts a) 0) j 0) 0
-    zero_at j = ⊎_elim
-        (λ within. get_or-replicate (rules.parts a) j 0 0 within)
-        (λ past. get_or_past (replicate (rules.parts a) 0) j 0
-        (omega (arith, past, length-replicate {A = ℕ} (rules.parts a) 0)))
-        (cases_lt j (rules.parts a))
-
-    pub first_kept : IsKept rules first 0
-    first_kept = record {
-      sound = record {
-        valid = ok;
-        me = me;
-        well_formed =
-            record {
-              own = λ g h. absurd (no_growth g h);
-              once = λ j k d l h. absurd (omega (arith, h));
-              rising = λ j k d l h. absurd (omega (arith, h));
-              from_one = λ g h. absurd (no_growth g h);
-            };
-        supported = λ g h. absurd (no_growth g h);
-        proper = λ g h. absurd (no_growth g h);
-        few = omega arith;
-        senders = length-replicate (rules.parts a) [];
-        heard = λ j g h. absurd (none_heard j g h);
-        steps = λ g h. absurd (no_growth g h);
-        receivers = length-replicate (rules.parts a) 0;
-        given = λ j. omega (arith, zero_at j);
-      };
-      own_ranks = λ g h. absurd (no_growth g h);
-      heard_ranks = λ j g h. absurd (none_heard j g h);
-      top = inl refl;
-      early = omega arith;
-    }
-
-    pub first_has : (f : F) → has rules first f ≡ false
-    first_has f = same_truth (has rules first f) false
-        (λ h. let t = tells_from rules lawful.same_tells (list_in rules first f) f h in
-        absurd (⊎_elim
-        (λ own. no_growth t.0 (subst (λ (xs : List G). Contains xs t.0)
-        (list_own rules a i [] (received_from first) f own) t.1))
-        (λ other. none_heard (rules.owner a f) t.0 (subst (λ (xs : List G). Contains xs t.0)
-        (list_other rules a i [] (received_from first) f other) t.1))
-        (cases_eq (rules.owner a f) i)))
-        (λ h. absurd (false≢true h))
-
--- ---- lists that vectors hold, of which one is read at a place
-
-module _ {V G : Type 0} (f : V → List G) (lists : List V) (p : ℕ) (v : V) (within : p < length (map f lists))
-    (is : v ≡ get_or lists p v) where
-  place : p < length lists
-  place = omega (arith, within, length-map lists f)
-
-  pub list_at : f v ≡ get_or (map f lists) p []
-  list_at = sym (get_or-map f lists p v [] place ∙ ap f (sym is))
-
-  pub lists_kept : (kept : V) → f kept ≡ f v → map f (set lists p kept) ≡ map f lists
-  lists_kept kept same = map-set_same f lists p kept v (same ∙ ap f is)
-
-  pub lists_pushed : (pushed : V) (g : G) → f pushed ≡ f v ++ g ∷ []
-      → map f (set lists p pushed) ≡ with_growth (map f lists) p g
-  lists_pushed pushed g more = map-set f lists p pushed
-      ∙ ap (set (map f lists) p) (more ∙ ap (λ xs. xs ++ g ∷ []) list_at)
-
-pub filter_le : {X : Type 0} (p : X → Bool) (xs : List X) → length (filter p xs) ≤ length xs
-filter_le p [] = omega arith
-filter_le {X} p (x ∷ xs) = go (p x) (filter_le p xs)
-  where
-    go : (b : Bool) → length (filter p xs) ≤ length xs
-        → length (cond b (x ∷ filter p xs) (filter p xs)) ≤ suc (length xs)
-    go true h = omega arith
-    go false h = omega arith
-
-pub on_err_always : {T E P : Type 0} (r : Result T E) → P → OnErr r P
-on_err_always (Ok x) p = tt
-on_err_always (Err e) p = p
-
-pub on_ok_always : {T E P : Type 0} (r : Result T E) → P → OnOk r P
-on_ok_always (Ok x) p = p
-on_ok_always (Err e) p = tt
-
-pub on_ok_two : {T E P Q R : Type 0} (r : Result T E) → (P → Q → R) → OnOk r P → OnOk r Q → OnOk r R
-on_ok_two (Ok x) f p q = f p q
-on_ok_two (Err e) f p q = tt

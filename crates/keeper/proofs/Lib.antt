@@ -1,5 +1,6 @@
 pub mod KeepingLemmas
-pub mod ReceivingLemmas
+pub mod FirstPartLemmas
+pub mod ListLemmas
 pub mod DealingLemmas
 pub mod DueLemmas
 pub mod WholeLemmas

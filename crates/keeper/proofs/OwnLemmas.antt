@@ -12,7 +12,7 @@ use Rattle.fixpoint.specs.Logs.{AreSound, AreSettled, IsTold, log_of}
 use Rattle.fixpoint.proofs.LawLemmas.{each_holds, least_exact, in_range}
 use Rattle.fixpoint.proofs.ListLemmas.{filter_from, filter_to, both, and_both}
 use Rattle.keeper.specs.Engine.{Finds, GotOwn, nothing, with_fact}
-use Rattle.keeper.proofs.KeepingLemmas.{or_cases, or_left, or_right}
+use Rattle.keeper.proofs.ListLemmas.{or_cases, or_left, or_right}
 
 module _ {A F G : Type 0} (rules : Rules A F G) (a : A) (i : ℕ) where
   finds_own : (known : F → Bool) (before : F → Type 0) (facts : List F)

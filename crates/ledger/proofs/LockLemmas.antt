@@ -290,30 +290,3 @@ module _ (n port : ℕ) (u v : Known) (r : State) (e : v ≡ holding u r) where
 
   pub back_after : Pushes IsHeldByOne n port v r (λ w. w ≡ released v v.figures)
   back_after = gives_back n port v r holds_is held_is
-
-  -- what a raised balance tells
-  pub raised_is : (k : ℕ) (x : State) (w : Known) → x.balance ≡ r.balance + k
-      → w ≡ released v (owing v.figures (x.balance - v.held.balance))
-      → (w.holds ≡ false) × (w.figures ≡ owing u.figures k)
-  raised_is k x w b is =
-      let kk : x.balance - v.held.balance ≡ k =
-      (let h = ap (λ (y : State). y.balance) held_is in omega (arith, b, h)) in (
-        ap (λ (y : Known). y.holds) is,
-        ap (λ (y : Known). y.figures) is
-            ∙ (ap (owing v.figures) kk ∙ ap (λ (y : Figures). owing y k) entry_is),
-      )
-
-  pub lowered_is : (k : ℕ) (x : State) (w : Known) → x.balance ≡ r.balance - k → k ≤ r.balance
-      → w ≡ released v (clearing v.figures (v.held.balance - x.balance))
-      → (w.holds ≡ false) × (w.figures ≡ clearing u.figures k)
-  lowered_is k x w b le is =
-      let kk : v.held.balance - x.balance ≡ k =
-      (let h = ap (λ (y : State). y.balance) held_is in omega (arith, b, h, le)) in (
-        ap (λ (y : Known). y.holds) is,
-        ap (λ (y : Known). y.figures) is
-            ∙ (ap (clearing v.figures) kk ∙ ap (λ (y : Figures). clearing y k) entry_is),
-      )
-
-  pub released_is : (f : Figures → Figures) (w : Known) → w ≡ released v (f v.figures)
-      → (w.holds ≡ false) × (w.figures ≡ f u.figures)
-  released_is f w is = (ap (λ (y : Known). y.holds) is, ap (λ (y : Known). y.figures) is ∙ ap f entry_is)

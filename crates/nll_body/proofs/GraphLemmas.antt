@@ -6,7 +6,6 @@ use Rattle.std.proofs.lemmas.List.Sums.{sum_by_more, sum_by_more_le}
 use Rattle.nll_problem.specs.Graph.{Graph}
 use Rattle.nll_problem.specs.GraphBuilding.{bare_graph}
 use Rattle.nll_problem.specs.Limits.{most_edges}
-use Rattle.nll_types.specs.Types.{TypeTree}
 use Rattle.nll_statements.specs.Statements.{Statement, return}
 use Rattle.nll_body.specs.Edges.{LeavesTo, edges_from, edge_count}
 use Rattle.nll_body.specs.Making.{AddsPoint, HasPoints}
@@ -16,7 +15,7 @@ none_there : {X : Type 0} (x : X) → Contains [] x → ⊥
 none_there x h = absurd (omega (arith, h.1))
 
 -- nothing yet
-pub points_none : (starts : List ℕ) (count : ℕ) (stand : List (Statement ℕ TypeTree))
+pub points_none : {R T : Type 0} (starts : List ℕ) (count : ℕ) (stand : List (Statement R T))
     → HasPoints starts count stand 0 (bare_graph (length stand) count)
 points_none starts count stand = record {
   points = refl;
@@ -27,13 +26,13 @@ points_none starts count stand = record {
 }
 
 -- one statement stands at a point
-pub some_same : (i j : Statement ℕ TypeTree) → Some i ≡ Some j → i ≡ j
+pub some_same : {R T : Type 0} (i j : Statement R T) → Some i ≡ Some j → i ≡ j
 some_same i j h = cc
 
 -- one point more
-pub points_step : (starts : List ℕ) (count : ℕ) (stand : List (Statement ℕ TypeTree)) (k : ℕ) (i : Statement ℕ TypeTree)
-    (old new : Graph) → HasPoints starts count stand k old → slice_get stand k ≡ Some i → AddsPoint starts k i old new
-    → HasPoints starts count stand (k + 1) new
+pub points_step : {R T : Type 0} (starts : List ℕ) (count : ℕ) (stand : List (Statement R T)) (k : ℕ)
+    (i : Statement R T) (old new : Graph) → HasPoints starts count stand k old → slice_get stand k ≡ Some i
+    → AddsPoint starts k i old new → HasPoints starts count stand (k + 1) new
 points_step starts count stand k i old new has at adds = record {
   points = adds.points ∙ has.points;
   universals = adds.universals ∙ has.universals;
@@ -74,9 +73,9 @@ points_step starts count stand k i old new has at adds = record {
 }
 
 -- there is room for the edges of one point more
-pub points_room : (starts : List ℕ) (count : ℕ) (stand : List (Statement ℕ TypeTree)) (k : ℕ) (i : Statement ℕ TypeTree)
-    (old : Graph) → HasPoints starts count stand k old → slice_get stand k ≡ Some i → edge_count stand ≤ most_edges
-    → length old.edges + edges_from i ≤ most_edges
+pub points_room : {R T : Type 0} (starts : List ℕ) (count : ℕ) (stand : List (Statement R T)) (k : ℕ)
+    (i : Statement R T) (old : Graph) → HasPoints starts count stand k old → slice_get stand k ≡ Some i
+    → edge_count stand ≤ most_edges → length old.edges + edges_from i ≤ most_edges
 points_room starts count stand k i old has at room =
     let more = sum_by_more_le edges_from stand k i (slice_get_within stand k i at) in
     let last : get_or stand k i ≡ i = get_or_from_slice_get stand k i i at in

@@ -1,57 +1,91 @@
 -- What a body of the code keeps is the body of its parts.
-use Rattle.std.proofs.Common.{◌≡◌, ◌<◌, ℕ, List, map, length, get_or, Some, ap, refl, sym, ◌∙◌, subst, arith}
-use Rattle.std.specs.Prelude.{option_map}
+use Rattle.std.proofs.Common.{◌≡◌, ◌<◌, ℕ, List, map, length, get_or, ap, refl, sym, ◌∙◌, subst, arith}
 use Rattle.std.proofs.lemmas.List.{length-map}
-use Rattle.std.proofs.lemmas.Option.{get_or_from_slice_get, slice_get_within, slice_get_read, slice_get-map}
+use Rattle.std.proofs.lemmas.Option.{get_or_from_slice_get, same_Some, slice_get_within, slice_get_read}
 use Rattle.nll_problem.specs.Graph.{Graph}
 use Rattle.nll_format.specs.Labels.{Labels, blocks}
 use Rattle.nll_types.specs.Declarations.{structs_of}
 use Rattle.nll_types.specs.Types.{TypeTree}
+use Rattle.nll_types.specs.Rows.{tree_at}
 use Rattle.nll_types.specs.Structs.{IsWellFormed}
-use Rattle.nll_types.specs.Views.{tree}
-use Rattle.nll_types.specs.declared.structs.Declaration.{Declaration}
-use Rattle.nll_types.specs.declared.ty.Ty.{Ty}
+use Rattle.nll_types.specs.declared.body_types.BodyTypes.{BodyTypes}
+use Rattle.nll_types.specs.declared.typed.Typed.{Typed}
 use Rattle.nll_statements.specs.Statements.{Statement}
-use Rattle.nll_body.specs.Bodies.{BodyText, HasType, IsGraphOf}
+use Rattle.nll_statements.specs.declared.statement.Statement.{Statement as Kept}
+use Rattle.nll_body.specs.Bodies.{BodyText, HasType, StandsAt, IsGraphOf}
 use Rattle.nll_body.specs.Kept.{kept_body, IsKept}
 use Rattle.nll_body.specs.Sound.{IsSound}
+use Rattle.nll_body.specs.Typed.{meant, trees_at}
+use Rattle.nll_body.proofs.MeantLemmas.{mapped_at}
 
-module _ (names : List (List ℕ)) (universals : ℕ) (outlives asserts : List (ℕ × ℕ)) (structs : List Declaration)
-    (variables : List Ty) (starts : List ℕ) (points : List (Statement ℕ TypeTree)) where
+module _ (outlives asserts : List (ℕ × ℕ)) (types : BodyTypes) (variables : List Typed)
+    (points : List (Kept ℕ Typed)) where
   -- the body of these parts
-  abbrev made : BodyText
-  made = record {
+  abbrev made : List (List ℕ) → ℕ → List ℕ → BodyText
+  made names universals starts = record {
     names = names;
     universals = universals;
     outlives = outlives;
     asserts = asserts;
-    structs = structs_of structs;
-    variables = map tree variables;
+    structs = structs_of types.table.structs;
+    variables = trees_at types variables;
     starts = starts;
-    points = points;
+    points = map (meant types) points;
   }
 
-  pub kept_same : (labels : Labels) (graph : Graph) → labels ≡ record { names = names; points = blocks starts }
-      → graph.universals ≡ universals → kept_body labels outlives asserts structs variables points graph ≡ made
-  kept_same labels graph named count =
-      ap (λ (l : Labels). kept_body l outlives asserts structs variables points graph) named
-      ∙ ap (λ (n : ℕ). record made { universals = n }) count
+  pub kept_same : (names : List (List ℕ)) (universals : ℕ) (starts : List ℕ) (labels : Labels) (graph : Graph)
+      → labels ≡ record { names = names; points = blocks starts } → graph.universals ≡ universals
+      → kept_body labels outlives asserts types variables points graph ≡ made names universals starts
+  kept_same names universals starts labels graph named count =
+      ap (λ (l : Labels). kept_body l outlives asserts types variables points graph) named
+      ∙ ap (λ (n : ℕ). made names n starts) count
 
-  pub kept_made : (labels : Labels) (graph : Graph) → labels ≡ record { names = names; points = blocks starts }
-      → IsGraphOf made graph → IsSound made
-      → IsKept (kept_body labels outlives asserts structs variables points graph) labels graph
-  kept_made labels graph named shown sound =
-      subst (λ (b : BodyText). IsKept b labels graph) (sym (kept_same labels graph named shown.universals))
+  pub kept_made : (names : List (List ℕ)) (universals : ℕ) (starts : List ℕ) (labels : Labels) (graph : Graph)
+      → labels ≡ record { names = names; points = blocks starts } → IsGraphOf (made names universals starts) graph
+      → IsSound (made names universals starts)
+      → IsKept (kept_body labels outlives asserts types variables points graph) labels graph
+  kept_made names universals starts labels graph named shown sound =
+      subst (λ (b : BodyText). IsKept b labels graph)
+      (sym (kept_same names universals starts labels graph named shown.universals))
       (record { named = named; shown = shown; sound = sound })
+
+  module _ (labels : Labels) (graph : Graph) (body : BodyText)
+      (is : kept_body labels outlives asserts types variables points graph ≡ body) where
+    variable_within : (x : ℕ) → x < length body.variables → x < length variables
+    variable_within x within =
+        let same = ap (λ (b : BodyText). length b.variables) is in
+        omega (arith, same, within, length-map variables (tree_at types.table.shapes types.regions.items))
+
+    point_within : (p : ℕ) → p < length body.points → p < length points
+    point_within p within =
+        let same = ap (λ (b : BodyText). length b.points) is in
+        omega (arith, same, within, length-map points (meant types))
+
+    -- a type of the code is that of its variable
+    pub typed : (x : ℕ) (v : Typed) → x < length body.variables → v ≡ get_or variables x v
+        → HasType body x (tree_at types.table.shapes types.regions.items v)
+    typed x v within at =
+        subst (λ b. HasType b x (tree_at types.table.shapes types.regions.items v)) is
+        (mapped_at (tree_at types.table.shapes types.regions.items) variables x v
+        (slice_get_read variables (length variables) x v refl (variable_within x within) at))
+
+    -- and a statement is that of its point
+    pub stands : (p : ℕ) (s : Kept ℕ Typed) → p < length body.points → s ≡ get_or points p s
+        → StandsAt body p (meant types s)
+    stands p s within at =
+        subst (λ b. StandsAt b p (meant types s)) is
+        (mapped_at (meant types) points p s
+        (slice_get_read points (length points) p s refl (point_within p within) at))
+
+    pub meant_there : (p : ℕ) (s : Kept ℕ Typed) → p < length body.points → s ≡ get_or points p s
+        → (i : Statement ℕ TypeTree) → StandsAt body p i → meant types s ≡ i
+    meant_there p s within at i there = same_Some (meant types s) i (sym (stands p s within at) ∙ there)
 
 -- ---- types of variables
 
-some_same : (t u : TypeTree) → Some t ≡ Some u → t ≡ u
-some_same t u h = cc
-
 -- a variable has one type
 pub one_type : (body : BodyText) (x : ℕ) (t u : TypeTree) → HasType body x t → HasType body x u → t ≡ u
-one_type body x t u h k = some_same t u (sym h ∙ k)
+one_type body x t u h k = same_Some t u (sym h ∙ k)
 
 -- it keeps to what is declared
 pub good_type : (body : BodyText) → IsSound body → (x : ℕ) (t : TypeTree) → HasType body x t
@@ -59,14 +93,3 @@ pub good_type : (body : BodyText) → IsSound body → (x : ℕ) (t : TypeTree) 
 good_type body sound x t h =
     subst (IsWellFormed body.structs (length body.names) 0) (get_or_from_slice_get body.variables x t t h)
     (sound.types x t (slice_get_within body.variables x t h))
-
--- a type of the code is that of its variable
-pub typed : (labels : Labels) (outlives asserts : List (ℕ × ℕ)) (structs : List Declaration) (variables : List Ty)
-    (points : List (Statement ℕ TypeTree)) (graph : Graph) (body : BodyText)
-    → kept_body labels outlives asserts structs variables points graph ≡ body → (x : ℕ) (t : Ty)
-    → x < length body.variables → t ≡ get_or variables x t → HasType body x (tree t)
-typed labels outlives asserts structs variables points graph body is x t within at =
-    let low : x < length (map tree variables) = subst (λ (b : BodyText). x < length b.variables) (sym is) within in
-    subst (λ b. HasType b x (tree t)) is
-    (slice_get-map tree variables x ∙ ap (option_map tree)
-    (slice_get_read variables (length variables) x t refl (omega (arith, low, length-map variables tree)) at))

@@ -3,51 +3,13 @@ use Rattle.std.proofs.Common.{◌≡◌, ℕ, ◌+◌, true, false, List, [], �
 use Rattle.std.proofs.lemmas.Bool.{false≢true}
 use Rattle.nll_problem.specs.Answers.{AddsFact}
 use Rattle.nll_problem.specs.Graph.{Graph}
-use Rattle.nll_types.specs.Types.{TypeTree}
-use Rattle.nll_types.specs.Views.{tree}
-use Rattle.nll_types.specs.declared.ty.Ty.{Ty}
-use Rattle.nll_statements.specs.Statements.{Statement, is_terminator, map_statement, return, assign, borrow, make, read, live, dead, nop, goto, switch, drop, call, stop}
+use Rattle.nll_statements.specs.Statements.{Statement, is_terminator, return, assign, borrow, make, read, live, dead, nop, goto, switch, drop, call, stop}
 use Rattle.nll_statements.specs.Effects.{targets}
 use Rattle.nll_statements.specs.Kept.{statement_of}
 use Rattle.nll_statements.specs.declared.statement.Statement.{Statement as Kept}
 use Rattle.nll_body.specs.Edges.{LeadsTo}
 use Rattle.nll_body.specs.Making.{AddsTargets, AddsEdges, AddsPoint}
-use Rattle.nll_statement_list.specs.Views.{meant}
 use Rattle.nll_body.proofs.EdgeLemmas.{one_more, pair, pair_left, pair_right}
-
--- other regions and types leave the end of a block as it is
-pub same_end : {R S T U : Type 0} (f : R → S) (g : T → U) (i : Statement R T)
-    → is_terminator (map_statement f g i) ≡ is_terminator i
-same_end f g (assign p op) = refl
-same_end f g (borrow p r m q) = refl
-same_end f g (make p t ops) = refl
-same_end f g (read p) = refl
-same_end f g (live x) = refl
-same_end f g (dead x) = refl
-same_end f g nop = refl
-same_end f g (goto b) = refl
-same_end f g (switch op bs) = refl
-same_end f g (drop x b unwind) = refl
-same_end f g (call p args t wheres b unwind) = refl
-same_end f g return = refl
-same_end f g stop = refl
-
--- and its targets
-pub same_targets : {R S T U : Type 0} (f : R → S) (g : T → U) (i : Statement R T)
-    → targets (map_statement f g i) ≡ targets i
-same_targets f g (assign p op) = refl
-same_targets f g (borrow p r m q) = refl
-same_targets f g (make p t ops) = refl
-same_targets f g (read p) = refl
-same_targets f g (live x) = refl
-same_targets f g (dead x) = refl
-same_targets f g nop = refl
-same_targets f g (goto b) = refl
-same_targets f g (switch op bs) = refl
-same_targets f g (drop x b unwind) = refl
-same_targets f g (call p args t wheres b unwind) = refl
-same_targets f g return = refl
-same_targets f g stop = refl
 
 -- a statement has no targets
 pub no_targets : {R T : Type 0} (i : Statement R T) → is_terminator i ≡ false → targets i ≡ []
@@ -72,8 +34,9 @@ nowhere starts q led = none_there led.1
     none_there h = absurd (omega (arith, h.1))
 
 -- the edge behind a statement
-pub statement_edge : (starts : List ℕ) (p : ℕ) (i : Statement ℕ TypeTree) (old new : Graph) → is_terminator i ≡ false
-    → AddsFact old.edges new.edges (p, p + 1) → new ≡ record old { edges = new.edges } → AddsEdges starts p i old new
+pub statement_edge : {R T : Type 0} (starts : List ℕ) (p : ℕ) (i : Statement R T) (old new : Graph)
+    → is_terminator i ≡ false → AddsFact old.edges new.edges (p, p + 1) → new ≡ record old { edges = new.edges }
+    → AddsEdges starts p i old new
 statement_edge starts p i old new plain adds same = record {
   others = same;
   next = λ r q. (
@@ -88,8 +51,8 @@ statement_edge starts p i old new plain adds same = record {
 }
 
 -- the edges behind a terminator
-pub terminator_edges : (starts : List ℕ) (p : ℕ) (i : Statement ℕ TypeTree) (old new : Graph) → is_terminator i ≡ true
-    → AddsTargets starts p (targets i) old new → AddsEdges starts p i old new
+pub terminator_edges : {R T : Type 0} (starts : List ℕ) (p : ℕ) (i : Statement R T) (old new : Graph)
+    → is_terminator i ≡ true → AddsTargets starts p (targets i) old new → AddsEdges starts p i old new
 terminator_edges starts p i old new ends adds = record {
   others = adds.others;
   next = λ r q. (
@@ -103,7 +66,7 @@ terminator_edges starts p i old new ends adds = record {
 }
 
 -- a return point
-pub return_point : (starts : List ℕ) (p : ℕ) (i : Statement ℕ TypeTree) (old mid new : Graph)
+pub return_point : {R T : Type 0} (starts : List ℕ) (p : ℕ) (i : Statement R T) (old mid new : Graph)
     → AddsEdges starts p i old mid → i ≡ return → AddsFact mid.returns new.returns p
     → new ≡ record mid { returns = new.returns } → AddsPoint starts p i old new
 return_point starts p i old mid new adds is returned same =
@@ -123,8 +86,8 @@ return_point starts p i old mid new adds is returned same =
     }
 
 -- any other point
-pub other_point : (starts : List ℕ) (p : ℕ) (i : Statement ℕ TypeTree) (old new : Graph) → AddsEdges starts p i old new
-    → (i ≡ return → ⊥) → AddsPoint starts p i old new
+pub other_point : {R T : Type 0} (starts : List ℕ) (p : ℕ) (i : Statement R T) (old new : Graph)
+    → AddsEdges starts p i old new → (i ≡ return → ⊥) → AddsPoint starts p i old new
 other_point starts p i old new adds isnt =
     let before : new.returns ≡ old.returns = ap (λ (g : Graph). g.returns) adds.others in
     record {
@@ -139,7 +102,7 @@ other_point starts p i old new adds isnt =
     }
 
 -- the targets, put into an empty list
-pub targets_listed : (i : Kept ℕ Ty) (empty filled listed : List ℕ) → listed ≡ filled
-    → filled ≡ empty ++ targets (statement_of i) → empty ≡ [] → listed ≡ targets (meant i)
-targets_listed i empty filled listed same put none = same ∙ put
-    ∙ ap (λ (xs : List ℕ). xs ++ targets (statement_of i)) none ∙ sym (same_targets (λ r. r) tree (statement_of i))
+pub targets_listed : {R T : Type 0} (i : Kept R T) (empty filled listed : List ℕ) → listed ≡ filled
+    → filled ≡ empty ++ targets (statement_of i) → empty ≡ [] → listed ≡ targets (statement_of i)
+targets_listed i empty filled listed same put none =
+    same ∙ put ∙ ap (λ (xs : List ℕ). xs ++ targets (statement_of i)) none

@@ -1,6 +1,6 @@
 //! A body, with its graph and its labels.
 
-ghost use Rattle.std.specs.Prelude.{◌≡◌, ◌≢◌, ◌↔◌, ◌<◌, ◌++◌, ℕ, length, map, Some};
+ghost use Rattle.std.specs.Prelude.{◌≡◌, ◌≢◌, ◌↔◌, ◌<◌, ◌++◌, ℕ, length, Some};
 ghost use Rattle.std.specs.Prelude.{AllPairs, Contains, IfErr, IfOk, OnOk};
 ghost use Rattle.nll_sets.specs.Prefix.{IsPrefix};
 ghost use Rattle.nll_types.specs.Declarations.{structs_of};
@@ -282,6 +282,8 @@ impl Body {
             IsWellFormed self.now.structs (length self.now.names) 0 (tree t)) }
     {
         types_of_places_are_well_formed();
+        // Clause call.
+        let _ = self.points();
         let ty = self.var_type(alloc, place.variable())?;
         match behind(alloc, self.structs(), ty, place.projections())? {
             Some(ty) => Ok(ty),

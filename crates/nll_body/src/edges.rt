@@ -1,7 +1,7 @@
 //! The graph of a body: the edges that leave its points, and its return points.
 
 ghost use Rattle.std.specs.Prelude.{◌≡◌, ◌↔◌, ◌<◌, ◌≤◌, ◌+◌, ◌==◌, ℕ, [], length, map};
-ghost use Rattle.std.specs.Prelude.{Contains, IfErr, IfOk, OnOk, IsTrue, Some, slice_get, true};
+ghost use Rattle.std.specs.Prelude.{Contains, IfErr, IfOk, OnOk, IsTrue, true};
 ghost use Rattle.indexmap.specs.IndexSet.{insert_all};
 ghost use Rattle.nll_problem.specs.Answers.{AddsFact};
 ghost use Rattle.nll_problem.specs.Graph.{IsNext};

@@ -146,9 +146,7 @@ fn write_statement(rt: &impl Abort, alloc: Global, out: &mut String, statement: 
 // Like `write_statement`, for the first point of a body.
 fn write_first(rt: &impl Abort, alloc: Global, out: &mut String, body: &Body) {
     if body.points() != 0 {
-        let statement = body.line_at(alloc, 0).expect(rt, "memory");
-        write_statement(rt, alloc, out, &statement);
-        drop(statement);
+        write_statement(rt, alloc, out, body.line_at(0).statement);
     }
 }
 

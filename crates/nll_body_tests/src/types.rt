@@ -10,7 +10,7 @@ use super::pieces::{write_number, write_piece};
 use nll_body::Body;
 use nll_problem::RegionId;
 use nll_sets::Memory;
-use nll_types::{Place, Projection, Ty, place_type};
+use nll_types::{Place, Projection, Ty, behind};
 use smallvec::SmallVec;
 use std::alloc::Global;
 use std::process::Abort;
@@ -41,7 +41,8 @@ fn write_variable(rt: &impl Abort, alloc: Global, out: &mut String, body: &Body,
     requires { variable < length body.now.variables }
 {
     write_piece(rt, out, "|");
-    write_type(rt, alloc, out, body, body.var_type(variable));
+    let ty = body.var_type(alloc, variable).expect(rt, "memory");
+    write_type(rt, alloc, out, body, &ty);
 }
 
 /// Writes the regions of each variable's type.
@@ -68,8 +69,12 @@ fn write_place(
     body: &Body,
     place: &Place,
 ) -> Result<(), Memory> {
-    let found = place_type(alloc, body.structs(), body.variable_types(), place)?;
-    match found {
+    if place.variable() as usize >= body.variables() {
+        write_piece(rt, out, " none");
+        return Ok(());
+    }
+    let ty = body.var_type(alloc, place.variable())?;
+    match behind(alloc, body.structs(), ty, place.projections())? {
         Some(ty) => {
             drop(ty);
             write_found(rt, alloc, out, body, place);

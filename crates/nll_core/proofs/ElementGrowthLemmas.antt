@@ -15,22 +15,6 @@ use Rattle.nll_core.proofs.SearchLemmas.{adds_append, adds_weaker, contains_at, 
 
 -- ---- lists of what is new
 
--- a list that got nothing
-pub appends_none : (flags : List Bool) (before : List ℕ) → AppendsNew flags flags before before
-appends_none flags before = record {
-  rest = [];
-  appended = sym (append_nil before);
-  listed = λ x. (
-    λ h. absurd (omega (arith, h.1)),
-    λ h. absurd (false≢true (sym h.1 ∙ h.0)),
-  );
-  once = λ i j d earlier within. absurd (omega (arith, within));
-}
-  where
-    append_nil : (xs : List ℕ) → xs ++ [] ≡ xs
-    append_nil [] = refl
-    append_nil (y ∷ ys) = ap (λ zs. y ∷ zs) (append_nil ys)
-
 -- one that got a new element
 pub appends_one : (flags : List Bool) (e : ℕ) → e < length flags → flag flags e ≡ false → (before : List ℕ)
     → AppendsNew flags (set flags e true) before (before ++ e ∷ [])

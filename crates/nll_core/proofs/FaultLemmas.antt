@@ -14,14 +14,6 @@ pair_of : (a b c d : ℕ) → a ≡ b → c ≡ d → ◌≡◌ {A = ℕ × ℕ}
 pair_of a b c d h k = cc
 
 module _ (kind : ℕ → ℕ → Type 0) where
-  -- none at the start
-  pub lists_first : ListsUpTo kind [] 0 0
-  lists_first x y = (
-    λ h. absurd (omega (arith, h.1)),
-    λ h.
-        absurd (⊎_elim (λ less. omega (arith, less)) (λ same. omega (arith, same.1)) h.1),
-  )
-
   -- a pair of the kind is added
   pub lists_added : (pairs new : List (ℕ × ℕ)) (a b : ℕ) → ListsUpTo kind pairs a b
       → ((x : ℕ × ℕ) → Contains new x ↔ (Contains pairs x ⊎ ((a, b) ≡ x))) → kind a b → ListsUpTo kind new a (b + 1)
@@ -86,9 +78,6 @@ module _ (q : Problem) (values : List (List Bool)) where
       (λ same. fault.3 ([], (tt, sym same)))
       (λ other. false≢true (sym (none b fault.1 other) ∙ fault.2))
       (cases_eq b a)
-
-  pub finds_first : FindsUpTo q values [] 0 0
-  finds_first = record { each = lists_first (IsFault q (IsHeld values)); ordered = λ i j d l h. absurd (omega arith) }
 
   pub finds_added : (faults : List (ℕ × ℕ)) (a b : ℕ) → FindsUpTo q values faults a b → IsFault q (IsHeld values) a b
       → FindsUpTo q values (faults ++ (a, b) ∷ []) a (b + 1)

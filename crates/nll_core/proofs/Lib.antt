@@ -6,6 +6,7 @@ pub mod LineLemmas
 pub mod LandingLemmas
 pub mod JumpLemmas
 pub mod WalkingLemmas
+pub mod LedWalkLemmas
 pub mod RunValueLemmas
 pub mod WorklistLemmas
 pub mod OrderLemmas
@@ -14,4 +15,5 @@ pub mod StartLemmas
 pub mod PlaceLemmas
 pub mod ReturnLemmas
 pub mod FrontierLemmas
+pub mod ResumeLemmas
 pub mod ElementGrowthLemmas

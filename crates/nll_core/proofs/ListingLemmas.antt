@@ -90,15 +90,3 @@ module _ (old middle new : List Bool) (xs ys zs : List Run) (first : (x : ℕ) �
         (λ past. q.apart j k x past less l a b)
         (cases_lt j (length ys));
   }
-
--- with more room the same is new
-pub lists_widened : (old wide new : List Bool) (before after : List Run) → ((x : ℕ) → flag wide x ≡ flag old x)
-    → ListsNew wide new before after → ListsNew old new before after
-lists_widened old wide new before after same l = record {
-  longer = l.longer;
-  front = l.front;
-  proper = l.proper;
-  listed =
-      λ x. (λ h. let own = (l.listed x).0 h in (own.0, sym (same x) ∙ own.1), λ h. (l.listed x).1 (h.0, same x ∙ h.1));
-  apart = l.apart;
-}

@@ -4,9 +4,6 @@ use Rattle.std.proofs.lemmas.Bool.{cases_lt}
 use Rattle.std.proofs.lemmas.List.{get_or_append_left, get_or_at}
 use Rattle.nll_core.specs.Order.{AreBelow}
 
-pub below_none : (count : ℕ) → AreBelow count []
-below_none count x (k, l, is) = absurd (omega (arith, l))
-
 pub below_more : (count : ℕ) (xs : List ℕ) (y : ℕ) → y < count → AreBelow count xs → AreBelow count (xs ++ y ∷ [])
 below_more count xs y within all x (k, l, is) = ⊎_elim
     (λ front. all x (k, front, sym (get_or_append_left xs (y ∷ []) x k front) ∙ is))

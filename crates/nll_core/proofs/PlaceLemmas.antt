@@ -1,6 +1,5 @@
 -- Where constraints hold: all points, and points.
-use Rattle.std.proofs.Common.{◌≡◌, ◌↔◌, ℕ, ◌<◌, List, [], ◌∷◌, ◌++◌, Contains, refl, sym, ap, subst, ◌∙◌, arith, zero, suc}
-use Rattle.std.proofs.lemmas.List.{map-append}
+use Rattle.std.proofs.Common.{◌≡◌, ◌↔◌, ℕ, ◌<◌, List, [], ◌∷◌, ◌++◌, Contains, refl, sym, ap, subst, arith, zero, suc}
 use Rattle.nll_problem.specs.At.{at_rank}
 use Rattle.nll_problem.specs.declared.at.At.{At}
 use Rattle.nll_problem.specs.declared.at.At.TheVariants.{All, Point}
@@ -42,12 +41,6 @@ all_nowhere place points p is h = no_all (p ∷ points) (subst (λ (x : At). Con
 -- all points come behind no place
 pub none_before_all : (place : At) (points : List ℕ) → ((x : At) → Contains (behind place points) x → at_rank x < 0) → ⊥
 none_before_all place points before = let less = before place (0, omega arith, refl) in omega (arith, less)
-
--- an appended point
-pub pushed_behind : (place : At) (old new : List ℕ) (p : ℕ) → new ≡ old ++ p ∷ []
-    → behind place new ≡ behind place old ++ Point p ∷ []
-pushed_behind place old new p is = ap (behind place) is
-    ∙ ap (λ (xs : List At). place ∷ xs) (map-append (λ q. Point q) old (p ∷ []))
 
 pub ascend_pushed : (place : At) (old new : List ℕ) (p : ℕ) → new ≡ old ++ p ∷ [] → Ascend place old
     → ((x : At) → Contains (behind place old) x → at_rank x < at_rank (Point p)) → Ascend place new

@@ -13,10 +13,6 @@ pub ascending_push : (at : ℕ) (xs : List ℕ) → IsAscending xs → ((x : ℕ
 ascending_push at xs up below = all_pairs_push (λ x y. x < y) xs at up
     (λ k d l. below (get_or xs k d) (k, l, get_or_default xs k (get_or xs k d) d l))
 
--- one number ascends
-pub ascending_one : (x : ℕ) → IsAscending (x ∷ [])
-ascending_one x i j d less within = absurd (omega (arith, less, within))
-
 module _ (first from at : ℕ) (others : List ℕ) (up : IsAscending (first ∷ others)) (past : first < from)
     (parted : IsPartitionPoint (λ x. ltb x from ≡ true) (λ x. ltb x from ≡ false) others at) where
   -- what isn't below the number stands behind the first number, at the place or behind it

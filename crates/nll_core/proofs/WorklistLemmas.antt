@@ -1,6 +1,6 @@
 -- The worklist of regions: what visits keep, and that nothing is left at the end of a sweep that changed nothing.
-use Rattle.std.proofs.Common.{◌≡◌, ◌≢◌, ℕ, ◌+◌, ◌-◌, ◌<◌, ◌≤◌, Bool, true, false, not, eqb, Result, Ok, Err, IfOk, OnOk, ◌||◌, List, Contains, AllPairs, IsTrue, length, get_or, set, replicate, drop, slice_range, refl, sym, ap, ◌∙◌, subst, inl, inr, ⊎_elim, arith, length-take, length-drop, get_or-take, get_or-drop}
-use Rattle.std.proofs.lemmas.Bool.{cases_lt, cases_eq, false≢true, true≢false, cases_Bool, eqb-true, eqb-false, not-true, not-false}
+use Rattle.std.proofs.Common.{◌≡◌, ◌≢◌, ℕ, ◌+◌, ◌-◌, ◌<◌, ◌≤◌, Bool, true, false, eqb, Result, Ok, Err, IfOk, OnOk, ◌||◌, List, Contains, AllPairs, IsTrue, length, get_or, set, replicate, drop, slice_range, refl, sym, ap, ◌∙◌, subst, inl, inr, ⊎_elim, arith, length-take, length-drop, get_or-take, get_or-drop}
+use Rattle.std.proofs.lemmas.Bool.{cases_lt, cases_eq, false≢true, true≢false, cases_Bool, eqb-true, eqb-false}
 use Rattle.std.proofs.lemmas.List.{get_or-set_other, get_or-set_same, length-set, get_or_past, set-get_or, get_or_default, get_or-replicate}
 use Rattle.nll_sets.specs.ElementSet.{flag}
 use Rattle.nll_sets.specs.Runs.{first_of, last_of, IsInRuns, IsWithin}
@@ -17,9 +17,9 @@ use Rattle.nll_core.specs.Values.{set_of, IsHeld, IsShaped}
 use Rattle.nll_core.specs.Growing.{Gains, Tells, StaysBelow, IsMet, IsClosed}
 use Rattle.nll_core.specs.Walking.{no_constraint, constraint_at, PointsAscend, IsAskedOf}
 use Rattle.nll_core.specs.Worklist.{IsTracked, IsCleared, Advances, Visits, Turns, AreOfPair, AreOfOneSup, SupsAscend}
-use Rattle.nll_core.proofs.GrowingLemmas.{tells_none, tells_append, gains_none, gains_append, gains_weaker}
+use Rattle.nll_core.proofs.GrowingLemmas.{tells_append, gains_append, gains_weaker}
 use Rattle.nll_core.proofs.SolverLemmas.{shaped_gains}
-use Rattle.nll_core.proofs.WalkingLemmas.{contained_at, each_contained}
+use Rattle.nll_core.proofs.LedWalkLemmas.{contained_at, each_contained}
 
 neither : (x y : Bool) → (x || y) ≡ false → (x ≡ false) × (y ≡ false)
 neither true y h = absurd (true≢false h)
@@ -53,10 +53,6 @@ set_flag flags i x b h own = ⊎_elim
     (cases_eq x i)
 
 module _ (q : Problem) where
-  pub advances_none : (values : List (List Bool)) → IsShaped q values → Advances q values values false
-  advances_none values s =
-      record { shaped = s; kept = λ r e h. h; below = λ a sat under. under; tells = tells_none values }
-
   pub advances_append : (old middle new : List (List Bool)) (x y : Bool) → Advances q old middle x
       → Advances q middle new y → Advances q old new (x || y)
   advances_append old middle new x y p r =
@@ -69,18 +65,6 @@ module _ (q : Problem) where
       }
 
   module _ (sub : ℕ) where
-    pub visits_none : (values : List (List Bool)) (marks : List Bool) → IsShaped q values
-        → Visits q sub values values marks marks false
-    visits_none values marks s =
-        record {
-          advances = advances_none values s;
-          width = refl;
-          own = refl;
-          marks = λ r. inl refl;
-          stays = λ r h. h;
-          quiet = λ h. refl;
-        }
-
     pub visits_append : (old middle new : List (List Bool)) (a b c : List Bool) (x y : Bool)
         → Visits q sub old middle a b x → Visits q sub middle new b c y → Visits q sub old new a c (x || y)
     visits_append old middle new a b c x y p r = record {
@@ -172,11 +156,6 @@ module _ (q : Problem) where
     pub met : (k : ℕ) → k < place → IsMet q now (constraint_at constraints k)
     pub within : place ≤ length constraints
 
-  pub visiting_first : (sub : ℕ) (constraints : List Constraint) (values : List (List Bool)) (marks : List Bool)
-      → IsShaped q values → Visiting sub constraints values values marks marks false 0
-  visiting_first sub constraints values marks s =
-      record { visits = visits_none sub values marks s; met = λ k h. absurd (omega (arith, h)); within = omega arith }
-
   pub visiting_more : (sub : ℕ) (constraints : List Constraint) (old now next : List (List Bool)) (a b c : List Bool)
       (x y : Bool) (place end : ℕ) → ((k : Constraint) → Contains constraints k → k.sub ≡ sub)
       → end ≤ length constraints
@@ -223,10 +202,6 @@ module _ (q : Problem) where
     tracked = tracked_turn sub old new marks after changed t v met;
   }
 
-  pub turns_none : (values : List (List Bool)) (marks : List Bool) → IsShaped q values → length marks ≡ q.regions
-      → IsTracked q values marks → Turns q values values marks false
-  turns_none values marks s w t = record { advances = advances_none values s; width = w; tracked = t }
-
   pub turns_append : (old middle new : List (List Bool)) (b c : List Bool) (x y : Bool) → Turns q old middle b x
       → Turns q middle new c y → Turns q old new c (x || y)
   turns_append old middle new b c x y p r =
@@ -236,24 +211,12 @@ module _ (q : Problem) where
         tracked = r.tracked;
       }
 
-  pub cleared_turn : (sub : ℕ) (marks after : List Bool) → sub < length marks → after ≡ set marks sub false
-      → IsCleared marks after sub
-  cleared_turn sub marks after within same = (
-    ap (λ fs. flag fs sub) same ∙ get_or-set_same marks sub false false within,
-    λ r other. ap (λ fs. flag fs r) same ∙ get_or-set_other marks sub r false false other,
-  )
-
   -- ---- a sweep
 
   -- The regions before `count` have had their turn.
   pub record Sweeping (first now : List (List Bool)) (marks : List Bool) (changed : Bool) (count : ℕ) : Type 0 where
     pub turns : Turns q first now marks changed
     pub clean : changed ≡ false → (r : ℕ) → r < count → flag marks r ≡ false
-
-  pub sweeping_first : (values : List (List Bool)) (marks : List Bool) → IsShaped q values → length marks ≡ q.regions
-      → IsTracked q values marks → Sweeping values values marks false 0
-  sweeping_first values marks s w t =
-      record { turns = turns_none values marks s w t; clean = λ e r h. absurd (omega (arith, h)) }
 
   pub sweeping_more : (first now next : List (List Bool)) (marks after : List Bool) (x y : Bool) (count : ℕ)
       → Sweeping first now marks x count → Turns q now next after y
@@ -278,12 +241,6 @@ module _ (q : Problem) where
 pub eqb_is : (a b : ℕ) → true ≡ eqb a b → a ≡ b
 eqb_is a b h = eqb-true a b (sym h)
 
-pub not_eqb : (a b : ℕ) → true ≡ not (eqb a b) → a ≢ b
-not_eqb a b h = eqb-false a b (not-true (eqb a b) (sym h))
-
-pub eqb_not : (a b : ℕ) → false ≡ not (eqb a b) → a ≡ b
-eqb_not a b h = eqb-true a b (not-false (eqb a b) (sym h))
-
 pub eqb_false : (a b : ℕ) → false ≡ eqb a b → a ≢ b
 eqb_false a b h = eqb-false a b (sym h)
 
@@ -296,13 +253,6 @@ pub ok_turns : (q : Problem) (sub : ℕ) (old new : List (List Bool)) (marks cle
 ok_turns q sub old new marks cleared after (Ok changed) w t same v met =
     turns_visit q sub old new marks after changed w t (subst (λ fs. Visits q sub old new fs after changed) same v) met
 ok_turns q sub old new marks cleared after (Err e) w t same v met = v
-
-pub ok_cleared : (q : Problem) (sub : ℕ) (old new : List (List Bool)) (marks cleared after : List Bool) {E : Type 0}
-    (r : Result Bool E) → sub < length marks → cleared ≡ set marks sub false
-    → IfOk r (Visits q sub old new cleared after) → IfOk r (λ changed. changed ≡ false → IsCleared marks after sub)
-ok_cleared q sub old new marks cleared after (Ok changed) within same v =
-    λ quiet. cleared_turn q sub marks after within (v.quiet quiet ∙ same)
-ok_cleared q sub old new marks cleared after (Err e) within same v = v
 
 -- ---- the order of constraints
 
@@ -379,10 +329,6 @@ pub record FillingAll (region : ℕ) (runs : List Run) (old now : List (List Boo
   pub gains : Gains (λ r e. (r ≡ region) × IsInRuns runs e) old now
   pub covers : (k e : ℕ) → k < count → first_of runs k ≤ e → e ≤ last_of runs k → IsHeld now region e
   pub tells : Tells changed old now
-
-pub filling_first : (region : ℕ) (runs : List Run) (old : List (List Bool)) → FillingAll region runs old old false 0
-filling_first region runs old =
-    record { gains = gains_none _ old; covers = λ k e h. absurd (omega (arith, h)); tells = tells_none old }
 
 pub filling_more : (region : ℕ) (runs : List Run) (old now next : List (List Bool)) (x y : Bool) (count : ℕ) (run : Run)
     → run.first ≡ first_of runs count → run.last ≡ last_of runs count → count < length runs

@@ -1,7 +1,8 @@
 -- A depth-first search through regions that gives an order of them: it yields only regions, and
 -- nothing more is said of it. Source: project's choice. Only private contracts cite this file.
-use Rattle.std.specs.Prelude.{◌≡◌, ℕ, ◌+◌, ◌<◌, Bool, List, length, Contains}
+use Rattle.std.specs.Prelude.{◌≡◌, ℕ, ◌+◌, ◌<◌, List, length, Contains}
 use Rattle.nll_problem.specs.declared.constraint.Constraint.{Constraint}
+use Rattle.nll_core.specs.declared.order.Descent.{Descent}
 
 -- each number of the list is below the count
 abbrev pub AreBelow : ℕ → List ℕ → Type 0
@@ -13,9 +14,8 @@ AreOfRegions count constraints =
     (c : Constraint) → Contains constraints c → (c.sub < count) × (c.sup < count)
 
 -- A search among this many regions has an index and a mark for each, and its lists are of regions.
-pub record IsDescent (count : ℕ) (next : List ℕ) (seen : List Bool) (path left : List ℕ)
-    : Type 0 where
-  pub next_sized : length next ≡ count + 1
-  pub seen_sized : length seen ≡ count
-  pub path_within : AreBelow count path
-  pub left_within : AreBelow count left
+pub record IsDescent (count : ℕ) (d : Descent) : Type 0 where
+  pub next_sized : length d.next.items ≡ count + 1
+  pub seen_sized : length d.seen.items ≡ count
+  pub path_within : AreBelow count d.path.items
+  pub left_within : AreBelow count d.left.items

@@ -13,14 +13,14 @@ use std::alloc::Global;
 
 // A depth-first search from regions to those that are filled from them.
 #[derive(Drop)]
-struct Descent {
+pub struct Descent {
     // The index of the constraint that each region follows next.
-    next: Vec<usize>,
-    seen: Vec<bool>,
+    pub next: Vec<usize>,
+    pub seen: Vec<bool>,
     // The regions that the search has entered and not left.
-    path: Vec<u32>,
+    pub path: Vec<u32>,
     // The regions that it has left, in that order.
-    left: Vec<u32>,
+    pub left: Vec<u32>,
 }
 
 /// The regions in the order in which a depth-first search leaves them (postorder): backwards, a
@@ -37,12 +37,12 @@ pub fn order_of(
     let starts = starts_of(alloc, index.constraints(), regions)?;
     let mut descent = descent_of(alloc, starts.as_slice(), regions)?;
     for root in 0..regions {
+        enter(&mut descent, regions, root)?;
         descend(
             index.constraints(),
             starts.as_slice(),
             &mut descent,
             regions,
-            root,
         )?;
     }
     Ok(descent.left)
@@ -67,8 +67,7 @@ fn starts_of(alloc: Global, constraints: &[Constraint], regions: u32) -> Result<
 // A search that has seen nothing.
 fn descent_of(alloc: Global, starts: &[usize], regions: u32) -> Result<Descent, Memory>
     requires { length starts.now ≡ regions + 1 }
-    ensures { IfOk result (λ d.
-        IsDescent regions d.next.items d.seen.items d.path.items d.left.items) }
+    ensures { IfOk result (λ d. IsDescent regions d) }
 {
     let next = Vec::from_slice(alloc, starts)?;
     let seen = vec![in alloc; false; regions as usize]?;
@@ -80,23 +79,18 @@ fn descent_of(alloc: Global, starts: &[usize], regions: u32) -> Result<Descent, 
     })
 }
 
-// Goes from a region, if it wasn't seen, to all regions that are filled from it, also indirectly.
+// Goes from the regions that were entered to all that are filled from them, also indirectly.
 fn descend(
     constraints: &[Constraint],
     starts: &[usize],
     descent: &mut Descent,
     regions: u32,
-    root: u32,
 ) -> Result<(), Memory>
-    requires root { root < regions }
     requires starts { length starts.now ≡ regions + 1 }
     requires constraints { AreOfRegions regions constraints.now }
-    requires descent { IsDescent regions descent.old.next.items descent.old.seen.items
-        descent.old.path.items descent.old.left.items }
-    ensures { OnOk result (IsDescent regions descent.new.next.items descent.new.seen.items
-        descent.new.path.items descent.new.left.items) }
+    requires descent { IsDescent regions descent.old }
+    ensures { OnOk result (IsDescent regions descent.new) }
 {
-    enter(descent, regions, root)?;
     // Each step follows a constraint or leaves a region.
     for _ in 0..constraints.len().saturating_add(starts.len()) {
         let Some(region) = descent.path.pop() else {
@@ -118,10 +112,8 @@ fn step(
     requires region { region < regions }
     requires starts { length starts.now ≡ regions + 1 }
     requires constraints { AreOfRegions regions constraints.now }
-    requires descent { IsDescent regions descent.old.next.items descent.old.seen.items
-        descent.old.path.items descent.old.left.items }
-    ensures { OnOk result (IsDescent regions descent.new.next.items descent.new.seen.items
-        descent.new.path.items descent.new.left.items) }
+    requires descent { IsDescent regions descent.old }
+    ensures { OnOk result (IsDescent regions descent.new) }
 {
     let at = region as usize;
     let place = descent.next[at];
@@ -138,10 +130,8 @@ fn step(
 // Goes on to a region, if it wasn't seen.
 fn enter(descent: &mut Descent, regions: u32, region: u32) -> Result<(), Memory>
     requires region { region < regions }
-    requires descent { IsDescent regions descent.old.next.items descent.old.seen.items
-        descent.old.path.items descent.old.left.items }
-    ensures { OnOk result (IsDescent regions descent.new.next.items descent.new.seen.items
-        descent.new.path.items descent.new.left.items) }
+    requires descent { IsDescent regions descent.old }
+    ensures { OnOk result (IsDescent regions descent.new) }
 {
     if descent.seen[region as usize] {
         return Ok(());

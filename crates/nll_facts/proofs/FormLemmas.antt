@@ -5,7 +5,8 @@ use Rattle.std.specs.List.{AllByRecursion}
 use Rattle.std.specs.Str.{IsUtf8}
 use Rattle.nll_text.specs.Lines.{is_skipped}
 use Rattle.nll_text.specs.Tokens.{word, IsMadeOf}
-use Rattle.nll_text.specs.Lexing.{BeginsWith, BeginsNotWith}
+use Rattle.nll_text.specs.LineTokens.{tokens_in}
+use Rattle.nll_text.specs.Grammars.{IsNotNext}
 use Rattle.nll_text.proofs.Utf8Lemmas.{IsUtf8-word}
 use Rattle.nll_format.specs.Parts.{Name, Part, keyword, number, region, token_of, Spells, one_number, two_numbers, one_region, two_regions, region_number}
 use Rattle.nll_format.proofs.PartLemmas.{spells_rest, none_first, other_word, spelled_utf8, spelled_kept}
@@ -17,47 +18,51 @@ use Rattle.nll_problem.specs.declared.at.At.TheVariants.{All, Point}
 -- ---- what stands behind the first word of a line
 
 module _ (line rest : List ℕ) where
-  pub behind_base : (f : Form) → BeginsWith line (word (codes "base")) rest → Spells line (parts f)
+  -- the line is this word and the rest
+  abbrev HasFirst : List ℕ → Type 0
+  HasFirst w = tokens_in line ≡ word w ∷ tokens_in rest
+
+  pub behind_base : (f : Form) → HasFirst (codes "base") → Spells line (parts f)
       → (b : Name × ℕ) × Spells rest (region_number b)
   behind_base (base x p) begins h = ((x, p), (spells_rest line rest _ _ _ begins h).1)
   behind_base f begins h = absurd (other_word _ _ refl (spells_rest line rest _ _ _ begins h).0)
 
-  pub behind_next : (f : Form) → BeginsWith line (word (codes "next")) rest → Spells line (parts f)
+  pub behind_next : (f : Form) → HasFirst (codes "next") → Spells line (parts f)
       → (b : ℕ × ℕ) × Spells rest (two_numbers b)
   behind_next (next p q) begins h = ((p, q), (spells_rest line rest _ _ _ begins h).1)
   behind_next f begins h = absurd (other_word _ _ refl (spells_rest line rest _ _ _ begins h).0)
 
-  pub behind_constraint : (f : Form) → BeginsWith line (word (codes "constraint")) rest → Spells line (parts f)
+  pub behind_constraint : (f : Form) → HasFirst (codes "constraint") → Spells line (parts f)
       → (b : Name × Name × At) × Spells rest (two_regions_place b)
   behind_constraint (constraint x y p) begins h = ((x, y, p), (spells_rest line rest _ _ _ begins h).1)
   behind_constraint f begins h = absurd (other_word _ _ refl (spells_rest line rest _ _ _ begins h).0)
 
-  pub behind_return : (f : Form) → BeginsWith line (word (codes "return")) rest → Spells line (parts f)
+  pub behind_return : (f : Form) → HasFirst (codes "return") → Spells line (parts f)
       → (b : ℕ) × Spells rest (one_number b)
   behind_return (return p) begins h = (p, (spells_rest line rest _ _ _ begins h).1)
   behind_return f begins h = absurd (other_word _ _ refl (spells_rest line rest _ _ _ begins h).0)
 
-  pub behind_region : (f : Form) → BeginsWith line (word (codes "region")) rest → Spells line (parts f)
+  pub behind_region : (f : Form) → HasFirst (codes "region") → Spells line (parts f)
       → (b : Name) × Spells rest (one_region b)
   behind_region (further x) begins h = (x, (spells_rest line rest _ _ _ begins h).1)
   behind_region f begins h = absurd (other_word _ _ refl (spells_rest line rest _ _ _ begins h).0)
 
-  pub behind_outlives : (f : Form) → BeginsWith line (word (codes "outlives")) rest → Spells line (parts f)
+  pub behind_outlives : (f : Form) → HasFirst (codes "outlives") → Spells line (parts f)
       → (b : Name × Name) × Spells rest (two_regions b)
   behind_outlives (outlives x y) begins h = ((x, y), (spells_rest line rest _ _ _ begins h).1)
   behind_outlives f begins h = absurd (other_word _ _ refl (spells_rest line rest _ _ _ begins h).0)
 
-  pub behind_universal : (f : Form) → BeginsWith line (word (codes "universal")) rest → Spells line (parts f)
+  pub behind_universal : (f : Form) → HasFirst (codes "universal") → Spells line (parts f)
       → (b : Name) × Spells rest (one_region b)
   behind_universal (universal x) begins h = (x, (spells_rest line rest _ _ _ begins h).1)
   behind_universal f begins h = absurd (other_word _ _ refl (spells_rest line rest _ _ _ begins h).0)
 
-  pub behind_points : (f : Form) → BeginsWith line (word (codes "points")) rest → Spells line (parts f)
+  pub behind_points : (f : Form) → HasFirst (codes "points") → Spells line (parts f)
       → (b : ℕ) × Spells rest (one_number b)
   behind_points (points n) begins h = (n, (spells_rest line rest _ _ _ begins h).1)
   behind_points f begins h = absurd (other_word _ _ refl (spells_rest line rest _ _ _ begins h).0)
 
-  pub behind_end : (f : Form) → BeginsWith line (word (codes "end")) rest → Spells line (parts f) → Spells rest []
+  pub behind_end : (f : Form) → HasFirst (codes "end") → Spells line (parts f) → Spells rest []
   behind_end end begins h = (spells_rest line rest _ _ _ begins h).1
   behind_end f begins h = absurd (other_word _ _ refl (spells_rest line rest _ _ _ begins h).0)
 
@@ -65,18 +70,18 @@ module _ (line rest : List ℕ) where
 
 -- the line begins with none of the words that most lines begin with
 pub record NoOften (line : List ℕ) : Type 0 where
-  pub base : BeginsNotWith line (word (codes "base"))
-  pub next : BeginsNotWith line (word (codes "next"))
-  pub constraint : BeginsNotWith line (word (codes "constraint"))
-  pub return : BeginsNotWith line (word (codes "return"))
+  pub base : IsNotNext (word (codes "base")) (tokens_in line)
+  pub next : IsNotNext (word (codes "next")) (tokens_in line)
+  pub constraint : IsNotNext (word (codes "constraint")) (tokens_in line)
+  pub return : IsNotNext (word (codes "return")) (tokens_in line)
 
 -- the line begins with none of the other words
 pub record NoRare (line : List ℕ) : Type 0 where
-  pub region : BeginsNotWith line (word (codes "region"))
-  pub outlives : BeginsNotWith line (word (codes "outlives"))
-  pub universal : BeginsNotWith line (word (codes "universal"))
-  pub points : BeginsNotWith line (word (codes "points"))
-  pub end : BeginsNotWith line (word (codes "end"))
+  pub region : IsNotNext (word (codes "region")) (tokens_in line)
+  pub outlives : IsNotNext (word (codes "outlives")) (tokens_in line)
+  pub universal : IsNotNext (word (codes "universal")) (tokens_in line)
+  pub points : IsNotNext (word (codes "points")) (tokens_in line)
+  pub end : IsNotNext (word (codes "end")) (tokens_in line)
 
 pub no_form_at : (line : List ℕ) → NoOften line → NoRare line → (f : Form) → Spells line (parts f) → ⊥
 no_form_at line often rare (points n) h = none_first line _ _ rare.points h
@@ -100,15 +105,8 @@ pub form_kept : (line : List ℕ) (f : Form) → HasForm line f → is_skipped l
 form_kept line f h = kept_parts f h
   where
     kept_parts : (g : Form) → Spells line (parts g) → is_skipped line ≡ false
-    kept_parts (points n) k = spelled_kept _ _ _ k
-    kept_parts (universal a) k = spelled_kept _ _ _ k
-    kept_parts (outlives a b) k = spelled_kept _ _ _ k
-    kept_parts (further x) k = spelled_kept _ _ _ k
-    kept_parts (next p q) k = spelled_kept _ _ _ k
-    kept_parts (return p) k = spelled_kept _ _ _ k
-    kept_parts (base x p) k = spelled_kept _ _ _ k
-    kept_parts (constraint a b p) k = spelled_kept _ _ _ k
     kept_parts end k = spelled_kept _ _ _ k
+    kept_parts _ k = spelled_kept _ _ _ k
 
 -- the names in parts of a line are UTF-8
 texts_of : (line : List ℕ) (these : List Part) → IsMadeOf line (map token_of these) → AllByRecursion IsText these
@@ -124,13 +122,13 @@ texts_in line f h = texts_of line (parts f) h.made
 -- ---- where a constraint holds
 
 -- behind the word for all points stands nothing
-pub behind_all : (rest after : List ℕ) (place : At) → BeginsWith rest (word (codes "all")) after
+pub behind_all : (rest after : List ℕ) (place : At) → tokens_in rest ≡ word (codes "all") ∷ tokens_in after
     → ((p : ℕ) → Spells rest (one_number p) → ⊥) → Spells rest (one_place place) → Spells after []
 behind_all rest after All begins none h = (spells_rest rest after _ _ _ begins h).1
 behind_all rest after (Point p) begins none h = absurd (none p h)
 
 -- where neither a number nor that word stands, no constraint holds
-pub no_place : (rest : List ℕ) (place : At) → BeginsNotWith rest (word (codes "all"))
+pub no_place : (rest : List ℕ) (place : At) → IsNotNext (word (codes "all")) (tokens_in rest)
     → ((p : ℕ) → Spells rest (one_number p) → ⊥) → Spells rest (one_place place) → ⊥
 no_place rest All other none h = none_first rest _ _ other h
 no_place rest (Point p) other none h = none p h

@@ -1,5 +1,5 @@
 -- A line of a facts text has one form.
-use Rattle.std.proofs.Common.{map, ◌⊎◌, ⊎_elim, ◌≡◌, ℕ, ◌<◌, ◌≤◌, ◌^◌, length, cond, Bool, true, false, List, [], ◌∷◌, refl, ap, ◌∙◌, subst, arith}
+use Rattle.std.proofs.Common.{map, ◌⊎◌, ⊎_elim, ◌≡◌, ℕ, ◌<◌, ◌^◌, cond, Bool, true, false, List, [], ◌∷◌, refl, ap, ◌∙◌, subst, arith}
 use Rattle.std.specs.Prelude.{codes}
 use Rattle.std.specs.List.{AllByRecursion}
 use Rattle.std.specs.Str.{bytes_eq}
@@ -16,8 +16,6 @@ use Rattle.nll_format.specs.Parts.{Name, IsSmall, token_of}
 use Rattle.nll_format.proofs.PartLemmas as lemmas
 use Rattle.nll_format.proofs.PartLemmas.{printed}
 use Rattle.nll_facts.specs.FactsForms.{Form, points, universal, outlives, further, next, return, base, constraint, end, HasForm, parts}
-use Rattle.nll_facts.specs.FactsText.{facts}
-use Rattle.nll_facts.specs.declared.version.Version.{Version}
 
 -- ---- a line has one form
 

@@ -8,7 +8,7 @@ use Rattle.std.proofs.lemmas.List.Elements.{filter_map-append, Contains-push, Co
 use Rattle.std.proofs.lemmas.Bool.{cases_Bool, false≢true, ltb-true}
 use Rattle.std.proofs.lemmas.Bool.Decides.{nat_tests, same_from_decides}
 use Rattle.indexmap.specs.IndexSet.{insert_all, insert_key}
-use Rattle.nll_problem.specs.Problem.{Problem, SameSet}
+use Rattle.nll_problem.specs.Problem.{Problem, SameProblem, SameSet}
 use Rattle.nll_problem.specs.Building.{AddsFact, same_pair, same_constraint}
 use Rattle.nll_problem.specs.declared.constraint.Constraint.{Constraint}
 use Rattle.nll_problem.proofs.SameLemmas.{same_problem}
@@ -106,19 +106,12 @@ constraint_known ks c = ⊎_elim
 -- a line that adds nothing
 kept_by : {X : Type 0} (g : Form → Option X) (forms : List Form) (f : Form) → g f ≡ None
     → filter_map g (forms ++ f ∷ []) ≡ filter_map g forms
-kept_by g forms f none = filter_map-append g forms (f ∷ [])
-    ∙ (ap (λ xs. filter_map g forms ++ xs) (alone none) ∙ append-nil (filter_map g forms))
-  where
-    alone : g f ≡ None → filter_map g (f ∷ []) ≡ []
-    alone h = rw h refl
+kept_by g forms f none = filter_map-append g forms (f ∷ []) ∙ rw none (append-nil (filter_map g forms))
 
 -- a line that adds one
 added_by : {X : Type 0} (g : Form → Option X) (forms : List Form) (f : Form) (x : X) → g f ≡ Some x
     → filter_map g (forms ++ f ∷ []) ≡ filter_map g forms ++ x ∷ []
-added_by g forms f x some = filter_map-append g forms (f ∷ []) ∙ ap (λ xs. filter_map g forms ++ xs) (alone some)
-  where
-    alone : g f ≡ Some x → filter_map g (f ∷ []) ≡ x ∷ []
-    alone h = rw h refl
+added_by g forms f x some = filter_map-append g forms (f ∷ []) ∙ rw some refl
 
 reached_push : (forms : List Form) (f : Form) → reached (forms ++ f ∷ []) ≡ max (reached forms) (group f)
 reached_push [] f = omega arith
@@ -163,15 +156,8 @@ none_yet [] e = refl
 none_yet (f ∷ forms) e = absurd (no_group f (omega arith))
   where
     no_group : (f : Form) → group f ≡ 0 → ⊥
-    no_group (points n) h = omega arith
-    no_group (universal a) h = omega arith
-    no_group (outlives a b) h = omega arith
-    no_group (further x) h = omega arith
-    no_group (next p q) h = omega arith
-    no_group (return p) h = omega arith
-    no_group (base x p) h = omega arith
-    no_group (constraint a b p) h = omega arith
     no_group end h = omega arith
+    no_group _ h = omega arith
 
 -- ---- the order of lines
 
@@ -185,15 +171,8 @@ not_false false e = absurd cc
 
 -- a line without a fault stands in order
 pub in_order : (s : Said) (f : Form) → first_fault s f ≡ None → is_in_order s f ≡ true
-in_order s (points n) e = not_false _ (guard _ _ _ e)
-in_order s (universal a) e = not_false _ (guard _ _ _ e)
-in_order s (outlives a b) e = not_false _ (guard _ _ _ e)
-in_order s (further x) e = not_false _ (guard _ _ _ e)
-in_order s (next p q) e = not_false _ (guard _ _ _ e)
-in_order s (return p) e = not_false _ (guard _ _ _ e)
-in_order s (base x p) e = not_false _ (guard _ _ _ e)
-in_order s (constraint a b p) e = not_false _ (guard _ _ _ e)
 in_order s end e = not_false _ (guard _ _ _ e)
+in_order s _ e = not_false _ (guard _ _ _ e)
 
 ordered : (r g : ℕ) (rep : Bool) → (ltb r g || (eqb r g && rep)) && (ltb 0 r || eqb g 1) ≡ true → r ≤ g
 ordered r g rep e = grind (arith, nat_tests)
@@ -260,46 +239,6 @@ edges_said forms = insert_all same_pair [] (filter_map edge_in forms)
 abbrev constraints_said : List Name → List Form → List Constraint
 constraints_said names forms = insert_all same_constraint [] (filter_map (constraint_in names) forms)
 
--- what holds of the facts of lines that declare no name holds of what is said
-same_after : (forms : List Form) (f : Form) (s t : Said) → SameSaid (said forms) s → universal_in f ≡ None
-    → further_in f ≡ None → points_in f ≡ None
-    → t.reached ≡ reached (forms ++ f ∷ []) → t.names ≡ s.names
-    → t.problem.graph.points ≡ s.problem.graph.points → t.problem.graph.universals ≡ s.problem.graph.universals
-    → t.problem.regions ≡ s.problem.regions
-    → SameSet (edges_said (forms ++ f ∷ [])) t.problem.graph.edges
-    → length (edges_said (forms ++ f ∷ [])) ≡ length t.problem.graph.edges
-    → SameSet (filter_map return_in (forms ++ f ∷ [])) t.problem.graph.returns
-    → SameSet (filter_map (base_in (names_said forms)) (forms ++ f ∷ [])) t.problem.bases
-    → SameSet (constraints_said (names_said forms) (forms ++ f ∷ [])) t.problem.constraints
-    → length (constraints_said (names_said forms) (forms ++ f ∷ [])) ≡ length t.problem.constraints
-    → SameSet (filter_map (outlives_in (universals_said forms)) (forms ++ f ∷ [])) t.problem.outlives
-    → SameSaid (said (forms ++ f ∷ [])) t
-same_after forms f s t h u x p reach names count universals regions edges edge_count returns bases constraints
-    constraint_count longer =
-    let named : names_said (forms ++ f ∷ []) ≡ names_said forms = names_kept forms f u x in
-    let all : universals_said (forms ++ f ∷ []) ≡ universals_said forms =
-    ap (λ xs. codes "static" ∷ xs) (kept_by universal_in forms f u) in
-    record {
-      reached = sym reach;
-      names = named ∙ (h.names ∙ sym names);
-      problem = record {
-        points = ap first_or_zero (kept_by points_in forms f p) ∙ (h.problem.points ∙ sym count);
-        universals = ap length all ∙ (h.problem.universals ∙ sym universals);
-        regions = ap length named ∙ (h.problem.regions ∙ sym regions);
-        edges = edges;
-        returns = returns;
-        bases = subst (λ ns. SameSet (filter_map (base_in ns) (forms ++ f ∷ [])) t.problem.bases) (sym named) bases;
-        constraints =
-            subst (λ ns. SameSet (constraints_said ns (forms ++ f ∷ [])) t.problem.constraints) (sym named) constraints;
-        outlives =
-            subst (λ us. SameSet (filter_map (outlives_in us) (forms ++ f ∷ [])) t.problem.outlives) (sym all) longer;
-      };
-      edge_count = edge_count;
-      constraint_count =
-          subst (λ ns. length (constraints_said ns (forms ++ f ∷ [])) ≡ length t.problem.constraints)
-          (sym named) constraint_count;
-    }
-
 -- the edges and constraints stay where a line has none
 kept_edges : (forms : List Form) (f : Form) → edge_in f ≡ None → edges_said (forms ++ f ∷ []) ≡ edges_said forms
 kept_edges forms f none = ap (insert_all same_pair []) (kept_by edge_in forms f none)
@@ -310,6 +249,65 @@ kept_constraints names forms f none = ap (insert_all same_constraint []) (kept_b
 
 both : {A : Type 0} (xs ys xs' ys' : List A) → xs' ≡ xs → ys' ≡ ys → SameSet xs ys → SameSet xs' ys'
 both xs ys xs' ys' e k same = subst (λ zs. SameSet zs ys') (sym e) (subst (SameSet xs) (sym k) same)
+
+-- the same facts, and as many
+abbrev SameFacts : {X : Type 0} → List X → List X → Type 0
+SameFacts xs ys = SameSet xs ys × (length xs ≡ length ys)
+
+-- Where s says what the lines say, and one more line declares no name, its facts are what is left to look at.
+module _ (forms : List Form) (f : Form) (s : Said) (h : SameSaid (said forms) s) where
+  edges_kept : edge_in f ≡ None → SameFacts (edges_said (forms ++ f ∷ [])) s.problem.graph.edges
+  edges_kept none =
+      let e = kept_edges forms f none in (both _ _ _ _ e refl h.problem.edges, ap length e ∙ h.edge_count)
+
+  constraints_kept : constraint_in (names_said forms) f ≡ None
+      → SameFacts (constraints_said (names_said forms) (forms ++ f ∷ [])) s.problem.constraints
+  constraints_kept none =
+      let e = kept_constraints (names_said forms) forms f none in
+      (both _ _ _ _ e refl h.problem.constraints, ap length e ∙ h.constraint_count)
+
+  returns_kept : return_in f ≡ None → SameSet (filter_map return_in (forms ++ f ∷ [])) s.problem.graph.returns
+  returns_kept none = kept_set return_in forms f _ _ none h.problem.returns refl
+
+  bases_kept : base_in (names_said forms) f ≡ None
+      → SameSet (filter_map (base_in (names_said forms)) (forms ++ f ∷ [])) s.problem.bases
+  bases_kept none = kept_set (base_in (names_said forms)) forms f _ _ none h.problem.bases refl
+
+  outlives_kept : outlives_in (universals_said forms) f ≡ None
+      → SameSet (filter_map (outlives_in (universals_said forms)) (forms ++ f ∷ [])) s.problem.outlives
+  outlives_kept none = kept_set (outlives_in (universals_said forms)) forms f _ _ none h.problem.outlives refl
+
+  same_after : (t : Said) (r : Problem) → t.problem ≡ r → universal_in f ≡ None → further_in f ≡ None → points_in f ≡ None
+      → t.reached ≡ reached (forms ++ f ∷ []) → t.names ≡ s.names → r.graph.points ≡ s.problem.graph.points
+      → r.graph.universals ≡ s.problem.graph.universals → r.regions ≡ s.problem.regions
+      → SameFacts (edges_said (forms ++ f ∷ [])) r.graph.edges
+      → SameSet (filter_map return_in (forms ++ f ∷ [])) r.graph.returns
+      → SameSet (filter_map (base_in (names_said forms)) (forms ++ f ∷ [])) r.bases
+      → SameFacts (constraints_said (names_said forms) (forms ++ f ∷ [])) r.constraints
+      → SameSet (filter_map (outlives_in (universals_said forms)) (forms ++ f ∷ [])) r.outlives
+      → SameSaid (said (forms ++ f ∷ [])) t
+  same_after t r q u x p reach names count universals regions edges returns bases constraints longer =
+      let named : names_said (forms ++ f ∷ []) ≡ names_said forms = names_kept forms f u x in
+      let all : universals_said (forms ++ f ∷ []) ≡ universals_said forms =
+      ap (λ xs. codes "static" ∷ xs) (kept_by universal_in forms f u) in
+      let of_names = subst (λ ns. SameFacts (constraints_said ns (forms ++ f ∷ [])) r.constraints) (sym named)
+      constraints in
+      record {
+        reached = sym reach;
+        names = named ∙ (h.names ∙ sym names);
+        problem = subst (SameProblem (said (forms ++ f ∷ [])).problem) (sym q) (record {
+          points = ap first_or_zero (kept_by points_in forms f p) ∙ (h.problem.points ∙ sym count);
+          universals = ap length all ∙ (h.problem.universals ∙ sym universals);
+          regions = ap length named ∙ (h.problem.regions ∙ sym regions);
+          edges = edges.0;
+          returns = returns;
+          bases = subst (λ ns. SameSet (filter_map (base_in ns) (forms ++ f ∷ [])) r.bases) (sym named) bases;
+          constraints = of_names.0;
+          outlives = subst (λ us. SameSet (filter_map (outlives_in us) (forms ++ f ∷ [])) r.outlives) (sym all) longer;
+        });
+        edge_count = edges.1 ∙ sym (ap (λ (z : Problem). length z.graph.edges) q);
+        constraint_count = of_names.1 ∙ sym (ap (λ (z : Problem). length z.constraints) q);
+      }
 
 -- a name's number among the universal regions, which stand in front
 front_step : (b : Bool) (n m l : ℕ) → (n < l → n ≡ m) → cond (not b) (1 + n) 0 < suc l
@@ -373,21 +371,10 @@ adds_said forms s t (outlives x y) h fine a =
     (number x regions.0)
     (subst (λ (k : ℕ). AddsFact s.problem.outlives t.problem.outlives (number_of s.names x, k))
     (number y regions.1) a.takes.2) in
-    let q = a.takes.1 in
-    same_after forms (outlives x y) s t h refl refl refl
-    (a.group ∙ omega (arith, reached_push forms (outlives x y))) a.takes.0
-    (ap (λ (p : Problem). p.graph.points) q) (ap (λ (p : Problem). p.graph.universals) q)
-    (ap (λ (p : Problem). p.regions) q)
-    (both _ _ _ _ (kept_edges forms (outlives x y) refl) (ap (λ (p : Problem). p.graph.edges) q) h.problem.edges)
-    (ap length (kept_edges forms (outlives x y) refl)
-    ∙ (h.edge_count ∙ sym (ap (λ (p : Problem). length p.graph.edges) q)))
-    (kept_set return_in forms (outlives x y) _ _ refl h.problem.returns (ap (λ (p : Problem). p.graph.returns) q))
-    (kept_set (base_in (names_said forms)) forms (outlives x y) _ _ refl h.problem.bases
-    (ap (λ (p : Problem). p.bases) q))
-    (both _ _ _ _ (kept_constraints (names_said forms) forms (outlives x y) refl)
-    (ap (λ (p : Problem). p.constraints) q) h.problem.constraints)
-    (ap length (kept_constraints (names_said forms) forms (outlives x y) refl)
-    ∙ (h.constraint_count ∙ sym (ap (λ (p : Problem). length p.constraints) q)))
+    same_after forms (outlives x y) s h t _ a.takes.1 refl refl refl
+    (a.group ∙ omega (arith, reached_push forms (outlives x y))) a.takes.0 refl refl refl
+    (edges_kept forms (outlives x y) s h refl) (returns_kept forms (outlives x y) s h refl)
+    (bases_kept forms (outlives x y) s h refl) (constraints_kept forms (outlives x y) s h refl)
     (added_set (outlives_in (universals_said forms)) forms (outlives x y) _ _ _ refl h.problem.outlives adds)
 adds_said forms s t (further x) h fine a =
     let before : reached forms ≤ 4 = omega (arith, ordered s.reached 4 true (in_order s (further x) fine), h.reached) in
@@ -399,109 +386,64 @@ adds_said forms s t (further x) h fine a =
     ap (λ us. us ++ filter_map further_in (forms ++ further x ∷ [])) all
     ∙ (ap (λ xs. universals_said forms ++ xs) others
     ∙ sym (append_assoc (universals_said forms) (filter_map further_in forms) (x ∷ []))) in
-    let names : List Name = names_said (forms ++ further x ∷ []) in
-    let no_bases : (ns : List Name) → filter_map (base_in ns) forms ≡ [] =
-    λ ns. none_before (base_in ns) 4 (base_early ns) forms before in
-    let no_bases_after : filter_map (base_in names) (forms ++ further x ∷ []) ≡ [] =
-    none_before (base_in names) 4 (base_early names) (forms ++ further x ∷ []) after in
-    let no_constraints : (ns : List Name)
-    → filter_map (constraint_in ns) forms ≡ [] =
-    λ ns. none_before (constraint_in ns) 4 (constraint_early ns) forms before in
-    let no_constraints_after : filter_map (constraint_in names) (forms ++ further x ∷ []) ≡ [] =
-    none_before (constraint_in names) 4 (constraint_early names) (forms ++ further x ∷ []) after in
-    let q = a.takes.1 in
+    let old : List Name = names_said forms in
+    let new : List Name = names_said (forms ++ further x ∷ []) in
+    let bases : filter_map (base_in new) (forms ++ further x ∷ []) ≡ filter_map (base_in old) forms =
+    none_before (base_in new) 4 (base_early new) (forms ++ further x ∷ []) after
+    ∙ sym (none_before (base_in old) 4 (base_early old) forms before) in
+    let constraints : constraints_said new (forms ++ further x ∷ []) ≡ constraints_said old forms =
+    ap (insert_all same_constraint [])
+    (none_before (constraint_in new) 4 (constraint_early new) (forms ++ further x ∷ []) after
+    ∙ sym (none_before (constraint_in old) 4 (constraint_early old) forms before)) in
+    let edges = edges_kept forms (further x) s h refl in
     record {
       reached = omega (arith, a.group, reached_push forms (further x));
       names = named ∙ (ap (λ ns. ns ++ x ∷ []) h.names ∙ sym a.takes.0);
-      problem = record {
-        points = ap first_or_zero (kept_by points_in forms (further x) refl)
-            ∙ (h.problem.points ∙ sym (ap (λ (z : Problem). z.graph.points) q));
-        universals = ap length all ∙ (h.problem.universals ∙ sym (ap (λ (z : Problem). z.graph.universals) q));
-        regions =
-            omega (
-              arith,
-              ap length named,
-              length-append (names_said forms) (x ∷ []),
-              h.problem.regions,
-              ap (λ (z : Problem). z.regions) q,
-            );
-        edges = both _ _ _ _ (kept_edges forms (further x) refl)
-            (ap (λ (z : Problem). z.graph.edges) q) h.problem.edges;
-        returns =
-            kept_set return_in forms (further x) _ _ refl h.problem.returns (ap (λ (z : Problem). z.graph.returns) q);
-        bases = both _ _ _ _ (no_bases_after ∙ sym (no_bases (names_said forms)))
-            (ap (λ (z : Problem). z.bases) q) h.problem.bases;
-        constraints =
-            both _ _ _ _ (ap (insert_all same_constraint [])
-            (no_constraints_after ∙ sym (no_constraints (names_said forms))))
-            (ap (λ (z : Problem). z.constraints) q) h.problem.constraints;
+      problem = subst (SameProblem (said (forms ++ further x ∷ [])).problem) (sym a.takes.1) (record {
+        points = ap first_or_zero (kept_by points_in forms (further x) refl) ∙ h.problem.points;
+        universals = ap length all ∙ h.problem.universals;
+        regions = omega (arith, ap length named, length-append old (x ∷ []), h.problem.regions);
+        edges = edges.0;
+        returns = returns_kept forms (further x) s h refl;
+        bases = both _ _ _ _ bases refl h.problem.bases;
+        constraints = both _ _ _ _ constraints refl h.problem.constraints;
         outlives =
-            subst (λ us. SameSet (filter_map (outlives_in us) (forms ++ further x ∷ [])) t.problem.outlives) (sym all)
-            (kept_set (outlives_in (universals_said forms)) forms (further x) _ _ refl h.problem.outlives
-            (ap (λ (z : Problem). z.outlives) q));
-      };
-      edge_count = ap length (kept_edges forms (further x) refl)
-          ∙ (h.edge_count ∙ sym (ap (λ (z : Problem). length z.graph.edges) q));
+            subst (λ us. SameSet (filter_map (outlives_in us) (forms ++ further x ∷ [])) s.problem.outlives) (sym all)
+            (outlives_kept forms (further x) s h refl);
+      });
+      edge_count = edges.1 ∙ sym (ap (λ (z : Problem). length z.graph.edges) a.takes.1);
       constraint_count =
-          ap length (ap (insert_all same_constraint [])
-          (no_constraints_after ∙ sym (no_constraints (names_said forms))))
-          ∙ (h.constraint_count ∙ sym (ap (λ (z : Problem). length z.constraints) q));
+          ap length constraints ∙ (h.constraint_count ∙ sym (ap (λ (z : Problem). length z.constraints) a.takes.1));
     }
 adds_said forms s t (next p q) h fine a =
     let before : reached forms ≤ 5 = omega (arith, ordered s.reached 5 true (in_order s (next p q) fine), h.reached) in
     let more : edges_said (forms ++ next p q ∷ []) ≡ insert_key same_pair (edges_said forms) (p, q) =
     ap (insert_all same_pair []) (added_by edge_in forms (next p q) (p, q) refl)
     ∙ insert_all_push same_pair [] (filter_map edge_in forms) (p, q) in
-    same_after forms (next p q) s t h refl refl refl (a.group ∙ omega (arith, reached_push forms (next p q))) a.takes.0
-    (ap (λ (z : Problem). z.graph.points) a.takes.1) (ap (λ (z : Problem). z.graph.universals) a.takes.1)
-    (ap (λ (z : Problem). z.regions) a.takes.1)
-    (subst (λ xs. SameSet xs t.problem.graph.edges) (sym more)
-    (same_grown _ _ (p, q) _ _ h.problem.edges (adds_pair (edges_said forms) (p, q)) a.takes.2))
-    (ap length more ∙ length_grown _ _ (p, q) _ _ h.problem.edges h.edge_count
-    (adds_pair (edges_said forms) (p, q)) a.takes.2 (pair_known (edges_said forms) (p, q)))
-    (kept_set return_in forms (next p q) _ _ refl h.problem.returns (ap (λ (z : Problem). z.graph.returns) a.takes.1))
-    (kept_set (base_in (names_said forms)) forms (next p q) _ _ refl h.problem.bases
-    (ap (λ (z : Problem). z.bases) a.takes.1))
-    (both _ _ _ _ (kept_constraints (names_said forms) forms (next p q) refl)
-    (ap (λ (z : Problem). z.constraints) a.takes.1) h.problem.constraints)
-    (ap length (kept_constraints (names_said forms) forms (next p q) refl)
-    ∙ (h.constraint_count ∙ sym (ap (λ (z : Problem). length z.constraints) a.takes.1)))
-    (kept_set (outlives_in (universals_said forms)) forms (next p q) _ _ refl h.problem.outlives
-    (ap (λ (z : Problem). z.outlives) a.takes.1))
+    same_after forms (next p q) s h t _ a.takes.1 refl refl refl (a.group ∙ omega (arith, reached_push forms (next p q)))
+    a.takes.0 refl refl refl
+    (
+      subst (λ xs. SameSet xs t.problem.graph.edges) (sym more)
+          (same_grown _ _ (p, q) _ _ h.problem.edges (adds_pair (edges_said forms) (p, q)) a.takes.2),
+      ap length more ∙ length_grown _ _ (p, q) _ _ h.problem.edges h.edge_count
+          (adds_pair (edges_said forms) (p, q)) a.takes.2 (pair_known (edges_said forms) (p, q)),
+    )
+    (returns_kept forms (next p q) s h refl) (bases_kept forms (next p q) s h refl)
+    (constraints_kept forms (next p q) s h refl) (outlives_kept forms (next p q) s h refl)
 adds_said forms s t (return p) h fine a =
     let before : reached forms ≤ 5 = omega (arith, ordered s.reached 5 true (in_order s (return p) fine), h.reached) in
-    same_after forms (return p) s t h refl refl refl (a.group ∙ omega (arith, reached_push forms (return p))) a.takes.0
-    (ap (λ (z : Problem). z.graph.points) a.takes.1) (ap (λ (z : Problem). z.graph.universals) a.takes.1)
-    (ap (λ (z : Problem). z.regions) a.takes.1)
-    (both _ _ _ _ (kept_edges forms (return p) refl) (ap (λ (z : Problem). z.graph.edges) a.takes.1) h.problem.edges)
-    (ap length (kept_edges forms (return p) refl)
-    ∙ (h.edge_count ∙ sym (ap (λ (z : Problem). length z.graph.edges) a.takes.1)))
+    same_after forms (return p) s h t _ a.takes.1 refl refl refl (a.group ∙ omega (arith, reached_push forms (return p)))
+    a.takes.0 refl refl refl (edges_kept forms (return p) s h refl)
     (added_set return_in forms (return p) p _ _ refl h.problem.returns a.takes.2)
-    (kept_set (base_in (names_said forms)) forms (return p) _ _ refl h.problem.bases
-    (ap (λ (z : Problem). z.bases) a.takes.1))
-    (both _ _ _ _ (kept_constraints (names_said forms) forms (return p) refl)
-    (ap (λ (z : Problem). z.constraints) a.takes.1) h.problem.constraints)
-    (ap length (kept_constraints (names_said forms) forms (return p) refl)
-    ∙ (h.constraint_count ∙ sym (ap (λ (z : Problem). length z.constraints) a.takes.1)))
-    (kept_set (outlives_in (universals_said forms)) forms (return p) _ _ refl h.problem.outlives
-    (ap (λ (z : Problem). z.outlives) a.takes.1))
+    (bases_kept forms (return p) s h refl) (constraints_kept forms (return p) s h refl)
+    (outlives_kept forms (return p) s h refl)
 adds_said forms s t (base x p) h fine a =
     let before : reached forms ≤ 5 = omega (arith, ordered s.reached 5 true (in_order s (base x p) fine), h.reached) in
-    same_after forms (base x p) s t h refl refl refl (a.group ∙ omega (arith, reached_push forms (base x p))) a.takes.0
-    (ap (λ (z : Problem). z.graph.points) a.takes.1) (ap (λ (z : Problem). z.graph.universals) a.takes.1)
-    (ap (λ (z : Problem). z.regions) a.takes.1)
-    (both _ _ _ _ (kept_edges forms (base x p) refl) (ap (λ (z : Problem). z.graph.edges) a.takes.1) h.problem.edges)
-    (ap length (kept_edges forms (base x p) refl)
-    ∙ (h.edge_count ∙ sym (ap (λ (z : Problem). length z.graph.edges) a.takes.1)))
-    (kept_set return_in forms (base x p) _ _ refl h.problem.returns (ap (λ (z : Problem). z.graph.returns) a.takes.1))
+    same_after forms (base x p) s h t _ a.takes.1 refl refl refl (a.group ∙ omega (arith, reached_push forms (base x p)))
+    a.takes.0 refl refl refl (edges_kept forms (base x p) s h refl) (returns_kept forms (base x p) s h refl)
     (added_set (base_in (names_said forms)) forms (base x p) _ _ _ refl h.problem.bases
     (subst (λ ns. AddsFact s.problem.bases t.problem.bases (number_of ns x, p)) (sym h.names) a.takes.2))
-    (both _ _ _ _ (kept_constraints (names_said forms) forms (base x p) refl)
-    (ap (λ (z : Problem). z.constraints) a.takes.1) h.problem.constraints)
-    (ap length (kept_constraints (names_said forms) forms (base x p) refl)
-    ∙ (h.constraint_count ∙ sym (ap (λ (z : Problem). length z.constraints) a.takes.1)))
-    (kept_set (outlives_in (universals_said forms)) forms (base x p) _ _ refl h.problem.outlives
-    (ap (λ (z : Problem). z.outlives) a.takes.1))
+    (constraints_kept forms (base x p) s h refl) (outlives_kept forms (base x p) s h refl)
 adds_said forms s t (constraint x y p) h fine a =
     let before : reached forms ≤ 5 =
     omega (arith, ordered s.reached 5 true (in_order s (constraint x y p) fine), h.reached) in
@@ -514,49 +456,25 @@ adds_said forms s t (constraint x y p) h fine a =
     let adds : AddsFact s.problem.constraints t.problem.constraints c =
     subst (λ ns. AddsFact s.problem.constraints t.problem.constraints
     (record { sup = number_of ns x; sub = number_of ns y; at = p })) (sym h.names) a.takes.2 in
-    same_after forms (constraint x y p) s t h refl refl refl
-    (a.group ∙ omega (arith, reached_push forms (constraint x y p))) a.takes.0
-    (ap (λ (z : Problem). z.graph.points) a.takes.1) (ap (λ (z : Problem). z.graph.universals) a.takes.1)
-    (ap (λ (z : Problem). z.regions) a.takes.1)
-    (both _ _ _ _ (kept_edges forms (constraint x y p) refl)
-    (ap (λ (z : Problem). z.graph.edges) a.takes.1) h.problem.edges)
-    (ap length (kept_edges forms (constraint x y p) refl)
-    ∙ (h.edge_count ∙ sym (ap (λ (z : Problem). length z.graph.edges) a.takes.1)))
-    (kept_set return_in forms (constraint x y p) _ _ refl h.problem.returns
-    (ap (λ (z : Problem). z.graph.returns) a.takes.1))
-    (kept_set (base_in (names_said forms)) forms (constraint x y p) _ _ refl h.problem.bases
-    (ap (λ (z : Problem). z.bases) a.takes.1))
-    (subst (λ zs. SameSet zs t.problem.constraints) (sym more)
-    (same_grown _ _ c _ _ h.problem.constraints (adds_constraint old c) adds))
-    (ap length more ∙ length_grown _ _ c _ _ h.problem.constraints h.constraint_count (adds_constraint old c) adds
-    (constraint_known old c))
-    (kept_set (outlives_in (universals_said forms)) forms (constraint x y p) _ _ refl h.problem.outlives
-    (ap (λ (z : Problem). z.outlives) a.takes.1))
+    same_after forms (constraint x y p) s h t _ a.takes.1 refl refl refl
+    (a.group ∙ omega (arith, reached_push forms (constraint x y p))) a.takes.0 refl refl refl
+    (edges_kept forms (constraint x y p) s h refl) (returns_kept forms (constraint x y p) s h refl)
+    (bases_kept forms (constraint x y p) s h refl)
+    (
+      subst (λ zs. SameSet zs t.problem.constraints) (sym more)
+          (same_grown _ _ c _ _ h.problem.constraints (adds_constraint old c) adds),
+      ap length more ∙ length_grown _ _ c _ _ h.problem.constraints h.constraint_count (adds_constraint old c) adds
+          (constraint_known old c),
+    )
+    (outlives_kept forms (constraint x y p) s h refl)
 adds_said forms s t (end) h fine a =
     let before : reached forms ≤ 6 = omega (arith, ordered s.reached 6 false (in_order s (end) fine), h.reached) in
-    same_after forms (end) s t h refl refl refl (a.group ∙ omega (arith, reached_push forms (end))) a.takes.0
-    (ap (λ (z : Problem). z.graph.points) a.takes.1) (ap (λ (z : Problem). z.graph.universals) a.takes.1)
-    (ap (λ (z : Problem). z.regions) a.takes.1)
-    (both _ _ _ _ (kept_edges forms (end) refl) (ap (λ (z : Problem). z.graph.edges) a.takes.1) h.problem.edges)
-    (ap length (kept_edges forms (end) refl)
-    ∙ (h.edge_count ∙ sym (ap (λ (z : Problem). length z.graph.edges) a.takes.1)))
-    (kept_set return_in forms (end) _ _ refl h.problem.returns (ap (λ (z : Problem). z.graph.returns) a.takes.1))
-    (kept_set (base_in (names_said forms)) forms (end) _ _ refl h.problem.bases
-    (ap (λ (z : Problem). z.bases) a.takes.1))
-    (both _ _ _ _ (kept_constraints (names_said forms) forms (end) refl)
-    (ap (λ (z : Problem). z.constraints) a.takes.1) h.problem.constraints)
-    (ap length (kept_constraints (names_said forms) forms (end) refl)
-    ∙ (h.constraint_count ∙ sym (ap (λ (z : Problem). length z.constraints) a.takes.1)))
-    (kept_set (outlives_in (universals_said forms)) forms (end) _ _ refl h.problem.outlives
-    (ap (λ (z : Problem). z.outlives) a.takes.1))
+    same_after forms (end) s h t _ a.takes.1 refl refl refl (a.group ∙ omega (arith, reached_push forms (end))) a.takes.0
+    refl refl refl (edges_kept forms (end) s h refl) (returns_kept forms (end) s h refl)
+    (bases_kept forms (end) s h refl) (constraints_kept forms (end) s h refl) (outlives_kept forms (end) s h refl)
 
 -- what is said is the same as itself
 pub same_itself : (s : Said) → SameSaid s s
 same_itself s =
-    record {
-      reached = refl;
-      names = refl;
-      problem = same_problem s.problem s.problem refl;
-      edge_count = refl;
-      constraint_count = refl;
-    }
+    let same = same_problem s.problem s.problem refl in
+    record { reached = refl; names = refl; problem = same; edge_count = refl; constraint_count = refl }

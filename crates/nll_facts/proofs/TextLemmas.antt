@@ -1,5 +1,5 @@
 -- The last line that a facts text needs.
-use Rattle.std.proofs.Common.{◌≡◌, ℕ, suc, zero, ◌+◌, ◌-◌, ◌<◌, ◌≤◌, max, get_or, Contains, ⊎_elim, List, [], ◌∷◌, ◌++◌, ◌⊎◌, inl, inr, length, refl, subst, sym, ap, arith}
+use Rattle.std.proofs.Common.{◌≡◌, ℕ, suc, zero, ◌<◌, ◌≤◌, max, get_or, Contains, ⊎_elim, List, [], ◌∷◌, ◌⊎◌, inl, inr, length, refl, ap, arith}
 use Rattle.std.proofs.lemmas.Bool.{cases_eq}
 use Rattle.nll_facts.specs.FactsForms.{Form, points, universal, outlives, further, next, return, base, constraint, end}
 use Rattle.nll_facts.specs.FactsSaid.{group, reached}
@@ -12,26 +12,12 @@ group_reached (g ∷ forms) f zero h e = omega (arith, ap group e)
 group_reached (g ∷ forms) f (suc k) h e = omega (arith, group_reached forms f k (omega arith) e)
 
 group_end : (f : Form) → group f ≡ 6 → f ≡ end
-group_end (points n) h = absurd (omega arith)
-group_end (universal a) h = absurd (omega arith)
-group_end (outlives a b) h = absurd (omega arith)
-group_end (further x) h = absurd (omega arith)
-group_end (next p q) h = absurd (omega arith)
-group_end (return p) h = absurd (omega arith)
-group_end (base x p) h = absurd (omega arith)
-group_end (constraint a b p) h = absurd (omega arith)
 group_end end h = refl
+group_end _ h = absurd (omega arith)
 
 group_most : (f : Form) → group f ≤ 6
-group_most (points n) = omega arith
-group_most (universal a) = omega arith
-group_most (outlives a b) = omega arith
-group_most (further x) = omega arith
-group_most (next p q) = omega arith
-group_most (return p) = omega arith
-group_most (base x p) = omega arith
-group_most (constraint a b p) = omega arith
 group_most end = omega arith
+group_most _ = omega arith
 
 reached_most : (forms : List Form) → reached forms ≤ 6
 reached_most [] = omega arith

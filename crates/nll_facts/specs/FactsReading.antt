@@ -1,6 +1,6 @@
 -- What a reader of facts texts holds, and how a line changes it.
 -- Source: project's choice. Only private contracts cite this file.
-use Rattle.std.specs.Prelude.{◌≡◌, ◌⊎◌, ℕ, ◌+◌, ◌<◌, ◌≤◌, true, List, [], ◌∷◌, ◌++◌, Some, None}
+use Rattle.std.specs.Prelude.{◌≡◌, ◌⊎◌, ℕ, ◌+◌, ◌<◌, ◌≤◌, true, [], ◌∷◌, ◌++◌, Some, None}
 use Rattle.std.specs.Prelude.{IsSome, unwrap_or, length}
 use Rattle.std.specs.List.{AllByRecursion}
 use Rattle.std.specs.Str.{IsUtf8}
@@ -15,7 +15,7 @@ use Rattle.nll_format.specs.declared.error.TextKind.{TextKind}
 use Rattle.nll_format.specs.declared.error.TextKind.TheVariants.{Memory}
 use Rattle.nll_facts.specs.FactsForms.{Form, points, universal, outlives, further, next, return}
 use Rattle.nll_facts.specs.FactsForms.{base, constraint, end, parts}
-use Rattle.nll_facts.specs.FactsSaid.{Said, said, group, is_in_order, first_fault}
+use Rattle.nll_facts.specs.FactsSaid.{Said, group, is_in_order, first_fault}
 use Rattle.nll_facts.specs.declared.reader.Reader.{Reader}
 
 -- ---- what a reader holds

@@ -1,8 +1,9 @@
 //! The lines of a facts text.
 
 ghost use Rattle.std.specs.Prelude.{ℕ, codes};
-ghost use Rattle.nll_text.specs.Lexing.{BeginsNotWith};
 ghost use Rattle.nll_text.specs.Tokens as lex;
+ghost use Rattle.nll_text.specs.LineTokens.{tokens_in};
+ghost use Rattle.nll_text.specs.Grammars.{IsNotNext};
 ghost use Rattle.nll_facts.specs.FactsForms as forms;
 ghost use Rattle.nll_facts.specs.FactsForms.{parts};
 ghost use Rattle.nll_facts.specs.FactsLines.{view};
@@ -11,7 +12,7 @@ ghost use Rattle.nll_format.specs.Parts.{Reads, Spells};
 
 use nll_format::{nothing, number, region, region_number, two_numbers, two_regions};
 use nll_problem::At;
-use nll_text::{after_word, first_region};
+use nll_text::{after_word, region_at};
 
 /// A line, with its names where they lie in the text.
 #[derive(Clone, Copy)]
@@ -51,7 +52,7 @@ fn place(rest: &[u8]) -> Option<At>
 fn region_place(rest: &[u8]) -> Option<(&[u8], At)>
     ensures { Reads forms.region_place (λ n. (n.0.now, n.1)) rest.now result }
 {
-    let (name, rest) = first_region(rest)?;
+    let (name, rest) = region_at(rest)?;
     let at = place(rest)?;
     Some((name, at))
 }
@@ -60,7 +61,7 @@ fn region_place(rest: &[u8]) -> Option<(&[u8], At)>
 fn two_regions_place(rest: &[u8]) -> Option<(&[u8], &[u8], At)>
     ensures { Reads forms.two_regions_place (λ n. (n.0.now, n.1.now, n.2)) rest.now result }
 {
-    let (first, rest) = first_region(rest)?;
+    let (first, rest) = region_at(rest)?;
     let (second, at) = region_place(rest)?;
     Some((first, second, at))
 }
@@ -90,10 +91,10 @@ pub fn line_of(line: &[u8]) -> Option<Line<'_>>
 // Like `line_of`, for a line that begins with none of the words that most lines begin with: the
 // frequent words are tried first, for speed.
 fn rare_line_of(line: &[u8]) -> Option<Line<'_>>
-    requires base { BeginsNotWith line.now (lex.word (codes "base")) }
-    requires next { BeginsNotWith line.now (lex.word (codes "next")) }
-    requires constraint { BeginsNotWith line.now (lex.word (codes "constraint")) }
-    requires returning { BeginsNotWith line.now (lex.word (codes "return")) }
+    requires base { IsNotNext (lex.word (codes "base")) (tokens_in line.now) }
+    requires next { IsNotNext (lex.word (codes "next")) (tokens_in line.now) }
+    requires constraint { IsNotNext (lex.word (codes "constraint")) (tokens_in line.now) }
+    requires returning { IsNotNext (lex.word (codes "return")) (tokens_in line.now) }
     ensures { Reads parts view line.now result }
 {
     if let Some(rest) = after_word(line, b"region") {

@@ -8,13 +8,29 @@ use Rattle.std.proofs.lemmas.Bool.{cases_lt, false≢true}
 use Rattle.std.proofs.lemmas.Fmt.{decimal_is_IsNumeral}
 use Rattle.std.proofs.lemmas.Slice.Eq.{bytes_eq-Decides}
 use Rattle.nll_text.specs.Lines.{is_skipped}
-use Rattle.nll_text.specs.Tokens.{Token, word, region as lex_region, IsMadeOf, IsGap}
-use Rattle.nll_text.specs.Lexing.{BeginsWith, BeginsNotWith}
+use Rattle.nll_text.specs.Tokens.{Token, word, IsGap}
+use Rattle.nll_text.specs.LineTokens.{tokens_in}
+use Rattle.nll_text.specs.Grammars.{HasNone, IsNotNext, numbers, regions}
 use Rattle.nll_text.proofs.DecisionLemmas.{same_first, same_rest, tokens_or_not}
 use Rattle.nll_text.proofs.SkippedLemmas.{kept_tokens}
-use Rattle.nll_text.proofs.TokenLemmas.{one_token_list_lem, made_or_not}
+use Rattle.nll_text.proofs.TokenLemmas.{AreReal, in_make, made_are_in, one_token_list_lem}
 use Rattle.nll_text.proofs.Utf8Lemmas.{made_is_utf8}
 use Rattle.nll_format.specs.Parts.{Name, Part, keyword, number, region, token_of, IsSmall, Spells, AreSpelled}
+
+-- ---- the tokens in bytes, and the parts that they spell
+
+real_parts : (these : List Part) → AreReal (map token_of these)
+real_parts [] = tt
+real_parts (keyword w ∷ these) = (tt, real_parts these)
+real_parts (number n ∷ these) = (tt, real_parts these)
+real_parts (region x ∷ these) = (tt, real_parts these)
+
+spelled_in : (bytes : List ℕ) (these : List Part) → Spells bytes these → AreSpelled (tokens_in bytes) these
+spelled_in bytes these h = record { same = made_are_in bytes (map token_of these) h.made; small = h.small }
+
+in_spell : (bytes : List ℕ) (these : List Part) → AreSpelled (tokens_in bytes) these → Spells bytes these
+in_spell bytes these h =
+    record { made = in_make (map token_of these) bytes h.same (real_parts these); small = h.small }
 
 -- ---- one part after another
 
@@ -23,30 +39,37 @@ pub spells_none : (bytes : List ℕ) → IsGap bytes → Spells bytes []
 spells_none bytes gap = record { made = gap; small = tt }
 
 -- a part in front of what the rest spells
-pub spells_more : (bytes rest : List ℕ) (p : Part) (these : List Part) → BeginsWith bytes (token_of p) rest → IsSmall p
-    → Spells rest these → Spells bytes (p ∷ these)
+pub spells_more : (bytes rest : List ℕ) (p : Part) (these : List Part) → tokens_in bytes ≡ token_of p ∷ tokens_in rest
+    → IsSmall p → Spells rest these → Spells bytes (p ∷ these)
 spells_more bytes rest p these begins is h =
-    record { made = begins.made (map token_of these) h.made; small = (is, h.small) }
+    let s = spelled_in rest these h in
+    in_spell bytes (p ∷ these)
+    (record { same = begins ∙ ap (λ (ts : List Token). token_of p ∷ ts) s.same; small = (is, s.small) })
 
 -- behind the first token stands what the other parts spell
-pub spells_rest : (bytes rest : List ℕ) (t : Token) (p : Part) (these : List Part) → BeginsWith bytes t rest
-    → Spells bytes (p ∷ these) → (token_of p ≡ t) × Spells rest these
+pub spells_rest : (bytes rest : List ℕ) (t : Token) (p : Part) (these : List Part)
+    → tokens_in bytes ≡ t ∷ tokens_in rest → Spells bytes (p ∷ these) → (token_of p ≡ t) × Spells rest these
 spells_rest bytes rest t p these begins h =
-    let r = begins.only (map token_of (p ∷ these)) h.made in
-    (same_first r.1, record { made = subst (IsMadeOf rest) (sym (same_rest r.1)) r.2; small = h.small.1 })
+    let s = spelled_in bytes (p ∷ these) h in
+    let both : token_of p ∷ map token_of these ≡ t ∷ tokens_in rest = sym s.same ∙ begins in
+    (same_first both, in_spell rest these (record { same = sym (same_rest both); small = s.small.1 }))
 
 -- bytes that don't begin with a part spell nothing that begins with it
-pub none_first : (bytes : List ℕ) (p : Part) (these : List Part) → BeginsNotWith bytes (token_of p)
+pub none_first : (bytes : List ℕ) (p : Part) (these : List Part) → IsNotNext (token_of p) (tokens_in bytes)
     → Spells bytes (p ∷ these) → ⊥
-none_first bytes p these none h = none (map token_of these) h.made
+none_first bytes p these none h = none (map token_of these) (spelled_in bytes (p ∷ these) h).same
 
-pub no_number_first : (bytes : List ℕ) (n : ℕ) (these : List Part)
-    → ((m : ℕ) → m < 10 ^ 9 → BeginsNotWith bytes (word (decimal m))) → Spells bytes (number n ∷ these) → ⊥
-no_number_first bytes n these none h = none n h.small.0 (map token_of these) h.made
+pub no_number_first : (bytes : List ℕ) (n : ℕ) (these : List Part) → HasNone numbers (tokens_in bytes)
+    → Spells bytes (number n ∷ these) → ⊥
+no_number_first bytes n these none h =
+    let s = spelled_in bytes (number n ∷ these) h in
+    none n (map token_of these) (record { joined = s.same; allowed = s.small.0; follows = tt })
 
-pub no_region_first : (bytes : List ℕ) (x : Name) (these : List Part)
-    → ((y : Name) → BeginsNotWith bytes (lex_region y)) → Spells bytes (region x ∷ these) → ⊥
-no_region_first bytes x these none h = none x (map token_of these) h.made
+pub no_region_first : (bytes : List ℕ) (x : Name) (these : List Part) → HasNone regions (tokens_in bytes)
+    → Spells bytes (region x ∷ these) → ⊥
+no_region_first bytes x these none h =
+    none x (map token_of these)
+    (record { joined = (spelled_in bytes (region x ∷ these) h).same; allowed = tt; follows = tt })
 
 same_word : {v w : List ℕ} → word v ≡ word w → v ≡ w
 same_word e = cc
@@ -108,12 +131,6 @@ module _ (Form : Type 0) (parts : Form → List Part) (unspelled : List Token �
 
   pub form_or_none : (line : List ℕ) → ((f : Form) × Spells line (parts f)) ⊎ ((f : Form) → Spells line (parts f) → ⊥)
   form_or_none line = ⊎_elim
-      (λ made. ⊎_elim
-      (λ h. inl (h.0, record { made = subst (IsMadeOf line) h.1.same made.1; small = h.1.small }))
-      (λ no. inr (λ f h. no f (record {
-        same = one_token_list_lem line made.0 (map token_of (parts f)) made.1 h.made;
-        small = h.small;
-      })))
-      (spelled_or_none made.0))
-      (λ no. inr (λ f h. no (map token_of (parts f)) h.made))
-      (made_or_not line)
+      (λ h. inl (h.0, in_spell line (parts h.0) h.1))
+      (λ no. inr (λ f h. no f (spelled_in line (parts f) h)))
+      (spelled_or_none (tokens_in line))

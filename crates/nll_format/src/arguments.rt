@@ -3,7 +3,7 @@
 ghost use Rattle.nll_format.specs.Parts as shapes;
 ghost use Rattle.nll_format.specs.Parts.{Reads};
 
-use nll_text::{first_number, first_region, is_gap};
+use nll_text::{is_gap, number_at, region_at};
 
 /// Nothing.
 pub fn nothing(rest: &[u8]) -> Option<()>
@@ -19,7 +19,7 @@ pub fn nothing(rest: &[u8]) -> Option<()>
 pub fn number(rest: &[u8]) -> Option<u32>
     ensures { Reads shapes.one_number (λ n. n) rest.now result }
 {
-    let (point, rest) = first_number(rest)?;
+    let (point, rest) = number_at(rest)?;
     nothing(rest)?;
     Some(point)
 }
@@ -28,7 +28,7 @@ pub fn number(rest: &[u8]) -> Option<u32>
 pub fn two_numbers(rest: &[u8]) -> Option<(u32, u32)>
     ensures { Reads shapes.two_numbers (λ n. n) rest.now result }
 {
-    let (first, rest) = first_number(rest)?;
+    let (first, rest) = number_at(rest)?;
     let second = number(rest)?;
     Some((first, second))
 }
@@ -37,7 +37,7 @@ pub fn two_numbers(rest: &[u8]) -> Option<(u32, u32)>
 pub fn region(rest: &[u8]) -> Option<&[u8]>
     ensures { Reads shapes.one_region (λ x. x.now) rest.now result }
 {
-    let (name, rest) = first_region(rest)?;
+    let (name, rest) = region_at(rest)?;
     nothing(rest)?;
     Some(name)
 }
@@ -46,7 +46,7 @@ pub fn region(rest: &[u8]) -> Option<&[u8]>
 pub fn two_regions(rest: &[u8]) -> Option<(&[u8], &[u8])>
     ensures { Reads shapes.two_regions (λ n. (n.0.now, n.1.now)) rest.now result }
 {
-    let (first, rest) = first_region(rest)?;
+    let (first, rest) = region_at(rest)?;
     let second = region(rest)?;
     Some((first, second))
 }
@@ -55,7 +55,7 @@ pub fn two_regions(rest: &[u8]) -> Option<(&[u8], &[u8])>
 pub fn region_number(rest: &[u8]) -> Option<(&[u8], u32)>
     ensures { Reads shapes.region_number (λ n. (n.0.now, n.1)) rest.now result }
 {
-    let (name, rest) = first_region(rest)?;
+    let (name, rest) = region_at(rest)?;
     let point = number(rest)?;
     Some((name, point))
 }

@@ -46,15 +46,10 @@ no_mut (function ts t) a rest n e = mut_no_fn (let h : codes "mut" ≡ codes "fn
 no_mut (named s us) a rest n e = mut_no_name (let h : s ≡ codes "mut" = cc in subst (λ z. is_capital z ≡ true) h n.0)
 
 pub no_closing : (t : WrittenType) (a rest : List Token) → spelled t ++ a ≡ sign 41 ∷ rest → ⊥
-no_closing int a rest e = cc
 no_closing (reference q m t) a rest e = apart 38 41 refl (let h : sign 38 ≡ sign 41 = cc in h)
 no_closing (tuple ts) a rest e = apart 40 41 refl (let h : sign 40 ≡ sign 41 = cc in h)
-no_closing (named s us) a rest e = cc
-no_closing (function ts t) a rest e = cc
+no_closing _ a rest e = cc
 
 pub no_name_of : (t : WrittenType) (a rest : List Token) (q : Name) → spelled t ++ a ≡ region q ∷ rest → ⊥
 no_name_of int a rest q e = cc
-no_name_of (reference p m t) a rest q e = cc
-no_name_of (tuple ts) a rest q e = cc
-no_name_of (named s us) a rest q e = cc
-no_name_of (function ts t) a rest q e = cc
+no_name_of _ a rest q e = cc

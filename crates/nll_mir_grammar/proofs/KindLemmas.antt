@@ -7,13 +7,15 @@ use Rattle.std.specs.Fmt.{decimal}
 use Rattle.nll_text.specs.Tokens.{Token, word, sign, arrow}
 use Rattle.nll_types.specs.Operands.{constant, copied, moved}
 use Rattle.nll_mir_grammar.specs.MirForms.{spelled_projection, block_word}
-use Rattle.nll_mir_grammar.specs.Grammars.{Begins, HasNone, IsOne, IsNotNext, behind, pair, parentheses, MayFollowAll}
-use Rattle.nll_mir_grammar.specs.Parts.{regions, any_words, names, variables, places, operands, types, tuples, arguments, mutabilities, drop_marks, parameter_lists, bounds, bound_lists, block_lists, exits}
+use Rattle.nll_text.specs.Grammars.{Begins, HasNone, IsNotNext, any_words, regions}
+use Rattle.nll_mir_grammar.specs.Grammars.{IsOne, behind, pair, parentheses, MayFollowAll}
+use Rattle.nll_mir_grammar.specs.Parts.{names, variables, places, operands, types, tuples, arguments, mutabilities, drop_marks, parameter_lists, bounds, bound_lists, block_lists, exits}
 use Rattle.nll_mir_grammar.specs.Kinds.{borrows, makes, results, signatures, structs, Right, value, borrowed, made, called, RightParts, right_sides, rights, tails, keyword_name, LineParts, line_grammars, lines}
 use Rattle.nll_mir_grammar.specs.declared.keyword.Keyword.{Keyword}
 use Rattle.nll_mir_grammar.specs.declared.keyword.Keyword.TheVariants as words
-use Rattle.nll_mir_grammar.proofs.GrammarLemmas.{head_same, signs_apart, signs_differ, behind_one, behind_none, Joins, pair_one, parentheses_one, all_before, empty_one, kinds_one}
-use Rattle.nll_mir_grammar.proofs.PartLemmas.{words_apart, regions_join, words_join, names_join, variables_join, any_bounds, blocks_one, regions_one, any_words_one, names_one, prefixed_one, places_one, operands_one, types_one, tuples_one, mark_one, parameter_lists_one, bound_lists_one, block_lists_one, exits_one, operands_listable, arguments_listable, bounds_before, no_projection, operands_before, mark_before}
+use Rattle.nll_mir_grammar.proofs.GrammarLemmas.{head_same, signs_apart, signs_differ, behind_one, behind_none, Joins, pair_one, kinds_one}
+use Rattle.nll_mir_grammar.proofs.ListLemmas.{parentheses_one, all_before, empty_one}
+use Rattle.nll_mir_grammar.proofs.PartLemmas.{words_apart, regions_join, words_join, names_join, variables_join, any_bounds, bounds_one, blocks_one, regions_one, any_words_one, names_one, prefixed_one, places_one, operands_one, types_one, tuples_one, mark_one, parameter_lists_one, bound_lists_one, block_lists_one, exits_one, operands_listable, arguments_listable, bounds_before, no_projection, operands_before, mark_before}
 
 -- ---- what stands behind what
 
@@ -167,49 +169,16 @@ pub line_kind : List Token → Option Keyword
 line_kind (word w ∷ ts) = keyword_in w
 line_kind _ = None
 
+pub line_kind_of_name : (k : Keyword) (ts : List Token) → line_kind (word (keyword_name k) ∷ ts) ≡ Some k
+unfolding line_kind keyword_in
+line_kind_of_name words.Universal ts = refl
+line_kind_of_name _ ts = refl
+
 pub line_kind_of : (k : Option Keyword) (p : LineParts k) (r : List Token)
     → line_kind ((line_grammars k).spells p ++ r) ≡ k
 unfolding line_kind keyword_in
 line_kind_of None p r = refl
-line_kind_of (Some words.Universal) p r = refl
-line_kind_of (Some words.Outlives) p r = refl
-line_kind_of (Some words.Region) p r = refl
-line_kind_of (Some words.Assert) p r = refl
-line_kind_of (Some words.Struct) p r = refl
-line_kind_of (Some words.Let) p r = refl
-line_kind_of (Some words.Blocks) p r = refl
-line_kind_of (Some words.Block) p r = refl
-line_kind_of (Some words.Read) p r = refl
-line_kind_of (Some words.Live) p r = refl
-line_kind_of (Some words.Dead) p r = refl
-line_kind_of (Some words.Nop) p r = refl
-line_kind_of (Some words.Goto) p r = refl
-line_kind_of (Some words.Switch) p r = refl
-line_kind_of (Some words.Drop) p r = refl
-line_kind_of (Some words.Return) p r = refl
-line_kind_of (Some words.Stop) p r = refl
-line_kind_of (Some words.End) p r = refl
-
-pub line_kind_of_name : (k : Keyword) (ts : List Token) → line_kind (word (keyword_name k) ∷ ts) ≡ Some k
-unfolding line_kind keyword_in
-line_kind_of_name words.Universal ts = refl
-line_kind_of_name words.Outlives ts = refl
-line_kind_of_name words.Region ts = refl
-line_kind_of_name words.Assert ts = refl
-line_kind_of_name words.Struct ts = refl
-line_kind_of_name words.Let ts = refl
-line_kind_of_name words.Blocks ts = refl
-line_kind_of_name words.Block ts = refl
-line_kind_of_name words.Read ts = refl
-line_kind_of_name words.Live ts = refl
-line_kind_of_name words.Dead ts = refl
-line_kind_of_name words.Nop ts = refl
-line_kind_of_name words.Goto ts = refl
-line_kind_of_name words.Switch ts = refl
-line_kind_of_name words.Drop ts = refl
-line_kind_of_name words.Return ts = refl
-line_kind_of_name words.Stop ts = refl
-line_kind_of_name words.End ts = refl
+line_kind_of (Some k) p r = line_kind_of_name k ((tails k).spells p ++ r)
 
 pub drop_marks_one : IsOne drop_marks
 drop_marks_one = mark_one drop_marks.spells (word (codes "drop")) refl refl
@@ -228,9 +197,7 @@ tails_one : (k : Keyword) → IsOne (tails k)
 tails_one words.Universal = regions_one
 tails_one words.Outlives = pair_one regions regions (regions_join regions) regions_one regions_one
 tails_one words.Region = regions_one
-tails_one words.Assert =
-    pair_one regions (behind (sign 58) regions) (regions_join (behind (sign 58) regions)) regions_one
-    (behind_one regions (sign 58) regions_one)
+tails_one words.Assert = bounds_one
 tails_one words.Struct = structs_one
 tails_one words.Let =
     pair_one variables (behind (sign 58) types) (variables_join (behind (sign 58) types)) variables_one

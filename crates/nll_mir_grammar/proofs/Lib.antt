@@ -1,13 +1,13 @@
-pub mod LineTokenLemmas
-pub mod NumberLemmas
 pub mod WordLemmas
 pub mod FrontLemmas
 pub mod StepLemmas
+pub mod FrontSteps
 pub mod PieceLemmas
 pub mod FurtherLemmas
+pub mod LoopLemmas
 pub mod OneTree
-pub mod TokenLemmas
 pub mod GrammarLemmas
+pub mod ListLemmas
 pub mod PartLemmas
 pub mod KindLemmas
 pub mod LineLemmas

@@ -18,8 +18,9 @@ use Rattle.nll_statements.specs.Statements.{assign, borrow, make, read, live, de
 use Rattle.nll_mir_grammar.specs.MirForms.{Form, universal, outlives, further, assert_line, struct_line, variable, blocks, block, at_point, end, spelled_form, IsWritable, IsWritableOperand, IsSpelled}
 use Rattle.nll_mir_grammar.specs.Versions.{is_of_version, IsSpelledIn}
 use Rattle.nll_mir_grammar.specs.declared.version.Version.{Version}
-use Rattle.nll_mir_grammar.specs.Grammars.{Begins, HasNone, IsNotNext, behind, pair}
-use Rattle.nll_mir_grammar.specs.Parts.{any_words, places, operands, arguments, block_names, MayFollowOperand, MayFollowUnwind}
+use Rattle.nll_text.specs.Grammars.{Begins, HasNone, IsNotNext, any_words}
+use Rattle.nll_mir_grammar.specs.Grammars.{behind, pair}
+use Rattle.nll_mir_grammar.specs.Parts.{places, operands, arguments, block_names, MayFollowOperand, MayFollowUnwind}
 use Rattle.nll_mir_grammar.specs.Kinds.{borrows, makes, signatures, value, borrowed, made, called, rights, tails, keyword_name, LineParts, line_grammars, lines, parts_of, IsLine, IsRightSide, IsBehind, HasNoKeyword}
 use Rattle.nll_mir_grammar.specs.declared.keyword.Keyword.{Keyword}
 use Rattle.nll_mir_grammar.specs.declared.keyword.Keyword.TheVariants as words
@@ -205,52 +206,12 @@ form_from (Some words.End, x) = end
 
 from_parts : (c : List ℕ) (f : Form) → form_from (parts_of c f) ≡ f
 unfolding form_from
-from_parts c (universal a) = refl
-from_parts c (outlives a b) = refl
-from_parts c (further x) = refl
-from_parts c (assert_line a b) = refl
-from_parts c (struct_line n ps d ts) = refl
-from_parts c (variable x t) = refl
-from_parts c (blocks n) = refl
-from_parts c (block n) = refl
 from_parts c (at_point (assign p op)) = refl
-from_parts c (at_point (borrow p r m q)) = refl
-from_parts c (at_point (make p t ops)) = refl
-from_parts c (at_point (read p)) = refl
-from_parts c (at_point (live x)) = refl
-from_parts c (at_point (dead x)) = refl
-from_parts c (at_point nop) = refl
-from_parts c (at_point (goto b)) = refl
-from_parts c (at_point (switch op bs)) = refl
-from_parts c (at_point (drop x b u)) = refl
-from_parts c (at_point (call p args t ws b u)) = refl
-from_parts c (at_point return) = refl
-from_parts c (at_point stop) = refl
-from_parts c end = refl
+from_parts c _ = refl
 
 spelled_parts : (c : List ℕ) (f : Form) → spelled_form c f ≡ lines.spells (parts_of c f)
-spelled_parts c (universal a) = refl
-spelled_parts c (outlives a b) = refl
-spelled_parts c (further x) = refl
-spelled_parts c (assert_line a b) = refl
-spelled_parts c (struct_line n ps d ts) = refl
-spelled_parts c (variable x t) = refl
-spelled_parts c (blocks n) = refl
-spelled_parts c (block n) = refl
 spelled_parts c (at_point (assign p op)) = refl
-spelled_parts c (at_point (borrow p r m q)) = refl
-spelled_parts c (at_point (make p t ops)) = refl
-spelled_parts c (at_point (read p)) = refl
-spelled_parts c (at_point (live x)) = refl
-spelled_parts c (at_point (dead x)) = refl
-spelled_parts c (at_point nop) = refl
-spelled_parts c (at_point (goto b)) = refl
-spelled_parts c (at_point (switch op bs)) = refl
-spelled_parts c (at_point (drop x b u)) = refl
-spelled_parts c (at_point (call p args t ws b u)) = refl
-spelled_parts c (at_point return) = refl
-spelled_parts c (at_point stop) = refl
-spelled_parts c end = refl
+spelled_parts c _ = refl
 
 -- an argument may be written where its operand and its type may
 all_arguments : (args : List (Operand × WrittenType)) → AllByRecursion (λ a. IsWritableOperand a.0 × HasNames a.1) args
@@ -264,53 +225,27 @@ arguments_all [] h = tt
 arguments_all (a ∷ args) h = ((h.0.0, h.0.1), arguments_all args h.1)
 
 allowed_parts : (c : List ℕ) (f : Form) → IsWritable f → lines.IsAllowed (parts_of c f)
-allowed_parts c (universal a) h = tt
 allowed_parts c (outlives a b) h = (tt, tt)
-allowed_parts c (further x) h = tt
 allowed_parts c (assert_line a b) h = (tt, tt)
 allowed_parts c (struct_line n ps d ts) h = (h.0, (h.1, (tt, h.2)))
-allowed_parts c (variable x t) h = (h.0, h.1)
-allowed_parts c (blocks n) h = h
-allowed_parts c (block n) h = h
-allowed_parts c (at_point (assign p op)) h = (h.0, h.1)
 allowed_parts c (at_point (borrow p r m q)) h = (h.0, (tt, (tt, h.1)))
+allowed_parts c (at_point (call p args t ws b u)) h = (h.0, (tt, (all_arguments args h.1, (h.2, (tt, (h.3, h.4))))))
 allowed_parts c (at_point (make p t ops)) h = (h.0, (h.1, h.2))
-allowed_parts c (at_point (read p)) h = h
-allowed_parts c (at_point (live x)) h = h
-allowed_parts c (at_point (dead x)) h = h
-allowed_parts c (at_point nop) h = tt
-allowed_parts c (at_point (goto b)) h = h
 allowed_parts c (at_point (switch op bs)) h = (h.0, (h.1, h.2))
 allowed_parts c (at_point (drop x b u)) h = (h.0, (h.1, h.2))
-allowed_parts c (at_point (call p args t ws b u)) h = (h.0, (tt, (all_arguments args h.1, (h.2, (tt, (h.3, h.4))))))
-allowed_parts c (at_point return) h = tt
-allowed_parts c (at_point stop) h = tt
-allowed_parts c end h = tt
+allowed_parts c _ h = h
 
 writable_parts : (c : List ℕ) (f : Form) → lines.IsAllowed (parts_of c f) → IsWritable f
-writable_parts c (universal a) h = tt
 writable_parts c (outlives a b) h = tt
-writable_parts c (further x) h = tt
 writable_parts c (assert_line a b) h = tt
 writable_parts c (struct_line n ps d ts) h = (h.0, h.1.0, h.1.1.1)
-writable_parts c (variable x t) h = (h.0, h.1)
-writable_parts c (blocks n) h = h
-writable_parts c (block n) h = h
-writable_parts c (at_point (assign p op)) h = (h.0, h.1)
 writable_parts c (at_point (borrow p r m q)) h = (h.0, h.1.1.1)
-writable_parts c (at_point (make p t ops)) h = (h.0, h.1.0, h.1.1)
-writable_parts c (at_point (read p)) h = h
-writable_parts c (at_point (live x)) h = h
-writable_parts c (at_point (dead x)) h = h
-writable_parts c (at_point nop) h = tt
-writable_parts c (at_point (goto b)) h = h
-writable_parts c (at_point (switch op bs)) h = (h.0, h.1.0, h.1.1)
-writable_parts c (at_point (drop x b u)) h = (h.0, h.1.0, h.1.1)
 writable_parts c (at_point (call p args t ws b u)) h =
     (h.0, arguments_all args h.1.1.0, h.1.1.1.0, h.1.1.1.1.1.0, h.1.1.1.1.1.1)
-writable_parts c (at_point return) h = tt
-writable_parts c (at_point stop) h = tt
-writable_parts c end h = tt
+writable_parts c (at_point (make p t ops)) h = (h.0, h.1.0, h.1.1)
+writable_parts c (at_point (switch op bs)) h = (h.0, h.1.0, h.1.1)
+writable_parts c (at_point (drop x b u)) h = (h.0, h.1.0, h.1.1)
+writable_parts c _ h = h
 
 free_end : IsFree []
 free_end others e = cc
@@ -329,28 +264,15 @@ block_end b r x = let e = x.joined in cc
 
 -- each line may stand at the end
 ends : (c : List ℕ) (f : Form) → lines.MayFollow (parts_of c f) []
-ends c (universal a) = tt
-ends c (outlives a b) = tt
-ends c (further x) = tt
-ends c (assert_line a b) = tt
 ends c (struct_line n ps d ts) = free_end
 ends c (variable x t) = free_end
-ends c (blocks n) = tt
-ends c (block n) = tt
 ends c (at_point (assign p op)) = operand_end op
 ends c (at_point (borrow p r m q)) = no_projection_left
-ends c (at_point (make p t ops)) = tt
 ends c (at_point (read p)) = no_projection_left
-ends c (at_point (live x)) = tt
-ends c (at_point (dead x)) = tt
-ends c (at_point nop) = tt
-ends c (at_point (goto b)) = tt
 ends c (at_point (switch op bs)) = block_end
 ends c (at_point (drop x b u)) = unwind_end u
 ends c (at_point (call p args t ws b u)) = unwind_end u
-ends c (at_point return) = tt
-ends c (at_point stop) = tt
-ends c end = tt
+ends c _ = tt
 
 pub to_line : (ts : List Token) (f : Form) → (s : IsSpelled ts f) → Begins lines ts (parts_of s.callee f) []
 to_line ts f s = record {

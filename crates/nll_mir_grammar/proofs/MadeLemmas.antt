@@ -1,12 +1,8 @@
 -- A line is made of the tokens of its bytes, where their signs are signs, as those of a form are.
-use Rattle.std.proofs.Common.{◌≡◌, ℕ, Bool, true, false, List, [], ◌∷◌, ◌++◌, take, drop, map, refl, sym, ap, ◌∙◌, subst, Option, Some, None}
+use Rattle.std.proofs.Common.{ℕ, Bool, true, false, List, [], ◌∷◌, ◌++◌, map, refl, sym, subst, Option, Some, None}
 use Rattle.std.specs.Prelude.{MatchOption}
-use Rattle.std.specs.List.{AllByRecursion, flat_map, prefix_len}
-use Rattle.std.proofs.lemmas.List.{append-nil}
-use Rattle.nll_text.specs.Lines.{is_blank}
-use Rattle.nll_text.specs.Tokens.{Token, word, region, arrow, sign, spelling, is_sign, IsToken, IsWhole, IsGap, IsMadeOf}
-use Rattle.nll_text.specs.Lexing.{SplitsWhile}
-use Rattle.nll_text.proofs.ByteLemmas.{splits_while}
+use Rattle.std.specs.List.{flat_map}
+use Rattle.nll_text.specs.Tokens.{Token, region, arrow, sign}
 use Rattle.nll_types.specs.Places.{PlacePath}
 use Rattle.nll_types.specs.Operands.{Operand, constant, copied, moved}
 use Rattle.nll_types.specs.declared.place.Projection.{Projection}
@@ -16,70 +12,14 @@ use Rattle.nll_types.specs.declared.parameter.Sign.{Sign}
 use Rattle.nll_types.specs.declared.parameter.Sign.TheVariants.{Covariant, Contravariant, Invariant}
 use Rattle.nll_statements.specs.Statements.{Statement, assign, borrow, make, read, live, dead, nop, goto, switch, call, return, stop}
 use Rattle.nll_statements.specs.Statements as statements
-use Rattle.nll_mir_grammar.specs.LineTokens.{tokens_in}
+use Rattle.nll_text.specs.LineTokens.{tokens_in}
 use Rattle.nll_mir_grammar.specs.WrittenTypes.{Name, WrittenType, WrittenTypes, Arguments, int, reference, tuple, named, function, none, more, no_argument, region_argument, type_argument, mutability, spelled, spelled_parts, spelled_more_parts, spelled_arguments, spelled_more_arguments}
 use Rattle.nll_mir_grammar.specs.MirForms.{Form, universal, outlives, further, assert_line, struct_line, variable, blocks, block, at_point, end, WrittenParameter, region_parameter, type_parameter, block_word, spelled_projection, spelled_place, spelled_operand, parted, in_parentheses, sign_token, dangling_mark, spelled_marks, spelled_parameter, spelled_parameters, drop_mark, spelled_exits, spelled_wheres, spelled_argument, spelled_statement, spelled_form, IsSpelled, HasForm}
 use Rattle.nll_mir_grammar.specs.Versions.{IsSpelledIn, HasFormIn}
 use Rattle.nll_mir_grammar.specs.Lines.{form_of}
 use Rattle.nll_mir_grammar.specs.declared.version.Version.{Version}
 use Rattle.nll_mir_grammar.specs.declared.line.Line.{Line}
-use Rattle.nll_mir_grammar.proofs.LineTokenLemmas.{past_blanks, gap_has_none, token_in_front, IsFirst, some_token, first_token}
-
--- tokens that make a line are those of its bytes
-pub made_are_in : (line : List ℕ) (ts : List Token) → IsMadeOf line ts → tokens_in line ≡ ts
-made_are_in line [] h = gap_has_none line h
-made_are_in line (t ∷ ts) h =
-    ap tokens_in h.2 ∙ past_blanks h.0 (spelling t ++ h.1) h.3 ∙ token_in_front t h.1 h.4 h.5
-    ∙ ap (λ (us : List Token). t ∷ us) (made_are_in h.1 ts h.6)
-
--- ---- the tokens of bytes make them, where their signs are signs
-
--- a sign is one of the signs
-abbrev pub IsReal : Token → Type 0
-IsReal (word name) = Unit {0}
-IsReal (region name) = Unit {0}
-IsReal arrow = Unit {0}
-IsReal (sign b) = is_sign b ≡ true
-
-abbrev pub AreReal : List Token → Type 0
-AreReal ts = AllByRecursion IsReal ts
-
-is_token : (t : Token) (rest : List ℕ) → IsReal t → IsFirst t rest → IsToken t
-is_token (word name) rest h f = f.0
-is_token (region name) rest h f = f.0
-is_token arrow rest h f = tt
-is_token (sign b) rest h f = h
-
-is_whole : (t : Token) (rest : List ℕ) → IsFirst t rest → IsWhole t rest
-is_whole (word name) rest f = f.1
-is_whole (region name) rest f = f.1
-is_whole arrow rest f = tt
-is_whole (sign b) rest f = f.1
-
--- what stands behind the blanks has the same tokens
-behind_gap : (line gap core : List ℕ) → SplitsWhile is_blank line gap core → tokens_in core ≡ tokens_in line
-behind_gap line gap core s = sym (ap tokens_in s.joined ∙ past_blanks gap core s.each)
-
-pub in_make : (ts : List Token) (line : List ℕ) → tokens_in line ≡ ts → AreReal ts → IsMadeOf line ts
-in_make [] line e h =
-    let gap : List ℕ = take (prefix_len is_blank line) line in
-    let core : List ℕ = drop (prefix_len is_blank line) line in
-    let s = splits_while is_blank line in
-    let nothing : core ≡ [] = some_token core s.stops (behind_gap line gap core s ∙ e) in
-    subst IsGap (sym (s.joined ∙ (ap (λ (l : List ℕ). gap ++ l) nothing ∙ append-nil gap))) s.each
-in_make (t ∷ ts) line e h =
-    let gap : List ℕ = take (prefix_len is_blank line) line in
-    let core : List ℕ = drop (prefix_len is_blank line) line in
-    let s = splits_while is_blank line in
-    let b = first_token core s.stops t ts (behind_gap line gap core s ∙ e) in (
-      gap,
-      b.rest,
-      s.joined ∙ ap (λ (l : List ℕ). gap ++ l) b.joined,
-      s.each,
-      is_token t b.rest h.0 b.first,
-      is_whole t b.rest b.first,
-      in_make ts b.rest (sym b.left) h.1,
-    )
+use Rattle.nll_text.proofs.TokenLemmas.{IsReal, AreReal, made_are_in, in_make}
 
 -- ---- the signs in a form are signs
 
@@ -228,7 +168,6 @@ real_statement c (make p t ops) =
 real_statement c (read p) = (tt, real_place p)
 real_statement c (live x) = (tt, (tt, tt))
 real_statement c (dead x) = (tt, (tt, tt))
-real_statement c nop = (tt, tt)
 real_statement c (goto b) = (tt, (tt, tt))
 real_statement c (switch op bs) =
     (tt, real_append (spelled_operand op) (map block_word bs) (real_operand op) (real_blocks bs))
@@ -245,13 +184,10 @@ real_statement c (call p args t ws b u) =
         ),
       ),
     )
-real_statement c return = (tt, tt)
-real_statement c stop = (tt, tt)
+real_statement c _ = (tt, tt)
 
 pub real_form : (c : List ℕ) (f : Form) → AreReal (spelled_form c f)
-real_form c (universal a) = (tt, (tt, tt))
 real_form c (outlives a b) = (tt, (tt, (tt, tt)))
-real_form c (further x) = (tt, (tt, tt))
 real_form c (assert_line a b) = (tt, (tt, (refl, (tt, tt))))
 real_form c (struct_line n ps d ts) = (
   tt,
@@ -262,10 +198,9 @@ real_form c (struct_line n ps d ts) = (
   ),
 )
 real_form c (variable x t) = (tt, (tt, (refl, real_type t)))
-real_form c (blocks n) = (tt, (tt, tt))
-real_form c (block n) = (tt, (tt, tt))
 real_form c (at_point s) = real_statement c s
 real_form c end = (tt, tt)
+real_form c _ = (tt, (tt, tt))
 
 -- ---- a line has the form that the tokens in it spell
 

@@ -18,16 +18,10 @@ mutual
   pub one_tree : (t u : WrittenType) (a b : List Token) → HasNames t → HasNames u → IsFree a → IsFree b
       → spelled t ++ a ≡ spelled u ++ b → (t ≡ u) × (a ≡ b)
   one_tree int int a b n o f g e = (refl, cc)
-  one_tree int (reference q m u) a b n o f g e = absurd cc
-  one_tree int (tuple us) a b n o f g e = absurd cc
   one_tree int (named s us) a b n o f g e =
       absurd (int_no_name (let h : s ≡ codes "int" = cc in subst (λ z. is_capital z ≡ true) h o.0))
   one_tree int (function us u) a b n o f g e = absurd (fn_no_int (let h : codes "fn" ≡ codes "int" = cc in h))
   one_tree (function ts t) int a b n o f g e = absurd (fn_no_int (let h : codes "fn" ≡ codes "int" = cc in h))
-  one_tree (reference q m t) (function us u) a b n o f g e = absurd cc
-  one_tree (function ts t) (reference q m u) a b n o f g e = absurd cc
-  one_tree (tuple ts) (function us u) a b n o f g e = absurd cc
-  one_tree (function ts t) (tuple us) a b n o f g e = absurd cc
   one_tree (named s ts) (function us u) a b n o f g e =
       absurd (fn_no_name (let h : s ≡ codes "fn" = cc in subst (λ z. is_capital z ≡ true) h n.0))
   one_tree (function ts t) (named s us) a b n o f g e =
@@ -40,7 +34,6 @@ mutual
       let q : spelled t ++ a ≡ spelled u ++ b = (let y = x.1 in cc) in
       let z = one_tree t u a b n.1 o.1 f g q in
       let x0 = x.0 in let z0 = z.0 in (cc, z.1)
-  one_tree (reference q m t) int a b n o f g e = absurd cc
   one_tree (reference q true t) (reference p true u) a b n o f g e =
       (let h : q ≡ p = cc in let r : spelled t ++ a ≡ spelled u ++ b = cc in let x = one_tree t u a b n o f g r in
       let y = x.0 in (cc, x.1))
@@ -52,20 +45,16 @@ mutual
   one_tree (reference q false t) (reference p true u) a b n o f g e =
       absurd (no_mut t a (spelled u ++ b) n (let r : spelled t ++ a ≡ word (codes "mut") ∷ (spelled u ++ b) = cc in r))
   one_tree (reference q m t) (tuple us) a b n o f g e = absurd (apart 38 40 refl (let h : sign 38 ≡ sign 40 = cc in h))
-  one_tree (reference q m t) (named s us) a b n o f g e = absurd cc
-  one_tree (tuple ts) int a b n o f g e = absurd cc
   one_tree (tuple ts) (reference q m u) a b n o f g e = absurd (apart 40 38 refl (let h : sign 40 ≡ sign 38 = cc in h))
   one_tree (tuple ts) (tuple us) a b n o f g e =
       (let r : spelled_parts ts ++ a ≡ spelled_parts us ++ b = cc in let x = one_list ts us a b n o r in
       (ap tuple x.0, x.1))
-  one_tree (tuple ts) (named s us) a b n o f g e = absurd cc
   one_tree (named s ts) int a b n o f g e =
       absurd (int_no_name (let h : s ≡ codes "int" = cc in subst (λ z. is_capital z ≡ true) h n.0))
-  one_tree (named s ts) (reference q m u) a b n o f g e = absurd cc
-  one_tree (named s ts) (tuple us) a b n o f g e = absurd cc
   one_tree (named s ts) (named p us) a b n o f g e =
       (let h : s ≡ p = cc in let r : spelled_arguments ts ++ a ≡ spelled_arguments us ++ b = cc in
       let x = one_arguments ts us a b n.1 o.1 f g r in let y = x.0 in (cc, x.1))
+  one_tree t u a b n o f g e = absurd cc
 
   one_list : (ts us : WrittenTypes) (a b : List Token) → HaveNames ts → HaveNames us
       → spelled_parts ts ++ a ≡ spelled_parts us ++ b → (ts ≡ us) × (a ≡ b)

@@ -18,15 +18,13 @@ use Rattle.nll_types.specs.declared.parameter.Sign.TheVariants.{Covariant, Contr
 use Rattle.nll_mir_grammar.specs.WrittenTypes.{Name, WrittenType, WrittenTypes, tuple, spelled}
 use Rattle.nll_mir_grammar.specs.Reading.{HasNoType, IsTypeIn}
 use Rattle.nll_mir_grammar.specs.MirForms.{WrittenParameter, region_parameter, type_parameter, spelled_place, spelled_operand, dangling_mark, sign_token, block_word}
-use Rattle.nll_mir_grammar.specs.Grammars.{Grammar, Begins, HasNone, IsOne, behind, empty, pair, many, commas}
-use Rattle.nll_mir_grammar.specs.Parts.{regions, any_words, names, prefixed, variables, block_names, projections, places, operands, types, tuples, arguments, marks, parameter_marks, parameters, parameter_lists, bounds, bound_lists, block_lists, exits, MayFollowMark}
-use Rattle.nll_mir_grammar.proofs.GrammarLemmas.{pair_found, IsSolid, inside_one, tail_same, head_same, signs_apart, signs_differ, behind_one, behind_none, Joins, pair_one, many_one, IsLoose, commas_one, IsBefore, IsListable, enclosed}
+use Rattle.nll_text.specs.Grammars.{Grammar, Begins, HasNone, any_words, prefixed, regions}
+use Rattle.nll_mir_grammar.specs.Grammars.{IsOne, IsBefore, IsListable, behind, empty, pair, many, commas}
+use Rattle.nll_mir_grammar.specs.Parts.{names, variables, block_names, projections, places, operands, types, tuples, arguments, marks, parameter_marks, parameters, parameter_lists, bounds, bound_lists, block_lists, exits, MayFollowMark}
+use Rattle.nll_mir_grammar.proofs.GrammarLemmas.{pair_found, IsSolid, tail_same, head_same, signs_apart, signs_differ, behind_one, behind_none, Joins, pair_one, many_one, IsLoose}
+use Rattle.nll_mir_grammar.proofs.ListLemmas.{inside_one, commas_one, enclosed}
+use Rattle.nll_text.proofs.WordLemmas.{behind_front}
 use Rattle.nll_mir_grammar.proofs.OneTree.{one_tree}
-
--- the first byte of a word, or 0
-first_byte : List ℕ → ℕ
-first_byte (c ∷ cs) = c
-first_byte _ = 0
 
 word_same : (v w : List ℕ) → word v ≡ word w → v ≡ w
 word_same v w e = cc
@@ -49,17 +47,13 @@ any_words_one ts a b r s x y = let e : word a ∷ r ≡ word b ∷ s = sym x.joi
 pub names_one : IsOne names
 names_one ts a b r s x y = let e : word a ∷ r ≡ word b ∷ s = sym x.joined ∙ y.joined in (cc, cc)
 
-append_cancel : (front v w : List ℕ) → front ++ v ≡ front ++ w → v ≡ w
-append_cancel [] v w e = e
-append_cancel (x ∷ front) v w e = append_cancel front v w (tail_same _ _ _ _ e)
-
 pub prefixed_one : (front : List ℕ) → IsOne (prefixed front)
 prefixed_one front ts a b r s x y =
     let e : word (front ++ decimal a) ∷ r ≡ word (front ++ decimal b) ∷ s = sym x.joined ∙ y.joined in
     let w : front ++ decimal a ≡ front ++ decimal b = cc in
     let small_a : a < 10 ^ 9 = x.allowed in
     let small_b : b < 10 ^ 9 = y.allowed in (
-      decimal_injective a b (omega arith) (omega arith) (append_cancel front (decimal a) (decimal b) w),
+      decimal_injective a b (omega arith) (omega arith) (behind_front front (decimal a) (decimal b) w),
       tail_same _ _ _ _ e,
     )
 
@@ -348,16 +342,10 @@ no_parameters ts inner e none [] r b = b.follows inner (sym b.joined ∙ e)
 no_parameters ts inner e none (p ∷ ps) r b =
     behind_none _ (sign 60) ts inner e none (p ∷ ps, tt) r (to_enclosed ts p ps r b)
 
-opens_angle : (ts : List Token) (p : WrittenParameter) (ps : List WrittenParameter) (r : List Token)
-    → Begins parameter_lists ts (p ∷ ps) r → (rest : List Token) × (ts ≡ sign 60 ∷ rest)
-opens_angle ts p ps r b = (_, b.joined)
-
 pub parameter_lists_one : IsOne parameter_lists
 parameter_lists_one ts [] [] r s x y = (refl, sym x.joined ∙ y.joined)
-parameter_lists_one ts [] (q ∷ qs) r s x y =
-    absurd (let f = opens_angle ts q qs s y in x.follows f.0 (sym x.joined ∙ f.1))
-parameter_lists_one ts (p ∷ ps) [] r s x y =
-    absurd (let f = opens_angle ts p ps r x in y.follows f.0 (sym y.joined ∙ f.1))
+parameter_lists_one ts [] (q ∷ qs) r s x y = absurd (x.follows _ (sym x.joined ∙ y.joined))
+parameter_lists_one ts (p ∷ ps) [] r s x y = absurd (y.follows _ (sym y.joined ∙ x.joined))
 parameter_lists_one ts (p ∷ ps) (q ∷ qs) r s x y =
     let same =
     behind_one _ (sign 60) (inside_one (sign 62) parameters parameters_listable) ts (p ∷ ps, tt) (q ∷ qs, tt) r s

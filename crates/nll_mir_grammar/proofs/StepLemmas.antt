@@ -1,16 +1,13 @@
 -- Steps through a type.
-use Rattle.std.proofs.Common.{◌≡◌, ℕ, Bool, true, false, List, [], ◌∷◌, ◌++◌, refl, sym, ap, ◌∙◌, subst, append_assoc, ⊎_elim, inl, inr}
-use Rattle.std.specs.Prelude.{codes}
-use Rattle.std.specs.Borrow.{Bor}
-use Rattle.nll_text.specs.Tokens.{Token, word, region, arrow, sign}
-use Rattle.nll_mir_grammar.specs.WrittenTypes.{Name, WrittenType, WrittenTypes, Arguments, int, reference, tuple, named, function, none, more, no_argument, region_argument, type_argument, is_capital, mutability, spelled, spelled_parts, spelled_more_parts, spelled_arguments, spelled_more_arguments, HasNames, HaveNames, ArgumentsHaveNames, IsFree, BeginsWithType}
+use Rattle.std.proofs.Common.{◌≡◌, Bool, List, [], ◌∷◌, ◌++◌, refl, sym, ap, ◌∙◌, subst, append_assoc, ⊎_elim, inl, inr}
+use Rattle.nll_text.specs.Tokens.{Token, region, arrow, sign}
+use Rattle.nll_mir_grammar.specs.WrittenTypes.{Name, WrittenType, WrittenTypes, Arguments, int, reference, tuple, named, function, none, more, no_argument, region_argument, type_argument, mutability, spelled, spelled_parts, spelled_more_parts, spelled_arguments, spelled_more_arguments, HasNames, HaveNames, ArgumentsHaveNames, IsFree, BeginsWithType}
 use Rattle.nll_mir_grammar.specs.Reading.{HasNoType, IsTypeIn}
 use Rattle.nll_mir_grammar.specs.TypeTexts.{joined_arguments}
-use Rattle.nll_mir_grammar.specs.OpenTypes.{Frame, behind, parts, arguments, inputs, output, joined, Closes, GoesInside, Reads, GoesOn, GoesOnWithRegion, Finishes, Steps, IsStuck, IsNoFront, Begins}
+use Rattle.nll_mir_grammar.specs.OpenTypes.{Frame, behind, parts, arguments, inputs, output, joined, Closes, GoesInside, Reads, GoesOn, GoesOnWithRegion, Finishes, Steps, TypesGoOn, ResultGoesOn, IsStuck, IsNoFront}
 use Rattle.nll_mir_grammar.specs.declared.opens.State.{State}
 use Rattle.nll_mir_grammar.specs.declared.opens.State.TheVariants.{Want, WantArgument, Have, Inside, WantArrow}
-use Rattle.nll_mir_grammar.specs.declared.fronts.Front.TheVariants as fronts
-use Rattle.nll_mir_grammar.proofs.FrontLemmas.{int_no_name, fn_no_name, fn_no_int, apart, no_mut, no_closing, no_name_of}
+use Rattle.nll_mir_grammar.proofs.FrontLemmas.{apart, no_name_of}
 
 -- ---- one thing more behind others
 
@@ -33,400 +30,6 @@ joined_region no_argument q us = refl
 joined_region (region_argument r done) q us = ap (region_argument r) (joined_region done q us)
 joined_region (type_argument u done) q us = ap (type_argument u) (joined_region done q us)
 
--- ---- the beginning of a type
-
--- `int`
-step_int : (fs : List Frame) (t' : WrittenType) (after : List Token)
-    → Steps Want fs t' (word (codes "int") ∷ after) Have fs int after
-step_int fs t' after = record {
-  there = λ whole rest f. there whole rest f.0 f.1 f.2 f.3;
-  back = λ whole rest f. (int, after, record { joins = refl; names = tt }, f);
-}
-  where
-    there : (whole : WrittenType) (rest : List Token) (t : WrittenType) (mid : List Token)
-        → Reads (word (codes "int") ∷ after) t mid → Closes fs t mid whole rest → Closes fs int after whole rest
-    there whole rest int mid r c =
-        subst (λ m. Closes fs int m whole rest) (let j = r.joins in let e : mid ≡ after = cc in e) c
-    there whole rest (reference q m t) mid r c = absurd (let j = r.joins in cc)
-    there whole rest (tuple ts) mid r c = absurd (let j = r.joins in cc)
-    there whole rest (named s args) mid r c =
-        absurd (let j = r.joins in let e : codes "int" ≡ s = cc in
-        int_no_name (subst (λ z. is_capital z ≡ true) (sym e) r.names.0))
-    there whole rest (function ts t) mid r c =
-        absurd (let j = r.joins in let e : codes "fn" ≡ codes "int" = cc in fn_no_int e)
-
--- `()`
-step_unit : (fs : List Frame) (t' : WrittenType) (after : List Token)
-    → Steps Want fs t' (sign 40 ∷ sign 41 ∷ after) Have fs (tuple none) after
-step_unit fs t' after = record {
-  there = λ whole rest f. there whole rest f.0 f.1 f.2 f.3;
-  back = λ whole rest f. (tuple none, after, record { joins = refl; names = tt }, f);
-}
-  where
-    there : (whole : WrittenType) (rest : List Token) (t : WrittenType) (mid : List Token)
-        → Reads (sign 40 ∷ sign 41 ∷ after) t mid → Closes fs t mid whole rest → Closes fs (tuple none) after whole rest
-    there whole rest int mid r c = absurd (let j = r.joins in cc)
-    there whole rest (reference q m t) mid r c =
-        absurd (let j = r.joins in let e : sign 40 ≡ sign 38 = cc in apart 40 38 refl e)
-    there whole rest (tuple none) mid r c =
-        subst (λ m. Closes fs (tuple none) m whole rest) (let j = r.joins in let e : mid ≡ after = cc in e) c
-    there whole rest (tuple (more t ts)) mid r c =
-        absurd (let j = r.joins in let e : sign 41 ∷ after ≡ (spelled t ++ spelled_more_parts ts) ++ mid = cc in
-        no_closing t (spelled_more_parts ts ++ mid) after
-        (sym (e ∙ append_assoc (spelled t) (spelled_more_parts ts) mid)))
-    there whole rest (named s args) mid r c = absurd (let j = r.joins in cc)
-    there whole rest (function ts t) mid r c = absurd (let j = r.joins in cc)
-
--- `(` of a tuple that has parts
-step_tuple : (fs : List Frame) (t' u' : WrittenType) (after : List Token)
-    → ((others : List Token) → after ≡ sign 41 ∷ others → ⊥)
-    → Steps Want fs t' (sign 40 ∷ after) Want (parts none ∷ fs) u' after
-step_tuple fs t' u' after some = record {
-  there = λ whole rest f. there whole rest f.0 f.1 f.2 f.3;
-  back = λ whole rest f. (let c = f.3 in (
-    tuple (more f.0 c.0),
-    c.1,
-    record {
-      joins =
-          (let j = f.2.joins in let k = c.2 in
-          ap (λ l. sign 40 ∷ l) (j ∙ ap (λ l. spelled f.0 ++ l) k
-          ∙ sym (append_assoc (spelled f.0) (spelled_more_parts c.0) c.1)));
-      names = (f.2.names, c.3);
-    },
-    c.4,
-  ));
-}
-  where
-    there : (whole : WrittenType) (rest : List Token) (t : WrittenType) (mid : List Token)
-        → Reads (sign 40 ∷ after) t mid → Closes fs t mid whole rest → GoesOn (parts none ∷ fs) after whole rest
-    there whole rest int mid r c = absurd (let j = r.joins in cc)
-    there whole rest (reference q m t) mid r c =
-        absurd (let j = r.joins in let e : sign 40 ≡ sign 38 = cc in apart 40 38 refl e)
-    there whole rest (tuple none) mid r c = absurd (some mid (let j = r.joins in cc))
-    there whole rest (tuple (more t ts)) mid r c = (
-      t,
-      spelled_more_parts ts ++ mid,
-      record {
-        joins =
-            (let j = r.joins in let e : after ≡ (spelled t ++ spelled_more_parts ts) ++ mid = cc in
-            e ∙ append_assoc (spelled t) (spelled_more_parts ts) mid);
-        names = r.names.0;
-      },
-      (ts, mid, refl, r.names.1, c),
-    )
-    there whole rest (named s args) mid r c = absurd (let j = r.joins in cc)
-    there whole rest (function ts t) mid r c = absurd (let j = r.joins in cc)
-
--- `&`, a region and `mut`
-step_mut : (fs : List Frame) (t' u' : WrittenType) (q : Name) (after : List Token)
-    → Steps Want fs t' (sign 38 ∷ region q ∷ word (codes "mut") ∷ after) Want (behind q true ∷ fs) u' after
-step_mut fs t' u' q after = record {
-  there = λ whole rest f. there whole rest f.0 f.1 f.2 f.3;
-  back = λ whole rest f. (
-    reference q true f.0,
-    f.1,
-    record { joins = ap (λ l. sign 38 ∷ region q ∷ word (codes "mut") ∷ l) f.2.joins; names = f.2.names },
-    f.3,
-  );
-}
-  where
-    there : (whole : WrittenType) (rest : List Token) (t : WrittenType) (mid : List Token)
-        → Reads (sign 38 ∷ region q ∷ word (codes "mut") ∷ after) t mid → Closes fs t mid whole rest
-        → GoesOn (behind q true ∷ fs) after whole rest
-    there whole rest int mid r c = absurd (let j = r.joins in cc)
-    there whole rest (reference p true t) mid r c = (
-      t,
-      mid,
-      record { joins = (let j = r.joins in cc); names = r.names },
-      subst (λ z. Closes fs (reference z true t) mid whole rest) (let j = r.joins in let e : p ≡ q = cc in e) c,
-    )
-    there whole rest (reference p false t) mid r c =
-        absurd (no_mut t mid after r.names (let j = r.joins in
-        let e : spelled t ++ mid ≡ word (codes "mut") ∷ after = cc in e))
-    there whole rest (tuple ts) mid r c =
-        absurd (let j = r.joins in let e : sign 38 ≡ sign 40 = cc in apart 38 40 refl e)
-    there whole rest (named s args) mid r c = absurd (let j = r.joins in cc)
-    there whole rest (function ts t) mid r c = absurd (let j = r.joins in cc)
-
--- `&` and a region, and no `mut`
-step_shared : (fs : List Frame) (t' u' : WrittenType) (q : Name) (after : List Token)
-    → ((others : List Token) → after ≡ word (codes "mut") ∷ others → ⊥)
-    → Steps Want fs t' (sign 38 ∷ region q ∷ after) Want (behind q false ∷ fs) u' after
-step_shared fs t' u' q after plain = record {
-  there = λ whole rest f. there whole rest f.0 f.1 f.2 f.3;
-  back = λ whole rest f. (
-    reference q false f.0,
-    f.1,
-    record { joins = ap (λ l. sign 38 ∷ region q ∷ l) f.2.joins; names = f.2.names },
-    f.3,
-  );
-}
-  where
-    there : (whole : WrittenType) (rest : List Token) (t : WrittenType) (mid : List Token)
-        → Reads (sign 38 ∷ region q ∷ after) t mid → Closes fs t mid whole rest
-        → GoesOn (behind q false ∷ fs) after whole rest
-    there whole rest int mid r c = absurd (let j = r.joins in cc)
-    there whole rest (reference p true t) mid r c = absurd (plain (spelled t ++ mid) (let j = r.joins in cc))
-    there whole rest (reference p false t) mid r c = (
-      t,
-      mid,
-      record { joins = (let j = r.joins in cc); names = r.names },
-      subst (λ z. Closes fs (reference z false t) mid whole rest) (let j = r.joins in let e : p ≡ q = cc in e) c,
-    )
-    there whole rest (tuple ts) mid r c =
-        absurd (let j = r.joins in let e : sign 38 ≡ sign 40 = cc in apart 38 40 refl e)
-    there whole rest (named s args) mid r c = absurd (let j = r.joins in cc)
-    there whole rest (function ts t) mid r c = absurd (let j = r.joins in cc)
-
--- no `<` stands behind a whole type
-closes_free : (fs : List Frame) (t : WrittenType) (after : List Token) (whole : WrittenType) (rest : List Token)
-    → Closes fs t (sign 60 ∷ after) whole rest → ⊥
-closes_free [] t after whole rest c = c.2 after (sym c.1)
-closes_free (behind r m ∷ fs) t after whole rest c = closes_free fs (reference r m t) after whole rest c
-closes_free (parts before ∷ fs) t after whole rest c = by c.0 c.1 c.2
-  where
-    by : (us : WrittenTypes) (mid : List Token) → sign 60 ∷ after ≡ spelled_more_parts us ++ mid → ⊥
-    by none mid e = (let h : sign 60 ≡ sign 41 = cc in apart 60 41 refl h)
-    by (more t ts) mid e = (let h : sign 60 ≡ sign 44 = cc in apart 60 44 refl h)
-closes_free (arguments n done ∷ fs) t after whole rest c = by c.0 c.1 c.2
-  where
-    by : (us : Arguments) (mid : List Token) → sign 60 ∷ after ≡ spelled_more_arguments us ++ mid → ⊥
-    by no_argument mid e = (let h : sign 60 ≡ sign 62 = cc in apart 60 62 refl h)
-    by (region_argument q us) mid e = (let h : sign 60 ≡ sign 44 = cc in apart 60 44 refl h)
-    by (type_argument t us) mid e = (let h : sign 60 ≡ sign 44 = cc in apart 60 44 refl h)
-closes_free (inputs before ∷ fs) t after whole rest c = by c.0 c.1 c.2
-  where
-    by : (us : WrittenTypes) (mid : List Token) → sign 60 ∷ after ≡ spelled_more_parts us ++ arrow ∷ mid → ⊥
-    by none mid e = (let h : sign 60 ≡ sign 41 = cc in apart 60 41 refl h)
-    by (more t ts) mid e = (let h : sign 60 ≡ sign 44 = cc in apart 60 44 refl h)
-closes_free (output done ∷ fs) t after whole rest c = closes_free fs (function done t) after whole rest c
-
--- a name and `<`
-step_generic : (fs : List Frame) (t' u' : WrittenType) (s : Name) (after : List Token) → is_capital s ≡ true
-    → Steps Want fs t' (word s ∷ sign 60 ∷ after) WantArgument (arguments s no_argument ∷ fs) u' after
-step_generic fs t' u' s after name = record {
-  there = λ whole rest f. there whole rest f.0 f.1 f.2 f.3;
-  back = λ whole rest. ⊎_elim
-      (λ f. let c = f.3 in (
-        named s (region_argument f.0 c.0),
-        c.1,
-        record { joins = ap (λ l. word s ∷ sign 60 ∷ l) (f.2 ∙ ap (λ l. region f.0 ∷ l) c.2); names = (name, c.3) },
-        c.4,
-      ))
-      (λ f. let c = f.3 in (
-        named s (type_argument f.0 c.0),
-        c.1,
-        record {
-          joins = (let k = c.2 in ap (λ l. word s ∷ sign 60 ∷ l)
-              (f.2.joins ∙ ap (λ l. spelled f.0 ++ l) k
-              ∙ sym (append_assoc (spelled f.0) (spelled_more_arguments c.0) c.1)));
-          names = (name, (f.2.names, c.3));
-        },
-        c.4,
-      ));
-}
-  where
-    there : (whole : WrittenType) (rest : List Token) (t : WrittenType) (mid : List Token)
-        → Reads (word s ∷ sign 60 ∷ after) t mid → Closes fs t mid whole rest
-        → Finishes WantArgument (arguments s no_argument ∷ fs) u' after whole rest
-    there whole rest int mid r c =
-        absurd (let j = r.joins in let e : mid ≡ sign 60 ∷ after = cc in
-        closes_free fs int after whole rest (subst (λ m. Closes fs int m whole rest) e c))
-    there whole rest (reference p m t) mid r c = absurd (let j = r.joins in cc)
-    there whole rest (tuple ts) mid r c = absurd (let j = r.joins in cc)
-    there whole rest (function ts t) mid r c =
-        absurd (let j = r.joins in let e : codes "fn" ≡ s = cc in
-        fn_no_name (subst (λ z. is_capital z ≡ true) (sym e) name))
-    there whole rest (named n no_argument) mid r c =
-        absurd (let j = r.joins in let e : mid ≡ sign 60 ∷ after = cc in
-        closes_free fs (named n no_argument) after whole rest
-        (subst (λ m. Closes fs (named n no_argument) m whole rest) e c))
-    there whole rest (named n (region_argument q us)) mid r c =
-        inl (
-          q,
-          spelled_more_arguments us ++ mid,
-          (let j = r.joins in cc),
-          (
-            us,
-            mid,
-            refl,
-            r.names.1,
-            subst (λ z. Closes fs (named z (region_argument q us)) mid whole rest)
-                (let j = r.joins in let e : n ≡ s = cc in e) c,
-          ),
-        )
-    there whole rest (named n (type_argument t us)) mid r c =
-        inr (
-          t,
-          spelled_more_arguments us ++ mid,
-          record {
-            joins = (let j = r.joins in let e : after ≡ (spelled t ++ spelled_more_arguments us) ++ mid = cc in
-                e ∙ append_assoc (spelled t) (spelled_more_arguments us) mid);
-            names = r.names.1.0;
-          },
-          (
-            us,
-            mid,
-            refl,
-            r.names.1.1,
-            subst (λ z. Closes fs (named z (type_argument t us)) mid whole rest)
-                (let j = r.joins in let e : n ≡ s = cc in e) c,
-          ),
-        )
-
--- a name without arguments
-step_name : (fs : List Frame) (t' : WrittenType) (s : Name) (after : List Token) → is_capital s ≡ true → IsFree after
-    → Steps Want fs t' (word s ∷ after) Have fs (named s no_argument) after
-step_name fs t' s after name plain = record {
-  there = λ whole rest f. there whole rest f.0 f.1 f.2 f.3;
-  back = λ whole rest f. (named s no_argument, after, record { joins = refl; names = (name, tt) }, f);
-}
-  where
-    there : (whole : WrittenType) (rest : List Token) (t : WrittenType) (mid : List Token)
-        → Reads (word s ∷ after) t mid → Closes fs t mid whole rest → Closes fs (named s no_argument) after whole rest
-    there whole rest int mid r c =
-        absurd (let j = r.joins in let e : codes "int" ≡ s = cc in
-        int_no_name (subst (λ z. is_capital z ≡ true) (sym e) name))
-    there whole rest (reference p m t) mid r c = absurd (let j = r.joins in cc)
-    there whole rest (tuple ts) mid r c = absurd (let j = r.joins in cc)
-    there whole rest (function ts t) mid r c =
-        absurd (let j = r.joins in let e : codes "fn" ≡ s = cc in
-        fn_no_name (subst (λ z. is_capital z ≡ true) (sym e) name))
-    there whole rest (named n no_argument) mid r c =
-        (let j = r.joins in let e : mid ≡ after = cc in let h : n ≡ s = cc in
-        subst (λ z. Closes fs (named z no_argument) after whole rest) h
-        (subst (λ m. Closes fs (named n no_argument) m whole rest) e c))
-    there whole rest (named n (region_argument q us)) mid r c =
-        absurd (plain (region q ∷ (spelled_more_arguments us ++ mid)) (let j = r.joins in cc))
-    there whole rest (named n (type_argument t us)) mid r c =
-        absurd (plain ((spelled t ++ spelled_more_arguments us) ++ mid) (let j = r.joins in cc))
-
--- the tokens of a function that has arguments, one piece after another
-function_pieces : (x : WrittenType) (us : WrittenTypes) (u : WrittenType) (other : List Token)
-    → ((spelled x ++ spelled_more_parts us) ++ arrow ∷ spelled u) ++ other
-    ≡ spelled x ++ (spelled_more_parts us ++ arrow ∷ (spelled u ++ other))
-function_pieces x us u other =
-    append_assoc (spelled x ++ spelled_more_parts us) (arrow ∷ spelled u) other
-    ∙ append_assoc (spelled x) (spelled_more_parts us) (arrow ∷ (spelled u ++ other))
-
--- `fn ()` of a function without arguments
-step_thunk : (fs : List Frame) (t' u' : WrittenType) (after : List Token)
-    → Steps Want fs t' (word (codes "fn") ∷ sign 40 ∷ sign 41 ∷ after) WantArrow (output none ∷ fs) u' after
-step_thunk fs t' u' after = record {
-  there = λ whole rest f. there whole rest f.0 f.1 f.2 f.3;
-  back = λ whole rest f. (let g = f.2 in (
-    function none g.0,
-    g.1,
-    record {
-      joins = ap (λ l. word (codes "fn") ∷ sign 40 ∷ sign 41 ∷ l)
-          (f.1 ∙ ap (λ l. arrow ∷ l) g.2.joins);
-      names = (tt, g.2.names);
-    },
-    g.3,
-  ));
-}
-  where
-    there : (whole : WrittenType) (rest : List Token) (t : WrittenType) (mid : List Token)
-        → Reads (word (codes "fn") ∷ sign 40 ∷ sign 41 ∷ after) t mid → Closes fs t mid whole rest
-        → Finishes WantArrow (output none ∷ fs) u' after whole rest
-    there whole rest int mid r c = absurd (let j = r.joins in let e : codes "fn" ≡ codes "int" = cc in fn_no_int e)
-    there whole rest (reference q m t) mid r c = absurd (let j = r.joins in cc)
-    there whole rest (tuple ts) mid r c = absurd (let j = r.joins in cc)
-    there whole rest (named s args) mid r c =
-        absurd (let j = r.joins in let e : codes "fn" ≡ s = cc in
-        fn_no_name (subst (λ z. is_capital z ≡ true) (sym e) r.names.0))
-    there whole rest (function none t) mid r c =
-        (spelled t ++ mid, (let j = r.joins in cc), (t, mid, record { joins = refl; names = r.names.1 }, c))
-    there whole rest (function (more x xs) t) mid r c =
-        absurd (let j = r.joins in let e : sign 41 ∷ after
-        ≡ ((spelled x ++ spelled_more_parts xs) ++ arrow ∷ spelled t) ++ mid = cc in
-        no_closing x (spelled_more_parts xs ++ arrow ∷ (spelled t ++ mid)) after (sym (e ∙ function_pieces x xs t mid)))
-
--- `fn (` of a function that has arguments
-step_function : (fs : List Frame) (t' u' : WrittenType) (after : List Token)
-    → ((others : List Token) → after ≡ sign 41 ∷ others → ⊥)
-    → Steps Want fs t' (word (codes "fn") ∷ sign 40 ∷ after) Want (inputs none ∷ fs) u' after
-step_function fs t' u' after some = record {
-  there = λ whole rest f. there whole rest f.0 f.1 f.2 f.3;
-  back = λ whole rest f. (let c = f.3 in (
-    function (more f.0 c.0) c.4,
-    c.5,
-    record {
-      joins = ap (λ l. word (codes "fn") ∷ sign 40 ∷ l)
-          (f.2.joins ∙ ap (λ l. spelled f.0 ++ l) (c.2 ∙ ap (λ l. spelled_more_parts c.0 ++ arrow ∷ l) c.6.joins)
-          ∙ sym (function_pieces f.0 c.0 c.4 c.5));
-      names = ((f.2.names, c.3), c.6.names);
-    },
-    c.7,
-  ));
-}
-  where
-    there : (whole : WrittenType) (rest : List Token) (t : WrittenType) (mid : List Token)
-        → Reads (word (codes "fn") ∷ sign 40 ∷ after) t mid → Closes fs t mid whole rest
-        → GoesOn (inputs none ∷ fs) after whole rest
-    there whole rest int mid r c = absurd (let j = r.joins in let e : codes "fn" ≡ codes "int" = cc in fn_no_int e)
-    there whole rest (reference q m t) mid r c = absurd (let j = r.joins in cc)
-    there whole rest (tuple ts) mid r c = absurd (let j = r.joins in cc)
-    there whole rest (named s args) mid r c =
-        absurd (let j = r.joins in let e : codes "fn" ≡ s = cc in
-        fn_no_name (subst (λ z. is_capital z ≡ true) (sym e) r.names.0))
-    there whole rest (function none t) mid r c = absurd (some (arrow ∷ (spelled t ++ mid)) (let j = r.joins in cc))
-    there whole rest (function (more x xs) t) mid r c = (
-      x,
-      spelled_more_parts xs ++ arrow ∷ (spelled t ++ mid),
-      record {
-        joins = (let j = r.joins in
-            let e : after ≡ ((spelled x ++ spelled_more_parts xs) ++ arrow ∷ spelled t) ++ mid = cc in
-            e ∙ function_pieces x xs t mid);
-        names = r.names.0.0;
-      },
-      (xs, spelled t ++ mid, refl, r.names.0.1, t, mid, record { joins = refl; names = r.names.1 }, c),
-    )
-
--- the beginnings
-pub front_int : (fs : List Frame) (t' : WrittenType) (ts rest : List Token) → Begins fronts.Int ts rest
-    → Steps Want fs t' ts Have fs int rest
-front_int fs t' ts rest b = subst (λ z. Steps Want fs t' z Have fs int rest) (sym b) (step_int fs t' rest)
-
-pub front_unit : (fs : List Frame) (t' : WrittenType) (ts rest : List Token) → Begins fronts.Unit ts rest
-    → Steps Want fs t' ts Have fs (tuple none) rest
-front_unit fs t' ts rest b = subst (λ z. Steps Want fs t' z Have fs (tuple none) rest) (sym b) (step_unit fs t' rest)
-
-pub front_tuple : (fs : List Frame) (t' u' : WrittenType) (ts rest : List Token) → Begins fronts.Tuple ts rest
-    → Steps Want fs t' ts Want (parts none ∷ fs) u' rest
-front_tuple fs t' u' ts rest b =
-    subst (λ z. Steps Want fs t' z Want (parts none ∷ fs) u' rest) (sym b.0) (step_tuple fs t' u' rest b.1)
-
-pub front_reference : (r : Bor (List ℕ)) (m : Bool) (fs : List Frame) (t' u' : WrittenType) (ts rest : List Token)
-    → Begins (fronts.Reference r m) ts rest → Steps Want fs t' ts Want (behind r.now m ∷ fs) u' rest
-front_reference r true fs t' u' ts rest b =
-    subst (λ z. Steps Want fs t' z Want (behind r.now true ∷ fs) u' rest) (sym b) (step_mut fs t' u' r.now rest)
-front_reference r false fs t' u' ts rest b =
-    subst (λ z. Steps Want fs t' z Want (behind r.now false ∷ fs) u' rest) (sym b.0)
-    (step_shared fs t' u' r.now rest b.1)
-
-pub front_generic : (n : Bor (List ℕ)) (fs : List Frame) (t' u' : WrittenType) (ts rest : List Token)
-    → Begins (fronts.Generic n) ts rest → Steps Want fs t' ts WantArgument (arguments n.now no_argument ∷ fs) u' rest
-front_generic n fs t' u' ts rest b =
-    subst (λ z. Steps Want fs t' z WantArgument (arguments n.now no_argument ∷ fs) u' rest) (sym b.1)
-    (step_generic fs t' u' n.now rest b.0)
-
-pub front_name : (n : Bor (List ℕ)) (fs : List Frame) (t' : WrittenType) (ts rest : List Token)
-    → Begins (fronts.Name n) ts rest → Steps Want fs t' ts Have fs (named n.now no_argument) rest
-front_name n fs t' ts rest b =
-    subst (λ z. Steps Want fs t' z Have fs (named n.now no_argument) rest) (sym b.1)
-    (step_name fs t' n.now rest b.0 b.2)
-
-pub front_thunk : (fs : List Frame) (t' u' : WrittenType) (ts rest : List Token) → Begins fronts.Thunk ts rest
-    → Steps Want fs t' ts WantArrow (output none ∷ fs) u' rest
-front_thunk fs t' u' ts rest b =
-    subst (λ z. Steps Want fs t' z WantArrow (output none ∷ fs) u' rest) (sym b) (step_thunk fs t' u' rest)
-
-pub front_function : (fs : List Frame) (t' u' : WrittenType) (ts rest : List Token) → Begins fronts.Function ts rest
-    → Steps Want fs t' ts Want (inputs none ∷ fs) u' rest
-front_function fs t' u' ts rest b =
-    subst (λ z. Steps Want fs t' z Want (inputs none ∷ fs) u' rest) (sym b.0) (step_function fs t' u' rest b.1)
-
 -- ---- behind a whole type
 
 -- a reference is complete
@@ -441,67 +44,16 @@ step_output fs _ t ts = record { there = λ whole rest f. f; back = λ whole res
 
 pub step_input : (fs : List Frame) (done : WrittenTypes) (t u' : WrittenType) (ts : List Token)
     → Steps Have (inputs done ∷ fs) t ts Inside (inputs (joined done (more t none)) ∷ fs) u' ts
-step_input fs done t u' ts = record {
-  there = λ whole rest f. (
-    f.0,
-    f.1,
-    f.2,
-    f.3,
-    f.4,
-    f.5,
-    f.6,
-    subst (λ z. Closes fs (function z f.4) f.5 whole rest) (sym (joined_more done t f.0)) f.7,
-  );
-  back = λ whole rest f. (
-    f.0,
-    f.1,
-    f.2,
-    f.3,
-    f.4,
-    f.5,
-    f.6,
-    subst (λ z. Closes fs (function z f.4) f.5 whole rest) (joined_more done t f.0) f.7,
-  );
-}
+step_input fs done t u' ts = record { there = λ whole rest f. f; back = λ whole rest f. f }
 
 pub step_part : (fs : List Frame) (done : WrittenTypes) (t u' : WrittenType) (ts : List Token)
     → Steps Have (parts done ∷ fs) t ts Inside (parts (joined done (more t none)) ∷ fs) u' ts
-step_part fs done t u' ts = record {
-  there = λ whole rest f. (
-    f.0,
-    f.1,
-    f.2,
-    f.3,
-    subst (λ z. Closes fs (tuple z) f.1 whole rest) (sym (joined_more done t f.0)) f.4,
-  );
-  back = λ whole rest f. (
-    f.0,
-    f.1,
-    f.2,
-    f.3,
-    subst (λ z. Closes fs (tuple z) f.1 whole rest) (joined_more done t f.0) f.4,
-  );
-}
+step_part fs done t u' ts = record { there = λ whole rest f. f; back = λ whole rest f. f }
 
 pub step_type_argument : (fs : List Frame) (n : Name) (done : Arguments) (t u' : WrittenType) (ts : List Token)
     → Steps Have (arguments n done ∷ fs) t ts Inside
     (arguments n (joined_arguments done (type_argument t no_argument)) ∷ fs) u' ts
-step_type_argument fs n done t u' ts = record {
-  there = λ whole rest f. (
-    f.0,
-    f.1,
-    f.2,
-    f.3,
-    subst (λ z. Closes fs (named n z) f.1 whole rest) (sym (joined_type done t f.0)) f.4,
-  );
-  back = λ whole rest f. (
-    f.0,
-    f.1,
-    f.2,
-    f.3,
-    subst (λ z. Closes fs (named n z) f.1 whole rest) (joined_type done t f.0) f.4,
-  );
-}
+step_type_argument fs n done t u' ts = record { there = λ whole rest f. f; back = λ whole rest f. f }
 
 -- ---- an argument
 
@@ -512,30 +64,19 @@ pub step_region : (fs : List Frame) (n : Name) (done : Arguments) (t' u' : Writt
     → Steps WantArgument (arguments n done ∷ fs) t' (region q ∷ after) Inside
     (arguments n (joined_arguments done (region_argument q no_argument)) ∷ fs) u' after
 step_region fs n done t' u' q after = record {
-  there = λ whole rest. ⊎_elim (λ f. there whole rest f.0 f.1 f.2 f.3.0 f.3.1 f.3.2 f.3.3 f.3.4)
-      (λ f. absurd (no_region q after f.0 f.1 f.2));
-  back = λ whole rest f. inl (
-    q,
-    after,
-    refl,
-    (f.0, f.1, f.2, f.3, subst (λ z. Closes fs (named n z) f.1 whole rest) (joined_region done q f.0) f.4),
-  );
+  there = λ whole rest. ⊎_elim (λ f. there whole rest f.0 f.1 f.2 f.3) (λ f. absurd (no_region q after f.0 f.1 f.2));
+  back = λ whole rest f. inl (q, after, refl, f);
 }
   where
+    row : Name → List Frame
+    row p = arguments n (joined_arguments done (region_argument p no_argument)) ∷ fs
+
     there : (whole : WrittenType) (rest : List Token) (p : Name) (mid : List Token) → region q ∷ after ≡ region p ∷ mid
-        → (us : Arguments) (other : List Token) → mid ≡ spelled_more_arguments us ++ other → ArgumentsHaveNames us
-        → Closes fs (named n (joined_arguments done (region_argument p us))) other whole rest
-        → GoesInside (arguments n (joined_arguments done (region_argument q no_argument)) ∷ fs) after whole rest
-    there whole rest p mid e us other j names c =
+        → GoesInside (row p) mid whole rest → GoesInside (row q) after whole rest
+    there whole rest p mid e g =
         let h : p ≡ q = cc in
-        let k : after ≡ mid = cc in (
-          us,
-          other,
-          k ∙ j,
-          names,
-          subst (λ z. Closes fs (named n z) other whole rest)
-              (ap (λ z. joined_arguments done (region_argument z us)) h ∙ sym (joined_region done q us)) c,
-        )
+        let k : mid ≡ after = cc in
+        subst (λ z. GoesInside (row z) after whole rest) h (subst (λ m. GoesInside (row p) m whole rest) k g)
 
 pub step_no_region : (fs : List Frame) (t' u' : WrittenType) (ts : List Token)
     → ((q : Name) (others : List Token) → ts ≡ region q ∷ others → ⊥) → Steps WantArgument fs t' ts Want fs u' ts
@@ -544,136 +85,97 @@ step_no_region fs t' u' ts other =
   where
     by : (whole : WrittenType) (rest : List Token) (gs : List Frame) → GoesOnWithRegion gs ts whole rest
         → GoesOn gs ts whole rest
-    by whole rest [] f = absurd f
-    by whole rest (behind _ _ ∷ gs) f = absurd f
-    by whole rest (parts _ ∷ gs) f = absurd f
     by whole rest (arguments n done ∷ gs) f = absurd (other f.0 f.1 f.2)
-    by whole rest (inputs _ ∷ gs) f = absurd f
-    by whole rest (output _ ∷ gs) f = absurd f
+    by whole rest _ f = absurd f
 
 -- ---- behind a part or an argument
-
-pub step_comma_part : (fs : List Frame) (done : WrittenTypes) (t' u' : WrittenType) (after : List Token)
-    → Steps Inside (parts done ∷ fs) t' (sign 44 ∷ after) Want (parts done ∷ fs) u' after
-step_comma_part fs done t' u' after = record {
-  there = λ whole rest f. there whole rest f.0 f.1 f.2 f.3 f.4;
-  back = λ whole rest f. (let c = f.3 in (
-    more f.0 c.0,
-    c.1,
-    (let k = c.2 in
-        ap (λ l. sign 44 ∷ l) (f.2.joins ∙ ap (λ l. spelled f.0 ++ l) k
-        ∙ sym (append_assoc (spelled f.0) (spelled_more_parts c.0) c.1))),
-    (f.2.names, c.3),
-    c.4,
-  ));
-}
-  where
-    there : (whole : WrittenType) (rest : List Token) (us : WrittenTypes) (mid : List Token)
-        → sign 44 ∷ after ≡ spelled_more_parts us ++ mid → HaveNames us
-        → Closes fs (tuple (joined done us)) mid whole rest → GoesOn (parts done ∷ fs) after whole rest
-    there whole rest none mid e n c = absurd (let h : sign 44 ≡ sign 41 = cc in apart 44 41 refl h)
-    there whole rest (more t us) mid e n c = (
-      t,
-      spelled_more_parts us ++ mid,
-      record {
-        joins =
-            (let h : after ≡ (spelled t ++ spelled_more_parts us) ++ mid = cc in
-            h ∙ append_assoc (spelled t) (spelled_more_parts us) mid);
-        names = n.0;
-      },
-      (us, mid, refl, n.1, c),
-    )
-
-pub step_close_part : (fs : List Frame) (done : WrittenTypes) (t' : WrittenType) (after : List Token)
-    → Steps Inside (parts done ∷ fs) t' (sign 41 ∷ after) Have fs (tuple done) after
-step_close_part fs done t' after = record {
-  there = λ whole rest f. there whole rest f.0 f.1 f.2 f.4;
-  back = λ whole rest f. (
-    none,
-    after,
-    refl,
-    tt,
-    subst (λ z. Closes fs (tuple z) after whole rest) (sym (joined_none done)) f,
-  );
-}
-  where
-    joined_none : (done : WrittenTypes) → joined done none ≡ done
-    joined_none none = refl
-    joined_none (more t ts) = ap (more t) (joined_none ts)
-
-    there : (whole : WrittenType) (rest : List Token) (us : WrittenTypes) (mid : List Token)
-        → sign 41 ∷ after ≡ spelled_more_parts us ++ mid → Closes fs (tuple (joined done us)) mid whole rest
-        → Closes fs (tuple done) after whole rest
-    there whole rest none mid e c =
-        (let h : mid ≡ after = cc in subst (λ z. Closes fs (tuple z) after whole rest) (joined_none done)
-        (subst (λ m. Closes fs (tuple (joined done none)) m whole rest) h c))
-    there whole rest (more t us) mid e c = absurd (let h : sign 41 ≡ sign 44 = cc in apart 41 44 refl h)
 
 -- nothing more behind others
 joined_nothing : (done : WrittenTypes) → joined done none ≡ done
 joined_nothing none = refl
 joined_nothing (more t ts) = ap (more t) (joined_nothing ts)
 
+-- A row of types of which these are read, and behind which this comes.
+module _ (done : WrittenTypes) (Then : WrittenTypes → List Token → Type 0) where
+  comma_there : (after : List Token) (us : WrittenTypes) (mid : List Token)
+      → sign 44 ∷ after ≡ spelled_more_parts us ++ mid → HaveNames us → Then (joined done us) mid
+      → (t : WrittenType) × (other : List Token) × Reads after t other
+      × TypesGoOn (joined done (more t none)) other Then
+  comma_there after none mid e n c = absurd (let h : sign 44 ≡ sign 41 = cc in apart 44 41 refl h)
+  comma_there after (more t us) mid e n c = (
+    t,
+    spelled_more_parts us ++ mid,
+    record {
+      joins = (let h : after ≡ (spelled t ++ spelled_more_parts us) ++ mid = cc in
+          h ∙ append_assoc (spelled t) (spelled_more_parts us) mid);
+      names = n.0;
+    },
+    (us, mid, refl, n.1, subst (λ z. Then z mid) (sym (joined_more done t us)) c),
+  )
+
+  comma_back : (after : List Token) (t : WrittenType) (other : List Token) → Reads after t other
+      → TypesGoOn (joined done (more t none)) other Then → TypesGoOn done (sign 44 ∷ after) Then
+  comma_back after t other r c = (
+    more t c.0,
+    c.1,
+    ap (λ l. sign 44 ∷ l) (r.joins ∙ ap (λ l. spelled t ++ l) c.2
+        ∙ sym (append_assoc (spelled t) (spelled_more_parts c.0) c.1)),
+    (r.names, c.3),
+    subst (λ z. Then z c.1) (joined_more done t c.0) c.4,
+  )
+
+  close_there : (after : List Token) (us : WrittenTypes) (mid : List Token)
+      → sign 41 ∷ after ≡ spelled_more_parts us ++ mid → Then (joined done us) mid → Then done after
+  close_there after none mid e c =
+      (let h : mid ≡ after = cc in
+      subst (λ z. Then z after) (joined_nothing done) (subst (λ m. Then (joined done none) m) h c))
+  close_there after (more t us) mid e c = absurd (let h : sign 41 ≡ sign 44 = cc in apart 41 44 refl h)
+
+  close_back : (after : List Token) → Then done after → TypesGoOn done (sign 41 ∷ after) Then
+  close_back after c = (none, after, refl, tt, subst (λ z. Then z after) (sym (joined_nothing done)) c)
+
+-- behind a type of a row comes `,` or `)`
+no_types : (ts : List Token) → ((rest : List Token) → ts ≡ sign 44 ∷ rest → ⊥)
+    → ((rest : List Token) → ts ≡ sign 41 ∷ rest → ⊥) → (us : WrittenTypes) (mid : List Token)
+    → ts ≡ spelled_more_parts us ++ mid → ⊥
+no_types ts comma close none mid e = close mid e
+no_types ts comma close (more t us) mid e = comma ((spelled t ++ spelled_more_parts us) ++ mid) e
+
+-- what comes behind the types of a tuple, and behind those of a function's arguments
+abbrev TupleThen : List Frame → WrittenType → List Token → WrittenTypes → List Token → Type 0
+TupleThen fs whole rest us mid = Closes fs (tuple us) mid whole rest
+
+abbrev InputsThen : List Frame → WrittenType → List Token → WrittenTypes → List Token → Type 0
+InputsThen fs whole rest = ResultGoesOn (λ u us. Closes fs u us whole rest)
+
+pub step_comma_part : (fs : List Frame) (done : WrittenTypes) (t' u' : WrittenType) (after : List Token)
+    → Steps Inside (parts done ∷ fs) t' (sign 44 ∷ after) Want (parts done ∷ fs) u' after
+step_comma_part fs done t' u' after = record {
+  there = λ whole rest f. comma_there done (TupleThen fs whole rest) after f.0 f.1 f.2 f.3 f.4;
+  back = λ whole rest f. comma_back done (TupleThen fs whole rest) after f.0 f.1 f.2 f.3;
+}
+
+pub step_close_part : (fs : List Frame) (done : WrittenTypes) (t' : WrittenType) (after : List Token)
+    → Steps Inside (parts done ∷ fs) t' (sign 41 ∷ after) Have fs (tuple done) after
+step_close_part fs done t' after = record {
+  there = λ whole rest f. close_there done (TupleThen fs whole rest) after f.0 f.1 f.2 f.4;
+  back = λ whole rest f. close_back done (TupleThen fs whole rest) after f;
+}
+
 pub step_comma_input : (fs : List Frame) (done : WrittenTypes) (t' u' : WrittenType) (after : List Token)
     → Steps Inside (inputs done ∷ fs) t' (sign 44 ∷ after) Want (inputs done ∷ fs) u' after
 step_comma_input fs done t' u' after = record {
-  there = λ whole rest f. there whole rest f.0 f.1 f.2 f.3 f.4 f.5 f.6 f.7;
-  back = λ whole rest f. (let c = f.3 in (
-    more f.0 c.0,
-    c.1,
-    ap (λ l. sign 44 ∷ l) (f.2.joins ∙ ap (λ l. spelled f.0 ++ l) c.2
-        ∙ sym (append_assoc (spelled f.0) (spelled_more_parts c.0) (arrow ∷ c.1))),
-    (f.2.names, c.3),
-    c.4,
-    c.5,
-    c.6,
-    c.7,
-  ));
+  there = λ whole rest f. comma_there done (InputsThen fs whole rest) after f.0 f.1 f.2 f.3 f.4;
+  back = λ whole rest f. comma_back done (InputsThen fs whole rest) after f.0 f.1 f.2 f.3;
 }
-  where
-    there : (whole : WrittenType) (rest : List Token) (us : WrittenTypes) (mid : List Token)
-        → sign 44 ∷ after ≡ spelled_more_parts us ++ arrow ∷ mid → HaveNames us → (u : WrittenType) (other : List Token)
-        → Reads mid u other → Closes fs (function (joined done us) u) other whole rest
-        → GoesOn (inputs done ∷ fs) after whole rest
-    there whole rest none mid e n u other r c = absurd (let h : sign 44 ≡ sign 41 = cc in apart 44 41 refl h)
-    there whole rest (more t us) mid e n u other r c = (
-      t,
-      spelled_more_parts us ++ arrow ∷ mid,
-      record {
-        joins = (let h : after ≡ (spelled t ++ spelled_more_parts us) ++ arrow ∷ mid = cc in
-            h ∙ append_assoc (spelled t) (spelled_more_parts us) (arrow ∷ mid));
-        names = n.0;
-      },
-      (us, mid, refl, n.1, u, other, r, c),
-    )
 
 -- all arguments of a function are read
 pub step_close_input : (fs : List Frame) (done : WrittenTypes) (t' u' : WrittenType) (after : List Token)
     → Steps Inside (inputs done ∷ fs) t' (sign 41 ∷ after) WantArrow (output done ∷ fs) u' after
 step_close_input fs done t' u' after = record {
-  there = λ whole rest f. there whole rest f.0 f.1 f.2 f.4 f.5 f.6 f.7;
-  back = λ whole rest f. (let g = f.2 in (
-    none,
-    f.0,
-    ap (λ l. sign 41 ∷ l) f.1,
-    tt,
-    g.0,
-    g.1,
-    g.2,
-    subst (λ z. Closes fs (function z g.0) g.1 whole rest) (sym (joined_nothing done)) g.3,
-  ));
+  there = λ whole rest f. close_there done (InputsThen fs whole rest) after f.0 f.1 f.2 f.4;
+  back = λ whole rest f. close_back done (InputsThen fs whole rest) after f;
 }
-  where
-    there : (whole : WrittenType) (rest : List Token) (us : WrittenTypes) (mid : List Token)
-        → sign 41 ∷ after ≡ spelled_more_parts us ++ arrow ∷ mid → (u : WrittenType) (other : List Token)
-        → Reads mid u other → Closes fs (function (joined done us) u) other whole rest
-        → Finishes WantArrow (output done ∷ fs) u' after whole rest
-    there whole rest none mid e u other r c = (
-      mid,
-      (let h : after ≡ arrow ∷ mid = cc in h),
-      (u, other, r, subst (λ z. Closes fs (function z u) other whole rest) (joined_nothing done) c),
-    )
-    there whole rest (more t us) mid e u other r c = absurd (let h : sign 41 ≡ sign 44 = cc in apart 41 44 refl h)
 
 -- `->` of a function
 pub step_arrow : (fs : List Frame) (t' u' : WrittenType) (after : List Token)
@@ -693,7 +195,7 @@ step_comma_argument fs n done t' u' after = record {
         c.1,
         ap (λ l. sign 44 ∷ l) (f.2 ∙ ap (λ l. region f.0 ∷ l) c.2),
         c.3,
-        c.4,
+        subst (λ z. Closes fs (named n z) c.1 whole rest) (joined_region done f.0 c.0) c.4,
       ))
       (λ f. let c = f.3 in (
         type_argument f.0 c.0,
@@ -702,7 +204,7 @@ step_comma_argument fs n done t' u' after = record {
             (f.2.joins ∙ ap (λ l. spelled f.0 ++ l) k
             ∙ sym (append_assoc (spelled f.0) (spelled_more_arguments c.0) c.1))),
         (f.2.names, c.3),
-        c.4,
+        subst (λ z. Closes fs (named n z) c.1 whole rest) (joined_type done f.0 c.0) c.4,
       ));
 }
   where
@@ -716,7 +218,7 @@ step_comma_argument fs n done t' u' after = record {
           q,
           spelled_more_arguments us ++ mid,
           (let h : after ≡ region q ∷ (spelled_more_arguments us ++ mid) = cc in h),
-          (us, mid, refl, h, c),
+          (us, mid, refl, h, subst (λ z. Closes fs (named n z) mid whole rest) (sym (joined_region done q us)) c),
         )
     there whole rest (type_argument t us) mid e h c =
         inr (
@@ -727,7 +229,7 @@ step_comma_argument fs n done t' u' after = record {
                 h ∙ append_assoc (spelled t) (spelled_more_arguments us) mid);
             names = h.0;
           },
-          (us, mid, refl, h.1, c),
+          (us, mid, refl, h.1, subst (λ z. Closes fs (named n z) mid whole rest) (sym (joined_type done t us)) c),
         )
 
 pub step_close_argument : (fs : List Frame) (n : Name) (done : Arguments) (t' : WrittenType) (after : List Token)
@@ -772,20 +274,12 @@ stuck_want fs t' ts front whole rest f = by f.0 f.1 f.2
 pub stuck_part : (fs : List Frame) (done : WrittenTypes) (t' : WrittenType) (ts : List Token)
     → ((rest : List Token) → ts ≡ sign 44 ∷ rest → ⊥) → ((rest : List Token) → ts ≡ sign 41 ∷ rest → ⊥)
     → IsStuck Inside (parts done ∷ fs) t' ts
-stuck_part fs before t' ts comma close whole rest f = by f.0 f.1 f.2
-  where
-    by : (us : WrittenTypes) (mid : List Token) → ts ≡ spelled_more_parts us ++ mid → ⊥
-    by none mid e = close mid e
-    by (more t us) mid e = comma ((spelled t ++ spelled_more_parts us) ++ mid) e
+stuck_part fs before t' ts comma close whole rest f = no_types ts comma close f.0 f.1 f.2
 
 pub stuck_input : (fs : List Frame) (done : WrittenTypes) (t' : WrittenType) (ts : List Token)
     → ((rest : List Token) → ts ≡ sign 44 ∷ rest → ⊥) → ((rest : List Token) → ts ≡ sign 41 ∷ rest → ⊥)
     → IsStuck Inside (inputs done ∷ fs) t' ts
-stuck_input fs before t' ts comma close whole rest f = by f.0 f.1 f.2
-  where
-    by : (us : WrittenTypes) (mid : List Token) → ts ≡ spelled_more_parts us ++ arrow ∷ mid → ⊥
-    by none mid e = close (arrow ∷ mid) e
-    by (more t us) mid e = comma ((spelled t ++ spelled_more_parts us) ++ arrow ∷ mid) e
+stuck_input fs before t' ts comma close whole rest f = no_types ts comma close f.0 f.1 f.2
 
 pub stuck_argument : (fs : List Frame) (n : Name) (done : Arguments) (t' : WrittenType) (ts : List Token)
     → ((rest : List Token) → ts ≡ sign 44 ∷ rest → ⊥) → ((rest : List Token) → ts ≡ sign 62 ∷ rest → ⊥)
@@ -804,12 +298,8 @@ pub stuck_region : (fs : List Frame) (t' : WrittenType) (q : Name) (after : List
 stuck_region fs t' q after other whole rest = ⊎_elim (by fs refl) (λ f. no_region q after f.0 f.1 f.2)
   where
     by : (gs : List Frame) → fs ≡ gs → GoesOnWithRegion gs (region q ∷ after) whole rest → ⊥
-    by [] e f = f
-    by (behind _ _ ∷ gs) e f = f
-    by (parts _ ∷ gs) e f = f
     by (arguments n done ∷ gs) e f = other n done gs e
-    by (inputs _ ∷ gs) e f = f
-    by (output _ ∷ gs) e f = f
+    by _ e f = f
 
 -- ---- the end
 

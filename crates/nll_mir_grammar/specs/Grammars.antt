@@ -1,37 +1,17 @@
--- Grammars: how values are spelled by tokens at the front of others.
+-- Grammars that are made of others, and what readers answer.
 -- Source: project's choice. Only private contracts cite this file.
 use Rattle.std.specs.Prelude.{◌≡◌, ◌<◌, List, [], ◌∷◌, ◌++◌, map, length}
 use Rattle.std.specs.Prelude.{Option, Some, None, Result, Ok, Err}
 use Rattle.std.specs.List.{AllByRecursion, flat_map}
 use Rattle.nll_text.specs.Tokens.{Token, sign}
+use Rattle.nll_text.specs.Grammars.{Grammar, Begins, HasNone}
 use Rattle.nll_mir_grammar.specs.MirForms.{parted, in_parentheses}
-
--- How values are spelled, which of them are allowed, and what may follow each.
-pub record Grammar (A : Type 0) : Type 1 where
-  pub spells : A → List Token
-  pub IsAllowed : A → Type 0
-  pub MayFollow : A → List Token → Type 0
-
--- The tokens begin with the value, and after it come others.
-pub record Begins {A : Type 0} (g : Grammar A) (ts : List Token) (a : A) (rest : List Token) :
-    Type 0 where
-  pub joined : ts ≡ g.spells a ++ rest
-  pub allowed : g.IsAllowed a
-  pub follows : g.MayFollow a rest
-
--- the tokens begin with no value
-abbrev pub HasNone : {A : Type 0} → Grammar A → List Token → Type 0
-HasNone {A} g ts = (a : A) (rest : List Token) → Begins g ts a rest → ⊥
 
 -- tokens begin with one value at most
 abbrev pub IsOne : {A : Type 0} → Grammar A → Type 0
 IsOne {A} g =
     (ts : List Token) (a b : A) (r s : List Token) → Begins g ts a r → Begins g ts b s
     → (a ≡ b) × (r ≡ s)
-
--- the token doesn't come next
-abbrev pub IsNotNext : Token → List Token → Type 0
-IsNotNext t ts = (rest : List Token) → ts ≡ t ∷ rest → ⊥
 
 -- ---- grammars made of others
 
@@ -80,6 +60,19 @@ commas g = record {
   IsAllowed = λ xs. (0 < length xs) × AllByRecursion g.IsAllowed xs;
   MayFollow = MayFollowAll g;
 }
+
+-- the token may follow each value
+abbrev pub IsBefore : {A : Type 0} → Token → Grammar A → Type 0
+IsBefore {A} t g = (a : A) (r : List Token) → g.IsAllowed a → g.MayFollow a (t ∷ r)
+
+-- Values separated by commas can be read up to the closing token.
+pub record IsListable {A : Type 0} (g : Grammar A) (c : Token) : Type 0 where
+  pub one : IsOne g
+  pub comma : IsBefore (sign 44) g
+  pub closing : IsBefore c g
+  pub other : c ≡ sign 44 → ⊥
+  -- no value begins with the closing token
+  pub opens : (a : A) (r s : List Token) → g.IsAllowed a → g.spells a ++ r ≡ c ∷ s → ⊥
 
 -- values separated by commas, between `(` and `)`
 abbrev pub parentheses : {A : Type 0} → Grammar A → Grammar (List A)

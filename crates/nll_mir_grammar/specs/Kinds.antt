@@ -5,9 +5,10 @@ use Rattle.nll_text.specs.Tokens.{Token, word, sign}
 use Rattle.nll_types.specs.Places.{PlacePath}
 use Rattle.nll_types.specs.Operands.{Operand}
 use Rattle.nll_mir_grammar.specs.WrittenTypes.{Name, WrittenType, WrittenTypes}
-use Rattle.nll_mir_grammar.specs.Grammars.{Grammar, Begins, behind, empty, pair, parentheses}
+use Rattle.nll_text.specs.Grammars.{Grammar, Begins, any_words, numbers, regions}
+use Rattle.nll_mir_grammar.specs.Grammars.{behind, empty, pair, parentheses}
 use Rattle.nll_mir_grammar.specs.Grammars.{by_kind}
-use Rattle.nll_mir_grammar.specs.Parts.{regions, any_words, names, numbers, variables, block_names}
+use Rattle.nll_mir_grammar.specs.Parts.{names, variables, block_names}
 use Rattle.nll_mir_grammar.specs.Parts.{places, operands, types, tuples, arguments, mutabilities}
 use Rattle.nll_mir_grammar.specs.Parts.{drop_marks, parameter_lists, bounds, bound_lists}
 use Rattle.nll_mir_grammar.specs.Parts.{block_lists}

@@ -2,7 +2,6 @@ pub mod WrittenTypes
 pub mod Functions
 pub mod TypeTexts
 pub mod Reading
-pub mod LineTokens
 pub mod OpenTypes
 pub mod MirForms
 pub mod Versions

@@ -5,7 +5,7 @@ use Rattle.std.specs.Prelude.{◌*◌, length, reverse, map, codes}
 use Rattle.nll_text.specs.Tokens.{Token, word, region, arrow, sign}
 use Rattle.nll_mir_grammar.specs.WrittenTypes.{Name, WrittenType, WrittenTypes, Arguments}
 use Rattle.nll_mir_grammar.specs.WrittenTypes.{reference, tuple, named, function, none, more}
-use Rattle.nll_mir_grammar.specs.WrittenTypes.{region_argument, type_argument}
+use Rattle.nll_mir_grammar.specs.WrittenTypes.{no_argument, region_argument, type_argument}
 use Rattle.nll_mir_grammar.specs.WrittenTypes.{spelled, spelled_more_parts}
 use Rattle.nll_mir_grammar.specs.WrittenTypes.{spelled_more_arguments, is_capital}
 use Rattle.nll_mir_grammar.specs.WrittenTypes.{HasNames, HaveNames, ArgumentsHaveNames, IsFree}
@@ -72,39 +72,48 @@ pub record Reads (tokens : List Token) (t : WrittenType) (rest : List Token) : T
   pub joins : tokens ≡ spelled t ++ rest
   pub names : HasNames t
 
+-- Types of a row are read, the others follow, and what all of them make goes on.
+abbrev pub TypesGoOn :
+    WrittenTypes → List Token → (WrittenTypes → List Token → Type 0) → Type 0
+TypesGoOn done ts Then =
+    (us : WrittenTypes) × (mid : List Token) × (ts ≡ spelled_more_parts us ++ mid) × HaveNames us
+    × Then (joined done us) mid
+
+-- The result of a function with these arguments comes after an arrow, and the function goes on.
+abbrev pub ResultGoesOn :
+    (WrittenType → List Token → Type 0) → WrittenTypes → List Token → Type 0
+ResultGoesOn Then us ts =
+    (mid : List Token) × (ts ≡ arrow ∷ mid)
+    × ((u : WrittenType) × (other : List Token) × Reads mid u other × Then (function us u) other)
+
+-- A part or an argument of the frame is complete, the others follow, and what all of them make goes
+-- on.
+abbrev pub RowGoesOn : Frame → List Token → (WrittenType → List Token → Type 0) → Type 0
+RowGoesOn (parts done) ts Then = TypesGoOn done ts (λ us mid. Then (tuple us) mid)
+RowGoesOn (arguments n done) ts Then =
+    (us : Arguments) × (mid : List Token) × (ts ≡ spelled_more_arguments us ++ mid)
+    × ArgumentsHaveNames us × Then (named n (joined_arguments done us)) mid
+RowGoesOn (inputs done) ts Then = TypesGoOn done ts (ResultGoesOn Then)
+RowGoesOn _ ts Then = ⊥
+
 -- A type is complete; the frames, the innermost first, go on and are closed. The whole type comes
 -- out, and after it the rest, which begins with no `<`.
 abbrev pub Closes : List Frame → WrittenType → List Token → WrittenType → List Token → Type 0
 Closes [] t ts whole rest = (t ≡ whole) × (ts ≡ rest) × IsFree rest
 Closes (behind r m ∷ frames) t ts whole rest = Closes frames (reference r m t) ts whole rest
 Closes (parts done ∷ frames) t ts whole rest =
-    (us : WrittenTypes) × (mid : List Token) × (ts ≡ spelled_more_parts us ++ mid) × HaveNames us
-    × Closes frames (tuple (joined done (more t us))) mid whole rest
+    RowGoesOn (parts (joined done (more t none))) ts (λ u us. Closes frames u us whole rest)
 Closes (arguments n done ∷ frames) t ts whole rest =
-    (us : Arguments) × (mid : List Token) × (ts ≡ spelled_more_arguments us ++ mid)
-    × ArgumentsHaveNames us
-    × Closes frames (named n (joined_arguments done (type_argument t us))) mid whole rest
+    RowGoesOn (arguments n (joined_arguments done (type_argument t no_argument))) ts
+    (λ u us. Closes frames u us whole rest)
 Closes (inputs done ∷ frames) t ts whole rest =
-    (us : WrittenTypes) × (mid : List Token) × (ts ≡ spelled_more_parts us ++ arrow ∷ mid)
-    × HaveNames us × (u : WrittenType) × (other : List Token) × Reads mid u other
-    × Closes frames (function (joined done (more t us)) u) other whole rest
+    RowGoesOn (inputs (joined done (more t none))) ts (λ u us. Closes frames u us whole rest)
 Closes (output done ∷ frames) t ts whole rest = Closes frames (function done t) ts whole rest
 
 -- A part or an argument of the innermost frame is complete, and the frames go on.
 abbrev pub GoesInside : List Frame → List Token → WrittenType → List Token → Type 0
 GoesInside [] ts whole rest = ⊥
-GoesInside (behind _ _ ∷ frames) ts whole rest = ⊥
-GoesInside (parts done ∷ frames) ts whole rest =
-    (us : WrittenTypes) × (mid : List Token) × (ts ≡ spelled_more_parts us ++ mid) × HaveNames us
-    × Closes frames (tuple (joined done us)) mid whole rest
-GoesInside (arguments n done ∷ frames) ts whole rest =
-    (us : Arguments) × (mid : List Token) × (ts ≡ spelled_more_arguments us ++ mid)
-    × ArgumentsHaveNames us × Closes frames (named n (joined_arguments done us)) mid whole rest
-GoesInside (inputs done ∷ frames) ts whole rest =
-    (us : WrittenTypes) × (mid : List Token) × (ts ≡ spelled_more_parts us ++ arrow ∷ mid)
-    × HaveNames us × (u : WrittenType) × (other : List Token) × Reads mid u other
-    × Closes frames (function (joined done us) u) other whole rest
-GoesInside (output _ ∷ frames) ts whole rest = ⊥
+GoesInside (f ∷ frames) ts whole rest = RowGoesOn f ts (λ u us. Closes frames u us whole rest)
 
 -- A type comes, and the frames go on.
 abbrev pub GoesOn : List Frame → List Token → WrittenType → List Token → Type 0
@@ -113,16 +122,11 @@ GoesOn frames ts whole rest =
 
 -- A region comes as an argument of the innermost frame, and the frames go on.
 abbrev pub GoesOnWithRegion : List Frame → List Token → WrittenType → List Token → Type 0
-GoesOnWithRegion [] ts whole rest = ⊥
-GoesOnWithRegion (behind _ _ ∷ frames) ts whole rest = ⊥
-GoesOnWithRegion (parts _ ∷ frames) ts whole rest = ⊥
 GoesOnWithRegion (arguments n done ∷ frames) ts whole rest =
     (q : Name) × (mid : List Token) × (ts ≡ region q ∷ mid)
-    × ((us : Arguments) × (other : List Token) × (mid ≡ spelled_more_arguments us ++ other)
-    × ArgumentsHaveNames us
-    × Closes frames (named n (joined_arguments done (region_argument q us))) other whole rest)
-GoesOnWithRegion (inputs _ ∷ frames) ts whole rest = ⊥
-GoesOnWithRegion (output _ ∷ frames) ts whole rest = ⊥
+    × GoesInside (arguments n (joined_arguments done (region_argument q no_argument)) ∷ frames) mid
+    whole rest
+GoesOnWithRegion _ ts whole rest = ⊥
 
 -- The tokens complete what is begun: the whole type comes out, and after it the rest. Where a type
 -- is complete, it is `t`.
@@ -165,10 +169,7 @@ begun (output done ∷ frames) = begun frames ++ begin_row ∷ part_steps done
 -- the pieces of the type that is complete, where one is
 abbrev pub complete : State → WrittenType → List Piece
 complete Have t = steps t
-complete Want t = []
-complete WantArgument t = []
-complete Inside t = []
-complete WantArrow t = []
+complete _ t = []
 
 -- The frame is what is open, with something that is read of it.
 abbrev pub IsOpen : Open → Frame → Type 0
@@ -194,11 +195,9 @@ pub record AreRead (s : State) (frames : List Frame) (t : WrittenType) (ps : Lis
 -- how many steps that take no token may come, apart from those that complete a reference or a
 -- function
 abbrev pub pending : State → ℕ
-pending Want = 0
 pending WantArgument = 1
 pending Have = 1
-pending Inside = 0
-pending WantArrow = 0
+pending _ = 0
 
 -- From these frames and this type the code reached others, and the same types come out.
 pub record ComesTo (s : State) (frames : List Frame) (t : WrittenType) (ts : List Token)
@@ -233,22 +232,16 @@ pub record IsCompleted (frames : List Frame) (t : WrittenType) (opened : List Op
 
 -- the innermost frame takes a region
 abbrev pub takes_region : List Frame → Bool
-takes_region [] = false
-takes_region (behind _ _ ∷ frames) = false
-takes_region (parts _ ∷ frames) = false
 takes_region (arguments _ _ ∷ frames) = true
-takes_region (inputs _ ∷ frames) = false
-takes_region (output _ ∷ frames) = false
+takes_region _ = false
 
 -- The sign closes what is innermost in the frames, which has parts, and this may come after a
 -- comma.
 abbrev pub EndsWith : List Frame → ℕ → State → Type 0
-EndsWith [] c s = ⊥
-EndsWith (behind _ _ ∷ frames) c s = ⊥
 EndsWith (parts _ ∷ frames) c s = (c ≡ 41) × (s ≡ Want)
 EndsWith (arguments _ _ ∷ frames) c s = (c ≡ 62) × (s ≡ WantArgument)
 EndsWith (inputs _ ∷ frames) c s = (c ≡ 41) × (s ≡ Want)
-EndsWith (output _ ∷ frames) c s = ⊥
+EndsWith _ c s = ⊥
 
 -- The innermost thing that was open is closed by this sign, and the same types come out.
 pub record IsClosed (frames : List Frame) (t : WrittenType) (c : ℕ) (opened : List Open)

@@ -1,10 +1,9 @@
 -- The grammars of the parts of a line.
 -- Source: project's choice. Only private contracts cite this file.
-use Rattle.std.specs.Prelude.{◌≡◌, ℕ, ◌<◌, Bool, true, false, List, [], ◌∷◌, ◌++◌, map, codes}
+use Rattle.std.specs.Prelude.{◌≡◌, ℕ, ◌<◌, Bool, true, false, List, [], ◌∷◌, map, codes}
 use Rattle.std.specs.Prelude.{length, Option, Some, None}
 use Rattle.std.specs.List.{AllByRecursion}
-use Rattle.std.specs.Fmt.{decimal}
-use Rattle.nll_text.specs.Tokens.{Token, word, region, sign}
+use Rattle.nll_text.specs.Tokens.{Token, word, sign}
 use Rattle.nll_types.specs.Places.{PlacePath}
 use Rattle.nll_types.specs.Operands.{Operand, constant, copied, moved}
 use Rattle.nll_types.specs.declared.place.Projection.{Projection}
@@ -12,7 +11,8 @@ use Rattle.nll_types.specs.declared.parameter.Parameter.{Parameter}
 use Rattle.nll_types.specs.declared.parameter.Sign.{Sign}
 use Rattle.nll_mir_grammar.specs.WrittenTypes.{Name, WrittenType, WrittenTypes, tuple, spelled}
 use Rattle.nll_mir_grammar.specs.WrittenTypes.{mutability, HasNames, IsFree, is_capital}
-use Rattle.nll_mir_grammar.specs.Grammars.{Grammar, HasNone, IsNotNext, behind, pair}
+use Rattle.nll_text.specs.Grammars.{Grammar, HasNone, IsNotNext, prefixed, regions}
+use Rattle.nll_mir_grammar.specs.Grammars.{behind, pair}
 use Rattle.nll_mir_grammar.specs.Grammars.{MayFollowAll}
 use Rattle.nll_mir_grammar.specs.MirForms.{block_word, spelled_projection}
 use Rattle.nll_mir_grammar.specs.MirForms.{spelled_place, spelled_operand, spelled_marks}
@@ -24,22 +24,6 @@ use Rattle.nll_mir_grammar.specs.MirForms.{IsWritableOperand, IsWritableParamete
 
 -- ---- words
 
--- the name of a region
-abbrev pub regions : Grammar Name
-regions = record {
-  spells = λ x. region x ∷ [];
-  IsAllowed = λ x. Unit {0};
-  MayFollow = λ x r. Unit {0};
-}
-
--- any word
-abbrev pub any_words : Grammar (List ℕ)
-any_words = record {
-  spells = λ w. word w ∷ [];
-  IsAllowed = λ w. Unit {0};
-  MayFollow = λ w r. Unit {0};
-}
-
 -- the name of a type
 abbrev pub names : Grammar Name
 names = record {
@@ -47,18 +31,6 @@ names = record {
   IsAllowed = λ n. is_capital n ≡ true;
   MayFollow = λ n r. Unit {0};
 }
-
--- numbers of at most nine digits, after these bytes in one word
-abbrev pub prefixed : List ℕ → Grammar ℕ
-prefixed front = record {
-  spells = λ n. word (front ++ decimal n) ∷ [];
-  IsAllowed = IsSmall;
-  MayFollow = λ n r. Unit {0};
-}
-
--- a number
-abbrev pub numbers : Grammar ℕ
-numbers = prefixed []
 
 -- a variable
 abbrev pub variables : Grammar ℕ

@@ -3,8 +3,9 @@
 ghost use Rattle.std.specs.Prelude.{◌≡◌, ◌∷◌, IfOk, List, MatchOption, None, codes};
 ghost use Rattle.nll_text.specs.Tokens as lex;
 ghost use Rattle.nll_types.specs.Places.{path_of};
-ghost use Rattle.nll_mir_grammar.specs.LineTokens.{tokens_in};
-ghost use Rattle.nll_mir_grammar.specs.Grammars.{HasNone, behind};
+ghost use Rattle.nll_text.specs.LineTokens.{tokens_in};
+ghost use Rattle.nll_text.specs.Grammars.{HasNone};
+ghost use Rattle.nll_mir_grammar.specs.Grammars.{behind};
 ghost use Rattle.nll_mir_grammar.specs.Kinds.{IsLine, IsRightSide, line_grammars, rights};
 ghost use Rattle.nll_mir_grammar.specs.Lines.{form_of};
 ghost use Rattle.nll_mir_grammar.specs.Parts.{operands};
@@ -13,8 +14,8 @@ use crate::line::Line;
 use crate::pairs::Read;
 use crate::place::{operand_at, place_at};
 use crate::right::{borrow_at, make_at, signature_at};
-use crate::words::{after_sign, word_at};
 use nll_statements::{Call, Make, Statement};
+use nll_text::{after_sign, word_at};
 use nll_types::Place;
 use std::alloc::Global;
 

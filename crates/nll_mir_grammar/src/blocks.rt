@@ -1,10 +1,12 @@
 //! The blocks of a switch.
 
 ghost use Rattle.std.specs.Prelude.{IfOk, MatchOption};
-ghost use Rattle.nll_mir_grammar.specs.LineTokens.{tokens_in};
-ghost use Rattle.nll_mir_grammar.specs.Grammars.{Begins, HasNone, many};
+ghost use Rattle.nll_text.specs.LineTokens.{tokens_in};
+ghost use Rattle.nll_text.specs.Grammars.{Begins, HasNone};
+ghost use Rattle.nll_mir_grammar.specs.Grammars.{many};
 ghost use Rattle.nll_mir_grammar.specs.Parts as parts;
 
+use crate::pairs::Read;
 use crate::words::block_at;
 use nll_sets::Memory;
 use std::alloc::Global;
@@ -25,7 +27,7 @@ fn many_blocks_at<'a>(alloc: Global, line: &'a [u8]) -> Result<(Vec<u32>, &'a [u
 }
 
 /// The blocks at the front, at least one and as many as there are.
-pub fn blocks_at<'a>(alloc: Global, line: &'a [u8]) -> Result<Option<(Vec<u32>, &'a [u8])>, Memory>
+pub fn blocks_at<'a>(alloc: Global, line: &'a [u8]) -> Read<'a, Vec<u32>>
     ensures { IfOk result (λ o. MatchOption o (HasNone parts.block_lists (tokens_in line.now))
         (λ p. Begins parts.block_lists (tokens_in line.now) p.0.items (tokens_in p.1.now))) }
 {

@@ -2,8 +2,8 @@
 
 ghost use Rattle.std.specs.Prelude.{◌≡◌, ◌∷◌, true, false, IfOk, MatchOption};
 ghost use Rattle.nll_text.specs.Tokens as lex;
-ghost use Rattle.nll_mir_grammar.specs.LineTokens.{tokens_in};
-ghost use Rattle.nll_mir_grammar.specs.Grammars.{HasNone};
+ghost use Rattle.nll_text.specs.LineTokens.{tokens_in};
+ghost use Rattle.nll_text.specs.Grammars.{HasNone};
 ghost use Rattle.nll_mir_grammar.specs.Kinds as kinds;
 ghost use Rattle.nll_mir_grammar.specs.Kinds.{HasNoKeyword, IsBehind, IsLine, keyword_name};
 ghost use Rattle.nll_mir_grammar.specs.Kinds.{tails};
@@ -22,9 +22,9 @@ use crate::lines::{
 use crate::pairs::Read;
 use crate::points::{dead_line, drop_line, goto_line, live_line, read_line, switch_line};
 use crate::version::{Version, is_of_version};
-use crate::words::{is_gap, word_at};
 use nll_sets::Memory;
 use nll_statements::Statement;
+use nll_text::{is_gap, word_at};
 use std::alloc::Global;
 
 // The line that begins with the keyword, after which the rest follows.

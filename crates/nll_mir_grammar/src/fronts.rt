@@ -2,11 +2,12 @@
 
 ghost use Rattle.std.specs.Prelude.{◌≡◌, ◌∷◌, true, MatchOption, codes};
 ghost use Rattle.nll_text.specs.Tokens as lex;
-ghost use Rattle.nll_mir_grammar.specs.LineTokens.{tokens_in};
+ghost use Rattle.nll_text.specs.LineTokens.{tokens_in};
 ghost use Rattle.nll_mir_grammar.specs.WrittenTypes as spec;
 ghost use Rattle.nll_mir_grammar.specs.OpenTypes.{Begins, IsNoFront};
 
-use crate::words::{after_sign, is_capital, mutability_at, region_at, word_at};
+use crate::words::{is_capital, mutability_at};
+use nll_text::{after_sign, region_at, word_at};
 
 /// How a type begins.
 #[derive(Clone, Copy)]

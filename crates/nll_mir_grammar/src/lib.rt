@@ -1,14 +1,13 @@
 //! The grammar of MIR texts: from the bytes of a line to its form, and of the types in it.
 //!
-//! Reading order: `bytes`, `number`, `words`; of types `type_text`, `fronts`, `opens`,
-//! `type_reader`; then the parts of lines, and `form_reader`.
+//! Reading order: `words`; of types `type_text`, `fronts`, `opens`, `type_reader`; then `lists`, the
+//! parts of lines, and `form_reader`.
 #![tactic(auto)]
 
 mod arguments;
 mod assignment;
 mod blocks;
 mod bounds;
-mod bytes;
 mod exits;
 mod form_reader;
 mod fronts;
@@ -16,7 +15,7 @@ mod keyword;
 mod laws;
 mod line;
 mod lines;
-mod number;
+mod lists;
 mod opens;
 mod operands;
 mod pairs;

@@ -2,8 +2,9 @@
 
 ghost use Rattle.std.specs.Prelude.{IfOk, MatchOption, map};
 ghost use Rattle.nll_mir_grammar.specs.TypeTexts.{written};
-ghost use Rattle.nll_mir_grammar.specs.LineTokens.{tokens_in};
-ghost use Rattle.nll_mir_grammar.specs.Grammars.{Begins, HasNone, pair};
+ghost use Rattle.nll_text.specs.LineTokens.{tokens_in};
+ghost use Rattle.nll_text.specs.Grammars.{Begins, HasNone};
+ghost use Rattle.nll_mir_grammar.specs.Grammars.{pair};
 ghost use Rattle.nll_mir_grammar.specs.Kinds.{IsBehind, tails};
 ghost use Rattle.nll_mir_grammar.specs.Lines.{form_of, parameter_of};
 ghost use Rattle.nll_mir_grammar.specs.Parts.{drop_marks, parameter_lists, tuples};
@@ -15,8 +16,8 @@ use crate::line::{Line, ParameterText, StructText, TupleText};
 use crate::pairs::{Read, with};
 use crate::parameters::parameters_in;
 use crate::type_front::{tuple_front, type_behind};
-use crate::words::{block_at, drop_mark_at, name_at, number_at, region_at, variable_at};
-use nll_sets::Memory;
+use crate::words::{block_at, drop_mark_at, name_at, variable_at};
+use nll_text::{number_at, region_at};
 use std::alloc::Global;
 
 /// After `universal`.
@@ -75,7 +76,7 @@ pub fn block_line<'a>(line: &'a [u8]) -> Option<(Line<'a>, &'a [u8])>
 }
 
 /// After `let`.
-pub fn let_line<'a>(alloc: Global, line: &'a [u8]) -> Result<Option<(Line<'a>, &'a [u8])>, Memory>
+pub fn let_line<'a>(alloc: Global, line: &'a [u8]) -> Read<'a, Line<'a>>
     ensures { IfOk result
         (λ o. MatchOption o (HasNone (tails keyword.Let) (tokens_in line.now))
         (λ p. IsBehind keyword.Let (tokens_in line.now) (form_of p.0) (tokens_in p.1.now))) }
@@ -119,10 +120,7 @@ fn struct_behind<'a>(
 }
 
 /// After `struct`.
-pub fn struct_line<'a>(
-    alloc: Global,
-    line: &'a [u8],
-) -> Result<Option<(Line<'a>, &'a [u8])>, Memory>
+pub fn struct_line<'a>(alloc: Global, line: &'a [u8]) -> Read<'a, Line<'a>>
     ensures { IfOk result
         (λ o. MatchOption o (HasNone (tails keyword.Struct) (tokens_in line.now))
         (λ p. IsBehind keyword.Struct (tokens_in line.now) (form_of p.0) (tokens_in p.1.now))) }

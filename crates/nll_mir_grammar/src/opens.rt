@@ -3,7 +3,7 @@
 ghost use Rattle.std.specs.Prelude.{◌≡◌, ◌∷◌, [], ◌++◌, ◌<◌, ◌-◌, ℕ, List, length, take, true};
 ghost use Rattle.std.specs.Prelude.{IfOk, IfSome, MatchOption};
 ghost use Rattle.nll_text.specs.Tokens as lex;
-ghost use Rattle.nll_mir_grammar.specs.LineTokens.{tokens_in};
+ghost use Rattle.nll_text.specs.LineTokens.{tokens_in};
 ghost use Rattle.nll_mir_grammar.specs.OpenTypes.{AreRead, EndsWith, Frame, GoesFurther, IsBegun};
 ghost use Rattle.nll_mir_grammar.specs.OpenTypes.{IsClosed, IsCompleted, IsStuck, takes_region};
 ghost use Rattle.nll_mir_grammar.specs.WrittenTypes.{WrittenType};
@@ -12,8 +12,8 @@ ghost use Rattle.nll_mir_grammar.specs.declared.type_text.TypePiece.{TypePiece a
 
 use crate::fronts::{Front, front_at};
 use crate::type_text::TypePiece;
-use crate::words::{after_arrow, after_sign, region_at};
 use nll_sets::Memory;
+use nll_text::{after_arrow, after_sign, region_at};
 use smallvec::SmallVec;
 use std::mem::size_of;
 

@@ -2,16 +2,18 @@
 
 ghost use Rattle.std.specs.Prelude.{◌≡◌, [], IfOk, MatchOption, map};
 ghost use Rattle.nll_text.specs.Tokens as lex;
-ghost use Rattle.nll_mir_grammar.specs.LineTokens.{tokens_in};
-ghost use Rattle.nll_mir_grammar.specs.Grammars.{Begins, HasNone, Puts, behind, commas};
+ghost use Rattle.nll_text.specs.LineTokens.{tokens_in};
+ghost use Rattle.nll_text.specs.Grammars.{Begins, HasNone};
 ghost use Rattle.nll_mir_grammar.specs.Lines.{parameter_of};
-ghost use Rattle.nll_mir_grammar.specs.MirForms.{dangling_mark};
+ghost use Rattle.nll_mir_grammar.specs.MirForms.{WrittenParameter, dangling_mark};
 ghost use Rattle.nll_mir_grammar.specs.Parts as parts;
 
 use crate::line::ParameterText;
+use crate::lists::{Listed, list};
 use crate::pairs::Read;
-use crate::words::{after_sign, name_at, region_at};
+use crate::words::name_at;
 use nll_sets::Memory;
+use nll_text::{after_sign, region_at};
 use nll_types::{Parameter, Sign};
 use std::alloc::Global;
 
@@ -66,60 +68,21 @@ fn parameter_at<'a>(line: &'a [u8]) -> Option<(ParameterText<'a>, &'a [u8])>
     Some((ParameterText::Type(name, parameter), rest))
 }
 
-// Appends the parameter at the front.
-fn push_parameter<'a>(
-    line: &'a [u8],
-    parameters: &mut Vec<ParameterText<'a>>,
-) -> Result<Option<&'a [u8]>, Memory>
-    ensures { IfOk result (λ o. Puts parts.parameters parameter_of (λ r. tokens_in r.now)
-        (tokens_in line.now) parameters.old.items parameters.new.items o) }
-{
-    match parameter_at(line) {
-        Some((parameter, rest)) => {
-            parameters.push(parameter)?;
-            Ok(Some(rest))
-        }
-        None => Ok(None),
-    }
-}
+impl<'a> Listed<'a> for ParameterText<'a> {
+    ghost Meant = { WrittenParameter };
 
-// Appends the parameter after a comma.
-fn next_parameter<'a>(
-    line: &'a [u8],
-    parameters: &mut Vec<ParameterText<'a>>,
-) -> Result<Option<&'a [u8]>, Memory>
-    ensures { IfOk result (λ o. Puts (behind (lex.sign 44) parts.parameters) parameter_of
-        (λ r. tokens_in r.now) (tokens_in line.now) parameters.old.items parameters.new.items o) }
-{
-    match after_sign(line, b',') {
-        Some(behind) => push_parameter(behind, parameters),
-        None => Ok(None),
-    }
-}
+    ghost meant = { parameter_of };
 
-// Adds parameters separated by commas to the list, as many as there are.
-fn list_parameters<'a>(
-    line: &'a [u8],
-    parameters: &mut Vec<ParameterText<'a>>,
-) -> Result<Option<&'a [u8]>, Memory>
-    requires { parameters.old.items ≡ [] }
-    ensures { IfOk result
-        (λ o. MatchOption o (HasNone (commas parts.parameters) (tokens_in line.now))
-        (λ rest. Begins (commas parts.parameters) (tokens_in line.now)
-        (map parameter_of parameters.new.items) (tokens_in rest.now))) }
-{
-    let Some(first) = push_parameter(line, parameters)? else {
-        return Ok(None);
-    };
-    let mut rest = first;
-    while let Some(next) = next_parameter(rest, parameters)? {
-        rest = next;
+    ghost grammar = { parts.parameters };
+
+    fn read_at(_alloc: Global, line: &'a [u8]) -> Read<'a, ParameterText<'a>> {
+        Ok(parameter_at(line))
     }
-    Ok(Some(rest))
 }
 
 // Adds the parameters between `<` and `>` to the list, where there are any.
 fn enclosed_parameters<'a>(
+    alloc: Global,
     line: &'a [u8],
     parameters: &mut Vec<ParameterText<'a>>,
 ) -> Result<Option<&'a [u8]>, Memory>
@@ -132,7 +95,7 @@ fn enclosed_parameters<'a>(
     let Some(inner) = after_sign(line, b'<') else {
         return Ok(Some(line));
     };
-    let Some(behind) = list_parameters(inner, parameters)? else {
+    let Some(behind) = list(alloc, inner, parameters)? else {
         return Ok(None);
     };
     let Some(rest) = after_sign(behind, b'>') else {
@@ -149,7 +112,7 @@ pub fn parameters_in<'a>(alloc: Global, line: &'a [u8]) -> Read<'a, Vec<Paramete
         (tokens_in p.1.now))) }
 {
     let mut parameters = Vec::new(alloc);
-    match enclosed_parameters(line, &mut parameters) {
+    match enclosed_parameters(alloc, line, &mut parameters) {
         Ok(Some(rest)) => Ok(Some((parameters, rest))),
         Ok(None) => Ok(None),
         Err(memory) => Err(memory),

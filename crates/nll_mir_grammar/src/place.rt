@@ -3,12 +3,15 @@
 ghost use Rattle.std.specs.Prelude.{◌≡◌, ◌++◌, ◌∷◌, [], IfOk, MatchOption, OnOk};
 ghost use Rattle.nll_types.specs.Places.{path_of};
 ghost use Rattle.nll_types.specs.Operands.{operand_of};
-ghost use Rattle.nll_mir_grammar.specs.LineTokens.{tokens_in};
-ghost use Rattle.nll_mir_grammar.specs.Grammars.{Begins, HasNone, many};
+ghost use Rattle.nll_text.specs.LineTokens.{tokens_in};
+ghost use Rattle.nll_text.specs.Grammars.{Begins, HasNone};
+ghost use Rattle.nll_mir_grammar.specs.Grammars.{many};
 ghost use Rattle.nll_mir_grammar.specs.Parts as parts;
 
-use crate::words::{after_sign, number_at, variable_at, word_at};
+use crate::pairs::Read;
+use crate::words::variable_at;
 use nll_sets::Memory;
+use nll_text::{after_sign, number_at, word_at};
 use nll_types::{Operand, Place, Projection};
 use smallvec::SmallVec;
 use std::alloc::Global;
@@ -93,7 +96,7 @@ fn place_behind<'a>(
 }
 
 /// The place at the front.
-pub fn place_at<'a>(alloc: Global, line: &'a [u8]) -> Result<Option<(Place, &'a [u8])>, Memory>
+pub fn place_at<'a>(alloc: Global, line: &'a [u8]) -> Read<'a, Place>
     ensures { IfOk result (λ o. MatchOption o (HasNone parts.places (tokens_in line.now))
         (λ p. Begins parts.places (tokens_in line.now) (path_of p.0) (tokens_in p.1.now))) }
 {
@@ -105,7 +108,7 @@ pub fn place_at<'a>(alloc: Global, line: &'a [u8]) -> Result<Option<(Place, &'a 
 }
 
 /// The operand at the front.
-pub fn operand_at<'a>(alloc: Global, line: &'a [u8]) -> Result<Option<(Operand, &'a [u8])>, Memory>
+pub fn operand_at<'a>(alloc: Global, line: &'a [u8]) -> Read<'a, Operand>
     ensures { IfOk result (λ o. MatchOption o (HasNone parts.operands (tokens_in line.now))
         (λ p. Begins parts.operands (tokens_in line.now) (operand_of p.0) (tokens_in p.1.now))) }
 {

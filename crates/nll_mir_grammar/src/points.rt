@@ -1,8 +1,8 @@
 //! Statements and terminators that begin with a word of their own, after that word.
 
 ghost use Rattle.std.specs.Prelude.{IfOk, MatchOption};
-ghost use Rattle.nll_mir_grammar.specs.LineTokens.{tokens_in};
-ghost use Rattle.nll_mir_grammar.specs.Grammars.{HasNone};
+ghost use Rattle.nll_text.specs.LineTokens.{tokens_in};
+ghost use Rattle.nll_text.specs.Grammars.{HasNone};
 ghost use Rattle.nll_mir_grammar.specs.Kinds.{IsBehind, tails};
 ghost use Rattle.nll_mir_grammar.specs.Lines.{form_of};
 ghost use Rattle.nll_mir_grammar.specs.declared.keyword.Keyword.TheVariants as keyword;
@@ -10,9 +10,9 @@ ghost use Rattle.nll_mir_grammar.specs.declared.keyword.Keyword.TheVariants as k
 use crate::blocks::blocks_at;
 use crate::exits::exits_at;
 use crate::line::Line;
+use crate::pairs::Read;
 use crate::place::{operand_at, place_at};
 use crate::words::{block_at, variable_at};
-use nll_sets::Memory;
 use nll_statements::Statement;
 use std::alloc::Global;
 
@@ -54,7 +54,7 @@ pub fn drop_line<'a>(line: &'a [u8]) -> Option<(Line<'a>, &'a [u8])>
 }
 
 /// After `read`.
-pub fn read_line<'a>(alloc: Global, line: &'a [u8]) -> Result<Option<(Line<'a>, &'a [u8])>, Memory>
+pub fn read_line<'a>(alloc: Global, line: &'a [u8]) -> Read<'a, Line<'a>>
     ensures { IfOk result
         (λ o. MatchOption o (HasNone (tails keyword.Read) (tokens_in line.now))
         (λ p. IsBehind keyword.Read (tokens_in line.now) (form_of p.0) (tokens_in p.1.now))) }
@@ -66,10 +66,7 @@ pub fn read_line<'a>(alloc: Global, line: &'a [u8]) -> Result<Option<(Line<'a>, 
 }
 
 /// After `switch`.
-pub fn switch_line<'a>(
-    alloc: Global,
-    line: &'a [u8],
-) -> Result<Option<(Line<'a>, &'a [u8])>, Memory>
+pub fn switch_line<'a>(alloc: Global, line: &'a [u8]) -> Read<'a, Line<'a>>
     ensures { IfOk result
         (λ o. MatchOption o (HasNone (tails keyword.Switch) (tokens_in line.now))
         (λ p. IsBehind keyword.Switch (tokens_in line.now) (form_of p.0) (tokens_in p.1.now))) }

@@ -5,22 +5,24 @@ ghost use Rattle.nll_text.specs.Tokens as lex;
 ghost use Rattle.nll_types.specs.Places.{path_of};
 ghost use Rattle.nll_types.specs.Operands.{operand_of};
 ghost use Rattle.nll_mir_grammar.specs.TypeTexts.{written};
-ghost use Rattle.nll_mir_grammar.specs.LineTokens.{tokens_in};
-ghost use Rattle.nll_mir_grammar.specs.Grammars.{Begins, HasNone, behind, pair};
+ghost use Rattle.nll_text.specs.LineTokens.{tokens_in};
+ghost use Rattle.nll_text.specs.Grammars.{Begins, HasNone};
+ghost use Rattle.nll_mir_grammar.specs.Grammars.{behind, pair};
 ghost use Rattle.nll_mir_grammar.specs.Kinds.{borrows, makes, results, signatures};
 ghost use Rattle.nll_mir_grammar.specs.Lines.{argument_of, result_of};
 ghost use Rattle.nll_mir_grammar.specs.Parts.{bound_lists, exits};
 
-use crate::arguments::{Argument, arguments_in};
+use crate::arguments::Argument;
 use crate::bounds::{Bounds, bounds_in};
 use crate::exits::{Exits, exits_at};
-use crate::operands::operands_in;
+use crate::lists::values_in;
 use crate::pairs::{Read, with};
 use crate::place::place_at;
 use crate::type_front::type_front;
 use crate::type_text::TypeText;
-use crate::words::{after_sign, mutability_at, region_at};
+use crate::words::mutability_at;
 use nll_sets::Memory;
+use nll_text::{after_sign, region_at};
 use nll_types::{Operand, Place};
 use std::alloc::Global;
 
@@ -52,7 +54,7 @@ pub fn make_at<'a>(alloc: Global, line: &'a [u8]) -> Read<'a, (TypeText<'a>, Vec
     let Some((ty, behind)) = type_front(alloc, line)? else {
         return Ok(None);
     };
-    with(ty, operands_in(alloc, behind))
+    with(ty, values_in(alloc, behind))
 }
 
 /// What a call has after its arguments: the type of its result, bounds, and where it goes on.
@@ -104,7 +106,7 @@ pub fn signature_at<'a>(
         (λ p. Begins signatures (tokens_in line.now) (map argument_of p.0.0.items, result_of p.0.1)
         (tokens_in p.1.now))) }
 {
-    let Some((arguments, behind)) = arguments_in(alloc, line)? else {
+    let Some((arguments, behind)) = values_in(alloc, line)? else {
         return Ok(None);
     };
     with(arguments, result_behind(alloc, behind))

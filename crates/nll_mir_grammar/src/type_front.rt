@@ -3,8 +3,9 @@
 ghost use Rattle.std.specs.Prelude.{IfOk, MatchOption};
 ghost use Rattle.nll_text.specs.Tokens as lex;
 ghost use Rattle.nll_mir_grammar.specs.TypeTexts.{written};
-ghost use Rattle.nll_mir_grammar.specs.LineTokens.{tokens_in};
-ghost use Rattle.nll_mir_grammar.specs.Grammars.{Begins, HasNone, behind};
+ghost use Rattle.nll_text.specs.LineTokens.{tokens_in};
+ghost use Rattle.nll_text.specs.Grammars.{Begins, HasNone};
+ghost use Rattle.nll_mir_grammar.specs.Grammars.{behind};
 ghost use Rattle.nll_mir_grammar.specs.Parts as parts;
 ghost use Rattle.nll_mir_grammar.specs.Tuples.{parts as parts_of_tuple};
 
@@ -12,15 +13,11 @@ use crate::line::TupleText;
 use crate::pairs::Read;
 use crate::type_reader::type_at;
 use crate::type_text::TypeText;
-use crate::words::after_sign;
-use nll_sets::Memory;
+use nll_text::after_sign;
 use std::alloc::Global;
 
 /// The type at the front.
-pub fn type_front<'a>(
-    alloc: Global,
-    line: &'a [u8],
-) -> Result<Option<(TypeText<'a>, &'a [u8])>, Memory>
+pub fn type_front<'a>(alloc: Global, line: &'a [u8]) -> Read<'a, TypeText<'a>>
     ensures { IfOk result (λ o. MatchOption o (HasNone parts.types (tokens_in line.now))
         (λ p. Begins parts.types (tokens_in line.now) (written p.0) (tokens_in p.1.now))) }
 {
@@ -41,10 +38,7 @@ pub fn type_behind<'a>(alloc: Global, line: &'a [u8]) -> Read<'a, TypeText<'a>>
 }
 
 /// The tuple type at the front.
-pub fn tuple_front<'a>(
-    alloc: Global,
-    line: &'a [u8],
-) -> Result<Option<(TupleText<'a>, &'a [u8])>, Memory>
+pub fn tuple_front<'a>(alloc: Global, line: &'a [u8]) -> Read<'a, TupleText<'a>>
     ensures { IfOk result (λ o. MatchOption o (HasNone parts.tuples (tokens_in line.now))
         (λ p. Begins parts.tuples (tokens_in line.now) (parts_of_tuple (written p.0))
         (tokens_in p.1.now))) }

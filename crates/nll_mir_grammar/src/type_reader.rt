@@ -1,14 +1,14 @@
 //! The type at the front of the rest of a line.
 
 ghost use Rattle.std.specs.Prelude.{◌≡◌, [], MatchOption, IfOk, IfSome};
-ghost use Rattle.nll_mir_grammar.specs.LineTokens.{tokens_in};
+ghost use Rattle.nll_text.specs.LineTokens.{tokens_in};
 ghost use Rattle.nll_mir_grammar.specs.TypeTexts.{written, IsType};
 ghost use Rattle.nll_mir_grammar.specs.Reading.{HasNoType, IsTypeIn};
 
 use crate::opens::{Opened, State, step};
 use crate::type_text::{TypePiece, TypeText};
-use crate::words::after_sign;
 use nll_sets::Memory;
+use nll_text::after_sign;
 use smallvec::SmallVec;
 use std::alloc::Global;
 

@@ -9,8 +9,8 @@ use Rattle.nll_problem.specs.Problem.{Problem}
 use Rattle.nll_cut.specs.Partition.{Cut, reads, owner_of}
 use Rattle.nll_mail.specs.declared.growth.Growth.{Growth}
 use Rattle.nll_owner.specs.Owner.{Passes, received_from}
-use Rattle.nll_owner.proofs.LogLemmas.{filter_from, contains_head}
-use Rattle.nll_owner.proofs.OwnerLemmas.{pair_small, filter_le}
+use Rattle.fixpoint.proofs.ListLemmas.{filter_from, contains_head, filter_le}
+use Rattle.nll_owner.proofs.OwnerLemmas.{pair_small}
 use Rattle.std.proofs.lemmas.List.Elements.{Contains-append_left, Contains-append_right}
 use Rattle.nll_model.specs.declared.seat.Item.{Item}
 use Rattle.nll_model.specs.declared.seat.Item.TheVariants.{Nothing, Fresh, Owed}

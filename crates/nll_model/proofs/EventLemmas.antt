@@ -1,5 +1,5 @@
 -- Every event keeps the world sound.
-use Rattle.std.proofs.Common.{◌≡◌, ◌≢◌, ℕ, zero, suc, ◌+◌, ◌<◌, Bool, true, false, List, [], ◌∷◌, ◌++◌, length, map, drop, cond, Contains, get_or, set, slice_get, Some, refl, sym, ap, ◌∙◌, subst, inl, inr, ◌⊎◌, ⊎_elim, arith, append-nil, append_assoc, length-append}
+use Rattle.std.proofs.Common.{◌≡◌, ◌≢◌, ℕ, ◌+◌, ◌<◌, Bool, true, false, List, [], ◌∷◌, ◌++◌, length, map, drop, Contains, get_or, set, slice_get, Some, refl, sym, ap, ◌∙◌, subst, inl, inr, ◌⊎◌, ⊎_elim, arith, append-nil, append_assoc, length-append}
 use Rattle.std.specs.Prelude.{sum_by}
 use Rattle.std.proofs.Math.ListN.{get_or-map}
 use Rattle.std.proofs.lemmas.Bool.{cases_eq, false≢true}
@@ -8,9 +8,7 @@ use Rattle.std.proofs.lemmas.List.{length-map, length-set, get_or-set_same, get_
 use Rattle.std.proofs.lemmas.List.Elements.{filter-append, Contains-append_right}
 use Rattle.std.proofs.lemmas.List.Sums.{sum_by-set, sum_by-cons}
 use Rattle.nll_problem.specs.Problem.{Problem}
-use Rattle.nll_cut.specs.Partition.{Cut, owner_of, reads}
-use Rattle.nll_cut.proofs.ReadLemmas.{reads_tells}
-use Rattle.nll_owner.proofs.LogLemmas.{contains_head, contains_tail}
+use Rattle.nll_cut.specs.Partition.{Cut, owner_of}
 use Rattle.nll_mail.specs.declared.growth.Growth.{Growth}
 use Rattle.nll_owner.specs.Logs.{part}
 use Rattle.nll_owner.specs.Owner.{received_from, part_for, given_to, with_growth}
@@ -18,58 +16,7 @@ use Rattle.nll_model.specs.declared.seat.Item.TheVariants.{Nothing, Fresh, Owed}
 use Rattle.nll_model.specs.State.{Lane, empty_lane, Seat, State, lane_to, IsAt, with_seat, with_lane}
 use Rattle.nll_model.specs.Events.{owed_lane, fresh_count, Turns}
 use Rattle.nll_model.specs.Soundness.{held, under_way, IsSoundSeat, IsSoundState}
-
--- ---- lists
-
-pub set_cases : {X : Type 0} (xs : List X) (i : ℕ) (y : X) (k : ℕ) (z : X) → slice_get (set xs i y) k ≡ Some z
-    → ((k ≡ i) × (z ≡ y)) ⊎ ((k ≢ i) × (slice_get xs k ≡ Some z))
-set_cases [] i y k z h = absurd (let l = slice_get_within [] k z h in omega arith)
-set_cases (x ∷ xs) zero y zero z h = inl (refl, sym (cc h))
-set_cases (x ∷ xs) zero y (suc k) z h = inr ((λ e. absurd (omega arith)), h)
-set_cases (x ∷ xs) (suc i) y zero z h = inr ((λ e. absurd (omega arith)), h)
-set_cases (x ∷ xs) (suc i) y (suc k) z h =
-    ⊎_elim (λ (p : (k ≡ i) × (z ≡ y)). inl (ap suc p.0, p.1))
-    (λ (p : (k ≢ i) × (slice_get xs k ≡ Some z)). inr ((λ e. p.0 (omega arith)), p.1)) (set_cases xs i y k z h)
-
-pub same_at : {X : Type 0} (xs : List X) (i : ℕ) (x y : X) → slice_get xs i ≡ Some x → slice_get xs i ≡ Some y → x ≡ y
-same_at xs i x y h k = sym (get_or_from_slice_get xs i x x h) ∙ get_or_from_slice_get xs i y x k
-
-sum_same : {X : Type 0} (f : X → ℕ) (d : X) (xs ys : List X) → length xs ≡ length ys
-    → ((j : ℕ) → j < length ys → f (get_or xs j d) ≡ f (get_or ys j d)) → sum_by f xs ≡ sum_by f ys
-sum_same f d [] [] l h = refl
-sum_same f d [] (y ∷ ys) l h = absurd (omega arith)
-sum_same f d (x ∷ xs) [] l h = absurd (omega arith)
-sum_same f d (x ∷ xs) (y ∷ ys) l h =
-    let first : f x ≡ f y = h 0 (omega arith) in
-    let rest = sum_same f d xs ys (omega arith) (λ j p. h (suc j) (omega arith)) in
-    omega (arith, first, rest, sum_by-cons f x xs, sum_by-cons f y ys)
-
-drop_front : {X : Type 0} (xs ys : List X) → drop (length xs) (xs ++ ys) ≡ ys
-drop_front [] ys = refl
-drop_front (x ∷ xs) ys = drop_front xs ys
-
--- all of a lane, the oldest first
-abbrev pub whole : Lane → List Growth
-whole l = l.box ++ (l.out ++ l.fresh)
-
--- what is owed for and not yet received
-abbrev pub owing : Lane → ℕ
-owing l = length l.out + length l.box
-
--- an owner is told nothing of its own regions
-pub none_own : (q : Problem) (c : Cut) (i : ℕ) (log : List Growth)
-    → ((g : Growth) → Contains log g → owner_of c g.region ≡ i) → part q c i log ≡ []
-none_own q c i [] own = refl
-none_own q c i (g ∷ log) own =
-    ap (λ b. cond b (g ∷ part q c i log) (part q c i log)) (unread (own g (contains_head g log)))
-    ∙ none_own q c i log (λ h k. own h (contains_tail g log h k))
-  where
-    unread : owner_of c g.region ≡ i → reads q c i g.region ≡ false
-    unread is = go (reads q c i g.region) refl
-      where
-        go : (b : Bool) → reads q c i g.region ≡ b → b ≡ false
-        go false h = refl
-        go true h = absurd (((reads_tells q c i g.region).0 h).0 is)
+use Rattle.nll_model.proofs.LaneLemmas.{drop_front, none_own, owing, set_cases, sum_same, whole}
 
 -- ---- another seat for one owner
 
@@ -140,12 +87,10 @@ module _ (q : Problem) (c : Cut) (w : State) (sound : IsSoundState q c w) (i : �
       t : Seat
       t = record s { item = Owed; lanes = map owed_lane s.lanes }
 
-      lane : (j : ℕ) → lane_to t j ≡ owed_lane (lane_to s j)
-      lane j = get_or-map owed_lane s.lanes j empty_lane
-
       lanes : (j : ℕ) → whole (lane_to t j) ≡ whole (lane_to s j)
       lanes j =
-          ap whole (lane j) ∙ ap (λ x. (lane_to s j).box ++ x) (append-nil ((lane_to s j).out ++ (lane_to s j).fresh))
+          ap whole (get_or-map owed_lane s.lanes j empty_lane)
+          ∙ ap (λ x. (lane_to s j).box ++ x) (append-nil ((lane_to s j).out ++ (lane_to s j).fresh))
 
       loaded : s.owner.loaded ≡ true
       loaded = go s.owner.loaded refl
@@ -171,8 +116,8 @@ module _ (q : Problem) (c : Cut) (w : State) (sound : IsSoundState q c w) (i : �
         given = seat.given;
         done = seat.done;
         unloaded = λ h. absurd (false≢true (sym h ∙ loaded));
-        own = lane i ∙ ap owed_lane seat.own;
-        fresh = λ h j. ap (λ (l : Lane). l.fresh) (lane j);
+        own = get_or-map owed_lane s.lanes i empty_lane ∙ ap owed_lane seat.own;
+        fresh = λ h j. ap (λ (l : Lane). l.fresh) (get_or-map owed_lane s.lanes j empty_lane);
       }
 
       weight : (ls : List Lane) → sum_by owing (map owed_lane ls)
@@ -302,14 +247,8 @@ module _ (q : Problem) (c : Cut) (w : State) (sound : IsSoundState q c w) (i : �
   -- ---- an owner's turn
 
   module _ (t : Seat) (turns : Turns s t) (idle : s.item ≡ Nothing) where
-    rest : List Growth
-    rest = turns.begins.0
-
     owners_is : t.owner.cut.owners ≡ c.owners
     owners_is = ap (λ (x : Cut). x.owners) (turns.cut ∙ seat.cut)
-
-    more : ℕ → List Growth
-    more j = part s.owner.problem s.owner.cut j turns.begins.0
 
     part_more : (j : ℕ) → part_for t.owner j ≡ part_for s.owner j ++ part s.owner.problem s.owner.cut j turns.begins.0
     part_more j =

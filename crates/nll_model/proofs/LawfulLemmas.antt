@@ -11,7 +11,7 @@ use Rattle.nll_owner.specs.RegionsLawful.{regions_lawful}
 use Rattle.nll_owner.proofs.RegionLemmas.{part_sound}
 use Rattle.nll_model.specs.State.{Seat, State, IsAt, first_seat}
 use Rattle.nll_model.specs.Soundness.{IsOwner, IsOrderly, IsSoundState, AreRanksLow, IsLawful}
-use Rattle.nll_model.proofs.EventLemmas.{same_at}
+use Rattle.nll_model.proofs.LaneLemmas.{same_at}
 use Rattle.nll_model.proofs.SoundLemmas.{still, says_least, said_least}
 use Rattle.nll_model.proofs.OrderlyLemmas.{sound_is_orderly}
 

@@ -8,11 +8,11 @@ use Rattle.nll_cut.specs.Partition.{Cut}
 use Rattle.nll_mail.specs.declared.growth.Growth.{Growth}
 use Rattle.nll_owner.specs.Logs.{IsPrefix}
 use Rattle.nll_owner.specs.Owner.{Owner, IsSound, received_from, with_growth}
-use Rattle.nll_owner.proofs.LogLemmas.{filter_from}
+use Rattle.fixpoint.proofs.ListLemmas.{filter_from}
 use Rattle.nll_model.specs.State.{Seat, State, IsAt}
 use Rattle.nll_model.specs.Soundness.{IsOwner, IsOrderly, IsSoundState}
 use Rattle.nll_model.specs.Working.{GoesOn, NoGrowth, IsGrowthFrom}
-use Rattle.nll_model.proofs.EventLemmas.{set_cases}
+use Rattle.nll_model.proofs.LaneLemmas.{set_cases}
 
 -- ---- one owner
 
@@ -45,19 +45,6 @@ goes_further came old now new one two = record {
   sound = two.sound;
   heard = λ j g h. ⊎_elim (λ (x : Contains (received_from now j) g). one.heard j g x) (λ (x : NoGrowth j g). absurd x)
       (two.heard j g h);
-}
-
--- it was loaded, or that was refused
-pub loaded_on : (old new : Owner) → IsPrefix old.log new.log
-    → new ≡ record old { log = new.log; clock = new.clock; loaded = new.loaded; broken = new.broken } → IsSound new
-    → GoesOn NoGrowth old new
-loaded_on old new begins is sound = record {
-  begins = begins;
-  problem = ap (λ (o : Owner). o.problem) is;
-  cut = ap (λ (o : Owner). o.cut) is;
-  me = ap (λ (o : Owner). o.me) is;
-  sound = sound;
-  heard = λ j g h. inl (subst (λ (o : Owner). Contains (received_from o j) g) is h);
 }
 
 -- it received a growth, or that was refused

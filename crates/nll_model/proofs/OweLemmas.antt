@@ -20,18 +20,6 @@ pub record Owes (old now : Seat) (count to : ℕ) : Type 0 where
   pub others : (j : ℕ) → to ≤ j → lane_to now j ≡ lane_to old j
   pub counts : count ≡ sum_by (λ (l : Lane). length l.fresh) (take to old.lanes)
 
-pub owes_none : (s : Seat) → Owes s s 0 0
-owes_none s =
-    record {
-      owner = refl;
-      item = refl;
-      left = refl;
-      lane_count = refl;
-      owed = λ j l. absurd (omega arith);
-      others = λ j l. refl;
-      counts = refl;
-    }
-
 module _ (old now : Seat) (count to : ℕ) (h : Owes old now count to) (within : to < length now.lanes) (lane next : Lane)
     (more : ℕ) (is : lane ≡ get_or now.lanes to lane) (next_is : next ≡ owed_lane lane)
     (more_is : more ≡ length lane.fresh) where
@@ -89,14 +77,3 @@ owes_seat old now count to h all item =
     ap (λ (ls : List Lane). record now { item = item; lanes = ls }) (owes_lanes old now count to h all)
     ∙ (ap (λ (o : Owner). record now { owner = o; item = item; lanes = map owed_lane old.lanes }) h.owner
     ∙ ap (λ b. record old { item = item; left = b; lanes = map owed_lane old.lanes }) h.left)
-
-pub owes_count : (old now : Seat) (count to : ℕ) → Owes old now count to → length now.lanes ≤ to
-    → count ≡ fresh_count old
-owes_count old now count to h all = h.counts
-    ∙ ap (sum_by (λ (l : Lane). length l.fresh)) (take_whole old.lanes to (omega (arith, all, h.lane_count)))
-  where
-    take_whole : {X : Type 0} (xs : List X) (n : ℕ) → length xs ≤ n → take n xs ≡ xs
-    take_whole [] zero l = refl
-    take_whole [] (suc n) l = refl
-    take_whole (x ∷ xs) zero l = absurd (omega arith)
-    take_whole (x ∷ xs) (suc n) l = ap (λ ys. x ∷ ys) (take_whole xs n (omega arith))

@@ -9,7 +9,7 @@ use Rattle.nll_model.specs.declared.event.Event.TheVariants.{Take, Push}
 use Rattle.nll_model.specs.State.{Seat, State, IsAt, lane_to}
 use Rattle.nll_model.specs.Events.{IsFree, IsPossible}
 use Rattle.nll_model.specs.Soundness.{IsSoundState}
-use Rattle.nll_model.proofs.EventLemmas.{same_at}
+use Rattle.nll_model.proofs.LaneLemmas.{same_at}
 use Rattle.nll_model.proofs.StateLemmas.{lanes_is}
 
 -- numbers of no two owners

@@ -12,20 +12,13 @@ use Rattle.nll_cut.specs.Partition.{Cut, owner_of}
 use Rattle.nll_owner.specs.Logs.{IsCutOf, IsTold}
 use Rattle.nll_model.specs.State.{Seat, State, IsAt}
 use Rattle.nll_model.specs.Soundness.{Says, IsSoundState}
-use Rattle.nll_model.proofs.EventLemmas.{same_at}
+use Rattle.nll_model.proofs.LaneLemmas.{same_at}
 
 -- The sets are of the first regions, and have what the logs say of them.
 pub record AreSaid (q : Problem) (c : Cut) (w : State) (count : ℕ) (sets : List (List Bool)) : Type 0 where
   pub size : length sets ≡ count
   pub shaped : (r : ℕ) → r < count → length (set_of sets r) ≡ element_count q.graph
   pub told : (r e : ℕ) → r < count → IsIn (set_of sets r) e ↔ Says c w r e
-
-pub said_none : (q : Problem) (c : Cut) (w : State) (sets : List (List Bool)) → sets ≡ [] → AreSaid q c w 0 sets
-said_none q c w sets none = record {
-  size = ap length none;
-  shaped = λ r low. absurd (omega (arith, low));
-  told = λ r e low. absurd (omega (arith, low));
-}
 
 -- the set of one region more, which its owner has
 module _ (q : Problem) (c : Cut) (w : State) (count : ℕ) (sets : List (List Bool)) (said : AreSaid q c w count sets)
@@ -64,9 +57,6 @@ module _ (q : Problem) (c : Cut) (w : State) (count : ℕ) (sets : List (List Bo
 -- the sets of all regions
 module _ (q : Problem) (c : Cut) (cut : IsCutOf q c) (w : State) (sound : IsSoundState q c w)
     (sets : List (List Bool)) (said : AreSaid q c w q.regions sets) where
-  pub said_shaped : IsShaped q sets
-  said_shaped = record { regions = said.size; elements = said.shaped }
-
   none_held : (r e : ℕ) → q.regions ≤ r → IsHeld sets r e → ⊥
   none_held r e past h =
       false≢true (subst (λ ys. flag ys e ≡ true) (get_or_past sets r [] (omega (arith, past, said.size))) h)

@@ -13,7 +13,8 @@ use Rattle.nll_cut.specs.Partition.{Cut, owner_of}
 use Rattle.nll_mail.specs.declared.growth.Growth.{Growth}
 use Rattle.nll_owner.specs.Logs.{IsWellFormed, part, IsTold, list_of, IsWellSupported, IsSaturated, IsCutOf, log_of, AreSound, AreSettled}
 use Rattle.nll_owner.specs.Owner.{IsDone, list_in, received_from, part_for}
-use Rattle.nll_owner.proofs.LogLemmas.{filter_from, list_own, list_other}
+use Rattle.nll_owner.proofs.LogLemmas.{list_own, list_other}
+use Rattle.fixpoint.proofs.ListLemmas.{filter_from}
 use Rattle.nll_owner.proofs.LawLemmas.{each_least, least_exact}
 use Rattle.nll_owner.proofs.OwnerLemmas.{supported_in}
 use Rattle.nll_model.specs.declared.seat.Item.{Item}

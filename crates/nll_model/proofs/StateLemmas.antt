@@ -11,7 +11,8 @@ use Rattle.nll_model.specs.State.{Lane, Seat, State, IsAt, with_lane, with_seat,
 use Rattle.nll_model.specs.Events.{IsFree, fresh_count}
 use Rattle.nll_model.specs.Soundness.{IsOrderly, IsSoundState}
 use Rattle.nll_model.specs.Working.{GoesOn, NoGrowth, IsGrowthFrom}
-use Rattle.nll_model.proofs.EventLemmas.{set_cases, owe}
+use Rattle.nll_model.proofs.LaneLemmas.{set_cases}
+use Rattle.nll_model.proofs.EventLemmas.{owe}
 use Rattle.nll_model.proofs.OrderlyLemmas.{sound_is_orderly, orderly_then, stays}
 use Rattle.nll_model.proofs.LawfulLemmas.{ranks_are_low}
 use Rattle.nll_model.proofs.BoundLemmas.{balance_small, limit, first_passes, first_logged}

@@ -9,7 +9,7 @@ use Rattle.nll_problem.specs.Problem.{Problem, IsSound as IsSoundProblem}
 use Rattle.nll_cut.specs.Partition.{Cut}
 use Rattle.nll_owner.specs.Logs.{IsCutOf}
 use Rattle.nll_owner.specs.Owner.{received_from, part_for}
-use Rattle.nll_owner.proofs.OwnerLemmas.{first_sound}
+use Rattle.nll_owner.proofs.FirstOwnerLemmas.{first_sound}
 use Rattle.nll_model.specs.declared.event.Event.{Event}
 use Rattle.nll_model.specs.declared.event.Event.TheVariants.{Load, Take, Owe, Clear, Push, Leave}
 use Rattle.nll_model.specs.declared.outcome.Step.{Step}

@@ -1,12 +1,12 @@
 -- Whether something is told can be decided; so what is left of a region is a set by a test.
-use Rattle.std.proofs.Common.{◌≡◌, ◌⊎◌, ⊎_elim, ℕ, ◌≤◌, Bool, true, false, List, [], ◌∷◌, Contains, refl, sym, ◌∙◌, subst, inl, inr, arith}
+use Rattle.std.proofs.Common.{◌≡◌, ◌⊎◌, ⊎_elim, ℕ, ◌≤◌, Bool, true, false, List, [], ◌∷◌, Contains, refl, sym, subst, inl, inr, arith}
 use Rattle.std.proofs.lemmas.Bool.{cases_eq, cases_lt, false≢true}
 use Rattle.nll_mail.specs.declared.growth.Growth.{Growth}
 use Rattle.nll_owner.specs.Following.{OfRun}
 use Rattle.nll_owner.specs.Logs.{IsTold}
 use Rattle.nll_owner.specs.RegionRuns.{IsToldByRuns}
 use Rattle.nll_owner.specs.declared.region_run.RegionRun.{RegionRun}
-use Rattle.nll_owner.proofs.LogLemmas.{contains_head, contains_tail, contains_cases}
+use Rattle.fixpoint.proofs.ListLemmas.{contains_head, contains_tail, contains_cases}
 
 -- it holds, or it doesn't
 abbrev pub Decided : Type 0 → Type 0

@@ -1,9 +1,9 @@
 -- What the queues of an owner say as its log grows, is looked through, and is given out.
-use Rattle.std.proofs.Common.{◌≡◌, ◌≢◌, ℕ, zero, suc, ◌+◌, ◌-◌, ◌<◌, ◌≤◌, Bool, true, false, List, [], ◌∷◌, ◌++◌, length, map, set, if◌then◌else◌, replicate, Contains, get_or, take, drop, refl, sym, ap, ◌∙◌, subst, ⊎_elim, arith, append-nil, length-append}
+use Rattle.std.proofs.Common.{◌≡◌, ℕ, zero, suc, ◌+◌, ◌-◌, ◌<◌, ◌≤◌, Bool, true, false, List, [], ◌∷◌, ◌++◌, length, map, set, if◌then◌else◌, replicate, Contains, get_or, take, drop, refl, sym, ap, ◌∙◌, subst, ⊎_elim, arith, append-nil, length-append}
 use Rattle.std.specs.List.{filter, range_with_len}
 use Rattle.std.specs.Prelude.{Option, None, Some, is_some, slice_get}
 use Rattle.std.proofs.lemmas.Bool.{cases_eq, cases_lt, false≢true}
-use Rattle.std.proofs.lemmas.List.{length-take-le, map-append, get_or-take, get_or-drop, take_all, take-append-le, take-append-drop, take-take, drop-take, drop-drop, drop-append-le, drop_more, drop-map, get_or-set_same, get_or-set_other, get_or-replicate, get_or_past, length-set, length-map, length-drop, length-replicate}
+use Rattle.std.proofs.lemmas.List.{length-take-le, map-append, get_or-take, get_or-drop, take_all, take-append-le, take-append-drop, take-take, drop-take, drop-drop, drop-append-le, drop_more, drop-map, get_or-set_same, get_or-set_other, get_or-replicate, get_or_past, length-set, length-drop, length-replicate}
 use Rattle.std.proofs.lemmas.List.Elements.{filter-append}
 use Rattle.nll_cut.specs.Partition.{Cut, reads}
 use Rattle.nll_cut.specs.Readers.{is_read}
@@ -270,18 +270,6 @@ module _ (o : Owner) (b : Outboxes) (all : AreAllQueued o b) where
   pub given_enough : (j : ℕ) → given_to o j ≤ length (part_for o j)
   given_enough j = subst (λ xs. given_to o j ≤ length xs) (whole j) (all.0.enough j)
 
-  -- as many places are left as growths
-  pub left_count : (j : ℕ) → j < o.cut.owners → given_to o j + length (queue_of b j) ≡ length (part_for o j)
-  left_count j h =
-      omega (
-        arith,
-        ap length (queue_says j h),
-        length-map (queue_of b j) (slice_get o.log),
-        length-map (drop (given_to o j) (part_for o j)) Some,
-        length-drop (given_to o j) (part_for o j),
-        given_enough j,
-      )
-
   pub none_past : (j : ℕ) → o.cut.owners ≤ j → queue_of b j ≡ []
   none_past j h = get_or_past b.queues j [] (omega (arith, all.0.owners))
 
@@ -397,24 +385,6 @@ none_queues n few = record {
         (cases_lt j n)
 
 module _ (reads : ℕ → Bool) (places : List ℕ) (old : Outboxes) where
-  pub got_none : (next : ℕ) → GotPlaces reads places 0 old (record old { place = next })
-  got_none next = record { got = λ j h is. absurd (omega (arith, h)); passed = λ j is. refl; left = λ j h. refl }
-
-  -- no further owner reads
-  pub got_all : (below : ℕ) (new : Outboxes) → GotPlaces reads places below old new
-      → ((j : ℕ) → reads j ≡ true → j < length old.queues) → ((j : ℕ) → below ≤ j → reads j ≡ false)
-      → GotPlaces reads places (length old.queues) old new
-  got_all below new g owners none = record {
-    got = λ j h is. ⊎_elim (λ l. g.got j l is) (λ above. absurd (false≢true (sym (none j above) ∙ is)))
-        (cases_lt j below);
-    passed = g.passed;
-    left = λ j h. g.passed j (not_read (reads j) (λ is. (let l = owners j is in omega (arith, l, h))));
-  }
-    where
-      not_read : (b : Bool) → (b ≡ true → ⊥) → b ≡ false
-      not_read true h = absurd (h refl)
-      not_read false h = refl
-
   -- the next one that reads got them
   module _ (below reader : ℕ) (new : Outboxes) (g : GotPlaces reads places below old new) (from : below ≤ reader)
       (is : reads reader ≡ true) (least : (j : ℕ) → below ≤ j → j < reader → reads j ≡ false)
@@ -422,28 +392,9 @@ module _ (reads : ℕ → Bool) (places : List ℕ) (old : Outboxes) where
     abbrev more : Outboxes
     more = record new { queues = set new.queues reader (queue_of new reader ++ places) }
 
-    other : (j : ℕ) → j ≢ reader → queue_of more j ≡ queue_of new j
-    other j differs = get_or-set_other new.queues reader j (queue_of new reader ++ places) [] differs
-
     here : queue_of more reader ≡ queue_of old reader ++ places
     here = get_or-set_same new.queues reader (queue_of new reader ++ places) [] within
         ∙ ap (λ xs. xs ++ places) (g.left reader from)
-
-    before : (j : ℕ) → j ≢ reader → j < reader + 1 → reads j ≡ true → queue_of more j ≡ queue_of old j ++ places
-    before j differs h read = ⊎_elim
-        (λ l. other j differs ∙ g.got j l read)
-        (λ above. absurd (false≢true (sym (least j above (omega (arith, differs, h))) ∙ read)))
-        (cases_lt j below)
-
-    pub got_more : GotPlaces reads places (reader + 1) old more
-    got_more = record {
-      got = λ j h read. ⊎_elim (λ same. subst (λ i. queue_of more i ≡ queue_of old i ++ places) (sym same) here)
-          (λ differs. before j differs h read) (cases_eq j reader);
-      passed =
-          λ j skipped. ⊎_elim (λ same. absurd (false≢true (sym skipped ∙ (ap reads same ∙ is))))
-          (λ differs. other j differs ∙ g.passed j skipped) (cases_eq j reader);
-      left = λ j h. other j (omega (arith, h)) ∙ g.left j (omega (arith, from, h));
-    }
 
   -- no queue has more places than were looked through
   pub got_short : (below : ℕ) (new : Outboxes) → GotPlaces reads places below old new → AreQueues old

@@ -1,16 +1,16 @@
 -- Owners as parts of the analysis of regions, and what logs say in its words.
-use Rattle.std.proofs.Common.{◌≡◌, ◌↔◌, ◌⊎◌, ℕ, ◌<◌, Bool, true, List, Contains, IsTrue, Result, Ok, Err, OnOk, refl, ap, ◌∙◌, subst, inl, inr, ⊎_elim, arith}
+use Rattle.std.proofs.Common.{◌≡◌, ◌↔◌, ℕ, Bool, List, Contains, IsTrue, Result, Ok, Err, OnOk, refl, ap, ◌∙◌, subst, inl, inr, ⊎_elim, arith}
 use Rattle.fixpoint.specs.Rules as generic
 use Rattle.fixpoint.specs.Logs as logs
 use Rattle.fixpoint.specs.State as state
-use Rattle.fixpoint.proofs.LogLemmas.{tells_from, tells_to, before_from, before_to}
-use Rattle.nll_problem.specs.Problem.{Problem, IsBase, IsSound as IsSoundProblem}
-use Rattle.nll_problem.specs.Solution.{IsAskedIn, Satisfies, Least}
+use Rattle.fixpoint.proofs.LogLemmas.{tells_from, before_from, before_to}
+use Rattle.nll_problem.specs.Problem.{Problem}
+use Rattle.nll_problem.specs.Solution.{IsAskedIn, Least}
 use Rattle.nll_problem.specs.declared.constraint.Constraint.{Constraint}
 use Rattle.nll_problem.proofs.AskLemmas.{asked_weaker}
 use Rattle.nll_cut.specs.Partition.{Cut, owner_of}
 use Rattle.nll_mail.specs.declared.growth.Growth.{Growth}
-use Rattle.nll_owner.specs.Logs.{IsTold, IsToldBefore, IsCutOf, IsCalledFor, IsWellFormed, IsWellSupported, IsSaturated, list_of, log_of, AreSound, AreSettled}
+use Rattle.nll_owner.specs.Logs.{IsTold, IsToldBefore, IsCalledFor, IsWellFormed, IsWellSupported, IsSaturated, list_of, log_of, AreSound, AreSettled}
 use Rattle.nll_owner.specs.Owner.{Owner, IsSound, IsDone, Passes, list_in}
 use Rattle.nll_owner.specs.Regions.{System, system_of, fact_of, rules, part_of, IsValid}
 use Rattle.nll_owner.specs.RegionsLawful.{one, read_region, regions_lawful}

@@ -12,7 +12,7 @@ use Rattle.nll_owner.specs.Logs.{IsRunOfLog, IsTold}
 use Rattle.nll_owner.specs.Owner.{Owner}
 use Rattle.nll_owner.specs.Keeping.{Grows}
 use Rattle.nll_owner.specs.Following.{OfRunOr}
-use Rattle.nll_owner.specs.RegionRuns.{AddsRun, AreDue, AreHeld, AreProper, IsToldByRuns, TellTheSame}
+use Rattle.nll_owner.specs.RegionRuns.{AddsRun, AreDue, AreHeld, IsInside, AreProper, IsToldByRuns, TellTheSame}
 use Rattle.nll_owner.specs.declared.due.Due.{Due}
 use Rattle.nll_owner.specs.declared.region_run.RegionRun.{RegionRun}
 use Rattle.nll_owner.proofs.LinkingLemmas.{in_set, set_here, set_kept}
@@ -91,14 +91,22 @@ module _ (old new : Owner) (g : Grows old new) (runs : List RegionRun) where
     has = λ k h e own. has_grows old new g k.region e (w.has k h e own);
   }
 
-  pub due_grows : (d : Due) → AreDue old d runs → AreDue new d runs
-  due_grows d w = record {
+module _ (old new : Owner) (g : Grows old new) (d : Due) where
+  pub inside_grows : IsInside old d → IsInside new d
+  inside_grows w = record {
+    sound = g.sound;
+    steps = w.steps ∙ sym (ap (λ (o : Owner). o.problem.graph) g.others);
     slot = slot_still old new g d.slot d.region w.slot;
     place = omega (arith, w.place, grows_le old new g);
+  }
+
+  pub due_grows : AreDue old d → AreDue new d
+  due_grows w = record {
+    inside = inside_grows w.inside;
     some = w.some;
     count = w.count;
     first = w.first;
-    held = held_grows w.held;
+    held = held_grows old new g d.runs.now w.held;
   }
 
 -- ---- the runs of growths

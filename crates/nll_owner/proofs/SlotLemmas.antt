@@ -1,16 +1,17 @@
 -- The slots of the regions that an owner holds.
-use Rattle.std.proofs.Common.{◌≡◌, ◌≢◌, ℕ, zero, suc, ◌+◌, ◌<◌, ◌≤◌, Bool, true, false, cond, ◌||◌, List, [], ◌∷◌, ◌++◌, length, get_or, set, slice_index, AllPairs, Contains, refl, sym, ap, ◌∙◌, subst, ⊎_elim, arith}
+use Rattle.std.proofs.Common.{◌≡◌, ◌≢◌, ℕ, zero, suc, ◌+◌, ◌<◌, ◌≤◌, Bool, true, false, cond, ◌||◌, List, [], ◌∷◌, ◌++◌, length, get_or, slice_index, AllPairs, Contains, refl, sym, ap, ◌∙◌, subst, ⊎_elim, arith}
 use Rattle.std.specs.Prelude.{Option, Some, None, IfNone, IsSome}
 use Rattle.std.specs.List.{filter, range_with_len}
 use Rattle.std.proofs.lemmas.Bool.{cases_eq, cases_lt, eq-eqb, eqb-true}
-use Rattle.std.proofs.lemmas.List.{get_or_default, get_or-set_other, get_or-set_same}
+use Rattle.std.proofs.lemmas.List.{get_or_default}
 use Rattle.std.proofs.lemmas.List.Elements.{filter-append}
 use Rattle.std.proofs.lemmas.List.FromFn.{length-range_with_len, get_or-range_with_len}
 use Rattle.nll_core.specs.Growing.{Gains}
 use Rattle.nll_cut.specs.Partition.{Cut, owner_of, reads}
 use Rattle.nll_owner.specs.Owner.{Owner, Has, IsSound, received_from}
 use Rattle.nll_owner.specs.Keeping.{holds_region, held_below, held_regions, IsSlot, IsSlotIn, AreSlotted}
-use Rattle.nll_owner.proofs.LogLemmas.{filter_from, filter_to, list_other}
+use Rattle.nll_owner.proofs.LogLemmas.{list_other}
+use Rattle.fixpoint.proofs.ListLemmas.{filter_from, filter_to}
 
 -- ---- numbers that follow each other
 
@@ -175,18 +176,3 @@ slotted_gains o kind old new w g =
 -- the slots of the regions at the places before `count` are told
 abbrev pub TellsTo : List ℕ → List ℕ → ℕ → Type 0
 TellsTo regions table count = (s r : ℕ) → IsSlotIn regions s r → s < count → slice_index table r ≡ s
-
-pub tells_more : (regions table : List ℕ) (count r : ℕ) → AllPairs {X = ℕ} (λ r s. r < s) regions
-    → IsSlotIn regions count r → r < length table → TellsTo regions table count
-    → TellsTo regions (set table r count) (count + 1)
-tells_more regions table count r up at within tells s q here low = ⊎_elim
-    (λ (is : s ≡ count).
-    let same : q ≡ r =
-    sym here.1 ∙ (ap (λ i. get_or regions i q) is ∙ (get_or_default regions count q r at.0 ∙ at.1)) in
-    ap (λ x. get_or (set table r count) x 0) same ∙ (get_or-set_same table r count 0 within ∙ sym is))
-    (λ other.
-    let early : s < count = omega (arith, low, other) in
-    let less = up s count q early at.0 in
-    let apart : q ≡ r → ⊥ = λ same. omega (arith, less, here.1, get_or_default regions count q r at.0, at.1, same) in
-    get_or-set_other table r q count 0 apart ∙ tells s q here early)
-    (cases_eq s count)

@@ -2,9 +2,10 @@
 -- file.
 use Rattle.std.specs.Prelude.{◌≡◌, ◌⊎◌, ℕ, ◌<◌, ◌≤◌, List, length, Contains, slice_index_or}
 use Rattle.nll_sets.specs.Runs.{IsWithin}
+use Rattle.nll_sets.specs.declared.run.Run.{Run}
 use Rattle.nll_mail.specs.declared.growth.Growth.{Growth}
 use Rattle.nll_owner.specs.Logs.{IsTold}
-use Rattle.nll_owner.specs.Owner.{Owner, Has}
+use Rattle.nll_owner.specs.Owner.{Owner, Has, IsSound}
 use Rattle.nll_owner.specs.Keeping.{IsSlot}
 use Rattle.nll_owner.specs.declared.due.Due.{Due}
 use Rattle.nll_owner.specs.declared.region_run.RegionRun.{RegionRun}
@@ -40,13 +41,26 @@ pub record AreHeld (o : Owner) (runs : List RegionRun) : Type 0 where
   pub has :
       (k : RegionRun) → Contains runs k → (e : ℕ) → IsWithin k.run e → Has o k.region e
 
--- The first runs of a list are due to the links that read a region, which the owner holds: they are
--- of this region. The owner has what the list says.
-pub record AreDue (o : Owner) (d : Due) (runs : List RegionRun) : Type 0 where
+-- The owner is sound and holds the region of what is due; the steps are those of its graph, and so
+-- much of its log was followed up.
+pub record IsInside (o : Owner) (d : Due) : Type 0 where
+  pub sound : IsSound o
+  pub steps : d.steps.now ≡ o.problem.graph
   pub slot : IsSlot o d.slot d.region
   pub place : d.place ≤ length o.log
+
+-- The first runs of the list are due to the links that read a region, which the owner holds: they
+-- are of this region. The owner has what the list says.
+pub record AreDue (o : Owner) (d : Due) : Type 0 where
+  pub inside : IsInside o d
   pub some : 0 < d.count
-  pub count : d.count ≤ length runs
+  pub count : d.count ≤ length d.runs.now
   pub first :
-      (n : ℕ) (k : RegionRun) → n < d.count → slice_index_or runs n k ≡ k → k.region ≡ d.region
-  pub held : AreHeld o runs
+      (n : ℕ) (k : RegionRun) → n < d.count → slice_index_or d.runs.now n k ≡ k
+      → k.region ≡ d.region
+  pub held : AreHeld o d.runs.now
+
+-- The owner has the elements of a run in the region r, and there are some.
+pub record HasRun (o : Owner) (r : ℕ) (run : Run) : Type 0 where
+  pub proper : run.first ≤ run.last
+  pub has : (x : ℕ) → IsWithin run x → Has o r x

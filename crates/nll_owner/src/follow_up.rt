@@ -72,11 +72,12 @@ impl Following {
         })
     }
 
-    /// Follows up growths of other owners that the owner has received, all together: each link that
-    /// reads a region of theirs is looked at once.
+    /// Follows up growths of other owners that the owner has received, all together, so that each
+    /// link that reads a region of theirs is looked at once; then the log to its end.
     ///
     /// # Cost
-    /// A sort of the runs that they say, and what each run newly reaches by each link (not proved).
+    /// A sort of the runs that they say, and what each run newly reaches by each link; then that of
+    /// `settle` (not proved).
     pub fn follow_all(
         &mut self,
         knowledge: &mut Knowledge,
@@ -90,7 +91,8 @@ impl Following {
         requires has { (r e : ℕ) → IsTold growths.now r e → Has knowledge.old r e }
         requires following { IsFollowing (IsTold growths.now) knowledge.old self.old }
         ensures grows { Grows knowledge.old knowledge.new }
-        ensures following { OnOk result (IsFollowing Nothing knowledge.new self.new) }
+        ensures followed { OnOk result (HasFollowed knowledge.new self.new) }
+        ensures closed { OnOk result (IsClosed knowledge.new) }
     {
         self.runs.gather(growths)?;
         follow_runs(
@@ -100,7 +102,8 @@ impl Following {
             self.runs.as_slice(),
             self.place,
             &mut self.found,
-        )
+        )?;
+        self.settle(knowledge, steps)
     }
 
     /// Follows up the log to its end: all that it says from an index on together, then all that was

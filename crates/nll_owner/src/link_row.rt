@@ -1,16 +1,13 @@
 //! The links that read a region.
 
-ghost use Rattle.std.specs.Prelude.{◌≡◌, ◌<◌, [], Contains, length, map, drop, IfOk, OnOk};
-ghost use Rattle.nll_owner.specs.Owner.{IsSound};
+ghost use Rattle.std.specs.Prelude.{◌≡◌, ◌<◌, [], Contains, length, map, IfOk, OnOk};
 ghost use Rattle.nll_owner.specs.Keeping.{Grows};
-ghost use Rattle.nll_owner.specs.Following.{IsLinkOf, LacksOnly, link_shape};
+ghost use Rattle.nll_owner.specs.Following.{IsBehind, HasCaughtUp, link_shape};
 ghost use Rattle.nll_owner.specs.RegionRuns.{AreDue};
 
 use crate::due::Due;
 use crate::knowledge::Knowledge;
 use crate::link::{Link, advance};
-use crate::region_run::RegionRun;
-use nll_core::Steps;
 use nll_sets::{Memory, Run};
 use std::alloc::Global;
 use std::marker::Model;
@@ -59,27 +56,20 @@ impl LinkRow {
     pub fn advance(
         &mut self,
         knowledge: &mut Knowledge,
-        steps: &Steps,
-        due: &Due,
-        runs: &[RegionRun],
+        due: &Due<'_>,
         found: &mut Vec<Run>,
     ) -> Result<(), Memory>
-        requires sound { IsSound knowledge.old }
-        requires steps { steps.now ≡ knowledge.old.problem.graph }
-        requires due { AreDue knowledge.old due.now runs.now }
-        requires links { (l : _) → Contains self.old.items l → IsLinkOf knowledge.old.cut
-            knowledge.old.me due.now.region knowledge.old.problem.constraints l }
-        requires followed { (l : _) → Contains self.old.items l
-            → LacksOnly knowledge.old due.now runs.now l }
+        requires due { AreDue knowledge.old due.now }
+        requires behind { (l : _) → Contains self.old.items l → IsBehind knowledge.old due.now l }
         ensures grows { Grows knowledge.old knowledge.new }
         ensures followed { OnOk result ((l : _) → Contains self.new.items l
-            → LacksOnly knowledge.new due.now (drop due.now.count runs.now) l) }
+            → HasCaughtUp knowledge.new due.now l) }
         ensures same { map link_shape self.new.items ≡ map link_shape self.old.items }
     {
         match &mut self.links {
             Links::None => Ok(()),
-            Links::One(link) => advance(knowledge, steps, due, runs, link, found),
-            Links::Many(links) => advance_all(knowledge, steps, due, runs, links, found),
+            Links::One(link) => advance(knowledge, due, link, found),
+            Links::Many(links) => advance_all(knowledge, due, links, found),
         }
     }
 }
@@ -97,27 +87,20 @@ fn moved(alloc: Global, list: &mut Vec<Link>) -> Result<Vec<Link>, Memory>
 // Hands the first runs of a list to the links that read their region.
 fn advance_all(
     knowledge: &mut Knowledge,
-    steps: &Steps,
-    due: &Due,
-    runs: &[RegionRun],
+    due: &Due<'_>,
     row: &mut Vec<Link>,
     found: &mut Vec<Run>,
 ) -> Result<(), Memory>
-    requires sound { IsSound knowledge.old }
-    requires steps { steps.now ≡ knowledge.old.problem.graph }
-    requires due { AreDue knowledge.old due.now runs.now }
-    requires links { (l : _) → Contains row.old.items l → IsLinkOf knowledge.old.cut
-        knowledge.old.me due.now.region knowledge.old.problem.constraints l }
-    requires followed { (l : _) → Contains row.old.items l
-        → LacksOnly knowledge.old due.now runs.now l }
+    requires due { AreDue knowledge.old due.now }
+    requires behind { (l : _) → Contains row.old.items l → IsBehind knowledge.old due.now l }
     ensures grows { Grows knowledge.old knowledge.new }
     ensures followed { OnOk result ((l : _) → Contains row.new.items l
-        → LacksOnly knowledge.new due.now (drop due.now.count runs.now) l) }
+        → HasCaughtUp knowledge.new due.now l) }
     ensures same { map link_shape row.new.items ≡ map link_shape row.old.items }
 {
     for number in 0..row.len() {
         let link = &mut row[number];
-        advance(knowledge, steps, due, runs, link, found)?;
+        advance(knowledge, due, link, found)?;
     }
     Ok(())
 }

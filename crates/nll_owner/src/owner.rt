@@ -16,19 +16,17 @@ ghost use Rattle.nll_owner.specs.Owner.{received_from, with_growth, with_growths
 ghost use Rattle.nll_owner.specs.Owner.{first_owner};
 ghost use Rattle.nll_owner.specs.Held.{held};
 ghost use Rattle.nll_owner.specs.Tables.{AreTables};
-ghost use Rattle.nll_owner.specs.Keeping.{Grows, IsClosed};
 ghost use Rattle.nll_owner.specs.Following.{IsFollowing, Nothing};
-ghost use Rattle.nll_owner.specs.Outboxes.{AreQueued, AreAllQueued};
+ghost use Rattle.nll_owner.specs.Outboxes.{AreAllQueued};
 ghost use Rattle.fixpoint.specs.declared.error.PartError.TheVariants.{Broken};
 
+use crate::calls::{load_all, parts_of, receive_and_queue};
 use crate::follow_up::Following;
 use crate::holding::Holding;
 use crate::knowledge::Knowledge;
 use crate::outboxes::Outboxes;
-use crate::slots::Slots;
 use crate::tables::{HeldTables, Tables};
 use fixpoint::PartError;
-use nll_core::Steps;
 use nll_cut::Cut;
 use nll_mail::Growth;
 use nll_problem::{Problem, RegionId};
@@ -437,162 +435,4 @@ impl<'q> Owner<'q> {
     {
         self.knowledge.received_from(from)
     }
-}
-
-// What an owner that has done nothing yet knows, has followed up and has to send.
-fn parts_of<'q>(
-    alloc: Global,
-    problem: &'q Problem,
-    cut: &'q Cut,
-    tables: &Tables,
-    me: u16,
-) -> Result<(Knowledge<'q>, Following, Outboxes), Memory>
-    requires cut { length cut.now.list ≡ problem.now.regions }
-    requires tables { AreTables problem.now cut.now tables.now }
-    requires me { me < cut.now.owners }
-    ensures owner { IfOk result (λ parts. parts.0 ≡ first_owner problem.now cut.now me) }
-    ensures sound { IfOk result (λ parts. IsSound parts.0) }
-    ensures following { IfOk result
-        (λ parts. IsFollowing Nothing (first_owner problem.now cut.now me) parts.1) }
-    ensures queued { IfOk result
-        (λ parts. AreAllQueued (first_owner problem.now cut.now me) parts.2) }
-{
-    let outboxes = Outboxes::new(alloc, cut.owners())?;
-    let slots = Slots::of(alloc, cut, &tables.readers, me, problem.regions())?;
-    let following = Following::new(alloc, problem, cut, &tables.index, &slots, me)?;
-    match Knowledge::new(alloc, problem, cut, slots, me) {
-        Ok(knowledge) => Ok((knowledge, following, outboxes)),
-        Err(error) => Err(error),
-    }
-}
-
-// Enters the base elements, settles, and queues what was added to the log.
-fn load_all(
-    knowledge: &mut Knowledge,
-    following: &mut Following,
-    outboxes: &mut Outboxes,
-    tables: &Tables,
-) -> Result<(), PartError>
-    requires sound { IsSound knowledge.old }
-    requires tables { AreTables knowledge.old.problem knowledge.old.cut tables.now }
-    requires following { IsFollowing Nothing knowledge.old following.old }
-    requires queued { AreQueued knowledge.old outboxes.old }
-    ensures grows { Grows knowledge.old knowledge.new }
-    ensures following { OnOk result (IsFollowing Nothing knowledge.new following.new) }
-    ensures queued { OnOk result (AreAllQueued knowledge.new outboxes.new) }
-    ensures done { OnOk result (IsDone knowledge.new) }
-    ensures whole { result ≡ Err Broken → ⊥ }
-{
-    load_and_settle(knowledge, following, &tables.steps)?;
-    knowledge.queue(&tables.readers, outboxes)?;
-    Ok(())
-}
-
-// Enters the base elements, and settles.
-fn load_and_settle(
-    knowledge: &mut Knowledge,
-    following: &mut Following,
-    steps: &Steps,
-) -> Result<(), Memory>
-    requires sound { IsSound knowledge.old }
-    requires steps { steps.now ≡ knowledge.old.problem.graph }
-    requires following { IsFollowing Nothing knowledge.old following.old }
-    ensures grows { Grows knowledge.old knowledge.new }
-    ensures following { OnOk result (IsFollowing Nothing knowledge.new following.new) }
-    ensures done { OnOk result (IsDone knowledge.new) }
-{
-    knowledge.enter_bases()?;
-    following.settle(knowledge, steps)?;
-    Ok(())
-}
-
-// Enters growths into the copies of their regions, settles, and queues what was added to the log.
-fn receive_and_queue(
-    knowledge: &mut Knowledge,
-    following: &mut Following,
-    outboxes: &mut Outboxes,
-    tables: &Tables,
-    from: u16,
-    growths: &[Growth],
-) -> Result<(), PartError>
-    requires sound { IsSound knowledge.old }
-    requires tables { AreTables knowledge.old.problem knowledge.old.cut tables.now }
-    requires loaded { knowledge.old.loaded ≡ true }
-    requires following { IsFollowing Nothing knowledge.old following.old }
-    requires queued { AreQueued knowledge.old outboxes.old }
-    requires passes { let o = knowledge.old in (g : Growth) → Contains growths.now g
-        → Passes o.problem o.cut o.me from g }
-    ensures begins { IsPrefix knowledge.old.log knowledge.new.log }
-    ensures others { knowledge.new ≡ record knowledge.old {
-      log = knowledge.new.log;
-      received = knowledge.new.received;
-      clock = knowledge.new.clock;
-    } }
-    ensures received { OnOk result
-        (knowledge.new.received ≡ with_growths knowledge.old.received from growths.now) }
-    ensures perhaps { GotBeginning knowledge.old.received from growths.now
-        knowledge.new.received }
-    ensures following { OnOk result (IsFollowing Nothing knowledge.new following.new) }
-    ensures queued { OnOk result (AreAllQueued knowledge.new outboxes.new) }
-    ensures done { OnOk result (IsDone knowledge.new) }
-    ensures whole { result ≡ Err Broken → ⊥ }
-    ensures sound { IsSound knowledge.new }
-{
-    receive_and_settle(knowledge, following, &tables.steps, from, growths)?;
-    knowledge.queue(&tables.readers, outboxes)?;
-    Ok(())
-}
-
-// Enters growths into the copies of their regions, and settles.
-fn receive_and_settle(
-    knowledge: &mut Knowledge,
-    following: &mut Following,
-    steps: &Steps,
-    from: u16,
-    growths: &[Growth],
-) -> Result<(), Memory>
-    requires sound { IsSound knowledge.old }
-    requires steps { steps.now ≡ knowledge.old.problem.graph }
-    requires loaded { knowledge.old.loaded ≡ true }
-    requires following { IsFollowing Nothing knowledge.old following.old }
-    requires passes { let o = knowledge.old in (g : Growth) → Contains growths.now g
-        → Passes o.problem o.cut o.me from g }
-    ensures begins { IsPrefix knowledge.old.log knowledge.new.log }
-    ensures others { knowledge.new ≡ record knowledge.old {
-      log = knowledge.new.log;
-      received = knowledge.new.received;
-      clock = knowledge.new.clock;
-    } }
-    ensures received { OnOk result
-        (knowledge.new.received ≡ with_growths knowledge.old.received from growths.now) }
-    ensures perhaps { GotBeginning knowledge.old.received from growths.now
-        knowledge.new.received }
-    ensures following { OnOk result (IsFollowing Nothing knowledge.new following.new) }
-    ensures done { OnOk result (IsDone knowledge.new) }
-    ensures sound { IsSound knowledge.new }
-{
-    knowledge.enter_all_received(from, growths)?;
-    pursue(knowledge, following, steps, growths)
-}
-
-// Follows up growths that the owner has received, and settles.
-fn pursue(
-    knowledge: &mut Knowledge,
-    following: &mut Following,
-    steps: &Steps,
-    growths: &[Growth],
-) -> Result<(), Memory>
-    requires sound { IsSound knowledge.old }
-    requires steps { steps.now ≡ knowledge.old.problem.graph }
-    requires regions { (g : Growth) → Contains growths.now g
-        → g.region < knowledge.old.problem.regions }
-    requires has { (r e : ℕ) → IsTold growths.now r e → Has knowledge.old r e }
-    requires following { IsFollowing (IsTold growths.now) knowledge.old following.old }
-    ensures grows { Grows knowledge.old knowledge.new }
-    ensures following { OnOk result (IsFollowing Nothing knowledge.new following.new) }
-    ensures closed { OnOk result (IsClosed knowledge.new) }
-{
-    following.follow_all(knowledge, steps, growths)?;
-    following.settle(knowledge, steps)?;
-    Ok(())
 }

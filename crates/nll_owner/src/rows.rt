@@ -69,13 +69,15 @@ fn follow_first(
     let slot = knowledge.slot(region);
     let count = count_of(region, runs);
     let due = Due {
+        steps,
         region,
         slot,
+        runs,
         count,
         place,
     };
     let row = &mut rows[slot.0 as usize];
-    row.advance(knowledge, steps, &due, runs, found)?;
+    row.advance(knowledge, &due, found)?;
     Ok(count)
 }
 

@@ -1,5 +1,4 @@
 pub mod NameLaws
-mod KindLemmas
 mod RowLemmas
 mod ShapedLemmas
 mod ResolvedLemmas

@@ -14,7 +14,7 @@ use Rattle.nll_mir_grammar.specs.TypeTexts.{IsType, plain, written, make_referen
 use Rattle.nll_mir_grammar.specs.declared.type_text.TypePiece.{TypePiece}
 use Rattle.nll_resolve.specs.Naming.{Scope, is_among, is_known, has_arguments, meant, all_meant, regions_meant, types_meant, kinds_of, same_kinds}
 use Rattle.nll_resolve.specs.ToldTypes.{are_known, have_arguments, arguments_are_known, arguments_have_arguments}
-use Rattle.nll_resolve.specs.Resolving.{State, arguments, nothing, older, run, newest, newest_type, others, starts, is_region, regions_in, types_before, types_inside}
+use Rattle.nll_resolve.specs.Resolving.{State, arguments, nothing, older, run, newest, others, starts, is_region, regions_in, types_before, types_inside}
 use Rattle.nll_resolve.specs.declared.rows.Mark.{Mark}
 use Rattle.nll_resolve.specs.declared.rows.Mark.TheVariants as marks
 
@@ -23,9 +23,9 @@ abbrev pub state : List TypeTree → List ℕ → List Mark → Bool → Bool �
 state ts rs ms k f = record { made = ts; regions = rs; rows = ms; known = k; fits = f }
 
 -- it is the same where its parts are
-same_state : (ts us : List TypeTree) (rs qs : List ℕ) (ms ns : List Mark) (k l f g : Bool) → ts ≡ us → rs ≡ qs
+same_state : {ts us : List TypeTree} {rs qs : List ℕ} {ms ns : List Mark} {k l f g : Bool} → ts ≡ us → rs ≡ qs
     → ms ≡ ns → k ≡ l → f ≡ g → state ts rs ms k f ≡ state us qs ns l g
-same_state ts us rs qs ms ns k l f g a b c d e = cc
+same_state a b c d e = cc
 
 -- tests in a row
 pub and_true : (a : Bool) → a && true ≡ a
@@ -48,7 +48,7 @@ three : {X : Type 0} (a b c d : List X) → (a ++ b ++ c) ++ d ≡ a ++ (b ++ (c
 three a b c d = append_assoc (a ++ b) c d ∙ append_assoc a b (c ++ d)
 
 -- what stands last in a list, and the others
-pub last_at : {X : Type 0} (xs : List X) (x d : X) → slice_index_or (xs ++ x ∷ []) (length (xs ++ x ∷ []) - 1) d ≡ x
+last_at : {X : Type 0} (xs : List X) (x d : X) → slice_index_or (xs ++ x ∷ []) (length (xs ++ x ∷ []) - 1) d ≡ x
 last_at xs x d =
     let e : length (xs ++ x ∷ []) - 1 ≡ length xs = omega (arith, length-append xs (x ∷ [])) in
     rw e (get_or-append_seam xs x [] d)
@@ -70,8 +70,7 @@ row_back (types.more t ts) = ap (λ us. types.more t us) (row_back ts)
 nothing_more : (ts : List TypeTree) (rs : List ℕ) (ms : List Mark) (k f : Bool)
     → state ts rs ms k f ≡ state (ts ++ []) (rs ++ []) ms (k && true) (f && true)
 nothing_more ts rs ms k f =
-    same_state ts (ts ++ []) rs (rs ++ []) ms ms k (k && true) f (f && true) (sym (append-nil ts))
-    (sym (append-nil rs)) refl (sym (and_true k)) (sym (and_true f))
+    same_state (sym (append-nil ts)) (sym (append-nil rs)) refl (sym (and_true k)) (sym (and_true f))
 
 -- ---- what types and arguments leave in the newest row
 
@@ -80,18 +79,15 @@ abbrev part_marks : WrittenTypes → List Mark → List Mark
 part_marks none ms = ms
 part_marks (more t ts) ms = part_marks ts (marks.Part ∷ ms)
 
-others_behind_parts : (ts : WrittenTypes) (ms : List Mark) → others (part_marks ts ms) ≡ others ms
-others_behind_parts none ms = refl
-others_behind_parts (more t ts) ms = others_behind_parts ts (marks.Part ∷ ms)
-
-starts_behind_parts : (ts : WrittenTypes) (ms : List Mark) → starts (part_marks ts ms) ≡ starts ms
-starts_behind_parts none ms = refl
-starts_behind_parts (more t ts) ms = starts_behind_parts ts (marks.Part ∷ ms)
+behind_parts : (ts : WrittenTypes) (ms : List Mark)
+    → (starts (part_marks ts ms) ≡ starts ms) × (others (part_marks ts ms) ≡ others ms)
+behind_parts none ms = (refl, refl)
+behind_parts (more t ts) ms = behind_parts ts (marks.Part ∷ ms)
 
 -- what is made of a row of types that is complete
-closed : (make : TypeTrees → TypeTree) (us : TypeTrees) (ts : List TypeTree) (n : ℕ) → n ≡ length ts
-    → take n (ts ++ listed us) ++ make (row_of (drop n (ts ++ listed us))) ∷ [] ≡ ts ++ make us ∷ []
-closed make us ts n e =
+closed : (make : TypeTrees → TypeTree) (us : TypeTrees) (ts : List TypeTree) (n : ℕ) (p : ℕ × ℕ) → p ≡ (length ts, n)
+    → take p.0 (ts ++ listed us) ++ make (row_of (drop p.0 (ts ++ listed us))) ∷ [] ≡ ts ++ make us ∷ []
+closed make us ts n p e =
     rw (e, take-append_seam ts (listed us), drop-append_seam ts (listed us), row_back us) refl
 
 module _ (s : Scope) where
@@ -107,15 +103,11 @@ module _ (s : Scope) where
   marks_of (region_argument r args) = marks.Region (number_of s.regions r) ∷ marks_of args
   marks_of (type_argument t args) = marks.Part ∷ marks_of args
 
-  others_behind : (args : Arguments) (ms : List Mark) → others (argument_marks args ms) ≡ others ms
-  others_behind no_argument ms = refl
-  others_behind (region_argument r args) ms = others_behind args (marks.Region (number_of s.regions r) ∷ ms)
-  others_behind (type_argument t args) ms = others_behind args (marks.Part ∷ ms)
-
-  starts_behind : (args : Arguments) (ms : List Mark) → starts (argument_marks args ms) ≡ starts ms
-  starts_behind no_argument ms = refl
-  starts_behind (region_argument r args) ms = starts_behind args (marks.Region (number_of s.regions r) ∷ ms)
-  starts_behind (type_argument t args) ms = starts_behind args (marks.Part ∷ ms)
+  behind : (args : Arguments) (ms : List Mark)
+      → (starts (argument_marks args ms) ≡ starts ms) × (others (argument_marks args ms) ≡ others ms)
+  behind no_argument ms = (refl, refl)
+  behind (region_argument r args) ms = behind args (marks.Region (number_of s.regions r) ∷ ms)
+  behind (type_argument t args) ms = behind args (marks.Part ∷ ms)
 
   one_in_order : (m : Mark) (ms ns : List Mark) → reverse (m ∷ ms) ++ ns ≡ reverse ms ++ m ∷ ns
   one_in_order m ms ns = ap (λ xs. xs ++ ns) (reverse-append (m ∷ []) ms) ∙ append_assoc (reverse ms) (m ∷ []) ns
@@ -191,19 +183,19 @@ module _ (s : Scope) where
 
     name_done : (b : Bool) → name_done_at b ≡ name_meant b
     name_done true =
-        same_state _ _ _ _ _ ms _ _ _ _
-        (closed (λ us. name_type true [] us) (types_meant s args) ts _ (ap (λ (p : ℕ × ℕ). p.0) (starts_behind args row)))
-        (ap (λ (p : ℕ × ℕ). take p.1 before_name.regions) (starts_behind args row)
+        same_state
+        (closed (λ us. name_type true [] us) (types_meant s args) ts (length rs) _ (behind args row).0)
+        (ap (λ (p : ℕ × ℕ). take p.1 before_name.regions) (behind args row).0
         ∙ (take-append_seam rs (region_rows (types_meant s args)) ∙ sym (append-nil rs)))
-        (others_behind args row) (and_last k (arguments_are_known s args) true) (name_fits [])
+        (behind args row).1 (and_last k (arguments_are_known s args) true) (name_fits [])
     name_done false =
-        same_state _ _ _ _ _ ms _ _ _ _
-        (closed (λ us. name_type false (regions_in (arguments before_name)) us) (types_meant s args) ts _
-        (ap (λ (p : ℕ × ℕ). p.0) (starts_behind args row))
+        same_state
+        (closed (λ us. name_type false (regions_in (arguments before_name)) us) (types_meant s args) ts
+        (length rs) _ (behind args row).0
         ∙ ap (λ qs. ts ++ name_type false qs (types_meant s args) ∷ []) regions_here)
         (append_assoc rs (region_rows (types_meant s args)) (regions_in (arguments before_name))
         ∙ ap (λ qs. rs ++ (region_rows (types_meant s args) ++ qs)) regions_here)
-        (others_behind args row) (and_last k (arguments_are_known s args) (is_among s.structs n))
+        (behind args row).1 (and_last k (arguments_are_known s args) (is_among s.structs n))
         (name_fits (slice_index_or s.kinds (number_of s.structs n) []))
 
   mutual
@@ -214,12 +206,12 @@ module _ (s : Scope) where
         ≡ run s rest (state (ts ++ meant s t ∷ []) (rs ++ region_row (meant s t)) ms (k && is_known s t)
         (f && has_arguments s t))
     type_run int rest ts rs ms k f =
-        ap (run s rest) (same_state _ _ _ _ ms ms k _ f _ refl (sym (append-nil rs)) refl (sym (and_true k))
+        ap (run s rest) (same_state refl (sym (append-nil rs)) refl (sym (and_true k))
         (sym (and_true f)))
     type_run (reference r m t) rest ts rs ms k f =
         ap (λ qs. run s qs (state ts rs ms k f)) (append_assoc (texts.steps t) (make_reference m r ∷ []) rest)
         ∙ (type_run t (make_reference m r ∷ rest) ts rs ms k f
-        ∙ ap (run s rest) (same_state _ _ _ _ ms ms _ _ _ _
+        ∙ ap (run s rest) (same_state
         (rw (last_at ts (meant s t) types.int, before_last ts (meant s t)) refl)
         (append_assoc rs (region_row (meant s t)) (number_of s.regions r ∷ [])) refl
         (and_last k (is_known s t) (is_among s.regions r)) refl))
@@ -227,10 +219,9 @@ module _ (s : Scope) where
         let row : List Mark = marks.Row (length ts) (length rs) ∷ ms in
         ap (λ qs. run s qs (state ts rs row k f)) (append_assoc (texts.part_steps us) (make_tuple ∷ []) rest)
         ∙ (parts_run us (make_tuple ∷ rest) ts rs row k f
-        ∙ ap (run s rest) (same_state _ _ _ _ _ ms _ _ _ _
-        (closed (λ vs. types.tuple vs) (all_meant s us) ts _
-        (ap (λ (p : ℕ × ℕ). p.0) (starts_behind_parts us row))) refl
-        (others_behind_parts us row) refl refl))
+        ∙ ap (run s rest) (same_state
+        (closed (λ vs. types.tuple vs) (all_meant s us) ts (length rs) _ (behind_parts us row).0) refl
+        (behind_parts us row).1 refl refl))
     type_run (named n args) rest ts rs ms k f =
         let row : List Mark = marks.Row (length ts) (length rs) ∷ ms in
         ap (λ qs. run s qs (state ts rs row k f)) (append_assoc (texts.argument_steps args) (make_named n ∷ []) rest)
@@ -244,12 +235,11 @@ module _ (s : Scope) where
         ∙ (parts_run us (texts.steps t ++ make_function ∷ rest) ts rs row k f
         ∙ (type_run t (make_function ∷ rest) vs (rs ++ region_rows (all_meant s us))
         (part_marks us row) (k && are_known s us) (f && have_arguments s us)
-        ∙ ap (run s rest) (same_state _ _ _ _ _ ms _ _ _ _
+        ∙ ap (run s rest) (same_state
         (rw (last_at vs (meant s t) types.int, before_last vs (meant s t))
-        (closed (λ ws. types.function ws (meant s t)) (all_meant s us) ts _
-        (ap (λ (p : ℕ × ℕ). p.0) (starts_behind_parts us row))))
+        (closed (λ ws. types.function ws (meant s t)) (all_meant s us) ts (length rs) _ (behind_parts us row).0))
         (append_assoc rs (region_rows (all_meant s us)) (region_row (meant s t)))
-        (others_behind_parts us row)
+        (behind_parts us row).1
         (and_first k (are_known s us) (is_known s t)) (and_first f (have_arguments s us) (has_arguments s t)))))
 
     -- the pieces of types in a row put them into it
@@ -265,7 +255,7 @@ module _ (s : Scope) where
         ∙ (type_run t (add_type ∷ (texts.part_steps us ++ rest)) ts rs ms k f
         ∙ (parts_run us rest (ts ++ meant s t ∷ []) (rs ++ region_row (meant s t)) (marks.Part ∷ ms)
         (k && is_known s t) (f && has_arguments s t)
-        ∙ ap (run s rest) (same_state _ _ _ _ _ _ _ _ _ _
+        ∙ ap (run s rest) (same_state
         (append_assoc ts (meant s t ∷ []) (listed (all_meant s us)))
         (append_assoc rs (region_row (meant s t)) (region_rows (all_meant s us))) refl
         (and_first k (is_known s t) (are_known s us)) (and_first f (has_arguments s t) (have_arguments s us)))))
@@ -280,7 +270,7 @@ module _ (s : Scope) where
     arguments_run no_argument rest ts rs ms k f = ap (run s rest) (nothing_more ts rs ms k f)
     arguments_run (region_argument r args) rest ts rs ms k f =
         arguments_run args rest ts rs (marks.Region (number_of s.regions r) ∷ ms) (k && is_among s.regions r) f
-        ∙ ap (run s rest) (same_state _ _ _ _ _ _ _ _ _ _ refl refl refl
+        ∙ ap (run s rest) (same_state refl refl refl
         (and_first k (is_among s.regions r) (arguments_are_known s args)) refl)
     arguments_run (type_argument t args) rest ts rs ms k f =
         ap (λ qs. run s qs (state ts rs ms k f))
@@ -288,7 +278,7 @@ module _ (s : Scope) where
         ∙ (type_run t (add_type ∷ (texts.argument_steps args ++ rest)) ts rs ms k f
         ∙ (arguments_run args rest (ts ++ meant s t ∷ []) (rs ++ region_row (meant s t)) (marks.Part ∷ ms)
         (k && is_known s t) (f && has_arguments s t)
-        ∙ ap (run s rest) (same_state _ _ _ _ _ _ _ _ _ _
+        ∙ ap (run s rest) (same_state
         (append_assoc ts (meant s t ∷ []) (listed (types_meant s args)))
         (append_assoc rs (region_row (meant s t)) (region_rows (types_meant s args))) refl
         (and_first k (is_known s t) (arguments_are_known s args))

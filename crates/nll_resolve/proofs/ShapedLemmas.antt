@@ -1,5 +1,5 @@
 -- The shapes of types that are made, where some are taken off.
-use Rattle.std.proofs.Common.{◌≡◌, ℕ, suc, ◌+◌, ◌-◌, ◌<◌, List, [], ◌∷◌, ◌++◌, length, take, drop, refl, ap, ◌∙◌, arith, ⊎_elim}
+use Rattle.std.proofs.Common.{◌≡◌, ℕ, suc, ◌+◌, ◌-◌, List, [], ◌∷◌, ◌++◌, length, take, drop, refl, ap, ◌∙◌, arith, ⊎_elim}
 use Rattle.std.proofs.Math.Seq.{get_or-append_seam}
 use Rattle.std.proofs.lemmas.Bool.{cases_lt}
 use Rattle.std.proofs.lemmas.List.{get_or-drop, get_or-take, get_or_append_left, length-append, length-drop, length-take}
@@ -18,10 +18,8 @@ both_ok (Ok x) f p q = f p q
 both_ok (Err y) f p q = tt
 
 pub below_take : (n m : ℕ) (is : List ℕ) → AreBelow n is → AreBelow n (take m is)
-below_take n m is b = λ k l. rw (get_or-take m is k 0 (omega (arith, l, length-take m is))) (b k (omega (arith, l, length-take m is)))
-
-pub below_drop : (n m : ℕ) (is : List ℕ) → AreBelow n is → AreBelow n (drop m is)
-below_drop n m is b = λ k l. rw (get_or-drop m is k 0) (b (m + k) (omega (arith, l, length-drop m is)))
+below_take n m is b = λ k l.
+    rw (get_or-take m is k 0 (omega (arith, l, length-take m is))) (b k (omega (arith, l, length-take m is)))
 
 module _ (shapes : List Node) where
   -- all but the first, those from a place on, and those in front of it
@@ -32,7 +30,7 @@ module _ (shapes : List Node) where
     each = λ k l. a.each (suc k) (omega (arith, l));
   }
 
-  pub shaped_drop : (n : ℕ) (ts : List TypeTree) (is : List ℕ) → AreShaped shapes ts is
+  shaped_drop : (n : ℕ) (ts : List TypeTree) (is : List ℕ) → AreShaped shapes ts is
       → AreShaped shapes (drop n ts) (drop n is)
   shaped_drop n ts is a = record {
     counted = omega (arith, length-drop n ts, length-drop n is, a.counted);
@@ -40,7 +38,7 @@ module _ (shapes : List Node) where
         (a.each (n + k) (omega (arith, l, length-drop n is)));
   }
 
-  pub shaped_take : (n : ℕ) (ts : List TypeTree) (is : List ℕ) → AreShaped shapes ts is
+  shaped_take : (n : ℕ) (ts : List TypeTree) (is : List ℕ) → AreShaped shapes ts is
       → AreShaped shapes (take n ts) (take n is)
   shaped_take n ts is a = record {
     counted = omega (arith, length-take n ts, length-take n is, a.counted);

@@ -43,12 +43,6 @@ starts (marks.Row k n ∷ ms) = (k, n)
 starts (marks.Region r ∷ ms) = starts ms
 starts (marks.Part ∷ ms) = starts ms
 
--- whether a row begins
-abbrev pub is_beginning : Mark → Bool
-is_beginning (marks.Row k n) = true
-is_beginning (marks.Region r) = false
-is_beginning marks.Part = false
-
 -- whether it is a region
 abbrev pub is_region : Mark → Bool
 is_region (marks.Region r) = true
@@ -139,7 +133,7 @@ after s make_function st =
     let others_made = record st { made = older st.made } in
     record st {
       made = types_before others_made
-      ++ function (types_inside others_made) (newest_type st.made) ∷ [];
+          ++ function (types_inside others_made) (newest_type st.made) ∷ [];
       rows = others st.rows;
     }
 

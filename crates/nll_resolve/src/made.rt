@@ -8,7 +8,7 @@ ghost use Rattle.nll_types.specs.Tables.{AddsShapes};
 ghost use Rattle.nll_types.specs.Types.{TypeTree};
 ghost use Rattle.nll_resolve.specs.Resolving.{AreShaped, newest_type, older, others, starts};
 
-use crate::rows::{Rows, row_place, row_starts};
+use crate::rows::{Rows, newest_row};
 use nll_sets::Memory;
 use nll_types::{Node, Shapes, TypeTable};
 use smallvec::SmallVec;
@@ -76,22 +76,18 @@ pub(crate) fn pop(table: &mut TypeTable, made: &mut Made) -> Result<usize, Memor
 }
 
 /// Takes off the shapes of the newest row, which is complete then.
-pub(crate) fn pop_row(
-    alloc: Global,
-    made: &mut Made,
-    rows: &mut Rows,
-) -> Result<Vec<usize>, Memory>
+pub(crate) fn pop_row(alloc: Global, made: &mut Made, rows: &mut Rows) -> Result<Vec<usize>, Memory>
     ensures row { IfOk result
         (λ v. v.items ≡ drop (starts (reverse rows.old.items)).0 made.old.items) }
     ensures made { OnOk result
         (made.new.items ≡ take (starts (reverse rows.old.items)).0 made.old.items) }
     ensures rows { OnOk result (reverse rows.new.items ≡ others (reverse rows.old.items)) }
 {
-    let place = row_place(rows.as_slice());
-    let start = row_starts(rows.as_slice(), place).0.min(made.len());
+    let row = newest_row(rows.as_slice());
+    let start = row.types.min(made.len());
     let parts = Vec::from_slice(alloc, &made.as_slice()[start..])?;
     made.truncate(start);
-    rows.truncate(place.saturating_sub(1));
+    rows.truncate(row.place.saturating_sub(1));
     Ok(parts)
 }
 

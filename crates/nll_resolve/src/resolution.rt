@@ -1,9 +1,9 @@
 //! Looking up the names in a written type, once each, piece by piece.
 
-ghost use Rattle.std.specs.Prelude.{◌≡◌, ◌≤◌, ◌<◌, ◌&&◌, ◌++◌, ◌∷◌, [], true, false, length, map};
-ghost use Rattle.std.specs.Prelude.{drop, reverse, take, ◌-◌, IfOk, MatchOption, OnOk};
+ghost use Rattle.std.specs.Prelude.{◌≡◌, ◌<◌, ◌&&◌, ◌++◌, true, false, length, map};
+ghost use Rattle.std.specs.Prelude.{IfOk, MatchOption, OnOk};
 ghost use Rattle.nll_types.specs.Shapes.{shape_of};
-ghost use Rattle.nll_types.specs.Table.{AreBelow, IsOver, shape_in};
+ghost use Rattle.nll_types.specs.Table.{AreBelow, shape_in};
 ghost use Rattle.nll_types.specs.Grown.{AddsTypes};
 ghost use Rattle.nll_types.specs.Tables.{AddsShapes};
 ghost use Rattle.nll_types.specs.declared.body_types.BodyTypes.{BodyTypes as kept_types};
@@ -19,7 +19,7 @@ ghost use Rattle.nll_resolve.specs.Resolving as spec;
 ghost use Rattle.nll_resolve.specs.Resolving.{IsOf, Resolves, State, newest_type, run};
 
 use crate::made::{Made, pop, pop_row, push, reference_to};
-use crate::rows::{Mark, Rows, row_place, row_starts, takes};
+use crate::rows::{Mark, Rows, are_of, newest_row, takes};
 use crate::scope::{Scope, find};
 use nll_mir_grammar::{TypePiece, TypeText};
 use nll_problem::RegionId;
@@ -127,33 +127,26 @@ fn put_function(alloc: Global, types: &mut BodyTypes, made: &mut Resolving) -> R
 {
     let output = pop(&mut types.table, &mut made.shapes)?;
     let inputs = pop_row(alloc, &mut made.shapes, &mut made.rows)?;
-    push(&mut types.table, Node::Function(inputs, output), &mut made.shapes)
+    push(
+        &mut types.table,
+        Node::Function(inputs, output),
+        &mut made.shapes,
+    )
 }
 
-// A type parameter is made, in place of the newest row, which begins at this place of the rows: it
-// takes no arguments.
-fn put_parameter(
-    number: usize,
-    place: usize,
-    types: &mut BodyTypes,
-    made: &mut Resolving,
-) -> Result<(), Memory>
-    requires below { AreBelow (length types.old.table.shapes) made.old.shapes.items }
-    requires within { place ≤ length made.old.rows.items }
-    requires newest { reverse (drop place made.old.rows.items)
-        ≡ spec.newest (reverse made.old.rows.items) }
-    requires others { reverse (take (place - 1) made.old.rows.items)
-        ≡ spec.others (reverse made.old.rows.items) }
+// A type parameter is made, in place of the newest row: it takes no arguments.
+fn put_parameter(number: usize, types: &mut BodyTypes, made: &mut Resolving) -> Result<(), Memory>
+    requires { AreBelow (length types.old.table.shapes) made.old.shapes.items }
     ensures grows { AddsShapes types.old.table types.new.table }
     ensures made { OnOk result ((s : naming_scope) (n : name)
         → is_among s.parameters n ≡ true → number_of s.parameters n ≡ number
         → Resolves s (make_named n) types.old made.old types.new made.new) }
 {
-    let (start, regions) = row_starts(made.rows.as_slice(), place);
-    made.fits &= place == made.rows.len();
-    made.rows.truncate(place.saturating_sub(1));
-    made.shapes.truncate(start);
-    types.regions.truncate(regions);
+    let row = newest_row(made.rows.as_slice());
+    made.fits &= are_of(&made.rows.as_slice()[row.place..], &[]);
+    made.rows.truncate(row.place.saturating_sub(1));
+    made.shapes.truncate(row.types);
+    types.regions.truncate(row.regions);
     push(&mut types.table, Node::Parameter(number), &mut made.shapes)
 }
 
@@ -172,7 +165,7 @@ fn push_regions(arguments: &[Mark], regions: &mut Vec<RegionId>) -> Result<usize
     Ok(regions.len() - before)
 }
 
-// A struct is made, with the newest row, which begins at this place of the rows, as its arguments.
+// A struct is made, with the newest row as its arguments.
 fn put_struct(
     alloc: Global,
     scope: &Scope<'_>,
@@ -187,12 +180,17 @@ fn put_struct(
         types.old made.old types.new made.new) }
 {
     let (number, known) = find(scope.structs, name);
-    let arguments = &made.rows.as_slice()[row_place(made.rows.as_slice())..];
+    let row = newest_row(made.rows.as_slice());
+    let arguments = &made.rows.as_slice()[row.place..];
     made.known &= known;
     made.fits &= takes(scope, number, arguments);
     let count = push_regions(arguments, &mut types.regions)?;
     let parts = pop_row(alloc, &mut made.shapes, &mut made.rows)?;
-    push(&mut types.table, Node::Named(number, count, parts), &mut made.shapes)
+    push(
+        &mut types.table,
+        Node::Named(number, count, parts),
+        &mut made.shapes,
+    )
 }
 
 // What a name means is made, with the newest row as its arguments.
@@ -210,8 +208,7 @@ fn put_named(
 {
     let (number, is_parameter) = find(scope.parameters, name);
     if is_parameter {
-        let place = row_place(made.rows.as_slice());
-        return put_parameter(number, place, types, made);
+        return put_parameter(number, types, made);
     }
     put_struct(alloc, scope, name, types, made)
 }

@@ -30,38 +30,40 @@ impl Default for Mark {
 /// The rows that aren't complete, the newest last. Few types have more in them.
 pub(crate) type Rows = SmallVec<Mark, 4>;
 
-// Whether a row begins.
-fn is_beginning(mark: Mark) -> bool
-    ensures { result ≡ spec.is_beginning mark }
-{
-    matches!(mark, Mark::Row(_, _))
+/// Where the newest row begins.
+#[derive(Clone, Copy)]
+pub(crate) struct Beginning {
+    /// How many marks there are up to its beginning.
+    pub place: usize,
+    /// How many types come before it.
+    pub types: usize,
+    /// How many regions come before it.
+    pub regions: usize,
 }
 
-/// Where the newest row begins: how many marks there are up to its beginning.
-pub(crate) fn row_place(rows: &[Mark]) -> usize
-    ensures within { result ≤ length rows.now }
-    ensures newest { reverse (drop result rows.now) ≡ spec.newest (reverse rows.now) }
-    ensures others { reverse (take (result - 1) rows.now) ≡ spec.others (reverse rows.now) }
+/// Where the newest row begins.
+pub(crate) fn newest_row(rows: &[Mark]) -> Beginning
+    ensures within { result.place ≤ length rows.now }
+    ensures newest { reverse (drop result.place rows.now) ≡ spec.newest (reverse rows.now) }
+    ensures others { reverse (take (result.place - 1) rows.now) ≡ spec.others (reverse rows.now) }
+    ensures types { result.types ≡ (spec.starts (reverse rows.now)).0 }
+    ensures regions { result.regions ≡ (spec.starts (reverse rows.now)).1 }
 {
     let mut place = rows.len();
-    while place > 0 && !is_beginning(rows[place - 1]) {
+    while place > 0 {
+        if let Mark::Row(types, regions) = rows[place - 1] {
+            return Beginning {
+                place,
+                types,
+                regions,
+            };
+        }
         place -= 1;
     }
-    place
-}
-
-/// How many types and how many regions come before the newest row, which begins at this place.
-pub(crate) fn row_starts(rows: &[Mark], place: usize) -> (usize, usize)
-    requires within { place ≤ length rows.now }
-    requires newest { reverse (drop place rows.now) ≡ spec.newest (reverse rows.now) }
-    ensures { result ≡ spec.starts (reverse rows.now) }
-{
-    if place == 0 {
-        return (0, 0);
-    }
-    match rows[place - 1] {
-        Mark::Row(types, regions) => (types, regions),
-        _ => (0, 0),
+    Beginning {
+        place: 0,
+        types: 0,
+        regions: 0,
     }
 }
 
@@ -72,8 +74,8 @@ fn is_region(mark: Mark) -> bool
     matches!(mark, Mark::Region(_))
 }
 
-// Whether arguments are of these kinds.
-fn are_of(arguments: &[Mark], kinds: &[bool]) -> bool
+/// Whether arguments are of these kinds.
+pub(crate) fn are_of(arguments: &[Mark], kinds: &[bool]) -> bool
     ensures { result ≡ naming.same_kinds (map spec.is_region arguments.now) kinds.now }
 {
     if arguments.len() != kinds.len() {
@@ -92,9 +94,8 @@ pub(crate) fn takes(scope: &Scope<'_>, number: usize, arguments: &[Mark]) -> boo
     ensures { result ≡ naming.same_kinds (map spec.is_region arguments.now)
         (slice_index_or (scope_of scope.now).kinds number []) }
 {
-    if number < scope.kinds.len() {
-        are_of(arguments, scope.kinds[number].as_slice())
-    } else {
-        arguments.is_empty()
+    match scope.kinds.get(number) {
+        Some(kinds) => are_of(arguments, kinds.as_slice()),
+        None => are_of(arguments, &[]),
     }
 }

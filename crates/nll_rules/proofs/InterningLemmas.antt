@@ -110,39 +110,46 @@ map_stays old new n keeps (i ∷ is) small =
     let rest = map_stays old new n keeps is (λ k h. small (suc k) (omega arith)) in
     cc
 
--- what the parts so far have become
-pub record IsInterning (first table : List Layer) (o : Option Arguments) (parts : List Ty) (made : List ℕ)
+-- what the items so far have become, of each of which this is the type
+pub record IsInterning {X : Type 0} (first table : List Layer) (f : X → TypeTree) (parts : List X) (made : List ℕ)
     (n : ℕ) : Type 0 where
   pub keeps : KeepsTypes first table
   pub within : AreEarlier (length table) made
-  pub at_each : map (numbered (types_in table)) made ≡ map (λ t. put_under first o (tree t)) (take n parts)
+  pub at_each : map (numbered (types_in table)) made ≡ map f (take n parts)
 
-pub interning_none : (first : List Layer) (o : Option Arguments) (parts : List Ty)
-    → IsInterning first first o parts [] 0
-interning_none first o parts = record {
+pub interning_none : {X : Type 0} (first : List Layer) (f : X → TypeTree) (parts : List X)
+    → IsInterning first first f parts [] 0
+interning_none first f parts = record {
   keeps = keeps_same first;
   within = λ k h. absurd (omega arith);
   at_each = refl;
 }
 
-pub interning_more : (first table next : List Layer) (o : Option Arguments) (parts : List Ty) (made : List ℕ) (n i : ℕ)
-    (part : Ty) → n < length parts → part ≡ get_or parts n part → AreArguments (length first) o
-    → IsInterning first table o parts made n → KeepsTypes table next → i < length next
-    → type_in next i ≡ put_under table o (tree part)
-    → IsInterning first next o parts (made ++ i ∷ []) (n + 1)
-interning_more first table next o parts made n i part l is b s e within at = record {
+pub interning_more : {X : Type 0} (first table next : List Layer) (f : X → TypeTree) (parts : List X) (made : List ℕ)
+    (n i : ℕ) (part : X) → n < length parts → part ≡ get_or parts n part
+    → IsInterning first table f parts made n → KeepsTypes table next → i < length next → type_in next i ≡ f part
+    → IsInterning first next f parts (made ++ i ∷ []) (n + 1)
+interning_more {X} first table next f parts made n i part l is s e within here = record {
   keeps = keeps_then first table next s.keeps e;
   within = earlier_push (length next) i made (earlier_more (length table) (length next) made e.longer s.within) within;
   at_each =
-      let f : Ty → TypeTree = λ t. put_under first o (tree t) in
-      let here : type_in next i ≡ f part = at ∙ under_stays first table o (tree part) s.keeps b in
       map_push (numbered (types_in next)) made i
       ∙ ap (λ (z : List TypeTree). z ++ type_in next i ∷ [])
       (map_stays (types_in table) (types_in next) (length table) e.kept made s.within ∙ s.at_each)
       ∙ ap (λ (z : TypeTree). map f (take n parts) ++ z ∷ []) here
       ∙ sym (map_push f (take n parts) part)
-      ∙ ap (λ (z : List Ty). map f z) (ap (λ (z : Ty). take n parts ++ z ∷ []) is ∙ sym (take_more parts n part l));
+      ∙ ap (λ (z : List X). map f z) (ap (λ (z : X). take n parts ++ z ∷ []) is ∙ sym (take_more parts n part l));
 }
+
+pub interning_each : {X : Type 0} (first table : List Layer) (f : X → TypeTree) (parts : List X) (made : List ℕ)
+    (n : ℕ) → n ≡ length parts → IsInterning first table f parts made n
+    → map (numbered (types_in table)) made ≡ map f parts
+interning_each {X} first table f parts made n whole s =
+    s.at_each ∙ ap (map f) (ap (λ (z : ℕ). take z parts) whole ∙ take-length parts)
+
+-- what a part becomes
+abbrev pub under : List Layer → Option Arguments → Ty → TypeTree
+under first o t = put_under first o (tree t)
 
 row_numbered : (known : List TypeTree) (is : List ℕ) → all_numbered known is ≡ row_of (map (numbered known) is)
 row_numbered known [] = refl
@@ -154,10 +161,9 @@ row_under ls None parts = refl
 row_under ls (Some a) parts = put_all a.regions.now (all_numbered (types_in ls) a.types.now) parts
 
 pub interning_all : (first table : List Layer) (o : Option Arguments) (parts : List Ty) (made : List ℕ) (n : ℕ)
-    → n ≡ length parts → IsInterning first table o parts made n
+    → n ≡ length parts → IsInterning first table (under first o) parts made n
     → all_numbered (types_in table) made ≡ put_all_under first o (trees parts)
 interning_all first table o parts made n whole s =
     row_numbered (types_in table) made
-    ∙ ap row_of (s.at_each ∙ ap (map (λ t. put_under first o (tree t)))
-    (ap (λ (z : ℕ). take z parts) whole ∙ take-length parts))
+    ∙ ap row_of (interning_each first table (under first o) parts made n whole s)
     ∙ row_under first o parts

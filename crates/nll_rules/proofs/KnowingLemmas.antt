@@ -139,19 +139,27 @@ known_stays structs old new vs ps ms e are = (
   meetings_stay structs old new ms are.2 e,
 )
 
-pub learns_more : (structs : List Struct) (old new : List Layer) (vs : List ℕ) → AreEarlier (length old) vs
-    → KeepsTypes old new
-    → Learns (record { structs = structs; variables = map (type_in old) vs; layers = old })
-    (record { structs = structs; variables = map (type_in new) vs; layers = new })
-learns_more structs old new vs b e = record {
+-- the types are more, and all else is the same
+abbrev Grown : KnownTypes → List ℕ → List Layer → KnownTypes
+Grown k vs new = record k { variables = map (type_in new) vs; layers = new }
+
+pub learns_more : (k : KnownTypes) (vs : List ℕ) (new : List Layer) → k.variables ≡ map (type_in k.layers) vs
+    → AreEarlier (length k.layers) vs → KeepsTypes k.layers new → Learns k (Grown k vs new)
+learns_more k vs new is b e = record {
   structs = refl;
-  variables = map_stays (types_in old) (types_in new) (length old) e.kept vs b;
+  shapes = refl;
+  regions = refl;
+  points = refl;
+  variables = map_stays (types_in k.layers) (types_in new) (length k.layers) e.kept vs b ∙ sym is;
   keeps = e;
 }
 
 pub learns_same : (k : KnownTypes) → Learns k k
 learns_same k = record {
   structs = refl;
+  shapes = refl;
+  regions = refl;
+  points = refl;
   variables = refl;
   keeps = keeps_same k.layers;
 }
@@ -159,22 +167,12 @@ learns_same k = record {
 pub learns_then : (a b c : KnownTypes) → Learns a b → Learns b c → Learns a c
 learns_then a b c x y = record {
   structs = y.structs ∙ x.structs;
+  shapes = y.shapes ∙ x.shapes;
+  regions = y.regions ∙ x.regions;
+  points = y.points ∙ x.points;
   variables = y.variables ∙ x.variables;
   keeps = keeps_then a.layers b.layers c.layers x.keeps y.keeps;
 }
-
--- numbers whose types make a row are those of the types
-pub numbered_each : (known : List TypeTree) (is : List ℕ) (ts : List Ty) → all_numbered known is ≡ trees ts
-    → map (numbered known) is ≡ map tree ts
-numbered_each known [] [] e = refl
-numbered_each known [] (t ∷ ts) e = absurd (let z : none ≡ more (tree t) (trees ts) = e in cc)
-numbered_each known (i ∷ is) [] e = absurd (let z : more (numbered known i) (all_numbered known is) ≡ none = e in cc)
-numbered_each known (i ∷ is) (t ∷ ts) e =
-    let z : more (numbered known i) (all_numbered known is) ≡ more (tree t) (trees ts) = e in
-    let here : numbered known i ≡ tree t = cc in
-    let rest : all_numbered known is ≡ trees ts = cc in
-    let all = numbered_each known is ts rest in
-    cc
 
 -- the type of a number that may be there stays
 pub there_stays : (old new : List Layer) (o : Option ℕ) → KeepsTypes old new → IfSome o (λ i. i < length old)

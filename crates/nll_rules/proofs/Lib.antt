@@ -1,11 +1,13 @@
 pub mod PairLemmas
 pub mod SubtypeLemmas
+pub mod SignLemmas
 pub mod LayerLemmas
 pub mod InterningLemmas
 pub mod FormLemmas
 pub mod KnowingLemmas
 pub mod ReborrowLemmas
 pub mod StatementLemmas
+pub mod TypedLemmas
 pub mod AddingLemmas
 pub mod PointLemmas
 pub mod WholeLemmas

@@ -24,16 +24,16 @@ times_assoc Contravariant Contravariant Invariant = refl
 times_assoc Contravariant Invariant c = refl
 times_assoc Invariant b c = refl
 
-times_covariant : (a : Sign) → times a Covariant ≡ a
+pub times_covariant : (a : Sign) → times a Covariant ≡ a
 times_covariant Covariant = refl
 times_covariant Contravariant = refl
 times_covariant Invariant = refl
 
 -- where two signs are one, what is asked is one
-asked_as : (s t : Sign) (a b : ℕ) (x : ℕ × ℕ) → s ≡ t → IsAsked s a b x → IsAsked t a b x
+pub asked_as : (s t : Sign) (a b : ℕ) (x : ℕ × ℕ) → s ≡ t → IsAsked s a b x → IsAsked t a b x
 asked_as s t a b x p h = subst (λ (z : Sign). IsAsked z a b x) p h
 
-asked_of : (s : Sign) (a b c e : ℕ) (x : ℕ × ℕ) → a ≡ c → b ≡ e → IsAsked s a b x → IsAsked s c e x
+pub asked_of : (s : Sign) (a b c e : ℕ) (x : ℕ × ℕ) → a ≡ c → b ≡ e → IsAsked s a b x → IsAsked s c e x
 asked_of s a b c e x q r h = subst (λ (z : ℕ). IsAsked s z e x) q (subst (λ (z : ℕ). IsAsked s a z x) r h)
 
 pub same_flag : (a b : Bool) → beq a b ≡ true → a ≡ b

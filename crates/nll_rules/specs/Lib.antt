@@ -1,5 +1,6 @@
 pub mod Positions
 pub mod Subtyping
+pub mod Signs
 pub mod Reborrows
 pub mod Asking
 pub mod Pairs

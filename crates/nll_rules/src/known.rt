@@ -66,7 +66,8 @@ impl<'a> Model for Known<'a> {
 
     ghost invariant = { λ k. AreEarlier (length k.types) k.variables.items
         × AreRight (IsPart (structs_of k.body.types.now.table.structs) k.types) k.parts.entries
-        × AreRight (IsMeeting (structs_of k.body.types.now.table.structs) k.types) k.meetings.entries };
+        × AreRight (IsMeeting (structs_of k.body.types.now.table.structs) k.types)
+        k.meetings.entries };
 }
 
 // The number of a type that is written.
@@ -114,18 +115,16 @@ impl<'a> Known<'a> {
     ///
     /// # Cost
     /// Linear in the types (not proved).
-    pub(crate) fn new(
-        alloc: Global,
-        body: TypedBody<'a>,
-    ) -> Result<Known<'a>, Memory>
+    pub(crate) fn new(alloc: Global, body: TypedBody<'a>) -> Result<Known<'a>, Memory>
         requires { AreBelow (length body.types.now.table.shapes) (numbers_of body.variables.now) }
-        ensures structs { IfOk result (λ k. k.structs ≡ structs_of body.types.now.table.structs) }
-        ensures shapes { IfOk result (λ k. k.shapes ≡ body.types.now.table.shapes) }
-        ensures regions { IfOk result (λ k. k.regions ≡ body.types.now.regions.items) }
-        ensures points { IfOk result (λ k. k.points ≡ map statement_of body.points.now) }
+        ensures structs { IfOk result
+            (λ k. k.structs ≡ structs_of body.entry.types.now.table.structs) }
+        ensures shapes { IfOk result (λ k. k.shapes ≡ body.entry.types.now.table.shapes) }
+        ensures regions { IfOk result (λ k. k.regions ≡ body.entry.types.now.regions.items) }
+        ensures points { IfOk result (λ k. k.points ≡ map statement_of body.entry.points.now) }
         ensures variables { IfOk result (λ k. k.variables ≡ map
-            (tree_at body.types.now.table.shapes body.types.now.regions.items)
-            body.variables.now) }
+            (tree_at body.entry.types.now.table.shapes body.entry.types.now.regions.items)
+            body.entry.variables.now) }
     {
         let mut types = Types::new(alloc);
         let numbers = all_written(alloc, body.types, &mut types, body.variables)?;

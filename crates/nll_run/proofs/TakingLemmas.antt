@@ -21,14 +21,6 @@ pub record AreTaken (c : Cut) (count : ℕ) (old now : List Holding) (sets : Lis
   pub size : length sets ≡ count
   pub each : (r : ℕ) → r < count → HasSet (holding_of old (owner_of c r)) r (set_of sets r)
 
-pub taken_none : (c : Cut) (old : List Holding) (sets : List (List Bool)) → sets ≡ [] → AreTaken c 0 old old sets
-taken_none c old sets none = record {
-  as_many = refl;
-  rest = λ i r xs low. (λ h. h, λ h. h);
-  size = ap length none;
-  each = λ r low. absurd (omega (arith, low));
-}
-
 -- a region is left, whose owner's holding is read in place
 module _ (c : Cut) (count : ℕ) (old now : List Holding) (sets : List (List Bool)) (w : AreTaken c count old now sets)
     (i : ℕ) (own : i ≡ owner_of c count) (within : i < length now) (h : Holding) (is : h ≡ get_or now i h) where

@@ -1,4 +1,4 @@
-//! Tests of sets, problems, solving, cuts, types, lines of texts and lists of statements, by their
+//! Tests of sets, problems, solving, cuts, types, lines of texts and statements, by their
 //! public calls alone.
 //! Expected values are found by hand from the definitions. The plain solver, `rounds`, is a second
 //! body of `solve`'s contract.
@@ -46,11 +46,11 @@ mod skipped;
 #[cfg(test)]
 mod solutions;
 #[cfg(test)]
-mod statement_lists;
-#[cfg(test)]
 mod statement_names;
 #[cfg(test)]
 mod statement_text;
+#[cfg(test)]
+mod statements;
 #[cfg(test)]
 mod transcript;
 #[cfg(test)]
@@ -58,7 +58,7 @@ mod type_data;
 #[cfg(test)]
 mod type_names;
 #[cfg(test)]
-mod type_pieces;
+mod type_rows;
 #[cfg(test)]
 mod type_text;
 #[cfg(test)]

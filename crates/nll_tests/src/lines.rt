@@ -21,12 +21,8 @@ pub enum OfLine {
     Function,
     /// What the names in the type at the front mean.
     Names,
-    /// The pieces of the type at the front, and what is made of them.
-    Pieces,
-    /// What a list of statements reports of its statement.
-    Kept,
-    /// What a list reports of the statements in the line, as each is pushed.
-    List,
+    /// Its statement over numbers, and what that does.
+    Resolved,
     /// Its form.
     Form,
     /// Whether its form is one of version 1.
@@ -47,9 +43,7 @@ pub fn write_line(out: &mut Transcript, line: &str, asked: OfLine) {
             )
         }
         OfLine::Capital => out.flag("", is_capital(line.as_bytes()), ""),
-        OfLine::Names | OfLine::Pieces | OfLine::Kept | OfLine::List => {
-            type_names::write_in_scope(out, line, asked)
-        }
+        OfLine::Names | OfLine::Resolved => type_names::write_in_scope(out, line, asked),
         _ => write_told(out, line.as_bytes(), asked),
     }
 }

@@ -1,10 +1,10 @@
 //! What is judged where types meet.
-ghost use Rattle.std.specs.Prelude.{◌<◌, length};
+ghost use Rattle.std.specs.Prelude.{◌≡◌, ◌<◌, length};
 
 use super::transcript::Transcript;
 use super::type_data::{Step, types_of};
 use nll_sets::Memory;
-use nll_types::{Judgement, Operand, Place, Projection, Ty, TypeTable};
+use nll_types::{Judgement, Operand, Place, Projection, Ty, TypeTable, Typed};
 use smallvec::SmallVec;
 use std::alloc::Global;
 
@@ -29,6 +29,13 @@ fn place_of(alloc: Global, variable: u32, projections: &[Projection]) -> Result<
     Place::new(alloc, variable, projections)
 }
 
+// A type of this shape.
+fn of_shape(shape: usize) -> Typed
+    ensures { result.shape ≡ shape }
+{
+    Typed { shape, first: 0 }
+}
+
 // What is judged of a place, where `_0` and `_1` have types of these shapes.
 fn judged(
     alloc: Global,
@@ -41,7 +48,7 @@ fn judged(
     requires first { first < length table.old.shapes }
     requires second { second < length table.old.shapes }
 {
-    let variables = [first, second];
+    let variables = [of_shape(first), of_shape(second)];
     let whole = Place::Whole(0);
     match meeting {
         Meeting::Assigned => {

@@ -8,7 +8,7 @@ use super::written_types::{write_flag, write_pieces};
 use nll_mir_grammar::{Line, ParameterText, StructText, TypeText, Version, line_of, one_form};
 use nll_sets::Memory;
 use nll_statements::Statement;
-use nll_text::one_token_list;
+use nll_text::{one_token_list, tokens_make_a_line};
 use nll_types::{Parameter, Sign};
 use std::alloc::Global;
 
@@ -62,7 +62,7 @@ fn write_line(out: &mut Transcript, line: &Line<'_>) {
         }
         Line::Blocks(count) => out.number("blocks ", *count, ""),
         Line::Block(number) => out.number("block ", *number, ""),
-        Line::At(statement) => write_statement(out, statement),
+        Line::At(statement) => write_statement(out, None, statement),
         Line::End => out.say("end"),
     }
 }
@@ -456,4 +456,5 @@ fn lines_have_forms(rt: HostRuntime) {
     compare_text(&rt, rt.alloc(), OfLine::Effects, EFFECTS);
     one_form();
     one_token_list();
+    tokens_make_a_line();
 }

@@ -15,7 +15,6 @@ use super::schedules::write_schedule;
 use super::sets::{write_last_bit, write_runs, write_sets, write_within};
 use super::skipped::write_skipped;
 use super::transcript::Transcript;
-use super::type_pieces::{Large, write_large};
 use super::type_text::{OfType, write_typed};
 use nll_core::At;
 use std::alloc::Global;
@@ -75,8 +74,6 @@ pub enum Asked {
     Messages,
     /// What becomes of a failed allocation.
     Memory,
-    /// Of a type with numbers that don't fit a piece: what it is, by itself and in a statement.
-    Large(Large),
 }
 
 /// A subject, a question, and the expected report.
@@ -110,7 +107,6 @@ fn write_told(out: &mut Transcript, says: &str, asked: Asked) {
         Asked::Loop(text) => write_loop(out, text),
         Asked::Messages => write_messages(out),
         Asked::Memory => write_memory(out),
-        Asked::Large(large) => write_large(out, large),
     }
 }
 

@@ -2,12 +2,9 @@
 use super::transcript::Transcript;
 use nll_core::RegionId;
 use nll_mir_grammar::{Line, TypeText, Version, line_of};
-use nll_resolve::{ResolvedType, Scope, resolve};
-use nll_statements::{Call, Make, Statement};
-use nll_types::Operand;
-
-/// A statement over numbers.
-pub type Resolved = Statement<RegionId, ResolvedType>;
+use nll_resolve::{Scope, resolve};
+use nll_statements::{Call, Make, Statement, Stmt};
+use nll_types::{BodyTypes, Operand, Typed};
 
 // The region of a name, or 99 where the scope has none of that name.
 fn region_of(scope: &Scope<'_>, name: &[u8]) -> RegionId {
@@ -15,24 +12,35 @@ fn region_of(scope: &Scope<'_>, name: &[u8]) -> RegionId {
 }
 
 // The type that a written type means, where each name in it is known.
-fn type_of(out: &mut Transcript, scope: &Scope<'_>, text: &TypeText<'_>) -> Option<ResolvedType> {
+fn type_of(
+    out: &mut Transcript,
+    scope: &Scope<'_>,
+    types: &mut BodyTypes,
+    text: &TypeText<'_>,
+) -> Option<Typed> {
     if scope.regions.len() > 100 {
         return None;
     }
-    match resolve(out.alloc, scope, text) {
+    let mut fits = true;
+    match resolve(out.alloc, scope, text, types, &mut fits) {
         Ok(ty) => ty,
         Err(_) => None,
     }
 }
 
 // What is made, where each name in its type is known.
-fn make_of(out: &mut Transcript, scope: &Scope<'_>, made: Make<TypeText<'_>>) -> Option<Resolved> {
+fn make_of(
+    out: &mut Transcript,
+    scope: &Scope<'_>,
+    types: &mut BodyTypes,
+    made: Make<TypeText<'_>>,
+) -> Option<Stmt> {
     let Make {
         place,
         ty: text,
         operands,
     } = made;
-    let ty = type_of(out, scope, &text)?;
+    let ty = type_of(out, scope, types, &text)?;
     let made = Make {
         place,
         ty,
@@ -59,11 +67,12 @@ fn bounds_of(
 fn arguments_of(
     out: &mut Transcript,
     scope: &Scope<'_>,
+    types: &mut BodyTypes,
     arguments: Vec<(Operand, TypeText<'_>)>,
-) -> Vec<(Operand, ResolvedType)> {
+) -> Vec<(Operand, Typed)> {
     let mut made = Vec::new(out.alloc);
     for (operand, text) in arguments {
-        if let Some(ty) = type_of(out, scope, &text) {
+        if let Some(ty) = type_of(out, scope, types, &text) {
             out.note(made.push((operand, ty)));
         }
     }
@@ -74,8 +83,9 @@ fn arguments_of(
 fn call_of(
     out: &mut Transcript,
     scope: &Scope<'_>,
+    types: &mut BodyTypes,
     call: Call<&[u8], TypeText<'_>>,
-) -> Option<Resolved> {
+) -> Option<Stmt> {
     let Call {
         place,
         arguments,
@@ -84,10 +94,10 @@ fn call_of(
         target,
         unwind,
     } = call;
-    let result = type_of(out, scope, &text)?;
+    let result = type_of(out, scope, types, &text)?;
     let call = Call {
         place,
-        arguments: arguments_of(out, scope, arguments),
+        arguments: arguments_of(out, scope, types, arguments),
         result,
         wheres: bounds_of(out, scope, bounds.as_slice()),
         target,
@@ -100,15 +110,16 @@ fn call_of(
 fn resolved(
     out: &mut Transcript,
     scope: &Scope<'_>,
+    types: &mut BodyTypes,
     statement: Statement<&[u8], TypeText<'_>>,
-) -> Option<Resolved> {
+) -> Option<Stmt> {
     match statement {
         Statement::Assign(target, operand) => Some(Statement::Assign(target, operand)),
         Statement::Borrow(target, region, mutable, source) => {
             let region = region_of(scope, region);
             Some(Statement::Borrow(target, region, mutable, source))
         }
-        Statement::Make(made) => make_of(out, scope, Box::into_inner(made)),
+        Statement::Make(made) => make_of(out, scope, types, Box::into_inner(made)),
         Statement::Read(source) => Some(Statement::Read(source)),
         Statement::Live(variable) => Some(Statement::Live(variable)),
         Statement::Dead(variable) => Some(Statement::Dead(variable)),
@@ -116,16 +127,21 @@ fn resolved(
         Statement::Goto(block) => Some(Statement::Goto(block)),
         Statement::Switch(operand, blocks) => Some(Statement::Switch(operand, blocks)),
         Statement::Drop(variable, block, unwind) => Some(Statement::Drop(variable, block, unwind)),
-        Statement::Call(call) => call_of(out, scope, Box::into_inner(call)),
+        Statement::Call(call) => call_of(out, scope, types, Box::into_inner(call)),
         Statement::Return => Some(Statement::Return),
         Statement::Stop => Some(Statement::Stop),
     }
 }
 
 /// The statement that is written in a line, where the names in its types are known.
-pub fn statement_of(out: &mut Transcript, scope: &Scope<'_>, line: &[u8]) -> Option<Resolved> {
+pub fn statement_of(
+    out: &mut Transcript,
+    scope: &Scope<'_>,
+    types: &mut BodyTypes,
+    line: &[u8],
+) -> Option<Stmt> {
     match line_of(out.alloc, Version::Second, line) {
-        Ok(Some(Line::At(statement))) => resolved(out, scope, statement),
+        Ok(Some(Line::At(statement))) => resolved(out, scope, types, statement),
         _ => None,
     }
 }

@@ -5,35 +5,50 @@ use super::written_types::write_pieces;
 use nll_core::RegionId;
 use nll_mir_grammar::TypeText;
 use nll_statements::{Call, Make, Statement};
-use nll_types::{Operand, Place, Projection, Ty};
+use nll_types::{BodyTypes, Operand, Place, Projection, Typed};
 
 /// A region or a type in a statement.
 pub trait Told {
-    /// Writes it, and a bar.
-    fn tell(&self, out: &mut Transcript);
+    /// Writes it, and a bar. A type by number is one of these.
+    fn tell(&self, out: &mut Transcript, types: Option<&BodyTypes>);
 }
 
 impl Told for &[u8] {
-    fn tell(&self, out: &mut Transcript) {
+    fn tell(&self, out: &mut Transcript, _types: Option<&BodyTypes>) {
         out.part("", self);
     }
 }
 
 impl Told for RegionId {
-    fn tell(&self, out: &mut Transcript) {
+    fn tell(&self, out: &mut Transcript, _types: Option<&BodyTypes>) {
         out.number("", self.0, "|");
     }
 }
 
 impl Told for TypeText<'_> {
-    fn tell(&self, out: &mut Transcript) {
+    fn tell(&self, out: &mut Transcript, _types: Option<&BodyTypes>) {
         write_pieces(out, self);
     }
 }
 
-impl Told for Ty {
-    fn tell(&self, out: &mut Transcript) {
-        write_type(out, self);
+/// Writes a type by number, where it is one of these.
+pub fn write_typed(out: &mut Transcript, types: &BodyTypes, ty: Typed) {
+    if ty.shape < types.table.shapes().len() {
+        match types.tree(out.alloc, ty) {
+            Ok(ty) => {
+                write_type(out, &ty);
+                drop(ty);
+            }
+            Err(_) => out.say("refused"),
+        }
+    }
+}
+
+impl Told for Typed {
+    fn tell(&self, out: &mut Transcript, types: Option<&BodyTypes>) {
+        if let Some(types) = types {
+            write_typed(out, types, *self);
+        }
         out.say("|");
     }
 }
@@ -59,10 +74,10 @@ fn write_operand(out: &mut Transcript, operand: &Operand) {
 }
 
 // Writes what is made of operands, with a comma after each of them.
-fn write_make<T: Told>(out: &mut Transcript, made: &Make<T>) {
+fn write_make<T: Told>(out: &mut Transcript, types: Option<&BodyTypes>, made: &Make<T>) {
     write_place(out, "_", &made.place);
     out.say(" = make ");
-    made.ty.tell(out);
+    made.ty.tell(out, types);
     for operand in made.operands.as_slice() {
         write_operand(out, operand);
         out.say(",");
@@ -78,32 +93,44 @@ fn write_exits(out: &mut Transcript, target: u32, unwind: Option<u32>) {
 }
 
 // Writes the arguments of a call, with a comma after each of them.
-fn write_arguments<T: Told>(out: &mut Transcript, arguments: &[(Operand, T)]) {
+fn write_arguments<T: Told>(
+    out: &mut Transcript,
+    types: Option<&BodyTypes>,
+    arguments: &[(Operand, T)],
+) {
     for argument in arguments {
         write_operand(out, &argument.0);
         out.say(": ");
-        argument.1.tell(out);
+        argument.1.tell(out, types);
         out.say(",");
     }
 }
 
 // Writes a call: its arguments, its result, and its bounds, two regions each.
-fn write_call<R: Told, T: Told>(out: &mut Transcript, call: &Call<R, T>) {
+fn write_call<R: Told, T: Told>(
+    out: &mut Transcript,
+    types: Option<&BodyTypes>,
+    call: &Call<R, T>,
+) {
     write_place(out, "_", &call.place);
     out.say(" = call ");
-    write_arguments(out, call.arguments.as_slice());
+    write_arguments(out, types, call.arguments.as_slice());
     out.say(": ");
-    call.result.tell(out);
+    call.result.tell(out, types);
     for bound in call.wheres.as_slice() {
         out.say(" ");
-        bound.0.tell(out);
-        bound.1.tell(out);
+        bound.0.tell(out, types);
+        bound.1.tell(out, types);
     }
     write_exits(out, call.target, call.unwind);
 }
 
 /// Writes a statement.
-pub fn write_statement<R: Told, T: Told>(out: &mut Transcript, statement: &Statement<R, T>) {
+pub fn write_statement<R: Told, T: Told>(
+    out: &mut Transcript,
+    types: Option<&BodyTypes>,
+    statement: &Statement<R, T>,
+) {
     match statement {
         Statement::Assign(place, operand) => {
             write_place(out, "_", place);
@@ -113,11 +140,11 @@ pub fn write_statement<R: Told, T: Told>(out: &mut Transcript, statement: &State
         Statement::Borrow(place, region, mutable, source) => {
             write_place(out, "_", place);
             out.say(if *mutable { " = mut " } else { " = & " });
-            region.tell(out);
+            region.tell(out, types);
             write_place(out, "_", source);
         }
-        Statement::Make(made) => write_make(out, made),
-        Statement::Call(call) => write_call(out, call),
+        Statement::Make(made) => write_make(out, types, made),
+        Statement::Call(call) => write_call(out, types, call),
         Statement::Read(place) => write_place(out, "read _", place),
         Statement::Live(variable) => out.number("live ", *variable, ""),
         Statement::Dead(variable) => out.number("dead ", *variable, ""),

@@ -1,13 +1,13 @@
 //! What the names of written types mean.
 use super::lines::OfLine;
 use super::rows::compare_text;
+use super::statement_text::write_typed;
+use super::statements;
 use super::transcript::Transcript;
-use super::type_text::write_type;
-use super::{statement_lists, type_pieces};
 use nll_format::Names;
 use nll_mir_grammar::{TypeText, type_at};
-use nll_resolve::{ResolvedType, Scope, resolve};
-use nll_types::TypeTable;
+use nll_resolve::{Scope, resolve};
+use nll_types::{BodyTypes, Typed};
 
 // A table of names.
 fn names_of(out: &mut Transcript, words: &[&str]) -> Names {
@@ -20,39 +20,29 @@ fn names_of(out: &mut Transcript, words: &[&str]) -> Names {
     names
 }
 
-// Writes how many nodes a type has.
-fn write_size(out: &mut Transcript, ty: &ResolvedType) {
-    let mut table = TypeTable::new(out.alloc);
-    if let Ok(shape) = ty.shape(out.alloc, &mut table) {
-        out.size("", table.shapes().size(shape));
-        out.say(": ");
-    }
-    drop(table);
-}
-
 // Writes whether the names in a type have the arguments that they take, how many nodes the type
 // has, and what it is.
-fn write_resolved(out: &mut Transcript, resolved: &ResolvedType) {
-    out.flag("true ", resolved.fits(), " ");
-    write_size(out, resolved);
-    if let Ok(ty) = resolved.ty(out.alloc) {
-        write_type(out, &ty);
-        drop(ty);
+fn write_resolved(out: &mut Transcript, types: &BodyTypes, ty: Typed, fits: bool) {
+    out.flag("true ", fits, " ");
+    if ty.shape < types.table.shapes().len() {
+        out.size("", types.table.shapes().size(ty.shape));
+        out.say(": ");
     }
+    write_typed(out, types, ty);
 }
 
 // Writes whether the names in a type are known, and, where they are, what the type is.
 fn write_told(out: &mut Transcript, scope: &Scope<'_>, text: &TypeText<'_>) {
-    if scope.regions.len() <= 100 {
-        match resolve(out.alloc, scope, text) {
-            Ok(Some(resolved)) => {
-                write_resolved(out, &resolved);
-                drop(resolved);
-            }
-            Ok(None) => out.say("false"),
-            Err(_) => out.say("refused"),
-        }
+    if scope.regions.len() > 100 {
+        return;
     }
+    let (mut types, mut fits) = (BodyTypes::new(out.alloc), true);
+    match resolve(out.alloc, scope, text, &mut types, &mut fits) {
+        Ok(Some(ty)) => write_resolved(out, &types, ty, fits),
+        Ok(None) => out.say("false"),
+        Err(_) => out.say("refused"),
+    }
+    drop(types);
 }
 
 // Writes what is reported about the type at the front of a line, where there is one.
@@ -82,9 +72,7 @@ fn kinds(out: &mut Transcript) -> Vec<Vec<bool>> {
 fn write_asked(out: &mut Transcript, scope: &Scope<'_>, line: &str, asked: OfLine) {
     match asked {
         OfLine::Names => write_front(out, scope, line.as_bytes()),
-        OfLine::Pieces => type_pieces::write_front(out, scope, line.as_bytes()),
-        OfLine::List => statement_lists::write_list(out, scope, line),
-        _ => statement_lists::write_kept(out, scope, line.as_bytes()),
+        _ => statements::write_resolved(out, scope, line.as_bytes()),
     }
 }
 

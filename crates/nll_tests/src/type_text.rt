@@ -5,6 +5,7 @@ use super::meetings::{Meeting, write_both, write_meeting};
 use super::transcript::Transcript;
 use super::type_data::Step::{Int, Named, Parameter, Reference, Tuple};
 use super::type_data::{Step, Written, declare, types_of};
+use super::type_rows::write_row;
 use nll_core::RegionId;
 use nll_sets::Memory;
 use nll_types::{
@@ -299,6 +300,8 @@ pub enum OfType {
     Meeting(&'static [Step], Meeting, (u32, &'static [Projection])),
     /// What is judged of some together.
     Both,
+    /// A type that a shape and a row of regions make.
+    OfRow,
 }
 
 // Writes what is reported over a table.
@@ -310,6 +313,7 @@ fn write_told(out: &mut Transcript, table: &mut TypeTable, asked: OfType) {
         OfType::Doubling(more) => write_doubling(out, table, more),
         OfType::Meeting(steps, meeting, place) => write_meeting(out, table, steps, meeting, place),
         OfType::Both => write_both(out),
+        OfType::OfRow => write_row(out),
     }
 }
 

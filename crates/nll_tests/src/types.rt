@@ -4,7 +4,7 @@ use super::rows::Asked::Type;
 use super::rows::{Row, compare_rows};
 use super::type_data::Step;
 use super::type_data::Step::{Int, Named, Reference, Tuple};
-use super::type_text::OfType::{Both, Deep, Doubling, Field, Meeting, Place};
+use super::type_text::OfType::{Both, Deep, Doubling, Field, Meeting, OfRow, Place};
 use nll_types::Projection;
 
 const DEREF: Projection = Projection::Deref;
@@ -94,6 +94,8 @@ const LARGE: &[Row] = &[
     // A field has its declared type with the arguments substituted, and a shape that is added twice
     // is one.
     ("a field", Type(Field), "&6 mut int same true other false"),
+    // In a row of regions those of the arguments come first.
+    ("a row", Type(OfRow), "S3< 7 8 &6 mut int int >"),
     // A type of the most nodes nests as deep as it can, and one of a node more is no longer small.
     (
         "the deepest",

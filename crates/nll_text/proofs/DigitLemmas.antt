@@ -1,20 +1,17 @@
--- The digits at the front of bytes, and the number that they spell.
-use Rattle.std.proofs.Common.{◌≡◌, ⊎_elim, ℕ, zero, suc, ◌^◌, ◌<◌, ◌≤◌, true, false, List, [], ◌∷◌, ◌++◌, length, take, drop, get_or, refl, sym, ap, ◌∙◌, subst, arith}
+-- The digits in front of bytes, and the number that the word bytes in front are.
+use Rattle.std.proofs.Common.{◌≡◌, ⊎_elim, ℕ, zero, suc, ◌<◌, ◌≤◌, true, false, List, [], ◌∷◌, ◌++◌, length, take, drop, get_or, refl, sym, ap, ◌∙◌, subst, arith}
 use Rattle.std.specs.Char.{is_ascii_digit}
-use Rattle.std.specs.Fmt.{decimal}
 use Rattle.std.specs.Str.Parse.{AllDigits, digits_value}
 use Rattle.std.proofs.Math.Seq.{get_or-append_seam, drop-append_seam}
 use Rattle.std.proofs.lemmas.Bool.{false≢true, cases_lt}
 use Rattle.std.proofs.lemmas.Bool.Decides.{nat_tests}
 use Rattle.std.proofs.lemmas.List.{length-append, length-take, get_or-take, get_or_append_left, take-append-drop}
 use Rattle.std.proofs.lemmas.Str.Parse.{digit_at}
-use Rattle.nll_text.specs.Lines.{is_blank}
 use Rattle.nll_text.specs.Number.{IsNumber, IsDigitFront}
-use Rattle.nll_text.specs.Tokens.{word, is_word_byte, first_passes, IsMadeOf}
-use Rattle.nll_text.specs.Lexing.{BeginsWith, BeginsNotWith, SplitsWhile}
+use Rattle.nll_text.specs.Tokens.{is_word_byte, first_passes}
+use Rattle.nll_text.specs.Lexing.{SplitsWhile}
 use Rattle.nll_text.proofs.ByteLemmas.{Passes}
-use Rattle.nll_text.proofs.FrontLemmas.{first_token, this_number}
-use Rattle.nll_text.proofs.NumberLemmas.{no_digits, number_form, number_from_form, HasNumberForm}
+use Rattle.nll_text.proofs.NumberLemmas.{no_digits, number_form, number_from_form}
 
 digit_passes : (b : ℕ) → 48 ≤ b → b ≤ 57 → is_word_byte b ≡ true
 digit_passes b low high = grind (arith, nat_tests)
@@ -33,105 +30,101 @@ take_less (suc i) zero xs le = absurd (omega arith)
 take_less (suc i) (suc j) [] le = refl
 take_less (suc i) (suc j) (x ∷ xs) le = ap (λ (ys : List ℕ). x ∷ ys) (take_less i j xs (omega arith))
 
-module _ (core : List ℕ) (n count : ℕ) (f : IsDigitFront (take 9 core) n count) (within : count ≤ length core) where
+-- The word bytes in front are no number.
+abbrev pub IsNoNumber : List ℕ → Type 0
+IsNoNumber bytes = (word rest : List ℕ) (n : ℕ) → SplitsWhile is_word_byte bytes word rest → IsNumber word n → ⊥
+
+-- The word bytes in front are the number, and behind them come others.
+abbrev pub IsNumberIn : List ℕ → ℕ → List ℕ → Type 0
+IsNumberIn bytes n rest = (word : List ℕ) × SplitsWhile is_word_byte bytes word rest × IsNumber word n
+
+module _ (bytes : List ℕ) (n count : ℕ) (f : IsDigitFront (take 9 bytes) n count) where
   at_most_nine : count ≤ 9
-  at_most_nine = omega (arith, f.within, length-take 9 core)
+  at_most_nine = omega (arith, f.within, length-take 9 bytes)
+
+  pub count_within : count ≤ length bytes
+  count_within = omega (arith, f.within, length-take 9 bytes)
 
   -- no digit stands behind a number that is spelled there
-  past : (d more : List ℕ) → core ≡ d ++ more → first_passes is_word_byte more ≡ false → length d < count → ⊥
-  past d [] e stop lt = omega (arith, within, ap length e, length-append d [])
+  past : (d more : List ℕ) → bytes ≡ d ++ more → first_passes is_word_byte more ≡ false → length d < count → ⊥
+  past d [] e stop lt = omega (arith, count_within, ap length e, length-append d [])
   past d (b ∷ bs) e stop lt =
-      let here : get_or (take count (take 9 core)) (length d) 0 ≡ b =
-      get_or-take count (take 9 core) (length d) 0 lt
-      ∙ get_or-take 9 core (length d) 0 (omega (arith, lt, at_most_nine))
+      let here : get_or (take count (take 9 bytes)) (length d) 0 ≡ b =
+      get_or-take count (take 9 bytes) (length d) 0 lt
+      ∙ get_or-take 9 bytes (length d) 0 (omega (arith, lt, at_most_nine))
       ∙ ap (λ (l : List ℕ). get_or l (length d) 0) e
       ∙ get_or-append_seam d b bs 0 in
       let range =
-      digit_at (take count (take 9 core)) (length d) f.digits
-      (omega (arith, lt, length-take count (take 9 core), f.within)) in
+      digit_at (take count (take 9 bytes)) (length d) f.digits
+      (omega (arith, lt, length-take count (take 9 bytes), f.within)) in
       let low : 48 ≤ b = omega (arith, here, range.0) in
       let high : b ≤ 57 = omega (arith, here, range.1) in
       false≢true (sym stop ∙ digit_passes b low high)
 
   -- all digits of a number that is spelled there are counted
-  short_of : (d more : List ℕ) → core ≡ d ++ more → AllDigits 10 d → length d ≤ 9 → count < length d → ⊥
+  short_of : (d more : List ℕ) → bytes ≡ d ++ more → AllDigits 10 d → length d ≤ 9 → count < length d → ⊥
   short_of d more e digits short lt =
-      let inside : count < length (take 9 core) =
-      omega (arith, lt, short, length-take 9 core, ap length e, length-append d more) in
-      let here : get_or (take 9 core) count 0 ≡ get_or d count 0 =
-      get_or-take 9 core count 0 (omega (arith, lt, short))
+      let inside : count < length (take 9 bytes) =
+      omega (arith, lt, short, length-take 9 bytes, ap length e, length-append d more) in
+      let here : get_or (take 9 bytes) count 0 ≡ get_or d count 0 =
+      get_or-take 9 bytes count 0 (omega (arith, lt, short))
       ∙ ap (λ (l : List ℕ). get_or l count 0) e
       ∙ get_or_append_left d more 0 count lt in
       no_digits d count lt (sym (ap is_ascii_digit here) ∙ f.stops inside) digits
 
-  spelled_length : (d more : List ℕ) → core ≡ d ++ more → AllDigits 10 d → length d ≤ 9
-      → first_passes is_word_byte more ≡ false → count ≡ length d
-  spelled_length d more e digits short stop = ⊎_elim
-      (λ lt. absurd (short_of d more e digits short lt))
+  -- a number that the word bytes are is as long as the digits in front
+  counted : (word rest : List ℕ) (m : ℕ) → SplitsWhile is_word_byte bytes word rest → IsNumber word m
+      → count ≡ length word
+  counted word rest m s is =
+      let form = number_form word m is in
+      ⊎_elim
+      (λ lt. absurd (short_of word rest s.joined form.digits form.short lt))
       (λ ge. ⊎_elim
-      (λ lt. absurd (past d more e stop lt))
+      (λ lt. absurd (past word rest s.joined s.stops lt))
       (λ le. omega (arith, ge, le))
-      (cases_lt (length d) count))
-      (cases_lt count (length d))
+      (cases_lt (length word) count))
+      (cases_lt count (length word))
 
-  module _ (line gap : List ℕ) (s : SplitsWhile is_blank line gap core) (ds rest : List ℕ)
-      (front : ds ≡ take count core) (back : rest ≡ drop count core) where
-    -- a number that is the first token is as long as the digits at the front
-    record Spelled (m : ℕ) (more : List ℕ) : Type 0 where
-      joined : core ≡ decimal m ++ more
-      form : HasNumberForm (decimal m)
-      counted : count ≡ length (decimal m)
+  module _ (ds rest : List ℕ) (front : ds ≡ take count bytes) (back : rest ≡ drop count bytes) where
+    digits_length : length ds ≡ count
+    digits_length = omega (arith, ap length front, length-take count bytes, count_within)
 
-    spelled : (m : ℕ) → m < 10 ^ 9 → (ts : _) → (h : IsMadeOf line (word (decimal m) ∷ ts)) → Spelled m h.1
-    spelled m small ts h =
-        let e = first_token line gap core s (word (decimal m)) ts h in
-        let form = number_form (decimal m) m (record { small = small; printed = refl }) in
-        record {
-          joined = e;
-          form = form;
-          counted = spelled_length (decimal m) h.1 e form.digits form.short h.5;
-        }
+    pub no_digit_there : length ds ≡ 0 → IsNoNumber bytes
+    no_digit_there none word more m s is =
+        omega (arith, digits_length, none, counted word more m s is, (number_form word m is).some)
 
-    pub no_digit_there : length ds ≡ 0 → (m : ℕ) → m < 10 ^ 9 → BeginsNotWith line (word (decimal m))
-    no_digit_there none m small = λ ts h. (
-        let k = spelled m small ts h in
-        omega (arith, k.counted, k.form.some, none, ap length front, length-take count core, within))
-
-    pub zero_in_front : get_or ds 0 0 ≡ 48 → 1 < count → (m : ℕ) → m < 10 ^ 9 → BeginsNotWith line (word (decimal m))
-    zero_in_front nought long m small = λ ts h. (
-        let k = spelled m small ts h in
-        let here : get_or ds 0 0 ≡ get_or (decimal m) 0 0 =
+    pub zero_in_front : get_or ds 0 0 ≡ 48 → 1 < count → IsNoNumber bytes
+    zero_in_front nought long word more m s is =
+        let form = number_form word m is in
+        let here : get_or ds 0 0 ≡ get_or word 0 0 =
         ap (λ (l : List ℕ). get_or l 0 0) front
-        ∙ get_or-take count core 0 0 (omega (arith, long))
-        ∙ ap (λ (l : List ℕ). get_or l 0 0) k.joined
-        ∙ get_or_append_left (decimal m) h.1 0 0 k.form.some in
-        omega (arith, long, k.counted, k.form.lone (sym here ∙ nought)))
+        ∙ get_or-take count bytes 0 0 (omega (arith, long))
+        ∙ ap (λ (l : List ℕ). get_or l 0 0) s.joined
+        ∙ get_or_append_left word more 0 0 form.some in
+        omega (arith, long, counted word more m s is, form.lone (sym here ∙ nought))
 
-    pub word_goes_on : true ≡ first_passes is_word_byte rest → (m : ℕ) → m < 10 ^ 9
-        → BeginsNotWith line (word (decimal m))
-    word_goes_on on m small = λ ts h. (
-        let k = spelled m small ts h in
-        let same : rest ≡ h.1 =
-        back ∙ ap (λ (i : ℕ). drop i core) k.counted ∙ ap (drop (length (decimal m))) k.joined
-        ∙ drop-append_seam (decimal m) h.1 in
-        false≢true (sym (on ∙ ap (first_passes is_word_byte) same ∙ h.5)))
+    pub word_goes_on : true ≡ first_passes is_word_byte rest → IsNoNumber bytes
+    word_goes_on on word more m s is =
+        let same : rest ≡ more =
+        back ∙ ap (λ (i : ℕ). drop i bytes) (counted word more m s is) ∙ ap (drop (length word)) s.joined
+        ∙ drop-append_seam word more in
+        false≢true (sym (on ∙ ap (first_passes is_word_byte) same ∙ s.stops))
 
     all_digits : AllDigits 10 ds
-    all_digits = subst (AllDigits 10) (take_less count 9 core at_most_nine ∙ sym front) f.digits
-
-    is_number : 0 < length ds → (get_or ds 0 0 ≡ 48 → length ds ≡ 1) → IsNumber ds n
-    is_number some lone =
-        let short : length ds ≤ 9 = omega (arith, at_most_nine, ap length front, length-take count core) in
-        let is = number_from_form ds (record { some = some; short = short; lone = lone; digits = all_digits }) in
-        let value : digits_value 10 ds ≡ n = ap (digits_value 10) (front ∙ sym (take_less count 9 core at_most_nine))
-        ∙ sym f.value in
-        subst (IsNumber ds) value is
+    all_digits = subst (AllDigits 10) (take_less count 9 bytes at_most_nine ∙ sym front) f.digits
 
     pub number_there : 0 < length ds → (get_or ds 0 0 ≡ 48 → length ds ≡ 1) → false ≡ first_passes is_word_byte rest
-        → (n < 10 ^ 9) × BeginsWith line (word (decimal n)) rest
+        → IsNumberIn bytes n rest
     number_there some lone off =
-        let joined : core ≡ ds ++ rest = sym (take-append-drop count core) ∙ rw (front, back) refl in
-        let is = is_number some lone in
-        let split : SplitsWhile is_word_byte core ds rest =
-        record { joined = joined; each = digits_pass ds all_digits; stops = sym off } in
-        (is.small, this_number line gap core s ds rest n split is)
+        let short : length ds ≤ 9 = omega (arith, at_most_nine, digits_length) in
+        let is = number_from_form ds (record { some = some; short = short; lone = lone; digits = all_digits }) in
+        let value : digits_value 10 ds ≡ n =
+        ap (digits_value 10) (front ∙ sym (take_less count 9 bytes at_most_nine)) ∙ sym f.value in (
+          ds,
+          record {
+            joined = sym (take-append-drop count bytes) ∙ rw (front, back) refl;
+            each = digits_pass ds all_digits;
+            stops = sym off;
+          },
+          subst (IsNumber ds) value is,
+        )

@@ -1,13 +1,13 @@
 -- The runs of a line, from the first on.
-use Rattle.std.proofs.Common.{◌≡◌, ℕ, ◌<◌, Bool, true, false, eqb, not, List, [], ◌∷◌, ◌++◌, length, refl, ap, ◌∙◌, arith}
-use Rattle.std.specs.List.{slice_split}
+use Rattle.std.proofs.Common.{◌≡◌, ℕ, ◌<◌, Bool, true, false, eqb, not, List, [], ◌∷◌, ◌++◌, length, take, refl, sym, ap, ◌∙◌, arith}
+use Rattle.std.specs.List.{slice_split, prefix_len}
 use Rattle.std.proofs.lemmas.List.{append-nil}
 use Rattle.std.proofs.lemmas.Bool.Decides.{nat_tests}
-use Rattle.nll_text.specs.Lines.{is_blank}
+use Rattle.nll_text.specs.Lines.{is_blank, without_front_blanks}
 use Rattle.nll_text.specs.Header.{runs}
 use Rattle.nll_text.specs.Tokens.{first_passes, IsGap}
 use Rattle.nll_text.specs.Lexing.{SplitsWhile, is_no_blank}
-use Rattle.nll_text.proofs.ByteLemmas.{Passes}
+use Rattle.nll_text.proofs.ByteLemmas.{Passes, splits_while}
 
 not_true : (t : Bool) → not t ≡ true → t ≡ false
 not_true true e = absurd cc
@@ -45,20 +45,24 @@ runs-run (c ∷ run) (b ∷ rest) some h stop =
 
 -- ---- what the code's branches need
 
-pub no_runs : (line gap core : List ℕ)
-    → SplitsWhile is_blank line gap core → length core ≡ 0 → runs line ≡ []
-no_runs line gap [] s e = rw s.joined (runs-gap gap [] s.each)
-no_runs line gap (b ∷ core) s e = absurd (omega arith)
+runs-core : (line : List ℕ) → runs line ≡ runs (without_front_blanks line)
+runs-core line =
+    let s = splits_while is_blank line in
+    ap runs s.joined ∙ runs-gap (take (prefix_len is_blank line) line) (without_front_blanks line) s.each
+
+pub no_runs : (line core : List ℕ) → core ≡ without_front_blanks line → length core ≡ 0 → runs line ≡ []
+no_runs line [] s e = runs-core line ∙ ap runs (sym s)
+no_runs line (b ∷ core) s e = absurd (omega arith)
 
 run_or_blank : (core : List ℕ) → 0 < length core → first_passes is_blank core ≡ false
     → first_passes is_no_blank core ≡ false → ⊥
 run_or_blank [] some solid stop = omega arith
 run_or_blank (b ∷ bs) some solid stop = (let h = not_false (is_blank b) stop in cc)
 
-pub first_run : (line gap core run rest : List ℕ) → SplitsWhile is_blank line gap core
+pub first_run : (line core run rest : List ℕ) → core ≡ without_front_blanks line → first_passes is_blank core ≡ false
     → 0 < length core → SplitsWhile is_no_blank core run rest → runs line ≡ run ∷ runs rest
-first_run line gap core [] rest s some t =
-    absurd (run_or_blank core some s.stops (rw t.joined t.stops))
-first_run line gap core (b ∷ run) rest s some t =
-    rw (s.joined) (runs-gap gap core s.each
-    ∙ ap runs t.joined ∙ runs-run (b ∷ run) rest (omega arith) t.each t.stops)
+first_run line core [] rest s solid some t =
+    absurd (run_or_blank core some solid (rw t.joined t.stops))
+first_run line core (b ∷ run) rest s solid some t =
+    runs-core line ∙ ap runs (sym s)
+    ∙ (ap runs t.joined ∙ runs-run (b ∷ run) rest (omega arith) t.each t.stops)

@@ -1,11 +1,11 @@
 pub mod LineLemmas
 pub mod ByteLemmas
 pub mod TableLemmas
-pub mod FrontLemmas
-pub mod DigitLemmas
+pub mod DecisionLemmas
 pub mod TokenLemmas
-pub mod Utf8Lemmas
 pub mod NumberLemmas
+pub mod DigitLemmas
+pub mod WordLemmas
+pub mod Utf8Lemmas
 pub mod HeaderLemmas
 pub mod SkippedLemmas
-pub mod DecisionLemmas

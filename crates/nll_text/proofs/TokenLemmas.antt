@@ -1,430 +1,307 @@
--- What a line begins with, and what it is made of.
-use Rattle.std.proofs.Common.{◌≡◌, ◌≢◌, ◌⊎◌, inl, inr, ⊎_elim, ℕ, zero, suc, ◌<◌, Bool, true, false, cond, eqb, List, [], ◌∷◌, ◌++◌, length, take, drop, refl, sym, ap, ◌∙◌, subst, append_assoc, arith}
-use Rattle.std.specs.List.{prefix_len}
-use Rattle.std.proofs.lemmas.List.{append-nil, length-append}
-use Rattle.std.proofs.lemmas.Bool.{eqb-true, cases_Bool, cases_eq}
+-- The tokens of bytes: with which token they begin, what stands behind it, and the lines that they make.
+use Rattle.std.proofs.Common.{◌≡◌, ⊎_elim, ℕ, Bool, true, false, ◌&&◌, eqb, List, [], ◌∷◌, ◌++◌, take, drop, length, refl, sym, ap, ◌∙◌, subst, arith, one-add}
+use Rattle.std.specs.List.{AllByRecursion, prefix_len}
+use Rattle.std.proofs.lemmas.Bool.{cases_Bool, eqb-true}
 use Rattle.std.proofs.lemmas.Bool.Decides.{nat_tests}
-use Rattle.nll_text.specs.Lines.{is_blank, is_empty_or_remark}
-use Rattle.nll_text.specs.Tokens.{Token, word, region, arrow, sign, spelling, is_word_byte, is_sign, is_arrow, IsToken, AreTokens, IsWhole, first_passes, IsGap, IsMadeOf, IsNotMade}
-use Rattle.nll_text.specs.Lexing.{BeginsWith, HasNoToken, SplitsWhile}
-use Rattle.nll_text.proofs.ByteLemmas.{Class, letter, quote, dash, mark, other, class_of, class_of-sign, class_of-blank, same_split, first_fails, splits_while}
+use Rattle.std.proofs.lemmas.List.{append-nil}
+use Rattle.nll_text.specs.Lines.{is_blank, without_front_blanks, is_empty_or_remark}
+use Rattle.nll_text.specs.Tokens.{Token, word, region, arrow, sign, spelling, is_word_byte, is_sign, is_arrow, IsWord, IsGap, IsToken, AreTokens, IsWhole, IsMadeOf, first_passes}
+use Rattle.nll_text.specs.LineTokens.{lengthened, marked, tokens_in}
+use Rattle.nll_text.proofs.ByteLemmas.{splits_while}
+use Rattle.nll_text.proofs.DecisionLemmas.{same_first, same_rest}
 
--- ---- the first byte of a token
+-- ---- the tokens where some stand in front
 
--- `-` is an arrow's first byte, and a sign
-abbrev class_of_mark : Bool → Class
-class_of_mark is_dash = cond is_dash dash mark
+-- blanks in front change nothing
+pub past_blanks : (gap core : List ℕ) → IsGap gap → tokens_in (gap ++ core) ≡ tokens_in core
+past_blanks [] core g = refl
+past_blanks (b ∷ gap) core g = rw g.0 (past_blanks gap core g.1)
 
-abbrev class_of_token : Token → Class
-class_of_token (word name) = letter
-class_of_token (region name) = quote
-class_of_token arrow = dash
-class_of_token (sign b) = class_of_mark (eqb b 45)
+-- blanks alone have no token
+pub gap_has_none : (gap : List ℕ) → IsGap gap → tokens_in gap ≡ []
+gap_has_none [] g = refl
+gap_has_none (b ∷ gap) g = rw g.0 (gap_has_none gap g.1)
 
-no_letter : (d : Bool) → letter ≡ class_of_mark d → ⊥
-no_letter true k = cc
-no_letter false k = cc
+-- a byte of a word is no blank
+pub word_byte_solid : (b : ℕ) → is_word_byte b ≡ true → is_blank b ≡ false
+word_byte_solid b w = grind (arith, nat_tests)
 
-no_quote : (d : Bool) → quote ≡ class_of_mark d → ⊥
-no_quote true k = cc
-no_quote false k = cc
+word_grows : (b : ℕ) (bs : List ℕ) → is_word_byte b ≡ true → first_passes is_word_byte bs ≡ true
+    → tokens_in (b ∷ bs) ≡ lengthened b (tokens_in bs)
+word_grows b bs w more = let solid = word_byte_solid b w in rw (solid, w, more) refl
 
-no_class : (d : Bool) → other ≡ class_of_mark d → ⊥
-no_class true k = cc
-no_class false k = cc
+word_ends : (b : ℕ) (bs : List ℕ) → is_word_byte b ≡ true → first_passes is_word_byte bs ≡ false
+    → tokens_in (b ∷ bs) ≡ word (b ∷ []) ∷ tokens_in bs
+word_ends b bs w stop = let solid = word_byte_solid b w in rw (solid, w, stop) refl
 
-abbrev first_byte : List ℕ → ℕ
-first_byte [] = 0
-first_byte (b ∷ bs) = b
+pub word_in_front : (w rest : List ℕ) → IsWord w → first_passes is_word_byte rest ≡ false
+    → tokens_in (w ++ rest) ≡ word w ∷ tokens_in rest
+word_in_front [] rest is stop = absurd (omega (arith, is.0))
+word_in_front (b ∷ []) rest is stop = word_ends b rest is.1.0 stop
+word_in_front (b ∷ c ∷ w) rest is stop =
+    word_grows b (c ∷ w ++ rest) is.1.0 is.1.1.0
+    ∙ ap (lengthened b) (word_in_front (c ∷ w) rest (omega arith, is.1.1) stop)
 
-first_class : (t : Token) (rest : List ℕ) → IsToken t
-    → class_of (first_byte (spelling t ++ rest)) ≡ class_of_token t
-first_class (word []) rest h = absurd (omega (arith, h.0))
-first_class (word (x ∷ xs)) rest h = rw h.1.0 refl
-first_class (region name) rest h = refl
-first_class arrow rest h = refl
-first_class (sign b) rest h = by_test (eqb b 45) refl
+first_of_word : (w rest : List ℕ) → IsWord w → first_passes is_word_byte (w ++ rest) ≡ true
+first_of_word [] rest is = absurd (omega (arith, is.0))
+first_of_word (b ∷ w) rest is = is.1.0
+
+pub region_in_front : (w rest : List ℕ) → IsWord w → first_passes is_word_byte rest ≡ false
+    → tokens_in (39 ∷ w ++ rest) ≡ region w ∷ tokens_in rest
+region_in_front w rest is stop =
+    quoted (w ++ rest) (first_of_word w rest is) ∙ ap marked (word_in_front w rest is stop)
   where
-    by_test : (d : Bool) → eqb b 45 ≡ d → class_of b ≡ class_of_mark d
-    by_test true e = ap class_of (eqb-true b 45 e)
-    by_test false e = class_of-sign b h e
+    quoted : (bs : List ℕ) → first_passes is_word_byte bs ≡ true → tokens_in (39 ∷ bs) ≡ marked (tokens_in bs)
+    quoted bs f = rw f refl
 
-spelling_length : (t : Token) → IsToken t → 0 < length (spelling t)
-spelling_length (word name) h = h.0
-spelling_length (region name) h = omega arith
-spelling_length arrow h = omega arith
-spelling_length (sign b) h = omega arith
+pub arrow_in_front : (rest : List ℕ) → tokens_in (45 ∷ 62 ∷ rest) ≡ arrow ∷ tokens_in rest
+arrow_in_front [] = refl
+arrow_in_front (b ∷ rest) = refl
 
-no_blank : (t : Token) (b : ℕ) → class_of b ≡ class_of_token t → is_blank b ≡ true → ⊥
-no_blank (word name) b k h = (let f = class_of-blank b h in cc)
-no_blank (region name) b k h = (let f = class_of-blank b h in cc)
-no_blank arrow b k h = (let f = class_of-blank b h in cc)
-no_blank (sign c) b k h = no_class (eqb c 45) (sym (class_of-blank b h) ∙ k)
+-- a byte that begins no word, no region and no arrow
+pub byte_in_front : (c : ℕ) (rest : List ℕ) → is_blank c ≡ false → is_word_byte c ≡ false
+    → (eqb c 39 && first_passes is_word_byte rest) ≡ false → first_passes (is_arrow c) rest ≡ false
+    → tokens_in (c ∷ rest) ≡ sign c ∷ tokens_in rest
+byte_in_front c rest solid other quote stop = rw (solid, other, quote, stop) refl
 
-no_hash : (t : Token) → other ≡ class_of_token t → ⊥
-no_hash (word name) k = cc
-no_hash (region name) k = cc
-no_hash arrow k = cc
-no_hash (sign b) k = no_class (eqb b 45) k
+pub sign_in_front : (c : ℕ) (rest : List ℕ) → is_sign c ≡ true → first_passes (is_arrow c) rest ≡ false
+    → tokens_in (c ∷ rest) ≡ sign c ∷ tokens_in rest
+sign_in_front c rest is stop =
+    let solid : is_blank c ≡ false = grind (arith, nat_tests) in
+    let other : is_word_byte c ≡ false = grind (arith, nat_tests) in
+    let quote : eqb c 39 ≡ false = grind (arith, nat_tests) in
+    byte_in_front c rest solid other (rw quote refl) stop
 
-first_solid : (bytes : List ℕ)
-    → (is_blank (first_byte bytes) ≡ true → ⊥) → first_passes is_blank bytes ≡ false
-first_solid [] refuted = refl
-first_solid (b ∷ bs) refuted = by_test (is_blank b) refl
-  where
-    by_test : (t : Bool) → is_blank b ≡ t → t ≡ false
-    by_test true e = absurd (refuted e)
-    by_test false e = refl
+-- any token that stands whole in front
+pub token_in_front : (t : Token) (rest : List ℕ) → IsToken t → IsWhole t rest
+    → tokens_in (spelling t ++ rest) ≡ t ∷ tokens_in rest
+token_in_front (word w) rest is whole = word_in_front w rest is whole
+token_in_front (region w) rest is whole = region_in_front w rest is whole
+token_in_front arrow rest is whole = arrow_in_front rest
+token_in_front (sign c) rest is whole = sign_in_front c rest is whole
 
--- a token begins with no blank
-pub token_solid : (t : Token) (rest : List ℕ) → IsToken t
-    → first_passes is_blank (spelling t ++ rest) ≡ false
-token_solid t rest h =
-    first_solid (spelling t ++ rest)
-    (no_blank t (first_byte (spelling t ++ rest)) (first_class t rest h))
+-- ---- the first token of bytes that begin with no blank
 
-no_remark : (bytes : List ℕ) (t : Token) → 0 < length bytes
-    → class_of (first_byte bytes) ≡ class_of_token t → is_empty_or_remark bytes ≡ false
-no_remark [] t some k = absurd (omega arith)
-no_remark (b ∷ bs) t some k = by_test (eqb b 35) refl
-  where
-    by_test : (test : Bool) → eqb b 35 ≡ test → test ≡ false
-    by_test true e = absurd (no_hash t (ap class_of (sym (eqb-true b 35 e)) ∙ k))
-    by_test false e = refl
+-- What is known of the first token, behind which these bytes stand: a sign may be any byte that
+-- begins no other token.
+abbrev pub IsFirst : Token → List ℕ → Type 0
+IsFirst (word w) rest = IsWord w × (first_passes is_word_byte rest ≡ false)
+IsFirst (region w) rest = IsWord w × (first_passes is_word_byte rest ≡ false)
+IsFirst arrow rest = Unit {0}
+IsFirst (sign c) rest = (is_word_byte c ≡ false) × (first_passes (is_arrow c) rest ≡ false)
 
--- a token begins with no `#`
-pub spells_no_remark : (t : Token) (rest : List ℕ) → IsToken t
-    → is_empty_or_remark (spelling t ++ rest) ≡ false
-spells_no_remark t rest h =
-    no_remark (spelling t ++ rest) t
-    (omega (arith, spelling_length t h, length-append (spelling t) rest)) (first_class t rest h)
+-- The bytes begin with the token, behind which others are the tokens of the rest.
+pub record BeginsIn (bytes : List ℕ) (t : Token) (ts : List Token) : Type 0 where
+  pub rest : List ℕ
+  pub joined : bytes ≡ spelling t ++ rest
+  pub first : IsFirst t rest
+  pub left : ts ≡ tokens_in rest
 
--- a sign that is whole is no beginning of an arrow
-no_sign_of_arrow : (b : ℕ) (rest more : List ℕ) → IsWhole (sign b) more → 45 ∷ 62 ∷ rest ≡ b ∷ more → ⊥
-no_sign_of_arrow b rest more whole e =
-    let h : 45 ≡ b = cc in
-    let t : 62 ∷ rest ≡ more = cc in
-    let f : true ≡ false = rw (sym h, sym t) at whole in
-    cc
-
--- where whole tokens stand at the front of one line, they are the same
-same_token : (t u : Token) (rest more : List ℕ) → IsToken t → IsToken u
-    → IsWhole t rest → IsWhole u more → spelling t ++ rest ≡ spelling u ++ more
-    → class_of_token t ≡ class_of_token u → (t ≡ u) × (rest ≡ more)
-same_token (word a) (word b) rest more ht hu wt wu e k =
-    let r = same_split is_word_byte a rest b more ht.1 wt hu.1 wu e in
-    let same : a ≡ b = r.0 in
-    (cc, r.1)
-same_token (region a) (region b) rest more ht hu wt wu e k =
-    let tail : a ++ rest ≡ b ++ more = cc in
-    let r = same_split is_word_byte a rest b more ht.1 wt hu.1 wu tail in
-    let same : a ≡ b = r.0 in
-    (cc, r.1)
-same_token arrow arrow rest more ht hu wt wu e k = (refl, cc)
-same_token (sign a) (sign b) rest more ht hu wt wu e k = (cc, cc)
-same_token arrow (sign b) rest more ht hu wt wu e k = absurd (no_sign_of_arrow b rest more wu e)
-same_token (sign a) arrow rest more ht hu wt wu e k = absurd (no_sign_of_arrow a more rest wt (sym e))
-same_token (word a) (sign b) rest more ht hu wt wu e k = absurd (no_letter (eqb b 45) k)
-same_token (sign a) (word b) rest more ht hu wt wu e k = absurd (no_letter (eqb a 45) (sym k))
-same_token (region a) (sign b) rest more ht hu wt wu e k = absurd (no_quote (eqb b 45) k)
-same_token (sign a) (region b) rest more ht hu wt wu e k = absurd (no_quote (eqb a 45) (sym k))
-same_token t u rest more ht hu wt wu e k = absurd cc
-
--- ---- a line that begins with no blank
-
-record Starts (line : List ℕ) (ts : List Token) : Type 0 where
-  first : Token
-  others : List Token
+-- the bytes begin with some token
+record HasFirst (bytes : List ℕ) : Type 0 where
+  token : Token
   rest : List ℕ
-  is : ts ≡ first ∷ others
-  joined : line ≡ spelling first ++ rest
-  token : IsToken first
-  whole : IsWhole first rest
-  made : IsMadeOf rest others
+  joined : bytes ≡ spelling token ++ rest
+  first : IsFirst token rest
+  tokens : tokens_in bytes ≡ token ∷ tokens_in rest
 
-starts_gap : (line : List ℕ) → first_passes is_blank line ≡ false
-    → (t : Token) (ts : List Token) (gap rest : List ℕ) → line ≡ gap ++ (spelling t ++ rest)
-    → IsGap gap → IsToken t → IsWhole t rest → IsMadeOf rest ts → Starts line (t ∷ ts)
-starts_gap line solid t ts [] rest joined g token whole made = record {
-  first = t;
-  others = ts;
-  rest = rest;
-  is = refl;
-  joined = joined;
-  token = token;
-  whole = whole;
-  made = made;
-}
-starts_gap line solid t ts (b ∷ gap) rest joined g token whole made =
-    let f : first_passes is_blank line ≡ is_blank b = ap (first_passes is_blank) joined in
-    let h : is_blank b ≡ true = g.0 in
-    absurd cc
+some_word : (bytes : List ℕ) → first_passes is_word_byte bytes ≡ true
+    → (w rest : List ℕ) × (bytes ≡ w ++ rest) × IsWord w × (first_passes is_word_byte rest ≡ false)
+some_word [] f = cc
+some_word (b ∷ bs) f =
+    let s = splits_while is_word_byte bs in
+    let w : List ℕ = take (prefix_len is_word_byte bs) bs in
+    let rest : List ℕ = drop (prefix_len is_word_byte bs) bs in
+    (b ∷ w, rest, ap (λ (l : List ℕ). b ∷ l) s.joined, (omega arith, (f, s.each)), s.stops)
 
-starts : (line : List ℕ) → 0 < length line → first_passes is_blank line ≡ false
-    → (ts : List Token) → IsMadeOf line ts → Starts line ts
-starts [] some solid ts h = absurd (omega arith)
-starts (b ∷ bs) some solid [] h = (let g : is_blank b ≡ true = h.0 in absurd cc)
-starts (b ∷ bs) some solid (t ∷ ts) h =
-    starts_gap (b ∷ bs) solid t ts h.0 h.1 h.2 h.3 h.4 h.5 h.6
-
-pub begins_with : (line : List ℕ) (t : Token) (rest : List ℕ) → line ≡ spelling t ++ rest
-    → IsToken t → IsWhole t rest → BeginsWith line t rest
-begins_with line t rest joined token whole =
-    let size = ap length joined in
-    let some = spelling_length t token in
-    let long : length rest < length line = omega (arith, size, length-append (spelling t) rest) in
-    let solid : first_passes is_blank line ≡ false = rw joined (token_solid t rest token) in
+first_word : (b : ℕ) (bs : List ℕ) → is_word_byte b ≡ true → HasFirst (b ∷ bs)
+first_word b bs w =
+    let s = some_word (b ∷ bs) w in
     record {
-      shorter = long;
-      made = λ ts h. ([], rest, joined, tt, token, whole, h);
-      only = λ ts h. (
-          let s = starts line (omega arith) solid ts h in
-          let same : spelling t ++ rest ≡ spelling s.first ++ s.rest = sym joined ∙ s.joined in
-          let k = sym (first_class t rest token)
-          ∙ ap (λ (bs : List ℕ). class_of (first_byte bs)) same
-          ∙ first_class s.first s.rest s.token in
-          let r = same_token t s.first rest s.rest token s.token whole s.whole same k in (
-            s.others,
-            s.is ∙ ap (λ (u : Token). u ∷ s.others) (sym r.0),
-            subst (λ (m : List ℕ). IsMadeOf m s.others) (sym r.1) s.made,
-          ));
+      token = word s.0;
+      rest = s.1;
+      joined = s.2;
+      first = (s.3, s.4);
+      tokens = ap tokens_in s.2 ∙ word_in_front s.0 s.1 s.3 s.4;
     }
 
-pub region_begins : (line : List ℕ) (b : ℕ) (bs name rest : List ℕ) → line ≡ b ∷ bs → b ≡ 39
-    → SplitsWhile is_word_byte bs name rest → 0 < length name
-    → BeginsWith line (region name) rest
-region_begins line b bs name rest e q s some =
-    let joined : line ≡ 39 ∷ name ++ rest = rw (e, q, s.joined) refl in
-    begins_with line (region name) rest joined (some, s.each) s.stops
+first_region : (b : ℕ) (bs : List ℕ) → (eqb b 39 && first_passes is_word_byte bs) ≡ true → HasFirst (b ∷ bs)
+first_region b bs q =
+    let both = both_true (eqb b 39) (first_passes is_word_byte bs) q in
+    let s = some_word bs both.1 in
+    let same : b ∷ bs ≡ 39 ∷ s.0 ++ s.1 =
+    ap (λ (x : ℕ). x ∷ bs) (eqb-true b 39 both.0) ∙ ap (λ (l : List ℕ). 39 ∷ l) s.2 in
+    record {
+      token = region s.0;
+      rest = s.1;
+      joined = same;
+      first = (s.3, s.4);
+      tokens = ap tokens_in same ∙ region_in_front s.0 s.1 s.3 s.4;
+    }
+  where
+    both_true : (x y : Bool) → (x && y) ≡ true → (x ≡ true) × (y ≡ true)
+    both_true true y e = (refl, e)
+    both_true false y e = cc
 
-pub word_begins : (line name rest : List ℕ)
-    → SplitsWhile is_word_byte line name rest → 0 < length name → BeginsWith line (word name) rest
-word_begins line name rest s some =
-    begins_with line (word name) rest s.joined (some, s.each) s.stops
+first_arrow : (b : ℕ) (bs : List ℕ) → first_passes (is_arrow b) bs ≡ true → HasFirst (b ∷ bs)
+first_arrow b [] f = cc
+first_arrow b (c ∷ bs) f =
+    let d : b ≡ 45 = grind (arith, nat_tests) in
+    let h : c ≡ 62 = grind (arith, nat_tests) in
+    let same : b ∷ c ∷ bs ≡ 45 ∷ 62 ∷ bs = cc in
+    record {
+      token = arrow;
+      rest = bs;
+      joined = same;
+      first = tt;
+      tokens = ap tokens_in same ∙ arrow_in_front bs;
+    }
 
--- ---- a line at whose front no token stands
+has_first : (b : ℕ) (bs : List ℕ) → is_blank b ≡ false → HasFirst (b ∷ bs)
+has_first b bs solid = ⊎_elim (first_word b bs)
+    (λ other. ⊎_elim (first_region b bs)
+    (λ quote. ⊎_elim (first_arrow b bs)
+    (λ stop. record {
+      token = sign b;
+      rest = bs;
+      joined = refl;
+      first = (other, stop);
+      tokens = byte_in_front b bs solid other quote stop;
+    })
+    (cases_Bool (first_passes (is_arrow b) bs)))
+    (cases_Bool (eqb b 39 && first_passes is_word_byte bs)))
+    (cases_Bool (is_word_byte b))
 
-none_at : (b : ℕ) (bs : List ℕ) → is_blank b ≡ false
-    → ((u : Token) (more : List ℕ) → class_of b ≡ class_of_token u → IsToken u
-    → b ∷ bs ≡ spelling u ++ more → ⊥)
-    → IsNotMade (b ∷ bs)
-none_at b bs solid refuted = λ ts h. (
-    let s = starts (b ∷ bs) (omega arith) solid ts h in
-    let k = ap (λ (cs : List ℕ). class_of (first_byte cs)) s.joined
-    ∙ first_class s.first s.rest s.token in
-    refuted s.first s.rest k s.token s.joined)
+pub first_token : (bytes : List ℕ) → first_passes is_blank bytes ≡ false → (t : Token) (ts : List Token)
+    → tokens_in bytes ≡ t ∷ ts → BeginsIn bytes t ts
+first_token [] solid t ts e = cc
+first_token (b ∷ bs) solid t ts e =
+    let h = has_first b bs solid in
+    let both : h.token ∷ tokens_in h.rest ≡ t ∷ ts = sym h.tokens ∙ e in
+    let same : h.token ≡ t = same_first both in
+    record {
+      rest = h.rest;
+      joined = h.joined ∙ ap (λ (u : Token). spelling u ++ h.rest) same;
+      first = subst (λ (u : Token). IsFirst u h.rest) same h.first;
+      left = sym (same_rest both);
+    }
 
-no_region : (bs : List ℕ) → first_passes is_word_byte bs ≡ false → (u : Token) (more : List ℕ)
-    → quote ≡ class_of_token u → IsToken u → 39 ∷ bs ≡ spelling u ++ more → ⊥
-no_region bs stop (region []) more k h e = omega (arith, h.0)
-no_region bs stop (region (x ∷ xs)) more k h e =
-    let tail : bs ≡ x ∷ xs ++ more = cc in
-    let f : first_passes is_word_byte bs ≡ is_word_byte x = ap (first_passes is_word_byte) tail in
-    let g : is_word_byte x ≡ true = h.1.0 in
-    cc
-no_region bs stop (sign b) more k h e = no_quote (eqb b 45) k
-no_region bs stop u more k h e = cc
+-- bytes that begin with no blank have a token if there are any
+pub some_token : (bytes : List ℕ) → first_passes is_blank bytes ≡ false → tokens_in bytes ≡ [] → bytes ≡ []
+some_token [] solid e = refl
+some_token (b ∷ bs) solid e = (let h = has_first b bs solid in let f = sym h.tokens ∙ e in cc)
 
-pub region_none : (line : List ℕ) (b : ℕ) (bs name rest : List ℕ) → line ≡ b ∷ bs → b ≡ 39
-    → SplitsWhile is_word_byte bs name rest → length name ≡ 0 → IsNotMade line
-region_none line b bs name rest e q s nothing =
-    let stop = first_fails is_word_byte bs name rest s nothing in
-    rw (e, q) (none_at 39 bs refl (no_region bs stop))
+-- ---- the bytes behind the blanks
 
--- ---- a line that begins with `-`
+pub core_solid : (line : List ℕ) → first_passes is_blank (without_front_blanks line) ≡ false
+core_solid line = (splits_while is_blank line).stops
 
--- the byte is `>`
-abbrev pub is_head : ℕ → Bool
-is_head b = eqb b 62
+pub core_tokens : (line : List ℕ) → tokens_in (without_front_blanks line) ≡ tokens_in line
+core_tokens line =
+    let s = splits_while is_blank line in
+    sym (ap tokens_in s.joined ∙ past_blanks (take (prefix_len is_blank line) line) (without_front_blanks line) s.each)
 
--- a sign other than `-` is no beginning of an arrow
-sign_whole : (b : ℕ) (bs : List ℕ) → b ≢ 45 → first_passes (is_arrow b) bs ≡ false
-sign_whole b [] d = refl
-sign_whole b (c ∷ bs) d = (let e : eqb b 45 ≡ false = grind (arith, nat_tests) in rw e refl)
+pub behind_front : (gap core : List ℕ) → IsGap gap → first_passes is_blank core ≡ false
+    → without_front_blanks (gap ++ core) ≡ core
+behind_front [] [] g f = refl
+behind_front [] (b ∷ core) g f = rw f refl
+behind_front (b ∷ gap) core g f = rw (g.0, one-add) (behind_front gap core g.1 f)
 
-pub sign_begins : (line : List ℕ) (b : ℕ) (bs : List ℕ) → line ≡ b ∷ bs → b ≢ 45
-    → is_sign b ≡ true → BeginsWith line (sign b) bs
-sign_begins line b bs e d s = begins_with line (sign b) bs e s (sign_whole b bs d)
+-- a line of blanks alone has nothing behind them
+pub gap_alone : (line : List ℕ) → length (without_front_blanks line) ≡ 0 → IsGap line
+gap_alone line e =
+    let s = splits_while is_blank line in by_core (without_front_blanks line) e s.joined
+  where
+    by_core : (core : List ℕ) → length core ≡ 0 → line ≡ take (prefix_len is_blank line) line ++ core → IsGap line
+    by_core [] none same =
+        subst IsGap (sym (same ∙ append-nil (take (prefix_len is_blank line) line))) (splits_while is_blank line).each
+    by_core (b ∷ core) none same = absurd (omega arith)
 
-dash_whole : (bs : List ℕ) → first_passes is_head bs ≡ false → first_passes (is_arrow 45) bs ≡ false
-dash_whole [] h = refl
-dash_whole (c ∷ bs) h = h
+pub gap_ends : (line : List ℕ) → IsGap line → eqb (length (without_front_blanks line)) 0 ≡ true
+gap_ends [] g = refl
+gap_ends (b ∷ line) g = rw (g.0, one-add) (gap_ends line g.1)
 
-pub dash_begins : (line : List ℕ) (b : ℕ) (bs : List ℕ) → line ≡ b ∷ bs → b ≡ 45
-    → first_passes is_head bs ≡ false → BeginsWith line (sign 45) bs
-dash_begins line b bs e d stop =
-    begins_with line (sign 45) bs (rw (e, d) refl) refl (dash_whole bs stop)
+-- ---- lines that tokens make
 
-pub arrow_begins : (line : List ℕ) (b c : ℕ) (bs : List ℕ) → line ≡ b ∷ c ∷ bs → b ≡ 45 → c ≡ 62
-    → BeginsWith line arrow bs
-arrow_begins line b c bs e d h = begins_with line arrow bs (rw (e, d, h) refl) tt tt
+-- tokens that make a line are those of its bytes
+pub made_are_in : (line : List ℕ) (ts : List Token) → IsMadeOf line ts → tokens_in line ≡ ts
+made_are_in line [] h = gap_has_none line h
+made_are_in line (t ∷ ts) h =
+    ap tokens_in h.2 ∙ past_blanks h.0 (spelling t ++ h.1) h.3 ∙ token_in_front t h.1 h.4 h.5
+    ∙ ap (λ (us : List Token). t ∷ us) (made_are_in h.1 ts h.6)
 
--- ---- a line at whose front stands no token
+-- ---- the tokens of bytes make them, where their signs are signs
 
-no_other : (b : ℕ) (bs : List ℕ) → class_of b ≡ other → (u : Token) (more : List ℕ)
-    → class_of b ≡ class_of_token u → IsToken u → b ∷ bs ≡ spelling u ++ more → ⊥
-no_other b bs o (word name) more k h e = cc
-no_other b bs o (region name) more k h e = cc
-no_other b bs o arrow more k h e = cc
-no_other b bs o (sign c) more k h e = no_class (eqb c 45) (sym o ∙ k)
+-- a sign is one of the signs
+abbrev pub IsReal : Token → Type 0
+IsReal (word name) = Unit {0}
+IsReal (region name) = Unit {0}
+IsReal arrow = Unit {0}
+IsReal (sign b) = is_sign b ≡ true
 
-pub other_none : (line : List ℕ) (b : ℕ) (bs : List ℕ) → line ≡ b ∷ bs
-    → first_passes is_blank line ≡ false → b ≢ 39 → b ≢ 45 → is_sign b ≡ false
-    → first_passes is_word_byte line ≡ false → IsNotMade line
-other_none line b bs e solid q d s stop =
-    let w : is_word_byte b ≡ false = sym (ap (first_passes is_word_byte) e) ∙ stop in
-    let blank : is_blank b ≡ false = sym (ap (first_passes is_blank) e) ∙ solid in
-    let q' : eqb b 39 ≡ false = grind (arith, nat_tests) in
-    let d' : eqb b 45 ≡ false = grind (arith, nat_tests) in
-    rw e (none_at b bs blank (no_other b bs (rw (w, q', s, d') refl)))
+abbrev pub AreReal : List Token → Type 0
+AreReal ts = AllByRecursion IsReal ts
 
--- ---- blanks in front
+is_token : (t : Token) (rest : List ℕ) → IsReal t → IsFirst t rest → IsToken t
+is_token (word name) rest h f = f.0
+is_token (region name) rest h f = f.0
+is_token arrow rest h f = tt
+is_token (sign b) rest h f = h
 
-gap_append : (xs ys : List ℕ) → IsGap xs → IsGap ys → IsGap (xs ++ ys)
-gap_append [] ys hx hy = hy
-gap_append (x ∷ xs) ys hx hy = (hx.0, gap_append xs ys hx.1 hy)
+is_whole : (t : Token) (rest : List ℕ) → IsFirst t rest → IsWhole t rest
+is_whole (word name) rest f = f.1
+is_whole (region name) rest f = f.1
+is_whole arrow rest f = tt
+is_whole (sign b) rest f = f.1
 
-gap_rest : (xs ys : List ℕ) → IsGap (xs ++ ys) → IsGap ys
-gap_rest [] ys h = h
-gap_rest (x ∷ xs) ys h = gap_rest xs ys h.1
-
-under_gap : (gap core : List ℕ) → IsGap gap
-    → (ts : List Token) → IsMadeOf core ts → IsMadeOf (gap ++ core) ts
-under_gap gap core g [] h = gap_append gap core g h
-under_gap gap core g (t ∷ ts) h = (
-  gap ++ h.0,
-  h.1,
-  ap (λ (w : List ℕ). gap ++ w) h.2 ∙ sym (append_assoc gap h.0 (spelling t ++ h.1)),
-  gap_append gap h.0 g h.3,
-  h.4,
-  h.5,
-  h.6,
-)
-
-pub past_gap : (gap core : List ℕ) → IsGap gap → first_passes is_blank core ≡ false
-    → (ts : List Token) → IsMadeOf (gap ++ core) ts → IsMadeOf core ts
-past_gap gap core g solid [] h = gap_rest gap core h
-past_gap gap core g solid (t ∷ ts) h =
-    let after = token_solid t h.1 h.4 in
-    let s = same_split is_blank gap core h.0 (spelling t ++ h.1) g solid h.3 after h.2 in
-    ([], h.1, s.1, tt, h.4, h.5, h.6)
-
-no_more : (ts : List Token) → IsMadeOf [] ts → ts ≡ []
-no_more [] h = refl
-no_more (t ∷ ts) h =
-    let some = spelling_length t h.4 in
-    let size = ap length h.2 in
-    absurd
-    (omega (arith, size, length-append h.0 (spelling t ++ h.1), length-append (spelling t) h.1))
-
-pub nothing_left : (line gap core : List ℕ)
-    → SplitsWhile is_blank line gap core → length core ≡ 0 → HasNoToken line
-nothing_left line gap [] s e = rw s.joined (record {
-  made = under_gap gap [] s.each [] tt;
-  only = λ ts h. no_more ts (past_gap gap [] s.each refl ts h);
-})
-nothing_left line gap (b ∷ bs) s e = absurd (omega arith)
-
-pub token_after : (line gap core : List ℕ) (t : Token) (rest : List ℕ)
-    → SplitsWhile is_blank line gap core → BeginsWith core t rest → BeginsWith line t rest
-token_after line gap core t rest s b = rw s.joined (record {
-  shorter = omega (arith, b.shorter, length-append gap core);
-  made = λ ts h. under_gap gap core s.each (t ∷ ts) (b.made ts h);
-  only = λ ts h. b.only ts (past_gap gap core s.each s.stops ts h);
-})
-
-pub none_after : (line gap core : List ℕ)
-    → SplitsWhile is_blank line gap core → IsNotMade core → IsNotMade line
-none_after line gap core s refuted =
-    λ ts h. refuted ts (past_gap gap core s.each s.stops ts (rw s.joined at h))
-
--- ---- a line is made of tokens, of one list
+pub in_make : (ts : List Token) (line : List ℕ) → tokens_in line ≡ ts → AreReal ts → IsMadeOf line ts
+in_make [] line e h =
+    let gap : List ℕ = take (prefix_len is_blank line) line in
+    let s = splits_while is_blank line in
+    let nothing : without_front_blanks line ≡ [] = some_token _ s.stops (core_tokens line ∙ e) in
+    subst IsGap (sym (s.joined ∙ (ap (λ (l : List ℕ). gap ++ l) nothing ∙ append-nil gap))) s.each
+in_make (t ∷ ts) line e h =
+    let gap : List ℕ = take (prefix_len is_blank line) line in
+    let s = splits_while is_blank line in
+    let b = first_token (without_front_blanks line) s.stops t ts (core_tokens line ∙ e) in (
+      gap,
+      b.rest,
+      s.joined ∙ ap (λ (l : List ℕ). gap ++ l) b.joined,
+      s.each,
+      is_token t b.rest h.0 b.first,
+      is_whole t b.rest b.first,
+      in_make ts b.rest (sym b.left) h.1,
+    )
 
 pub made_of_tokens : (line : List ℕ) (ts : List Token) → IsMadeOf line ts → AreTokens ts
 made_of_tokens line [] h = tt
 made_of_tokens line (t ∷ ts) h = (h.4, made_of_tokens h.1 ts h.6)
 
-pub one_token_list_lem : (line : List ℕ) (ts us : List Token)
-    → IsMadeOf line ts → IsMadeOf line us → ts ≡ us
-one_token_list_lem line [] us h k =
-    let s : SplitsWhile is_blank line line [] =
-    record { joined = sym (append-nil line); each = h; stops = refl } in
-    sym ((nothing_left line line [] s refl).only us k)
-one_token_list_lem line (t ∷ ts) us h k =
-    let core : List ℕ = spelling t ++ h.1 in
-    let s : SplitsWhile is_blank line h.0 core =
-    record { joined = h.2; each = h.3; stops = token_solid t h.1 h.4 } in
-    let b = token_after line h.0 core t h.1 s (begins_with core t h.1 refl h.4 h.5) in
-    let r = b.only us k in
-    ap (λ (vs : List Token). t ∷ vs) (one_token_list_lem h.1 ts r.0 h.6 r.2) ∙ sym r.1
+pub tokens_make : (line : List ℕ) → AreTokens (tokens_in line) → IsMadeOf line (tokens_in line)
+tokens_make line are = in_make (tokens_in line) line refl (real_tokens (tokens_in line) are)
+  where
+    real_tokens : (ts : List Token) → AreTokens ts → AreReal ts
+    real_tokens [] h = tt
+    real_tokens (word name ∷ ts) h = (tt, real_tokens ts h.1)
+    real_tokens (region name ∷ ts) h = (tt, real_tokens ts h.1)
+    real_tokens (arrow ∷ ts) h = (tt, real_tokens ts h.1)
+    real_tokens (sign b ∷ ts) h = (h.0, real_tokens ts h.1)
 
--- ---- a line is made of some list of tokens, or of none
+pub one_token_list_lem : (line : List ℕ) (ts us : List Token) → IsMadeOf line ts → IsMadeOf line us → ts ≡ us
+one_token_list_lem line ts us h k = sym (made_are_in line ts h) ∙ made_are_in line us k
 
--- the line begins with a token
-abbrev HasFront : List ℕ → Type 0
-HasFront line = (t : Token) × (rest : List ℕ) × BeginsWith line t rest
+-- ---- a token begins with no blank and with no `#`
 
-region_front : (b : ℕ) (bs : List ℕ) → b ≡ 39 → HasFront (b ∷ bs) ⊎ IsNotMade (b ∷ bs)
-region_front b bs q =
-    let name : List ℕ = take (prefix_len is_word_byte bs) bs in
-    let rest : List ℕ = drop (prefix_len is_word_byte bs) bs in
-    let s = splits_while is_word_byte bs in
-    ⊎_elim
-    (λ none. inr (region_none (b ∷ bs) b bs name rest refl q s none))
-    (λ some. inl (region name, rest, region_begins (b ∷ bs) b bs name rest refl q s (omega (arith, some))))
-    (cases_eq (length name) 0)
+pub token_solid : (t : Token) (rest : List ℕ) → IsToken t → first_passes is_blank (spelling t ++ rest) ≡ false
+token_solid (word []) rest h = absurd (omega (arith, h.0))
+token_solid (word (b ∷ bs)) rest h = word_byte_solid b h.1.0
+token_solid (region name) rest h = refl
+token_solid arrow rest h = refl
+token_solid (sign b) rest h = grind (arith, nat_tests)
 
-dash_front : (b : ℕ) (bs : List ℕ) → b ≡ 45 → HasFront (b ∷ bs)
-dash_front b [] d = (sign 45, [], dash_begins (b ∷ []) b [] refl d refl)
-dash_front b (x ∷ bs) d = ⊎_elim
-    (λ h. (arrow, bs, arrow_begins (b ∷ x ∷ bs) b x bs refl d (eqb-true x 62 h)))
-    (λ h. (sign 45, x ∷ bs, dash_begins (b ∷ x ∷ bs) b (x ∷ bs) refl d h))
-    (cases_Bool (eqb x 62))
-
-word_front : (b : ℕ) (bs : List ℕ) → is_blank b ≡ false → b ≢ 39 → b ≢ 45 → is_sign b ≡ false
-    → HasFront (b ∷ bs) ⊎ IsNotMade (b ∷ bs)
-word_front b bs solid q d unsigned =
-    let line : List ℕ = b ∷ bs in
-    let name : List ℕ = take (prefix_len is_word_byte line) line in
-    let rest : List ℕ = drop (prefix_len is_word_byte line) line in
-    let s = splits_while is_word_byte line in
-    ⊎_elim
-    (λ none. inr (other_none line b bs refl solid q d unsigned (first_fails is_word_byte line name rest s none)))
-    (λ some. inl (word name, rest, word_begins line name rest s (omega (arith, some))))
-    (cases_eq (length name) 0)
-
-front_or_none : (line : List ℕ) → 0 < length line → first_passes is_blank line ≡ false
-    → HasFront line ⊎ IsNotMade line
-front_or_none [] some solid = absurd (omega arith)
-front_or_none (b ∷ bs) some solid = ⊎_elim (region_front b bs)
-    (λ q. ⊎_elim (λ d. inl (dash_front b bs d))
-    (λ d. ⊎_elim (λ s. inl (sign b, bs, sign_begins (b ∷ bs) b bs refl d s))
-    (word_front b bs solid q d)
-    (cases_Bool (is_sign b)))
-    (cases_eq b 45))
-    (cases_eq b 39)
-
--- the tokens of a line, where some list makes it
-abbrev pub IsSomeMade : List ℕ → Type 0
-IsSomeMade line = (ts : List Token) × IsMadeOf line ts
-
-made_within : (n : ℕ) (line : List ℕ) → length line < n → IsSomeMade line ⊎ IsNotMade line
-made_within zero line short = absurd (omega arith)
-made_within (suc n) line short =
-    let gap : List ℕ = take (prefix_len is_blank line) line in
-    let core : List ℕ = drop (prefix_len is_blank line) line in
-    let s = splits_while is_blank line in
-    ⊎_elim
-    (λ none. inl ([], (nothing_left line gap core s none).made))
-    (λ some. ⊎_elim
-    (λ h. let b = token_after line gap core h.0 h.1 s h.2 in
-    ⊎_elim
-    (λ made. inl (h.0 ∷ made.0, b.made made.0 made.1))
-    (λ not_made. inr (λ ts k. let r = b.only ts k in not_made r.0 r.2))
-    (made_within n h.1 (omega (arith, b.shorter))))
-    (λ not_made. inr (none_after line gap core s not_made))
-    (front_or_none core (omega (arith, some)) s.stops))
-    (cases_eq (length core) 0)
-
-pub made_or_not : (line : List ℕ) → IsSomeMade line ⊎ IsNotMade line
-made_or_not line = made_within (suc (length line)) line (omega arith)
+pub spells_no_remark : (t : Token) (rest : List ℕ) → IsToken t → is_empty_or_remark (spelling t ++ rest) ≡ false
+spells_no_remark (word []) rest h = absurd (omega (arith, h.0))
+spells_no_remark (word (b ∷ bs)) rest h = (let w = h.1.0 in grind (arith, nat_tests))
+spells_no_remark (region name) rest h = refl
+spells_no_remark arrow rest h = refl
+spells_no_remark (sign b) rest h = grind (arith, nat_tests)

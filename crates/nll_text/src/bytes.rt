@@ -1,9 +1,11 @@
-//! The classes of bytes, and the longest front of one class.
+//! The classes of bytes, and what of them is in front.
 
-ghost use Rattle.std.specs.Prelude.{◌≡◌, ◌↔◌, IsTrue};
+ghost use Rattle.std.specs.Prelude.{◌≡◌, ◌↔◌, false, IsTrue};
 ghost use Rattle.std.specs.List.{prefix_len};
 ghost use Rattle.nll_text.specs.Lines as lines;
 ghost use Rattle.nll_text.specs.Tokens as tokens;
+ghost use Rattle.nll_text.specs.Tokens.{first_passes};
+ghost use Rattle.nll_text.specs.LineTokens.{tokens_in};
 ghost use Rattle.nll_text.specs.Lexing.{SplitsWhile, is_no_blank};
 
 // Each byte that words are made of is at the index of its own value, and a dot at every other
@@ -19,7 +21,7 @@ static WORD_BYTES: [u8; 256] = *b"\
     ................................";
 
 // One of the bytes that words are made of.
-pub(crate) fn is_word_byte(byte: u8) -> bool
+fn is_word_byte(byte: u8) -> bool
     ensures { result ≡ tokens.is_word_byte byte }
 {
     WORD_BYTES[byte as usize] != b'.'
@@ -32,22 +34,24 @@ fn is_blank(byte: u8) -> bool
     matches!(byte, b' ' | b'\t' | b'\r')
 }
 
-fn word_len(bytes: &[u8]) -> usize
-    ensures { result ≡ prefix_len tokens.is_word_byte bytes.now }
+// Whether the bytes begin with one that words are made of.
+pub(crate) fn goes_on(bytes: &[u8]) -> bool
+    ensures { result ≡ first_passes tokens.is_word_byte bytes.now }
 {
-    bytes.iter().take_while(|byte| is_word_byte(**byte)).count()
+    match bytes {
+        [first, ..] => is_word_byte(*first),
+        _ => false,
+    }
 }
 
-fn gap_len(bytes: &[u8]) -> usize
-    ensures { result ≡ prefix_len lines.is_blank bytes.now }
+// Whether a byte is `-`, and these after it begin with `>`.
+pub(crate) fn is_arrow(byte: u8, behind: &[u8]) -> bool
+    ensures { result ≡ first_passes (tokens.is_arrow byte) behind.now }
 {
-    bytes.iter().take_while(|byte| is_blank(**byte)).count()
-}
-
-fn run_len(bytes: &[u8]) -> usize
-    ensures { result ≡ prefix_len is_no_blank bytes.now }
-{
-    bytes.iter().take_while(|byte| !is_blank(**byte)).count()
+    match behind {
+        [second, ..] => byte == b'-' && *second == b'>',
+        _ => false,
+    }
 }
 
 // Whether these are the same bytes. It is for short ones, as words are: it compares one byte after
@@ -66,18 +70,39 @@ pub(crate) fn same_bytes(bytes: &[u8], others: &[u8]) -> bool
     true
 }
 
+/// What follows the blanks at the front.
+pub fn behind_gap(line: &[u8]) -> &[u8]
+    ensures cut { result.now ≡ lines.without_front_blanks line.now }
+    ensures tokens { tokens_in result.now ≡ tokens_in line.now }
+    ensures solid { first_passes lines.is_blank result.now ≡ false }
+{
+    let mut rest = line;
+    while let [first, behind @ ..] = rest {
+        if !is_blank(*first) {
+            return rest;
+        }
+        rest = behind;
+    }
+    rest
+}
+
+fn word_len(bytes: &[u8]) -> usize
+    ensures { result ≡ prefix_len tokens.is_word_byte bytes.now }
+{
+    bytes.iter().take_while(|byte| is_word_byte(**byte)).count()
+}
+
+fn run_len(bytes: &[u8]) -> usize
+    ensures { result ≡ prefix_len is_no_blank bytes.now }
+{
+    bytes.iter().take_while(|byte| !is_blank(**byte)).count()
+}
+
 // The word bytes at the front, possibly none, and the rest.
 pub(crate) fn split_word(bytes: &[u8]) -> (&[u8], &[u8])
     ensures { SplitsWhile tokens.is_word_byte bytes.now result.0.now result.1.now }
 {
     bytes.split_at(word_len(bytes))
-}
-
-// The blanks at the front, possibly none, and the rest.
-pub(crate) fn split_gap(bytes: &[u8]) -> (&[u8], &[u8])
-    ensures { SplitsWhile lines.is_blank bytes.now result.0.now result.1.now }
-{
-    bytes.split_at(gap_len(bytes))
 }
 
 // The bytes before the first blank, possibly none, and the rest.

@@ -1,32 +1,45 @@
-//! The first token of a line, where it is what is looked for: a reader of short lines takes one
-//! token after another, and needs no list of them.
+//! The first token of a line, where it is what is looked for: a reader of lines takes one token
+//! after another, and needs no list of them.
 
-ghost use Rattle.std.specs.Prelude.{◌≡◌, ◌↔◌, ◌<◌, ◌^◌, ℕ, List, IsTrue, MatchOption};
-ghost use Rattle.std.specs.Fmt.{decimal};
+ghost use Rattle.std.specs.Prelude.{◌≡◌, ◌↔◌, ◌∷◌, ◌<◌, length, true, IfSome, IsTrue, MatchOption};
 ghost use Rattle.nll_text.specs.Tokens as tokens;
-ghost use Rattle.nll_text.specs.Tokens.{IsGap, IsWord, first_passes};
-ghost use Rattle.nll_text.specs.Lexing.{BeginsWith, BeginsNotWith};
+ghost use Rattle.nll_text.specs.Tokens.{IsGap, IsWord};
+ghost use Rattle.nll_text.specs.LineTokens.{tokens_in};
+ghost use Rattle.nll_text.specs.Grammars.{Begins, HasNone, IsNotNext, any_words, numbers, regions};
 
-use crate::bytes::{is_word_byte, same_bytes, split_gap, split_word};
-use crate::number::digits_in_front;
+use crate::bytes::{behind_gap, goes_on, is_arrow, same_bytes, split_word};
+use crate::number::number_in_front;
 
-// Whether the first byte is one that words are made of.
-fn goes_on(bytes: &[u8]) -> bool
-    ensures { result ≡ first_passes tokens.is_word_byte bytes.now }
+/// What follows the sign, where it comes next.
+pub fn after_sign<'a>(line: &'a [u8], sign: u8) -> Option<&'a [u8]>
+    requires { tokens.is_sign sign ≡ true }
+    ensures { MatchOption result (IsNotNext (tokens.sign sign) (tokens_in line.now))
+        (λ rest. tokens_in line.now ≡ tokens.sign sign ∷ tokens_in rest.now) }
 {
-    match bytes.first() {
-        Some(byte) => is_word_byte(*byte),
-        None => false,
+    match behind_gap(line) {
+        [first, rest @ ..] if *first == sign && !is_arrow(sign, rest) => Some(rest),
+        _ => None,
     }
 }
 
-/// What follows the first token of a line, where that token is this word.
+/// What follows the arrow, where it comes next.
+pub fn after_arrow<'a>(line: &'a [u8]) -> Option<&'a [u8]>
+    ensures { MatchOption result (IsNotNext tokens.arrow (tokens_in line.now))
+        (λ rest. tokens_in line.now ≡ tokens.arrow ∷ tokens_in rest.now) }
+{
+    match behind_gap(line) {
+        [b'-', b'>', rest @ ..] => Some(rest),
+        _ => None,
+    }
+}
+
+/// What follows this word, where it comes next.
 pub fn after_word<'a>(line: &'a [u8], word: &[u8]) -> Option<&'a [u8]>
     requires { IsWord word.now }
-    ensures { MatchOption result (BeginsNotWith line.now (tokens.word word.now))
-        (λ rest. BeginsWith line.now (tokens.word word.now) rest.now) }
+    ensures { MatchOption result (IsNotNext (tokens.word word.now) (tokens_in line.now))
+        (λ rest. tokens_in line.now ≡ tokens.word word.now ∷ tokens_in rest.now) }
 {
-    let (_gap, core) = split_gap(line);
+    let core = behind_gap(line);
     let (front, rest) = core.split_at_checked(word.len())?;
     if !same_bytes(front, word) {
         return None;
@@ -37,46 +50,44 @@ pub fn after_word<'a>(line: &'a [u8], word: &[u8]) -> Option<&'a [u8]>
     Some(rest)
 }
 
-/// The number that is the first token of a line, and what follows it.
-pub fn first_number(line: &[u8]) -> Option<(u32, &[u8])>
-    ensures { MatchOption result
-        ((n : ℕ) → n < 10 ^ 9 → BeginsNotWith line.now (tokens.word (decimal n)))
-        (λ p. (p.0 < 10 ^ 9) × BeginsWith line.now (tokens.word (decimal p.0)) p.1.now) }
+/// The word at the front, and what follows it.
+pub fn word_at<'a>(line: &'a [u8]) -> Option<(&'a [u8], &'a [u8])>
+    ensures { MatchOption result (HasNone any_words (tokens_in line.now))
+        (λ p. Begins any_words (tokens_in line.now) p.0.now (tokens_in p.1.now)) }
 {
-    let (_gap, core) = split_gap(line);
-    let (number, count) = digits_in_front(core);
-    let (digits, rest) = core.split_at(count);
-    let first = digits.first()?;
-    if *first == b'0' && count > 1 {
+    let (word, rest) = split_word(behind_gap(line));
+    if word.is_empty() {
         return None;
     }
-    if goes_on(rest) {
-        return None;
-    }
-    Some((number, rest))
+    Some((word, rest))
 }
 
-/// The name of the region that is the first token of a line, and what follows it.
-pub fn first_region(line: &[u8]) -> Option<(&[u8], &[u8])>
-    ensures { MatchOption result ((x : List ℕ) → BeginsNotWith line.now (tokens.region x))
-        (λ p. BeginsWith line.now (tokens.region p.0.now) p.1.now) }
+/// The name of the region at the front, and what follows it.
+pub fn region_at<'a>(line: &'a [u8]) -> Option<(&'a [u8], &'a [u8])>
+    ensures { MatchOption result (HasNone regions (tokens_in line.now))
+        (λ p. Begins regions (tokens_in line.now) p.0.now (tokens_in p.1.now)) }
 {
-    let (_gap, core) = split_gap(line);
-    let (first, after) = core.split_first()?;
-    if *first != b'\'' {
+    let [b'\'', behind @ ..] = behind_gap(line) else {
         return None;
-    }
-    let (name, rest) = split_word(after);
+    };
+    let (name, rest) = split_word(behind);
     if name.is_empty() {
         return None;
     }
     Some((name, rest))
 }
 
+/// The number at the front, and what follows it.
+pub fn number_at<'a>(line: &'a [u8]) -> Option<(u32, &'a [u8])>
+    ensures { MatchOption result (HasNone numbers (tokens_in line.now))
+        (λ p. Begins numbers (tokens_in line.now) p.0 (tokens_in p.1.now)) }
+{
+    number_in_front(behind_gap(line))
+}
+
 /// Whether a line has no token: it is blanks alone, or nothing at all.
 pub fn is_gap(line: &[u8]) -> bool
     ensures { IsTrue result ↔ IsGap line.now }
 {
-    let (_gap, core) = split_gap(line);
-    core.is_empty()
+    behind_gap(line).is_empty()
 }

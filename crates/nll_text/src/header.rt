@@ -3,14 +3,14 @@
 ghost use Rattle.std.specs.Prelude.{◌≡◌, ◌↔◌, ◌∷◌, [], IsTrue, MatchOption};
 ghost use Rattle.nll_text.specs.Header.{IsHeader, runs};
 
-use crate::bytes::{split_gap, split_run};
+use crate::bytes::{behind_gap, split_run};
 
 // The first run of a line, and what follows it.
 fn next_run(line: &[u8]) -> Option<(&[u8], &[u8])>
     ensures { MatchOption result (runs line.now ≡ [])
         (λ p. runs line.now ≡ p.0.now ∷ runs p.1.now) }
 {
-    let (_gap, core) = split_gap(line);
+    let core = behind_gap(line);
     if core.is_empty() {
         return None;
     }

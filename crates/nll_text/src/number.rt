@@ -1,7 +1,11 @@
-//! The digits at the front of bytes.
+//! Numbers at the front of bytes.
 
-ghost use Rattle.std.specs.Prelude.{◌≡◌, ◌≤◌, length, take};
-ghost use Rattle.nll_text.specs.Number.{IsDigitFront};
+ghost use Rattle.std.specs.Prelude.{◌≡◌, ◌≤◌, ℕ, List, length, take, MatchOption};
+ghost use Rattle.nll_text.specs.Number.{IsDigitFront, IsNumber};
+ghost use Rattle.nll_text.specs.Tokens.{is_word_byte};
+ghost use Rattle.nll_text.specs.Lexing.{SplitsWhile};
+
+use crate::bytes::goes_on;
 
 // The first nine bytes, or all where there are fewer.
 fn front_nine(bytes: &[u8]) -> &[u8]
@@ -30,10 +34,23 @@ fn digits_at(bytes: &[u8]) -> (u32, usize)
     (number, count)
 }
 
-// The value of the digits at the front, of which at most nine are taken, and how many they are.
-pub(crate) fn digits_in_front(bytes: &[u8]) -> (u32, usize)
-    ensures front { IsDigitFront (take 9 bytes.now) result.0 result.1 }
-    ensures within { result.1 ≤ length bytes.now }
+/// The number that the word bytes at the front spell, and what follows them: `0`, or one to nine
+/// digits without a leading zero.
+pub fn number_in_front(bytes: &[u8]) -> Option<(u32, &[u8])>
+    ensures { MatchOption result
+        ((word rest : List ℕ) (n : ℕ) → SplitsWhile is_word_byte bytes.now word rest
+        → ¬ IsNumber word n)
+        (λ p. (word : List ℕ) × SplitsWhile is_word_byte bytes.now word p.1.now
+        × IsNumber word p.0) }
 {
-    digits_at(front_nine(bytes))
+    let (number, count) = digits_at(front_nine(bytes));
+    let (digits, rest) = bytes.split_at(count);
+    let first = digits.first()?;
+    if *first == b'0' && count > 1 {
+        return None;
+    }
+    if goes_on(rest) {
+        return None;
+    }
+    Some((number, rest))
 }

@@ -4,7 +4,7 @@ ghost use Rattle.std.specs.Prelude.{◌≡◌, IfOk, IfErr};
 ghost use Rattle.std.specs.Str.{IsUtf8};
 ghost use Rattle.nll_text.specs.Lines as lines;
 
-use crate::bytes::split_gap;
+use crate::bytes::behind_gap;
 use crate::error::NotUtf8;
 use std::str;
 
@@ -12,10 +12,9 @@ use std::str;
 fn is_skipped(line: &[u8]) -> bool
     ensures { result ≡ lines.is_skipped line.now }
 {
-    let (_gap, core) = split_gap(line);
-    match core.first() {
-        None => true,
-        Some(first) => *first == b'#',
+    match behind_gap(line) {
+        [first, ..] => *first == b'#',
+        _ => true,
     }
 }
 

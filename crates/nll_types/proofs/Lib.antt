@@ -20,4 +20,5 @@ pub mod KeepingLemmas
 pub mod NumberLemmas
 pub mod MeetingLemmas
 pub mod RowLemmas
+pub mod RowPutLemmas
 pub mod FillLemmas

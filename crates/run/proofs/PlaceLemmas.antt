@@ -141,10 +141,6 @@ drop_at_suc (x ∷ xs) (suc k) y e = drop_at_suc xs k y e
 pub drop_at : {X : Type 0} (xs : List X) (k : ℕ) (y : X) → slice_get xs k ≡ Some y → drop k xs ≡ y ∷ drop (k + 1) xs
 drop_at xs k y e = let n : suc k ≡ k + 1 = omega arith in drop_at_suc xs k y e ∙ ap (λ m. y ∷ drop m xs) n
 
-pub drop_none : {X : Type 0} (xs : List X) → drop 0 xs ≡ xs
-drop_none [] = refl
-drop_none (x ∷ xs) = refl
-
 pub all_of : {W : Type 0} (P : W → Type 0) (ws : List W) → ((k : ℕ) (w : W) → slice_get ws k ≡ Some w → P w)
     → AllOf P ws
 all_of P [] f = tt
@@ -165,19 +161,6 @@ contains_place (y ∷ ys) x (suc k, l, e) = let r = contains_place ys x (k, omeg
 
 pub contained : {X : Type 0} (xs : List X) (k : ℕ) (x : X) → slice_get xs k ≡ Some x → Contains xs x
 contained xs k x e = (k, within xs k x e, read_place xs k x x e)
-
--- what holds of each element before a place, and of the one at the place
-pub item_last : {X : Type 0} (P : X → Type 0) (xs : List X) (n : ℕ) (x : X) → x ≡ slice_index_or xs n x
-    → ((k : ℕ) (y : X) → k < n → slice_get xs k ≡ Some y → P y) → P x
-    → (k : ℕ) (y : X) → k < n + 1 → slice_get xs k ≡ Some y → P y
-item_last P xs n x is before here k y l e = ⊎_elim
-    (λ (h : k < n). before k y h e)
-    (λ (h : k ≡ n). let same : x ≡ y = is ∙ read_place xs n y x (subst (λ m. slice_get xs m ≡ Some y) h e) in
-    subst P same here)
-    (cases_last k n l)
-  where
-    cases_last : (k n : ℕ) → k < n + 1 → (k < n) ⊎ (k ≡ n)
-    cases_last k n l = grind arith
 
 -- what is read at a place below the length stands there
 pub item_at : {X : Type 0} (xs : List X) (n : ℕ) (x : X) → n < length xs → x ≡ slice_index_or xs n x

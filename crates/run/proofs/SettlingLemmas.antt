@@ -54,15 +54,6 @@ module _ {M T S R C P : Type 0} (m : Mail.Ghosts M T S R C P) (out into : ℕ �
     only = λ x h. (i, j, (refl, refl), subst (IsPostOf m out into i j) (in_one p x h) says);
   }
 
-  -- one from an owner to itself
-  pub settled_own : (i j : ℕ) → i ≡ j → IsPrefix (into i j) (out i j)
-      → ArePostsOf m out into (λ a b. (a ≡ i) × (b ≡ j)) []
-  settled_own i j same prefix = record {
-    prefix = λ a b d. subst (λ (y : ℕ × ℕ). IsPrefix (into y.0 y.1) (out y.0 y.1)) (λ k. (sym d.0 k, sym d.1 k)) prefix;
-    each = λ a b d apart. absurd (apart (d.0 ∙ (same ∙ sym d.1)));
-    only = λ x h. absurd (omega (arith, h.1));
-  }
-
   -- one more mailbox of a row
   row_split : (from made i j : ℕ) → InRow from (made + 1) i j → InRow from made i j ⊎ ((i ≡ from) × (j ≡ made))
   row_split from made i j d =
@@ -233,10 +224,6 @@ module _ {M T S R C P : Type 0} (m : Mail.Ghosts M T S R C P) (from to : ℕ) (r
   posts_more (Some z) None column_rest place_z column_is t old now next add a = absurd t
 
 -- ---- the order of the posts
-
-pub come_none : {P : Type 0} (ends : P → ℕ × ℕ) (pair : ℕ × ℕ) → ComeBefore ends [] pair
-come_none ends pair =
-    record { in_order = λ i j d low l. absurd (omega (arith, l)); before = λ p h. absurd (omega (arith, h.1)) }
 
 pub come_later : {P : Type 0} (ends : P → ℕ × ℕ) (posts : List P) (pair later : ℕ × ℕ)
     → ((x : ℕ × ℕ) → IsPairBefore x pair → IsPairBefore x later) → ComeBefore ends posts pair

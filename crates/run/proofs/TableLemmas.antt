@@ -7,10 +7,6 @@ cases_last : (k n : ℕ) → k < n + 1 → (k < n) ⊎ (k ≡ n)
 cases_last k n l = grind arith
 
 module _ {S R : Type 0} (paired : ℕ → ℕ → S → R → Type 0) where
-  pub part_none : (from : ℕ) (old : List (List R)) → IsPartRow paired 0 from [] old old
-  part_none from old =
-      record { size = refl; column_count = refl; each = λ j l. absurd (omega (arith, l)); others = λ j l. refl }
-
   pub part_more : (made from : ℕ) (row : List S) (old now : List (List R)) (s : S) (r : R) (column : List R)
       → IsPartRow paired made from row old now → made < length now → list_at now made ≡ column
       → paired from made s r → IsPartRow paired (made + 1) from (row ++ s ∷ []) old
@@ -42,16 +38,6 @@ module _ {S R : Type 0} (paired : ℕ → ℕ → S → R → Type 0) where
         (cases_last j made l);
     others = λ j l. set_there now made j (column ++ r ∷ []) (λ q. absurd (omega (arith, l, q)))
         ∙ p.others j (omega (arith, l));
-  }
-
-  pub table_none : (owners : ℕ) (columns : List (List R)) → length columns ≡ owners → ((j : ℕ) → list_at columns j ≡ [])
-      → IsTable paired 0 owners [] columns
-  table_none owners columns count none = record {
-    row_count = refl;
-    column_count = count;
-    width = λ i l. absurd (omega (arith, l));
-    height = λ j l. ap length (none j);
-    cell = λ i j li lj. absurd (omega (arith, li));
   }
 
   pub table_more : (done owners : ℕ) (rows : List (List S)) (old new : List (List R)) (row : List S)

@@ -63,18 +63,10 @@ alike_length P (x ∷ xs) (y ∷ ys) a = ap suc (alike_length P xs ys a.1)
 alike_length P [] (y ∷ ys) a = absurd a
 alike_length P (x ∷ xs) [] a = absurd a
 
-pub on_ok_then : {T E : Type 0} (r : Result T E) (P Q : Type 0) → (P → Q) → OnOk r P → OnOk r Q
-on_ok_then (Ok v) P Q f h = f h
-on_ok_then (Err e) P Q f h = tt
-
 pub set_log : {X : Type 0} (xs : List X) (k : ℕ) (y d : X) → k < length xs → slice_index_or (slice_set xs k y) k d ≡ y
 set_log [] k y d lt = absurd (omega arith)
 set_log (x ∷ xs) zero y d lt = refl
 set_log (x ∷ xs) (suc k) y d lt = set_log xs k y d (omega arith)
-
-pub ok_of : {T E : Type 0} (r : Result T E) (b : Bool) (P : Type 0) → b ≡ is_err r → IsFalse b → OnOk r P → P
-ok_of (Ok v) b P e f h = h
-ok_of (Err v) b P e f h = absurd (cc)
 
 -- ---- ends that may be missing
 

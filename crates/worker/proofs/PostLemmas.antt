@@ -7,7 +7,8 @@ use Rattle.std.proofs.lemmas.List.{get_or-set_same, get_or-set_other, take-appen
 use Rattle.fixpoint.specs.Logs.{log_of}
 use Rattle.nll_sets.specs.Prefix.{IsPrefix}
 use Rattle.fixpoint.specs.State.{State, IsSound, part_for, given_to, first_state}
-use Rattle.worker.proofs.PostingLemmas.{take_all, Posting, filter_none}
+use Rattle.worker.proofs.PostingLemmas.{Posting, filter_none}
+use Rattle.fixpoint.proofs.ListLemmas.{take_all}
 use Rattle.worker.specs.Mailboxes.{AreAllEmpty}
 use Rattle.worker.specs.Tallies.{IsCounted, HasGrown}
 use Rattle.worker.specs.Turning.{HasPosted, HasGivenMore}

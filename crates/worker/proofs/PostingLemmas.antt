@@ -1,48 +1,17 @@
 -- What an owner gives out to another, one growth after the other, and what is posted of it.
-use Rattle.std.proofs.Common.{◌≡◌, ◌≢◌, ℕ, zero, suc, ◌+◌, ◌-◌, ◌^◌, ◌<◌, ◌≤◌, List, [], ◌∷◌, ◌++◌, length, take, drop, set, slice_get, Some, Bool, true, false, cond, if◌then◌else◌, Contains, append-nil, get_or, refl, sym, ap, ◌∙◌, subst, arith}
+use Rattle.std.proofs.Common.{if◌then◌else◌, ◌≡◌, ◌≢◌, ℕ, suc, ◌+◌, ◌-◌, ◌^◌, ◌<◌, ◌≤◌, List, [], ◌∷◌, ◌++◌, length, take, set, slice_get, Some, Bool, false, Contains, refl, sym, ap, ◌∙◌, subst, arith}
 use Rattle.std.proofs.lemmas.Option.{slice_get_within}
-use Rattle.std.proofs.lemmas.List.{get_or-set_same, get_or-set_other, take-append-drop}
-use Rattle.nll_sets.specs.Prefix.{IsPrefix}
-use Rattle.fixpoint.specs.State.{State, IsSound, part_for, given_to, with_growths}
+use Rattle.std.proofs.lemmas.List.{get_or-set_same, get_or-set_other}
+use Rattle.fixpoint.specs.State.{State, IsSound, part_for, given_to}
+use Rattle.fixpoint.proofs.ListLemmas.{filter_le, take_length, take_more}
 use Rattle.fixpoint.specs.Rules.{Rules}
 use Rattle.std.specs.List.{filter}
-use Rattle.std.proofs.lemmas.List.{set-get_or}
-
-take_suc : {X : Type 0} (xs : List X) (n : ℕ) (x : X) → slice_get xs n ≡ Some x → take (suc n) xs ≡ take n xs ++ x ∷ []
-take_suc [] n x h = absurd (let l = slice_get_within [] n x h in omega arith)
-take_suc (y ∷ ys) zero x h = ap (λ z. z ∷ []) (cc h)
-take_suc (y ∷ ys) (suc n) x h = ap (λ zs. y ∷ zs) (take_suc ys n x h)
-
-take_more : {X : Type 0} (xs : List X) (n : ℕ) (x : X) → slice_get xs n ≡ Some x → take (n + 1) xs ≡ take n xs ++ x ∷ []
-take_more xs n x h = let e : n + 1 ≡ suc n = omega arith in ap (λ k. take k xs) e ∙ take_suc xs n x h
-
-pub take_length : {X : Type 0} (xs : List X) (n : ℕ) → n ≤ length xs → length (take n xs) ≡ n
-take_length [] zero l = refl
-take_length [] (suc n) l = absurd (omega arith)
-take_length (x ∷ xs) zero l = refl
-take_length (x ∷ xs) (suc n) l = ap suc (take_length xs n (omega arith))
-
-pub take_all : {X : Type 0} (xs : List X) → take (length xs) xs ≡ xs
-take_all [] = refl
-take_all (x ∷ xs) = ap (λ zs. x ∷ zs) (take_all xs)
-
-pub filter_le : {X : Type 0} (p : X → Bool) (xs : List X) → length (filter p xs) ≤ length xs
-filter_le p [] = omega arith
-filter_le {X} p (x ∷ xs) = go (p x) (filter_le p xs)
-  where
-    go : (b : Bool) → length (filter p xs) ≤ length xs
-        → length (cond b (x ∷ filter p xs) (filter p xs)) ≤ suc (length xs)
-    go true h = omega arith
-    go false h = omega arith
 
 pub filter_none : {X : Type 0} (p : X → Bool) (xs : List X) → ((x : X) → Contains xs x → p x ≡ false) → filter p xs ≡ []
 filter_none p [] all = refl
 filter_none {X} p (x ∷ xs) all =
     subst (λ (b : Bool). (if b then x ∷ filter p xs else filter p xs) ≡ []) (sym (all x (0, omega arith, refl)))
     (filter_none p xs (λ y h. all y (suc h.0, (let l = h.1 in omega arith), h.2)))
-
-pub with_none : {G : Type 0} (lists : List (List G)) (j : ℕ) → with_growths lists j [] ≡ lists
-with_none lists j = ap (λ xs. set lists j xs) (append-nil (get_or lists j [])) ∙ set-get_or lists j []
 
 module _ {A F G : Type 0} (rules : Rules A F G) where
   -- The owner gave out more to `to`, and just that was posted.
@@ -105,24 +74,8 @@ module _ {A F G : Type 0} (rules : Rules A F G) where
         omega (arith, within, ap length same, one_more)
 
   module _ (first now : State A G) (to : ℕ) (sent : List G) (p : Posting first now to sent) where
-    pub posting_front : IsPrefix sent (part_for rules first to)
-    posting_front = (
-      drop (given_to now to) (part_for rules first to),
-      sym (take-append-drop (given_to now to) (part_for rules first to))
-          ∙ ap (λ xs. xs ++ drop (given_to now to) (part_for rules first to)) (sym p.posted),
-    )
-
     part_same_now : part_for rules now to ≡ part_for rules first to
     part_same_now = ap (λ (o : State A G). part_for rules o to) p.others
-
-    pub posted_all : given_to now to ≡ length (part_for rules now to) → sent ≡ part_for rules first to
-    posted_all all =
-        p.posted ∙ (ap (λ n. take n (part_for rules first to)) (all ∙ ap length part_same_now) ∙ take_all
-        (part_for rules first to))
-
-    pub given_all : given_to now to ≡ length (part_for rules now to) → given_to now to ≡ length
-        (part_for rules first to)
-    given_all all = all ∙ ap length part_same_now
 
     -- fewer than 2 ^ 37 were posted
     pub posted_few : length sent < 2 ^ 37
@@ -133,8 +86,3 @@ module _ {A F G : Type 0} (rules : Rules A F G) where
         (subst (λ xs. given_to now to ≤ length xs) part_same_now n) in
         let few = filter_le (λ (g : G). rules.reads now.system to (rules.fact g)) now.log in
         omega (arith, l, n, few, p.sound.few)
-
-  pub posting_none : (o : State A G) (to : ℕ) (sent : List G) → IsSound rules o → sent ≡ take
-      (given_to o to) (part_for rules o to)
-      → Posting o o to sent
-  posting_none o to sent sound is = record { sound = sound; others = refl; other_given = λ j h. refl; posted = is }

@@ -4,7 +4,7 @@ use Rattle.std.proofs.lemmas.List.Elements.{filter-append}
 use Rattle.fixpoint.specs.Logs.{part}
 use Rattle.nll_sets.specs.Prefix.{IsPrefix}
 use Rattle.fixpoint.specs.State.{State, IsSound, part_for, given_to}
-use Rattle.worker.proofs.PostingLemmas.{filter_le}
+use Rattle.fixpoint.proofs.ListLemmas.{filter_le}
 use Rattle.fixpoint.specs.Sums.{sum_to}
 use Rattle.worker.specs.Tallies.{IsCounted, HasGrown, due_of, given_of}
 use Rattle.worker.specs.declared.tally.Tally.{Tally}

@@ -4,19 +4,19 @@ use Rattle.std.proofs.lemmas.Bool.{cases_eq}
 use Rattle.std.proofs.lemmas.List.Elements.{Contains-append_left}
 use Rattle.fixpoint.specs.Logs.{log_of}
 use Rattle.nll_sets.specs.Prefix.{IsPrefix}
-use Rattle.fixpoint.specs.State.{State, IsSound, IsDone, received_from, given_to, with_growths, first_state}
+use Rattle.fixpoint.specs.State.{State, IsSound, IsDone, received_from, given_to, part_for, with_growths, first_state}
 use Rattle.worker.specs.declared.inbox.Heard.{Heard}
 use Rattle.worker.specs.declared.inbox.Heard.TheVariants.{Nothing, Growths, Stray, Memory}
 use Rattle.worker.specs.declared.tally.Tally.{Tally}
 use Rattle.fixpoint.specs.Sums.{sum_to}
 use Rattle.worker.specs.Hearing.{IsGivenUp}
-use Rattle.worker.specs.Tallies.{HasGrown, IsCounted, due_of}
+use Rattle.worker.specs.Tallies.{HasGrown, IsCounted, due_of, given_of}
 use Rattle.worker.specs.Turning.{IsWorking, HasTaken, IsAtRest, HasTakenAll, ComesTo}
 use Rattle.fixpoint.specs.Finishing.{HasStray}
 use Rattle.worker.specs.Mailboxes.{AreAllEmpty}
-use Rattle.fixpoint.proofs.SumLemmas.{sum_same, sum_zero}
+use Rattle.fixpoint.proofs.SumLemmas.{sum_same, sum_le, sum_zero}
 use Rattle.worker.proofs.ListLemmas.{set_length, set_log, set_own}
-use Rattle.worker.proofs.TallyLemmas.{sum_bound}
+use Rattle.worker.proofs.TallyLemmas.{sum_bound, due_small}
 use Rattle.worker.proofs.PostLemmas.{other_read, read_replicate}
 use Rattle.fixpoint.specs.Rules.{Rules}
 
@@ -45,6 +45,40 @@ module _ {A F G : Type 0} (rules : Rules A F G) where
       cleared items
       → HasTakenAll rules o taken
   taken_all o taken cleared items t j g l h = subst (λ xs. Contains xs g) (sym (t.heard j l)) h
+
+  -- so many more growths were given out
+  module _ (now next : State A G) (n : ℕ) (others : next ≡ record now { given = next.given }) where
+    still_due : due_of rules next ≡ due_of rules now
+    still_due = ap (λ (o : State A G). due_of rules o) others
+
+    pub more_given : (to : ℕ) → to < rules.parts now.system → given_to next to ≡ given_to now to + n
+        → ((j : ℕ) → j ≢ to → given_to next j ≡ given_to now j) → given_of rules next ≡ given_of rules now + n
+    more_given to lt here other =
+        ap (λ (o : State A G). sum_to (rules.parts o.system) (λ j. given_to next j)) others
+        ∙ sum_more (rules.parts now.system) (λ j. given_to now j) (λ j. given_to next j) to n lt here other
+
+    module _ (sound : IsSound rules next) (more : given_of rules next ≡ given_of rules now + n) where
+      pub few_given : (rules.parts next.system) ≤ 64 → given_of rules now + n < 2 ^ 43
+      few_given few =
+          let all = sum_le (rules.parts next.system) (λ j. given_to next j) (λ j. length (part_for rules next j))
+          (λ j l. sound.given j) in
+          let small = due_small rules next sound few in
+          omega (arith, all, small, more)
+
+      -- they waited
+      pub were_waiting : (t : Tally) → IsCounted rules now t → n ≤ t.waiting
+      were_waiting t was =
+          let all = sum_le (rules.parts next.system) (λ j. given_to next j) (λ j. length (part_for rules next j))
+          (λ j l. sound.given j) in
+          let before = was.waiting in
+          omega (arith, all, still_due, before, more)
+
+      pub counted_on : (t : Tally) → IsCounted rules now t → (w : ℕ) → w + n ≡ t.waiting
+          → IsCounted rules next (record t { waiting = w })
+      counted_on t was w less = record {
+        grown = was.grown ∙ sym (ap (λ (o : State A G). length o.log) others);
+        waiting = let before = was.waiting in omega (arith, before, still_due, more, less);
+      }
 
   -- how an owner is before and after it received growths, or was refused to
   pub grown_some : (old new : State A G) → IsPrefix old.log new.log

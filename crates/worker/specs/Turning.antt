@@ -1,13 +1,17 @@
 -- What a worker has between its steps. Only private contracts cite this file. Source: project's
 -- choice.
 use Rattle.std.specs.Prelude.{◌≡◌, ◌^◌, ℕ, ◌+◌, ◌<◌, ◌≤◌, true, false, List, length, take, min}
-use Rattle.std.specs.Prelude.{Contains}
+use Rattle.std.specs.Prelude.{Contains, Option}
+use Rattle.mail.specs.declared.mail.Mail as Mail
+use Rattle.ledger.specs.declared.ledger.Ledger as Ledger
 use Rattle.fixpoint.specs.Rules.{Rules}
 use Rattle.fixpoint.specs.Logs.{log_of}
 use Rattle.fixpoint.specs.State.{State, IsSound, IsDone, received_from, part_for, given_to}
 use Rattle.fixpoint.specs.Finishing.{HasStray}
 use Rattle.fixpoint.specs.Sums.{sum_to}
-use Rattle.worker.specs.Tallies.{IsCounted, due_of}
+use Rattle.worker.specs.Mailboxes.{Alike, Both, Keeps}
+use Rattle.worker.specs.Finishing.{IsOpenStill}
+use Rattle.worker.specs.Tallies.{HasGrown, IsCounted, due_of}
 use Rattle.worker.specs.declared.tally.Tally.{Tally}
 use Rattle.worker.specs.declared.inbox.Heard.{Heard}
 use Rattle.worker.specs.declared.inbox.Heard.TheVariants.{Nothing, Growths, Stray, Memory}
@@ -77,3 +81,14 @@ module _ {A F G : Type 0} (rules : Rules A F G) where
   ComesTo o taken owed cleared t Stray =
       HasStray rules o.system o.me (log_of taken) × HasTakenAll o taken
   ComesTo o taken owed cleared t Memory = HasTakenAll o taken
+
+  module _ {L B H E : Type 0} (ledger : Ledger.Ghosts L B H E) {M S R C P : Type 0}
+      (mail : Mail.Ghosts M G S R C P) where
+    -- The part only grew and is sound; its share still belongs to the same book; and each receiver
+    -- is still the same end.
+    pub record StaysAtWork (old new : State A G) (book : B) (share : H) (new_book : B)
+        (new_share : H) (ends new_ends : List (Option R)) : Type 0 where
+      pub grows : HasGrown old new
+      pub sound : IsSound rules new
+      pub still : IsOpenStill ledger book share new_book new_share
+      pub keeps : Alike (Both (Keeps mail)) ends new_ends

@@ -2,26 +2,26 @@
 //! mailbox refuses, is tried again later.
 
 ghost use Rattle.std.specs.Prelude.{◌≡◌, ◌≢◌, ◌+◌, ◌<◌, ◌≤◌, ℕ, List, length, map, take, min};
-ghost use Rattle.std.specs.Prelude.{OnOk, false, slice_set, vec_len, None};
+ghost use Rattle.std.specs.Prelude.{IfOk, OnOk, false, slice_set, vec_len, None};
 ghost use Rattle.fixpoint.specs.Logs.{log_of};
 ghost use Rattle.fixpoint.specs.State.{IsSound, part_for, given_to};
 ghost use Rattle.worker.specs.Mailboxes.{Alike, Both, HasEnds, Stays, through};
-ghost use Rattle.worker.specs.Tallies.{IsCounted};
+ghost use Rattle.worker.specs.Tallies.{IsCounted, given_of};
 ghost use Rattle.worker.specs.Turning.{HasPosted, HasGivenOn, HasGivenMore, GoesOn, ComesTo};
 
 use crate::inbox::Heard;
-use crate::tally::{Tally, unsent_count};
+use crate::tally::Tally;
 use fixpoint::Analysis;
 use mail::{Mail, PostError};
 
 // Posts what isn't given yet of the part of the log that another owner reads, until its mailbox is
-// full or the number for one time is reached.
+// full or the number for one time is reached. Returns how many that were.
 fn post_part<A: Analysis, M: Mail<A::Growth>>(
     part: &mut A::Part,
     sender: &mut M::S,
     to: u16,
     most: u64,
-) -> Result<(), PostError<A::Growth>>
+) -> Result<u64, PostError<A::Growth>>
     requires sound { IsSound A.rules (A.state part.old) }
     requires whole { (A.state part.old).broken ≡ false }
     requires to { to < A.rules.parts (A.state part.old).system }
@@ -31,6 +31,8 @@ fn post_part<A: Analysis, M: Mail<A::Growth>>(
         ≡ take (given_to (A.state part.new) to) (part_for A.rules (A.state part.old) to) }
     ensures many { M.is_bounded ≡ false → OnOk result
         (HasGivenOn A.rules most to (A.state part.old) (A.state part.new)) }
+    ensures count { IfOk result (λ posted. given_to (A.state part.new) to
+        ≡ given_to (A.state part.old) to + posted) }
     ensures others { A.state part.new
         ≡ record (A.state part.old) { given = (A.state part.new).given } }
     ensures other_given { (j : ℕ) → j ≢ to
@@ -41,16 +43,16 @@ fn post_part<A: Analysis, M: Mail<A::Growth>>(
     let mut posted = 0;
     while let Some(growth) = A::next_for(part, to) {
         if posted >= most {
-            return Ok(());
+            return Ok(posted);
         }
         match M::post(sender, growth) {
             Ok(()) => A::outgoing(part, to),
-            Err(PostError::Full(_)) => return Ok(()),
+            Err(PostError::Full(_)) => return Ok(posted),
             Err(error) => return Err(error),
         };
         posted += 1;
     }
-    Ok(())
+    Ok(posted)
 }
 
 // Like `post_part`, if there is a mailbox: there is none from the owner to itself.
@@ -59,7 +61,7 @@ fn post_if<A: Analysis, M: Mail<A::Growth>>(
     sender: &mut Option<M::S>,
     to: u16,
     most: u64,
-) -> Result<(), PostError<A::Growth>>
+) -> Result<u64, PostError<A::Growth>>
     requires sound { IsSound A.rules (A.state part.old) }
     requires whole { (A.state part.old).broken ≡ false }
     requires to { to < A.rules.parts (A.state part.old).system }
@@ -70,6 +72,8 @@ fn post_if<A: Analysis, M: Mail<A::Growth>>(
         ≡ take (given_to (A.state part.new) to) (part_for A.rules (A.state part.old) to) }
     ensures many { M.is_bounded ≡ false → OnOk result
         (HasGivenOn A.rules most to (A.state part.old) (A.state part.new)) }
+    ensures count { IfOk result (λ posted. given_to (A.state part.new) to
+        ≡ given_to (A.state part.old) to + posted) }
     ensures others { A.state part.new
         ≡ record (A.state part.old) { given = (A.state part.new).given } }
     ensures other_given { (j : ℕ) → j ≢ to
@@ -79,7 +83,7 @@ fn post_if<A: Analysis, M: Mail<A::Growth>>(
 {
     match sender {
         Some(sender) => post_part::<A, M>(part, sender, to, most),
-        None => Ok(()),
+        None => Ok(0),
     }
 }
 
@@ -89,7 +93,7 @@ fn post_to<A: Analysis, M: Mail<A::Growth>>(
     senders: &mut Vec<Option<M::S>>,
     to: u16,
     most: u64,
-) -> Result<(), PostError<A::Growth>>
+) -> Result<u64, PostError<A::Growth>>
     requires sound { IsSound A.rules (A.state part.old) }
     requires whole { (A.state part.old).broken ≡ false }
     requires to { to < A.rules.parts (A.state part.old).system }
@@ -98,6 +102,8 @@ fn post_to<A: Analysis, M: Mail<A::Growth>>(
     ensures posts { HasPosted A.rules (A.state part.new) (map (through M.sent) senders.new.items) }
     ensures many { M.is_bounded ≡ false → OnOk result
         (HasGivenOn A.rules most to (A.state part.old) (A.state part.new)) }
+    ensures count { IfOk result (λ posted. given_to (A.state part.new) to
+        ≡ given_to (A.state part.old) to + posted) }
     ensures others { A.state part.new
         ≡ record (A.state part.old) { given = (A.state part.new).given } }
     ensures other_given { (j : ℕ) → j ≢ to
@@ -109,12 +115,12 @@ fn post_to<A: Analysis, M: Mail<A::Growth>>(
 }
 
 // Posts what isn't given yet, to all owners that read it and whose mailboxes aren't full: to each
-// at most the number for one time.
+// at most the number for one time. Returns how many that were.
 fn post_all<A: Analysis, M: Mail<A::Growth>>(
     part: &mut A::Part,
     senders: &mut Vec<Option<M::S>>,
     most: u64,
-) -> Result<(), PostError<A::Growth>>
+) -> Result<u64, PostError<A::Growth>>
     requires sound { IsSound A.rules (A.state part.old) }
     requires whole { (A.state part.old).broken ≡ false }
     requires ends { HasEnds (A.state part.old).me senders.old.items }
@@ -123,18 +129,22 @@ fn post_all<A: Analysis, M: Mail<A::Growth>>(
     ensures many { M.is_bounded ≡ false
         → OnOk result (HasGivenMore A.rules most (A.rules.parts (A.state part.old).system)
         (A.state part.old) (A.state part.new)) }
+    ensures count { IfOk result (λ posted. given_of A.rules (A.state part.new)
+        ≡ given_of A.rules (A.state part.old) + posted) }
     ensures others { A.state part.new
         ≡ record (A.state part.old) { given = (A.state part.new).given } }
     ensures pairs { Alike (Both (Stays M.Mail)) senders.old.items senders.new.items }
     ensures sound { IsSound A.rules (A.state part.new) }
 {
+    let mut count = 0;
     for to in 0..A::owners(part) {
-        post_to::<A, M>(part, senders, to, most)?;
+        let posted = post_to::<A, M>(part, senders, to, most)?;
+        count += posted;
     }
-    Ok(())
+    Ok(count)
 }
 
-// Posts what waits, if something does, and counts what is left.
+// Posts what waits, if something does, and counts it as given.
 fn post_waiting<A: Analysis, M: Mail<A::Growth>>(
     part: &mut A::Part,
     senders: &mut Vec<Option<M::S>>,
@@ -147,7 +157,7 @@ fn post_waiting<A: Analysis, M: Mail<A::Growth>>(
     requires posts { HasPosted A.rules (A.state part.old) (map (through M.sent) senders.old.items) }
     requires counted { IsCounted A.rules (A.state part.old) tally.old }
     ensures posts { HasPosted A.rules (A.state part.new) (map (through M.sent) senders.new.items) }
-    ensures counted { IsCounted A.rules (A.state part.new) tally.new }
+    ensures counted { OnOk result (IsCounted A.rules (A.state part.new) tally.new) }
     ensures same { (tally.new.turns ≡ tally.old.turns)
         × (tally.new.cleared ≡ tally.old.cleared) }
     ensures many { M.is_bounded ≡ false
@@ -161,9 +171,9 @@ fn post_waiting<A: Analysis, M: Mail<A::Growth>>(
     if tally.waiting == 0 {
         return Ok(());
     }
-    let posted = post_all::<A, M>(part, senders, most);
-    tally.waiting = unsent_count::<A>(part);
-    posted
+    let posted = post_all::<A, M>(part, senders, most)?;
+    tally.waiting -= posted;
+    Ok(())
 }
 
 /// Posts what waits, unless the worker has to end: returns what it heard, or why it has to end now.

@@ -33,8 +33,8 @@ impl Tally {
     }
 }
 
-/// How many growths of the log aren't given yet, over all owners that read them.
-pub fn unsent_count<A: Analysis>(part: &A::Part) -> u64
+// How many growths of the log aren't given yet, over all owners that read them.
+fn unsent_count<A: Analysis>(part: &A::Part) -> u64
     requires whole { (A.state part.now).broken ≡ false }
     ensures count { given_of A.rules (A.state part.now) + result
         ≡ due_of A.rules (A.state part.now) }

@@ -2,11 +2,11 @@
 
 ghost use Rattle.std.specs.Prelude.{◌≡◌, ◌+◌, ◌<◌, ◌≤◌, ℕ, List, map};
 ghost use Rattle.fixpoint.specs.State.{State, IsSound, first_state};
-ghost use Rattle.worker.specs.Mailboxes.{Alike, AreAllEmpty, Both, Keeps, through};
+ghost use Rattle.worker.specs.Mailboxes.{AreAllEmpty, through};
 ghost use Rattle.worker.specs.Finishing.{IsFresh, IsOpenStill};
 ghost use Rattle.worker.specs.Tallies.{HasGrown, none_counted};
 ghost use Rattle.worker.specs.declared.tally.Tally.{Tally as TheTally};
-ghost use Rattle.worker.specs.Turning.{IsAtRest, ComesTo};
+ghost use Rattle.worker.specs.Turning.{IsAtRest, ComesTo, StaysAtWork};
 
 use crate::account::{Account, keep_book};
 use crate::gate::Gate;
@@ -61,16 +61,13 @@ fn turn<A: Analysis, M: Mail<A::Growth>, L: Ledger, G: Gate>(
     requires rests { let a = account.old in IsAtRest A.rules (A.state part.old)
         (map (through M.received) inbox.old.receivers.items)
         (L.owed a.share) (L.cleared a.share) a.tally }
-    ensures grows { HasGrown (A.state part.old) (A.state part.new) }
-    ensures sound { IsSound A.rules (A.state part.new) }
-    ensures still { IsOpenStill L.Ledger account.old.book.now account.old.share
-        account.new.book.now account.new.share }
+    ensures stays { StaysAtWork A.rules L.Ledger M.Mail (A.state part.old) (A.state part.new)
+        account.old.book.now account.old.share account.new.book.now account.new.share
+        inbox.old.receivers.items inbox.new.receivers.items }
     ensures comes { let a = account.new in ComesTo A.rules (A.state part.new)
         (map (through M.received) inbox.new.receivers.items)
         (L.owed a.share) (L.cleared a.share) a.tally result }
     ensures most { L.cleared account.new.share ≤ L.cleared account.old.share + pace.now.taken }
-    ensures keeps { Alike (Both (Keeps M.Mail)) inbox.old.receivers.items
-        inbox.new.receivers.items }
 {
     let turn = account.tally.turns + 1;
     match hear_from::<A, M, G>(pace, turn, part, inbox, from) {
@@ -118,15 +115,12 @@ pub fn round<A: Analysis, M: Mail<A::Growth>, L: Ledger, G: Gate>(
     requires rests { let a = account.old in IsAtRest A.rules (A.state part.old)
         (map (through M.received) inbox.old.receivers.items)
         (L.owed a.share) (L.cleared a.share) a.tally }
-    ensures grows { HasGrown (A.state part.old) (A.state part.new) }
-    ensures sound { IsSound A.rules (A.state part.new) }
-    ensures still { IsOpenStill L.Ledger account.old.book.now account.old.share
-        account.new.book.now account.new.share }
+    ensures stays { StaysAtWork A.rules L.Ledger M.Mail (A.state part.old) (A.state part.new)
+        account.old.book.now account.old.share account.new.book.now account.new.share
+        inbox.old.receivers.items inbox.new.receivers.items }
     ensures comes { let a = account.new in ComesTo A.rules (A.state part.new)
         (map (through M.received) inbox.new.receivers.items)
         (L.owed a.share) (L.cleared a.share) a.tally result }
-    ensures keeps { Alike (Both (Keeps M.Mail)) inbox.old.receivers.items
-        inbox.new.receivers.items }
 {
     let owners = A::owners(part);
     let first = first_after(account.tally.turns, owners);
@@ -175,15 +169,12 @@ pub fn rounds<A: Analysis, M: Mail<A::Growth>, L: Ledger, G: Gate>(
     requires rests { let a = account.old in IsAtRest A.rules (A.state part.old)
         (map (through M.received) inbox.old.receivers.items)
         (L.owed a.share) (L.cleared a.share) a.tally }
-    ensures grows { HasGrown (A.state part.old) (A.state part.new) }
-    ensures sound { IsSound A.rules (A.state part.new) }
-    ensures still { IsOpenStill L.Ledger account.old.book.now account.old.share
-        account.new.book.now account.new.share }
+    ensures stays { StaysAtWork A.rules L.Ledger M.Mail (A.state part.old) (A.state part.new)
+        account.old.book.now account.old.share account.new.book.now account.new.share
+        inbox.old.receivers.items inbox.new.receivers.items }
     ensures comes { let a = account.new in ComesTo A.rules (A.state part.new)
         (map (through M.received) inbox.new.receivers.items)
         (L.owed a.share) (L.cleared a.share) a.tally result }
-    ensures keeps { Alike (Both (Keeps M.Mail)) inbox.old.receivers.items
-        inbox.new.receivers.items }
 {
     let mut heard = round::<A, M, L, G>(pace, account, part, inbox);
     for _ in 1..MOST_ROUNDS {

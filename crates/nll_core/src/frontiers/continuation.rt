@@ -16,6 +16,7 @@ ghost use Rattle.nll_core.specs.Frontiers.{IsIdle, ResumesPoints, WalksOn};
 use crate::frontiers::landings::Landings;
 use crate::frontiers::places::Places;
 use crate::frontiers::points::Points;
+use crate::frontiers::steps::Steps;
 use crate::lines::Lines;
 use crate::satisfaction::is_empty;
 use crate::stretches::{enter, spread};
@@ -26,33 +27,31 @@ use nll_sets::{Element, ElementSet, Memory, Run, RunSet};
 /// empty list with the runs of what is newly reached. Where one of them holds at all points, that
 /// is the part of the run that is new; otherwise walks go on from their points.
 pub fn resume(
-    lines: &Lines,
-    landings: &Landings,
+    steps: &Steps,
     seen: &RunSet,
     starts: &Places,
     run: Run,
     reached: &mut RunSet,
     found: &mut Vec<Run>,
 ) -> Result<(), Memory>
-    requires landings { landings.now ≡ lines.now }
-    requires seen_width { length seen.now ≡ element_count lines.now }
-    requires width { length reached.old ≡ element_count lines.now }
-    requires starts { (p : places) → Contains starts.now p → IsAmong lines.now.points p }
+    requires seen_width { length seen.now ≡ element_count steps.now }
+    requires width { length reached.old ≡ element_count steps.now }
+    requires starts { (p : places) → Contains starts.now p → IsAmong steps.now.points p }
     requires run { AreIn seen.now run }
     requires proper { run.first ≤ run.last }
     requires before { (x : ℕ) → IsIn reached.old x
-        → IsAskedFrom lines.now (IsIn seen.now) starts.now x }
+        → IsAskedFrom steps.now (IsIn seen.now) starts.now x }
     requires none { found.old.items ≡ [] }
     ensures width { OnOk result (length reached.new ≡ length reached.old) }
     ensures after { OnOk result
-        (GoesOn lines.now seen.now run starts.now reached.old reached.new) }
+        (GoesOn steps.now seen.now run starts.now reached.old reached.new) }
     ensures found { OnOk result (ListsNew reached.old reached.new [] found.new.items) }
 {
     if starts.has_all() {
         return take(run, reached, found);
     }
     let points = starts.points();
-    resume_walks(lines, landings, seen, &points, run, reached, found)
+    resume_walks(steps, seen, &points, run, reached, found)
 }
 
 /// Whether going on from a run reaches nothing, since nothing is reached yet and no constraint asks
@@ -83,34 +82,32 @@ fn take(run: Run, reached: &mut RunSet, found: &mut Vec<Run>) -> Result<(), Memo
 // Goes on with walks from some points, from a run of the set in which they go, and fills an empty
 // list with the runs of what is newly reached.
 fn resume_walks(
-    lines: &Lines,
-    landings: &Landings,
+    steps: &Steps,
     seen: &RunSet,
     starts: &Points<'_>,
     run: Run,
     reached: &mut RunSet,
     found: &mut Vec<Run>,
 ) -> Result<(), Memory>
-    requires landings { landings.now ≡ lines.now }
-    requires seen_width { length seen.now ≡ element_count lines.now }
-    requires width { length reached.old ≡ element_count lines.now }
-    requires starts { (p : ℕ) → Contains starts.now p → p < lines.now.points }
+    requires seen_width { length seen.now ≡ element_count steps.now }
+    requires width { length reached.old ≡ element_count steps.now }
+    requires starts { (p : ℕ) → Contains starts.now p → p < steps.now.points }
     requires run { AreIn seen.now run }
     requires proper { run.first ≤ run.last }
     requires before { (x : ℕ) → IsIn reached.old x
-        → ReachesFrom lines.now (IsIn seen.now) starts.now x }
+        → ReachesFrom steps.now (IsIn seen.now) starts.now x }
     requires none { found.old.items ≡ [] }
     ensures width { OnOk result (length reached.new ≡ length reached.old) }
     ensures after { OnOk result
-        (WalksOn lines.now seen.now run starts.now reached.old reached.new) }
+        (WalksOn steps.now seen.now run starts.now reached.old reached.new) }
     ensures found { OnOk result (ListsNew reached.old reached.new [] found.new.items) }
 {
     if begins_nothing(starts, run, reached) || has_whole(reached, run) {
         return Ok(());
     }
-    let points = lines.points();
-    let ended = resume_points(lines, landings, seen, starts, run, reached, found)?;
-    if !is_ended(lines, landings, run, reached, ended) {
+    let points = steps.lines.points();
+    let ended = resume_points(steps, seen, starts, run, reached, found)?;
+    if !is_ended(steps, run, reached, ended) {
         return Ok(());
     }
     fill_from(seen, reached, found, points)?;
@@ -145,25 +142,24 @@ fn has_whole(reached: &RunSet, run: Run) -> bool
 
 // Goes on among points only. Returns whether a return point is newly reached.
 fn resume_points(
-    lines: &Lines,
-    landings: &Landings,
+    steps: &Steps,
     seen: &RunSet,
     starts: &Points<'_>,
     run: Run,
     reached: &mut RunSet,
     found: &mut Vec<Run>,
 ) -> Result<bool, Memory>
-    requires landings { landings.now ≡ lines.now }
-    requires width { lines.now.points ≤ length reached.old }
-    requires starts { (p : ℕ) → Contains starts.now p → p < lines.now.points }
+    requires width { steps.now.points ≤ length reached.old }
+    requires starts { (p : ℕ) → Contains starts.now p → p < steps.now.points }
     requires run { AreIn seen.now run }
     requires proper { run.first ≤ run.last }
     requires before { (x : ℕ) → IsIn reached.old x
-        → ReachesFrom lines.now (IsIn seen.now) starts.now x }
+        → ReachesFrom steps.now (IsIn seen.now) starts.now x }
     requires none { found.old.items ≡ [] }
-    ensures { IfOk result (ResumesPoints lines.now seen.now run starts.now
+    ensures { IfOk result (ResumesPoints steps.now seen.now run starts.now
         reached.old reached.new found.old.items found.new.items) }
 {
+    let Steps { lines, landings } = steps;
     let points = lines.points();
     if run.first >= points {
         return Ok(false);
@@ -345,21 +341,20 @@ fn enter_point(
 
 // Whether the ends in the set are reached: a return point is newly reached, or one was reached
 // before and the run may have an end.
-fn is_ended(lines: &Lines, landings: &Landings, run: Run, reached: &RunSet, ended: bool) -> bool
-    requires landings { landings.now ≡ lines.now }
-    requires width { lines.now.points ≤ length reached.now }
-    requires ended { ended ≡ true → (x : ℕ) × IsIn reached.now x × IsReturn lines.now x }
-    ensures some { result ≡ true → (x : ℕ) × IsIn reached.now x × IsReturn lines.now x }
+fn is_ended(steps: &Steps, run: Run, reached: &RunSet, ended: bool) -> bool
+    requires width { steps.now.points ≤ length reached.now }
+    requires ended { ended ≡ true → (x : ℕ) × IsIn reached.now x × IsReturn steps.now x }
+    ensures some { result ≡ true → (x : ℕ) × IsIn reached.now x × IsReturn steps.now x }
     ensures none { result ≡ false → (ended ≡ false)
-        × ((x : ℕ) → IsIn reached.now x → IsReturn lines.now x → run.last < lines.now.points) }
+        × ((x : ℕ) → IsIn reached.now x → IsReturn steps.now x → run.last < steps.now.points) }
 {
     if ended {
         return true;
     }
-    if run.last < lines.points() {
+    if run.last < steps.lines.points() {
         return false;
     }
-    has_return(lines, landings, reached)
+    has_return(&steps.lines, &steps.landings, reached)
 }
 
 // Whether a return point is reached. It looks at the return points or at the reached runs,

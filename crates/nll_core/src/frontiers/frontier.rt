@@ -154,15 +154,7 @@ impl Frontier {
             return Err(refusal);
         }
         self.reached.widen(steps.lines.elements());
-        let told = resume(
-            &steps.lines,
-            &steps.landings,
-            seen,
-            &self.starts,
-            run,
-            &mut self.reached,
-            found,
-        );
+        let told = resume(steps, seen, &self.starts, run, &mut self.reached, found);
         self.refusal = told.err();
         if told.is_err() {
             found.clear();

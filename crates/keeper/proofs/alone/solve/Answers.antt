@@ -1,7 +1,7 @@
 use Rattle.std.proofs.Common.{◌≡◌, ◌∙◌, ap, sym}
 use Rattle.fixpoint.specs.State.{State}
 use Rattle.keeper.proofs.AloneLemmas.{tells_least, logs_sound, logs_ranked}
-use Rattle.keeper.proofs.KeepingLemmas.{first_has}
+use Rattle.keeper.proofs.FirstPartLemmas.{first_has}
 use Rattle.keeper.proofs.DueLemmas.{due_first}
 use Rattle.keeper.proofs.alone.solve.Goals as goal
 

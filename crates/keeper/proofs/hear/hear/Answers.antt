@@ -1,7 +1,7 @@
 use Rattle.std.proofs.Common.{ap, sym, ◌∙◌, ◌||◌, ◌∷◌, []}
 use Rattle.keeper.specs.Keeping.{has}
-use Rattle.keeper.proofs.KeepingLemmas.{on_ok_two}
-use Rattle.keeper.proofs.ReceivingLemmas.{got_none}
+use Rattle.keeper.proofs.ListLemmas.{on_ok_two}
+use Rattle.fixpoint.proofs.ReceivingLemmas.{got_none}
 use Rattle.keeper.proofs.DueLemmas.{due_at, due_same, due_received, already, finds_same}
 use Rattle.keeper.proofs.hear.hear.Goals as goal
 

@@ -1,7 +1,7 @@
 use Rattle.std.proofs.Common.{take, ap, sym, ◌∙◌, subst}
 use Rattle.fixpoint.specs.State.{Passes, with_growths}
 use Rattle.keeper.specs.Keeping.{with_growth}
-use Rattle.keeper.proofs.ReceivingLemmas.{got_next, with_more, take_next, received_on}
+use Rattle.fixpoint.proofs.ReceivingLemmas.{got_next, with_more, take_next, received_on}
 use Rattle.keeper.proofs.hear.hear_all.Goals as goal
 
 pub hear-requires-clause-passes : goal.hear-requires-clause-passes

@@ -1,6 +1,6 @@
 use Rattle.std.proofs.Common.{arith, sym, ap, ◌∙◌}
 use Rattle.std.proofs.lemmas.List.{length-map}
-use Rattle.keeper.proofs.KeepingLemmas.{lists_pushed}
+use Rattle.fixpoint.proofs.ListLemmas.{lists_pushed}
 use Rattle.keeper.proofs.DealingLemmas.{dealt_push, dealt_pass}
 use Rattle.keeper.proofs.outboxes.deal.Goals as goal
 use Rattle.keeper.proofs.outboxes.deal.Goals.{then-reads+in_ok-push, else-reads}

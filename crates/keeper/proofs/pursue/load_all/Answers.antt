@@ -1,6 +1,6 @@
 use Rattle.std.proofs.Common.{ap, ◌∙◌, subst, map, length}
 use Rattle.keeper.specs.Keeping.{AreParts, has}
-use Rattle.keeper.proofs.KeepingLemmas.{on_ok_two}
+use Rattle.keeper.proofs.ListLemmas.{on_ok_two}
 use Rattle.keeper.proofs.DealingLemmas.{parts_front, parts_same}
 use Rattle.keeper.proofs.DueLemmas.{due_first, begins_same}
 use Rattle.keeper.proofs.pursue.load_all.Goals as goal

@@ -1,6 +1,6 @@
 use Rattle.std.proofs.Common.{ap, sym, ◌∙◌, subst, map, length, [], ◌++◌, append-nil}
 use Rattle.keeper.specs.Keeping.{AreParts}
-use Rattle.keeper.proofs.KeepingLemmas.{on_ok_two}
+use Rattle.keeper.proofs.ListLemmas.{on_ok_two}
 use Rattle.keeper.proofs.DealingLemmas.{parts_front, parts_same}
 use Rattle.keeper.proofs.pursue.take_in.Goals as goal
 

@@ -1,6 +1,6 @@
 use Rattle.std.proofs.Common.{inl, ap, sym, ◌∙◌, length, length-append, arith, ◌||◌, ◌∷◌, []}
 use Rattle.keeper.specs.Keeping.{has}
-use Rattle.keeper.proofs.KeepingLemmas.{on_ok_always, on_ok_two}
+use Rattle.keeper.proofs.ListLemmas.{on_ok_always, on_ok_two}
 use Rattle.keeper.proofs.DueLemmas.{due_at, due_entered, finds_same}
 use Rattle.keeper.proofs.settle.enter.Goals as goal
 

@@ -3,4 +3,4 @@ use Rattle.nll_core.proofs.order.descend.Given as goal
 
 abbrev pub invariant-loop : goal.invariant-loop
 invariant-loop l =
-    IsDescent l.regions l.descent.next.items l.descent.seen.items l.descent.path.items l.descent.left.items
+    IsDescent l.regions l.descent

@@ -3,4 +3,4 @@ use Rattle.nll_core.proofs.order.order_of.Given as goal
 
 abbrev pub invariant-loop-root : goal.invariant-loop-root
 invariant-loop-root l =
-    IsDescent l.problem.regions l.descent.next.items l.descent.seen.items l.descent.path.items l.descent.left.items
+    IsDescent l.problem.regions l.descent

@@ -5,7 +5,7 @@ use Rattle.nll_problem.specs.At.{at_rank}
 use Rattle.nll_problem.specs.declared.at.At.TheVariants.{All, Point}
 use Rattle.nll_problem.specs.declared.constraint.Constraint.{Constraint}
 use Rattle.nll_core.specs.Walking.{PointsAscend}
-use Rattle.nll_core.proofs.WalkingLemmas.{first_everywhere}
+use Rattle.nll_core.proofs.LedWalkLemmas.{first_everywhere}
 use Rattle.nll_core.proofs.pairs.is_everywhere.Goals as goal
 
 -- what is not 0 is above it

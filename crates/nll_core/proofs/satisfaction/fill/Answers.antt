@@ -9,7 +9,7 @@ use Rattle.nll_core.specs.Search.{IsIn}
 use Rattle.nll_core.specs.Values.{set_of}
 use Rattle.nll_core.specs.Walking.{IsAskedOf, AreAskedOf}
 use Rattle.nll_core.proofs.GrowingLemmas.{gains_weaker}
-use Rattle.nll_core.proofs.WalkingLemmas.{among_points, whole_asked}
+use Rattle.nll_core.proofs.LedWalkLemmas.{among_points, whole_asked}
 use Rattle.nll_core.proofs.satisfaction.fill.Goals as goal
 use Rattle.nll_core.proofs.satisfaction.fill.Goals.{After-fill_whole, After-fill_all}
 

@@ -2,7 +2,7 @@ use Rattle.std.proofs.Common.{◌≡◌, ◌∙◌, ◌<◌, Contains, get_or, a
 use Rattle.std.proofs.lemmas.List.{get_or_default}
 use Rattle.nll_problem.specs.declared.constraint.Constraint.{Constraint}
 use Rattle.nll_core.specs.Walking.{no_constraint, constraint_at}
-use Rattle.nll_core.proofs.WalkingLemmas.{contained_at}
+use Rattle.nll_core.proofs.LedWalkLemmas.{contained_at}
 use Rattle.nll_core.proofs.WorklistLemmas.{sups_ascend, part_of, part_ascends, in_part, visiting_more, visiting_end}
 use Rattle.nll_core.proofs.solver.visit.Goals as goal
 use Rattle.nll_core.proofs.solver.visit.Goals.{After-pair_end-end}

@@ -4,7 +4,8 @@ use Rattle.nll_core.specs.Search.{IsIn}
 use Rattle.nll_core.specs.Walking.{Grows}
 use Rattle.nll_sets.specs.Runs.{IsRunFrom}
 use Rattle.nll_sets.specs.declared.run.Run.{Run}
-use Rattle.nll_core.proofs.WalkingLemmas.{grows_stretch, line_closed, settled_entry, stretch_of}
+use Rattle.nll_core.proofs.WalkingLemmas.{grows_stretch, line_closed, stretch_of}
+use Rattle.nll_core.proofs.LedWalkLemmas.{settled_entry}
 use Rattle.nll_core.proofs.stretches.enter_run.Goals as goal
 use Rattle.nll_core.proofs.stretches.enter_run.Goals.{In_ok-push}
 

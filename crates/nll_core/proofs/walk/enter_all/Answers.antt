@@ -5,7 +5,7 @@ use Rattle.nll_core.specs.Search.{IsIn}
 use Rattle.nll_problem.specs.Graph.{Graph}
 use Rattle.nll_core.specs.Walking.{AreAtPoints, IsPointOf, NoneEverywhere, point_of}
 use Rattle.nll_problem.specs.declared.constraint.Constraint.{Constraint}
-use Rattle.nll_core.proofs.WalkingLemmas.{contained_at, each_contained, entering_more, entering_skip, point_below}
+use Rattle.nll_core.proofs.LedWalkLemmas.{contained_at, each_contained, entering_more, entering_skip, point_below}
 use Rattle.nll_core.proofs.walk.enter_all.Goals as goal
 
 -- none of them holds at all points, since each is at a point

@@ -1,5 +1,5 @@
 use Rattle.std.proofs.Common.{◌-◌, length}
-use Rattle.nll_core.proofs.WalkingLemmas.{Entering}
+use Rattle.nll_core.proofs.LedWalkLemmas.{Entering}
 use Rattle.nll_core.proofs.walk.enter_all.Given as goal
 
 abbrev pub invariant-loop-found : goal.invariant-loop-found

@@ -5,7 +5,7 @@ use Rattle.nll_problem.specs.declared.at.At.{At}
 use Rattle.nll_problem.specs.declared.at.At.TheVariants.{Point}
 use Rattle.nll_problem.specs.declared.constraint.Constraint.{Constraint}
 use Rattle.nll_core.specs.Walking.{constraint_at, no_constraint, point_of}
-use Rattle.nll_core.proofs.WalkingLemmas.{contained_at}
+use Rattle.nll_core.proofs.LedWalkLemmas.{contained_at}
 use Rattle.nll_core.proofs.walk.point_at.Goals as goal
 
 -- the point of what stands at a place of the list, whatever would be read past its end

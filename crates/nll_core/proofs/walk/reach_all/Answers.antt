@@ -3,7 +3,7 @@ use Rattle.std.proofs.lemmas.Bool.{false≢true}
 use Rattle.std.proofs.lemmas.Result.{on_ok_weaker}
 use Rattle.nll_core.specs.Walking.{Grows, IsLedFrom, FillsFrom}
 use Rattle.nll_sets.specs.declared.run.Run.{Run}
-use Rattle.nll_core.proofs.WalkingLemmas.{reached_points, reached_ends, start_inside, start_listed}
+use Rattle.nll_core.proofs.LedWalkLemmas.{reached_points, reached_ends, start_inside, start_listed}
 use Rattle.nll_core.proofs.walk.reach_all.Goals as goal
 use Rattle.nll_core.proofs.walk.reach_all.Goals.{In_ok-enter_all}
 

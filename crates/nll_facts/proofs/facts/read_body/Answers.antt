@@ -2,7 +2,6 @@ use Rattle.std.proofs.Common.{ℕ, List, ap, sym, ◌∙◌}
 use Rattle.nll_format.specs.Labels.{numbers}
 use Rattle.nll_text.specs.Lines.{lines_left}
 use Rattle.nll_problem.proofs.SameLemmas.{same_problem_chain}
-use Rattle.nll_facts.proofs.SaidLemmas.{same_itself}
 use Rattle.nll_facts.proofs.TextLemmas.{end_reached}
 use Rattle.nll_facts.proofs.facts.read_body.Goals as goal
 

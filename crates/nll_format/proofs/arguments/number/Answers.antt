@@ -6,7 +6,7 @@ returns-in_err-point c = rw c.from_residual.ensures (λ n h. no_number_first _ n
 
 pub returns-in_err-nothing : goal.returns-in_err-nothing
 returns-in_err-nothing c = rw c.from_residual-in_err-nothing.ensures
-    (λ n h. c.in_err-nothing.ensures tt (spells_rest _ _ _ _ _ c.in_ok-point.ensures.1 h).1)
+    (λ n h. c.in_err-nothing.ensures tt (spells_rest _ _ _ _ _ c.in_ok-point.ensures.joined h).1)
 
 pub returns : goal.returns
-returns c = spells_more _ _ _ _ c.in_ok-point.ensures.1 c.in_ok-point.ensures.0 c.in_ok-nothing.ensures
+returns c = spells_more _ _ _ _ c.in_ok-point.ensures.joined c.in_ok-point.ensures.allowed c.in_ok-nothing.ensures

@@ -7,7 +7,7 @@ returns-in_err-name c = rw c.from_residual.ensures (λ n h. no_region_first _ n 
 
 pub returns-in_err-nothing : goal.returns-in_err-nothing
 returns-in_err-nothing c = rw c.from_residual-in_err-nothing.ensures
-    (λ x h. c.in_err-nothing.ensures tt (spells_rest _ _ _ _ _ c.in_ok-name.ensures h).1)
+    (λ x h. c.in_err-nothing.ensures tt (spells_rest _ _ _ _ _ c.in_ok-name.ensures.joined h).1)
 
 pub returns : goal.returns
-returns c = spells_more _ _ (parts.region _) _ c.in_ok-name.ensures tt c.in_ok-nothing.ensures
+returns c = spells_more _ _ (parts.region _) _ c.in_ok-name.ensures.joined tt c.in_ok-nothing.ensures

@@ -7,7 +7,7 @@ returns-in_err-name c = rw c.from_residual.ensures (λ n h. no_region_first _ n.
 
 pub returns-in_err-point : goal.returns-in_err-point
 returns-in_err-point c = rw c.from_residual-in_err-point.ensures
-    (λ n h. c.in_err-point.ensures n.1 (spells_rest _ _ _ _ _ c.in_ok-name.ensures h).1)
+    (λ n h. c.in_err-point.ensures n.1 (spells_rest _ _ _ _ _ c.in_ok-name.ensures.joined h).1)
 
 pub returns : goal.returns
-returns c = spells_more _ _ (parts.region _) _ c.in_ok-name.ensures tt c.in_ok-point.ensures
+returns c = spells_more _ _ (parts.region _) _ c.in_ok-name.ensures.joined tt c.in_ok-point.ensures

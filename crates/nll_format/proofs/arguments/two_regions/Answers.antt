@@ -7,7 +7,7 @@ returns-in_err-first c = rw c.from_residual.ensures (λ n h. no_region_first _ n
 
 pub returns-in_err-second : goal.returns-in_err-second
 returns-in_err-second c = rw c.from_residual-in_err-second.ensures
-    (λ n h. c.in_err-second.ensures n.1 (spells_rest _ _ _ _ _ c.in_ok-first.ensures h).1)
+    (λ n h. c.in_err-second.ensures n.1 (spells_rest _ _ _ _ _ c.in_ok-first.ensures.joined h).1)
 
 pub returns : goal.returns
-returns c = spells_more _ _ (parts.region _) _ c.in_ok-first.ensures tt c.in_ok-second.ensures
+returns c = spells_more _ _ (parts.region _) _ c.in_ok-first.ensures.joined tt c.in_ok-second.ensures

@@ -1,4 +1,4 @@
-use Rattle.nll_mir_grammar.specs.LineTokens.{tokens_in}
+use Rattle.nll_text.specs.LineTokens.{tokens_in}
 use Rattle.nll_text.specs.Tokens.{sign}
 use Rattle.nll_mir_grammar.specs.Kinds.{rights}
 use Rattle.nll_mir_grammar.specs.Lines.{form_of}

@@ -1,11 +1,11 @@
 use Rattle.std.proofs.Common.{◌≡◌, codes, arith}
 use Rattle.std.proofs.lemmas.Slice.Eq.{text_from_reads}
 use Rattle.nll_text.specs.Tokens.{word}
-use Rattle.nll_mir_grammar.specs.LineTokens.{tokens_in}
-use Rattle.nll_mir_grammar.specs.Grammars.{IsNotNext}
+use Rattle.nll_text.specs.LineTokens.{tokens_in}
+use Rattle.nll_text.specs.Grammars.{IsNotNext}
 use Rattle.nll_mir_grammar.specs.Lines.{form_of}
 use Rattle.nll_mir_grammar.proofs.LineLemmas.{read_value_side, read_side_behind}
-use Rattle.nll_mir_grammar.proofs.TokenLemmas.{word_next}
+use Rattle.nll_mir_grammar.proofs.WordLemmas.{word_next}
 use Rattle.nll_mir_grammar.proofs.assignment.right_side.Goals as goal
 
 pub returns-in-Some : goal.returns-in-Some

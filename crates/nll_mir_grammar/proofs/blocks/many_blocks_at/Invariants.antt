@@ -1,5 +1,5 @@
 use Rattle.std.proofs.Common.{length}
-use Rattle.nll_mir_grammar.specs.LineTokens.{tokens_in}
+use Rattle.nll_text.specs.LineTokens.{tokens_in}
 use Rattle.nll_mir_grammar.specs.Parts.{block_names}
 use Rattle.nll_mir_grammar.proofs.GrammarLemmas.{HasRead}
 use Rattle.nll_mir_grammar.proofs.blocks.many_blocks_at.Given as goal

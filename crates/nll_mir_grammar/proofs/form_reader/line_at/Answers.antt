@@ -1,4 +1,4 @@
-use Rattle.nll_mir_grammar.specs.LineTokens.{tokens_in}
+use Rattle.nll_text.specs.LineTokens.{tokens_in}
 use Rattle.nll_mir_grammar.specs.Lines.{form_of}
 use Rattle.nll_mir_grammar.proofs.LineLemmas.{read_keyword_line, read_assignment}
 use Rattle.nll_mir_grammar.proofs.form_reader.line_at.Goals as goal

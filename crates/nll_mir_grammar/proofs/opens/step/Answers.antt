@@ -1,5 +1,5 @@
-use Rattle.nll_mir_grammar.specs.LineTokens.{tokens_in}
-use Rattle.nll_mir_grammar.proofs.FurtherLemmas.{further_arrow}
+use Rattle.nll_text.specs.LineTokens.{tokens_in}
+use Rattle.nll_mir_grammar.proofs.LoopLemmas.{further_arrow}
 use Rattle.nll_mir_grammar.proofs.opens.step.Goals as goal
 
 pub returns-in-Want : goal.returns-in-Want

@@ -1,4 +1,4 @@
-use Rattle.nll_mir_grammar.specs.LineTokens.{tokens_in}
+use Rattle.nll_text.specs.LineTokens.{tokens_in}
 use Rattle.nll_mir_grammar.proofs.StepLemmas.{stuck_want}
 use Rattle.nll_mir_grammar.proofs.FurtherLemmas.{further_begin}
 use Rattle.nll_mir_grammar.proofs.opens.want.Goals as goal

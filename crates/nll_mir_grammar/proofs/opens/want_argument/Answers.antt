@@ -1,6 +1,6 @@
 use Rattle.std.proofs.Common.{sym, ◌∙◌}
-use Rattle.nll_mir_grammar.specs.LineTokens.{tokens_in}
-use Rattle.nll_mir_grammar.proofs.FurtherLemmas.{further_no_region, further_region, stuck_no_name}
+use Rattle.nll_text.specs.LineTokens.{tokens_in}
+use Rattle.nll_mir_grammar.proofs.LoopLemmas.{further_no_region, further_region, stuck_no_name}
 use Rattle.nll_mir_grammar.proofs.opens.want_argument.Goals as goal
 
 pub returns-in_default : goal.returns-in_default

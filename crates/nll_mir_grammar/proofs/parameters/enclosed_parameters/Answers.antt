@@ -1,4 +1,4 @@
-use Rattle.nll_mir_grammar.proofs.GrammarLemmas.{inside_without, inside_open}
+use Rattle.nll_mir_grammar.proofs.ListLemmas.{inside_without, inside_open}
 use Rattle.nll_mir_grammar.proofs.PartLemmas.{parameters_listable, no_parameters}
 use Rattle.nll_mir_grammar.proofs.parameters.enclosed_parameters.Goals as goal
 

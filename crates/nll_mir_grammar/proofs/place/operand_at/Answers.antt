@@ -1,6 +1,6 @@
 use Rattle.std.proofs.Common.{◌≡◌, codes, arith}
 use Rattle.std.proofs.lemmas.Slice.Eq.{text_from_reads}
-use Rattle.nll_mir_grammar.proofs.TokenLemmas.{word_next}
+use Rattle.nll_mir_grammar.proofs.WordLemmas.{word_next}
 use Rattle.nll_mir_grammar.proofs.PartLemmas.{copied_found, moved_found, constant_found, no_copied, no_moved}
 use Rattle.nll_mir_grammar.proofs.place.operand_at.Goals as goal
 

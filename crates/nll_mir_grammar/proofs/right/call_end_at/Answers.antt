@@ -1,4 +1,4 @@
-use Rattle.nll_mir_grammar.specs.LineTokens.{tokens_in}
+use Rattle.nll_text.specs.LineTokens.{tokens_in}
 use Rattle.std.proofs.Common.{map}
 use Rattle.std.specs.Prelude.{Ok}
 use Rattle.nll_mir_grammar.specs.Parts as parts

@@ -1,11 +1,12 @@
-use Rattle.std.proofs.Common.{map}
+use Rattle.std.proofs.Common.{map, refl}
 use Rattle.nll_text.specs.Tokens.{sign}
-use Rattle.nll_mir_grammar.specs.LineTokens.{tokens_in}
+use Rattle.nll_text.specs.LineTokens.{tokens_in}
 use Rattle.nll_mir_grammar.specs.Grammars.{behind, parentheses}
 use Rattle.nll_mir_grammar.specs.Lines.{argument_of, result_of}
 use Rattle.nll_mir_grammar.specs.Parts as parts
 use Rattle.nll_mir_grammar.specs.Kinds.{results}
-use Rattle.nll_mir_grammar.proofs.GrammarLemmas.{pair_none, parentheses_one, read_pair}
+use Rattle.nll_mir_grammar.proofs.GrammarLemmas.{pair_none, read_pair}
+use Rattle.nll_mir_grammar.proofs.ListLemmas.{parentheses_one}
 use Rattle.nll_mir_grammar.proofs.PartLemmas.{arguments_listable}
 use Rattle.nll_mir_grammar.proofs.KindLemmas.{signatures_join}
 use Rattle.nll_mir_grammar.proofs.right.signature_at.Goals as goal
@@ -22,3 +23,6 @@ returns c =
     (read_pair (parentheses parts.arguments) (behind (sign 58) results)
     (parentheses_one parts.arguments arguments_listable) signatures_join _ _ c.in-Some.arguments
     (λ v. map argument_of v.items) result_of (λ r. tokens_in r.now) _ found c.result_behind.ensures)
+
+pub values_in-requires : goal.values_in-requires
+values_in-requires c k = ((refl, tt), arguments_listable)

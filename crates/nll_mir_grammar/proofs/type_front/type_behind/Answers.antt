@@ -1,5 +1,5 @@
 use Rattle.nll_text.specs.Tokens.{sign}
-use Rattle.nll_mir_grammar.specs.LineTokens.{tokens_in}
+use Rattle.nll_text.specs.LineTokens.{tokens_in}
 use Rattle.nll_mir_grammar.specs.TypeTexts.{written}
 use Rattle.nll_mir_grammar.specs.Parts.{types}
 use Rattle.nll_mir_grammar.proofs.GrammarLemmas.{read_behind}

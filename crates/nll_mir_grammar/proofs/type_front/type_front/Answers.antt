@@ -2,11 +2,11 @@ use Rattle.std.specs.Prelude.{ℕ, List, Option, Some, None, MatchOption}
 use Rattle.std.specs.Borrow.{Bor}
 use Rattle.std.proofs.lemmas.Result.{IfOk-weaker}
 use Rattle.nll_text.specs.Tokens.{Token}
-use Rattle.nll_mir_grammar.specs.LineTokens.{tokens_in}
+use Rattle.nll_text.specs.LineTokens.{tokens_in}
 use Rattle.nll_mir_grammar.specs.WrittenTypes.{WrittenType}
 use Rattle.nll_mir_grammar.specs.TypeTexts.{written}
 use Rattle.nll_mir_grammar.specs.Reading.{HasNoType, IsTypeIn}
-use Rattle.nll_mir_grammar.specs.Grammars.{Begins, HasNone}
+use Rattle.nll_text.specs.Grammars.{Begins, HasNone}
 use Rattle.nll_mir_grammar.specs.Parts.{types}
 use Rattle.nll_mir_grammar.proofs.PartLemmas.{no_type, type_found}
 use Rattle.nll_mir_grammar.proofs.type_front.type_front.Goals as goal

@@ -1,10 +1,10 @@
 use Rattle.std.proofs.Common.{◌≡◌, ℕ, List, rules, sym, ◌∙◌}
 use Rattle.std.specs.Borrow.{Bor}
-use Rattle.nll_mir_grammar.specs.LineTokens.{tokens_in}
+use Rattle.nll_text.specs.LineTokens.{tokens_in}
 use Rattle.nll_mir_grammar.specs.WrittenTypes.{int}
 use Rattle.nll_mir_grammar.specs.declared.opens.State.TheVariants.{Have}
 use Rattle.nll_mir_grammar.proofs.StepLemmas.{none_here}
-use Rattle.nll_mir_grammar.proofs.FurtherLemmas.{at_end, whole_stuck, whole_pieces, whole_read, first_comes}
+use Rattle.nll_mir_grammar.proofs.LoopLemmas.{at_end, whole_stuck, whole_pieces, whole_read, first_comes}
 use Rattle.nll_mir_grammar.proofs.type_reader.read_pieces.Goals as goal
 
 pub loop-opened-init : goal.loop-opened-init

@@ -1,5 +1,5 @@
 use Rattle.std.proofs.Common.{◌+◌, ◌*◌, length, []}
-use Rattle.nll_mir_grammar.specs.LineTokens.{tokens_in}
+use Rattle.nll_text.specs.LineTokens.{tokens_in}
 use Rattle.nll_mir_grammar.specs.WrittenTypes.{int}
 use Rattle.nll_mir_grammar.specs.OpenTypes.{ComesTo, pending}
 use Rattle.nll_mir_grammar.specs.declared.opens.State.TheVariants.{Want}

@@ -1,6 +1,7 @@
 use Rattle.std.proofs.Common.{refl, arith, rules}
 use Rattle.std.specs.Prelude.{codes}
-use Rattle.nll_mir_grammar.proofs.WordLemmas.{prefixed_read, block_there, by_second}
+use Rattle.nll_text.proofs.WordLemmas.{prefixed_read, by_second}
+use Rattle.nll_mir_grammar.proofs.WordLemmas.{block_there}
 use Rattle.nll_mir_grammar.proofs.words.block_at.Goals as goal
 use Rattle.nll_mir_grammar.proofs.words.block_at.Goals.{in_default-via-then-behind_gap-lt2, in_default-via-else-behind_gap-lt2+in-98+in_default-1, in_default-via-else-behind_gap-lt2+in_default-1}
 

@@ -1,6 +1,7 @@
 use Rattle.std.proofs.Common.{refl, arith, rules}
 use Rattle.std.specs.Prelude.{codes}
-use Rattle.nll_mir_grammar.proofs.WordLemmas.{prefixed_read, variable_there, by_first}
+use Rattle.nll_text.proofs.WordLemmas.{prefixed_read, by_first}
+use Rattle.nll_mir_grammar.proofs.WordLemmas.{variable_there}
 use Rattle.nll_mir_grammar.proofs.words.variable_at.Goals as goal
 use Rattle.nll_mir_grammar.proofs.words.variable_at.Goals.{in_default-via-then-behind_gap-lt1, in_default-via-else-behind_gap-lt1+in_default-1}
 

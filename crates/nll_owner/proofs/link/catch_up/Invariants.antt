@@ -1,4 +1,4 @@
-use Rattle.std.proofs.Common.{◌≡◌, ◌-◌, false}
+use Rattle.std.proofs.Common.{◌≡◌, ◌-◌, false, drop}
 use Rattle.nll_owner.specs.Keeping.{Grows}
 use Rattle.nll_owner.specs.Following.{IsFollowed, IsLeft, OfRunOr, link_shape}
 use Rattle.nll_owner.proofs.link.catch_up.Given as goal
@@ -10,7 +10,8 @@ invariant-loop-part l = record {
   same : link_shape l.link ≡ link_shape l.fn.link;
   awake : l.link.rests ≡ false;
   followed : IsFollowed l.knowledge l.due.region
-      (IsLeft l.knowledge l.due.place (OfRunOr l.rest l.due.region l.next 4294967295) l.due.region) l.link;
+      (IsLeft l.knowledge l.due.place (OfRunOr (drop l.due.count l.due.runs.now) l.due.region l.next 4294967295)
+      l.due.region) l.link;
 }
 
 abbrev pub decreases-loop-part : goal.decreases-loop-part

@@ -11,5 +11,5 @@ invariant-loop-number l = record {
   same : link_shape l.link ≡ link_shape l.fn.link;
   awake : l.link.rests ≡ false;
   followed : IsFollowed l.knowledge l.due.region
-      (IsLeft l.knowledge l.due.place (IsToldByRuns (drop l.number l.runs)) l.due.region) l.link;
+      (IsLeft l.knowledge l.due.place (IsToldByRuns (drop l.number l.due.runs.now)) l.due.region) l.link;
 }

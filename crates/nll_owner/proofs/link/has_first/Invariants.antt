@@ -6,4 +6,4 @@ use Rattle.nll_owner.proofs.link.has_first.Given as goal
 
 abbrev pub invariant-loop-number : goal.invariant-loop-number
 invariant-loop-number l =
-    (n : ℕ) (k : RegionRun) → n < l.number → get_or l.runs n k ≡ k → (x : ℕ) → IsWithin k.run x → IsIn l.set x
+    (n : ℕ) (k : RegionRun) → n < l.number → get_or l.due.runs.now n k ≡ k → (x : ℕ) → IsWithin k.run x → IsIn l.set x

@@ -5,5 +5,5 @@ use Rattle.nll_owner.proofs.link.is_idle.Given as goal
 
 abbrev pub invariant-loop-number : goal.invariant-loop-number
 invariant-loop-number l =
-    (n : ℕ) (k : RegionRun) → n < l.number → get_or l.runs n k ≡ k
+    (n : ℕ) (k : RegionRun) → n < l.number → get_or l.due.runs.now n k ≡ k
     → IsIdle l.link.frontier.starts k.run l.link.frontier.reached

@@ -1,7 +1,6 @@
-use Rattle.std.proofs.Common.{◌≡◌, ℕ, ◌<◌, ◌≤◌, length, map, drop, get_or}
+use Rattle.std.proofs.Common.{◌≡◌, ℕ, ◌<◌, ◌≤◌, length, map, get_or}
 use Rattle.nll_owner.specs.Keeping.{Grows}
-use Rattle.nll_owner.specs.Following.{IsFollowed, IsLeft, link_shape}
-use Rattle.nll_owner.specs.RegionRuns.{IsToldByRuns}
+use Rattle.nll_owner.specs.Following.{HasCaughtUp, IsBehind, link_shape}
 use Rattle.nll_owner.specs.declared.link.Link.{Link}
 use Rattle.nll_owner.proofs.link_row.advance_all.Given as goal
 
@@ -10,9 +9,7 @@ abbrev pub invariant-loop-number : goal.invariant-loop-number
 invariant-loop-number l = record {
   grows : Grows l.fn.knowledge l.knowledge;
   same : map link_shape l.row.items ≡ map link_shape l.fn.row.items;
-  done : (k : ℕ) (x : Link) → k < l.number → get_or l.row.items k x ≡ x
-      → IsFollowed l.knowledge l.due.region
-      (IsLeft l.knowledge l.due.place (IsToldByRuns (drop l.due.count l.runs)) l.due.region) x;
+  done : (k : ℕ) (x : Link) → k < l.number → get_or l.row.items k x ≡ x → HasCaughtUp l.knowledge l.due x;
   left : (k : ℕ) (x : Link) → l.number ≤ k → k < length l.row.items → get_or l.row.items k x ≡ x
-      → IsFollowed l.knowledge l.due.region (IsLeft l.knowledge l.due.place (IsToldByRuns l.runs) l.due.region) x;
+      → IsBehind l.knowledge l.due x;
 }

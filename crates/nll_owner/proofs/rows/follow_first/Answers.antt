@@ -1,7 +1,7 @@
 use Rattle.std.proofs.Common.{◌≡◌, get_or, Contains, arith}
 use Rattle.std.proofs.lemmas.List.{get_or_default}
 use Rattle.nll_owner.specs.declared.region_run.RegionRun.{RegionRun}
-use Rattle.nll_owner.proofs.FollowingLemmas.{row_links, row_followed, row_more}
+use Rattle.nll_owner.proofs.FollowingLemmas.{row_behind, row_more}
 use Rattle.nll_owner.proofs.SlotLemmas.{has_held}
 use Rattle.nll_owner.proofs.rows.follow_first.Goals as goal
 use Rattle.nll_owner.proofs.rows.follow_first.Goals.{After-index-runs-0}
@@ -25,17 +25,12 @@ slot-slot-requires-clause-held c =
     has_held _ c.requires.sound (first d).region (first d).run.first
     (c.requires.held.has (first d) there (first d).run.first (omega arith, c.requires.held.proper (first d) there))
 
-pub advance-requires-clause-links : goal.advance-requires-clause-links
-advance-requires-clause-links c =
-    row_links (λ row. row.items) c.args.rows.now.items c.args.place c.slot-slot.result _ c.args.runs.now
+pub advance-requires-clause-behind : goal.advance-requires-clause-behind
+advance-requires-clause-behind c l h =
+    let w = row_behind (λ row. row.items) c.args.rows.now.items c.args.place c.slot-slot.result _ c.args.runs.now
     c.args.knowledge.now c.index_mut-row.result.now
-    c.requires.following c.slot-slot.ensures (rw c.slot.view_is at c.index_mut-row.ensures.value)
-
-pub advance-requires-clause-followed : goal.advance-requires-clause-followed
-advance-requires-clause-followed c =
-    row_followed (λ row. row.items) c.args.rows.now.items c.args.place c.slot-slot.result _ c.args.runs.now
-    c.args.knowledge.now c.index_mut-row.result.now
-    c.requires.following c.slot-slot.ensures (rw c.slot.view_is at c.index_mut-row.ensures.value)
+    c.requires.following c.slot-slot.ensures (rw c.slot.view_is at c.index_mut-row.ensures.value) l h in
+    record { link = w.0; followed = w.1 }
 
 pub returns-clause-following : goal.returns-clause-following
 returns-clause-following c =

@@ -1,4 +1,4 @@
-use Rattle.std.proofs.Common.{◌≡◌, ◌+◌, ◌++◌, drop, length}
+use Rattle.std.proofs.Common.{◌≡◌, ◌++◌, drop}
 use Rattle.nll_resolve.specs.Resolving.{regions_in}
 use Rattle.nll_resolve.proofs.resolution.push_regions.Given as goal
 

@@ -1,4 +1,4 @@
-use Rattle.std.proofs.Common.{ap, length, ◌-◌, refl, reverse, ◌∙◌}
+use Rattle.std.proofs.Common.{ap, reverse, ◌∙◌}
 use Rattle.nll_types.specs.Types.{function}
 use Rattle.nll_resolve.specs.Resolving.{newest_type, older, others, starts, types_before, types_inside}
 use Rattle.nll_resolve.proofs.ShapedLemmas.{both_ok, front_taken, older_taken, row_taken, shaped_kept}

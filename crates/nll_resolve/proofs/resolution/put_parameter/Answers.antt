@@ -1,30 +1,32 @@
-use Rattle.std.proofs.Common.{◌≡◌, ap, refl, reverse, sym, take, ◌∙◌}
+use Rattle.std.proofs.Common.{◌-◌, ap, map, refl, reverse, sym, take, ◌∙◌}
 use Rattle.nll_types.specs.Types.{parameter}
-use Rattle.nll_resolve.specs.Resolving.{others, starts, types_before}
-use Rattle.nll_resolve.proofs.KindLemmas.{begins_at_end}
+use Rattle.nll_resolve.specs.Resolving.{is_region, newest, others, starts, types_before}
+use Rattle.nll_resolve.proofs.RowLemmas.{behind_beginning}
 use Rattle.nll_resolve.proofs.ResolvedLemmas.{and_true}
 use Rattle.nll_resolve.proofs.ShapedLemmas.{both_ok, front_taken}
 use Rattle.nll_resolve.proofs.resolution.put_parameter.Goals as goal
 
 pub returns-clause-made : goal.returns-clause-made
 returns-clause-made c =
-    let shapes = c.args.types.now.table.shapes in
-    let kept = c.args.made.now.shapes.items in
-    let rows = c.args.made.now.rows.items in
-    let start = c.row_starts-start.result in
-    let ends = begins_at_end rows c.args.place c.len.result c.requires.within c.len.ensures.value c.requires.newest in
+    let kept = c.args.made.now in
+    let told_row = c.newest_row-row.ensures in
+    let row = c.newest_row-row.result in
+    let behind = behind_beginning c.as_slice-2.result.now c.as_slice.result.now row.place
+    (c.as_slice-2.ensures ∙ sym c.as_slice.ensures) told_row.newest in
     both_ok c.push.result (λ below told. λ s n is number. record {
       below = below;
       made = λ st a.
-          let begins : start ≡ starts st.rows =
-              c.row_starts-start.ensures ∙ ap (λ ms. starts (reverse ms)) c.as_slice.ensures ∙ ap starts a.rows in
+          let rows = ap reverse c.as_slice.ensures ∙ a.rows in
           rw is record {
             shapes = rw number (told (types_before st) (parameter c.args.number)
-                (front_taken shapes start.0 (starts st.rows).0 st.made kept c.truncate-2.new.self.items a.shapes
-                c.truncate-2.ensures.items (ap (λ p. p.0) begins)) refl);
+                (front_taken c.args.types.now.table.shapes row.types (starts st.rows).0 st.made kept.shapes.items
+                c.truncate-2.new.self.items a.shapes c.truncate-2.ensures.items
+                (told_row.types ∙ ap (λ ms. (starts ms).0) rows)) refl);
             regions = c.truncate-3.ensures.items ∙ cc;
-            rows = ap reverse (c.truncate.ensures.items ∙ ap (λ n. take n rows) c.saturating_sub.ensures) ∙ (c.requires.others ∙ ap others a.rows);
+            rows = ap reverse (c.truncate.ensures.items
+                ∙ (ap (λ n. take n kept.rows.items) c.saturating_sub.ensures
+                ∙ ap (take (row.place - 1)) (sym c.as_slice.ensures))) ∙ (told_row.others ∙ ap others rows);
             known = a.known ∙ sym (and_true st.known);
-            fits = cc;
+            fits = let kinds = ap (map is_region) (behind ∙ ap (λ ms. reverse (newest ms)) rows) in cc;
           };
     }) c.push.ensures.below c.push.ensures.made

@@ -19,8 +19,8 @@ returns-clause-made c =
     let first = c.pop.ensures.grows.extends in
     let second = c.reference_to.ensures.grows.extends in
     let below : AreBelow (length popped) left =
-        rw c.pop.ensures.older (below_take (length popped) (length kept - 1) kept
-        (below_more (length old) (length popped) kept first.longer c.requires.below)) in
+    rw c.pop.ensures.older (below_take (length popped) (length kept - 1) kept
+    (below_more (length old) (length popped) kept first.longer c.requires.below)) in
     record {
       below = rw c.in_ok-push.ensures.ok (below_push (length new) shape left
           (below_more (length popped) (length new) left second.longer below) c.in_ok-shape.ensures.within);
@@ -29,7 +29,8 @@ returns-clause-made c =
           (shaped_kept old popped st.made kept first c.requires.below a.shapes) c.pop.ensures.older in
           record {
             shapes = rw c.in_ok-push.ensures.ok (shaped_push new (older st.made) left
-                (reference (number_of c.args.scope.now.regions.now c.args.region.now) c.args.mutable (newest_type st.made)) shape
+                (reference (number_of c.args.scope.now.regions.now c.args.region.now) c.args.mutable
+                (newest_type st.made)) shape
                 (shaped_kept popped new (older st.made) left second below taken)
                 (c.in_ok-shape.ensures.at
                 ∙ ap (reference_shape c.args.mutable) (c.in_ok-target.ensures.newest st.made a.shapes)));

@@ -18,14 +18,14 @@ returns-clause-made c =
     let kept = c.args.made.now.shapes.items in
     let row = c.in_ok-parts.ensures in
     let s = scope_of c.args.scope.now in
-    let behind = behind_beginning c.as_slice.result.now c.as_slice-2.result.now c.row_place.result
-    (c.as_slice.ensures ∙ sym c.as_slice-2.ensures) c.row_place.ensures.newest in
+    let behind = behind_beginning c.as_slice-2.result.now c.as_slice.result.now c.newest_row-row.result.place
+    (c.as_slice-2.ensures ∙ sym c.as_slice.ensures) c.newest_row-row.ensures.newest in
     both_ok c.push.result (λ below told. record {
       below = below;
       made = λ st a.
           let n = (starts (reverse c.args.made.now.rows.items)).0 in
           let start = ap (λ ms. (starts ms).0) a.rows in
-          let inside = behind ∙ ap (λ ms. reverse (newest ms)) (ap reverse c.as_slice-2.ensures ∙ a.rows) in
+          let inside = behind ∙ ap (λ ms. reverse (newest ms)) (ap reverse c.as_slice.ensures ∙ a.rows) in
           let parts = row_taken shapes n _ st.made kept c.in_ok-parts.parts.items a.shapes row.row start in
           let regions = ap regions_in inside in
           let kinds = ap (map is_region) inside in

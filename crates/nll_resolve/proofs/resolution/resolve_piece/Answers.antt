@@ -12,12 +12,16 @@ returns-in-Row-clause-made c =
 
 pub returns-in-Part-clause-made : goal.returns-in-Part-clause-made
 returns-in-Part-clause-made c =
-    on_ok_weaker c.put_part.result (λ told. rw c.in-Part.is (told (scope_of c.args.scope.now) c.args.types.now c.requires.below)) c.put_part.ensures.made
+    on_ok_weaker c.put_part.result
+    (λ told. rw c.in-Part.is (told (scope_of c.args.scope.now) c.args.types.now c.requires.below))
+    c.put_part.ensures.made
 
 pub returns-in-Tuple-clause-made : goal.returns-in-Tuple-clause-made
 returns-in-Tuple-clause-made c =
-    on_ok_weaker c.put_tuple.result (λ told. rw c.in-Tuple.is (told (scope_of c.args.scope.now))) c.put_tuple.ensures.made
+    on_ok_weaker c.put_tuple.result (λ told. rw c.in-Tuple.is (told (scope_of c.args.scope.now)))
+    c.put_tuple.ensures.made
 
 pub returns-in-Function-clause-made : goal.returns-in-Function-clause-made
 returns-in-Function-clause-made c =
-    on_ok_weaker c.put_function.result (λ told. rw c.in-Function.is (told (scope_of c.args.scope.now))) c.put_function.ensures.made
+    on_ok_weaker c.put_function.result (λ told. rw c.in-Function.is (told (scope_of c.args.scope.now)))
+    c.put_function.ensures.made

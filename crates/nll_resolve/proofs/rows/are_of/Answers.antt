@@ -1,6 +1,6 @@
 use Rattle.std.proofs.Common.{map, arith}
 use Rattle.nll_resolve.specs.Resolving.{is_region}
-use Rattle.nll_resolve.proofs.KindLemmas.{kinds_differ, length_kinds}
+use Rattle.nll_resolve.proofs.RowLemmas.{kinds_differ, length_kinds}
 use Rattle.nll_resolve.proofs.rows.are_of.Goals as goal
 
 pub returns-then-arguments-kinds : goal.returns-then-arguments-kinds

@@ -1,4 +1,5 @@
-use Rattle.nll_rules.specs.Adding.{AddsConstraints, IsAskedBefore, IsOfBody}
+use Rattle.nll_rules.specs.Adding.{AddsConstraints, IsAskedBefore}
+use Rattle.nll_rules.specs.Knowing.{IsOfBody}
 use Rattle.nll_rules.proofs.constraints.add_points.Given as goal
 
 abbrev pub invariant-loop-point : goal.invariant-loop-point

@@ -4,7 +4,7 @@ use Rattle.nll_types.specs.Types.{function}
 use Rattle.nll_types.specs.Views.{tree, trees}
 use Rattle.nll_types.proofs.ViewLemmas.{tree_function}
 use Rattle.nll_rules.specs.Layers.{put_under, put_all_under, type_in}
-use Rattle.nll_rules.proofs.InterningLemmas.{all_stay, under_stays, under_function, interning_more, interning_all}
+use Rattle.nll_rules.proofs.InterningLemmas.{all_stay, under_stays, under_function, interning_more, interning_all, under}
 use Rattle.nll_rules.proofs.interning.+interning.Goals as goal
 
 pub number_of-returns-in_ok-output-in-Function-clause-at : goal.number_of-returns-in_ok-output-in-Function-clause-at
@@ -29,11 +29,13 @@ pub numbers_of-loop-part-preserved : goal.numbers_of-loop-part-preserved
 numbers_of-loop-part-preserved t c =
     let pushed = c.push_reserved.ensures in (
       rw pushed.items
-          (interning_more c.args.types.now c.loop-part.types c.number_of.new.types c.args.arguments.now c.args.parts.now
+          (interning_more c.args.types.now c.loop-part.types c.number_of.new.types
+          (under c.args.types.now c.args.arguments.now) c.args.parts.now
           c.loop-part.made.items c.loop-part.part-index _ c.part-item.result
-          c.loop-part-test.true c.part-item.is c.requires
+          c.loop-part-test.true c.part-item.is
           c.loop-part.invariant.0 c.number_of.ensures.keeps c.in_ok-number_of.ensures.within
-          c.in_ok-number_of.ensures.at),
+          (c.in_ok-number_of.ensures.at ∙ under_stays c.args.types.now c.loop-part.types c.args.arguments.now
+          (tree c.part-item.result) c.loop-part.invariant.0.keeps c.requires)),
       omega arith,
       omega arith,
     )

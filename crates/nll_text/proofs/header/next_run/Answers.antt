@@ -6,9 +6,11 @@ use Rattle.nll_text.proofs.header.next_run.Goals as goal
 
 pub returns-then-is_empty : goal.returns-then-is_empty
 returns-then-is_empty c =
-    no_runs _ _ _ c.split_gap.ensures (eqb-true _ _ (sym c.if-is_empty.ensures))
+    no_runs c.args.line.now c.behind_gap-core.result.now c.behind_gap-core.ensures.cut
+    (eqb-true _ _ (sym c.if-is_empty.ensures))
 
 pub returns : goal.returns
 returns c =
-    first_run _ _ _ _ _ c.split_gap.ensures (positive _ (sym c.if-is_empty.ensures))
+    first_run c.args.line.now c.behind_gap-core.result.now _ _ c.behind_gap-core.ensures.cut
+    c.behind_gap-core.ensures.solid (positive _ (sym c.if-is_empty.ensures))
     c.split_run.ensures

@@ -1,7 +1,7 @@
 use Rattle.std.proofs.Common.{◌≡◌, ◌++◌, ℕ, List, [], ◌∷◌, length, Contains, append-nil}
 use Rattle.std.proofs.Common.{refl, sym, ap, ◌∙◌, subst, arith, rules}
 use Rattle.fixpoint.specs.State.{State}
-use Rattle.worker.proofs.PostingLemmas.{with_none}
+use Rattle.fixpoint.proofs.ReceivingLemmas.{with_none}
 use Rattle.worker.specs.declared.inbox.Heard.{Heard}
 use Rattle.worker.specs.declared.inbox.Heard.TheVariants.{Nothing, Growths, Stray, Memory}
 use Rattle.worker.specs.Hearing.{HandsIn, LooksInto}

@@ -16,4 +16,4 @@ returns-in-Ok-clause-comes g c = λ taken owed cleared came.
     let p = c.post_waiting.ensures in
     comes_given g.A.Rules.rules (g.A.Analysis.state c.args.part.now) (g.A.Analysis.state c.post_waiting.new.part)
     p.others taken owed cleared c.args.tally.now
-    c.post_waiting.new.tally p.sound p.counted p.same c.args.heard came
+    c.post_waiting.new.tally p.sound c.in-Ok.ensures.counted p.same c.args.heard came

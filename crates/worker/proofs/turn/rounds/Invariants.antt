@@ -1,18 +1,14 @@
 use Rattle.std.proofs.Common.{map}
-use Rattle.fixpoint.specs.State.{IsSound}
-use Rattle.worker.specs.Mailboxes.{Alike, Keeps, Both, through}
-use Rattle.worker.specs.Finishing.{IsOpenStill}
-use Rattle.worker.specs.Tallies.{HasGrown}
-use Rattle.worker.specs.Turning.{ComesTo}
+use Rattle.worker.specs.Mailboxes.{through}
+use Rattle.worker.specs.Turning.{ComesTo, StaysAtWork}
 use Rattle.worker.proofs.turn.rounds.Given as goal
 
 abbrev pub invariant-loop : goal.invariant-loop
 invariant-loop g l = record {
-  grows : HasGrown (g.A.Analysis.state l.fn.part) (g.A.Analysis.state l.part);
-  sound : IsSound g.A.Rules.rules (g.A.Analysis.state l.part);
-  still : IsOpenStill g.L.Ledger l.fn.account.book.now l.fn.account.share l.account.book.now l.account.share;
+  stays : StaysAtWork g.A.Rules.rules g.L.Ledger g.M.Mail (g.A.Analysis.state l.fn.part) (g.A.Analysis.state l.part)
+      l.fn.account.book.now l.fn.account.share l.account.book.now l.account.share
+      l.fn.inbox.receivers.items l.inbox.receivers.items;
   comes : ComesTo g.A.Rules.rules (g.A.Analysis.state l.part) (map (through g.M.Mail.received)
       l.inbox.receivers.items) (g.L.Ledger.owed l.account.share)
       (g.L.Ledger.cleared l.account.share) l.account.tally l.heard;
-  keeps : Alike (Both (Keeps g.M.Mail)) l.fn.inbox.receivers.items l.inbox.receivers.items;
 }

@@ -3,6 +3,8 @@ use Rattle.std.proofs.lemmas.List.Elements.{Contains-append_right}
 use Rattle.fixpoint.specs.Logs.{log_of}
 use Rattle.fixpoint.specs.State.{State}
 use Rattle.worker.specs.Mailboxes.{through}
+use Rattle.fixpoint.specs.State.{IsSound}
+use Rattle.worker.proofs.AccountLemmas.{still_refl}
 use Rattle.worker.proofs.TallyLemmas.{grown_self}
 use Rattle.worker.proofs.TurnLemmas.{cleared_small, taken_same, taken_lost, grown_some, grown_lost}
 use Rattle.worker.proofs.TurnLemmas.{some_works, some_take, rests_same, stray_same}
@@ -43,9 +45,14 @@ keep_book-requires-clause-small g c =
     let more = ap length h.0 ∙ length-append before c.hear_from.new.inbox.batch.items in
     (omega (arith, cleared), omega (arith, few, more, c.len.ensures, c.hear_from.new.inbox.batch.ok.0))
 
-pub returns-in-Nothing-clause-grows : goal.returns-in-Nothing-clause-grows
-returns-in-Nothing-clause-grows g c = grown_self g.A.Rules.rules (g.A.Analysis.state c.args.part.now)
-    (g.A.Analysis.state c.hear_from.new.part) c.in-Nothing.ensures.hears.0
+pub returns-in-Nothing-clause-stays : goal.returns-in-Nothing-clause-stays
+returns-in-Nothing-clause-stays g c = record {
+  grows = grown_self g.A.Rules.rules (g.A.Analysis.state c.args.part.now)
+      (g.A.Analysis.state c.hear_from.new.part) c.in-Nothing.ensures.hears.0;
+  sound = subst (IsSound g.A.Rules.rules) (sym c.in-Nothing.ensures.hears.0) c.requires.rests.working.sound;
+  still = still_refl g.L.Ledger _ _ c.requires.book;
+  keeps = c.hear_from.ensures.keeps;
+}
 
 pub returns-in-Nothing-clause-comes : goal.returns-in-Nothing-clause-comes
 returns-in-Nothing-clause-comes g c =
@@ -54,9 +61,14 @@ returns-in-Nothing-clause-comes g c =
     (g.A.Analysis.state c.hear_from.new.part) _ c.args.from h.0 h.1
     c.hear_from.ensures.others
 
-pub returns-in-Stray-clause-grows : goal.returns-in-Stray-clause-grows
-returns-in-Stray-clause-grows g c = grown_self g.A.Rules.rules (g.A.Analysis.state c.args.part.now)
-    (g.A.Analysis.state c.hear_from.new.part) c.in-Stray.ensures.hears.1.1
+pub returns-in-Stray-clause-stays : goal.returns-in-Stray-clause-stays
+returns-in-Stray-clause-stays g c = record {
+  grows = grown_self g.A.Rules.rules (g.A.Analysis.state c.args.part.now)
+      (g.A.Analysis.state c.hear_from.new.part) c.in-Stray.ensures.hears.1.1;
+  sound = subst (IsSound g.A.Rules.rules) (sym c.in-Stray.ensures.hears.1.1) c.requires.rests.working.sound;
+  still = still_refl g.L.Ledger _ _ c.requires.book;
+  keeps = c.hear_from.ensures.keeps;
+}
 
 pub returns-in-Stray-clause-comes : goal.returns-in-Stray-clause-comes
 returns-in-Stray-clause-comes g c =
@@ -78,10 +90,14 @@ returns-in-Stray-clause-comes g c =
           (g.A.Analysis.state c.hear_from.new.part) h.1.1,
     )
 
-pub returns-in-Memory-clause-grows : goal.returns-in-Memory-clause-grows
-returns-in-Memory-clause-grows g c =
-    grown_lost g.A.Rules.rules (g.A.Analysis.state c.args.part.now) (g.A.Analysis.state c.hear_from.new.part)
-    c.args.from _ c.in-Memory.ensures.hears.1
+pub returns-in-Memory-clause-stays : goal.returns-in-Memory-clause-stays
+returns-in-Memory-clause-stays g c = record {
+  grows = grown_lost g.A.Rules.rules (g.A.Analysis.state c.args.part.now) (g.A.Analysis.state c.hear_from.new.part)
+      c.args.from _ c.in-Memory.ensures.hears.1;
+  sound = c.in-Memory.ensures.hears.1.1;
+  still = still_refl g.L.Ledger _ _ c.requires.book;
+  keeps = c.hear_from.ensures.keeps;
+}
 
 pub returns-in-Memory-clause-comes : goal.returns-in-Memory-clause-comes
 returns-in-Memory-clause-comes g c =
@@ -90,10 +106,15 @@ returns-in-Memory-clause-comes g c =
     c.hear_from.new.inbox.batch.items h.0
     c.hear_from.ensures.others (g.A.Analysis.state c.hear_from.new.part) c.requires.from h.1
 
-pub returns-in-Growths-clause-grows : goal.returns-in-Growths-clause-grows
-returns-in-Growths-clause-grows g c = let h = c.in-Growths.ensures.hears in
-    grown_some g.A.Rules.rules (g.A.Analysis.state c.args.part.now) (g.A.Analysis.state c.hear_from.new.part) h.1.1
-    h.1.4
+pub returns-in-Growths-clause-stays : goal.returns-in-Growths-clause-stays
+returns-in-Growths-clause-stays g c = record {
+  grows = let h = c.in-Growths.ensures.hears in
+      grown_some g.A.Rules.rules (g.A.Analysis.state c.args.part.now) (g.A.Analysis.state c.hear_from.new.part) h.1.1
+      h.1.4;
+  sound = c.in-Growths.ensures.hears.1.2;
+  still = c.keep_book.ensures.still;
+  keeps = c.hear_from.ensures.keeps;
+}
 
 pub returns-in-Growths-clause-most : goal.returns-in-Growths-clause-most
 returns-in-Growths-clause-most g c =

@@ -123,22 +123,23 @@ loop-preserved g c =
     let back = c.in-Open.ensures.back in (
       tt,
       tt,
-      is_grown g.A.Rules.rules _ _ (g.A.Analysis.state s.new.part) (g.A.Analysis.state c.rounds-heard.new.part) f.grows
+      is_grown g.A.Rules.rules _ _ (g.A.Analysis.state s.new.part) (g.A.Analysis.state c.rounds-heard.new.part)
+          f.stays.grows
           (is_given g.A.Rules.rules _ _ (g.A.Analysis.state c.loop.part)
           (g.A.Analysis.state s.new.part) s.ensures.others l.2),
-      f.sound,
+      f.stays.sound,
       (
-        f.still.of_book,
-        f.still.book_is ∙ l.4.1,
-        f.still.number_is ∙ (back.1 ∙ l.4.2),
-        f.still.called_is ∙
+        f.stays.still.of_book,
+        f.stays.still.book_is ∙ l.4.1,
+        f.stays.still.number_is ∙ (back.1 ∙ l.4.2),
+        f.stays.still.called_is ∙
             (back.4 ∙ l.4.3),
       ),
       f.comes,
       posts_grown g.A.Rules.rules (g.A.Analysis.state s.new.part) (g.A.Analysis.state c.rounds-heard.new.part) _
-          f.grows s.ensures.sound s.ensures.posts,
+          f.stays.grows s.ensures.sound s.ensures.posts,
       stays_on g.M.Mail _ _ _ l.7 s.ensures.pairs,
-      keeps_on g.M.Mail _ _ _ l.8 f.keeps,
+      keeps_on g.M.Mail _ _ _ l.8 f.stays.keeps,
     )
 
 pub share_out-heard-requires-clause-came : goal.share_out-heard-requires-clause-came

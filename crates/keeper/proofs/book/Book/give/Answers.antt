@@ -1,6 +1,7 @@
 use Rattle.std.proofs.Common.{sym, ◌∙◌, arith, refl}
 use Rattle.std.proofs.lemmas.List.{get_or_default}
-use Rattle.keeper.proofs.KeepingLemmas.{given_kept, filter_le}
+use Rattle.keeper.proofs.KeepingLemmas.{given_kept}
+use Rattle.fixpoint.proofs.ListLemmas.{filter_le}
 use Rattle.keeper.proofs.book.Book.give.Goals as goal
 
 pub overflow_add-index_mut : goal.overflow_add-index_mut

@@ -1,4 +1,4 @@
-use Rattle.keeper.proofs.KeepingLemmas.{first_kept}
+use Rattle.keeper.proofs.FirstPartLemmas.{first_kept}
 use Rattle.keeper.proofs.book.Book.new.Goals as goal
 
 pub invariant_of-result : goal.invariant_of-result

@@ -1,6 +1,8 @@
 use Rattle.std.proofs.Common.{refl, arith}
 use Rattle.std.proofs.lemmas.List.{length-map}
-use Rattle.keeper.proofs.KeepingLemmas.{told_kept, told_has, from_in, lists_kept, lists_pushed, on_err_always}
+use Rattle.keeper.proofs.KeepingLemmas.{told_kept, told_has, from_in}
+use Rattle.keeper.proofs.ListLemmas.{on_err_always}
+use Rattle.fixpoint.proofs.ListLemmas.{lists_kept, lists_pushed}
 use Rattle.keeper.proofs.book.Book.receive.Goals as goal
 
 pub index_mut-list-requires : goal.index_mut-list-requires

@@ -1,19 +1,15 @@
-use Rattle.std.proofs.Common.{subst}
+use Rattle.std.proofs.Common.{subst, sym}
+use Rattle.std.proofs.lemmas.Result.{IfOk-weaker}
 use Rattle.nll_types.specs.Views.{tree}
+use Rattle.nll_body.specs.Bodies.{HasType}
 use Rattle.nll_body.specs.Sound.{IsSound}
 use Rattle.nll_body.proofs.KeptLemmas.{good_type, typed}
 use Rattle.nll_body.proofs.body.Body.var_type.Goals as goal
 
 pub returns-clause-well_formed : goal.returns-clause-well_formed
-returns-clause-well_formed c =
-    good_type c.args.self.now (subst IsSound c.self.view_is c.self.invariant.sound) c.args.variable
-    (tree c.index.result.now)
-    (typed c.self.inside.labels c.self.inside.outlives.items c.self.inside.asserts.items c.self.inside.structs
-    c.self.inside.variables.items c.self.inside.points c.self.inside.graph c.args.self.now c.self.view_is
-    c.args.variable c.index.result.now c.requires c.index.ensures)
-
-pub returns-clause-value : goal.returns-clause-value
-returns-clause-value c =
-    typed c.self.inside.labels c.self.inside.outlives.items c.self.inside.asserts.items c.self.inside.structs
-    c.self.inside.variables.items c.self.inside.points c.self.inside.graph c.args.self.now c.self.view_is
-    c.args.variable c.index.result.now c.requires c.index.ensures
+returns-clause-well_formed c = IfOk-weaker c.tree.result _ _ (λ t is.
+    good_type c.args.self.now (subst IsSound c.self.view_is c.self.invariant.0.sound) c.args.variable (tree t)
+    (subst (HasType c.args.self.now c.args.variable) (sym is)
+    (typed c.self.inside.outlives.items c.self.inside.asserts.items c.self.inside.types
+    c.self.inside.variables.items c.self.inside.points.items c.self.inside.labels c.self.inside.graph c.args.self.now
+    c.self.view_is c.args.variable c.index.result.now c.requires c.index.ensures))) c.tree.ensures

@@ -3,7 +3,7 @@ use Rattle.std.proofs.lemmas.List.{get_or_default}
 use Rattle.nll_problem.specs.Graph.{Graph}
 use Rattle.nll_core.specs.Lines.{IsJump}
 use Rattle.nll_core.specs.declared.frontiers.landings.Landing.{Landing}
-use Rattle.nll_core.proofs.FrontierLemmas.{no_landing, landing_at, jump_from, landing_passed, landing_more, landing_end}
+use Rattle.nll_core.proofs.ResumeLemmas.{no_landing, landing_at, jump_from, landing_passed, landing_more, landing_end}
 use Rattle.nll_core.proofs.frontiers.continuation.enter_landings.Goals as goal
 use Rattle.nll_core.proofs.frontiers.continuation.enter_landings.Goals.{then-has+in_ok-enter_point, else-has}
 

@@ -1,4 +1,4 @@
-use Rattle.nll_core.proofs.FrontierLemmas.{LandingOn}
+use Rattle.nll_core.proofs.ResumeLemmas.{LandingOn}
 use Rattle.nll_core.proofs.frontiers.continuation.enter_landings.Given as goal
 
 abbrev pub invariant-loop-landing : goal.invariant-loop-landing

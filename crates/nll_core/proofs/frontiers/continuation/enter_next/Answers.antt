@@ -1,4 +1,4 @@
-use Rattle.nll_core.proofs.FrontierLemmas.{next_inside, next_more, next_end}
+use Rattle.nll_core.proofs.ResumeLemmas.{next_inside, next_more, next_end}
 use Rattle.nll_core.proofs.frontiers.continuation.enter_next.Goals as goal
 
 pub enter_behind-requires-clause-here : goal.enter_behind-requires-clause-here

@@ -1,5 +1,5 @@
 use Rattle.std.proofs.Common.{◌-◌}
-use Rattle.nll_core.proofs.FrontierLemmas.{NextOn}
+use Rattle.nll_core.proofs.ResumeLemmas.{NextOn}
 use Rattle.nll_core.proofs.frontiers.continuation.enter_next.Given as goal
 
 abbrev pub invariant-loop-last : goal.invariant-loop-last

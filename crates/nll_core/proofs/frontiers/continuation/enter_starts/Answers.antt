@@ -1,6 +1,6 @@
 use Rattle.std.proofs.Common.{arith, ⊎_elim}
 use Rattle.std.proofs.lemmas.Bool.{cases_lt}
-use Rattle.nll_core.proofs.FrontierLemmas.{beginning_more}
+use Rattle.nll_core.proofs.ResumeLemmas.{beginning_more}
 use Rattle.nll_core.proofs.frontiers.continuation.enter_starts.Goals as goal
 
 pub loop-start-preserved : goal.loop-start-preserved

@@ -1,5 +1,5 @@
 use Rattle.std.proofs.Common.{◌+◌, ◌-◌}
-use Rattle.nll_core.proofs.FrontierLemmas.{Beginning}
+use Rattle.nll_core.proofs.ResumeLemmas.{Beginning}
 use Rattle.nll_core.proofs.frontiers.continuation.enter_starts.Given as goal
 
 abbrev pub invariant-loop-start : goal.invariant-loop-start

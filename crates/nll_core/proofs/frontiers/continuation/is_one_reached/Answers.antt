@@ -5,7 +5,7 @@ use Rattle.nll_problem.specs.Graph.{Graph}
 use Rattle.nll_sets.specs.ElementSet.{flag}
 use Rattle.nll_core.specs.Lines.{IsJump}
 use Rattle.nll_core.specs.declared.frontiers.landings.Landing.{Landing}
-use Rattle.nll_core.proofs.FrontierLemmas.{no_landing, landing_at, jump_from, jump_return}
+use Rattle.nll_core.proofs.ResumeLemmas.{no_landing, landing_at, jump_from, jump_return}
 use Rattle.nll_core.proofs.frontiers.continuation.is_one_reached.Goals as goal
 
 pub has-requires : goal.has-requires

@@ -1,6 +1,6 @@
 use Rattle.std.proofs.Common.{◌≡◌, ℕ, ◌<◌, false, get_or}
 use Rattle.nll_sets.specs.ElementSet.{flag}
-use Rattle.nll_core.proofs.FrontierLemmas.{no_landing}
+use Rattle.nll_core.proofs.ResumeLemmas.{no_landing}
 use Rattle.nll_core.proofs.frontiers.continuation.is_one_reached.Given as goal
 
 abbrev pub invariant-loop-landing : goal.invariant-loop-landing

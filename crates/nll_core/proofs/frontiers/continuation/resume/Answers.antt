@@ -21,7 +21,7 @@ returns-then-has_all-clause-width c = on_ok_weaker c.take.result (λ f. f.width)
 
 pub returns-then-has_all-clause-after : goal.returns-then-has_all-clause-after
 returns-then-has_all-clause-after c = on_ok_weaker c.take.result
-    (goes_whole c.args.lines.now c.args.seen.now c.args.run c.args.starts.now c.args.reached.now c.take.new.reached
+    (goes_whole c.args.steps.now c.args.seen.now c.args.run c.args.starts.now c.args.reached.now c.take.new.reached
     (c.has_all.ensures.0 c.if-has_all.true) c.requires.run c.requires.before)
     c.take.ensures.fills
 
@@ -30,17 +30,17 @@ points-points-requires c = λ every. false≢true (sym c.if-has_all.false ∙ c.
 
 pub resume_walks-requires-clause-starts : goal.resume_walks-requires-clause-starts
 resume_walks-requires-clause-starts c =
-    points_among c.args.lines.now.points c.points-points.result (rw c.points-points.ensures at c.requires.starts)
+    points_among c.args.steps.now.points c.points-points.result (rw c.points-points.ensures at c.requires.starts)
 
 pub resume_walks-requires-clause-before : goal.resume_walks-requires-clause-before
 resume_walks-requires-clause-before c =
-    λ x h. asked_walks c.args.lines.now c.args.seen.now c.points-points.result x
+    λ x h. asked_walks c.args.steps.now c.args.seen.now c.points-points.result x
     (rw c.points-points.ensures at (c.requires.before x h))
 
 pub returns-clause-after : goal.returns-clause-after
 returns-clause-after c = on_ok_weaker c.resume_walks.result
-    (λ w. subst (λ (starts : List At). GoesOn c.args.lines.now c.args.seen.now c.args.run starts c.args.reached.now
+    (λ w. subst (λ (starts : List At). GoesOn c.args.steps.now c.args.seen.now c.args.run starts c.args.reached.now
     c.resume_walks.new.reached) (sym c.points-points.ensures)
-    (goes_by_walks c.args.lines.now c.args.seen.now c.args.run c.points-points.result c.args.reached.now
+    (goes_by_walks c.args.steps.now c.args.seen.now c.args.run c.points-points.result c.args.reached.now
     c.resume_walks.new.reached w))
     c.resume_walks.ensures.after

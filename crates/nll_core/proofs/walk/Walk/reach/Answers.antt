@@ -1,5 +1,5 @@
 use Rattle.std.proofs.lemmas.Result.{on_ok_weaker}
-use Rattle.nll_core.proofs.WalkingLemmas.{led_asks}
+use Rattle.nll_core.proofs.LedWalkLemmas.{led_asks}
 use Rattle.nll_core.proofs.walk.Walk.reach.Goals as goal
 
 pub returns-clause-reached : goal.returns-clause-reached

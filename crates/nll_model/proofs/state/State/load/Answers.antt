@@ -5,7 +5,7 @@ use Rattle.nll_model.proofs.StateLemmas.{seat_is, place_in, owners_is, lanes_is,
 use Rattle.nll_model.specs.Working.{GoesOn, NoGrowth}
 use Rattle.nll_problem.specs.Problem.{Problem}
 use Rattle.nll_cut.specs.Partition.{Cut}
-use Rattle.nll_owner.proofs.OwnerLemmas.{on_err_always}
+use Rattle.nll_owner.proofs.ReceiptLemmas.{on_err_always}
 use Rattle.nll_model.specs.Soundness.{IsOrderly}
 use Rattle.nll_model.proofs.OrderlyLemmas.{orderly_after}
 use Rattle.nll_model.proofs.state.State.load.Goals as goal

@@ -3,7 +3,7 @@ use Rattle.nll_model.specs.State.{Seat, State}
 use Rattle.nll_model.proofs.StateLemmas.{seat_is}
 use Rattle.nll_problem.specs.Problem.{Problem}
 use Rattle.nll_cut.specs.Partition.{Cut}
-use Rattle.nll_owner.proofs.OwnerLemmas.{on_err_always}
+use Rattle.nll_owner.proofs.ReceiptLemmas.{on_err_always}
 use Rattle.nll_model.specs.Soundness.{IsOrderly}
 use Rattle.nll_model.proofs.OrderlyLemmas.{orderly_after, stays}
 use Rattle.nll_model.proofs.state.State.push.Goals as goal

@@ -5,7 +5,7 @@ use Rattle.nll_model.specs.Events.{Turns}
 use Rattle.nll_model.proofs.StateLemmas.{seat_is, place_in, owners_is, lanes_is, seats_few, none_fresh, other_is, passes, taken_is, taken_orderly}
 use Rattle.nll_problem.specs.Problem.{Problem}
 use Rattle.nll_cut.specs.Partition.{Cut}
-use Rattle.nll_owner.proofs.OwnerLemmas.{on_err_always}
+use Rattle.nll_owner.proofs.ReceiptLemmas.{on_err_always}
 use Rattle.nll_model.specs.Soundness.{IsOrderly}
 use Rattle.nll_model.specs.Working.{GoesOn, IsGrowthFrom}
 use Rattle.nll_model.proofs.state.State.take.Goals as goal

@@ -1,6 +1,7 @@
 use Rattle.std.proofs.Common.{map}
 use Rattle.nll_owner.specs.Following.{following_of}
 use Rattle.nll_owner.specs.RegionRuns.{TellTheSame}
+use Rattle.nll_owner.proofs.OwnerLemmas.{grows_append}
 use Rattle.nll_owner.proofs.FollowingLemmas.{following_runs, runs_held}
 use Rattle.nll_owner.proofs.follow_up.Following.follow_all.Goals as goal
 use Rattle.nll_owner.proofs.follow_up.Following.follow_all.Goals.{After-as_slice}
@@ -19,3 +20,9 @@ follow_runs-requires-clause-following c =
     (following_of (map (λ row. row.items) c.self.inside.rows.items) c.self.inside.place)
     (told (goal.at.follow_runs-requires-clause-following c).After-as_slice)
     (rw (← c.self.view_is) at c.requires.following)
+
+pub returns-clause-grows : goal.returns-clause-grows
+returns-clause-grows c = grows_append _ _ _ c.follow_runs.ensures.grows c.settle.ensures.grows
+
+pub settle-requires-clause-following : goal.settle-requires-clause-following
+settle-requires-clause-following c = c.in_ok-follow_runs.ensures.following

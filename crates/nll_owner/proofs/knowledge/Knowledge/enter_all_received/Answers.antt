@@ -3,7 +3,7 @@ use Rattle.std.proofs.lemmas.List.{take_all}
 use Rattle.nll_mail.specs.declared.growth.Growth.{Growth}
 use Rattle.nll_owner.specs.Owner.{Owner, Passes, with_growth, with_growths}
 use Rattle.nll_owner.specs.Keeping.{HasAllBeside}
-use Rattle.nll_owner.proofs.ReceivingLemmas.{with_none, with_more, take_next, got_first}
+use Rattle.fixpoint.proofs.ReceivingLemmas.{with_none, with_more, take_next, got_first}
 use Rattle.nll_owner.proofs.ReceivingLemmas.{beside_none, beside_more, received_on, received_same}
 use Rattle.nll_owner.proofs.knowledge.Knowledge.enter_all_received.Goals as goal
 use Rattle.nll_owner.proofs.knowledge.Knowledge.enter_all_received.Goals.{After-growth-item}

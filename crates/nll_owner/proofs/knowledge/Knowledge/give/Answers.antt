@@ -4,7 +4,8 @@ use Rattle.nll_owner.specs.declared.knowledge.Knowledge.TheInside.{Inside}
 use Rattle.nll_owner.specs.Owner.{Owner}
 use Rattle.nll_cut.specs.Partition.{reads}
 use Rattle.nll_mail.specs.declared.growth.Growth.{Growth}
-use Rattle.nll_owner.proofs.OwnerLemmas.{get_at, pair_small, given_kept, given_sound, filter_le}
+use Rattle.nll_owner.proofs.OwnerLemmas.{get_at, pair_small, given_kept, given_sound}
+use Rattle.fixpoint.proofs.ListLemmas.{filter_le}
 use Rattle.nll_owner.proofs.knowledge.Knowledge.give.Goals as goal
 use Rattle.nll_owner.proofs.knowledge.Knowledge.give.Goals.{After-index_mut}
 

@@ -1,7 +1,8 @@
 use Rattle.std.proofs.Common.{◌≡◌, ◌+◌, ◌-◌, ◌++◌, ap, ◌∙◌, arith}
 use Rattle.std.proofs.lemmas.Result.{IfOk-from_err}
 use Rattle.nll_owner.specs.Keeping.{growths}
-use Rattle.nll_owner.proofs.OwnerLemmas.{grows_none, run_kept, run_grows, run_has, clock_low}
+use Rattle.nll_owner.proofs.OwnerLemmas.{grows_none, clock_low}
+use Rattle.nll_owner.proofs.OwnGrowthLemmas.{run_kept, run_grows, run_has}
 use Rattle.nll_owner.proofs.knowledge.Knowledge.grow_gap.Goals as goal
 use Rattle.nll_owner.proofs.knowledge.Knowledge.grow_gap.Goals.{After-push_growths}
 

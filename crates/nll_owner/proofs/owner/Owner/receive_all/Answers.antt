@@ -4,7 +4,7 @@ use Rattle.nll_owner.specs.declared.owner.Owner.TheInside.{Inside}
 use Rattle.nll_owner.specs.Owner.{Owner, IsDone, Passes}
 use Rattle.nll_owner.specs.Following.{Nothing}
 use Rattle.nll_owner.proofs.TableLemmas.{tables_still}
-use Rattle.nll_owner.proofs.FollowingLemmas.{following_marked, unless_err}
+use Rattle.nll_owner.proofs.FollowingLemmas.{following_same, unless_err}
 use Rattle.nll_owner.proofs.OutboxLemmas.{queued_marked}
 use Rattle.nll_owner.proofs.owner.Owner.receive_all.Goals as goal
 
@@ -14,8 +14,8 @@ receive_and_queue-result-requires-clause-passes c g at =
 
 pub mark-requires : goal.mark-requires
 mark-requires c is =
-    c.receive_and_queue-result.ensures.sound.based
-    (ap (λ (o : Owner). o.loaded) c.receive_and_queue-result.ensures.others
+    c.receive_and_queue-result.ensures.receives.sound.based
+    (ap (λ (o : Owner). o.loaded) c.receive_and_queue-result.ensures.receives.others
     ∙ (sym (ap (λ (o : Inside). o.knowledge.loaded) c.self-inside.view_is) ∙ is))
 
 pub invariant_of-self : goal.invariant_of-self
@@ -23,13 +23,13 @@ invariant_of-self c = (
   c.mark.ensures.sound,
   tables_still c.self.inside.knowledge.problem c.mark.new.self.problem c.self.inside.knowledge.cut c.mark.new.self.cut _
       (ap (λ (o : Owner). o.problem) c.mark.ensures.marks
-      ∙ (ap (λ (o : Owner). o.problem) c.receive_and_queue-result.ensures.others))
+      ∙ (ap (λ (o : Owner). o.problem) c.receive_and_queue-result.ensures.receives.others))
       (ap (λ (o : Owner). o.cut) c.mark.ensures.marks
-      ∙ (ap (λ (o : Owner). o.cut) c.receive_and_queue-result.ensures.others))
+      ∙ (ap (λ (o : Owner). o.cut) c.receive_and_queue-result.ensures.receives.others))
       c.self.invariant.1,
   λ whole.
       let fine = sym c.is_err.ensures.value ∙ (sym (ap (λ (o : Owner). o.broken) c.mark.ensures.marks) ∙ whole) in (
-        following_marked Nothing _ _ _ (rw c.mark.ensures.marks refl)
+        following_same Nothing _ _ _ (rw c.mark.ensures.marks refl)
             (unless_err c.receive_and_queue-result.result c.receive_and_queue-result.ensures.following fine),
         queued_marked _ _ _ (rw c.mark.ensures.marks refl)
             (unless_err c.receive_and_queue-result.result c.receive_and_queue-result.ensures.queued fine),

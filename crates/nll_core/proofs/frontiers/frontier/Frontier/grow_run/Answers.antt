@@ -20,13 +20,14 @@ returns-clause-ok c = elim c.if-is_err.branch [
   | then-is_err w ↦ on_err _ c.resume-told.result w.if-is_err.ensures.value
   | else-is_err w ↦
       let whole = ap is_some c.in_default.is in
-      let may = rw (← c.self.view_is, ← c.steps.view_is) at c.requires in
-      rw (w.found-is, ← c.self.view_is, ← c.steps.view_is)
+      let may = rw (← c.self.view_is) at c.requires in
+      let count = rw c.steps.view_is at c.elements.ensures.value in
+      rw (w.found-is, ← c.self.view_is)
       (on_ok c.resume-told.result c.err-self-inside.result c.err-self-inside.ensures.variant
-      (λ is width after found. grown_by_run c.steps.inside.lines c.args.seen.now c.args.run _ c.widen.new.self
+      (λ is width after found. grown_by_run c.args.steps.now c.args.seen.now c.args.run _ c.widen.new.self
       c.resume-told.new.reached _ c.resume-told.new.found.items whole is (may.sound whole) c.widen.ensures.same
       (let fits = may.fits whole in
-      omega (arith, width, c.widen.ensures.width, c.elements.ensures.value, fits))
+      omega (arith, width, c.widen.ensures.width, count, fits))
       after found)
       c.resume-told.ensures.width c.resume-told.ensures.after c.resume-told.ensures.found)
 ]

@@ -1,8 +1,0 @@
-use Rattle.std.proofs.Common.{[], refl}
-use Rattle.nll_mir_grammar.proofs.WordLemmas.{prefixed_read}
-use Rattle.nll_mir_grammar.proofs.words.number_at.Goals as goal
-
-pub returns : goal.returns
-returns c =
-    prefixed_read [] _ c.behind_gap.result.now _ tt refl c.behind_gap.ensures.solid c.behind_gap.ensures.tokens _
-    c.number_in_front.ensures

@@ -1,0 +1,145 @@
+//! Values parted by commas.
+
+ghost use Rattle.std.specs.Prelude.{◌≡◌, ◌≤◌, [], ◌∷◌, ◌++◌, IfOk, MatchOption, OnOk, map};
+ghost use Rattle.nll_text.specs.Tokens as lex;
+ghost use Rattle.nll_text.specs.LineTokens.{tokens_in};
+ghost use Rattle.nll_text.specs.Grammars.{Begins, Grammar, HasNone};
+ghost use Rattle.nll_mir_grammar.specs.Grammars.{IsBefore, IsListable, Puts, behind, commas};
+ghost use Rattle.nll_mir_grammar.specs.Grammars.{parentheses};
+
+use crate::pairs::Read;
+use nll_sets::Memory;
+use nll_text::after_sign;
+use std::alloc::Global;
+
+/// A value of which lines have lists.
+pub trait Listed<'a>: Drop {
+    /// What it stands for, and how that is spelled.
+    ghost Meant: { Type 0 };
+
+    ghost meant: { Self → Meant };
+
+    ghost grammar: { Grammar Meant };
+
+    /// The value at the front.
+    fn read_at(alloc: Global, line: &'a [u8]) -> Read<'a, Self>
+        ensures { IfOk result (λ o. MatchOption o (HasNone grammar (tokens_in line.now))
+            (λ p. Begins grammar (tokens_in line.now) (meant p.0) (tokens_in p.1.now))) };
+}
+
+// For how many values room is reserved at first, given what follows the first one.
+fn first_room(line: &[u8]) -> usize
+    ensures { result ≤ 2 }
+{
+    match after_sign(line, b',') {
+        Some(_) => 2,
+        None => 1,
+    }
+}
+
+// Appends a value. The first one reserves room, by what follows it.
+fn put<T: Drop>(values: &mut Vec<T>, value: T, line: &[u8]) -> Result<(), Memory>
+    ensures { OnOk result (values.new.items ≡ values.old.items ++ value ∷ []) }
+{
+    if values.is_empty() {
+        values.reserve_exact(first_room(line))?;
+    }
+    values.push(value)?;
+    Ok(())
+}
+
+// Appends the value at the front.
+fn push<'a, T: Listed<'a>>(
+    alloc: Global,
+    line: &'a [u8],
+    values: &mut Vec<T>,
+) -> Result<Option<&'a [u8]>, Memory>
+    ensures { IfOk result (λ o. Puts T.grammar T.meant (λ r. tokens_in r.now) (tokens_in line.now)
+        values.old.items values.new.items o) }
+{
+    match T::read_at(alloc, line)? {
+        Some((value, rest)) => {
+            put(values, value, rest)?;
+            Ok(Some(rest))
+        }
+        None => Ok(None),
+    }
+}
+
+// Appends the value after a comma.
+fn next<'a, T: Listed<'a>>(
+    alloc: Global,
+    line: &'a [u8],
+    values: &mut Vec<T>,
+) -> Result<Option<&'a [u8]>, Memory>
+    ensures { IfOk result (λ o. Puts (behind (lex.sign 44) T.grammar) T.meant (λ r. tokens_in r.now)
+        (tokens_in line.now) values.old.items values.new.items o) }
+{
+    match after_sign(line, b',') {
+        Some(behind) => push(alloc, behind, values),
+        None => Ok(None),
+    }
+}
+
+/// Adds values parted by commas to the list, as many as there are.
+pub fn list<'a, T: Listed<'a>>(
+    alloc: Global,
+    line: &'a [u8],
+    values: &mut Vec<T>,
+) -> Result<Option<&'a [u8]>, Memory>
+    requires empty { values.old.items ≡ [] }
+    requires comma { IsBefore (lex.sign 44) T.grammar }
+    ensures { IfOk result (λ o. MatchOption o (HasNone (commas T.grammar) (tokens_in line.now))
+        (λ rest. Begins (commas T.grammar) (tokens_in line.now)
+        (map T.meant values.new.items) (tokens_in rest.now))) }
+{
+    let Some(first) = push(alloc, line, values)? else {
+        return Ok(None);
+    };
+    let mut rest = first;
+    while let Some(following) = next(alloc, rest, values)? {
+        rest = following;
+    }
+    Ok(Some(rest))
+}
+
+// Adds the values between `(` and `)` to the list.
+fn enclosed<'a, T: Listed<'a>>(
+    alloc: Global,
+    line: &'a [u8],
+    values: &mut Vec<T>,
+) -> Result<Option<&'a [u8]>, Memory>
+    requires empty { values.old.items ≡ [] }
+    requires listable { IsListable T.grammar (lex.sign 41) }
+    ensures { IfOk result
+        (λ o. MatchOption o (HasNone (parentheses T.grammar) (tokens_in line.now))
+        (λ rest. Begins (parentheses T.grammar) (tokens_in line.now)
+        (map T.meant values.new.items) (tokens_in rest.now))) }
+{
+    let Some(inner) = after_sign(line, b'(') else {
+        return Ok(None);
+    };
+    if let Some(rest) = after_sign(inner, b')') {
+        return Ok(Some(rest));
+    }
+    match list(alloc, inner, values)? {
+        Some(behind) => Ok(after_sign(behind, b')')),
+        None => Ok(None),
+    }
+}
+
+/// The values between `(` and `)`.
+pub fn values_in<'a, T: Listed<'a>>(alloc: Global, line: &'a [u8]) -> Read<'a, Vec<T>>
+    requires { IsListable T.grammar (lex.sign 41) }
+    ensures { IfOk result
+        (λ o. MatchOption o (HasNone (parentheses T.grammar) (tokens_in line.now))
+        (λ p. Begins (parentheses T.grammar) (tokens_in line.now) (map T.meant p.0.items)
+        (tokens_in p.1.now))) }
+{
+    let mut values = Vec::new(alloc);
+    match enclosed(alloc, line, &mut values) {
+        Ok(Some(rest)) => Ok(Some((values, rest))),
+        Ok(None) => Ok(None),
+        Err(memory) => Err(memory),
+    }
+}

@@ -1,0 +1,106 @@
+//! Statements over numbers: what is written in them, and what they do.
+use super::lines::OfLine;
+use super::rows::compare_text;
+use super::statement_names::statement_of;
+use super::statement_text::write_statement;
+use super::transcript::Transcript;
+use nll_resolve::Scope;
+use nll_statements::Stmt;
+use nll_types::BodyTypes;
+
+// Writes what a statement does: the variables that it uses, that which it defines, that which it
+// drops, and whether the block ends with it.
+fn write_effects(out: &mut Transcript, statement: &Stmt) {
+    let mut used = Vec::new(out.alloc);
+    out.note(statement.uses(&mut used));
+    out.numbers(" ", used.as_slice());
+    drop(used);
+    out.option(" ", statement.defines());
+    out.option(" ", statement.drops());
+    out.flag(" ", statement.is_terminator(), "");
+}
+
+/// Writes the statement of a line over numbers, and what it does.
+pub fn write_resolved(out: &mut Transcript, scope: &Scope<'_>, line: &[u8]) {
+    let mut types = BodyTypes::new(out.alloc);
+    match statement_of(out, scope, &mut types, line) {
+        Some(statement) => {
+            write_statement(out, Some(&types), &statement);
+            write_effects(out, &statement);
+            drop(statement);
+        }
+        None => out.say("no statement"),
+    }
+    drop(types);
+}
+
+// Statements and terminators. Of each, the statement over numbers; then the variables that it
+// uses, that which it defines, that which it drops, and whether the block ends with it.
+const STATEMENTS: &str = "
+_3 = const ~ _3 = const [] Some(3) None false
+_3.0 = const ~ _3.0 = const [3] None None false
+_0 = move _0 ~ _0 = move _0 [0] Some(0) None false
+_3 = copy _1.*.2.* ~ _3 = copy _1.*.2.* [1] Some(3) None false
+_3.* = copy _1 ~ _3.* = copy _1 [1, 3] None None false
+_3.*.2 = move _1.* ~ _3.*.2 = move _1.* [1, 3] None None false
+_3.0.1.*.4 = move _999999999.7 ~ _3.0.1.*.4 = move _999999999.7 [999999999, 3] None None false
+_3 = &'a _1 ~ _3 = & 1|_1 [1] Some(3) None false
+_3 = &'b mut _1.0 ~ _3 = mut 2|_1.0 [1] Some(3) None false
+_3.* = &'static mut _1.*.2 ~ _3.* = mut 0|_1.*.2 [1, 3] None None false
+_3.0.* = &'b _2.* ~ _3.0.* = & 2|_2.* [2, 3] None None false
+read _3 ~ read _3 [3] None None false
+read _3.* ~ read _3.* [3] None None false
+read _3.*.1.0 ~ read _3.*.1.0 [3] None None false
+live _1 ~ live 1 [] Some(1) None false
+dead _0 ~ dead 0 [] Some(0) None false
+nop ~ nop [] None None false
+goto bb0 ~ goto 0 [] None None true
+goto bb999999999 ~ goto 999999999 [] None None true
+switch move _1 bb0 ~ switch move _1 [0] [1] None None true
+switch copy _2.*.3 bb2 bb1 ~ switch copy _2.*.3 [2, 1] [2] None None true
+switch const bb3 bb3 bb5 ~ switch const [3, 3, 5] [] None None true
+drop _1 -> bb2 ~ drop 1 to 2 [] None Some(1) true
+drop _1 -> bb2 unwind bb3 ~ drop 1 to 2 or 3 [] None Some(1) true
+return ~ return [0] None None true
+stop ~ stop [] None None true
+end ~ no statement
+";
+
+// Like the rows above, for tuples and structs that are made.
+const MADE: &str = "
+_4 = make () () ~ _4 = make ( )| [] Some(4) None false
+_4.0 = make (int, &'a mut &'b T) (const, move _2) \
+~ _4.0 = make ( int &1 mut &2 P0 )|const,move _2, [2, 4] None None false
+_4 = make ((), (int, (T)), ()) (copy _1, move _2.*.0, const) \
+~ _4 = make ( ( ) ( int ( P0 ) ) ( ) )|copy _1,move _2.*.0,const, [1, 2] Some(4) None false
+_4 = make U () ~ _4 = make S2< >| [] Some(4) None false
+_4 = make W<'a> (copy _5) ~ _4 = make S0< 1 >|copy _5, [5] Some(4) None false
+_4.*.1 = make V<T, 'b, &'a U, 'static, (int)> (copy _1.0.1, copy _1.0) \
+~ _4.*.1 = make S1< 2 0 P0 &1 S2< > ( int ) >|copy _1.0.1,copy _1.0, [1, 1, 4] None None false
+_4 = make W<V<'b, W<'a>>, 'b> (const) \
+~ _4 = make S0< 2 S1< 2 S0< 1 > > >|const, [] Some(4) None false
+_4 = make (fn(&'a int, U) -> W<'b>, fn() -> ()) (move _1, move _2) \
+~ _4 = make ( fn( &1 int S2< > ) S0< 2 > fn( ) ( ) )|move _1,move _2, [1, 2] Some(4) None false
+_4 = make (X) (const) ~ no statement
+";
+
+// Like the rows above, for calls.
+const CALLS: &str = "
+_2 = call f(): int -> bb1 ~ _2 = call : int| to 1 [] Some(2) None true
+_2 = call f(const: int): () where 'b: 'b -> bb5 \
+~ _2 = call const: int|,: ( )| 2|2| to 5 [] Some(2) None true
+_2.0 = call f(copy _1: &'a int, const: int, move _3.*.0: (T, U)): V<'a, int> \
+where 'a: 'b, 'static: 'a -> bb1 unwind bb4 \
+~ _2.0 = call copy _1: &1 int|,const: int|,move _3.*.0: ( P0 S2< > )|,: S1< 1 int >| \
+1|2| 0|1| to 1 or 4 [1, 3, 2] None None true
+_2 = call f(move _1: fn(int) -> &'b T): fn() -> int -> bb1 unwind bb0 \
+~ _2 = call move _1: fn( int ) &2 P0|,: fn( ) int| to 1 or 0 [1] Some(2) None true
+";
+
+// Each kind of statement is resolved as it is written, and does what it should.
+#[test]
+fn statements_are_resolved(rt: HostRuntime) {
+    compare_text(&rt, rt.alloc(), OfLine::Resolved, STATEMENTS);
+    compare_text(&rt, rt.alloc(), OfLine::Resolved, MADE);
+    compare_text(&rt, rt.alloc(), OfLine::Resolved, CALLS);
+}
