@@ -7,7 +7,7 @@ pub returns-in_ok-put-in-Ok-clause-taken : goal.returns-in_ok-put-in-Ok-clause-t
 returns-in_ok-put-in-Ok-clause-taken c = λ i placed.
     let h = (rw c.in-Ok.is at c.admit.ensures.admitted) i placed in
     subst (λ s. IsTaken s (at_point i) c.put.new.self) h.0.same
-    (c.in_ok-put.ensures i c.args.fits
+    (c.in_ok-put-in-Ok.ensures i c.args.fits
     (subst (λ s. IsAdmitted s i c.in-Ok.admitted c.admit.new.self) (sym h.0.same) h.0) h.1)
 
 pub returns-in-Err-clause-refused : goal.returns-in-Err-clause-refused

@@ -1,6 +1,6 @@
 use Rattle.std.proofs.Common.{◌≡◌, ◌∙◌, ℕ, List, [], ◌∷◌, ◌++◌, true, length, map, ap, refl, sym, subst, inr, arith, length-append}
 use Rattle.std.specs.Prelude.{◌==◌, All, vec_len}
-use Rattle.std.proofs.lemmas.Bool.{not-true, not-false, eq-eqb}
+use Rattle.std.proofs.lemmas.Bool.{eq-eqb}
 use Rattle.std.proofs.lemmas.List.{length-map, map_push}
 use Rattle.std.proofs.lemmas.List.Elements.{All-push}
 use Rattle.nll_types.specs.Rows.{HasRow, tree_at}
@@ -48,7 +48,7 @@ returns-then-not-is_small-clause-refused c = λ t of.
     inr (type_too_large (said_by r) c.args.number t of.order of.of.known next
     (sym of.fits ∙ c.if-not-fits.false)
     (sym (small_of_shape (meant (said_by r).scope t) _ of.of.typed.shape)
-    ∙ (sym (rw c.shapes.ensures at c.is_small.ensures) ∙ not-true _ c.if-not-is_small.true)))
+    ∙ (sym (rw c.shapes.ensures at c.is_small.ensures) ∙ c.if-not-is_small.true)))
 
 pub returns-then-len-ge-MAX_VARIABLES-clause-refused : goal.returns-then-len-ge-MAX_VARIABLES-clause-refused
 returns-then-len-ge-MAX_VARIABLES-clause-refused c = λ t of.
@@ -57,7 +57,7 @@ returns-then-len-ge-MAX_VARIABLES-clause-refused c = λ t of.
     inr (too_many_variables (said_by r) c.args.number t of.order of.of.known next
     (sym of.fits ∙ c.if-not-fits.false)
     (sym (small_of_shape (meant (said_by r).scope t) _ of.of.typed.shape)
-    ∙ (sym (rw c.shapes.ensures at c.is_small.ensures) ∙ not-false _ c.if-not-is_small.false))
+    ∙ (sym (rw c.shapes.ensures at c.is_small.ensures) ∙ c.if-not-is_small.false))
     (omega (arith, c.if-len-ge-MAX_VARIABLES.true, c.len-2.ensures, r.variables.typed.ok.0, counted r)))
 
 pub returns-clause-taken : goal.returns-clause-taken
@@ -75,7 +75,7 @@ returns-clause-taken c = λ t of.
       fine = variable_fine (said_by old) c.args.number t of.order of.of.known next
           (sym of.fits ∙ c.if-not-fits.false)
           (sym (small_of_shape (meant (said_by old).scope t) _ of.of.typed.shape)
-          ∙ (sym (rw c.shapes.ensures at c.is_small.ensures) ∙ not-false _ c.if-not-is_small.false))
+          ∙ (sym (rw c.shapes.ensures at c.is_small.ensures) ∙ c.if-not-is_small.false))
           (omega (arith, c.if-len-ge-MAX_VARIABLES.false, c.len-2.ensures, old.variables.typed.ok.0, counted old));
       says = rw stand refl;
       ready = record {
