@@ -17,7 +17,8 @@ returns-in_err-owner-2 c =
     (λ e h. (let r = behind_push _ _ e c.in-Some-after_word.ensures.begins h in c.in_err-owner-2.ensures r.0 r.1))
 
 pub returns-in-Some-after_word : goal.returns-in-Some-after_word
-returns-in-Some-after_word c = spells_more _ _ (keyword _) _ c.in-Some-after_word.ensures.begins tt c.in_ok-owner-2.ensures
+returns-in-Some-after_word c =
+    spells_more _ _ (keyword _) _ c.in-Some-after_word.ensures.begins tt c.in_ok-owner-2.ensures
 
 pub returns-in_err-number : goal.returns-in_err-number
 returns-in_err-number c =
@@ -25,7 +26,8 @@ returns-in_err-number c =
     (λ e h. (let r = behind_owe _ _ e c.in-Some-after_word-2.ensures.begins h in c.in_err-number.ensures r.0 r.1))
 
 pub returns-in-Some-after_word-2 : goal.returns-in-Some-after_word-2
-returns-in-Some-after_word-2 c = spells_more _ _ (keyword _) _ c.in-Some-after_word-2.ensures.begins tt c.in_ok-number.ensures
+returns-in-Some-after_word-2 c =
+    spells_more _ _ (keyword _) _ c.in-Some-after_word-2.ensures.begins tt c.in_ok-number.ensures
 
 pub returns-in_err-number-2 : goal.returns-in_err-number-2
 returns-in_err-number-2 c =
