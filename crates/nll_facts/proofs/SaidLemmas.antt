@@ -422,8 +422,7 @@ adds_said forms s t (next p q) h fine a =
     ap (insert_all same_pair []) (added_by edge_in forms (next p q) (p, q) refl)
     ∙ insert_all_push same_pair [] (filter_map edge_in forms) (p, q) in
     same_after forms (next p q) s h t _ a.takes.1 refl refl refl
-    (a.group ∙ omega (arith, reached_push forms (next p q))) a.takes.0 refl refl refl
-    (
+    (a.group ∙ omega (arith, reached_push forms (next p q))) a.takes.0 refl refl refl (
       subst (λ xs. SameSet xs t.problem.graph.edges) (sym more)
           (same_grown _ _ (p, q) _ _ h.problem.edges (adds_pair (edges_said forms) (p, q)) a.takes.2),
       ap length more ∙ length_grown _ _ (p, q) _ _ h.problem.edges h.edge_count
@@ -462,8 +461,7 @@ adds_said forms s t (constraint x y p) h fine a =
     same_after forms (constraint x y p) s h t _ a.takes.1 refl refl refl
     (a.group ∙ omega (arith, reached_push forms (constraint x y p))) a.takes.0 refl refl refl
     (edges_kept forms (constraint x y p) s h refl) (returns_kept forms (constraint x y p) s h refl)
-    (bases_kept forms (constraint x y p) s h refl)
-    (
+    (bases_kept forms (constraint x y p) s h refl) (
       subst (λ zs. SameSet zs t.problem.constraints) (sym more)
           (same_grown _ _ c _ _ h.problem.constraints (adds_constraint old c) adds),
       ap length more ∙ length_grown _ _ c _ _ h.problem.constraints h.constraint_count (adds_constraint old c) adds
