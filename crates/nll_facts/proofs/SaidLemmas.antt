@@ -277,8 +277,9 @@ module _ (forms : List Form) (f : Form) (s : Said) (h : SameSaid (said forms) s)
       → SameSet (filter_map (outlives_in (universals_said forms)) (forms ++ f ∷ [])) s.problem.outlives
   outlives_kept none = kept_set (outlives_in (universals_said forms)) forms f _ _ none h.problem.outlives refl
 
-  same_after : (t : Said) (r : Problem) → t.problem ≡ r → universal_in f ≡ None → further_in f ≡ None → points_in f ≡ None
-      → t.reached ≡ reached (forms ++ f ∷ []) → t.names ≡ s.names → r.graph.points ≡ s.problem.graph.points
+  same_after : (t : Said) (r : Problem) → t.problem ≡ r → universal_in f ≡ None → further_in f ≡ None
+      → points_in f ≡ None → t.reached ≡ reached (forms ++ f ∷ []) → t.names ≡ s.names
+      → r.graph.points ≡ s.problem.graph.points
       → r.graph.universals ≡ s.problem.graph.universals → r.regions ≡ s.problem.regions
       → SameFacts (edges_said (forms ++ f ∷ [])) r.graph.edges
       → SameSet (filter_map return_in (forms ++ f ∷ [])) r.graph.returns
@@ -420,9 +421,8 @@ adds_said forms s t (next p q) h fine a =
     let more : edges_said (forms ++ next p q ∷ []) ≡ insert_key same_pair (edges_said forms) (p, q) =
     ap (insert_all same_pair []) (added_by edge_in forms (next p q) (p, q) refl)
     ∙ insert_all_push same_pair [] (filter_map edge_in forms) (p, q) in
-    same_after forms (next p q) s h t _ a.takes.1 refl refl refl (a.group ∙ omega (arith, reached_push forms (next p q)))
-    a.takes.0 refl refl refl
-    (
+    same_after forms (next p q) s h t _ a.takes.1 refl refl refl
+    (a.group ∙ omega (arith, reached_push forms (next p q))) a.takes.0 refl refl refl (
       subst (λ xs. SameSet xs t.problem.graph.edges) (sym more)
           (same_grown _ _ (p, q) _ _ h.problem.edges (adds_pair (edges_said forms) (p, q)) a.takes.2),
       ap length more ∙ length_grown _ _ (p, q) _ _ h.problem.edges h.edge_count
@@ -432,15 +432,17 @@ adds_said forms s t (next p q) h fine a =
     (constraints_kept forms (next p q) s h refl) (outlives_kept forms (next p q) s h refl)
 adds_said forms s t (return p) h fine a =
     let before : reached forms ≤ 5 = omega (arith, ordered s.reached 5 true (in_order s (return p) fine), h.reached) in
-    same_after forms (return p) s h t _ a.takes.1 refl refl refl (a.group ∙ omega (arith, reached_push forms (return p)))
-    a.takes.0 refl refl refl (edges_kept forms (return p) s h refl)
+    same_after forms (return p) s h t _ a.takes.1 refl refl refl
+    (a.group ∙ omega (arith, reached_push forms (return p))) a.takes.0 refl refl refl
+    (edges_kept forms (return p) s h refl)
     (added_set return_in forms (return p) p _ _ refl h.problem.returns a.takes.2)
     (bases_kept forms (return p) s h refl) (constraints_kept forms (return p) s h refl)
     (outlives_kept forms (return p) s h refl)
 adds_said forms s t (base x p) h fine a =
     let before : reached forms ≤ 5 = omega (arith, ordered s.reached 5 true (in_order s (base x p) fine), h.reached) in
-    same_after forms (base x p) s h t _ a.takes.1 refl refl refl (a.group ∙ omega (arith, reached_push forms (base x p)))
-    a.takes.0 refl refl refl (edges_kept forms (base x p) s h refl) (returns_kept forms (base x p) s h refl)
+    same_after forms (base x p) s h t _ a.takes.1 refl refl refl
+    (a.group ∙ omega (arith, reached_push forms (base x p))) a.takes.0 refl refl refl
+    (edges_kept forms (base x p) s h refl) (returns_kept forms (base x p) s h refl)
     (added_set (base_in (names_said forms)) forms (base x p) _ _ _ refl h.problem.bases
     (subst (λ ns. AddsFact s.problem.bases t.problem.bases (number_of ns x, p)) (sym h.names) a.takes.2))
     (constraints_kept forms (base x p) s h refl) (outlives_kept forms (base x p) s h refl)
@@ -459,8 +461,7 @@ adds_said forms s t (constraint x y p) h fine a =
     same_after forms (constraint x y p) s h t _ a.takes.1 refl refl refl
     (a.group ∙ omega (arith, reached_push forms (constraint x y p))) a.takes.0 refl refl refl
     (edges_kept forms (constraint x y p) s h refl) (returns_kept forms (constraint x y p) s h refl)
-    (bases_kept forms (constraint x y p) s h refl)
-    (
+    (bases_kept forms (constraint x y p) s h refl) (
       subst (λ zs. SameSet zs t.problem.constraints) (sym more)
           (same_grown _ _ c _ _ h.problem.constraints (adds_constraint old c) adds),
       ap length more ∙ length_grown _ _ c _ _ h.problem.constraints h.constraint_count (adds_constraint old c) adds
@@ -469,8 +470,9 @@ adds_said forms s t (constraint x y p) h fine a =
     (outlives_kept forms (constraint x y p) s h refl)
 adds_said forms s t (end) h fine a =
     let before : reached forms ≤ 6 = omega (arith, ordered s.reached 6 false (in_order s (end) fine), h.reached) in
-    same_after forms (end) s h t _ a.takes.1 refl refl refl (a.group ∙ omega (arith, reached_push forms (end))) a.takes.0
-    refl refl refl (edges_kept forms (end) s h refl) (returns_kept forms (end) s h refl)
+    same_after forms (end) s h t _ a.takes.1 refl refl refl
+    (a.group ∙ omega (arith, reached_push forms (end))) a.takes.0 refl refl refl (edges_kept forms (end) s h refl)
+    (returns_kept forms (end) s h refl)
     (bases_kept forms (end) s h refl) (constraints_kept forms (end) s h refl) (outlives_kept forms (end) s h refl)
 
 -- what is said is the same as itself

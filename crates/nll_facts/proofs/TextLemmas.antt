@@ -1,7 +1,7 @@
 -- The last line that a facts text needs.
 use Rattle.std.proofs.Common.{◌≡◌, ℕ, suc, zero, ◌<◌, ◌≤◌, max, get_or, Contains, ⊎_elim, List, [], ◌∷◌, ◌⊎◌, inl, inr, length, refl, ap, arith}
 use Rattle.std.proofs.lemmas.Bool.{cases_eq}
-use Rattle.nll_facts.specs.FactsForms.{Form, points, universal, outlives, further, next, return, base, constraint, end}
+use Rattle.nll_facts.specs.FactsForms.{Form, end}
 use Rattle.nll_facts.specs.FactsSaid.{group, reached}
 
 -- the group of each line is reached

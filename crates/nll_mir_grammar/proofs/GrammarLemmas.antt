@@ -126,7 +126,8 @@ pub append_nil : {A : Type 0} (xs : List A) → xs ++ [] ≡ xs
 append_nil [] = refl
 append_nil (x ∷ xs) = ap (λ l. x ∷ l) (append_nil xs)
 
-pub flat_map_push : {A B : Type 0} (f : A → List B) (xs : List A) (a : A) → flat_map f (xs ++ a ∷ []) ≡ flat_map f xs ++ f a
+pub flat_map_push : {A B : Type 0} (f : A → List B) (xs : List A) (a : A)
+    → flat_map f (xs ++ a ∷ []) ≡ flat_map f xs ++ f a
 flat_map_push f xs a = flat_map-append f xs (a ∷ []) ∙ ap (λ l. flat_map f xs ++ l) (append_nil (f a))
 
 pub read_more : {A : Type 0} (g : Grammar A) (ts mid rest : List Token) (xs : List A) (a : A) → HasRead g ts xs mid

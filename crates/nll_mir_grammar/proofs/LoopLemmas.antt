@@ -10,7 +10,7 @@ use Rattle.nll_mir_grammar.specs.Reading.{HasNoType, IsTypeIn}
 use Rattle.nll_text.specs.Grammars.{HasNone, IsNotNext, regions}
 use Rattle.nll_text.specs.Grammars.{Begins as Starts}
 use Rattle.nll_mir_grammar.specs.TypeTexts.{Piece, plain, steps, argument_steps, add_region, begin_row, joined_arguments, written, IsType}
-use Rattle.nll_mir_grammar.specs.OpenTypes.{Frame, behind, parts, arguments, inputs, output, Steps, IsStuck, begun, complete, AreOpen, AreRead, ComesTo, GoesFurther, pending, EndsWith, takes_region}
+use Rattle.nll_mir_grammar.specs.OpenTypes.{Frame, parts, arguments, inputs, Steps, IsStuck, begun, complete, AreOpen, AreRead, ComesTo, GoesFurther, pending, EndsWith, takes_region}
 use Rattle.nll_mir_grammar.specs.declared.opens.State.{State}
 use Rattle.nll_mir_grammar.specs.declared.opens.State.TheVariants.{Want, WantArgument, Have, Inside, WantArrow}
 use Rattle.nll_mir_grammar.specs.declared.opens.Open.{Open}

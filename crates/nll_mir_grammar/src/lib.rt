@@ -1,7 +1,7 @@
 //! The grammar of MIR texts: from the bytes of a line to its form, and of the types in it.
 //!
-//! Reading order: `words`; of types `type_text`, `fronts`, `opens`, `type_reader`; then `lists`, the
-//! parts of lines, and `form_reader`.
+//! Reading order: `words`; of types `type_text`, `fronts`, `opens`, `type_reader`; then `lists`,
+//! the parts of lines, and `form_reader`.
 #![tactic(auto)]
 
 mod arguments;

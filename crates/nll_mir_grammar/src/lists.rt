@@ -1,4 +1,4 @@
-//! Values parted by commas.
+//! Values separated by commas.
 
 ghost use Rattle.std.specs.Prelude.{◌≡◌, ◌≤◌, [], ◌∷◌, ◌++◌, IfOk, MatchOption, OnOk, map};
 ghost use Rattle.nll_text.specs.Tokens as lex;
@@ -81,7 +81,7 @@ fn next<'a, T: Listed<'a>>(
     }
 }
 
-/// Adds values parted by commas to the list, as many as there are.
+/// Adds values separated by commas to the list, as many as there are.
 pub fn list<'a, T: Listed<'a>>(
     alloc: Global,
     line: &'a [u8],

@@ -1,11 +1,12 @@
 -- What single tokens at the front of the rest of a line are read from.
-use Rattle.std.proofs.Common.{◌≡◌, ℕ, ◌-◌, ◌<◌, true, false, List, [], ◌∷◌, ◌++◌, length, take, drop, get_or, refl, sym, ap, ◌∙◌, arith, append_assoc, Option, Some, None, MatchOption, one-add}
+use Rattle.std.proofs.Common.{◌≡◌, ℕ, ◌-◌, ◌<◌, ◌≤◌, true, false, List, [], ◌∷◌, ◌++◌, length, take, drop, get_or, refl, sym, ap, ◌∙◌, arith, append_assoc, Option, Some, None, MatchOption, one-add}
 use Rattle.std.specs.Borrow.{Bor}
-use Rattle.std.specs.List.{IsSplitAt}
+use Rattle.std.specs.List.{IsSplitAt, prefix_len}
+use Rattle.std.specs.Prelude.{IfSome}
 use Rattle.std.specs.Fmt.{decimal}
 use Rattle.std.proofs.lemmas.Bool.{false≢true}
 use Rattle.std.proofs.Math.Seq.{take-append_seam, drop-append_seam}
-use Rattle.std.proofs.lemmas.List.{length-append, length-drop, take-append-drop, take_all}
+use Rattle.std.proofs.lemmas.List.{length-append, length-drop, length-take, take-append-drop, take_all}
 use Rattle.nll_text.specs.Lines.{is_blank, without_front_blanks}
 use Rattle.nll_text.specs.Tokens.{Token, word, region, arrow, sign, is_word_byte, is_arrow, IsWord, first_passes}
 use Rattle.nll_text.specs.Lexing.{SplitsWhile}
@@ -228,3 +229,36 @@ module _ (core : List ℕ) (solid : first_passes is_blank core ≡ false) (w : L
         let joined : core ≡ w ++ rest = sym (take-append-drop (length w) core)
         ∙ rw (sym split.1, sym split.2, same) refl in
         ap tokens_in joined ∙ word_in_front w rest is (sym off)
+
+-- ---- what is left is shorter
+
+module _ (line core : List ℕ) (cut : core ≡ without_front_blanks line) where
+  core_within : length core ≤ length line
+  core_within = omega (arith, ap length cut, length-drop (prefix_len is_blank line) line)
+
+  pub shorter_split : (front rest : List ℕ) → SplitsWhile is_word_byte core front rest → 0 < length front
+      → length rest < length line
+  shorter_split front rest s some = omega (arith, core_within, ap length s.joined, length-append front rest)
+
+  pub shorter_region : (bs name rest : List ℕ) → core ≡ 39 ∷ bs → SplitsWhile is_word_byte bs name rest
+      → length rest < length line
+  shorter_region bs name rest e s =
+      omega (arith, core_within, ap length e, ap length s.joined, length-append name rest)
+
+  pub shorter_word : (w front rest : List ℕ) → 0 < length w → IsSplitAt core (length w) front rest → front ≡ w
+      → length rest < length line
+  shorter_word w front rest some split same = omega (
+    arith,
+    core_within,
+    ap length same,
+    ap length split.1,
+    ap length split.2,
+    length-take (length w) core,
+    length-drop (length w) core,
+  )
+
+  pub shorter_number : (o : Option (ℕ × Bor (List ℕ)))
+      → MatchOption o (IsNoNumber core) (λ q. IsNumberIn core q.0 q.1.now)
+      → IfSome o (λ q. length q.1.now < length line)
+  shorter_number None none = tt
+  shorter_number (Some q) found = shorter_split found.0 q.1.now found.1 (number_form found.0 q.0 found.2).some

@@ -36,8 +36,9 @@ pub fn after_arrow<'a>(line: &'a [u8]) -> Option<&'a [u8]>
 /// What follows this word, where it comes next.
 pub fn after_word<'a>(line: &'a [u8], word: &[u8]) -> Option<&'a [u8]>
     requires { IsWord word.now }
-    ensures { MatchOption result (IsNotNext (tokens.word word.now) (tokens_in line.now))
+    ensures begins { MatchOption result (IsNotNext (tokens.word word.now) (tokens_in line.now))
         (λ rest. tokens_in line.now ≡ tokens.word word.now ∷ tokens_in rest.now) }
+    ensures shorter { IfSome result (λ rest. length rest.now < length line.now) }
 {
     let core = behind_gap(line);
     let (front, rest) = core.split_at_checked(word.len())?;
@@ -64,8 +65,9 @@ pub fn word_at<'a>(line: &'a [u8]) -> Option<(&'a [u8], &'a [u8])>
 
 /// The name of the region at the front, and what follows it.
 pub fn region_at<'a>(line: &'a [u8]) -> Option<(&'a [u8], &'a [u8])>
-    ensures { MatchOption result (HasNone regions (tokens_in line.now))
+    ensures begins { MatchOption result (HasNone regions (tokens_in line.now))
         (λ p. Begins regions (tokens_in line.now) p.0.now (tokens_in p.1.now)) }
+    ensures shorter { IfSome result (λ p. length p.1.now < length line.now) }
 {
     let [b'\'', behind @ ..] = behind_gap(line) else {
         return None;
@@ -79,8 +81,9 @@ pub fn region_at<'a>(line: &'a [u8]) -> Option<(&'a [u8], &'a [u8])>
 
 /// The number at the front, and what follows it.
 pub fn number_at<'a>(line: &'a [u8]) -> Option<(u32, &'a [u8])>
-    ensures { MatchOption result (HasNone numbers (tokens_in line.now))
+    ensures begins { MatchOption result (HasNone numbers (tokens_in line.now))
         (λ p. Begins numbers (tokens_in line.now) p.0 (tokens_in p.1.now)) }
+    ensures shorter { IfSome result (λ p. length p.1.now < length line.now) }
 {
     number_in_front(behind_gap(line))
 }

@@ -3,11 +3,11 @@ use Rattle.nll_format.proofs.PartLemmas.{no_region_first, spells_more, spells_re
 use Rattle.nll_facts.proofs.line.region_place.Goals as goal
 
 pub returns-in_err-name : goal.returns-in_err-name
-returns-in_err-name c = rw c.from_residual.ensures (λ n h. no_region_first _ n.0 _ c.in_err-name.ensures h)
+returns-in_err-name c = rw c.from_residual.ensures (λ n h. no_region_first _ n.0 _ c.in_err-name.ensures.begins h)
 
 pub returns-in_err-at : goal.returns-in_err-at
 returns-in_err-at c = rw c.from_residual-in_err-at.ensures
-    (λ n h. c.in_err-at.ensures n.1 (spells_rest _ _ _ _ _ c.in_ok-name.ensures.joined h).1)
+    (λ n h. c.in_err-at.ensures n.1 (spells_rest _ _ _ _ _ c.in_ok-name.ensures.begins.joined h).1)
 
 pub returns : goal.returns
-returns c = spells_more _ _ (parts.region _) _ c.in_ok-name.ensures.joined tt c.in_ok-at.ensures
+returns c = spells_more _ _ (parts.region _) _ c.in_ok-name.ensures.begins.joined tt c.in_ok-at.ensures

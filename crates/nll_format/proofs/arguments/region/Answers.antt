@@ -3,11 +3,11 @@ use Rattle.nll_format.proofs.PartLemmas.{no_region_first, spells_more, spells_re
 use Rattle.nll_format.proofs.arguments.region.Goals as goal
 
 pub returns-in_err-name : goal.returns-in_err-name
-returns-in_err-name c = rw c.from_residual.ensures (λ n h. no_region_first _ n _ c.in_err-name.ensures h)
+returns-in_err-name c = rw c.from_residual.ensures (λ n h. no_region_first _ n _ c.in_err-name.ensures.begins h)
 
 pub returns-in_err-nothing : goal.returns-in_err-nothing
 returns-in_err-nothing c = rw c.from_residual-in_err-nothing.ensures
-    (λ x h. c.in_err-nothing.ensures tt (spells_rest _ _ _ _ _ c.in_ok-name.ensures.joined h).1)
+    (λ x h. c.in_err-nothing.ensures tt (spells_rest _ _ _ _ _ c.in_ok-name.ensures.begins.joined h).1)
 
 pub returns : goal.returns
-returns c = spells_more _ _ (parts.region _) _ c.in_ok-name.ensures.joined tt c.in_ok-nothing.ensures
+returns c = spells_more _ _ (parts.region _) _ c.in_ok-name.ensures.begins.joined tt c.in_ok-nothing.ensures
