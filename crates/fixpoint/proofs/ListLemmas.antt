@@ -90,7 +90,8 @@ take_suc [] n x h = absurd (let l = slice_get_within [] n x h in omega arith)
 take_suc (y ∷ ys) zero x h = ap (λ z. z ∷ []) (cc h)
 take_suc (y ∷ ys) (suc n) x h = ap (λ zs. y ∷ zs) (take_suc ys n x h)
 
-pub take_more : {X : Type 0} (xs : List X) (n : ℕ) (x : X) → slice_get xs n ≡ Some x → take (n + 1) xs ≡ take n xs ++ x ∷ []
+pub take_more : {X : Type 0} (xs : List X) (n : ℕ) (x : X) → slice_get xs n ≡ Some x
+    → take (n + 1) xs ≡ take n xs ++ x ∷ []
 take_more xs n x h = let e : n + 1 ≡ suc n = omega arith in ap (λ k. take k xs) e ∙ take_suc xs n x h
 
 pub take_length : {X : Type 0} (xs : List X) (n : ℕ) → n ≤ length xs → length (take n xs) ≡ n

@@ -5,8 +5,7 @@ use Rattle.nll_problem.specs.Problem.{Problem, IsSound as IsSoundProblem}
 use Rattle.nll_cut.specs.Partition.{Cut}
 use Rattle.nll_owner.specs.Logs.{IsCutOf}
 use Rattle.fixpoint.proofs.RankLemmas.{ranks_low}
-use Rattle.nll_owner.specs.Owner.{Owner}
-use Rattle.nll_owner.specs.Regions.{System, IsValid, system_of, part_of, rules}
+use Rattle.nll_owner.specs.Regions.{IsValid, system_of, part_of, rules}
 use Rattle.nll_owner.specs.RegionsLawful.{regions_lawful}
 use Rattle.nll_owner.proofs.RegionLemmas.{part_sound}
 use Rattle.nll_model.specs.State.{Seat, State, IsAt, first_seat}

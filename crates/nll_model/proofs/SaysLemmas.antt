@@ -5,7 +5,7 @@ use Rattle.std.proofs.lemmas.List.{get_or_append_left, get_or_past, get_or_push,
 use Rattle.std.proofs.lemmas.Option.{slice_get_within}
 use Rattle.nll_sets.specs.ElementSet.{flag}
 use Rattle.nll_core.specs.Search.{IsIn}
-use Rattle.nll_core.specs.Values.{set_of, IsHeld, IsShaped}
+use Rattle.nll_core.specs.Values.{set_of, IsHeld}
 use Rattle.nll_problem.specs.Graph.{element_count}
 use Rattle.nll_problem.specs.Problem.{Problem}
 use Rattle.nll_cut.specs.Partition.{Cut, owner_of}

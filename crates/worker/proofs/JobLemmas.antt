@@ -1,9 +1,8 @@
 -- Lists of jobs, and what comes of each.
 use Rattle.std.proofs.Common.{◌≡◌, ℕ, zero, suc, ◌+◌, List, [], ◌∷◌, inl, inr, length, slice_get, Some, refl, ap, sym, subst, arith}
-use Rattle.std.specs.Prelude.{◌⊎◌, Bool, true, Result, Ok, Err, IfOk, IfErr}
-use Rattle.worker.specs.Jobs.{AllOf, AlikeFrom, Becomes, Each}
-use Rattle.worker.specs.declared.job.Start.{Start}
-use Rattle.worker.specs.declared.job.Start.TheVariants.{Made, Failed}
+use Rattle.std.specs.Prelude.{Bool, true, Result, Ok, Err, IfOk}
+use Rattle.worker.specs.Jobs.{AlikeFrom, Becomes, Each}
+use Rattle.worker.specs.declared.job.Start.TheVariants.{Made}
 use Rattle.worker.specs.Finishing.{EndsAs, IsAnswered}
 use Rattle.fixpoint.specs.declared.ending.Ending.{Ending}
 use Rattle.fixpoint.specs.declared.ending.Ending.TheVariants as endings

@@ -1,6 +1,6 @@
 -- Lists of ends, and what is read off them.
 use Rattle.std.proofs.Common.{append-nil, ◌≡◌, ◌<◌, ℕ, zero, suc, List, [], ◌∷◌, ◌++◌, length, map, slice_index_or, slice_set, refl, ap, sym, ◌∙◌, subst, arith}
-use Rattle.std.specs.Prelude.{Result, Ok, Err, OnOk, IsFalse, is_err, Bool, Option, Some, None, slice_get}
+use Rattle.std.specs.Prelude.{Option, Some, None, slice_get}
 use Rattle.mail.specs.declared.mail.Mail as Mail
 use Rattle.worker.specs.Mailboxes.{Alike, Both, HasEnds, Stays, Keeps, Shuts, through}
 

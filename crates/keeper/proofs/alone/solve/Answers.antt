@@ -21,29 +21,16 @@ settle-requires-clause-due g c =
     (due_first r law c.args.engine.now sound.valid 0 _ c.new-due.result.items c.begin.new.found.items
     (first_has r law c.args.engine.now sound.valid 0 sound.me) c.new-due.ensures.items c.in_ok-begin.ensures)
 
-pub returns-clause-exact : goal.returns-clause-exact
-returns-clause-exact g c =
+pub returns : goal.returns
+returns g c =
+    let r = g.E.Rules.rules in
+    let law = g.met.E.Rules.lawful in
     let o = c.settle.new.book in
+    let done = c.in_ok-settle.ensures.done in
     let is : o.system ≡ c.args.engine.now = ap (λ (s : State _ _). s.system) c.settle.ensures.grows.others
     ∙ ap (λ (s : State _ _). s.system) c.in_ok-book.ensures in
-    rw (c.into_log.ensures, ← is)
-    (tells_least g.E.Rules.rules g.met.E.Rules.lawful o (rw is c.requires) c.settle.ensures.sound
-    c.in_ok-settle.ensures.done)
-
-pub returns-clause-sound : goal.returns-clause-sound
-returns-clause-sound g c =
-    let o = c.settle.new.book in
-    let is : o.system ≡ c.args.engine.now = ap (λ (s : State _ _). s.system) c.settle.ensures.grows.others
-    ∙ ap (λ (s : State _ _). s.system) c.in_ok-book.ensures in
-    rw (c.into_log.ensures, ← is)
-    (logs_sound g.E.Rules.rules g.met.E.Rules.lawful o (rw is c.requires) c.settle.ensures.sound
-    c.in_ok-settle.ensures.done)
-
-pub returns-clause-ranked : goal.returns-clause-ranked
-returns-clause-ranked g c =
-    let o = c.settle.new.book in
-    let is : o.system ≡ c.args.engine.now = ap (λ (s : State _ _). s.system) c.settle.ensures.grows.others
-    ∙ ap (λ (s : State _ _). s.system) c.in_ok-book.ensures in
-    rw (c.into_log.ensures, ← is)
-    (logs_ranked g.E.Rules.rules g.met.E.Rules.lawful o (rw is c.requires) c.settle.ensures.sound
-    c.in_ok-settle.ensures.done)
+    rw (c.into_log.ensures, ← is) (record {
+      exact = tells_least r law o (rw is c.requires) c.settle.ensures.sound done;
+      sound = logs_sound r law o (rw is c.requires) c.settle.ensures.sound done;
+      ranked = logs_ranked r law o (rw is c.requires) c.settle.ensures.sound done;
+    })
