@@ -90,7 +90,8 @@ pub record IsReady (r : Reader) : Type 0 where
   pub named_structs : length r.structs.names ≡ length r.variables.types.table.structs
   pub counted_kinds : length r.structs.kinds.items ≡ length r.variables.types.table.structs
   pub kinds :
-      AreKinds (map (λ ks. ks.items) r.structs.kinds.items) (structs_of r.variables.types.table.structs)
+      AreKinds (map (λ ks. ks.items) r.structs.kinds.items)
+      (structs_of r.variables.types.table.structs)
   pub few_structs : length r.variables.types.table.structs ≤ most_structs
   pub few_variables : length r.variables.typed.items ≤ most_variables
   pub rows : HaveRows r.variables.types r.variables.typed.items r.points.statements.items

@@ -19,8 +19,8 @@ use Rattle.nll_rules.specs.declared.layer.Layer.{Layer}
 use Rattle.nll_rules.specs.declared.parts.Part.{Part}
 use Rattle.nll_rules.specs.declared.meetings.Meeting.{Meeting}
 
--- The structs that are declared, the shapes and the regions of the body's types, its statements over
--- them, the types of the variables, and the types that have numbers.
+-- The structs that are declared, the shapes and the regions of the body's types, its statements
+-- over them, the types of the variables, and the types that have numbers.
 pub record KnownTypes : Type 0 where
   pub structs : List Struct
   pub shapes : List Node
