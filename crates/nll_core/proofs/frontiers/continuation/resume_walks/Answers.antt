@@ -3,8 +3,7 @@ use Rattle.nll_core.proofs.ResumeLemmas.{walks_had, walks_idle, resumed, resumed
     lists_resumed_ends}
 use Rattle.nll_core.proofs.ListingLemmas.{lists_none}
 use Rattle.nll_core.proofs.frontiers.continuation.resume_walks.Goals as goal
-use
-    Rattle.nll_core.proofs.frontiers.continuation.resume_walks.Goals.{then-begins_nothing-via-then-begins_nothing, then-begins_nothing-via-else-begins_nothing+then-has_whole}
+use Rattle.nll_core.proofs.frontiers.continuation.resume_walks.Goals.{then-begins_nothing-via-then-begins_nothing, then-begins_nothing-via-else-begins_nothing+then-has_whole}
 
 pub returns-then-begins_nothing-clause-after : goal.returns-then-begins_nothing-clause-after
 returns-then-begins_nothing-clause-after c = elim c.then-begins_nothing.branch [
