@@ -23,7 +23,7 @@ use Rattle.nll_format.specs.Text.{Says, IsText}
 use Rattle.nll_body.specs.Edges.{edges_from, edge_count}
 use Rattle.nll_body.specs.Sound.{IsSound}
 use Rattle.nll_body.specs.WellTyped.{IsWellTyped}
-use Rattle.nll_body.proofs.PointLemmas.{same_targets, same_end}
+use Rattle.nll_statements.proofs.MapLemmas.{same_edges, same_targets, same_terminator}
 use Rattle.nll_mir_text.specs.MirSaid.{Said, said, scope_inside}
 use Rattle.nll_mir_text.specs.StructLines.{is_region}
 use Rattle.nll_mir_text.specs.MirSteps.{says, nothing_said, declared, statement_meant}
@@ -72,10 +72,6 @@ ends_behind : (points : List (Statement ℕ TypeTree)) (i : Statement ℕ TypeTr
     → length points + 1 < ends (points ++ i ∷ []) (not t)
 ends_behind points i true e = absurd cc
 ends_behind points i false e = omega (arith, length-append points (i ∷ []))
-
-same_edges : {R S T U : Type 0} (f : R → S) (g : T → U) (i : Statement R T)
-    → edges_from (map_statement f g i) ≡ edges_from i
-same_edges f g i = rw (same_end f g i, same_targets f g i) refl
 
 -- What stands at the points leads to points and blocks, and the blocks begin at points.
 record ArePlaced (reached count : ℕ) (starts : List ℕ) (points : List (Statement ℕ TypeTree))
@@ -518,7 +514,7 @@ module _ (s : Said) (w : IsWell s) where
         goes_on = λ q k at plain. ⊎_elim
             (λ old. (let l = p.goes_on q k old plain in omega (arith, l, before, after)))
             (λ new. (let l = ends_behind s.points j (is_terminator i)
-            (sym (same_end (number_of s.scope.regions) (meant s.scope) i) ∙ (ap is_terminator (sym new.1) ∙ plain))
+            (sym (same_terminator (number_of s.scope.regions) (meant s.scope) i) ∙ (ap is_terminator (sym new.1) ∙ plain))
             in omega (arith, new.0, l)))
             (pushed_at s.points j q k at);
         leads = λ q b k at leads. ⊎_elim
