@@ -56,7 +56,8 @@ borrow_resolved s types p r m q None h = rw h refl
 borrow_resolved s types p r m q (Some i) h = rw h.1 (record { known = rw h.0 refl; rows = none _; meant = refl })
 
 -- the flag of one
-pub borrow_fits : (s : Scope) (p : Place) (r : Bor (List ℕ)) (m : Bool) (q : Place) (old : Bool) (o : Option (Kept ℕ Typed))
+pub borrow_fits : (s : Scope) (p : Place) (r : Bor (List ℕ)) (m : Bool) (q : Place) (old : Bool)
+    (o : Option (Kept ℕ Typed))
     → FitOf s (as_written (kept.Borrow p r m q)) old old o
 borrow_fits s p r m q old None = tt
 borrow_fits s p r m q old (Some i) = sym (and_true old)

@@ -514,7 +514,8 @@ module _ (s : Said) (w : IsWell s) where
         goes_on = λ q k at plain. ⊎_elim
             (λ old. (let l = p.goes_on q k old plain in omega (arith, l, before, after)))
             (λ new. (let l = ends_behind s.points j (is_terminator i)
-            (sym (same_terminator (number_of s.scope.regions) (meant s.scope) i) ∙ (ap is_terminator (sym new.1) ∙ plain))
+            (sym (same_terminator (number_of s.scope.regions) (meant s.scope) i)
+            ∙ (ap is_terminator (sym new.1) ∙ plain))
             in omega (arith, new.0, l)))
             (pushed_at s.points j q k at);
         leads = λ q b k at leads. ⊎_elim

@@ -103,7 +103,11 @@ module _ (r : Reader) (own : OwnNames) (text : StructText) (due : IsDue r (struc
         ≡ map (λ ks. ks.items) r.structs.kinds.items ++ map is_region parameters ∷ [])
         (none : s.none ≡ r.structs.none) where
       abbrev after : Reader
-      after = record r { reached = Structs; structs = s; variables = record r.variables { types = record r.variables.types { table = t } } }
+      after = record r {
+        reached = Structs;
+        structs = s;
+        variables = record r.variables { types = record r.variables.types { table = t } };
+      }
 
       more_structs : structs_of t.structs ≡ structs_of r.variables.types.table.structs ++ more ∷ []
       more_structs = ap structs_of structs
@@ -167,7 +171,8 @@ module _ (r : Reader) (own : OwnNames) (text : StructText) (due : IsDue r (struc
           few_structs = omega (arith, more_counted, is_fine.few, counted_structs);
           few_variables = due.ready.few_variables;
           rows = record {
-            variables = subst (λ (ns : List Node). All (HasRow ns r.variables.types.regions.items) r.variables.typed.items)
+            variables = subst
+                (λ (ns : List Node). All (HasRow ns r.variables.types.regions.items) r.variables.typed.items)
                 (sym shapes) due.ready.rows.variables;
             points = subst (λ (ns : List Node). All (λ (i : Kept ℕ Typed).
                 HasRows ns r.variables.types.regions.items (statement_of i)) r.points.statements.items)

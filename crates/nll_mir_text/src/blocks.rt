@@ -186,7 +186,13 @@ impl Reader {
             (λ i. IsPlaced self.new (as_written statement.entry) i fits.new)) }
     {
         let scope = scope_in(&self.regions, &self.structs);
-        resolve_statement(self.alloc, &scope, statement, &mut self.variables.types, fits)
+        resolve_statement(
+            self.alloc,
+            &scope,
+            statement,
+            &mut self.variables.types,
+            fits,
+        )
     }
 
     /// Adds the statement at the next point.

@@ -184,12 +184,7 @@ impl Reader {
 
     // Declares a variable of this type, the names in which have the arguments that they take or
     // not.
-    fn add_resolved_variable(
-        &mut self,
-        number: u32,
-        ty: Typed,
-        fits: bool,
-    ) -> Result<(), TextKind>
+    fn add_resolved_variable(&mut self, number: u32, ty: Typed, fits: bool) -> Result<(), TextKind>
         requires ready { IsReady self.old }
         requires within { ty.shape < length self.old.variables.types.table.shapes }
         ensures taken { OnOk result ((t : WrittenType) → IsOfVariable self.old number t ty fits
@@ -346,10 +341,7 @@ impl Reader {
     {
         let parameters = text.parameters.as_slice();
         let declaration = declaration(self.alloc, text, &self.variables.types, fields)?;
-        self.variables
-            .types
-            .table
-            .declare(self.alloc, declaration)?;
+        self.variables.types.table.declare(self.alloc, declaration)?;
         let kinds = kinds(self.alloc, parameters)?;
         self.structs.add(self.alloc, text.name, kinds)?;
         self.reached = Group::Structs;

@@ -8,8 +8,8 @@ ghost use Rattle.nll_mir_text.specs.MirReading as spec;
 
 use indexmap::IndexSet;
 use nll_format::Names;
-use nll_sets::Memory;
 use nll_resolve::Scope;
+use nll_sets::Memory;
 use nll_statements::Stmt;
 use nll_types::{BodyTypes, Typed};
 use std::alloc::Global;

@@ -30,7 +30,8 @@ filled_push : (known : List Shape) (is : List ℕ) (i : ℕ) (rs : List ℕ)
     )
 filled_push known [] i rs = refl
 filled_push known (j ∷ is) i rs =
-    ap (λ (q : AllFilled). (more (filled (at known j) rs).0 q.0, q.1)) (filled_push known is i (filled (at known j) rs).1)
+    ap (λ (q : AllFilled). (more (filled (at known j) rs).0 q.0, q.1))
+    (filled_push known is i (filled (at known j) rs).1)
 
 pub filled_more : (known : List Shape) (is : List ℕ) (k d : ℕ) (rs : List ℕ) (made : List Ty) (rest next : List ℕ)
     (t : Ty) → k < length is → AreFilled known (take k is) rs made rest

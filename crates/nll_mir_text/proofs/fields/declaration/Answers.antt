@@ -21,4 +21,5 @@ returns-clause-has_drop c = c.declared_with.ensures.has_drop
 
 pub returns-clause-fields : goal.returns-clause-fields
 returns-clause-fields c = IfOk-weaker c.declared_with.result _ _
-    (λ d same. λ ts is. ap (λ v. trees v.items) same ∙ c.parts_of-fields.ensures ts (c.in_ok-tree.ensures ∙ is)) c.declared_with.ensures.fields
+    (λ d same. λ ts is. ap (λ v. trees v.items) same ∙ c.parts_of-fields.ensures ts (c.in_ok-tree.ensures ∙ is))
+    c.declared_with.ensures.fields

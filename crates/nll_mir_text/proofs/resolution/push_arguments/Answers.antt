@@ -14,6 +14,7 @@ loop-argument-preserved c =
       amid = amid_more (scope_of c.args.scope.now) _ _ _ _ _ _ _ c.in-Some.argument
           c.in-Some-2.resolved steps.0 e.adds c.in_ok-push-in-Some-2.ensures.items made.0 made.1 l.invariant.amid;
       adds = adds_then _ _ _ l.invariant.adds e.adds;
-      fits = flag_more (scope_of c.args.scope.now) (into_iter_items l.argument-iterator) _ l.fits _ _ _ steps.0 e.fits l.invariant.fits;
+      fits = flag_more (scope_of c.args.scope.now) (into_iter_items l.argument-iterator) _ l.fits _ _ _
+          steps.0 e.fits l.invariant.fits;
       counted = omega (arith, steps.1, ap length steps.0, l.invariant.counted);
     }

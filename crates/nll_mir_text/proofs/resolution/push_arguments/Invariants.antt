@@ -14,7 +14,8 @@ invariant-loop-argument l = record {
   amid : AreAmid (scope_of l.scope) (into_iter_items l.initial.argument-iterator)
       (into_iter_items l.argument-iterator) l.types l.made.items;
   adds : AddsTypes l.fn.types l.types;
-  fits : (l.fits && list_all (λ a. has_arguments (scope_of l.scope) (written a.1)) (into_iter_items l.argument-iterator))
+  fits : (l.fits && list_all (λ a. has_arguments (scope_of l.scope) (written a.1))
+      (into_iter_items l.argument-iterator))
       ≡ (l.fn.fits && list_all (λ a. has_arguments (scope_of l.scope) (written a.1))
       (into_iter_items l.initial.argument-iterator));
   counted : into_iter_len l.argument-iterator ≡ length (into_iter_items l.argument-iterator);

@@ -36,7 +36,8 @@ add_resolved_struct-requires-clause-fits c =
 
 pub returns-in-Some-clause-taken : goal.returns-in-Some-clause-taken
 returns-in-Some-clause-taken c = on_ok_weaker c.add_resolved_struct.result
-    (subst (λ s. IsTaken s (struct_form c.args.text.now) c.add_resolved_struct.new.self) c.in_ok-fields.ensures.grown.said)
+    (subst (λ s. IsTaken s (struct_form c.args.text.now) c.add_resolved_struct.new.self)
+    c.in_ok-fields.ensures.grown.said)
     c.add_resolved_struct.ensures.taken
 
 pub returns-in-Some-clause-refused : goal.returns-in-Some-clause-refused

@@ -26,7 +26,8 @@ counted r = length-map r.variables.typed.items
 
 next_is : (r : Reader) (x n : ℕ) → n ≡ vec_len r.variables.typed → x ≡ n
     → (x == length (said_by r).variables) ≡ true
-next_is r x n e same = eq-eqb x (length (said_by r).variables) (omega (arith, counted r, e, same, r.variables.typed.ok.0))
+next_is r x n e same =
+    eq-eqb x (length (said_by r).variables) (omega (arith, counted r, e, same, r.variables.typed.ok.0))
 
 pub returns-then-number-len-clause-refused : goal.returns-then-number-len-clause-refused
 returns-then-number-len-clause-refused c = λ t of.

@@ -10,7 +10,8 @@ pub add_resolved-requires-clause-ready : goal.add_resolved-requires-clause-ready
 add_resolved-requires-clause-ready c = c.in_ok-resolved.ensures.grown.ready
 
 pub add_resolved-requires-clause-rows : goal.add_resolved-requires-clause-rows
-add_resolved-requires-clause-rows c = let placed = rw c.in-Some.is at c.in_ok-resolved.ensures.resolved in placed.of.rows
+add_resolved-requires-clause-rows c =
+    let placed = rw c.in-Some.is at c.in_ok-resolved.ensures.resolved in placed.of.rows
 
 pub returns-in-Some-clause-taken : goal.returns-in-Some-clause-taken
 returns-in-Some-clause-taken c =

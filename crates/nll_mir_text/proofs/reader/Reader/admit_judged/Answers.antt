@@ -69,7 +69,14 @@ returns-then-edges-gt-MAX_EDGES-clause-refused c = λ i fits placed told.
     inr (too_many_edges s i placed.order known blocks (sym told.fits ∙ (not-false _ c.if-not-judged-2.false))
     (sym (told.fits_small (not-false _ c.if-not-judged-2.false)) ∙ (not-false _ c.if-not-judged-3.false))
     (omega (arith, counted c.args.self.now, c.len.ensures, c.args.self.now.points.statements.ok.0, c.if-len.false))
-    (omega (arith, c.requires.exits.edges, edges, c.requires.ready.edges, same_count c.args.self.now, c.if-edges-gt-MAX_EDGES.true)))
+    (omega (
+      arith,
+      c.requires.exits.edges,
+      edges,
+      c.requires.ready.edges,
+      same_count c.args.self.now,
+      c.if-edges-gt-MAX_EDGES.true,
+    )))
 
 pub returns-clause-admitted : goal.returns-clause-admitted
 returns-clause-admitted c = λ i fits placed told.
@@ -83,8 +90,21 @@ returns-clause-admitted c = λ i fits placed told.
     record {
       fine = no_fault s i placed.order known blocks (sym told.fits ∙ (not-false _ c.if-not-judged-2.false))
           (sym (told.fits_small (not-false _ c.if-not-judged-2.false)) ∙ (not-false _ c.if-not-judged-3.false))
-          (omega (arith, counted c.args.self.now, c.len.ensures, c.args.self.now.points.statements.ok.0, c.if-len.false))
-          (omega (arith, c.requires.exits.edges, edges, c.requires.ready.edges, same_count c.args.self.now, c.if-edges-gt-MAX_EDGES.false));
+          (omega (
+            arith,
+            counted c.args.self.now,
+            c.len.ensures,
+            c.args.self.now.points.statements.ok.0,
+            c.if-len.false,
+          ))
+          (omega (
+            arith,
+            c.requires.exits.edges,
+            edges,
+            c.requires.ready.edges,
+            same_count c.args.self.now,
+            c.if-edges-gt-MAX_EDGES.false,
+          ));
       same = refl;
       ready = c.requires.ready;
       few = omega (arith, c.len.ensures, c.args.self.now.points.statements.ok.0, c.if-len.false);

@@ -14,7 +14,8 @@ judge_statement-requires-clause-written c = below_rows _ _ _ c.requires.rows
 
 pub returns-clause-grown : goal.returns-clause-grown
 returns-clause-grown c =
-    is_grown c.args.self.now _ (adds_table c.args.self.now.variables.types _ c.in_ok-judged.ensures.grows) c.requires.ready
+    is_grown c.args.self.now _ (adds_table c.args.self.now.variables.types _ c.in_ok-judged.ensures.grows)
+    c.requires.ready
 
 pub returns-clause-judged : goal.returns-clause-judged
 returns-clause-judged c = λ i placed.
@@ -24,5 +25,6 @@ returns-clause-judged c = λ i placed.
     let judged = e.judged _ (λ (r : ℕ). r) tree (have_shapes _ _ _ c.requires.ready.rows.variables)
     (have_shapes _ _ _ c.requires.rows) in (
       point_judged r i c.args.statement.now c.args.fits placed c.in_ok-judged.judged _ refl refl refl e.declared judged,
-      placed_grown r _ (adds_table r.variables.types _ e.grows) c.requires.ready i c.args.statement.now c.args.fits placed,
+      placed_grown r _ (adds_table r.variables.types _ e.grows)
+          c.requires.ready i c.args.statement.now c.args.fits placed,
     )

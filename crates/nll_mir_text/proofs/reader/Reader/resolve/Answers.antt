@@ -20,7 +20,8 @@ returns-clause-resolved c =
     let made = subst (λ (s : Scope). IfOk c.resolve_statement.result (MadeOf s i c.resolve_statement.new.types))
     c.scope_in-scope.ensures c.resolve_statement.ensures.made in
     let fits = subst (λ (s : Scope). IfOk c.resolve_statement.result
-    (FitOf s i c.args.fits.now c.resolve_statement.new.fits)) c.scope_in-scope.ensures c.resolve_statement.ensures.fits in
+    (FitOf s i c.args.fits.now c.resolve_statement.new.fits))
+    c.scope_in-scope.ensures c.resolve_statement.ensures.fits in
     placed_of c.args.self.now c.resolve_statement.new.types i c.resolve_statement.result c.args.fits.now
     c.resolve_statement.new.fits c.requires.ready c.requires.order c.requires.fitting
     c.resolve_statement.ensures.adds made fits

@@ -19,7 +19,8 @@ returns-clause-grown c = IfOk-weaker c.resolve.result _ _
 pub returns-clause-fits : goal.returns-clause-fits
 returns-clause-fits c =
     let t = written c.args.text.now in
-    let told = subst (λ (s : Scope). IfOk c.resolve.result (λ _. c.resolve.new.fits ≡ (c.args.fits.now && has_arguments s t)))
+    let told = subst
+    (λ (s : Scope). IfOk c.resolve.result (λ _. c.resolve.new.fits ≡ (c.args.fits.now && has_arguments s t)))
     c.scope_in-scope.ensures c.resolve.ensures.fits in
     IfOk-weaker c.resolve.result _ _
     (λ o fit. fit ∙ ap (λ b. b && has_arguments (scope_in c.args.self.now.regions c.args.self.now.structs) t)
