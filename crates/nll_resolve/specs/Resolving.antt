@@ -144,16 +144,18 @@ run s (p ∷ ps) st = run s ps (after s p st)
 
 -- ---- what the code keeps of it
 
--- The numbers are those of the shapes of these types.
-pub record AreShaped (shapes : List Node) (ts : List TypeTree) (numbers : List ℕ) : Type 0 where
+-- There is a number for each of these types; where each name so far is known, it is that of the
+-- type's shape.
+pub record AreShaped (known : Bool) (shapes : List Node) (ts : List TypeTree) (numbers : List ℕ)
+    : Type 0 where
   pub counted : length numbers ≡ length ts
-  pub each : (k : ℕ) → k < length numbers
+  pub each : known ≡ true → (k : ℕ) → k < length numbers
       → shape_in shapes (slice_index numbers k) ≡ shape_of (slice_index_or ts k int)
 
 -- The code has what is resolved so far: the shapes of the types, the regions at the end of the
 -- body's list, and the rest.
 pub record IsOf (st : State) (types : BodyTypes) (kept : Resolving) : Type 0 where
-  pub shapes : AreShaped types.table.shapes st.made kept.shapes.items
+  pub shapes : AreShaped kept.known types.table.shapes st.made kept.shapes.items
   pub regions : types.regions.items ≡ st.regions
   pub rows : reverse kept.rows.items ≡ st.rows
   pub known : kept.known ≡ st.known

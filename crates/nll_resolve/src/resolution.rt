@@ -47,7 +47,7 @@ fn put_int(types: &mut BodyTypes, made: &mut Resolving) -> Result<(), Memory>
     ensures made { OnOk result ((s : naming_scope)
         → Resolves s make_int types.old made.old types.new made.new) }
 {
-    push(&mut types.table, Node::Int, &mut made.shapes)
+    push(made.known, &mut types.table, Node::Int, &mut made.shapes)
 }
 
 // A reference to the newest type is made.
@@ -67,7 +67,7 @@ fn put_reference(
     let (number, known) = find(scope.regions, region);
     made.known &= known;
     let target = pop(&mut types.table, &mut made.shapes)?;
-    let shape = reference_to(&mut types.table, mutable, target)?;
+    let shape = reference_to(made.known, &mut types.table, mutable, target)?;
     made.shapes.push(shape)?;
     types.regions.push(RegionId(number as u32))?;
     Ok(())
@@ -115,7 +115,12 @@ fn put_tuple(alloc: Global, types: &mut BodyTypes, made: &mut Resolving) -> Resu
         → Resolves s make_tuple types.old made.old types.new made.new) }
 {
     let parts = pop_row(alloc, &mut made.shapes, &mut made.rows)?;
-    push(&mut types.table, Node::Tuple(parts), &mut made.shapes)
+    push(
+        made.known,
+        &mut types.table,
+        Node::Tuple(parts),
+        &mut made.shapes,
+    )
 }
 
 // The function of the newest row, with the newest type as its result, is made.
@@ -128,6 +133,7 @@ fn put_function(alloc: Global, types: &mut BodyTypes, made: &mut Resolving) -> R
     let output = pop(&mut types.table, &mut made.shapes)?;
     let inputs = pop_row(alloc, &mut made.shapes, &mut made.rows)?;
     push(
+        made.known,
         &mut types.table,
         Node::Function(inputs, output),
         &mut made.shapes,
@@ -147,7 +153,12 @@ fn put_parameter(number: usize, types: &mut BodyTypes, made: &mut Resolving) -> 
     made.rows.truncate(row.place.saturating_sub(1));
     made.shapes.truncate(row.types);
     types.regions.truncate(row.regions);
-    push(&mut types.table, Node::Parameter(number), &mut made.shapes)
+    push(
+        made.known,
+        &mut types.table,
+        Node::Parameter(number),
+        &mut made.shapes,
+    )
 }
 
 // Appends the regions among arguments. Answers how many there are.
@@ -187,6 +198,7 @@ fn put_struct(
     let count = push_regions(arguments, &mut types.regions)?;
     let parts = pop_row(alloc, &mut made.shapes, &mut made.rows)?;
     push(
+        made.known,
         &mut types.table,
         Node::Named(number, count, parts),
         &mut made.shapes,
@@ -254,7 +266,7 @@ fn resolve_pieces(
     ensures grows { AddsShapes types.old.table types.new.table }
     ensures within { IfOk result (λ i. i < length types.new.table.shapes) }
     ensures shape { IfOk result (λ i. (st : State) → IsOf st types.old made.old
-        → shape_in types.new.table.shapes i
+        → made.new.known ≡ true → shape_in types.new.table.shapes i
         ≡ shape_of (newest_type (run (scope_of scope.now) (map plain pieces.now) st).made)) }
     ensures others { IfOk result (λ _. (st : State) → IsOf st types.old made.old
         → (types.new.regions.items

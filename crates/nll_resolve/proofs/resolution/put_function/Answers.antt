@@ -6,6 +6,7 @@ use Rattle.nll_resolve.proofs.resolution.put_function.Goals as goal
 
 pub returns-clause-made : goal.returns-clause-made
 returns-clause-made c =
+    let known = c.args.made.now.known in
     let old = c.args.types.now.table.shapes in
     let shapes = c.pop.new.table.shapes in
     let kept = c.args.made.now.shapes.items in
@@ -16,17 +17,17 @@ returns-clause-made c =
           let rest = record st { made = older st.made } in
           let n = (starts (reverse c.args.made.now.rows.items)).0 in
           let start = ap (λ ms. (starts ms).0) a.rows in
-          let taken = older_taken shapes st.made kept c.pop.new.made.items
-          (shaped_kept old shapes st.made kept c.pop.ensures.grows.extends c.requires.below a.shapes)
+          let taken = older_taken known shapes st.made kept c.pop.new.made.items
+          (shaped_kept known old shapes st.made kept c.pop.ensures.grows.extends c.requires.below a.shapes)
           c.pop.ensures.older in
-          let inputs = row_taken shapes n _ (older st.made) c.pop.new.made.items c.in_ok-inputs.inputs.items taken
+          let inputs = row_taken known shapes n _ (older st.made) c.pop.new.made.items c.in_ok-inputs.inputs.items taken
           row.row start in
-          let output = c.in_ok-output.ensures.newest st.made a.shapes in
+          let output = c.in_ok-output.ensures.newest known st.made a.shapes in
           record {
             shapes = told (types_before rest) (function (types_inside rest) (newest_type st.made))
-                (front_taken shapes n _ (older st.made) c.pop.new.made.items c.pop_row.new.made.items taken row.made
+                (front_taken known shapes n _ (older st.made) c.pop.new.made.items c.pop_row.new.made.items taken row.made
                 start)
-                cc;
+                (λ e. let i = inputs e in let o = output e in cc);
             regions = a.regions;
             rows = row.rows ∙ ap others a.rows;
             known = a.known;

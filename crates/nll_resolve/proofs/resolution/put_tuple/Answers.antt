@@ -7,6 +7,7 @@ use Rattle.nll_resolve.proofs.resolution.put_tuple.Goals as goal
 
 pub returns-clause-made : goal.returns-clause-made
 returns-clause-made c =
+    let known = c.args.made.now.known in
     let shapes = c.args.types.now.table.shapes in
     let kept = c.args.made.now.shapes.items in
     let row = c.in_ok-parts.ensures in
@@ -17,8 +18,9 @@ returns-clause-made c =
           let start = ap (λ ms. (starts ms).0) a.rows in
           record {
             shapes = told (types_before st) (tuple (types_inside st))
-                (front_taken shapes n _ st.made kept c.pop_row.new.made.items a.shapes row.made start)
-                (ap tuple_shape (row_taken shapes n _ st.made kept c.in_ok-parts.parts.items a.shapes row.row start));
+                (front_taken known shapes n _ st.made kept c.pop_row.new.made.items a.shapes row.made start)
+                (λ e. ap tuple_shape
+                (row_taken known shapes n _ st.made kept c.in_ok-parts.parts.items a.shapes row.row start e));
             regions = a.regions;
             rows = row.rows ∙ ap others a.rows;
             known = a.known;

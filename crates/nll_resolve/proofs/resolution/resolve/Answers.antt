@@ -18,9 +18,10 @@ use Rattle.nll_resolve.proofs.resolution.resolve.Goals as goal
 
 -- the type is resolved where each name is known
 told : (s : Scope) (t : WrittenType) (types : BodyTypes) (v : Typed) (k : Bool) (o : Option Typed)
-    → o ≡ then_some k v → k ≡ is_known s t → IsTyped types.table.shapes types.regions.items v (meant s t)
+    → o ≡ then_some k v → k ≡ is_known s t
+    → (k ≡ true → IsTyped types.table.shapes types.regions.items v (meant s t))
     → MatchOption o (is_known s t ≡ false) (IsResolved s t types)
-told s t types v true o e known typed = rw e record { known = sym known; typed = typed }
+told s t types v true o e known typed = rw e record { known = sym known; typed = typed refl }
 told s t types v false o e known typed = rw e (sym known)
 
 pub returns : goal.returns
@@ -32,7 +33,7 @@ returns c =
     let done = type_done s c.pieces.result.now c.args.text.now rs c.pieces.ensures.value c.pieces.ensures.sound in
     let kept : Resolving = record { shapes = c.new.result; rows = c.new-2.result; known = true; fits = true } in
     let begun : IsOf (nothing rs) c.args.types.now kept = record {
-      shapes = rw c.new.ensures.items record { counted = refl; each = λ k l. absurd (omega (arith, l)) };
+      shapes = rw c.new.ensures.items record { counted = refl; each = λ e k l. absurd (omega (arith, l)) };
       regions = refl;
       rows = ap reverse c.new-2.ensures.items;
       known = refl;
@@ -49,11 +50,11 @@ returns c =
         first = c.len-first.result;
       } c.resolve_pieces-told.new.made.known c.then_some.result c.then_some.ensures
           (others.1 ∙ ap (λ (st : State). st.known) done)
-          record {
+          (λ e. record {
             within = c.in_ok-shape.ensures.within;
             begun = omega (arith, first, ap length regions, length-append rs row);
-            shape = c.in_ok-shape.ensures.shape (nothing rs) begun
+            shape = c.in_ok-shape.ensures.shape (nothing rs) begun e
                 ∙ ap (λ (st : State). shape_of (newest_type st.made)) done;
             row = ([], rw (first, regions) (drop-append_seam rs row ∙ sym (append-nil row)));
-          };
+          });
     }
