@@ -1,5 +1,5 @@
 -- What a body of the code keeps is the body of its parts.
-use Rattle.std.proofs.Common.{◌≡◌, ◌<◌, ℕ, List, map, length, get_or, ap, refl, sym, ◌∙◌, subst, arith}
+use Rattle.std.proofs.Common.{◌≡◌, ◌<◌, ℕ, List, map, length, get_or, Some, slice_get, ap, refl, sym, ◌∙◌, subst, arith}
 use Rattle.std.proofs.lemmas.List.{length-map}
 use Rattle.std.proofs.lemmas.Option.{get_or_from_slice_get, same_Some, slice_get_within, slice_get_read}
 use Rattle.nll_problem.specs.Graph.{Graph}
@@ -10,8 +10,9 @@ use Rattle.nll_types.specs.Rows.{tree_at}
 use Rattle.nll_types.specs.Structs.{IsWellFormed}
 use Rattle.nll_types.specs.declared.body_types.BodyTypes.{BodyTypes}
 use Rattle.nll_types.specs.declared.typed.Typed.{Typed}
+use Rattle.nll_statements.specs.Flat.{StatementLists, statement_in, statements_in}
 use Rattle.nll_statements.specs.Statements.{Statement}
-use Rattle.nll_statements.specs.declared.statement.Statement.{Statement as Kept}
+use Rattle.nll_statements.specs.declared.flat.Stmt.{Stmt}
 use Rattle.nll_body.specs.Bodies.{BodyText, HasType, StandsAt, IsGraphOf}
 use Rattle.nll_body.specs.Kept.{kept_body, IsKept}
 use Rattle.nll_body.specs.Sound.{IsSound}
@@ -19,7 +20,7 @@ use Rattle.nll_body.specs.Typed.{meant, trees_at}
 use Rattle.nll_body.proofs.MeantLemmas.{mapped_at}
 
 module _ (outlives asserts : List (ℕ × ℕ)) (types : BodyTypes) (variables : List Typed)
-    (points : List (Kept ℕ Typed)) where
+    (points : StatementLists) where
   -- the body of these parts
   abbrev made : List (List ℕ) → ℕ → List ℕ → BodyText
   made names universals starts = record {
@@ -30,7 +31,7 @@ module _ (outlives asserts : List (ℕ × ℕ)) (types : BodyTypes) (variables :
     structs = structs_of types.table.structs;
     variables = trees_at types variables;
     starts = starts;
-    points = map (meant types) points;
+    points = map (meant types) (statements_in points);
   }
 
   pub kept_same : (names : List (List ℕ)) (universals : ℕ) (starts : List ℕ) (labels : Labels) (graph : Graph)
@@ -56,11 +57,6 @@ module _ (outlives asserts : List (ℕ × ℕ)) (types : BodyTypes) (variables :
         let same = ap (λ (b : BodyText). length b.variables) is in
         omega (arith, same, within, length-map variables (tree_at types.table.shapes types.regions.items))
 
-    point_within : (p : ℕ) → p < length body.points → p < length points
-    point_within p within =
-        let same = ap (λ (b : BodyText). length b.points) is in
-        omega (arith, same, within, length-map points (meant types))
-
     -- a type of the code is that of its variable
     pub typed : (x : ℕ) (v : Typed) → x < length body.variables → v ≡ get_or variables x v
         → HasType body x (tree_at types.table.shapes types.regions.items v)
@@ -70,16 +66,17 @@ module _ (outlives asserts : List (ℕ × ℕ)) (types : BodyTypes) (variables :
         (slice_get_read variables (length variables) x v refl (variable_within x within) at))
 
     -- and a statement is that of its point
-    pub stands : (p : ℕ) (s : Kept ℕ Typed) → p < length body.points → s ≡ get_or points p s
-        → StandsAt body p (meant types s)
-    stands p s within at =
-        subst (λ b. StandsAt b p (meant types s)) is
-        (mapped_at (meant types) points p s
-        (slice_get_read points (length points) p s refl (point_within p within) at))
+    pub stands : (p : ℕ) (s : Stmt) → slice_get points.points p ≡ Some s
+        → StandsAt body p (meant types (statement_in points s))
+    stands p s at =
+        subst (λ b. StandsAt b p (meant types (statement_in points s))) is
+        (mapped_at (meant types) (statements_in points) p (statement_in points s)
+        (mapped_at (statement_in points) points.points p s at))
 
-    pub meant_there : (p : ℕ) (s : Kept ℕ Typed) → p < length body.points → s ≡ get_or points p s
-        → (i : Statement ℕ TypeTree) → StandsAt body p i → meant types s ≡ i
-    meant_there p s within at i there = same_Some (meant types s) i (sym (stands p s within at) ∙ there)
+    pub meant_there : (p : ℕ) (s : Stmt) → slice_get points.points p ≡ Some s
+        → (i : Statement ℕ TypeTree) → StandsAt body p i → meant types (statement_in points s) ≡ i
+    meant_there p s at i there =
+        same_Some (meant types (statement_in points s)) i (sym (stands p s at) ∙ there)
 
 -- ---- types of variables
 

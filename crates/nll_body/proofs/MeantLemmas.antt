@@ -44,25 +44,23 @@ module _ {R S T U : Type 0} (f : R → S) (g : T → U) where
       ∙ ap (λ (n : ℕ). edges_from i + n) (counted_same stand)
       ∙ sym (sum_by-cons edges_from i stand)
 
-  module _ (stand : List (Statement R T)) (means : List (Statement S U))
-      (is : means ≡ map (map_statement f g) stand) where
-    pub few_edges : (n : ℕ) → edge_count means ≤ n → edge_count stand ≤ n
-    few_edges n h = subst (λ k. k ≤ n) (ap edge_count is ∙ counted_same stand) h
+  module _ (stand : List (Statement R T)) where
+    pub few_edges : (n : ℕ) → edge_count (map (map_statement f g) stand) ≤ n → edge_count stand ≤ n
+    few_edges n h = subst (λ k. k ≤ n) (counted_same stand) h
 
-    pub are_blocks : (count : ℕ) → AreBlocks count means → AreBlocks count stand
+    pub are_blocks : (count : ℕ) → AreBlocks count (map (map_statement f g) stand) → AreBlocks count stand
     are_blocks count h p b i at c =
-        h p b (map_statement f g i) (ap (λ xs. slice_get xs p) is ∙ mapped_at (map_statement f g) stand p i at)
+        h p b (map_statement f g i) (mapped_at (map_statement f g) stand p i at)
         (subst (λ bs. Contains bs b) (sym (same_targets f g i)) c)
 
-    pub are_ends : (starts : List ℕ) → AreEnds starts means → AreEnds starts stand
+    pub are_ends : (starts : List ℕ) → AreEnds starts (map (map_statement f g) stand) → AreEnds starts stand
     are_ends starts h p q i at leaves =
-        subst (λ n. q < n) (ap length is ∙ length-map stand (map_statement f g))
-        (h p q (map_statement f g i) (ap (λ xs. slice_get xs p) is ∙ mapped_at (map_statement f g) stand p i at)
-        (leaves_on starts p i q leaves))
+        subst (λ n. q < n) (length-map stand (map_statement f g))
+        (h p q (map_statement f g i) (mapped_at (map_statement f g) stand p i at) (leaves_on starts p i q leaves))
 
     pub has_points : (starts : List ℕ) (count n : ℕ) (graph : Graph) → HasPoints starts count stand n graph
-        → HasPoints starts count means n graph
-    has_points starts count n graph has = rw is (record {
+        → HasPoints starts count (map (map_statement f g) stand) n graph
+    has_points starts count n graph has = record {
       points = has.points ∙ sym (length-map stand (map_statement f g));
       universals = has.universals;
       next = λ p q. (
@@ -79,4 +77,4 @@ module _ {R S T U : Type 0} (f : R → S) (g : T → U) where
       );
       counted = subst (λ k. length graph.edges ≤ k)
           (sym (ap edge_count (take-map (map_statement f g) n stand) ∙ counted_same (take n stand))) has.counted;
-    })
+    }

@@ -5,8 +5,6 @@ use Rattle.nll_problem.specs.Answers.{AddsFact}
 use Rattle.nll_problem.specs.Graph.{Graph}
 use Rattle.nll_statements.specs.Statements.{Statement, is_terminator, return, assign, borrow, make, read, live, dead, nop, goto, switch, drop, call, stop}
 use Rattle.nll_statements.specs.Effects.{targets}
-use Rattle.nll_statements.specs.Kept.{statement_of}
-use Rattle.nll_statements.specs.declared.statement.Statement.{Statement as Kept}
 use Rattle.nll_body.specs.Edges.{LeadsTo}
 use Rattle.nll_body.specs.Making.{AddsTargets, AddsEdges, AddsPoint}
 use Rattle.nll_body.proofs.EdgeLemmas.{one_more, pair, pair_left, pair_right}
@@ -102,7 +100,6 @@ other_point starts p i old new adds isnt =
     }
 
 -- the targets, put into an empty list
-pub targets_listed : {R T : Type 0} (i : Kept R T) (empty filled listed : List ℕ) → listed ≡ filled
-    → filled ≡ empty ++ targets (statement_of i) → empty ≡ [] → listed ≡ targets (statement_of i)
-targets_listed i empty filled listed same put none =
-    same ∙ put ∙ ap (λ (xs : List ℕ). xs ++ targets (statement_of i)) none
+pub targets_listed : {R T : Type 0} (i : Statement R T) (empty filled listed : List ℕ) → listed ≡ filled
+    → filled ≡ empty ++ targets i → empty ≡ [] → listed ≡ targets i
+targets_listed i empty filled listed same put none = same ∙ put ∙ ap (λ (xs : List ℕ). xs ++ targets i) none

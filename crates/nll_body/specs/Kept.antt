@@ -5,7 +5,7 @@ use Rattle.nll_format.specs.Labels.{Labels, Points, numbers, blocks}
 use Rattle.nll_types.specs.Declarations.{structs_of}
 use Rattle.nll_types.specs.declared.body_types.BodyTypes.{BodyTypes}
 use Rattle.nll_types.specs.declared.typed.Typed.{Typed}
-use Rattle.nll_statements.specs.declared.statement.Statement.{Statement as Kept}
+use Rattle.nll_statements.specs.Flat.{StatementLists, statements_in}
 use Rattle.nll_body.specs.Bodies.{BodyText, IsGraphOf, labels_of}
 use Rattle.nll_body.specs.Sound.{IsSound}
 use Rattle.nll_body.specs.Typed.{meant, trees_at}
@@ -17,7 +17,7 @@ starts_of (blocks starts) = starts
 
 -- the body that labels, a graph and these types and lists say
 abbrev pub kept_body : Labels → List (ℕ × ℕ) → List (ℕ × ℕ) → BodyTypes → List Typed
-    → List (Kept ℕ Typed) → Graph → BodyText
+    → StatementLists → Graph → BodyText
 kept_body labels outlives asserts types variables points graph = record {
   names = labels.names;
   universals = graph.universals;
@@ -26,7 +26,7 @@ kept_body labels outlives asserts types variables points graph = record {
   structs = structs_of types.table.structs;
   variables = trees_at types variables;
   starts = starts_of labels.points;
-  points = map (meant types) points;
+  points = map (meant types) (statements_in points);
 }
 
 -- The labels and the graph are the body's, and the body is sound.

@@ -2,6 +2,7 @@
 -- Source: project's choice.
 use Rattle.std.specs.Prelude.{map}
 use Rattle.nll_types.specs.Declarations.{structs_of}
+use Rattle.nll_statements.specs.Flat.{statements_in}
 use Rattle.nll_body.specs.Bodies.{BodyText}
 use Rattle.nll_body.specs.Typed.{HaveRows, meant, trees_at}
 use Rattle.nll_body.specs.declared.parts.BodyParts.{BodyParts}
@@ -16,9 +17,9 @@ body_of p = record {
   structs = structs_of p.types.table.structs;
   variables = trees_at p.types p.variables.items;
   starts = p.starts.items;
-  points = map (meant p.types) p.points.items;
+  points = map (meant p.types) (statements_in p.points);
 }
 
 -- each type of a variable, and each that is written in a statement, has its row
 abbrev pub AreTyped : BodyParts → Type 0
-AreTyped p = HaveRows p.types p.variables.items p.points.items
+AreTyped p = HaveRows p.types p.variables.items (statements_in p.points)

@@ -22,7 +22,7 @@ use crate::typed::{StatementAt, TypedBody};
 use nll_format::Labels;
 use nll_problem::{BuildError, Graph, RegionId};
 use nll_sets::Memory;
-use nll_statements::Stmt;
+use nll_statements::Statements;
 use nll_types::{BodyTypes, Place, Structs, Ty, Typed, behind, types_of_places_are_well_formed};
 use std::alloc::Global;
 use std::marker::Model;
@@ -34,7 +34,7 @@ pub struct Body {
     asserts: Vec<(u32, u32)>,
     types: BodyTypes,
     variables: Vec<Typed>,
-    points: Vec<Stmt>,
+    points: Statements,
     graph: Graph,
 }
 
@@ -56,6 +56,7 @@ impl Drop for Body {
 impl Model for Body {
     ghost use Rattle.std.specs.Coded.{codes, Coded};
     ghost use Rattle.nll_types.specs.TypeCodes.{Step, tree_code, trees_code};
+    ghost use Rattle.nll_statements.specs.Flat.{statements_in};
     ghost use Rattle.nll_body.specs.Bodies.{BodyText};
     ghost use Rattle.nll_body.specs.Kept.{kept_body, IsKept};
     ghost use Rattle.nll_body.specs.Typed.{HaveRows};
@@ -67,13 +68,13 @@ impl Model for Body {
 
     ghost view = { λ b.
         kept_body b.labels b.outlives.items b.asserts.items b.types b.variables.items
-        b.points.items b.graph };
+        b.points b.graph };
 
     ghost invariant = { λ b. IsKept
         (kept_body b.labels b.outlives.items b.asserts.items b.types b.variables.items
-        b.points.items b.graph)
+        b.points b.graph)
         b.labels b.graph
-        × HaveRows b.types b.variables.items b.points.items };
+        × HaveRows b.types b.variables.items (statements_in b.points) };
 }
 
 // The body of these parts, whose graph this is.
@@ -106,7 +107,7 @@ impl Body {
         ensures err { IfErr result (λ e. e ≡ BuildError.Memory) }
     {
         let starts = parts.starts.as_slice();
-        let told = graph_of(alloc, parts.universals, starts, parts.points.as_slice());
+        let told = graph_of(alloc, parts.universals, starts, &parts.points);
         match told {
             Ok(graph) => Ok(assembled(parts, graph)),
             Err(error) => {
@@ -183,7 +184,7 @@ impl Body {
         TypedBody {
             types: &self.types,
             variables: self.variables.as_slice(),
-            points: self.points.as_slice(),
+            points: &self.points,
         }
     }
 
@@ -214,7 +215,8 @@ impl Body {
         ensures { StandsAt self.now point (meant_at result) }
     {
         StatementAt {
-            statement: &self.points[point as usize],
+            statement: self.points.at(point as usize),
+            statements: &self.points,
             types: &self.types,
         }
     }
@@ -301,7 +303,7 @@ impl Body {
             → used.new.items ≡ used.old.items ++ variables_used i) }
         ensures begins { IsPrefix used.old.items used.new.items }
     {
-        self.points[point as usize].uses(used)
+        self.points.uses(self.points.at(point as usize), used)
     }
 
     /// The variable that is defined at a point.
@@ -312,7 +314,7 @@ impl Body {
         requires { point < length self.now.points }
         ensures { (i : standing ℕ TypeTree) → StandsAt self.now point i → result ≡ defined i }
     {
-        self.points[point as usize].defines()
+        self.points.defines(self.points.at(point as usize))
     }
 
     /// The variable that is dropped at a point.
@@ -320,6 +322,6 @@ impl Body {
         requires { point < length self.now.points }
         ensures { (i : standing ℕ TypeTree) → StandsAt self.now point i → result ≡ dropped i }
     {
-        self.points[point as usize].drops()
+        self.points.drops(self.points.at(point as usize))
     }
 }

@@ -1,6 +1,6 @@
 //! The graph of a body: the edges that leave its points, and its return points.
 
-ghost use Rattle.std.specs.Prelude.{◌≡◌, ◌↔◌, ◌<◌, ◌≤◌, ◌+◌, ◌==◌, ℕ, [], length, map};
+ghost use Rattle.std.specs.Prelude.{◌≡◌, ◌↔◌, ◌<◌, ◌≤◌, ◌+◌, ◌==◌, ℕ, [], length};
 ghost use Rattle.std.specs.Prelude.{Contains, IfErr, IfOk, OnOk, IsTrue, true};
 ghost use Rattle.indexmap.specs.IndexSet.{insert_all};
 ghost use Rattle.nll_problem.specs.Answers.{AddsFact};
@@ -8,14 +8,14 @@ ghost use Rattle.nll_problem.specs.Graph.{IsNext};
 ghost use Rattle.nll_problem.specs.GraphBuilding.{bare_graph};
 ghost use Rattle.nll_problem.specs.Limits.{most_points, most_edges, most_universals};
 ghost use Rattle.nll_statements.specs.Effects.{targets};
-ghost use Rattle.nll_statements.specs.Kept.{statement_of};
+ghost use Rattle.nll_statements.specs.Flat.{StatementLists, statement_in, statements_in};
 ghost use Rattle.nll_statements.specs.Statements.{is_terminator, return};
 ghost use Rattle.nll_body.specs.Edges.{LeadsTo, LeavesTo, edges_from, edge_count};
 ghost use Rattle.nll_body.specs.Making.{AddsTargets, AddsEdges, AddsPoint};
 ghost use Rattle.nll_body.specs.Making.{AreBlocks, AreEnds, HasPoints};
 
 use nll_problem::{BuildError, Graph, GraphBuilder};
-use nll_statements::{Statement, Stmt};
+use nll_statements::{Statements, Stmt};
 use std::alloc::Global;
 
 // Adds an edge for which there is room.
@@ -53,10 +53,11 @@ fn add_targets(
 
 // Whether it ends the body's run.
 fn is_return(statement: &Stmt) -> bool
-    ensures { IsTrue result ↔ (statement_of statement.now ≡ return) }
+    ensures { (lists : StatementLists)
+        → IsTrue result ↔ (statement_in lists statement.now ≡ return) }
 {
     match statement {
-        Statement::Return => true,
+        Stmt::Return => true,
         _ => false,
     }
 }
@@ -65,24 +66,26 @@ fn is_return(statement: &Stmt) -> bool
 fn add_edges(
     graph: &mut GraphBuilder,
     point: u32,
+    points: &Statements,
     statement: &Stmt,
     starts: &[u32],
     blocks: &mut Vec<u32>,
 ) -> Result<(), BuildError>
-    requires terminator { is_terminator (statement_of statement.now) ≡ true }
+    requires terminator { is_terminator (statement_in points.now statement.now) ≡ true }
     requires few { graph.old.points ≤ most_points }
     requires point { point < graph.old.points }
-    requires blocks { (b : ℕ) → Contains (targets (statement_of statement.now)) b
+    requires blocks { (b : ℕ) → Contains (targets (statement_in points.now statement.now)) b
         → b < length starts.now }
-    requires ends { (q : ℕ) → LeavesTo starts.now point (statement_of statement.now) q
+    requires ends { (q : ℕ) → LeavesTo starts.now point (statement_in points.now statement.now) q
         → q < graph.old.points }
-    requires room { length graph.old.edges + edges_from (statement_of statement.now) ≤ most_edges }
+    requires room { length graph.old.edges + edges_from (statement_in points.now statement.now)
+        ≤ most_edges }
     ensures ok { OnOk result
-        (AddsEdges starts.now point (statement_of statement.now) graph.old graph.new) }
+        (AddsEdges starts.now point (statement_in points.now statement.now) graph.old graph.new) }
     ensures err { IfErr result (λ e. e ≡ BuildError.Memory) }
 {
     blocks.clear();
-    statement.targets(blocks)?;
+    points.targets(statement, blocks)?;
     add_targets(graph, point, starts, blocks.as_slice())
 }
 
@@ -91,26 +94,27 @@ fn add_edges(
 fn add_next(
     graph: &mut GraphBuilder,
     point: u32,
+    points: &Statements,
     statement: &Stmt,
     starts: &[u32],
     blocks: &mut Vec<u32>,
 ) -> Result<(), BuildError>
     requires few { graph.old.points ≤ most_points }
     requires point { point < graph.old.points }
-    requires blocks { (b : ℕ) → Contains (targets (statement_of statement.now)) b
+    requires blocks { (b : ℕ) → Contains (targets (statement_in points.now statement.now)) b
         → b < length starts.now }
-    requires ends { (q : ℕ) → LeavesTo starts.now point (statement_of statement.now) q
+    requires ends { (q : ℕ) → LeavesTo starts.now point (statement_in points.now statement.now) q
         → q < graph.old.points }
-    requires room { length graph.old.edges + edges_from (statement_of statement.now)
+    requires room { length graph.old.edges + edges_from (statement_in points.now statement.now)
         ≤ most_edges }
     ensures ok { OnOk result
-        (AddsPoint starts.now point (statement_of statement.now) graph.old graph.new) }
+        (AddsPoint starts.now point (statement_in points.now statement.now) graph.old graph.new) }
     ensures err { IfErr result (λ e. e ≡ BuildError.Memory) }
 {
-    if !statement.is_terminator() {
+    if !points.is_terminator(statement) {
         return add_edge(graph, point, point + 1);
     }
-    add_edges(graph, point, statement, starts, blocks)?;
+    add_edges(graph, point, points, statement, starts, blocks)?;
     if !is_return(statement) {
         return Ok(());
     }
@@ -121,20 +125,22 @@ fn add_next(
 fn add_points(
     graph: &mut GraphBuilder,
     starts: &[u32],
-    points: &[Stmt],
+    points: &Statements,
     blocks: &mut Vec<u32>,
 ) -> Result<(), BuildError>
-    requires bare { graph.old ≡ bare_graph (length points.now) graph.old.universals }
-    requires few { length points.now ≤ most_points }
-    requires blocks { AreBlocks (length starts.now) (map statement_of points.now) }
-    requires ends { AreEnds starts.now (map statement_of points.now) }
-    requires room { edge_count (map statement_of points.now) ≤ most_edges }
+    requires bare { graph.old
+        ≡ bare_graph (length (statements_in points.now)) graph.old.universals }
+    requires few { length (statements_in points.now) ≤ most_points }
+    requires blocks { AreBlocks (length starts.now) (statements_in points.now) }
+    requires ends { AreEnds starts.now (statements_in points.now) }
+    requires room { edge_count (statements_in points.now) ≤ most_edges }
     ensures ok { OnOk result (HasPoints starts.now graph.old.universals
-        (map statement_of points.now) (length points.now) graph.new) }
+        (statements_in points.now) (length (statements_in points.now)) graph.new) }
     ensures err { IfErr result (λ e. e ≡ BuildError.Memory) }
 {
     for point in 0..points.len() {
-        add_next(graph, point as u32, &points[point], starts, blocks)?;
+        let statement = points.at(point);
+        add_next(graph, point as u32, points, statement, starts, blocks)?;
     }
     Ok(())
 }
@@ -148,17 +154,17 @@ pub(crate) fn graph_of(
     alloc: Global,
     universals: u32,
     starts: &[u32],
-    points: &[Stmt],
+    points: &Statements,
 ) -> Result<Graph, BuildError>
-    requires some { 0 < length points.now }
-    requires few { length points.now ≤ most_points }
+    requires some { 0 < length (statements_in points.now) }
+    requires few { length (statements_in points.now) ≤ most_points }
     requires some_universal { 0 < universals }
     requires few_universals { universals ≤ most_universals }
-    requires blocks { AreBlocks (length starts.now) (map statement_of points.now) }
-    requires ends { AreEnds starts.now (map statement_of points.now) }
-    requires room { edge_count (map statement_of points.now) ≤ most_edges }
+    requires blocks { AreBlocks (length starts.now) (statements_in points.now) }
+    requires ends { AreEnds starts.now (statements_in points.now) }
+    requires room { edge_count (statements_in points.now) ≤ most_edges }
     ensures ok { IfOk result (λ g. HasPoints starts.now universals
-        (map statement_of points.now) (length points.now) g) }
+        (statements_in points.now) (length (statements_in points.now)) g) }
     ensures err { IfErr result (λ e. e ≡ BuildError.Memory) }
 {
     let mut graph = GraphBuilder::new(alloc, points.len() as u32, universals)?;

@@ -1,7 +1,7 @@
 //! What a reader gathers for a body.
 
 use nll_format::Names;
-use nll_statements::Stmt;
+use nll_statements::Statements;
 use nll_types::{BodyTypes, Typed};
 
 /// The parts of a body.
@@ -22,5 +22,5 @@ pub struct BodyParts {
     /// The first point of each block.
     pub starts: Vec<u32>,
     /// The statement or terminator at each point.
-    pub points: Vec<Stmt>,
+    pub points: Statements,
 }

@@ -1,12 +1,13 @@
 //! A body with its types by number.
 
-use nll_statements::Stmt;
+use nll_statements::{Statements, Stmt};
 use nll_types::{BodyTypes, Typed};
 
-/// A statement or terminator, with the types of its body.
+/// A statement or terminator, with the lists and the types of its body.
 #[derive(Clone, Copy)]
 pub struct StatementAt<'a> {
     pub statement: &'a Stmt,
+    pub statements: &'a Statements,
     pub types: &'a BodyTypes,
 }
 
@@ -16,5 +17,5 @@ pub struct TypedBody<'a> {
     pub types: &'a BodyTypes,
     pub variables: &'a [Typed],
     /// The statement or terminator at each point.
-    pub points: &'a [Stmt],
+    pub points: &'a Statements,
 }

@@ -4,7 +4,7 @@ ghost use Rattle.std.specs.Prelude.{◌<◌, length};
 use super::comparison::compare;
 use super::pieces::{write_number, write_numbers, write_piece};
 use super::types::{write_places, write_typed, write_variables};
-use nll_body::{Body, Stmt};
+use nll_body::Body;
 use nll_format::{Labels, PointName, TextError};
 use nll_mir_text::read_mir;
 use nll_problem::{Graph, RegionId};
@@ -19,8 +19,7 @@ pub enum Asked {
     All,
     /// How much it has, and what its last point does.
     Size,
-    /// How many edges leave its first point, whether the block ends there, and the variables that
-    /// are written in its line.
+    /// How many edges leave its first point, and whether the block ends there.
     First,
     /// The regions of each variable's type.
     Variables,
@@ -134,21 +133,13 @@ fn write_size(rt: &impl Abort, alloc: Global, out: &mut String, body: &Body) {
     }
 }
 
-// Writes how many edges leave the point of a statement, whether the block ends with it, and the
-// variables that are written in it.
-fn write_statement(rt: &impl Abort, alloc: Global, out: &mut String, statement: &Stmt) {
-    let exits = statement.exits(alloc).expect(rt, "memory");
-    let ends = if exits.ends { " ends" } else { "" };
-    write_number(rt, out, "", exits.edges as u64, ends);
-    let mut written = Vec::new(alloc);
-    statement.variables(&mut written).expect(rt, "memory");
-    write_numbers(rt, out, " written", written.as_slice());
-}
-
-// Like `write_statement`, for the first point of a body.
-fn write_first(rt: &impl Abort, alloc: Global, out: &mut String, body: &Body) {
+// Writes how many edges leave the first point of a body, and whether the block ends there.
+fn write_first(rt: &impl Abort, out: &mut String, body: &Body) {
     if body.points() != 0 {
-        write_statement(rt, alloc, out, body.line_at(0).statement);
+        let line = body.line_at(0);
+        let ends = line.statements.is_terminator(line.statement);
+        let edges = body.graph().next_of(0).len();
+        write_number(rt, out, "", edges as u64, if ends { " ends" } else { "" });
     }
 }
 
@@ -157,7 +148,7 @@ fn write_asked(rt: &impl Abort, alloc: Global, out: &mut String, body: &Body, as
     match asked {
         Asked::All => write_body(rt, alloc, out, body),
         Asked::Size => write_size(rt, alloc, out, body),
-        Asked::First => write_first(rt, alloc, out, body),
+        Asked::First => write_first(rt, out, body),
         Asked::Variables => write_variables(rt, alloc, out, body),
         Asked::Places => write_places(rt, alloc, out, body),
         Asked::Typed => write_typed(rt, alloc, out, body),

@@ -1,5 +1,5 @@
 //! Statements and terminators of bodies: what each form uses, defines and drops, where it goes on,
-//! which variables are written in it, and how many edges leave its point.
+//! and how many edges leave its point.
 use super::body_text::Asked;
 use super::rows::{Table, compare_tables};
 
@@ -40,31 +40,29 @@ return ~ bb0/0 returns uses 0
 stop ~ bb0/0
 ";
 
-// How many edges leave the point of each line, whether the block ends with it, and the variables
-// that are written in it.
-const WRITTEN: &str = "
-_1 = const|stop| ~ 1 written 1
-_1 = move _3.1|stop| ~ 1 written 1 3
-_3.0 = copy _1|stop| ~ 1 written 3 1
-_2 = &'r _1|stop| ~ 1 written 2 1
-_3 = make (int, int)(copy _1, const)|stop| ~ 1 written 3 1
-read _4.0|stop| ~ 1 written 4
-live _4|stop| ~ 1 written 4
-dead _4|stop| ~ 1 written 4
+// How many edges leave the point of each line, and whether the block ends with it.
+const EXITS: &str = "
+_1 = const|stop| ~ 1
+_1 = move _3.1|stop| ~ 1
+_3.0 = copy _1|stop| ~ 1
+_2 = &'r _1|stop| ~ 1
+_3 = make (int, int)(copy _1, const)|stop| ~ 1
+read _4.0|stop| ~ 1
+live _4|stop| ~ 1
+dead _4|stop| ~ 1
 nop|stop| ~ 1
 goto bb0| ~ 1 ends
-switch copy _1 bb1 bb0 bb1| ~ 2 ends written 1
+switch copy _1 bb1 bb0 bb1| ~ 2 ends
 switch const bb1| ~ 1 ends
-drop _4 -> bb1| ~ 1 ends written 4
-drop _4 -> bb1 unwind bb0| ~ 2 ends written 4
-drop _4 -> bb1 unwind bb1| ~ 1 ends written 4
-_4.0 = call f(copy _1: int, move _3.0: int): int -> bb1 unwind bb0| ~ 2 ends written 4 1 3
-return| ~ 0 ends written 0
+drop _4 -> bb1| ~ 1 ends
+drop _4 -> bb1 unwind bb0| ~ 2 ends
+drop _4 -> bb1 unwind bb1| ~ 1 ends
+_4.0 = call f(copy _1: int, move _3.0: int): int -> bb1 unwind bb0| ~ 2 ends
+return| ~ 0 ends
 stop| ~ 0 ends
 ";
 
-// Each variable is written as often as a place of it occurs in the line, and each block to which it
-// goes on is one edge.
+// Each block to which a line goes on is one edge.
 const TABLES: &[Table<'static>] = &[
     (
         Asked::All,
@@ -82,11 +80,11 @@ const TABLES: &[Table<'static>] = &[
         Asked::First,
         (DECLARED, "block bb1|stop|end|"),
         ("", ""),
-        WRITTEN,
+        EXITS,
     ),
 ];
 
-// What each form of statement and terminator does, and what is written in it.
+// What each form of statement and terminator does.
 #[test]
 fn lines_do_what_they_say(rt: HostRuntime) {
     compare_tables(&rt, rt.alloc(), TABLES);

@@ -10,8 +10,8 @@ use super::pieces::{write_number, write_piece};
 use nll_body::{Body, StatementAt, TypedBody};
 use nll_problem::RegionId;
 use nll_sets::Memory;
-use nll_statements::Statement;
-use nll_types::{BodyTypes, Place, Projection, Structs, Ty, Typed, behind, is_well_formed};
+use nll_statements::Stmt;
+use nll_types::{BodyTypes, Place, Projection, Ty, Typed, behind};
 use smallvec::SmallVec;
 use std::alloc::Global;
 use std::process::Abort;
@@ -108,11 +108,28 @@ pub fn write_places(rt: &impl Abort, alloc: Global, out: &mut String, body: &Bod
     }
 }
 
-// Writes the regions of a type of a body of four regions.
-fn write_tree(rt: &impl Abort, alloc: Global, out: &mut String, structs: &Structs, ty: &Ty) {
-    if is_well_formed(structs, ty, 4, 0) {
-        let regions = structs.regions(alloc, ty).expect(rt, "memory");
-        write_which(rt, out, regions.as_slice());
+// Writes the regions of some types.
+#[cycle(trees)]
+fn write_trees(rt: &impl Abort, out: &mut String, types: &[Ty]) {
+    for ty in types {
+        write_tree(rt, out, ty);
+    }
+}
+
+// Writes the regions of a type that has no function in it.
+#[cycle(trees)]
+fn write_tree(rt: &impl Abort, out: &mut String, ty: &Ty) {
+    match ty {
+        Ty::Int | Ty::Parameter(_) | Ty::Function(_, _) => {}
+        Ty::Reference(region, _, target) => {
+            write_which(rt, out, &[*region]);
+            write_tree(rt, out, target);
+        }
+        Ty::Tuple(parts) => write_trees(rt, out, parts.as_slice()),
+        Ty::Named(_, regions, types) => {
+            write_which(rt, out, regions.as_slice());
+            write_trees(rt, out, types.as_slice());
+        }
     }
 }
 
@@ -121,14 +138,16 @@ fn write_number_of(rt: &impl Abort, alloc: Global, out: &mut String, types: &Bod
     write_piece(rt, out, "|");
     if ty.shape < types.table.shapes().len() {
         let ty = types.tree(alloc, ty).expect(rt, "memory");
-        write_tree(rt, alloc, out, types.table.structs(), &ty);
+        write_tree(rt, out, &ty);
     }
 }
 
 // Writes the regions of the type that is made at a point, if one is.
 fn write_made(rt: &impl Abort, alloc: Global, out: &mut String, line: StatementAt<'_>) {
-    if let Statement::Make(made) = line.statement {
-        write_number_of(rt, alloc, out, line.types, made.ty);
+    if let Stmt::Make(number) = line.statement {
+        if let Some(made) = line.statements.make(*number) {
+            write_number_of(rt, alloc, out, line.types, made.ty);
+        }
     }
 }
 
@@ -143,8 +162,13 @@ pub fn write_typed(rt: &impl Abort, alloc: Global, out: &mut String, body: &Body
     for ty in variables {
         write_number_of(rt, alloc, out, types, *ty);
     }
-    for statement in points {
-        write_made(rt, alloc, out, StatementAt { statement, types });
+    for point in 0..points.len() {
+        let line = StatementAt {
+            statement: points.at(point),
+            statements: points,
+            types,
+        };
+        write_made(rt, alloc, out, line);
     }
     for point in 0..body.points() {
         write_made(rt, alloc, out, body.line_at(point));

@@ -27,7 +27,7 @@ use Rattle.nll_statements.specs.Kept.{arguments_of, call_of}
 use Rattle.nll_statements.specs.declared.statement.Call.{Call}
 use Rattle.nll_resolve.specs.Naming.{Scope, is_among, is_known, has_arguments, meant}
 use Rattle.nll_resolve.specs.Resolution.{IsResolved}
-use Rattle.nll_mir_text.specs.ResolvedStatements.{bound_numbers, is_bound, argument_in, argument_resolved, has_names, AreAmid, AreOfArguments, IsOfStatement}
+use Rattle.nll_mir_text.specs.ResolvedStatements.{bound_numbers, is_bound, argument_meant, argument_resolved, has_names, AreAmid, AreOfArguments, IsOfStatement}
 
 and_true : (b : Bool) → (b && true) ≡ b
 and_true true = refl
@@ -60,9 +60,9 @@ resolved_fused types (a ∷ args) = ap (λ bs. argument_resolved types a ∷ bs)
 
 texts_fused : (s : Scope) (args : List (KeptOperand × List TypePiece))
     → map {B = Operand × TypeTree} (λ a. (a.0, meant s a.1))
-    (map {B = Operand × WrittenType} (λ a. (a.0, written a.1)) (arguments_of args)) ≡ map (argument_in s) args
+    (map {B = Operand × WrittenType} (λ a. (a.0, written a.1)) (arguments_of args)) ≡ map (argument_meant s) args
 texts_fused s [] = refl
-texts_fused s (a ∷ args) = ap (λ bs. argument_in s a ∷ bs) (texts_fused s args)
+texts_fused s (a ∷ args) = ap (λ bs. argument_meant s a ∷ bs) (texts_fused s args)
 
 same_bounds : (ws : List (ℕ × ℕ)) → map {B = ℕ × ℕ} (λ w. (w.0, w.1)) ws ≡ ws
 same_bounds [] = refl
@@ -274,14 +274,15 @@ amid_more s all left rest before after old new a b is adds pushed operand of ami
         meant = ap (map (argument_resolved after)) pushed
             ∙ (map_push (argument_resolved after) old b
             ∙ (ap (λ xs. xs ++ argument_resolved after b ∷ []) kept.meant
-            ∙ (ap (λ x. map (argument_in s) amid.front ++ x ∷ []) (one s after a b operand (tree_is _ _ b.1 _ of.typed))
-            ∙ sym (map_push (argument_in s) amid.front a))));
+            ∙ (ap (λ x. map (argument_meant s) amid.front ++ x ∷ [])
+            (one s after a b operand (tree_is _ _ b.1 _ of.typed))
+            ∙ sym (map_push (argument_meant s) amid.front a))));
       };
     }
   where
     one : (s : Scope) (types : BodyTypes) (a : KeptOperand × List TypePiece) (b : KeptOperand × Typed) → b.0 ≡ a.0
         → tree_at types.table.shapes types.regions.items b.1 ≡ meant s (written a.1)
-        → argument_resolved types b ≡ argument_in s a
+        → argument_resolved types b ≡ argument_meant s a
     one s types a b operand tree = rw (operand, tree) refl
 
 -- the flag of these and of those that are left

@@ -26,12 +26,11 @@ use Rattle.nll_mir_text.specs.declared.reader.Reader.{Reader}
 
 module _ (old new : BodyTypes) (grows : AddsTypes old new) where
   -- statements mean what they meant
-  pub points_later : (is : List (Kept ℕ Typed))
-      → All (λ i. HasRows old.table.shapes old.regions.items (statement_of i)) is
+  pub points_later : (is : List (Statement ℕ Typed)) → All (HasRows old.table.shapes old.regions.items) is
       → map (meant new) is ≡ map (meant old) is
   points_later [] h = refl
   points_later (i ∷ is) h =
-      let here = meant_later _ _ _ _ grows.table.extends grows.regions (statement_of i) (h 0 i (omega arith)) in
+      let here = meant_later _ _ _ _ grows.table.extends grows.regions i (h 0 i (omega arith)) in
       let rest = points_later is (λ k d l. h (suc k) d (omega arith)) in
       cc
 
@@ -44,7 +43,7 @@ module _ (old new : BodyTypes) (grows : AddsTypes old new) where
     meant = meant_later _ _ _ _ grows.table.extends grows.regions k h.rows ∙ h.meant;
   }
 
-  pub have_rows_later : (vs : List Typed) (is : List (Kept ℕ Typed)) → HaveRows old vs is → HaveRows new vs is
+  pub have_rows_later : (vs : List Typed) (is : List (Statement ℕ Typed)) → HaveRows old vs is → HaveRows new vs is
   have_rows_later vs is h = record {
     variables = rows_later _ _ _ _ grows.table.extends grows.regions vs h.variables;
     points = λ k d l. has_rows_later _ _ _ _ grows.table.extends grows.regions _ (h.points k d l);

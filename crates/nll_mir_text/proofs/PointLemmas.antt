@@ -96,7 +96,7 @@ module _ (r : Reader) (i : Statement Name WrittenType) (k : Kept ℕ Typed) (fit
       (variables_resolved (scope_in r.regions r.structs) i r.variables.types (statement_of k) placed.of)) in
       declared_is ∙ all_three _ _ _ placed.of.known
 
-  fits_is : (agree : Bool) → agree ≡ types_agree structs variables (meant_with r.variables.types k)
+  fits_is : (agree : Bool) → agree ≡ types_agree structs variables (meant_with r.variables.types (statement_of k))
       → (fits && agree) ≡ shapes_fit (said_by r) i
   fits_is agree a =
       let agree_is : agree ≡ types_agree structs variables (statement_meant (said_by r) i) =
@@ -108,17 +108,17 @@ module _ (r : Reader) (i : Statement Name WrittenType) (k : Kept ℕ Typed) (fit
       → j.small ≡ judged.small
       → judged.declared
       ≡ list_all (λ x. nat_lt x (length r.variables.typed.items)) (variables_written (statement_of k))
-      → IsJudged (types_agree structs variables (meant_with r.variables.types k))
-      (types_are_small structs variables (meant_with r.variables.types k)) judged
+      → IsJudged (types_agree structs variables (meant_with r.variables.types (statement_of k)))
+      (types_are_small structs variables (meant_with r.variables.types (statement_of k))) judged
       → IsOfPoint (said_by r) i j
   point_judged judged j declared fit small d e = record {
     known = declared ∙ knows_is judged.declared d;
     fits = fit ∙ fits_is judged.fits e.fits;
     fits_small = λ told.
-        let agreed : types_agree structs variables (meant_with r.variables.types k) ≡ true =
+        let agreed : types_agree structs variables (meant_with r.variables.types (statement_of k)) ≡ true =
         sym e.fits ∙ second fits judged.fits (sym fit ∙ told) in
         small ∙ (e.fits_small
-        ∙ (ap (λ b. b && types_are_small structs variables (meant_with r.variables.types k)) agreed
+        ∙ (ap (λ b. b && types_are_small structs variables (meant_with r.variables.types (statement_of k))) agreed
         ∙ ap (types_are_small structs variables) placed.of.meant));
   }
 
@@ -234,12 +234,12 @@ pub edges_more : {R T : Type 0} (points : List (Statement R T)) (i : Statement R
 edges_more points i = sum_by_push edges_from points i
 
 -- as many edges leave the points as they are meant
-pub edges_meant : (types : BodyTypes) (is : List (Kept ℕ Typed))
-    → edge_count (map (meant_with types) is) ≡ edge_count (map statement_of is)
+pub edges_meant : (types : BodyTypes) (is : List (Statement ℕ Typed))
+    → edge_count (map (meant_with types) is) ≡ edge_count is
 edges_meant types [] = refl
 edges_meant types (i ∷ is) =
     sum_by-cons edges_from (meant_with types i) (map (meant_with types) is)
     ∙ (rw (
-      same_edges (λ r. r) (tree_at types.table.shapes types.regions.items) (statement_of i),
+      same_edges (λ r. r) (tree_at types.table.shapes types.regions.items) i,
       edges_meant types is,
-    ) (sym (sum_by-cons edges_from (statement_of i) (map statement_of is))))
+    ) (sym (sum_by-cons edges_from i is)))

@@ -19,7 +19,7 @@ use Rattle.nll_resolve.specs.Naming.{Scope, meant}
 use Rattle.nll_mir_grammar.specs.MirForms.{Form, WrittenParameter, universal, outlives, further, assert_line, struct_line, variable, blocks, block, at_point, end}
 use Rattle.nll_mir_grammar.specs.declared.version.Version.{Version}
 use Rattle.nll_mir_text.specs.declared.groups.Group.TheVariants.{End}
-use Rattle.nll_mir_text.specs.MirSaid.{Said, said, group, reached, universal_in, further_in, outlives_in, assert_in, struct_in, variable_in, blocks_in, statement_in, owes_in, numbers_of, universals_said, names_said, meant_in, with_fronts, declared_in, start_in}
+use Rattle.nll_mir_text.specs.MirSaid.{Said, said, group, reached, universal_in, further_in, outlives_in, assert_in, struct_in, variable_in, blocks_in, statement_of_form, owes_in, numbers_of, universals_said, names_said, meant_in, with_fronts, declared_in, start_in}
 use Rattle.nll_mir_text.specs.StructLines.{is_region}
 use Rattle.nll_mir_text.specs.MirSteps.{says, declared, nothing_said, has_reached}
 use Rattle.nll_mir_text.specs.MirFaults.{first_fault, is_in_order, is_universal}
@@ -132,7 +132,7 @@ more forms f r =
     (grown (filter_map variable_in forms) (variable_in f))
     (grown (filter_map blocks_in forms) (blocks_in f))
     (grown (filter_map start_in (with_fronts forms)) (start_in (forms, f)))
-    (grown (filter_map statement_in forms) (statement_in f))
+    (grown (filter_map statement_of_form forms) (statement_of_form f))
     (grown (filter_map owes_in forms) (owes_in f))
 
 all_pushed : (forms : List Form) (f : Form) → said (forms ++ f ∷ []) ≡ more forms f (reached (forms ++ f ∷ []))
@@ -146,7 +146,7 @@ all_pushed forms f = same_from (reached (forms ++ f ∷ [])) _ _ _ _ _ _ _ _ _ _
     (pushed variable_in forms f)
     (pushed blocks_in forms f)
     (ap (filter_map start_in) (fronts_push forms f) ∙ pushed start_in (with_fronts forms) (forms, f))
-    (pushed statement_in forms f)
+    (pushed statement_of_form forms f)
     (pushed owes_in forms f)
 
 -- ---- lines of later groups
@@ -171,7 +171,7 @@ blocks_early : (f : Form) → group f ≤ 6 → blocks_in f ≡ None
 blocks_early (blocks n) h = absurd (omega (arith, h))
 blocks_early _ h = refl
 
-statement_early : (f : Form) → group f ≤ 7 → statement_in f ≡ None
+statement_early : (f : Form) → group f ≤ 7 → statement_of_form f ≡ None
 statement_early (at_point i) h = absurd (omega (arith, h))
 statement_early _ h = refl
 
@@ -191,8 +191,8 @@ module _ (forms : List Form) (n : ℕ) (h : reached forms ≤ n) where
   no_blocks : n ≤ 6 → filter_map blocks_in forms ≡ []
   no_blocks e = none_before blocks_in 6 blocks_early forms (omega (arith, h, e))
 
-  no_statements : n ≤ 7 → filter_map statement_in forms ≡ []
-  no_statements e = none_before statement_in 7 statement_early forms (omega (arith, h, e))
+  no_statements : n ≤ 7 → filter_map statement_of_form forms ≡ []
+  no_statements e = none_before statement_of_form 7 statement_early forms (omega (arith, h, e))
 
 -- ---- one more line, by its form
 
@@ -317,7 +317,7 @@ step forms (universal a) fine =
     universal_more (reached forms) (filter_map universal_in forms) (filter_map further_in forms)
     (filter_map outlives_in forms) (filter_map assert_in forms) (filter_map struct_in forms)
     (filter_map declared_in (with_fronts forms)) (filter_map variable_in forms) (filter_map blocks_in forms)
-    (filter_map start_in (with_fronts forms)) (filter_map statement_in forms) (filter_map owes_in forms) a
+    (filter_map start_in (with_fronts forms)) (filter_map statement_of_form forms) (filter_map owes_in forms) a
     (no_further forms 1 h (omega arith)) (no_outlives forms 1 h (omega arith)) (no_asserts forms 1 h (omega arith))
     (no_variables forms 1 h (omega arith)) (no_statements forms 1 h (omega arith))
 step forms (outlives a b) fine =
@@ -329,7 +329,7 @@ step forms (further x) fine =
     further_more (reached forms) (filter_map universal_in forms) (filter_map further_in forms)
     (filter_map outlives_in forms) (filter_map assert_in forms) (filter_map struct_in forms)
     (filter_map declared_in (with_fronts forms)) (filter_map variable_in forms) (filter_map blocks_in forms)
-    (filter_map start_in (with_fronts forms)) (filter_map statement_in forms) (filter_map owes_in forms) x
+    (filter_map start_in (with_fronts forms)) (filter_map statement_of_form forms) (filter_map owes_in forms) x
     (no_asserts forms 3 h (omega arith)) (no_variables forms 3 h (omega arith))
     (no_statements forms 3 h (omega arith))
 step forms (assert_line a b) fine =
@@ -339,7 +339,7 @@ step forms (struct_line n ps has_drop fields) fine =
     struct_more (reached forms) (filter_map universal_in forms) (filter_map further_in forms)
     (filter_map outlives_in forms) (filter_map assert_in forms) (filter_map struct_in forms)
     (filter_map declared_in (with_fronts forms)) (filter_map variable_in forms) (filter_map blocks_in forms)
-    (filter_map start_in (with_fronts forms)) (filter_map statement_in forms)
+    (filter_map start_in (with_fronts forms)) (filter_map statement_of_form forms)
     (filter_map owes_in forms) n ps has_drop fields (no_variables forms 5 h (omega arith))
     (no_statements forms 5 h (omega arith))
 step forms (variable x t) fine = typed (said forms) 6 _ _ (map_push _ (filter_map variable_in forms) t)
@@ -348,10 +348,10 @@ step forms (blocks n) fine =
     counted (said forms) 7 _ _
     (ap (λ (bs : List ℕ). get_or (bs ++ n ∷ []) 0 0) (no_blocks forms 6 (omega (arith, h)) (omega arith)))
 step forms (block n) fine =
-    begun (said forms) _ _ _ _ (sym (length-map (filter_map statement_in forms) _))
+    begun (said forms) _ _ _ _ (sym (length-map (filter_map statement_of_form forms) _))
     (owed (filter_map owes_in forms) true)
 step forms (at_point i) fine =
-    stood (said forms) _ _ _ _ (map_push _ (filter_map statement_in forms) i)
+    stood (said forms) _ _ _ _ (map_push _ (filter_map statement_of_form forms) i)
     (owed (filter_map owes_in forms) (not (is_terminator i)))
 step forms end fine = refl
 

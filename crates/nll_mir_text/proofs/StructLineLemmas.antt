@@ -1,5 +1,5 @@
 -- A struct line with which nothing is wrong is taken.
-use Rattle.std.proofs.Common.{◌≡◌, ℕ, ◌+◌, ◌<◌, ◌≤◌, ◌^◌, ◌-◌, Bool, None, List, [], ◌∷◌, ◌++◌, length, map, refl, sym, ap, ◌∙◌, subst, arith, length-append}
+use Rattle.std.proofs.Common.{◌≡◌, ◌+◌, ◌<◌, ◌≤◌, ◌^◌, ◌-◌, Bool, None, List, [], ◌∷◌, ◌++◌, length, map, refl, sym, ap, ◌∙◌, subst, arith, length-append}
 use Rattle.std.specs.Prelude.{All}
 use Rattle.std.proofs.lemmas.List.{length-map, map_push}
 use Rattle.nll_problem.specs.Limits.{most_bytes}
@@ -11,10 +11,8 @@ use Rattle.nll_types.specs.Declarations.{structs_of}
 use Rattle.nll_types.specs.Declarations as kept
 use Rattle.nll_types.specs.Rows.{HasRow, tree_at}
 use Rattle.nll_types.specs.declared.node.Node.{Node}
-use Rattle.nll_types.specs.declared.typed.Typed.{Typed}
-use Rattle.nll_statements.specs.Kept.{statement_of}
+use Rattle.nll_statements.specs.Flat.{statements_in}
 use Rattle.nll_statements.specs.Meant.{HasRows, meant_by}
-use Rattle.nll_statements.specs.declared.statement.Statement.{Statement as Kept}
 use Rattle.nll_types.specs.declared.structs.Declaration.{Declaration}
 use Rattle.nll_mir_grammar.specs.WrittenTypes.{Name, WrittenType, WrittenTypes}
 use Rattle.nll_mir_grammar.specs.TypeTexts.{written}
@@ -43,8 +41,7 @@ said_with r names kinds structs ns = record (said_by r) {
   scope = record (said_by r).scope { structs = names; kinds = kinds };
   structs = structs;
   variables = map (tree_at ns r.variables.types.regions.items) r.variables.typed.items;
-  points = map (λ (i : Kept ℕ Typed). meant_by ns r.variables.types.regions.items (statement_of i))
-      r.points.statements.items;
+  points = map (meant_by ns r.variables.types.regions.items) (statements_in r.points.statements);
 }
 
 -- the tree of resolved fields is a tuple of what they mean
@@ -174,8 +171,9 @@ module _ (r : Reader) (own : OwnNames) (text : StructText) (due : IsDue r (struc
             variables = subst
                 (λ (ns : List Node). All (HasRow ns r.variables.types.regions.items) r.variables.typed.items)
                 (sym shapes) due.ready.rows.variables;
-            points = subst (λ (ns : List Node). All (λ (i : Kept ℕ Typed).
-                HasRows ns r.variables.types.regions.items (statement_of i)) r.points.statements.items)
+            points = subst
+                (λ (ns : List Node).
+                All (HasRows ns r.variables.types.regions.items) (statements_in r.points.statements))
                 (sym shapes) due.ready.rows.points;
           };
           few_blocks = due.ready.few_blocks;

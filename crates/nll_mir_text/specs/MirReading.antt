@@ -10,7 +10,7 @@ use Rattle.nll_types.specs.Declarations.{structs_of}
 use Rattle.nll_types.specs.Structs.{Struct, struct_at}
 use Rattle.nll_statements.specs.Statements.{Statement, is_terminator}
 use Rattle.nll_statements.specs.Edges.{edges_from, edge_count}
-use Rattle.nll_statements.specs.Kept.{statement_of}
+use Rattle.nll_statements.specs.Flat.{statements_in}
 use Rattle.nll_body.specs.Typed.{HaveRows, meant, trees_at}
 use Rattle.nll_format.specs.Text.{IsText}
 use Rattle.nll_format.specs.declared.error.TextKind.{TextKind}
@@ -53,7 +53,7 @@ said_by r = record {
   variables = trees_at r.variables.types r.variables.typed.items;
   blocks = r.points.blocks;
   starts = r.points.starts.items;
-  points = map (meant r.variables.types) r.points.statements.items;
+  points = map (meant r.variables.types) (statements_in r.points.statements);
   owes = r.points.owes;
 }
 
@@ -94,12 +94,12 @@ pub record IsReady (r : Reader) : Type 0 where
       (structs_of r.variables.types.table.structs)
   pub few_structs : length r.variables.types.table.structs ≤ most_structs
   pub few_variables : length r.variables.typed.items ≤ most_variables
-  pub rows : HaveRows r.variables.types r.variables.typed.items r.points.statements.items
+  pub rows : HaveRows r.variables.types r.variables.typed.items (statements_in r.points.statements)
   pub few_blocks : r.points.blocks ≤ most_points
   pub no_start : rank r.reached < 7 → length r.points.starts.items ≡ 0
   pub starts : length r.points.starts.items ≤ r.points.blocks
-  pub few_points : length r.points.statements.items ≤ most_points
-  pub edges : r.points.edges ≡ edge_count (map statement_of r.points.statements.items)
+  pub few_points : length (statements_in r.points.statements) ≤ most_points
+  pub edges : r.points.edges ≡ edge_count (statements_in r.points.statements)
   pub few_edges : r.points.edges ≤ most_edges
 
 -- ---- one line
@@ -145,7 +145,7 @@ pub record IsAdmitted (s : Said) (i : Statement Name WrittenType) (a : Admitted)
   pub fine : first_fault s (at_point i) ≡ None
   pub same : said_by r ≡ s
   pub ready : IsReady r
-  pub few : length r.points.statements.items < most_points
+  pub few : length (statements_in r.points.statements) < most_points
   pub counted : a.edges ≡ r.points.edges + edges_from i
   pub few_edges : a.edges ≤ most_edges
   pub ends : a.ends ≡ is_terminator i

@@ -96,9 +96,9 @@ blocks_in (blocks n) = Some n
 blocks_in _ = None
 
 -- the statement or terminator of a line
-abbrev pub statement_in : Form → Option (Statement Name WrittenType)
-statement_in (at_point i) = Some i
-statement_in _ = None
+abbrev pub statement_of_form : Form → Option (Statement Name WrittenType)
+statement_of_form (at_point i) = Some i
+statement_of_form _ = None
 
 -- whether the block still lacks its terminator, after a line of it
 abbrev pub owes_in : Form → Option Bool
@@ -165,7 +165,7 @@ declared_in _ = None
 
 -- the first point of the block that begins with a line: as many statements come before it
 abbrev pub start_in : List Form × Form → Option ℕ
-start_in (front, block n) = Some (length (filter_map statement_in front))
+start_in (front, block n) = Some (length (filter_map statement_of_form front))
 start_in _ = None
 
 -- ---- what lines say together
@@ -210,6 +210,6 @@ said forms = record {
   variables = map (meant (scope_said forms)) (filter_map variable_in forms);
   blocks = get_or (filter_map blocks_in forms) 0 0;
   starts = filter_map start_in (with_fronts forms);
-  points = map (meant_in (scope_said forms)) (filter_map statement_in forms);
+  points = map (meant_in (scope_said forms)) (filter_map statement_of_form forms);
   owes = unwrap_or (last_or None (filter_map owes_in forms)) false;
 }

@@ -58,8 +58,8 @@ FitOf s i old new o =
     MatchOption o ⊤ (λ r. new ≡ (old && list_all (has_arguments s) (types_written i)))
 
 -- an argument of a call as it is meant, where names mean this
-abbrev pub argument_in : Scope → KeptOperand × List TypePiece → Operand × TypeTree
-argument_in s a = (operand_of a.0, meant s (written a.1))
+abbrev pub argument_meant : Scope → KeptOperand × List TypePiece → Operand × TypeTree
+argument_meant s a = (operand_of a.0, meant s (written a.1))
 
 -- an argument of a call of the code over numbers
 abbrev pub argument_resolved : BodyTypes → KeptOperand × Typed → Operand × TypeTree
@@ -72,7 +72,7 @@ pub record AreOfArguments (s : Scope) (texts : List (KeptOperand × List TypePie
     (types : BodyTypes) (args : List (KeptOperand × Typed)) : Type 0 where
   pub known : list_all (λ a. is_known s (written a.1)) texts ≡ true
   pub rows : All (HasRow types.table.shapes types.regions.items) (map (λ a. a.1) args)
-  pub meant : map (argument_resolved types) args ≡ map (argument_in s) texts
+  pub meant : map (argument_resolved types) args ≡ map (argument_meant s) texts
 
 -- Of all arguments those that are left are not gone through yet; of the others the names are
 -- declared, and the arguments over numbers are what these mean.

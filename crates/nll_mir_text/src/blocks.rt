@@ -25,7 +25,7 @@ use nll_format::TextKind;
 use nll_mir_grammar::TypeText;
 use nll_problem::{Kind, MAX_EDGES, MAX_POINTS};
 use nll_sets::Memory;
-use nll_statements::{Statement, Stmt, judge_statement};
+use nll_statements::{ResolvedStatement, Statement, judge_statement};
 use nll_types::Judgement;
 
 impl Reader {
@@ -60,7 +60,11 @@ impl Reader {
     }
 
     // What there is with a statement, unless it has a fault by what was judged of it.
-    fn admit_judged(&self, judged: JudgedPoint, statement: &Stmt) -> Result<Admitted, TextKind>
+    fn admit_judged(
+        &self,
+        judged: JudgedPoint,
+        statement: &ResolvedStatement,
+    ) -> Result<Admitted, TextKind>
         requires ready { IsReady self.now }
         requires exits { AreExits judged.exits (statement_of statement.now) }
         ensures admitted { IfOk result (λ a. (i : written_statement Name WrittenType)
@@ -99,7 +103,7 @@ impl Reader {
 
     // Judges what is to be at the next point, the names in whose types have the arguments that they
     // take or not, and finds how it goes on. The shapes of its types are in the table then.
-    fn judge(&mut self, statement: &Stmt, fits: bool) -> Result<JudgedPoint, Memory>
+    fn judge(&mut self, statement: &ResolvedStatement, fits: bool) -> Result<JudgedPoint, Memory>
         requires ready { IsReady self.old }
         requires rows { HasRows self.old.variables.types.table.shapes
             self.old.variables.types.regions.items (statement_of statement.now) }
@@ -121,7 +125,7 @@ impl Reader {
     }
 
     // Judges what is to be at the next point: what there is with it.
-    fn admit(&mut self, statement: &Stmt, fits: bool) -> Result<Admitted, TextKind>
+    fn admit(&mut self, statement: &ResolvedStatement, fits: bool) -> Result<Admitted, TextKind>
         requires ready { IsReady self.old }
         requires rows { HasRows self.old.variables.types.table.shapes
             self.old.variables.types.regions.items (statement_of statement.now) }
@@ -138,19 +142,19 @@ impl Reader {
     }
 
     // Writes an admitted statement at the next point.
-    fn put(&mut self, statement: Stmt, admitted: Admitted) -> Result<(), Memory>
+    fn put(&mut self, statement: ResolvedStatement, admitted: Admitted) -> Result<(), Memory>
         ensures { OnOk result ((i : written_statement Name WrittenType) (fits : Bool)
             → IsAdmitted (said_by self.old) i admitted self.old
             → IsPlaced self.old i statement fits
             → IsTaken (said_by self.old) (forms.at_point i) self.new) }
     {
-        add_point(&mut self.points, statement, admitted)?;
+        add_point(&mut self.points, &statement, admitted)?;
         self.reached = Group::Blocks;
         Ok(())
     }
 
     // Adds the statement at the next point, over numbers, unless it has a fault.
-    fn add_resolved(&mut self, statement: Stmt, fits: bool) -> Result<(), TextKind>
+    fn add_resolved(&mut self, statement: ResolvedStatement, fits: bool) -> Result<(), TextKind>
         requires ready { IsReady self.old }
         requires rows { HasRows self.old.variables.types.table.shapes
             self.old.variables.types.regions.items (statement_of statement) }
@@ -175,7 +179,7 @@ impl Reader {
         &mut self,
         statement: Statement<&[u8], TypeText<'_>>,
         fits: &mut bool,
-    ) -> Result<Option<Stmt>, Memory>
+    ) -> Result<Option<ResolvedStatement>, Memory>
         requires ready { IsReady self.old }
         requires order { is_in_order (said_by self.old) (form_of (lines.At statement)) ≡ true }
         requires fitting { fits.old ≡ true }

@@ -5,7 +5,7 @@ ghost use Rattle.std.specs.List.{list_all};
 ghost use Rattle.nll_statements.specs.Effects.{other_block, targets};
 ghost use Rattle.nll_statements.specs.Kept.{statement_of};
 
-use nll_statements::{Statement, Stmt};
+use nll_statements::{ResolvedStatement, Statement};
 
 // Whether a number is below an end.
 fn is_below(number: u32, end: usize) -> bool
@@ -37,7 +37,7 @@ fn exits_are_blocks(count: usize, block: u32, unwind: Option<u32>) -> bool
 }
 
 /// Whether the blocks to which a statement goes on are among the first this many.
-pub fn targets_are_blocks(count: u32, statement: &Stmt) -> bool
+pub fn targets_are_blocks(count: u32, statement: &ResolvedStatement) -> bool
     ensures { result ≡ list_all (λ x. nat_lt x count) (targets (statement_of statement.now)) }
 {
     let count = count as usize;

@@ -8,6 +8,7 @@ ghost use Rattle.nll_mir_text.specs.MirFaults.{is_in_order};
 ghost use Rattle.nll_mir_text.specs.MirSteps as steps;
 ghost use Rattle.nll_mir_text.specs.MirReading.{said_by, HoldsForms, IsReady, HasTexts};
 ghost use Rattle.nll_mir_text.specs.MirReading.{HasFewParameters, IsDue, IsTaken, IsRefused};
+ghost use Rattle.nll_statements.specs.Flat.{statements_in};
 ghost use Rattle.nll_body.specs.Parts.{AreTyped, body_of};
 ghost use Rattle.nll_mir_text.specs.MirText.{body_said, mir};
 
@@ -18,6 +19,7 @@ use nll_body::BodyParts;
 use nll_format::{LineReader, Names, TextKind, pass_over};
 use nll_mir_grammar::{Line, Version, line_of};
 use nll_sets::Memory;
+use nll_statements::Statements;
 use nll_types::BodyTypes;
 use std::alloc::Global;
 
@@ -36,14 +38,14 @@ pub struct Reader {
 fn no_points(alloc: Global) -> Points
     ensures blocks { result.blocks ≡ 0 }
     ensures starts { result.starts.items ≡ [] }
-    ensures statements { result.statements.items ≡ [] }
+    ensures statements { statements_in result.statements ≡ [] }
     ensures edges { result.edges ≡ 0 }
     ensures owes { result.owes ≡ false }
 {
     Points {
         blocks: 0,
         starts: Vec::new(alloc),
-        statements: Vec::new(alloc),
+        statements: Statements::new(alloc),
         edges: 0,
         owes: false,
     }

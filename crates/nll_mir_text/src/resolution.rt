@@ -19,7 +19,7 @@ use nll_mir_grammar::TypeText;
 use nll_problem::RegionId;
 use nll_resolve::{Scope, resolve};
 use nll_sets::Memory;
-use nll_statements::{Call, Make, Statement, Stmt};
+use nll_statements::{Call, Make, ResolvedStatement, Statement};
 use nll_types::{BodyTypes, Operand, Place, Typed};
 use std::alloc::Global;
 
@@ -262,7 +262,7 @@ fn resolve_called(
     call: Box<Call<&[u8], TypeText<'_>>>,
     types: &mut BodyTypes,
     fits: &mut bool,
-) -> Result<Option<Stmt>, Memory>
+) -> Result<Option<ResolvedStatement>, Memory>
     requires { HasRoom scope.now }
     ensures adds { IfOk result (λ _. AddsTypes types.old types.new) }
     ensures made { IfOk result
@@ -327,7 +327,7 @@ fn resolve_make(
     made: Box<Make<TypeText<'_>>>,
     types: &mut BodyTypes,
     fits: &mut bool,
-) -> Result<Option<Stmt>, Memory>
+) -> Result<Option<ResolvedStatement>, Memory>
     requires { HasRoom scope.now }
     ensures adds { IfOk result (λ _. AddsTypes types.old types.new) }
     ensures made { IfOk result
@@ -348,7 +348,7 @@ fn resolve_borrow(
     region: &[u8],
     mutable: bool,
     source: Place,
-) -> Option<Stmt>
+) -> Option<ResolvedStatement>
     requires { length names.now < 2 ^ 32 }
     ensures { MatchOption result (is_among names.now region.now ≡ false)
         (λ i. (is_among names.now region.now ≡ true)
@@ -373,7 +373,7 @@ pub fn resolve_statement(
     statement: Statement<&[u8], TypeText<'_>>,
     types: &mut BodyTypes,
     fits: &mut bool,
-) -> Result<Option<Stmt>, Memory>
+) -> Result<Option<ResolvedStatement>, Memory>
     requires { HasRoom scope.now }
     ensures adds { IfOk result (λ _. AddsTypes types.old types.new) }
     ensures made { IfOk result

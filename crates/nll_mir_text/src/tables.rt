@@ -10,7 +10,7 @@ use indexmap::IndexSet;
 use nll_format::Names;
 use nll_resolve::Scope;
 use nll_sets::Memory;
-use nll_statements::Stmt;
+use nll_statements::Statements;
 use nll_types::{BodyTypes, Typed};
 use std::alloc::Global;
 
@@ -64,7 +64,7 @@ pub struct Points {
     pub blocks: u32,
     /// The first point of each block that is there.
     pub starts: Vec<u32>,
-    pub statements: Vec<Stmt>,
+    pub statements: Statements,
     /// How many edges leave the points.
     pub edges: usize,
     /// Whether the last block still lacks its terminator.

@@ -11,7 +11,7 @@ use Rattle.nll_types.specs.declared.place.Projection.{Projection}
 use Rattle.nll_types.specs.declared.place.Projection.TheVariants.{Deref, Field}
 use Rattle.nll_rules.specs.Reborrows.{RestsOn}
 use Rattle.nll_rules.specs.Walks.{past, rests}
-use Rattle.nll_rules.specs.Layers.{form}
+use Rattle.nll_rules.specs.TypeRows.{form}
 
 -- ---- from a type that may be there
 

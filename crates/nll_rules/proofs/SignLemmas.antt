@@ -8,11 +8,11 @@ use Rattle.nll_types.specs.Structs.{Struct, struct_at}
 use Rattle.nll_types.specs.declared.parameter.Parameter.{Parameter}
 use Rattle.nll_types.specs.declared.parameter.Sign.{Sign}
 use Rattle.nll_types.specs.declared.parameter.Sign.TheVariants.{Covariant, Contravariant, Invariant}
-use Rattle.nll_rules.specs.Pairs.{AtOne, ArgumentAsks}
+use Rattle.nll_rules.specs.Pairs.{AtOne}
 use Rattle.nll_rules.specs.Positions.{sign_or, target_sign, times}
 use Rattle.nll_rules.specs.Signs.{RowsAsk, all_signs, sign_row, signs}
 use Rattle.nll_rules.specs.Subtyping.{IsAsked, SubtypeAsksBehind}
-use Rattle.nll_rules.proofs.SubtypeLemmas.{asked_as, asked_of, asks_function, asks_named, asks_reference, asks_tuple, get_below, int_asks, parameter_asks, some_is, times_covariant}
+use Rattle.nll_rules.proofs.SubtypeLemmas.{ArgumentAsks, asked_as, asked_of, asks_function, asks_named, asks_reference, asks_tuple, get_below, int_asks, parameter_asks, some_is, times_covariant}
 
 both_ways : {A B C : Type 0} → A ↔ B → B ↔ C → A ↔ C
 both_ways f g = (λ a. g.0 (f.0 a), λ c. f.1 (g.1 c))
@@ -31,7 +31,7 @@ neither f g = (λ a. absurd (f a), λ b. absurd (g b))
 
 -- ---- rows behind one another
 
-get_left : {X : Type 0} (xs ys : List X) (k : ℕ) (x : X) → slice_get xs k ≡ Some x → slice_get (xs ++ ys) k ≡ Some x
+pub get_left : {X : Type 0} (xs ys : List X) (k : ℕ) (x : X) → slice_get xs k ≡ Some x → slice_get (xs ++ ys) k ≡ Some x
 get_left [] ys k x e = absurd cc
 get_left (z ∷ xs) ys zero x e = e
 get_left (z ∷ xs) ys (suc k) x e = get_left xs ys k x e

@@ -5,7 +5,7 @@ use Rattle.std.proofs.lemmas.List.Elements.{Contains-push, Contains-push_cases, 
 use Rattle.nll_types.specs.Types.{TypeTree, int, reference}
 use Rattle.nll_types.specs.Structs.{Struct}
 use Rattle.nll_types.specs.Places.{PlacePath, type_of, behind}
-use Rattle.nll_types.specs.Operands.{Operand, operand_type}
+use Rattle.nll_types.specs.Operands.{Operand, operand_type, reference_to}
 use Rattle.nll_types.specs.declared.place.Projection.TheVariants.{Field}
 use Rattle.nll_statements.specs.Statements.{Statement, assign, borrow, make, switch, call}
 use Rattle.nll_statements.proofs.TypePairLemmas.{Meet, pairs_meet}
@@ -62,27 +62,27 @@ constant_asks structs other x b =
     no_region_in_int w.0 w.1
     (subst (λ (t : TypeTree). HasRegionAt t w.0 w.1) (sym (some_is int b.0 b.2)) w.3)
 
-inner_of : (r : ℕ) (m : Bool) (o : Option TypeTree) (t : TypeTree) → option_map (reference r m) o ≡ Some t
+inner_of : (r : ℕ) (m : Bool) (o : Option TypeTree) (t : TypeTree) → reference_to r m o ≡ Some t
     → (inner : TypeTree) × (o ≡ Some inner) × (t ≡ reference r m inner)
 inner_of r m None t e = absurd cc
 inner_of r m (Some inner) t e = (inner, refl, cc)
 
 pub asks_borrow : (structs : List Struct) (variables : List TypeTree) (p : PlacePath) (r : ℕ) (m : Bool) (q : PlacePath)
     (x : ℕ × ℕ)
-    → (BothAsk structs (option_map (reference r m) (type_of structs variables q)) (type_of structs variables p) x
+    → (BothAsk structs (reference_to r m (type_of structs variables q)) (type_of structs variables p) x
     ⊎ (RestsOn structs variables q x.0 × (x.1 ≡ r))) ↔ Asks structs variables (borrow p r m q) x
 asks_borrow structs variables p r m q x =
     both_ways (⊎_elim there inr, ⊎_elim back inr) (asks_by_form structs variables (borrow p r m q) x)
   where
-    there : BothAsk structs (option_map (reference r m) (type_of structs variables q)) (type_of structs variables p) x
+    there : BothAsk structs (reference_to r m (type_of structs variables q)) (type_of structs variables p) x
         → AsksByForm structs variables (borrow p r m q) x
     there b = (let i = inner_of r m (type_of structs variables q) b.0 b.2 in inl (b.0, b.1, (i.0, i.1, i.2, b.3), b.4))
 
     back : ((t u : TypeTree) × ((inner : TypeTree) × (type_of structs variables q ≡ Some inner)
         × (t ≡ reference r m inner) × (type_of structs variables p ≡ Some u)) × SubtypeAsks structs t u x)
-        → BothAsk structs (option_map (reference r m) (type_of structs variables q)) (type_of structs variables p) x
+        → BothAsk structs (reference_to r m (type_of structs variables q)) (type_of structs variables p) x
         ⊎ (RestsOn structs variables q x.0 × (x.1 ≡ r))
-    back w = (let i = w.2 in inl (w.0, w.1, ap (option_map (reference r m)) i.1 ∙ ap Some (sym i.2), i.3, w.3))
+    back w = (let i = w.2 in inl (w.0, w.1, ap (reference_to r m) i.1 ∙ ap Some (sym i.2), i.3, w.3))
 
 -- the regions on which a reborrow rests, one by one
 pub outlives_rests : (structs : List Struct) (variables : List TypeTree) (q : PlacePath) (regions : List ℕ) (r : ℕ)
@@ -219,12 +219,6 @@ pub get_mapped : {X Y : Type 0} (f : X → Y) (xs : List X) (k : ℕ) (x : X) �
 get_mapped f [] k x e = absurd cc
 get_mapped {X} f (y ∷ xs) zero x e = ap (λ o. option_map f o) e
 get_mapped f (y ∷ xs) (suc k) x e = get_mapped f xs k x e
-
-pub arguments_seen : {W T : Type 0} (op : W → Operand) (h : T → TypeTree) (xs : List (W × T))
-    → map {B = Operand × TypeTree} (λ x. (op x.0, h x.1)) xs
-    ≡ map {B = Operand × TypeTree} (λ a. (a.0, h a.1)) (map {B = Operand × T} (λ x. (op x.0, x.1)) xs)
-arguments_seen op h [] = refl
-arguments_seen op h (x ∷ xs) = ap (λ as'. (op x.0, h x.1) ∷ as') (arguments_seen op h xs)
 
 pub pairs_seen : (ws : List (ℕ × ℕ)) → ws ≡ map {B = ℕ × ℕ} (λ w. (w.0, w.1)) ws
 pairs_seen [] = refl

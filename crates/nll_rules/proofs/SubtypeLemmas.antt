@@ -1,19 +1,25 @@
 -- What a subtyping asks, layer by layer.
-use Rattle.std.proofs.Common.{◌≡◌, ℕ, zero, suc, ◌<◌, ◌≤◌, List, [], ◌∷◌, length, refl, sym, ap, ◌∙◌, subst, arith, ⊎_elim, inl, inr, ◌↔◌, ◌⊎◌, Bool, true, false, Some}
-use Rattle.std.specs.Prelude.{slice_get, min}
-use Rattle.std.specs.Bool.{beq}
+use Rattle.std.proofs.Common.{◌≡◌, ℕ, zero, suc, ◌<◌, List, [], ◌∷◌, length, refl, sym, ap, ◌∙◌, subst, arith, ⊎_elim, inl, inr, ◌↔◌, ◌⊎◌, Bool, Some}
+use Rattle.std.specs.Prelude.{slice_get}
 use Rattle.nll_types.specs.Types.{TypeTree, TypeTrees, int, parameter, reference, tuple, named, function, type_at}
 use Rattle.nll_types.specs.Structs.{Struct, struct_at}
 use Rattle.nll_types.specs.declared.parameter.Parameter.{Parameter}
 use Rattle.nll_types.specs.declared.parameter.Sign.{Sign}
 use Rattle.nll_types.specs.declared.parameter.Sign.TheVariants.{Covariant, Contravariant, Invariant}
-use Rattle.nll_types.specs.Views.{trees}
-use Rattle.nll_types.specs.declared.ty.Ty.{Ty}
-use Rattle.nll_types.proofs.ViewLemmas.{type_within}
 use Rattle.nll_rules.specs.Positions.{Turn, own, target, part, region_argument, type_argument, input, output, HasRegionAt, times, sign_or, target_sign, sign_of}
-use Rattle.nll_rules.specs.Layers.{form}
 use Rattle.nll_rules.specs.Subtyping.{IsAsked, SubtypeAsksBehind}
-use Rattle.nll_rules.specs.Pairs.{AtOne, ArgumentAsks, TypeAsks}
+use Rattle.nll_rules.specs.Pairs.{AtOne}
+
+-- the region arguments at a place, for parameters like these, ask the pair
+abbrev pub ArgumentAsks : List Parameter → Sign → List ℕ → List ℕ → ℕ → ℕ × ℕ → Type 0
+ArgumentAsks parameters outer rs qs k x = (a b : ℕ) × (slice_get rs k ≡ Some a) × (slice_get qs k ≡ Some b)
+    × IsAsked (times outer (sign_or parameters k Invariant)) a b x
+
+-- the types at a place, of parts or for parameters like these, ask the pair
+abbrev pub TypeAsks : List Struct → List Parameter → Sign → Sign → TypeTrees → TypeTrees → ℕ → ℕ × ℕ → Type 0
+TypeAsks structs parameters other outer ts us k x =
+    (t u : TypeTree) × (type_at ts k ≡ Some t) × (type_at us k ≡ Some u)
+    × SubtypeAsksBehind structs (times outer (sign_or parameters k other)) t u x
 
 times_assoc : (a b c : Sign) → times a (times b c) ≡ times (times a b) c
 times_assoc Covariant b c = refl
@@ -35,48 +41,6 @@ asked_as s t a b x p h = subst (λ (z : Sign). IsAsked z a b x) p h
 
 pub asked_of : (s : Sign) (a b c e : ℕ) (x : ℕ × ℕ) → a ≡ c → b ≡ e → IsAsked s a b x → IsAsked s c e x
 asked_of s a b c e x q r h = subst (λ (z : ℕ). IsAsked s z e x) q (subst (λ (z : ℕ). IsAsked s a z x) r h)
-
-pub same_flag : (a b : Bool) → beq a b ≡ true → a ≡ b
-same_flag true true h = refl
-same_flag false false h = refl
-same_flag true false h = absurd (let e : false ≡ true = h in cc)
-same_flag false true h = absurd (let e : false ≡ true = h in cc)
-
-pub other_flag : (a b : Bool) → beq a b ≡ false → a ≡ b → ⊥
-other_flag true true h e = (let d : true ≡ false = h in cc)
-other_flag false false h e = (let d : true ≡ false = h in cc)
-other_flag true false h e = cc
-other_flag false true h e = cc
-
--- ---- types of different forms
-
--- the form of the types into which a way leads
-abbrev form_of : List Turn → ℕ
-form_of [] = 6
-form_of (own ∷ way) = 2
-form_of (target m ∷ way) = 2
-form_of (part k ∷ way) = 3
-form_of (region_argument s k ∷ way) = 4
-form_of (type_argument s k ∷ way) = 4
-form_of (input k ∷ way) = 5
-form_of (output ∷ way) = 5
-
-form_is : (t : TypeTree) (way : List Turn) (r : ℕ) → HasRegionAt t way r → form t ≡ form_of way
-form_is (reference q m t) (own ∷ way) r h = refl
-form_is (reference q m t) (target n ∷ way) r h = refl
-form_is (tuple ts) (part k ∷ way) r h = refl
-form_is (named s rs ts) (region_argument n k ∷ way) r h = refl
-form_is (named s rs ts) (type_argument n k ∷ way) r h = refl
-form_is (function ts t) (input k ∷ way) r h = refl
-form_is (function ts t) (output ∷ way) r h = refl
-form_is int (own ∷ way) r h = absurd h
-form_is (parameter j) (own ∷ way) r h = absurd h
-form_is t way r h = absurd h
-
--- types of different forms ask nothing of one another
-pub unlike : (structs : List Struct) (outer : Sign) (t u : TypeTree) (x : ℕ × ℕ) → (form t ≡ form u → ⊥)
-    → SubtypeAsksBehind structs outer t u x → ⊥
-unlike structs outer t u x different w = different (form_is t w.0 w.1 w.3 ∙ sym (form_is u w.0 w.2 w.4))
 
 none_in_int : (way : List Turn) (r : ℕ) → HasRegionAt int way r → ⊥
 none_in_int (own ∷ way) r h = h
@@ -144,30 +108,6 @@ asks_reference structs outer q p m t u x = (⊎_elim here inside, λ w. back w.0
               (ap (λ (z : Bool). times outer (times (target_sign z) (sign_of structs way))) h.0
               ∙ times_assoc outer (target_sign m) (sign_of structs way)) ask,
         )
-    back way a b h k ask = absurd h
-
--- of a `mut` reference and a shared one the pair is asked of their own regions alone
-pub asks_own : (structs : List Struct) (outer : Sign) (q p : ℕ) (m n : Bool) (t u : TypeTree) (x : ℕ × ℕ) → (m ≡ n → ⊥)
-    → IsAsked outer q p x ↔ SubtypeAsksBehind structs outer (reference q m t) (reference p n u) x
-asks_own structs outer q p m n t u x different = (here, λ w. back w.0 w.1 w.2 w.3 w.4 w.5)
-  where
-    here : IsAsked outer q p x → SubtypeAsksBehind structs outer (reference q m t) (reference p n u) x
-    here a = (
-      own ∷ [],
-      q,
-      p,
-      (refl, refl),
-      (refl, refl),
-      asked_as outer (times outer Covariant) q p x (sym (times_covariant outer)) a,
-    )
-
-    back : (way : List Turn) (a b : ℕ) → HasRegionAt (reference q m t) way a → HasRegionAt (reference p n u) way b
-        → IsAsked (times outer (sign_of structs way)) a b x → IsAsked outer q p x
-    back (own ∷ way) a b h k ask =
-        asked_of outer a b q p x (sym h.1) (sym k.1)
-        (asked_as (times outer (times Covariant (sign_of structs way))) outer a b x
-        (ap (λ (w : List Turn). times outer (sign_of structs w)) h.0 ∙ times_covariant outer) ask)
-    back (target o ∷ way) a b h k ask = absurd (different (sym h.0 ∙ k.0))
     back way a b h k ask = absurd h
 
 pub asks_tuple : (structs : List Struct) (outer : Sign) (ts us : TypeTrees) (x : ℕ × ℕ)
@@ -337,16 +277,6 @@ asks_function structs outer ts us t u x = (⊎_elim inside through, λ w. back w
     back (output ∷ way) a b h k ask = inr (way, a, b, h, k, ask)
     back way a b h k ask = absurd h
 
--- uses of two structs ask nothing of one another
-pub other_named : (structs : List Struct) (outer : Sign) (s n : ℕ) (rs qs : List ℕ) (ts us : TypeTrees) (x : ℕ × ℕ)
-    → (s ≡ n → ⊥) → SubtypeAsksBehind structs outer (named s rs ts) (named n qs us) x → ⊥
-other_named structs outer s n rs qs ts us x different w = back w.0 w.1 w.2 w.3 w.4
-  where
-    back : (way : List Turn) (a b : ℕ) → HasRegionAt (named s rs ts) way a → HasRegionAt (named n qs us) way b → ⊥
-    back (region_argument o i ∷ way) a b h k = different (sym h.1 ∙ k.1)
-    back (type_argument o i ∷ way) a b h k = different (sym h.1 ∙ k.1)
-    back way a b h k = absurd h
-
 -- ---- places in rows
 
 pub get_below : {X : Type 0} (xs : List X) (k : ℕ) (x : X) → slice_get xs k ≡ Some x → k < length xs
@@ -356,36 +286,3 @@ get_below (y ∷ ys) (suc k) x e = (let h = get_below ys k x e in omega arith)
 
 pub some_is : {X : Type 0} (a b : X) → Some a ≡ Some b → a ≡ b
 some_is a b e = cc
-
--- what two region arguments ask is what their place asks
-pub argument_at : (parameters : List Parameter) (outer : Sign) (rs qs : List ℕ) (n a b : ℕ) (x : ℕ × ℕ)
-    → slice_get rs n ≡ Some a → slice_get qs n ≡ Some b
-    → IsAsked (times outer (sign_or parameters n Invariant)) a b x ↔ ArgumentAsks parameters outer rs qs n x
-argument_at parameters outer rs qs n a b x e d = (
-  λ h. (a, b, e, d, h),
-  λ p. asked_of _ p.0 p.1 a b x (some_is p.0 a (sym p.2 ∙ e))
-      (some_is p.1 b (sym p.3 ∙ d)) p.4,
-)
-
-pub type_at_place : (structs : List Struct) (parameters : List Parameter) (other outer : Sign) (ts us : TypeTrees)
-    (n : ℕ) (t u : TypeTree) (x : ℕ × ℕ) → type_at ts n ≡ Some t → type_at us n ≡ Some u
-    → SubtypeAsksBehind structs (times outer (sign_or parameters n other)) t u x
-    ↔ TypeAsks structs parameters other outer ts us n x
-type_at_place structs parameters other outer ts us n t u x e d = (
-  λ h. (t, u, e, d, h),
-  λ p. subst (λ (z : TypeTree). SubtypeAsksBehind structs (times outer (sign_or parameters n other)) z u x)
-      (some_is p.0 t (sym p.2 ∙ e))
-      (subst (λ (z : TypeTree). SubtypeAsksBehind structs (times outer (sign_or parameters n other)) p.0 z x)
-      (some_is p.1 u (sym p.3 ∙ d)) p.4),
-)
-
-pub arguments_within : (parameters : List Parameter) (outer : Sign) (rs qs : List ℕ) (n k : ℕ) (x : ℕ × ℕ)
-    → min (length rs) (length qs) ≤ n → ArgumentAsks parameters outer rs qs k x → k < n
-arguments_within parameters outer rs qs n k x le p =
-    (let l = get_below rs k p.0 p.2 in let m = get_below qs k p.1 p.3 in omega arith)
-
-pub types_within : (structs : List Struct) (parameters : List Parameter) (other outer : Sign) (ts us : List Ty)
-    (n k : ℕ) (x : ℕ × ℕ) → min (length ts) (length us) ≤ n
-    → TypeAsks structs parameters other outer (trees ts) (trees us) k x → k < n
-types_within structs parameters other outer ts us n k x le p =
-    (let l = type_within ts k p.0 p.2 in let m = type_within us k p.1 p.3 in omega arith)

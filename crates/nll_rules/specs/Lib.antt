@@ -5,7 +5,8 @@ pub mod Reborrows
 pub mod Asking
 pub mod Pairs
 pub mod Walks
-pub mod Layers
+pub mod TypeRows
 pub mod Knowing
+pub mod Flows
 pub mod BodyProblem
 pub mod Adding

@@ -8,11 +8,18 @@ use Rattle.nll_types.specs.declared.parameter.Sign.{Sign}
 use Rattle.nll_types.specs.declared.parameter.Sign.TheVariants.{Contravariant, Invariant}
 use Rattle.nll_rules.specs.Positions.{sign_or, target_sign, times}
 use Rattle.nll_rules.specs.Subtyping.{IsAsked}
+use Rattle.nll_rules.specs.declared.row_signs.PartSigns.{PartSigns}
+use Rattle.nll_rules.specs.declared.row_signs.PartSigns.TheVariants.{Arguments, Same}
 
 -- the first n of these signs
 abbrev pub sign_row : (ℕ → Sign) → ℕ → List Sign
 sign_row sign zero = []
 sign_row sign (suc n) = sign 0 ∷ sign_row (λ k. sign (suc k)) n
+
+-- the sign of the part at a place
+abbrev pub part_sign : PartSigns → ℕ → Sign
+part_sign (Same s) k = s
+part_sign (Arguments outer ps) k = times outer (sign_or ps.now k Invariant)
 
 abbrev mutual
   -- The signs of the regions of a type of this shape, where the type itself has the first sign.

@@ -1,29 +1,29 @@
 //! What a statement or terminator asks.
 
-ghost use Rattle.std.specs.Prelude.{◌≡◌, ◌<◌, [], IfOk, IfSome, OnOk, Some, length, map, option_map};
-ghost use Rattle.nll_types.specs.Operands as operands;
-ghost use Rattle.nll_types.specs.Operands.{operand_of};
-ghost use Rattle.nll_types.specs.Places.{behind, path_of, type_of};
-ghost use Rattle.nll_types.specs.Rows.{numbers_of, tree_at};
-ghost use Rattle.nll_types.specs.Table.{AreBelow};
-ghost use Rattle.nll_types.specs.Types.{reference};
+ghost use Rattle.std.specs.Prelude.{◌≡◌, ◌<◌, [], All, Bool, IfSome, OnOk, Option, Some, length};
+ghost use Rattle.std.specs.Prelude.{map, true};
+ghost use Rattle.nll_types.specs.Operands.{reference_to};
+ghost use Rattle.nll_types.specs.Places.{behind};
+ghost use Rattle.nll_types.specs.Rows.{HasRow};
+ghost use Rattle.nll_types.specs.Types.{TypeTree};
 ghost use Rattle.nll_types.specs.declared.place.Projection.TheVariants.{Field as field};
-ghost use Rattle.nll_statements.specs.Kept.{call_of, statement_of};
-ghost use Rattle.nll_statements.specs.Meant.{meant_by};
+ghost use Rattle.nll_statements.specs.Flat.{argument_in, call_in, make_in, operand_in, path_in};
+ghost use Rattle.nll_statements.specs.Flat.{statement_in};
+ghost use Rattle.nll_statements.specs.Meant.{HasRows, meant_by};
 ghost use Rattle.nll_statements.specs.Statements as spec;
-ghost use Rattle.nll_statements.specs.Statements.{types_written};
+ghost use Rattle.nll_statements.specs.Typing.{types_agree};
 ghost use Rattle.nll_rules.specs.Asking.{Asks};
+ghost use Rattle.nll_rules.specs.Flows.{AddsMet, InputsAgree, IsAtHand, PartsAgree, inputs_of};
+ghost use Rattle.nll_rules.specs.Flows.{place_type, value_type, written_type};
 ghost use Rattle.nll_rules.specs.Knowing.{Learns};
-ghost use Rattle.nll_rules.specs.Layers.{type_in};
-ghost use Rattle.nll_rules.specs.Pairs.{AddsPairs, AtOne, BothAsk, InputAsks, OneOutlives};
-ghost use Rattle.nll_rules.specs.Pairs.{PartAsks};
+ghost use Rattle.nll_rules.specs.Pairs.{AddsPairs, AtOne, InputAsks, OneOutlives, PartAsks};
 
 use crate::known::Known;
-use crate::layer::Layer;
+use crate::type_row::TypeRow;
 use nll_problem::RegionId;
 use nll_sets::Memory;
-use nll_statements::{Call, Make, Statement, Stmt};
-use nll_types::{Operand, Place, Typed};
+use nll_statements::{FlatCall, FlatMake, FlatOperand, Stmt};
+use nll_types::Typed;
 use std::alloc::Global;
 
 /// The pairs of regions that are asked, the first of which must outlive the second, and scratch
@@ -46,14 +46,6 @@ impl Asked {
     }
 }
 
-// A borrow: a reference of the region, `mut` or not, to a place.
-#[derive(Clone, Copy)]
-struct Borrow<'b> {
-    region: RegionId,
-    mutable: bool,
-    borrowed: &'b Place,
-}
-
 // Appends, for each of these regions, that it outlives this one.
 fn ask_outlives(
     regions: &[RegionId],
@@ -74,22 +66,20 @@ impl<'a> Known<'a> {
     fn meet(
         &mut self,
         alloc: Global,
-        one: Option<usize>,
-        other: Option<usize>,
+        one: Option<TypeRow>,
+        other: Option<TypeRow>,
         pairs: &mut Vec<(RegionId, RegionId)>,
     ) -> Result<(), Memory>
-        requires one { IfSome one (λ i. i < length self.old.layers) }
-        requires other { IfSome other (λ i. i < length self.old.layers) }
+        requires { IfSome one (λ c. c.shape < length self.old.table) }
         ensures learns { Learns self.old self.new }
-        ensures asked { OnOk result (AddsPairs
-            (BothAsk self.old.structs (option_map (type_in self.old.layers) one)
-            (option_map (type_in self.old.layers) other))
-            pairs.old.items pairs.new.items) }
+        ensures asked { OnOk result ((o p : Option TypeTree)
+            → IsAtHand self.old o one → IsAtHand self.old p other
+            → AddsMet self.old o p pairs.old.items pairs.new.items) }
     {
         match one {
             Some(one) => match other {
                 Some(other) => {
-                    self.ask(alloc, one, other, pairs)?;
+                    self.ask(alloc, &one, &other, pairs)?;
                     Ok(())
                 }
                 None => Ok(()),
@@ -102,15 +92,14 @@ impl<'a> Known<'a> {
     fn ask_into(
         &mut self,
         alloc: Global,
-        one: Option<usize>,
-        place: &Place,
+        one: Option<TypeRow>,
+        place: u32,
         asked: &mut Asked,
     ) -> Result<(), Memory>
-        requires { IfSome one (λ i. i < length self.old.layers) }
+        requires { IfSome one (λ c. c.shape < length self.old.table) }
         ensures learns { Learns self.old self.new }
-        ensures asked { OnOk result (AddsPairs
-            (BothAsk self.old.structs (option_map (type_in self.old.layers) one)
-            (type_of self.old.structs self.old.variables (path_of place.now)))
+        ensures asked { OnOk result ((o : Option TypeTree) → IsAtHand self.old o one
+            → AddsMet self.old o (place_type self.old place)
             asked.old.pairs.items asked.new.pairs.items) }
     {
         let other = self.walk(alloc, place, &mut asked.crossed)?;
@@ -121,22 +110,19 @@ impl<'a> Known<'a> {
     fn ask_from(
         &mut self,
         alloc: Global,
-        operand: &Operand,
-        other: Option<usize>,
+        operand: FlatOperand,
+        other: Option<TypeRow>,
         asked: &mut Asked,
     ) -> Result<(), Memory>
-        requires { IfSome other (λ i. i < length self.old.layers) }
         ensures learns { Learns self.old self.new }
-        ensures asked { OnOk result (AddsPairs
-            (BothAsk self.old.structs
-            (operands.operand_type self.old.structs self.old.variables (operand_of operand.now))
-            (option_map (type_in self.old.layers) other))
+        ensures asked { OnOk result ((p : Option TypeTree) → IsAtHand self.old p other
+            → AddsMet self.old (value_type self.old operand) p
             asked.old.pairs.items asked.new.pairs.items) }
     {
         match operand {
             // An `int`, in which no region occurs.
-            Operand::Const => Ok(()),
-            Operand::Copy(place) | Operand::Move(place) => {
+            FlatOperand::Const => Ok(()),
+            FlatOperand::Copy(place) | FlatOperand::Move(place) => {
                 let one = self.walk(alloc, place, &mut asked.crossed)?;
                 self.meet(alloc, one, other, &mut asked.pairs)?;
                 Ok(())
@@ -148,20 +134,17 @@ impl<'a> Known<'a> {
     fn ask_assign(
         &mut self,
         alloc: Global,
-        place: &Place,
-        operand: &Operand,
+        place: u32,
+        operand: FlatOperand,
         asked: &mut Asked,
     ) -> Result<(), Memory>
         ensures learns { Learns self.old self.new }
-        ensures asked { OnOk result (AddsPairs
-            (BothAsk self.old.structs
-            (operands.operand_type self.old.structs self.old.variables (operand_of operand.now))
-            (type_of self.old.structs self.old.variables (path_of place.now)))
-            asked.old.pairs.items asked.new.pairs.items) }
+        ensures asked { OnOk result (AddsMet self.old (value_type self.old operand)
+            (place_type self.old place) asked.old.pairs.items asked.new.pairs.items) }
     {
         match operand {
-            Operand::Const => Ok(()),
-            Operand::Copy(from) | Operand::Move(from) => {
+            FlatOperand::Const => Ok(()),
+            FlatOperand::Copy(from) | FlatOperand::Move(from) => {
                 let one = self.walk(alloc, from, &mut asked.crossed)?;
                 self.ask_into(alloc, one, place, asked)?;
                 Ok(())
@@ -169,67 +152,76 @@ impl<'a> Known<'a> {
         }
     }
 
-    // The type of references of a region, `mut` or not, to values of this type.
-    fn reference_to(
+    // Appends what a reference of a region, `mut` or not, to a value of the first type asks that
+    // flows into a value of the second, where both are there.
+    fn meet_reference(
         &mut self,
+        alloc: Global,
         region: RegionId,
-        mutable: bool,
-        target: Option<usize>,
-    ) -> Result<Option<usize>, Memory>
-        requires { IfSome target (λ i. i < length self.old.layers) }
+        target: Option<TypeRow>,
+        other: Option<TypeRow>,
+        pairs: &mut Vec<(RegionId, RegionId)>,
+    ) -> Result<(), Memory>
+        requires { IfSome other (λ c. c.shape < length self.old.table) }
         ensures learns { Learns self.old self.new }
-        ensures within { IfOk result (λ o. IfSome o (λ i. i < length self.new.layers)) }
-        ensures at { IfOk result (λ o. option_map (type_in self.new.layers) o
-            ≡ option_map (reference region mutable)
-            (option_map (type_in self.old.layers) target)) }
+        ensures asked { OnOk result ((m : Bool) (o p : Option TypeTree)
+            → IsAtHand self.old o target → IsAtHand self.old p other
+            → AddsMet self.old (reference_to region m o) p pairs.old.items pairs.new.items) }
     {
         match target {
-            Some(target) => {
-                let made = self.made(Layer::Reference(region, mutable, target))?;
-                Ok(Some(made))
-            }
-            None => Ok(None),
+            Some(target) => match other {
+                Some(other) => {
+                    self.ask_reference(alloc, region, &target, &other, pairs)?;
+                    Ok(())
+                }
+                None => Ok(()),
+            },
+            None => Ok(()),
         }
     }
 
-    // Appends what a reference of a region to a place asks that flows into another place.
+    // Appends what a reference of a region, `mut` or not, to a place asks that flows into another
+    // place.
     fn ask_borrow(
         &mut self,
         alloc: Global,
-        place: &Place,
-        borrow: &Borrow<'_>,
+        place: u32,
+        region: RegionId,
+        borrowed: u32,
         asked: &mut Asked,
     ) -> Result<(), Memory>
         ensures learns { Learns self.old self.new }
-        ensures asked { OnOk result (AddsPairs
-            (Asks self.old.structs self.old.variables
-            (spec.borrow (path_of place.now) borrow.now.region borrow.now.mutable
-            (path_of borrow.now.borrowed.now)))
+        ensures asked { OnOk result ((m : Bool) → types_agree self.old.structs self.old.variables
+            (spec.borrow (path_in self.old.lists place) region m (path_in self.old.lists borrowed))
+            ≡ true → AddsPairs (Asks self.old.structs self.old.variables
+            (spec.borrow (path_in self.old.lists place) region m (path_in self.old.lists borrowed)))
             asked.old.pairs.items asked.new.pairs.items) }
     {
-        let target = self.walk(alloc, borrow.borrowed, &mut asked.crossed)?;
-        ask_outlives(asked.crossed.as_slice(), borrow.region, &mut asked.pairs)?;
-        let one = self.reference_to(borrow.region, borrow.mutable, target)?;
-        self.ask_into(alloc, one, place, asked)
+        let target = self.walk(alloc, borrowed, &mut asked.crossed)?;
+        ask_outlives(asked.crossed.as_slice(), region, &mut asked.pairs)?;
+        let other = self.walk(alloc, place, &mut asked.crossed)?;
+        self.meet_reference(alloc, region, target, other, &mut asked.pairs)
     }
 
     // Appends what the operands ask of which a type is made.
     fn ask_parts(
         &mut self,
         alloc: Global,
-        made: usize,
-        operands: &[Operand],
+        made: Typed,
+        operands: &[FlatOperand],
         asked: &mut Asked,
     ) -> Result<(), Memory>
-        requires { made < length self.old.layers }
+        requires row { HasRow self.old.shapes self.old.regions made }
+        requires agree { PartsAgree self.old.structs self.old.variables
+            (written_type self.old made) (map (operand_in self.old.lists) operands.now) }
         ensures learns { Learns self.old self.new }
         ensures asked { OnOk result (AddsPairs
-            (AtOne (PartAsks self.old.structs self.old.variables (type_in self.old.layers made)
-            (map operand_of operands.now)))
+            (AtOne (PartAsks self.old.structs self.old.variables (written_type self.old made)
+            (map (operand_in self.old.lists) operands.now)))
             asked.old.pairs.items asked.new.pairs.items) }
     {
         for place in 0..operands.len() {
-            self.ask_part(alloc, made, &operands[place], place, asked)?;
+            self.ask_part(alloc, made, operands[place], place, asked)?;
         }
         Ok(())
     }
@@ -238,82 +230,75 @@ impl<'a> Known<'a> {
     fn ask_part(
         &mut self,
         alloc: Global,
-        made: usize,
-        operand: &Operand,
+        made: Typed,
+        operand: FlatOperand,
         place: usize,
         asked: &mut Asked,
     ) -> Result<(), Memory>
-        requires { made < length self.old.layers }
+        requires { HasRow self.old.shapes self.old.regions made }
         ensures learns { Learns self.old self.new }
-        ensures asked { OnOk result (AddsPairs
-            (BothAsk self.old.structs
-            (operands.operand_type self.old.structs self.old.variables (operand_of operand.now))
-            (behind self.old.structs (field place) (type_in self.old.layers made)))
+        ensures asked { OnOk result (AddsMet self.old (value_type self.old operand)
+            (behind self.old.structs (field place) (written_type self.old made))
             asked.old.pairs.items asked.new.pairs.items) }
     {
-        let other = self.part(alloc, made, place)?;
+        let row = self.written(alloc, made)?;
+        let other = self.part(alloc, row, place)?;
         self.ask_from(alloc, operand, other, asked)
     }
 
     // Appends what making a tuple or struct of operands, for a place, asks.
-    fn ask_make(
-        &mut self,
-        alloc: Global,
-        make: &Make<Typed>,
-        asked: &mut Asked,
-    ) -> Result<(), Memory>
-        requires { make.now.ty.shape < length self.old.shapes }
+    fn ask_make(&mut self, alloc: Global, make: &FlatMake, asked: &mut Asked) -> Result<(), Memory>
+        requires row { HasRow self.old.shapes self.old.regions make.now.ty }
+        requires agree { types_agree self.old.structs self.old.variables
+            (meant_by self.old.shapes self.old.regions (make_in self.old.lists make.now)) ≡ true }
         ensures learns { Learns self.old self.new }
         ensures asked { OnOk result (AddsPairs
             (Asks self.old.structs self.old.variables
-            (spec.make (path_of make.now.place)
-            (tree_at self.old.shapes self.old.regions make.now.ty)
-            (map operand_of make.now.operands.items)))
+            (meant_by self.old.shapes self.old.regions (make_in self.old.lists make.now)))
             asked.old.pairs.items asked.new.pairs.items) }
     {
-        let made = self.written(alloc, make.ty)?;
-        self.ask_parts(alloc, made, make.operands.as_slice(), asked)?;
-        self.ask_into(alloc, Some(made), &make.place, asked)
+        let operands = self.statements().operands(make.operands);
+        self.ask_parts(alloc, make.ty, operands, asked)?;
+        self.ask_result(alloc, make.ty, make.place, asked)
     }
 
     // Appends what an operand for a parameter of a type asks.
     fn ask_input(
         &mut self,
         alloc: Global,
-        argument: &(Operand, Typed),
+        argument: (FlatOperand, Typed),
         asked: &mut Asked,
     ) -> Result<(), Memory>
-        requires { argument.now.1.shape < length self.old.shapes }
+        requires { HasRow self.old.shapes self.old.regions argument.1 }
         ensures learns { Learns self.old self.new }
-        ensures asked { OnOk result (AddsPairs
-            (BothAsk self.old.structs
-            (operands.operand_type self.old.structs self.old.variables
-            (operand_of argument.now.0))
-            (Some (tree_at self.old.shapes self.old.regions argument.now.1)))
+        ensures asked { OnOk result (AddsMet self.old (value_type self.old argument.0)
+            (Some (written_type self.old argument.1))
             asked.old.pairs.items asked.new.pairs.items) }
     {
-        let other = self.written(alloc, argument.1)?;
-        self.ask_from(alloc, &argument.0, Some(other), asked)
+        let (operand, ty) = argument;
+        let other = self.written(alloc, ty)?;
+        self.ask_from(alloc, operand, Some(other), asked)
     }
 
     // Appends what the operands of a call ask.
     fn ask_inputs(
         &mut self,
         alloc: Global,
-        arguments: &[(Operand, Typed)],
+        arguments: &[(FlatOperand, Typed)],
         asked: &mut Asked,
     ) -> Result<(), Memory>
-        requires { AreBelow (length self.old.shapes)
-            (numbers_of (map (λ a. a.1) arguments.now)) }
+        requires rows { All (HasRow self.old.shapes self.old.regions)
+            (map (λ a. a.1) (map (argument_in self.old.lists) arguments.now)) }
+        requires agree { InputsAgree self.old.structs self.old.variables
+            (inputs_of self.old arguments.now) }
         ensures learns { Learns self.old self.new }
         ensures asked { OnOk result (AddsPairs
             (AtOne (InputAsks self.old.structs self.old.variables
-            (map (λ a. (operand_of a.0, tree_at self.old.shapes self.old.regions a.1))
-            arguments.now)))
+            (inputs_of self.old arguments.now)))
             asked.old.pairs.items asked.new.pairs.items) }
     {
         for place in 0..arguments.len() {
-            self.ask_input(alloc, &arguments[place], asked)?;
+            self.ask_input(alloc, arguments[place], asked)?;
         }
         Ok(())
     }
@@ -323,38 +308,35 @@ impl<'a> Known<'a> {
         &mut self,
         alloc: Global,
         ty: Typed,
-        place: &Place,
+        place: u32,
         asked: &mut Asked,
     ) -> Result<(), Memory>
-        requires { ty.shape < length self.old.shapes }
+        requires { HasRow self.old.shapes self.old.regions ty }
         ensures learns { Learns self.old self.new }
-        ensures asked { OnOk result (AddsPairs
-            (BothAsk self.old.structs (Some (tree_at self.old.shapes self.old.regions ty))
-            (type_of self.old.structs self.old.variables (path_of place.now)))
-            asked.old.pairs.items asked.new.pairs.items) }
+        ensures asked { OnOk result (AddsMet self.old (Some (written_type self.old ty))
+            (place_type self.old place) asked.old.pairs.items asked.new.pairs.items) }
     {
         let one = self.written(alloc, ty)?;
         self.ask_into(alloc, Some(one), place, asked)
     }
 
     // Appends what a call asks.
-    fn ask_call(
-        &mut self,
-        alloc: Global,
-        call: &Call<RegionId, Typed>,
-        asked: &mut Asked,
-    ) -> Result<(), Memory>
-        requires { AreBelow (length self.old.shapes)
-            (numbers_of (types_written (call_of call.now))) }
+    fn ask_call(&mut self, alloc: Global, call: &FlatCall, asked: &mut Asked) -> Result<(), Memory>
+        requires rows { HasRows self.old.shapes self.old.regions
+            (call_in self.old.lists call.now) }
+        requires agree { types_agree self.old.structs self.old.variables
+            (meant_by self.old.shapes self.old.regions (call_in self.old.lists call.now)) ≡ true }
         ensures learns { Learns self.old self.new }
         ensures asked { OnOk result (AddsPairs
             (Asks self.old.structs self.old.variables
-            (meant_by self.old.shapes self.old.regions (call_of call.now)))
+            (meant_by self.old.shapes self.old.regions (call_in self.old.lists call.now)))
             asked.old.pairs.items asked.new.pairs.items) }
     {
-        self.ask_inputs(alloc, call.arguments.as_slice(), asked)?;
-        self.ask_result(alloc, call.result, &call.place, asked)?;
-        asked.pairs.extend_from_slice(call.wheres.as_slice())?;
+        let statements = self.statements();
+        self.ask_inputs(alloc, statements.arguments(call.arguments), asked)?;
+        self.ask_result(alloc, call.result, call.place, asked)?;
+        let wheres = statements.pairs(call.wheres);
+        asked.pairs.extend_from_slice(wheres)?;
         Ok(())
     }
 
@@ -362,7 +344,8 @@ impl<'a> Known<'a> {
     /// must outlive the second.
     ///
     /// # Cost
-    /// The types of its places, the first time that they are requested, and the pairs (not proved).
+    /// The rows of the types that meet and of those on the ways to its places, and the signs of
+    /// their shapes, the first time that they are requested (not proved).
     ///
     /// # Source
     /// RFC 2094, "Subtyping" and "Reborrow constraints".
@@ -372,47 +355,46 @@ impl<'a> Known<'a> {
         statement: &Stmt,
         asked: &mut Asked,
     ) -> Result<(), Memory>
-        requires { AreBelow (length self.old.shapes)
-            (numbers_of (types_written (statement_of statement.now))) }
+        requires rows { HasRows self.old.shapes self.old.regions
+            (statement_in self.old.lists statement.now) }
+        requires agree { types_agree self.old.structs self.old.variables
+            (meant_by self.old.shapes self.old.regions
+            (statement_in self.old.lists statement.now)) ≡ true }
         ensures learns { Learns self.old self.new }
         ensures asked { OnOk result (AddsPairs
             (Asks self.old.structs self.old.variables
-            (meant_by self.old.shapes self.old.regions (statement_of statement.now)))
+            (meant_by self.old.shapes self.old.regions
+            (statement_in self.old.lists statement.now)))
             asked.old.pairs.items asked.new.pairs.items) }
     {
-        match statement {
-            Statement::Assign(place, operand) => {
+        match *statement {
+            Stmt::Assign(place, operand) => {
                 self.ask_assign(alloc, place, operand, asked)?;
                 Ok(())
             }
-            Statement::Borrow(place, region, mutable, borrowed) => {
-                let (region, mutable) = (*region, *mutable);
-                let borrow = Borrow {
-                    region,
-                    mutable,
-                    borrowed,
-                };
-                self.ask_borrow(alloc, place, &borrow, asked)?;
+            Stmt::Borrow(place, region, _, borrowed) => {
+                self.ask_borrow(alloc, place, region, borrowed, asked)?;
                 Ok(())
             }
-            Statement::Make(make) => {
-                self.ask_make(alloc, make, asked)?;
-                Ok(())
-            }
-            Statement::Call(call) => {
-                self.ask_call(alloc, call, asked)?;
-                Ok(())
-            }
+            Stmt::Make(number) => match self.statements().make(number) {
+                Some(make) => self.ask_make(alloc, make, asked),
+                None => Ok(()),
+            },
+            Stmt::Call(number) => match self.statements().call(number) {
+                Some(call) => self.ask_call(alloc, call, asked),
+                None => Ok(()),
+            },
             // What is switched on meets an `int`, in which no region occurs.
-            Statement::Switch(_, _) => Ok(()),
-            Statement::Read(_)
-            | Statement::Live(_)
-            | Statement::Dead(_)
-            | Statement::Nop
-            | Statement::Goto(_)
-            | Statement::Drop(_, _, _)
-            | Statement::Return
-            | Statement::Stop => Ok(()),
+            Stmt::Switch(_) => Ok(()),
+            Stmt::Read(_)
+            | Stmt::Live(_)
+            | Stmt::Dead(_)
+            | Stmt::Nop
+            | Stmt::Goto(_)
+            | Stmt::Drop(_, _)
+            | Stmt::DropUnwind(_, _, _)
+            | Stmt::Return
+            | Stmt::Stop => Ok(()),
         }
     }
 }

@@ -3,6 +3,7 @@
 
 ghost use Rattle.std.specs.Prelude.{◌≡◌, ◌<◌, ℕ, Contains, IfErr, OnOk, length};
 ghost use Rattle.nll_problem.specs.At.{IsAmong};
+ghost use Rattle.nll_problem.specs.Problem.{SameSet};
 ghost use Rattle.nll_body.specs.Sound.{IsSound};
 ghost use Rattle.nll_rules.specs.Adding.{AddsConstraints, AreAskedAt, AreRegions};
 ghost use Rattle.nll_rules.specs.Adding.{IsOfPair, IsOfPairs, IsOfPairsEverywhere, IsRefused};
@@ -12,11 +13,13 @@ ghost use Rattle.nll_rules.specs.BodyProblem.{IsAskedAt, IsAskedSomewhere, IsCon
 
 use crate::asking::Asked;
 use crate::known::Known;
-use crate::meetings::keep_once;
 use nll_body::Body;
 use nll_problem::{At, BuildError, Constraint, ProblemBuilder, RegionId};
 use nll_sets::Memory;
 use std::alloc::Global;
+
+// As many pairs are kept as they are, even if some are there twice.
+const FEW: usize = 8;
 
 /// Adds the constraints of a body to a problem of its points and regions.
 pub(crate) fn add_constraints(
@@ -68,6 +71,7 @@ fn add_one_everywhere(builder: &mut ProblemBuilder, pair: (u32, u32)) -> Result<
 
 // Adds the constraints that the statements of a body ask.
 fn add_asked(alloc: Global, body: &Body, builder: &mut ProblemBuilder) -> Result<(), BuildError>
+    requires sound { IsSound body.now }
     requires points { builder.old.graph.points ≡ length body.now.points }
     requires regions { builder.old.regions ≡ length body.now.names }
     ensures ok { OnOk result
@@ -126,6 +130,23 @@ fn add_next(
     add_known(body, point, asked.pairs.as_slice(), builder)
 }
 
+// Sorts pairs, and keeps each once.
+fn sort_once(pairs: &mut Vec<(RegionId, RegionId)>)
+    ensures { SameSet pairs.old.items pairs.new.items }
+{
+    pairs.sort_unstable();
+    pairs.dedup();
+}
+
+// Keeps each pair once, where there are many.
+fn keep_once(pairs: &mut Vec<(RegionId, RegionId)>)
+    ensures { SameSet pairs.old.items pairs.new.items }
+{
+    if pairs.len() > FEW {
+        sort_once(pairs);
+    }
+}
+
 // Leaves in the list the pairs that the statement at a point asks.
 fn find_asked(
     alloc: Global,
@@ -140,7 +161,7 @@ fn find_asked(
     ensures asked { OnOk result (AreAskedAt body.now point asked.new.pairs.items) }
 {
     asked.pairs.clear();
-    known.asks(alloc, known.statement(point), asked)?;
+    known.asks(alloc, known.statements().at(point as usize), asked)?;
     keep_once(&mut asked.pairs);
     Ok(())
 }

@@ -1,54 +1,52 @@
 //! What is known of the types of a body.
 
-ghost use Rattle.std.specs.Prelude.{◌≡◌, ◌<◌, Some, length, map, option_map, slice_get};
-ghost use Rattle.std.specs.Prelude.{IfNone, IfOk, IfSome, OnOk};
+ghost use Rattle.std.specs.Prelude.{◌≡◌, ◌<◌, All, Bool, IfOk, OnOk, MatchOption, Some, length};
+ghost use Rattle.std.specs.Prelude.{IfSome, map, option_map, slice_get};
 ghost use Rattle.nll_types.specs.Declarations.{structs_of};
 ghost use Rattle.nll_types.specs.Places.{behind};
-ghost use Rattle.nll_types.specs.Rows.{numbers_of, tree_at};
-ghost use Rattle.nll_types.specs.Table.{AreBelow};
-ghost use Rattle.nll_types.specs.Types.{reference};
+ghost use Rattle.nll_types.specs.Rows.{HasRow, tree_at};
+ghost use Rattle.nll_types.specs.Shapes.{behind_shape, reference_shape, shape_of};
+ghost use Rattle.nll_types.specs.Table.{shape_in};
+ghost use Rattle.nll_types.specs.Types.{TypeTree, reference};
 ghost use Rattle.nll_types.specs.declared.place.Projection.TheVariants.{Field as field};
-ghost use Rattle.nll_statements.specs.Kept.{statement_of};
 ghost use Rattle.nll_rules.specs.Knowing.{Learns};
-ghost use Rattle.nll_rules.specs.Layers.{AreEarlier, IsOfEarlier, KeepsTypes, form, layered};
-ghost use Rattle.nll_rules.specs.Layers.{type_in, types_in};
 ghost use Rattle.nll_rules.specs.Pairs.{AddsPairs};
 ghost use Rattle.nll_rules.specs.Subtyping.{SubtypeAsks};
+ghost use Rattle.nll_rules.specs.TypeRows.{IsRowIn, IsRowOf, form, row_length};
 
-use crate::forms::as_reference;
-use crate::interning::number_of;
-use crate::layer::Layer;
-use crate::meetings::{Meeting, Meetings, ask_once};
-use crate::parts::{Part, part_once};
-use crate::types::Types;
+use crate::part_rows::{field_row, tuple_part, use_row};
+use crate::reborrow::ask_reference_rows;
+use crate::row_signs::{SignTable, ask_rows};
+use crate::type_row::TypeRow;
 use indexmap::IndexMap;
 use nll_body::TypedBody;
 use nll_problem::RegionId;
 use nll_sets::Memory;
-use nll_statements::Stmt;
-use nll_types::{BodyTypes, Typed};
+use nll_statements::Statements;
+use nll_types::{FieldUse, Node, Shapes, Typed, part_once};
 use std::alloc::Global;
 use std::marker::Model;
 
-/// What is known of the types of a body: their numbers, those of their parts, and what they ask of
-/// each other. Each is found once.
+/// What is known of the types of a body: the shapes of its types and of what lies behind
+/// projections, and the signs of shapes. Each is found once.
 #[derive(Drop)]
 pub(crate) struct Known<'a> {
     body: TypedBody<'a>,
-    types: Types,
-    variables: Vec<usize>,
-    parts: IndexMap<Part, usize>,
-    meetings: Meetings,
+    shapes: Shapes,
+    fields: IndexMap<FieldUse, usize>,
+    signs: SignTable,
 }
 
 impl<'a> Model for Known<'a> {
-    ghost use Rattle.std.specs.Prelude.{length, map};
+    ghost use Rattle.std.specs.Prelude.{All, map};
     ghost use Rattle.std.specs.Coded.{codes, Coded};
     ghost use Rattle.nll_types.specs.TypeCodes.{Step, tree_code, trees_code};
     ghost use Rattle.nll_types.specs.Declarations.{structs_of};
-    ghost use Rattle.nll_statements.specs.Kept.{statement_of};
-    ghost use Rattle.nll_rules.specs.Knowing.{AreRight, IsMeeting, IsPart, KnownTypes};
-    ghost use Rattle.nll_rules.specs.Layers.{AreEarlier, type_in};
+    ghost use Rattle.nll_types.specs.Memo.{AreRemembered};
+    ghost use Rattle.nll_types.specs.Rows.{HasRow, tree_at};
+    ghost use Rattle.nll_types.specs.Table.{Extends};
+    ghost use Rattle.nll_rules.specs.Knowing.{KnownTypes};
+    ghost use Rattle.nll_rules.specs.TypeRows.{AreSigns};
 
     ghost Value = { KnownTypes };
 
@@ -59,184 +57,304 @@ impl<'a> Model for Known<'a> {
       structs = structs_of k.body.types.now.table.structs;
       shapes = k.body.types.now.table.shapes;
       regions = k.body.types.now.regions.items;
-      points = map statement_of k.body.points.now;
-      variables = map (type_in k.types) k.variables.items;
-      layers = k.types;
+      lists = k.body.points.now;
+      variables = map (tree_at k.body.types.now.table.shapes k.body.types.now.regions.items)
+          k.body.variables.now;
+      table = k.shapes;
     } };
 
-    ghost invariant = { λ k. AreEarlier (length k.types) k.variables.items
-        × AreRight (IsPart (structs_of k.body.types.now.table.structs) k.types) k.parts.entries
-        × AreRight (IsMeeting (structs_of k.body.types.now.table.structs) k.types)
-        k.meetings.entries };
-}
-
-// The number of a type that is written.
-fn number_written(
-    alloc: Global,
-    body: &BodyTypes,
-    types: &mut Types,
-    ty: Typed,
-) -> Result<usize, Memory>
-    requires { ty.shape < length body.now.table.shapes }
-    ensures keeps { KeepsTypes types.old types.new }
-    ensures within { IfOk result (λ i. i < length types.new) }
-    ensures at { IfOk result (λ i. type_in types.new i
-        ≡ tree_at body.now.table.shapes body.now.regions.items ty) }
-{
-    let tree = body.tree(alloc, ty)?;
-    let number = number_of(alloc, types, &tree, &None);
-    // Early drop.
-    drop(tree);
-    number
-}
-
-// The numbers of types that are written.
-fn all_written(
-    alloc: Global,
-    body: &BodyTypes,
-    types: &mut Types,
-    written: &[Typed],
-) -> Result<Vec<usize>, Memory>
-    requires { AreBelow (length body.now.table.shapes) (numbers_of written.now) }
-    ensures keeps { KeepsTypes types.old types.new }
-    ensures within { IfOk result (λ v. AreEarlier (length types.new) v.items) }
-    ensures at { IfOk result (λ v. map (type_in types.new) v.items
-        ≡ map (tree_at body.now.table.shapes body.now.regions.items) written.now) }
-{
-    let mut numbers = Vec::with_capacity(alloc, written.len())?;
-    for ty in written {
-        numbers.push_reserved(number_written(alloc, body, types, *ty)?);
-    }
-    Ok(numbers)
+    ghost invariant = { λ k.
+        All (HasRow k.body.types.now.table.shapes k.body.types.now.regions.items)
+        k.body.variables.now
+        × Extends k.body.types.now.table.shapes k.shapes
+        × AreRemembered (structs_of k.body.types.now.table.structs) k.shapes k.fields.entries
+        × AreSigns (structs_of k.body.types.now.table.structs) k.shapes k.signs.known.items };
 }
 
 impl<'a> Known<'a> {
-    /// What is known of variables of these types.
+    /// What is known of a body.
     ///
     /// # Cost
-    /// Linear in the types (not proved).
+    /// Linear in the shapes of its types (not proved).
     pub(crate) fn new(alloc: Global, body: TypedBody<'a>) -> Result<Known<'a>, Memory>
-        requires { AreBelow (length body.types.now.table.shapes) (numbers_of body.variables.now) }
+        requires { All (HasRow body.types.now.table.shapes body.types.now.regions.items)
+            body.variables.now }
         ensures structs { IfOk result
             (λ k. k.structs ≡ structs_of body.entry.types.now.table.structs) }
         ensures shapes { IfOk result (λ k. k.shapes ≡ body.entry.types.now.table.shapes) }
         ensures regions { IfOk result (λ k. k.regions ≡ body.entry.types.now.regions.items) }
-        ensures points { IfOk result (λ k. k.points ≡ map statement_of body.entry.points.now) }
+        ensures lists { IfOk result (λ k. k.lists ≡ body.entry.points.now) }
         ensures variables { IfOk result (λ k. k.variables ≡ map
             (tree_at body.entry.types.now.table.shapes body.entry.types.now.regions.items)
             body.entry.variables.now) }
     {
-        let mut types = Types::new(alloc);
-        let numbers = all_written(alloc, body.types, &mut types, body.variables)?;
+        let shapes = body.types.table.shapes().copy(alloc)?;
         Ok(Known {
             body,
-            types,
-            variables: numbers,
-            parts: IndexMap::new(alloc),
-            meetings: IndexMap::new(alloc),
+            shapes,
+            fields: IndexMap::new(alloc),
+            signs: SignTable::new(alloc),
         })
     }
 
-    /// The statement or terminator at a point.
-    pub(crate) fn statement(&self, point: u32) -> &'a Stmt
-        requires { point < length self.now.points }
-        ensures { slice_get self.now.points point ≡ Some (statement_of result.now) }
+    /// The statements of the body.
+    pub(crate) fn statements(&self) -> &'a Statements
+        ensures { result.now ≡ self.now.lists }
     {
-        &self.body.points[point as usize]
+        self.body.points
     }
 
-    /// The number of a type that is written.
-    pub(crate) fn written(&mut self, alloc: Global, ty: Typed) -> Result<usize, Memory>
-        requires { ty.shape < length self.old.shapes }
-        ensures learns { Learns self.old self.new }
-        ensures within { IfOk result (λ i. i < length self.new.layers) }
-        ensures at { IfOk result
-            (λ i. type_in self.new.layers i ≡ tree_at self.old.shapes self.old.regions ty) }
+    // The regions of the body's types.
+    fn regions(&self) -> &'a [RegionId]
+        ensures { result.now ≡ self.now.regions }
     {
-        let body = self.body.types;
-        number_written(alloc, body, &mut self.types, ty)
+        self.body.types.regions.as_slice()
     }
 
-    /// The number of the type that a layer makes of others.
-    pub(crate) fn made(&mut self, layer: Layer) -> Result<usize, Memory>
-        requires { IsOfEarlier (length self.old.layers) layer }
+    // Makes the signs of a shape, where they aren't known, and answers how many there are.
+    fn learn(&mut self, alloc: Global, shape: usize) -> Result<usize, Memory>
+        requires { shape < length self.old.table }
         ensures learns { Learns self.old self.new }
-        ensures within { IfOk result (λ i. i < length self.new.layers) }
-        ensures at { IfOk result (λ i. type_in self.new.layers i
-            ≡ layered (types_in self.old.layers) layer) }
+        ensures count { IfOk result (λ n. n ≡ row_length (shape_in self.old.table shape)) }
     {
-        self.types.add(layer)
+        let structs = self.body.types.table.structs();
+        self.signs.learn(alloc, structs, &self.shapes, shape)?;
+        match self.signs.get(shape) {
+            Some(known) => Ok(known.signs.len()),
+            None => unreachable!(),
+        }
+    }
+
+    /// A type that is written, or that of a variable.
+    pub(crate) fn written(&mut self, alloc: Global, ty: Typed) -> Result<TypeRow, Memory>
+        requires { HasRow self.old.shapes self.old.regions ty }
+        ensures learns { Learns self.old self.new }
+        ensures row { IfOk result (IsRowOf self.new.table self.new.regions
+            (tree_at self.old.shapes self.old.regions ty)) }
+    {
+        // The invariant holds.
+        let _ = &self.body;
+        let count = self.learn(alloc, ty.shape)?;
+        Ok(TypeRow {
+            shape: ty.shape,
+            first: ty.first,
+            count,
+            made: None,
+        })
+    }
+
+    /// The type of a variable, where it is declared.
+    pub(crate) fn variable(
+        &mut self,
+        alloc: Global,
+        variable: u32,
+    ) -> Result<Option<TypeRow>, Memory>
+        ensures learns { Learns self.old self.new }
+        ensures row { IfOk result (IsRowIn self.new.table self.new.regions
+            (slice_get self.old.variables variable)) }
+    {
+        match self.body.variables.get(variable as usize).copied() {
+            Some(ty) => {
+                let row = self.written(alloc, ty)?;
+                Ok(Some(row))
+            }
+            None => Ok(None),
+        }
+    }
+
+    /// The region of a reference, whether it is `mut`, and what it points to.
+    pub(crate) fn reference_at(&self, row: TypeRow) -> Option<(RegionId, bool, TypeRow)>
+        requires { row.shape < length self.now.table }
+        ensures { (t : TypeTree) → IsRowOf self.now.table self.now.regions t row
+            → MatchOption result (form t ≡ 2 → ⊥)
+            (λ r. (u : TypeTree) × (t ≡ reference r.0 r.1 u)
+            × IsRowOf self.now.table self.now.regions u r.2) }
+    {
+        match self.shapes.node(row.shape) {
+            Node::Reference(mutable, target) => {
+                let (mutable, target) = (*mutable, *target);
+                match row.split_last(self.regions(), target) {
+                    Some((region, behind)) => Some((region, mutable, behind)),
+                    None => None,
+                }
+            }
+            _ => None,
+        }
+    }
+
+    // The shape of a part of a tuple or of a field of a struct, where there is one.
+    fn part_shape(
+        &mut self,
+        alloc: Global,
+        shape: usize,
+        place: usize,
+    ) -> Result<Option<usize>, Memory>
+        requires { shape < length self.old.table }
+        ensures learns { Learns self.old self.new }
+        ensures within { IfOk result (λ o. IfSome o (λ i. i < length self.new.table)) }
+        ensures at { IfOk result (λ o. option_map (shape_in self.new.table) o
+            ≡ behind_shape self.old.structs (field place) (shape_in self.old.table shape)) }
+    {
+        let structs = self.body.types.table.structs();
+        part_once(
+            alloc,
+            structs,
+            &mut self.shapes,
+            &mut self.fields,
+            shape,
+            place,
+        )
+    }
+
+    // The type of this shape that is a part of a tuple or a field of a struct, where there is one.
+    fn part_row(
+        &mut self,
+        alloc: Global,
+        row: TypeRow,
+        shape: usize,
+        place: usize,
+    ) -> Result<Option<TypeRow>, Memory>
+        requires row { row.shape < length self.old.table }
+        requires shape { shape < length self.old.table }
+        ensures learns { Learns self.old self.new }
+        ensures row { IfOk result (λ o. (t u : TypeTree)
+            → IsRowOf self.old.table self.old.regions t row
+            → behind self.old.structs (field place) t ≡ Some u
+            → shape_in self.old.table shape ≡ shape_of u
+            → IsRowIn self.new.table self.new.regions (Some u) o) }
+    {
+        let types = self.body.types;
+        let structs = types.table.structs();
+        let regions = types.regions.as_slice();
+        self.signs.learn(alloc, structs, &self.shapes, row.shape)?;
+        let starts = match self.signs.get(row.shape) {
+            Some(known) => known.starts.as_slice(),
+            None => unreachable!(),
+        };
+        match self.shapes.node(row.shape) {
+            Node::Tuple(_) => Ok(tuple_part(regions, starts, row, shape, place)),
+            Node::Named(named, _, _) => {
+                let arguments = use_row(starts, row.regions(regions));
+                match field_row(alloc, structs, *named, &arguments, place)? {
+                    Some(made) => Ok(Some(TypeRow {
+                        shape,
+                        first: 0,
+                        count: made.len(),
+                        made: Some(made),
+                    })),
+                    None => Ok(None),
+                }
+            }
+            _ => Ok(None),
+        }
+    }
+
+    // Like `part_row`, but no row is made where it has no region.
+    fn part_of_shape(
+        &mut self,
+        alloc: Global,
+        row: TypeRow,
+        shape: usize,
+        place: usize,
+    ) -> Result<Option<TypeRow>, Memory>
+        requires row { row.shape < length self.old.table }
+        requires shape { shape < length self.old.table }
+        ensures learns { Learns self.old self.new }
+        ensures row { IfOk result (λ o. (t u : TypeTree)
+            → IsRowOf self.old.table self.old.regions t row
+            → behind self.old.structs (field place) t ≡ Some u
+            → shape_in self.old.table shape ≡ shape_of u
+            → IsRowIn self.new.table self.new.regions (Some u) o) }
+    {
+        let count = self.learn(alloc, shape)?;
+        if count == 0 {
+            return Ok(Some(TypeRow {
+                shape,
+                first: 0,
+                count: 0,
+                made: None,
+            }));
+        }
+        self.part_row(alloc, row, shape, place)
     }
 
     /// The type of a part of a tuple or of a field of a struct, where there is one.
     pub(crate) fn part(
         &mut self,
         alloc: Global,
-        number: usize,
+        row: TypeRow,
         place: usize,
-    ) -> Result<Option<usize>, Memory>
-        requires { number < length self.old.layers }
+    ) -> Result<Option<TypeRow>, Memory>
+        requires { row.shape < length self.old.table }
         ensures learns { Learns self.old self.new }
-        ensures within { IfOk result (λ o. IfSome o (λ i. i < length self.new.layers)) }
-        ensures at { IfOk result (λ o. option_map (type_in self.new.layers) o
-            ≡ behind self.old.structs (field place) (type_in self.old.layers number)) }
+        ensures row { IfOk result (λ o. (t : TypeTree)
+            → IsRowOf self.old.table self.old.regions t row
+            → IsRowIn self.new.table self.new.regions (behind self.old.structs (field place) t) o) }
     {
-        let structs = self.body.types.table.structs();
-        part_once(
-            alloc,
-            structs,
-            &mut self.types,
-            &mut self.parts,
-            number,
-            place,
-        )
+        match self.part_shape(alloc, row.shape, place)? {
+            Some(shape) => self.part_of_shape(alloc, row, shape, place),
+            None => Ok(None),
+        }
     }
 
-    /// The type of a variable, where it is declared.
-    pub(crate) fn variable(&self, variable: u32) -> Option<usize>
-        ensures within { IfSome result (λ i. i < length self.now.layers) }
-        ensures at { option_map (type_in self.now.layers) result
-            ≡ slice_get self.now.variables variable }
-    {
-        self.variables.get(variable as usize).copied()
-    }
-
-    /// The region of a reference, whether it is `mut`, and what it points to.
-    pub(crate) fn reference_at(&self, number: usize) -> Option<(RegionId, bool, usize)>
-        requires { number < length self.now.layers }
-        ensures some { IfSome result (λ r. type_in self.now.layers number
-            ≡ reference r.0 r.1 (type_in self.now.layers r.2)) }
-        ensures within { IfSome result (λ r. r.2 < length self.now.layers) }
-        ensures none { IfNone result (form (type_in self.now.layers number) ≡ 2 → ⊥) }
-    {
-        as_reference(&self.types, number)
-    }
-
-    /// Appends what two types ask of which the first must be a subtype of the second.
+    /// Appends what two types of one shape ask of which the first must be a subtype of the second.
     pub(crate) fn ask(
         &mut self,
         alloc: Global,
-        one: usize,
-        other: usize,
+        one: &TypeRow,
+        other: &TypeRow,
         asked: &mut Vec<(RegionId, RegionId)>,
     ) -> Result<(), Memory>
-        requires one { one < length self.old.layers }
-        requires other { other < length self.old.layers }
+        requires { one.now.shape < length self.old.table }
         ensures learns { Learns self.old self.new }
-        ensures asked { OnOk result (AddsPairs
-            (SubtypeAsks self.old.structs (type_in self.old.layers one)
-            (type_in self.old.layers other))
+        ensures asked { OnOk result ((t u : TypeTree)
+            → IsRowOf self.old.table self.old.regions t one.now
+            → IsRowOf self.old.table self.old.regions u other.now → shape_of t ≡ shape_of u
+            → AddsPairs (SubtypeAsks self.old.structs t u) asked.old.items asked.new.items) }
+    {
+        let types = self.body.types;
+        let structs = types.table.structs();
+        let regions = types.regions.as_slice();
+        self.signs.learn(alloc, structs, &self.shapes, one.shape)?;
+        match self.signs.get(one.shape) {
+            Some(known) => {
+                let signs = known.signs.as_slice();
+                ask_rows(signs, one.regions(regions), other.regions(regions), asked)
+            }
+            None => unreachable!(),
+        }
+    }
+
+    /// Appends what a reference of a region, `mut` or not, to a value of the first type asks that
+    /// flows into a value of the second, where the reference has its shape.
+    pub(crate) fn ask_reference(
+        &mut self,
+        alloc: Global,
+        region: RegionId,
+        target: &TypeRow,
+        other: &TypeRow,
+        asked: &mut Vec<(RegionId, RegionId)>,
+    ) -> Result<(), Memory>
+        requires { other.now.shape < length self.old.table }
+        ensures learns { Learns self.old self.new }
+        ensures asked { OnOk result ((m : Bool) (t u : TypeTree)
+            → IsRowOf self.old.table self.old.regions t target.now
+            → IsRowOf self.old.table self.old.regions u other.now
+            → reference_shape m (shape_of t) ≡ shape_of u
+            → AddsPairs (SubtypeAsks self.old.structs (reference region m t) u)
             asked.old.items asked.new.items) }
     {
-        let structs = self.body.types.table.structs();
-        let meeting = Meeting { one, other };
-        ask_once(
-            alloc,
-            structs,
-            &self.types,
-            &mut self.meetings,
-            meeting,
-            asked,
-        )
+        let types = self.body.types;
+        let structs = types.table.structs();
+        let regions = types.regions.as_slice();
+        self.signs.learn(alloc, structs, &self.shapes, other.shape)?;
+        match self.signs.get(other.shape) {
+            Some(known) => {
+                let signs = known.signs.as_slice();
+                let behind = target.regions(regions);
+                ask_reference_rows(signs, behind, region, other.regions(regions), asked)
+            }
+            None => unreachable!(),
+        }
     }
 }

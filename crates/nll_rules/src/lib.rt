@@ -2,28 +2,24 @@
 //! that its statements ask, by the subtyping of types, by reborrows, and by calls. It knows no
 //! text.
 //!
-//! Reading order: `layer`, `types`, `interning`, `forms`, `behind` number types and lead from one
-//! to another; `sign`, `subtypes`, `meetings`, `parts`, `known`, `walk`, `asking` say what a
-//! statement asks; `error`, `body_problem`, `facts`, `constraints`, `laws` put the problem
-//! together. The definitions are in specs/.
+//! Reading order: `sign`, `row_signs`, `field_rows`, `type_row`, `part_rows` say what types at hand
+//! are; `reborrow`, `known`, `walk`, `asking` say what a statement asks; `error`, `body_problem`,
+//! `facts`, `constraints`, `laws` put the problem together. The definitions are in specs/.
 #![tactic(auto)]
 
 mod asking;
-mod behind;
 mod body_problem;
 mod constraints;
 mod error;
 mod facts;
-mod forms;
-mod interning;
+mod field_rows;
 mod known;
 mod laws;
-mod layer;
-mod meetings;
-mod parts;
+mod part_rows;
+mod reborrow;
+mod row_signs;
 mod sign;
-mod subtypes;
-mod types;
+mod type_row;
 mod walk;
 
 pub use body_problem::problem_of;

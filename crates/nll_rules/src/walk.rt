@@ -1,17 +1,20 @@
 //! The types of places, and the references on which a reborrow of a place rests.
 
-ghost use Rattle.std.specs.Prelude.{◌≡◌, ◌↔◌, ◌<◌, ℕ, length, option_map};
-ghost use Rattle.std.specs.Prelude.{Contains, IfOk, IfSome, OnOk};
-ghost use Rattle.nll_types.specs.Places.{behind, path_of, type_of};
+ghost use Rattle.std.specs.Prelude.{◌≡◌, ◌↔◌, ◌<◌, ℕ, length};
+ghost use Rattle.std.specs.Prelude.{Contains, IfOk, OnOk};
+ghost use Rattle.nll_types.specs.Places.{behind, type_of};
+ghost use Rattle.nll_types.specs.Types.{TypeTree};
+ghost use Rattle.nll_statements.specs.Flat.{path_in};
 ghost use Rattle.nll_rules.specs.Knowing.{Learns};
-ghost use Rattle.nll_rules.specs.Layers.{type_in};
 ghost use Rattle.nll_rules.specs.Reborrows.{RestsOn};
+ghost use Rattle.nll_rules.specs.TypeRows.{IsRowIn, IsRowOf};
 ghost use Rattle.nll_rules.specs.Walks.{past};
 
 use crate::known::Known;
+use crate::type_row::TypeRow;
 use nll_problem::RegionId;
 use nll_sets::Memory;
-use nll_types::{Place, Projection};
+use nll_types::Projection;
 use std::alloc::Global;
 
 impl<'a> Known<'a> {
@@ -20,20 +23,21 @@ impl<'a> Known<'a> {
     fn step(
         &mut self,
         alloc: Global,
-        number: usize,
+        row: TypeRow,
         projection: Projection,
         crossed: &mut Vec<RegionId>,
-    ) -> Result<Option<usize>, Memory>
-        requires { number < length self.old.layers }
+    ) -> Result<Option<TypeRow>, Memory>
+        requires { row.shape < length self.old.table }
         ensures learns { Learns self.old self.new }
-        ensures within { IfOk result (λ o. IfSome o (λ i. i < length self.new.layers)) }
-        ensures at { IfOk result (λ o. option_map (type_in self.new.layers) o
-            ≡ behind self.old.structs projection (type_in self.old.layers number)) }
-        ensures past { OnOk result (crossed.new.items
-            ≡ past projection (type_in self.old.layers number) crossed.old.items) }
+        ensures row { IfOk result (λ o. (t : TypeTree)
+            → IsRowOf self.old.table self.old.regions t row
+            → IsRowIn self.new.table self.new.regions (behind self.old.structs projection t) o) }
+        ensures past { OnOk result ((t : TypeTree)
+            → IsRowOf self.old.table self.old.regions t row
+            → crossed.new.items ≡ past projection t crossed.old.items) }
     {
         match projection {
-            Projection::Deref => match self.reference_at(number) {
+            Projection::Deref => match self.reference_at(row) {
                 Some((region, mutable, target)) => {
                     if !mutable {
                         crossed.clear();
@@ -43,7 +47,7 @@ impl<'a> Known<'a> {
                 }
                 None => Ok(None),
             },
-            Projection::Field(place) => self.part(alloc, number, place as usize),
+            Projection::Field(place) => self.part(alloc, row, place as usize),
         }
     }
 
@@ -55,28 +59,27 @@ impl<'a> Known<'a> {
     pub(crate) fn walk(
         &mut self,
         alloc: Global,
-        place: &Place,
+        place: u32,
         crossed: &mut Vec<RegionId>,
-    ) -> Result<Option<usize>, Memory>
+    ) -> Result<Option<TypeRow>, Memory>
         ensures learns { Learns self.old self.new }
-        ensures within { IfOk result (λ o. IfSome o (λ i. i < length self.new.layers)) }
-        ensures at { IfOk result (λ o. option_map (type_in self.new.layers) o
-            ≡ type_of self.old.structs self.old.variables (path_of place.now)) }
+        ensures row { IfOk result (IsRowIn self.new.table self.new.regions
+            (type_of self.old.structs self.old.variables (path_in self.old.lists place))) }
         ensures rests { OnOk result ((a : ℕ) → Contains crossed.new.items a
-            ↔ RestsOn self.old.structs self.old.variables (path_of place.now) a) }
+            ↔ RestsOn self.old.structs self.old.variables (path_in self.old.lists place) a) }
     {
         crossed.clear();
-        let Some(variable) = self.variable(place.variable()) else {
+        let statements = self.statements();
+        let Some(variable) = self.variable(alloc, statements.variable(place))? else {
             return Ok(None);
         };
-        let mut number = variable;
-        let projections = place.projections();
-        for projection in projections {
-            match self.step(alloc, number, *projection, crossed)? {
-                Some(next) => number = next,
+        let mut row = variable;
+        for projection in statements.projections(place) {
+            match self.step(alloc, row, *projection, crossed)? {
+                Some(next) => row = next,
                 None => return Ok(None),
             }
         }
-        Ok(Some(number))
+        Ok(Some(row))
     }
 }

@@ -4,14 +4,13 @@ use Rattle.std.proofs.Math.Numerals.{add-one}
 use Rattle.std.proofs.Math.Seq.{drop-cons}
 use Rattle.std.proofs.lemmas.List.{append-nil, drop_all, map-append}
 use Rattle.std.specs.List.{flat_map}
-use Rattle.nll_types.specs.Operands.{Operand, operand_of}
-use Rattle.nll_types.specs.declared.operand.Operand.{Operand as Written}
+use Rattle.nll_types.specs.Operands.{Operand}
 use Rattle.nll_statements.specs.Effects.{operands_of, place_in}
 
-pub operands_same : {T : Type 0} → (args : List (Written × T))
-    → map (λ a. operand_of a.0) args ≡ operands_of (map (λ a. (operand_of a.0, a.1)) args)
-operands_same [] = refl
-operands_same (a ∷ args) = ap (λ ops. operand_of a.0 ∷ ops) (operands_same args)
+pub operands_same : {X T : Type 0} (f : X → Operand) (args : List (X × T))
+    → map (λ a. f a.0) args ≡ operands_of (map (λ a. (f a.0, a.1)) args)
+operands_same f [] = refl
+operands_same f (a ∷ args) = ap (λ ops. f a.0 ∷ ops) (operands_same f args)
 
 -- the variables of the operands' places, and those of what is left of them
 module _ {X : Type 0} (h : X → Operand) where

@@ -1,5 +1,7 @@
 pub mod EdgeLemmas
 pub mod EffectLemmas
+pub mod FlatLemmas
+pub mod AddedLemmas
 pub mod MapLemmas
 pub mod TypePairLemmas
 pub mod JudgedLemmas

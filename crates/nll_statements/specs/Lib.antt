@@ -6,3 +6,5 @@ pub mod Kept
 pub mod TypePairs
 pub mod Typing
 pub mod Meant
+pub mod Flat
+pub mod Within

@@ -3,14 +3,18 @@
 //! erased, and how large its types may be. It knows no text and no graph.
 #![tactic(auto)]
 
+mod adding;
 mod declared;
 mod edges;
 mod effects;
+mod flat;
 mod parts;
 mod statement;
 mod statement_judgement;
-mod written;
+mod statements;
 
 pub use edges::Exits;
-pub use statement::{Call, Make, Statement, Stmt};
+pub use flat::{FlatCall, FlatMake, FlatOperand, FlatSwitch, PartPlace, Slice, Stmt};
+pub use statement::{Call, Make, ResolvedStatement, Statement};
 pub use statement_judgement::judge_statement;
+pub use statements::Statements;

@@ -58,5 +58,5 @@ pub enum Statement<R, T> {
     Stop,
 }
 
-/// A statement or terminator of a body.
-pub type Stmt = Statement<RegionId, Typed>;
+/// A statement or terminator whose regions and types go by numbers.
+pub type ResolvedStatement = Statement<RegionId, Typed>;

@@ -1,1 +1,2 @@
 mod EndTextLemmas
+mod KeepingLemmas

@@ -3,8 +3,8 @@
 //! Expected values are found by hand from the definitions. The plain solver, `rounds`, is a second
 //! body of `solve`'s contract.
 //!
-//! Reading order: `rounds`, `transcript`, `problem_text`, `calls`, `type_data`, `meetings`,
-//! `type_text`, `statement_text`, `rows`, then each module of tests.
+//! Reading order: `rounds`, `transcript`, `problem_text`, `calls`, `well_formed`,
+//! `type_data`, `meetings`, `type_text`, `statement_text`, `rows`, then each module of tests.
 #![tactic(auto)]
 
 mod rounds;
@@ -63,5 +63,7 @@ mod type_rows;
 mod type_text;
 #[cfg(test)]
 mod types;
+#[cfg(test)]
+mod well_formed;
 #[cfg(test)]
 mod written_types;

@@ -27,7 +27,9 @@ pub enum OfLine {
     Form,
     /// Whether its form is one of version 1.
     First,
-    /// What its statement does.
+    /// How its statement goes on.
+    Exits,
+    /// What its statement over numbers does, and where it goes on.
     Effects,
 }
 
@@ -43,7 +45,9 @@ pub fn write_line(out: &mut Transcript, line: &str, asked: OfLine) {
             )
         }
         OfLine::Capital => out.flag("", is_capital(line.as_bytes()), ""),
-        OfLine::Names | OfLine::Resolved => type_names::write_in_scope(out, line, asked),
+        OfLine::Names | OfLine::Resolved | OfLine::Effects => {
+            type_names::write_in_scope(out, line, asked)
+        }
         _ => write_told(out, line.as_bytes(), asked),
     }
 }

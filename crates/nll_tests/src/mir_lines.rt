@@ -1,4 +1,4 @@
-//! Lines of MIR texts, by their forms, and what their statements do.
+//! Lines of MIR texts, by their forms, and how their statements go on.
 use super::lines::OfLine;
 use super::rows::Asked::Form;
 use super::rows::{Row, compare_rows, compare_text};
@@ -67,36 +67,31 @@ fn write_line(out: &mut Transcript, line: &Line<'_>) {
     }
 }
 
-// Writes what a statement uses, defines and drops, where it goes on, and whether the block ends
-// with it.
-fn write_effects(out: &mut Transcript, statement: &Written<'_>) {
-    let mut used = Vec::new(out.alloc);
-    let mut blocks = Vec::new(out.alloc);
-    out.note(statement.uses(&mut used));
-    out.note(statement.targets(&mut blocks));
-    out.numbers("", used.as_slice());
-    drop(used);
-    out.option(" ", statement.defines());
-    out.option(" ", statement.drops());
-    out.numbers(" ", blocks.as_slice());
-    drop(blocks);
-    out.flag(" ", statement.is_terminator(), "");
+// Writes how many edges leave the point of a statement, and whether the block ends with it.
+fn write_exits(out: &mut Transcript, statement: &Written<'_>) {
+    match statement.exits(out.alloc) {
+        Ok(exits) => {
+            out.size("", exits.edges);
+            out.say(if exits.ends { " ends" } else { "" });
+        }
+        Err(_) => out.say("refused"),
+    }
 }
 
-// Writes the form of a line, or what its statement does, where it is one.
-fn write_told(out: &mut Transcript, line: &Line<'_>, is_done: bool) {
+// Writes the form of a line, or how its statement goes on, where it is one.
+fn write_told(out: &mut Transcript, line: &Line<'_>, goes_on: bool) {
     match line {
-        Line::At(statement) if is_done => write_effects(out, statement),
-        _ if is_done => out.say("no statement"),
+        Line::At(statement) if goes_on => write_exits(out, statement),
+        _ if goes_on => out.say("no statement"),
         _ => write_line(out, line),
     }
 }
 
-/// Writes the form of a line in version 2, which has each form, or what its statement does.
-pub fn write_form(out: &mut Transcript, line: &[u8], is_done: bool) {
+/// Writes the form of a line in version 2, which has each form, or how its statement goes on.
+pub fn write_form(out: &mut Transcript, line: &[u8], goes_on: bool) {
     match line_of(out.alloc, Version::Second, line) {
         Ok(Some(form)) => {
-            write_told(out, &form, is_done);
+            write_told(out, &form, goes_on);
             drop(form);
         }
         Ok(None) => out.say("none"),
@@ -413,38 +408,36 @@ end ~ true true
 end end ~ false false
 ";
 
-// Statements and terminators; and the variables that each uses, that which it defines, that which
-// it drops, the blocks to which it goes on, and whether the block ends with it.
-const EFFECTS: &str = "
-_3 = &'foo _1 ~ [1] Some(3) None [] false
-switch copy _2 bb1 bb2 ~ [2] None None [1, 2] true
-read _3.* ~ [3] None None [] false
-goto bb2 ~ [] None None [2] true
-return ~ [0] None None [] true
-_2 = &'r _1.*.* ~ [1] Some(2) None [] false
-nop ~ [] None None [] false
-drop _1 -> bb1 ~ [] None Some(1) [1] true
-_2 = move _1 ~ [1] Some(2) None [] false
-_0 = copy _1 ~ [1] Some(0) None [] false
-_2 = call f(copy _1: &'c int): &'c int -> bb1 ~ [1] Some(2) None [1] true
-_1 = const ~ [] Some(1) None [] false
-_1.0 = const ~ [1] None None [] false
-_1.* = copy _2.0 ~ [2, 1] None None [] false
-_1.0 = &'a mut _2.* ~ [2, 1] None None [] false
-_4 = make (int, int) (const, move _2) ~ [2] Some(4) None [] false
-_4.1 = make () () ~ [4] None None [] false
-live _5 ~ [] Some(5) None [] false
-dead _5 ~ [] Some(5) None [] false
-switch const bb3 bb3 ~ [] None None [3, 3] true
-drop _1 -> bb1 unwind bb2 ~ [] None Some(1) [1, 2] true
-_2.0 = call f(copy _1: int, const: int, move _3: int): int -> bb1 unwind bb0 \
-~ [1, 3, 2] None None [1, 0] true
-stop ~ [] None None [] true
+// Statements and terminators; and how many edges leave the point of each, and whether the block
+// ends with it.
+const EXITS: &str = "
+_1 = const ~ 1
+_1 = move _3.1 ~ 1
+_2 = &'r mut _1.* ~ 1
+_3 = make (int, int)(copy _1, const) ~ 1
+read _4.0 ~ 1
+live _4 ~ 1
+dead _4 ~ 1
+nop ~ 1
+goto bb0 ~ 1 ends
+switch const bb1 ~ 1 ends
+switch const bb3 bb3 ~ 1 ends
+switch copy _1 bb2 bb1 ~ 2 ends
+switch copy _1 bb1 bb0 bb1 ~ 2 ends
+switch move _1 bb3 bb1 bb0 bb2 ~ 4 ends
+drop _4 -> bb1 ~ 1 ends
+drop _4 -> bb1 unwind bb0 ~ 2 ends
+drop _4 -> bb1 unwind bb1 ~ 1 ends
+_2 = call f(): int where 'a: 'b -> bb1 ~ 1 ends
+_4.0 = call f(copy _1: int, move _3.0: int): int -> bb1 unwind bb0 ~ 2 ends
+_4 = call f(): int -> bb1 unwind bb1 ~ 1 ends
+return ~ 0 ends
+stop ~ 0 ends
 end ~ no statement
 ";
 
-// A line has one of the forms, or none; which of them are forms of version 1. A statement does what
-// the table of statements says.
+// A line has one of the forms, or none; which of them are forms of version 1. Each block to which a
+// statement goes on is one edge.
 #[test]
 fn lines_have_forms(rt: HostRuntime) {
     compare_text(&rt, rt.alloc(), OfLine::Form, LINES);
@@ -453,7 +446,7 @@ fn lines_have_forms(rt: HostRuntime) {
     compare_text(&rt, rt.alloc(), OfLine::Form, STRAYS);
     compare_rows(&rt, rt.alloc(), BROKEN);
     compare_text(&rt, rt.alloc(), OfLine::First, VERSIONS);
-    compare_text(&rt, rt.alloc(), OfLine::Effects, EFFECTS);
+    compare_text(&rt, rt.alloc(), OfLine::Exits, EXITS);
     one_form();
     one_token_list();
     tokens_make_a_line();

@@ -3,7 +3,7 @@ use super::transcript::Transcript;
 use nll_core::RegionId;
 use nll_mir_grammar::{Line, TypeText, Version, line_of};
 use nll_resolve::{Scope, resolve};
-use nll_statements::{Call, Make, Statement, Stmt};
+use nll_statements::{Call, Make, ResolvedStatement, Statement};
 use nll_types::{BodyTypes, Operand, Typed};
 
 // The region of a name, or 99 where the scope has none of that name.
@@ -34,7 +34,7 @@ fn make_of(
     scope: &Scope<'_>,
     types: &mut BodyTypes,
     made: Make<TypeText<'_>>,
-) -> Option<Stmt> {
+) -> Option<ResolvedStatement> {
     let Make {
         place,
         ty: text,
@@ -85,7 +85,7 @@ fn call_of(
     scope: &Scope<'_>,
     types: &mut BodyTypes,
     call: Call<&[u8], TypeText<'_>>,
-) -> Option<Stmt> {
+) -> Option<ResolvedStatement> {
     let Call {
         place,
         arguments,
@@ -112,7 +112,7 @@ fn resolved(
     scope: &Scope<'_>,
     types: &mut BodyTypes,
     statement: Statement<&[u8], TypeText<'_>>,
-) -> Option<Stmt> {
+) -> Option<ResolvedStatement> {
     match statement {
         Statement::Assign(target, operand) => Some(Statement::Assign(target, operand)),
         Statement::Borrow(target, region, mutable, source) => {
@@ -139,7 +139,7 @@ pub fn statement_of(
     scope: &Scope<'_>,
     types: &mut BodyTypes,
     line: &[u8],
-) -> Option<Stmt> {
+) -> Option<ResolvedStatement> {
     match line_of(out.alloc, Version::Second, line) {
         Ok(Some(Line::At(statement))) => resolved(out, scope, types, statement),
         _ => None,

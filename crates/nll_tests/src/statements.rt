@@ -5,19 +5,48 @@ use super::statement_names::statement_of;
 use super::statement_text::write_statement;
 use super::transcript::Transcript;
 use nll_resolve::Scope;
-use nll_statements::Stmt;
+use nll_statements::{ResolvedStatement, Statements, Stmt};
 use nll_types::BodyTypes;
 
-// Writes what a statement does: the variables that it uses, that which it defines, that which it
-// drops, and whether the block ends with it.
-fn write_effects(out: &mut Transcript, statement: &Stmt) {
+// Writes the variables that a statement uses, that which it defines, and that which it drops.
+fn write_variables(out: &mut Transcript, statements: &Statements, statement: &Stmt) {
     let mut used = Vec::new(out.alloc);
-    out.note(statement.uses(&mut used));
-    out.numbers(" ", used.as_slice());
+    out.note(statements.uses(statement, &mut used));
+    out.numbers("", used.as_slice());
     drop(used);
-    out.option(" ", statement.defines());
-    out.option(" ", statement.drops());
-    out.flag(" ", statement.is_terminator(), "");
+    out.option(" ", statements.defines(statement));
+    out.option(" ", statements.drops(statement));
+}
+
+// Writes the blocks to which a statement goes on.
+fn write_targets(out: &mut Transcript, statements: &Statements, statement: &Stmt) {
+    let mut blocks = Vec::new(out.alloc);
+    out.note(statements.targets(statement, &mut blocks));
+    out.numbers(" ", blocks.as_slice());
+    drop(blocks);
+}
+
+// Writes what the last of these statements does: what it uses, defines and drops, where it goes on,
+// if that is asked, and whether the block ends with it.
+fn write_last(out: &mut Transcript, statements: &Statements, goes_on: bool) {
+    if let Some(last) = statements.len().checked_sub(1) {
+        let statement = statements.at(last);
+        write_variables(out, statements, statement);
+        if goes_on {
+            write_targets(out, statements, statement);
+        }
+        out.flag(" ", statements.is_terminator(statement), "");
+    }
+}
+
+// Writes what a statement does. In the lists it comes twice, so that it has other numbers there
+// than the first of each kind.
+fn write_effects(out: &mut Transcript, statement: &ResolvedStatement, goes_on: bool) {
+    let mut statements = Statements::new(out.alloc);
+    out.note(statements.push(statement));
+    out.note(statements.push(statement));
+    write_last(out, &statements, goes_on);
+    drop(statements);
 }
 
 /// Writes the statement of a line over numbers, and what it does.
@@ -26,7 +55,21 @@ pub fn write_resolved(out: &mut Transcript, scope: &Scope<'_>, line: &[u8]) {
     match statement_of(out, scope, &mut types, line) {
         Some(statement) => {
             write_statement(out, Some(&types), &statement);
-            write_effects(out, &statement);
+            out.say(" ");
+            write_effects(out, &statement, false);
+            drop(statement);
+        }
+        None => out.say("no statement"),
+    }
+    drop(types);
+}
+
+/// Writes what the statement of a line does, and where it goes on.
+pub fn write_done(out: &mut Transcript, scope: &Scope<'_>, line: &[u8]) {
+    let mut types = BodyTypes::new(out.alloc);
+    match statement_of(out, scope, &mut types, line) {
+        Some(statement) => {
+            write_effects(out, &statement, true);
             drop(statement);
         }
         None => out.say("no statement"),
@@ -97,10 +140,41 @@ _2 = call f(move _1: fn(int) -> &'b T): fn() -> int -> bb1 unwind bb0 \
 ~ _2 = call move _1: fn( int ) &2 P0|,: fn( ) int| to 1 or 0 [1] Some(2) None true
 ";
 
+// Statements and terminators; and the variables that each uses, that which it defines, that which
+// it drops, the blocks to which it goes on, and whether the block ends with it.
+const EFFECTS: &str = "
+_3 = &'foo _1 ~ [1] Some(3) None [] false
+switch copy _2 bb1 bb2 ~ [2] None None [1, 2] true
+read _3.* ~ [3] None None [] false
+goto bb2 ~ [] None None [2] true
+return ~ [0] None None [] true
+_2 = &'r _1.*.* ~ [1] Some(2) None [] false
+nop ~ [] None None [] false
+drop _1 -> bb1 ~ [] None Some(1) [1] true
+_2 = move _1 ~ [1] Some(2) None [] false
+_0 = copy _1 ~ [1] Some(0) None [] false
+_2 = call f(copy _1: &'a int): &'a int -> bb1 ~ [1] Some(2) None [1] true
+_1 = const ~ [] Some(1) None [] false
+_1.0 = const ~ [1] None None [] false
+_1.* = copy _2.0 ~ [2, 1] None None [] false
+_1.0 = &'a mut _2.* ~ [2, 1] None None [] false
+_4 = make (int, int) (const, move _2) ~ [2] Some(4) None [] false
+_4.1 = make () () ~ [4] None None [] false
+live _5 ~ [] Some(5) None [] false
+dead _5 ~ [] Some(5) None [] false
+switch const bb3 bb3 ~ [] None None [3, 3] true
+drop _1 -> bb1 unwind bb2 ~ [] None Some(1) [1, 2] true
+_2.0 = call f(copy _1: int, const: int, move _3: int): int -> bb1 unwind bb0 \
+~ [1, 3, 2] None None [1, 0] true
+stop ~ [] None None [] true
+end ~ no statement
+";
+
 // Each kind of statement is resolved as it is written, and does what it should.
 #[test]
 fn statements_are_resolved(rt: HostRuntime) {
     compare_text(&rt, rt.alloc(), OfLine::Resolved, STATEMENTS);
     compare_text(&rt, rt.alloc(), OfLine::Resolved, MADE);
     compare_text(&rt, rt.alloc(), OfLine::Resolved, CALLS);
+    compare_text(&rt, rt.alloc(), OfLine::Effects, EFFECTS);
 }

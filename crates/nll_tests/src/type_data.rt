@@ -1,8 +1,9 @@
 //! Types, structs and tables that are written as data. If an allocation fails, something else is
 //! made, and the transcript says so.
 use super::transcript::Transcript;
+use super::well_formed::has_good_fields;
 use nll_core::RegionId;
-use nll_types::{Declaration, Parameter, Sign, Ty, TypeTable, has_good_fields};
+use nll_types::{Declaration, Parameter, Sign, Ty, TypeTable};
 
 /// A step in making types. It takes its parts from the end of the list of those made so far, and
 /// appends the type that it makes.

@@ -72,6 +72,7 @@ fn kinds(out: &mut Transcript) -> Vec<Vec<bool>> {
 fn write_asked(out: &mut Transcript, scope: &Scope<'_>, line: &str, asked: OfLine) {
     match asked {
         OfLine::Names => write_front(out, scope, line.as_bytes()),
+        OfLine::Effects => statements::write_done(out, scope, line.as_bytes()),
         _ => statements::write_resolved(out, scope, line.as_bytes()),
     }
 }

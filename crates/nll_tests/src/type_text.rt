@@ -6,14 +6,10 @@ use super::transcript::Transcript;
 use super::type_data::Step::{Int, Named, Parameter, Reference, Tuple};
 use super::type_data::{Step, Written, declare, types_of};
 use super::type_rows::write_row;
+use super::well_formed::is_well_formed;
 use nll_core::RegionId;
 use nll_sets::Memory;
-use nll_types::{
-    Node, Place, Projection, Structs, Ty, TypeTable, copy, field_type, is_well_formed, place_type,
-    put_in,
-};
-use smallvec::SmallVec;
-use std::alloc::Global;
+use nll_types::{Node, Projection, Structs, Ty, TypeTable, behind, copy, put_in};
 
 // The structs of the tests:
 //  0 has a drop of its own, which needs its region;
@@ -127,19 +123,16 @@ fn write_live(out: &mut Transcript, structs: &Structs, ty: &Ty) {
     }
 }
 
-// The type of a place in the last of some variables.
-fn type_at(
-    alloc: Global,
+// Writes the type behind projections from a type that is copied.
+fn write_behind_copy(
+    out: &mut Transcript,
     structs: &Structs,
-    types: &[Ty],
+    ty: &Ty,
     projections: &[Projection],
-) -> Result<Option<Ty>, Memory> {
-    let variable = types.len().saturating_sub(1).min(100) as u32;
-    let projections = SmallVec::from_slice(alloc, projections)?;
-    let place = Place::new(alloc, variable, projections)?;
-    let ty = place_type(alloc, structs, types, &place);
-    drop(place);
-    ty
+) -> Result<(), Memory> {
+    let from = copy(out.alloc, ty)?;
+    write_asked(out, behind(out.alloc, structs, from, projections));
+    Ok(())
 }
 
 // Writes the shape of a place in a variable of a type: its nodes, its parts, and whether each type
@@ -179,8 +172,8 @@ fn write_made(
     declare_all(out, table);
     let types = types_of(out, steps, 0);
     if let Some(ty) = types.last() {
-        let asked = type_at(out.alloc, table.structs(), types.as_slice(), projections);
-        write_asked(out, asked);
+        let written = write_behind_copy(out, table.structs(), ty, projections);
+        out.note(written);
         let shaped = write_shape(out, table, ty, projections);
         out.note(shaped);
         write_live(out, table.structs(), ty);
@@ -193,21 +186,9 @@ fn write_added(out: &mut Transcript, table: &mut TypeTable) -> Result<(), Memory
     let int = table.add(Node::Int)?;
     let reference = table.add(Node::Reference(true, int))?;
     let again = table.add(Node::Int)?;
-    out.flag(" same ", table.shapes().is_same(int, again), "");
+    out.flag("same ", table.shapes().is_same(int, again), "");
     out.flag(" other ", table.shapes().is_same(reference, again), "");
     Ok(())
-}
-
-// Writes a field, and what nodes that are added make.
-fn write_field(out: &mut Transcript, table: &mut TypeTable) {
-    declare_all(out, table);
-    let types = types_of(out, &[Int], 0);
-    let arguments = types.as_slice();
-    let field = field_type(out.alloc, table.structs(), 4, &[RegionId(6)], arguments, 0);
-    drop(types);
-    write_asked(out, field);
-    let added = write_added(out, table);
-    out.note(added);
 }
 
 // Writes whether a type that was made has the shape of this number.
@@ -290,8 +271,8 @@ pub enum OfType {
     /// The last type that steps make, and a place in it: the place's type and shape, and the type's
     /// regions and drop regions.
     Place(&'static [Step], &'static [Projection]),
-    /// A field of a struct, and nodes that are added.
-    Field,
+    /// Nodes that are added.
+    Added,
     /// An `int` after this many references.
     Deep(usize),
     /// The last of this many structs that double.
@@ -308,7 +289,10 @@ pub enum OfType {
 fn write_told(out: &mut Transcript, table: &mut TypeTable, asked: OfType) {
     match asked {
         OfType::Place(steps, projections) => write_made(out, table, steps, projections),
-        OfType::Field => write_field(out, table),
+        OfType::Added => {
+            let added = write_added(out, table);
+            out.note(added);
+        }
         OfType::Deep(depth) => write_deep(out, table, depth),
         OfType::Doubling(more) => write_doubling(out, table, more),
         OfType::Meeting(steps, meeting, place) => write_meeting(out, table, steps, meeting, place),

@@ -4,7 +4,7 @@ use super::rows::Asked::Type;
 use super::rows::{Row, compare_rows};
 use super::type_data::Step;
 use super::type_data::Step::{Int, Named, Reference, Tuple};
-use super::type_text::OfType::{Both, Deep, Doubling, Field, Meeting, OfRow, Place};
+use super::type_text::OfType::{Added, Both, Deep, Doubling, Meeting, OfRow, Place};
 use nll_types::Projection;
 
 const DEREF: Projection = Projection::Deref;
@@ -66,6 +66,11 @@ const PLACES: &[Row] = &[
         "S3< &5 int > size 3 parts Some(0) small true 5 drop 5",
     ),
     (
+        "a field, with the arguments substituted",
+        Type(Place(&[Int, Named(4, &[6], 1)], &[Projection::Field(0)])),
+        "&6 mut int size 2 parts None small true 6 drop 6",
+    ),
+    (
         "a struct without a drop of its own",
         Type(Place(
             &[Int, Reference(7, false), Named(4, &[6], 1)],
@@ -91,9 +96,8 @@ const PLACES: &[Row] = &[
 // A type that nests as deep as it can, and one of a node more; and the types behind structs that
 // double.
 const LARGE: &[Row] = &[
-    // A field has its declared type with the arguments substituted, and a shape that is added twice
-    // is one.
-    ("a field", Type(Field), "&6 mut int same true other false"),
+    // A shape that is added twice is one.
+    ("shapes", Type(Added), "same true other false"),
     // In a row of regions those of the arguments come first.
     ("a row", Type(OfRow), "S3< 7 8 &6 mut int int >"),
     // A type of the most nodes nests as deep as it can, and one of a node more is no longer small.

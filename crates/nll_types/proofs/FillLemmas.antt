@@ -1,7 +1,7 @@
 -- Types that are made of shapes and regions, one after another.
 use Rattle.std.proofs.Common.{◌≡◌, ℕ, zero, suc, ◌+◌, ◌<◌, ◌≤◌, List, [], ◌∷◌, ◌++◌, length, get_or, take, refl, sym, ap, ◌∙◌, arith}
 use Rattle.std.specs.Prelude.{slice_index}
-use Rattle.std.proofs.lemmas.List.{take_more, take_all}
+use Rattle.std.proofs.lemmas.List.{take_more}
 use Rattle.nll_types.specs.Types.{TypeTree, TypeTrees, none, more}
 use Rattle.nll_types.specs.Shapes.{Shape, shape_nodes, shape_nodes_of_all}
 use Rattle.nll_types.specs.Table.{at, all_at}
@@ -45,10 +45,6 @@ filled_more known is k d rs made rest next t l h a b =
     ∙ ap (λ (u : TypeTree). (and_one (trees made) u, (filled (at known i) rest).1)) (sym a)
     ∙ ap (λ (qs : List ℕ). (and_one (trees made) (tree t), qs)) (sym b)
     ∙ ap (λ (ts : TypeTrees). (ts, next)) (sym (trees_push made t))
-
-pub filled_all : (known : List Shape) (is : List ℕ) (k : ℕ) (rs : List ℕ) (made : List Ty) (rest : List ℕ)
-    → length is ≤ k → AreFilled known (take k is) rs made rest → AreFilled known is rs made rest
-filled_all known is k rs made rest l h = rw (take_all k is l) at h
 
 -- a part has at most as many nodes as all parts together
 pub part_nodes : (known : List Shape) (is : List ℕ) (k : ℕ) → k < length is

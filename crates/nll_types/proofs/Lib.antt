@@ -9,6 +9,7 @@ mod FailLemmas
 pub mod FoundLemmas
 pub mod ShapeLemmas
 pub mod TableLemmas
+pub mod CopyLemmas
 pub mod OneNumberLemmas
 pub mod ShapingLemmas
 pub mod ProjectLemmas
@@ -16,7 +17,6 @@ pub mod PlaceLemmas
 pub mod MemoLemmas
 pub mod SameShapeLemmas
 pub mod WayLemmas
-pub mod KeepingLemmas
 pub mod NumberLemmas
 pub mod MeetingLemmas
 pub mod RowLemmas

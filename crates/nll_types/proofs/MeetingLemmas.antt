@@ -1,5 +1,5 @@
 -- What is found of places and operands, and what is judged of two types that meet.
-use Rattle.std.proofs.Common.{◌≡◌, ℕ, ◌<◌, Bool, true, false, Option, Some, None, List, length, refl, sym, ap, ◌∙◌, subst, arith, ◌↔◌}
+use Rattle.std.proofs.Common.{◌≡◌, ℕ, ◌<◌, Bool, true, false, Option, Some, None, List, length, refl, sym, ap, ◌∙◌, subst, ◌↔◌}
 use Rattle.std.specs.Prelude.{◌&&◌, IsTrue, IfSome, slice_get, option_map, option_and_then, unwrap_or, nat_le, is_some}
 use Rattle.std.specs.Bool.{beq}
 use Rattle.nll_problem.specs.Limits.{most_nodes}
@@ -24,11 +24,6 @@ pub found_later : (old new : List Node) (o : Option TypedShape) (t : Option Type
 found_later old new None t small e b h = record { shape = h.shape; small = h.small }
 found_later old new (Some f) t small e b h = record { shape = ap Some (e.kept f.shape b) ∙ h.shape; small = h.small }
 
-pub within_later : (old new : List Node) (o : Option TypedShape) → Extends old new
-    → IfSome o (λ f. f.shape < length old) → IfSome o (λ f. f.shape < length new)
-within_later old new None e b = tt
-within_later old new (Some f) e b = let m = e.longer in omega arith
-
 pub place_is : (structs : List Struct) (ns : List Node) (ts : List TypeTree) (p : PlacePath) (t : TypeTree)
     (o : Option TypedShape) → slice_get ts p.variable ≡ Some t
     → option_map (λ (f : TypedShape). shape_in ns f.shape) o ≡ option_map shape_of (behind_all structs p.projections t)
@@ -52,11 +47,6 @@ small_agrees t s e = ap is_small_shape e ∙ sym (ap (λ (n : ℕ). nat_le n mos
 pub is_none : (ns : List Node) (t : Option TypeTree) (small : Bool) → IsFound ns None t small → is_some t ≡ false
 is_none ns None small h = refl
 is_none ns (Some t) small h = absurd (let z = h.shape in cc)
-
-pub is_there : (ns : List Node) (f : TypedShape) (t : Option TypeTree) (small : Bool) → IsFound ns (Some f) t small
-    → is_some t ≡ true
-is_there ns f None small h = absurd (let z = h.shape in cc)
-is_there ns f (Some t) small h = refl
 
 -- ---- what is judged
 

@@ -26,6 +26,10 @@ same_use x y h =
     ap (λ (n : ℕ). let f : FieldUse = record { shape = n; place = x.place } in f) a
     ∙ ap (λ (n : ℕ). let f : FieldUse = record { shape = y.shape; place = n } in f) b
 
+-- nothing is remembered
+pub remembered_none : (structs : List Struct) (ns : List Node) → AreRemembered structs ns []
+remembered_none structs ns = record { each = λ x v c. absurd (let l = c.1 in omega arith) }
+
 -- also where the table has grown
 pub remembered_stay : (structs : List Struct) (old new : List Node) (fields : List (FieldUse × ℕ))
     → AreRemembered structs old fields → Extends old new → AreRemembered structs new fields

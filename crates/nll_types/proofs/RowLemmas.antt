@@ -2,13 +2,13 @@
 use Rattle.std.proofs.Common.{◌≡◌, ℕ, zero, suc, ◌<◌, ◌↔◌, List, [], ◌∷◌, ◌++◌, length, map, take, drop, refl, sym, ap, ◌∙◌, subst, append_assoc, length-append, arith, ⊎_elim, inl, inr, Contains}
 use Rattle.std.specs.Prelude.{slice_index_or, All}
 use Rattle.std.proofs.Math.Seq.{take-append_seam, drop-append_seam}
-use Rattle.std.proofs.lemmas.List.{append-nil, drop-append-le}
+use Rattle.std.proofs.lemmas.List.{drop-append-le}
 use Rattle.std.proofs.lemmas.List.Elements.{All-append, All-nil, Contains-append_left, Contains-append_right, Contains-append_cases}
 use Rattle.nll_sets.specs.Prefix.{IsPrefix}
 use Rattle.nll_types.specs.Types.{TypeTree, TypeTrees, int, parameter, reference, tuple, named, function, none, more, HasRegion, AnyHasRegion}
 use Rattle.nll_types.specs.Structs.{Struct, IsWellFormed, AreWellFormed}
 use Rattle.nll_types.specs.Shapes.{Shape, shape_of, shapes_of}
-use Rattle.nll_types.specs.Table.{Extends, AreBelow, shape_in}
+use Rattle.nll_types.specs.Table.{Extends, AreBelow}
 use Rattle.nll_types.specs.Judging.{HaveShapes}
 use Rattle.nll_types.specs.Rows.{region_row, region_rows, filled, all_filled, tree_at, IsTyped, HasRow, numbers_of}
 use Rattle.nll_types.specs.declared.node.Node.{Node}
@@ -75,17 +75,6 @@ module _ (ns : List Node) (regions : List ℕ) where
   below_rows [] h k l = absurd (omega arith)
   below_rows (v ∷ vs) h zero l = (h 0 v (omega arith)).within
   below_rows (v ∷ vs) h (suc k) l = below_rows vs (λ j d m. h (suc j) d (omega arith)) k (omega arith)
-
--- a type whose row is put behind the regions
-pub typed_new : (ns : List Node) (regions : List ℕ) (i : ℕ) (t : TypeTree) → i < length ns
-    → shape_in ns i ≡ shape_of t
-    → IsTyped ns (regions ++ region_row t) (record { shape = i; first = length regions }) t
-typed_new ns regions i t within same = record {
-  within = within;
-  begun = omega (arith, length-append regions (region_row t));
-  shape = same;
-  row = ([], drop-append_seam regions (region_row t) ∙ sym (append-nil (region_row t)));
-}
 
 -- ---- more shapes, and more regions
 

@@ -27,7 +27,6 @@ mod ty;
 mod type_shapes;
 mod type_table;
 mod typed;
-mod well_formed;
 
 pub use body_types::BodyTypes;
 pub use copies::copy;
@@ -37,15 +36,15 @@ pub use laws::{
     same_shape_means_equal_shapes, types_are_as_large_as_shapes, types_of_places_are_well_formed,
 };
 pub use limits::MAX_NODES;
+pub use memo::{FieldUse, part_once};
 pub use node::Node;
 pub use operand::Operand;
 pub use parameter::{Parameter, Sign};
 pub use place::{Place, Projection};
-pub use place_types::{behind, field_type, place_type};
+pub use place_types::behind;
 pub use shapes::Shapes;
 pub use structs::{Declaration, Structs};
 pub use substitution::put_in;
 pub use ty::Ty;
 pub use type_table::TypeTable;
 pub use typed::Typed;
-pub use well_formed::{has_good_fields, is_well_formed};

@@ -18,9 +18,15 @@ use indexmap::IndexMap;
 use nll_sets::Memory;
 use std::alloc::Global;
 
-/// A part or field of a shape.
+/// A part or field of a shape, by which the number of its own shape is remembered.
+///
+/// # Shape
+/// The number of the shape, and the place of the part or field. Only `part_once` makes one.
+///
+/// # Source
+/// Project's choice.
 #[derive(Clone, Copy, PartialEq, Eq, Hash)]
-pub(crate) struct FieldUse {
+pub struct FieldUse {
     pub(crate) shape: usize,
     pub(crate) place: usize,
 }
@@ -66,9 +72,23 @@ fn field_once(
     }
 }
 
-/// The part of a tuple or the field of a struct: a field is made at most once for each shape and
-/// place, and a part needs no look-up.
-pub(crate) fn part_once(
+/// The shape of the part of a tuple or of the field of a struct, where there is one. The shape of a
+/// field is made at most once for each shape and place, and then found among `fields`.
+///
+/// # Shape
+/// The numbers that are remembered are of these structs and of this table. They stay right while
+/// the table grows, and none of them serves for other structs.
+///
+/// # Errors
+/// Out of memory: each number has the shape that it had, and what is remembered is still right.
+///
+/// # Cost
+/// Of a part: constant. Of a field: linear in its declared type the first time, and that of a
+/// look-up later (not proved).
+///
+/// # Source
+/// Project's choice.
+pub fn part_once(
     alloc: Global,
     structs: &Structs,
     shapes: &mut Shapes,

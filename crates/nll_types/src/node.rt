@@ -1,7 +1,7 @@
 //! One layer of a shape.
 
 /// One layer of a shape, whose parts go by their numbers.
-#[derive(PartialEq, Eq, Hash, Drop)]
+#[derive(Clone, PartialEq, Eq, Hash, Drop)]
 pub enum Node {
     Int,
     /// A type parameter of a struct.

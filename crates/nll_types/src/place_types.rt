@@ -1,14 +1,13 @@
 //! The types of places.
 
-ghost use Rattle.std.specs.Prelude.{◌≡◌, ◌≤◌, IfOk, MatchOption, None, Some, option_map, map};
-ghost use Rattle.std.specs.Prelude.{drop, length};
+ghost use Rattle.std.specs.Prelude.{◌≡◌, IfOk, MatchOption, None, Some, option_map, drop};
 ghost use Rattle.nll_types.specs.Structs as spec;
 ghost use Rattle.nll_types.specs.Declarations.{structs_of};
-ghost use Rattle.nll_types.specs.Places.{type_of, path_of, behind_all, LeadsOn};
+ghost use Rattle.nll_types.specs.Places.{behind_all, LeadsOn};
 ghost use Rattle.nll_types.specs.Views.{tree, trees};
 
 use crate::copies::copy;
-use crate::place::{Place, Projection};
+use crate::place::Projection;
 use crate::structs::Structs;
 use crate::substitution::put_in;
 use crate::ty::Ty;
@@ -16,8 +15,8 @@ use nll_problem::RegionId;
 use nll_sets::Memory;
 use std::alloc::Global;
 
-/// The type of a field of a struct with these arguments, where it has the field.
-pub fn field_type(
+// The type of a field of a struct with these arguments, where it has the field.
+fn field_type(
     alloc: Global,
     structs: &Structs,
     number: usize,
@@ -85,32 +84,6 @@ fn advance(
     }
 }
 
-// The type behind the projections that are left, where there is one.
-fn type_from(
-    alloc: Global,
-    structs: &Structs,
-    from: Ty,
-    projections: &[Projection],
-    first: usize,
-) -> Result<Option<Ty>, Memory>
-    requires { first ≤ length projections.now }
-    ensures { IfOk result (λ o. option_map tree o
-        ≡ behind_all (structs_of structs.now) (drop first projections.now) (tree from)) }
-{
-    let mut current = from;
-    let mut taken = first;
-    while taken < projections.len() {
-        match advance(alloc, structs, &current, projections, taken)? {
-            Some((next, reached)) => {
-                current = next;
-                taken = reached;
-            }
-            None => return Ok(None),
-        }
-    }
-    Ok(Some(current))
-}
-
 /// The type behind projections from a type, where there is one.
 ///
 /// # Cost
@@ -124,29 +97,16 @@ pub fn behind(
     ensures { IfOk result (λ o. option_map tree o
         ≡ behind_all (structs_of structs.now) projections.now (tree ty)) }
 {
-    type_from(alloc, structs, ty, projections, 0)
-}
-
-/// The type of a place over variables of these types, where it has one.
-///
-/// # Cost
-/// Linear in the types of the variable and of the fields of structs on the way (not proved).
-pub fn place_type(
-    alloc: Global,
-    structs: &Structs,
-    variables: &[Ty],
-    place: &Place,
-) -> Result<Option<Ty>, Memory>
-    ensures { IfOk result (λ o. option_map tree o
-        ≡ type_of (structs_of structs.now) (map tree variables.now) (path_of place.now)) }
-{
-    let variable = place.variable() as usize;
-    if variable >= variables.len() {
-        return Ok(None);
+    let mut current = ty;
+    let mut taken = 0;
+    while taken < projections.len() {
+        match advance(alloc, structs, &current, projections, taken)? {
+            Some((next, reached)) => {
+                current = next;
+                taken = reached;
+            }
+            None => return Ok(None),
+        }
     }
-    let projections = place.projections();
-    match advance(alloc, structs, &variables[variable], projections, 0)? {
-        Some((reached, taken)) => type_from(alloc, structs, reached, projections, taken),
-        None => Ok(None),
-    }
+    Ok(Some(current))
 }

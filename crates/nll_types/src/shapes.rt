@@ -102,6 +102,26 @@ impl Shapes {
         }
     }
 
+    /// A table of its own with the same shapes: it has as many numbers, and each number has the
+    /// shape that it has here.
+    ///
+    /// # Cost
+    /// Linear in the table (not proved).
+    ///
+    /// # Source
+    /// Project's choice.
+    pub fn copy(&self, alloc: Global) -> Result<Shapes, Memory>
+        ensures { IfOk result (λ s. shapes_in s ≡ shapes_in self.now) }
+    {
+        let sizes = Vec::from_slice(alloc, self.sizes.as_slice())?;
+        let nodes = self.nodes.clone()?;
+        Ok(Shapes {
+            nodes,
+            sizes,
+            int: self.int,
+        })
+    }
+
     /// How many shapes have numbers.
     pub fn len(&self) -> usize
         ensures { result ≡ length self.now }

@@ -222,18 +222,4 @@ impl TypeTable {
             Node::Int | Node::Parameter(_) | Node::Reference(_, _) | Node::Function(_, _) => None,
         }
     }
-
-    /// The structs alone, once the body is read.
-    pub fn into_structs(self) -> Structs
-        ensures { result ≡ self.structs }
-    {
-        let TypeTable {
-            structs,
-            shapes,
-            fields,
-        } = self;
-        drop(shapes);
-        drop(fields);
-        structs
-    }
 }

@@ -1,17 +1,18 @@
 use Rattle.std.proofs.Common.{◌≡◌, Contains, inr, subst}
 use Rattle.std.proofs.lemmas.Result.{on_ok_weaker}
 use Rattle.nll_statements.specs.Effects.{targets}
-use Rattle.nll_statements.specs.Kept.{statement_of}
+use Rattle.nll_statements.specs.Flat.{statement_in}
 use Rattle.nll_body.specs.Edges.{LeadsTo}
 use Rattle.nll_body.specs.Making.{AddsTargets}
 use Rattle.nll_body.proofs.PointLemmas.{targets_listed, terminator_edges}
 use Rattle.nll_body.proofs.edges.add_edges.Goals as goal
 use Rattle.nll_body.proofs.edges.add_edges.Goals.{After-as_slice}
 
-listed : (c : After-as_slice) → c.as_slice.result.now ≡ targets (statement_of c.args.statement.now)
+listed : (c : After-as_slice) → c.as_slice.result.now ≡ targets (statement_in c.args.points.now c.args.statement.now)
 listed c =
-    targets_listed c.args.statement.now c.clear.new.self.items c.targets.new.blocks.items c.as_slice.result.now
-    c.as_slice.ensures.value c.in_ok-targets.ensures.ok c.clear.ensures.items
+    targets_listed (statement_in c.args.points.now c.args.statement.now) c.clear.new.self.items
+    c.targets.new.blocks.items c.as_slice.result.now c.as_slice.ensures.value
+    c.in_ok-targets.ensures.ok c.clear.ensures.items
 
 pub add_targets-requires-clause-blocks : goal.add_targets-requires-clause-blocks
 add_targets-requires-clause-blocks c =
@@ -33,6 +34,6 @@ returns-clause-ok c =
     let d = (goal.at.returns-clause-ok c).After-as_slice in
     on_ok_weaker c.add_targets.result (λ adds.
     terminator_edges c.args.starts.now c.args.point
-    (statement_of c.args.statement.now) c.args.graph.now c.add_targets.new.graph c.requires.terminator
+    (statement_in c.args.points.now c.args.statement.now) c.args.graph.now c.add_targets.new.graph c.requires.terminator
     (subst (λ bs. AddsTargets c.args.starts.now c.args.point bs c.args.graph.now c.add_targets.new.graph)
     (listed d) adds)) c.add_targets.ensures.ok

@@ -25,8 +25,8 @@ returns-clause-made c =
           let output = c.in_ok-output.ensures.newest known st.made a.shapes in
           record {
             shapes = told (types_before rest) (function (types_inside rest) (newest_type st.made))
-                (front_taken known shapes n _ (older st.made) c.pop.new.made.items c.pop_row.new.made.items taken row.made
-                start)
+                (front_taken known shapes n _ (older st.made) c.pop.new.made.items c.pop_row.new.made.items taken
+                row.made start)
                 (λ e. let i = inputs e in let o = output e in cc);
             regions = a.regions;
             rows = row.rows ∙ ap others a.rows;

@@ -19,8 +19,8 @@ returns-clause-made c =
           let rows = ap reverse c.as_slice.ensures ∙ a.rows in
           rw is record {
             shapes = rw number (told (types_before st) (parameter c.args.number)
-                (front_taken kept.known c.args.types.now.table.shapes row.types (starts st.rows).0 st.made kept.shapes.items
-                c.truncate-2.new.self.items a.shapes c.truncate-2.ensures.items
+                (front_taken kept.known c.args.types.now.table.shapes row.types (starts st.rows).0 st.made
+                kept.shapes.items c.truncate-2.new.self.items a.shapes c.truncate-2.ensures.items
                 (told_row.types ∙ ap (λ ms. (starts ms).0) rows)) (λ e. refl));
             regions = c.truncate-3.ensures.items ∙ cc;
             rows = ap reverse (c.truncate.ensures.items

@@ -1,18 +1,36 @@
 use Rattle.std.proofs.Common.{refl}
-use Rattle.nll_statements.specs.Kept.{statement_of}
+use Rattle.nll_statements.specs.Flat.{statement_in}
 use Rattle.nll_statements.specs.Meant.{meant_by}
+use Rattle.nll_rules.proofs.KnowingLemmas.{of_body_later, stands, stands_agree, stands_rows}
 use Rattle.nll_rules.proofs.PointLemmas.{asked_pairs, kept_asked}
-use Rattle.nll_rules.proofs.TypedLemmas.{stands}
 use Rattle.nll_rules.proofs.constraints.find_asked.Goals as goal
+
+pub asks-requires-clause-rows : goal.asks-requires-clause-rows
+asks-requires-clause-rows c =
+    stands_rows c.args.body.now c.args.known.now c.requires.known c.args.point c.at.result.now
+    (rw c.statements.ensures at c.at.ensures)
+
+pub asks-requires-clause-agree : goal.asks-requires-clause-agree
+asks-requires-clause-agree c =
+    stands_agree c.args.body.now c.args.known.now c.requires.known c.args.point c.at.result.now
+    (rw c.statements.ensures at c.at.ensures)
+
+pub returns-in_err-asks-clause-known : goal.returns-in_err-asks-clause-known
+returns-in_err-asks-clause-known c =
+    of_body_later c.args.body.now c.args.known.now c.asks.new.self c.asks.ensures.learns c.requires.known
+
+pub returns-clause-known : goal.returns-clause-known
+returns-clause-known c =
+    of_body_later c.args.body.now c.args.known.now c.asks.new.self c.asks.ensures.learns c.requires.known
 
 pub returns-clause-asked : goal.returns-clause-asked
 returns-clause-asked c =
     let k = c.args.known.now in
-    let i = statement_of c.statement.result.now in
-    let meant = meant_by k.shapes k.regions i in
+    let s = c.at.result.now in
+    let meant = meant_by k.shapes k.regions (statement_in k.lists s) in
     let once = c.keep_once.new.pairs.items in
     asked_pairs c.args.body.now c.args.point meant once
-    (stands c.args.body.now k c.requires.known c.args.point i c.statement.ensures)
+    (stands c.args.body.now k c.requires.known c.args.point s (rw c.statements.ensures at c.at.ensures))
     (kept_asked c.args.body.now meant k.structs k.variables c.clear.new.self.items c.asks.new.asked.pairs.items once
     once c.requires.known.structs c.requires.known.variables c.clear.ensures.items c.in_ok-asks.ensures.asked
     c.keep_once.ensures refl)

@@ -3,20 +3,18 @@ use Rattle.nll_body.proofs.body.Body.new.Goals as goal
 
 pub graph_of-told-requires-clause-blocks : goal.graph_of-told-requires-clause-blocks
 graph_of-told-requires-clause-blocks c =
-    rw c.as_slice.ensures.value (rw c.as_slice-starts.ensures.value (parts_blocks c.args.parts c.requires.sound))
+    rw c.as_slice-starts.ensures.value (parts_blocks c.args.parts c.requires.sound)
 
 pub graph_of-told-requires-clause-ends : goal.graph_of-told-requires-clause-ends
 graph_of-told-requires-clause-ends c =
-    rw c.as_slice.ensures.value (rw c.as_slice-starts.ensures.value (parts_ends c.args.parts c.requires.sound))
+    rw c.as_slice-starts.ensures.value (parts_ends c.args.parts c.requires.sound)
 
 pub graph_of-told-requires-clause-room : goal.graph_of-told-requires-clause-room
-graph_of-told-requires-clause-room c =
-    rw c.as_slice.ensures.value (parts_room c.args.parts c.requires.sound)
+graph_of-told-requires-clause-room c = parts_room c.args.parts c.requires.sound
 
 pub assembled-requires-clause-graph : goal.assembled-requires-clause-graph
 assembled-requires-clause-graph c =
-    parts_shown c.args.parts c.in-Ok.graph
-    (rw c.as_slice.ensures.value at (rw c.as_slice-starts.ensures.value at c.in-Ok.ensures.ok))
+    parts_shown c.args.parts c.in-Ok.graph (rw c.as_slice-starts.ensures.value at c.in-Ok.ensures.ok)
 
 pub assembled-requires-clause-sound : goal.assembled-requires-clause-sound
 assembled-requires-clause-sound c = c.requires.sound

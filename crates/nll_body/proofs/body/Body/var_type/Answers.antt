@@ -11,5 +11,5 @@ returns-clause-well_formed c = IfOk-weaker c.tree.result _ _ (λ t is.
     good_type c.args.self.now (subst IsSound c.self.view_is c.self.invariant.0.sound) c.args.variable (tree t)
     (subst (HasType c.args.self.now c.args.variable) (sym is)
     (typed c.self.inside.outlives.items c.self.inside.asserts.items c.self.inside.types
-    c.self.inside.variables.items c.self.inside.points.items c.self.inside.labels c.self.inside.graph c.args.self.now
+    c.self.inside.variables.items c.self.inside.points c.self.inside.labels c.self.inside.graph c.args.self.now
     c.self.view_is c.args.variable c.index.result.now c.requires c.index.ensures))) c.tree.ensures

@@ -2,6 +2,7 @@ use Rattle.std.proofs.Common.{◌≡◌, refl, sym, ◌∙◌, inr, length, map,
 use Rattle.std.proofs.lemmas.List.{length-map}
 use Rattle.std.proofs.lemmas.Bool.{not-true, not-false}
 use Rattle.nll_statements.specs.Edges.{edge_count}
+use Rattle.nll_statements.specs.Flat.{statements_in}
 use Rattle.nll_statements.specs.Kept.{statement_of}
 use Rattle.nll_body.specs.Typed.{meant as meant_with}
 use Rattle.nll_mir_text.specs.declared.reader.Reader.{Reader}
@@ -11,11 +12,11 @@ use Rattle.nll_mir_text.proofs.PointLemmas.{too_many_edges, no_fault, edges_mean
 use Rattle.nll_mir_text.proofs.reader.Reader.admit_judged.Goals as goal
 
 -- as many points are said as there are statements
-counted : (r : Reader) → length (said_by r).points ≡ length r.points.statements.items
-counted r = length-map r.points.statements.items (meant_with r.variables.types)
+counted : (r : Reader) → length (said_by r).points ≡ length (statements_in r.points.statements)
+counted r = length-map (statements_in r.points.statements) (meant_with r.variables.types)
 
-same_count : (r : Reader) → edge_count (said_by r).points ≡ edge_count (map statement_of r.points.statements.items)
-same_count r = edges_meant r.variables.types r.points.statements.items
+same_count : (r : Reader) → edge_count (said_by r).points ≡ edge_count (statements_in r.points.statements)
+same_count r = edges_meant r.variables.types (statements_in r.points.statements)
 
 pub returns-then-not-judged-clause-refused : goal.returns-then-not-judged-clause-refused
 returns-then-not-judged-clause-refused c = λ i fits placed told.
@@ -55,7 +56,7 @@ returns-then-len-clause-refused c = λ i fits placed told.
     ∙ c.if-not-targets_are_blocks.false in
     inr (too_many_points s i placed.order known blocks (sym told.fits ∙ (not-false _ c.if-not-judged-2.false))
     (sym (told.fits_small (not-false _ c.if-not-judged-2.false)) ∙ (not-false _ c.if-not-judged-3.false))
-    (omega (arith, counted c.args.self.now, c.len.ensures, c.args.self.now.points.statements.ok.0, c.if-len.true)))
+    (omega (arith, counted c.args.self.now, c.len.ensures, c.if-len.true)))
 
 pub returns-then-edges-gt-MAX_EDGES-clause-refused : goal.returns-then-edges-gt-MAX_EDGES-clause-refused
 returns-then-edges-gt-MAX_EDGES-clause-refused c = λ i fits placed told.
@@ -68,7 +69,7 @@ returns-then-edges-gt-MAX_EDGES-clause-refused c = λ i fits placed told.
     (statement_of c.args.statement.now) placed.of in
     inr (too_many_edges s i placed.order known blocks (sym told.fits ∙ (not-false _ c.if-not-judged-2.false))
     (sym (told.fits_small (not-false _ c.if-not-judged-2.false)) ∙ (not-false _ c.if-not-judged-3.false))
-    (omega (arith, counted c.args.self.now, c.len.ensures, c.args.self.now.points.statements.ok.0, c.if-len.false))
+    (omega (arith, counted c.args.self.now, c.len.ensures, c.if-len.false))
     (omega (
       arith,
       c.requires.exits.edges,
@@ -94,7 +95,6 @@ returns-clause-admitted c = λ i fits placed told.
             arith,
             counted c.args.self.now,
             c.len.ensures,
-            c.args.self.now.points.statements.ok.0,
             c.if-len.false,
           ))
           (omega (
@@ -107,7 +107,7 @@ returns-clause-admitted c = λ i fits placed told.
           ));
       same = refl;
       ready = c.requires.ready;
-      few = omega (arith, c.len.ensures, c.args.self.now.points.statements.ok.0, c.if-len.false);
+      few = omega (arith, c.len.ensures, c.if-len.false);
       counted = omega (arith, c.requires.exits.edges, edges);
       few_edges = omega (arith, c.if-edges-gt-MAX_EDGES.false);
       ends = c.requires.exits.ends

@@ -5,10 +5,10 @@ use Rattle.std.proofs.lemmas.List.Elements.{All-push}
 use Rattle.nll_types.specs.Types.{TypeTree}
 use Rattle.nll_types.specs.declared.typed.Typed.{Typed}
 use Rattle.nll_statements.specs.Edges.{edge_count}
+use Rattle.nll_statements.specs.Flat.{statements_in}
 use Rattle.nll_statements.specs.Kept.{statement_of}
 use Rattle.nll_statements.specs.Meant.{HasRows}
 use Rattle.nll_statements.specs.Statements.{Statement}
-use Rattle.nll_statements.specs.declared.statement.Statement.{Statement as Kept}
 use Rattle.nll_body.specs.Typed.{meant as meant_with}
 use Rattle.nll_mir_text.specs.MirSteps.{statement_meant}
 use Rattle.nll_mir_text.specs.MirReading.{said_by, scope_in}
@@ -21,33 +21,28 @@ returns c = λ i fits h placed.
     let s = said_by old in
     let r = h.ready in
     let types = old.variables.types in
-    let kept = old.points.statements.items in
-    let k = c.args.statement in
-    let new = c.add_point.new.points.statements.items in
+    let kept = statements_in old.points.statements in
+    let k = statement_of c.args.statement in
+    let new = statements_in c.add_point.new.points.statements in
     let e = c.in_ok-add_point.ensures in
     let stand : map (meant_with types) new ≡ s.points ++ statement_meant s i ∷ [] =
     ap (map (meant_with types)) e.statements
     ∙ (map_push (meant_with types) kept k
     ∙ ap (λ (m : Statement ℕ TypeTree). s.points ++ m ∷ []) placed.of.meant) in
-    let more : edge_count (map statement_of new) ≡ edge_count (map statement_of (kept ++ k ∷ [])) =
-    ap (λ (is : List (Kept ℕ Typed)). edge_count (map statement_of is)) e.statements in
-    let last : edge_count (map statement_of (kept ++ k ∷ []))
-    ≡ edge_count (map statement_of kept ++ statement_of k ∷ []) =
-    ap (λ (is : List (Statement ℕ Typed)). edge_count is) (map_push statement_of kept k) in
-    let counted : c.add_point.new.points.edges ≡ edge_count (map statement_of new) =
+    let more : edge_count new ≡ edge_count (kept ++ k ∷ []) =
+    ap (λ (is : List (Statement ℕ Typed)). edge_count is) e.statements in
+    let counted : c.add_point.new.points.edges ≡ edge_count new =
     omega (
       arith,
       e.edges,
       r.edges,
       h.counted,
       more,
-      last,
-      edges_more (map statement_of kept) (statement_of k),
-      edges_resolved (scope_in old.regions old.structs) i types (statement_of k) placed.of,
+      edges_more kept k,
+      edges_resolved (scope_in old.regions old.structs) i types k placed.of,
     ) in
     let points =
-    All-push (λ (j : Kept ℕ Typed). HasRows types.table.shapes types.regions.items (statement_of j)) kept k
-    r.rows.points placed.of.rows in
+    All-push (HasRows types.table.shapes types.regions.items) kept k r.rows.points placed.of.rows in
     record {
       fine = h.fine;
       says = point_said s i _ _ _ _ e.blocks (ap (λ v. v.items) e.starts) stand
@@ -65,8 +60,7 @@ returns c = λ i fits h placed.
         few_variables = r.few_variables;
         rows = record {
           variables = r.rows.variables;
-          points = subst (All (λ (j : Kept ℕ Typed). HasRows types.table.shapes types.regions.items (statement_of j)))
-              (sym e.statements) points;
+          points = subst (All (HasRows types.table.shapes types.regions.items)) (sym e.statements) points;
         };
         few_blocks = omega (arith, e.blocks, r.few_blocks);
         no_start = λ h. absurd (omega (arith, h));

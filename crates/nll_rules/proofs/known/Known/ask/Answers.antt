@@ -1,11 +1,12 @@
+use Rattle.std.proofs.lemmas.Result.{on_ok_weaker}
+use Rattle.nll_types.specs.Declarations.{structs_of}
+use Rattle.nll_rules.proofs.KnownLemmas.{rows_ask_types}
 use Rattle.nll_rules.proofs.known.Known.ask.Goals as goal
 
-pub ask_once-requires-clause-meetings : goal.ask_once-requires-clause-meetings
-ask_once-requires-clause-meetings c = rw c.structs-structs.ensures c.self.invariant.2
-
-pub invariant_of-self : goal.invariant_of-self
-invariant_of-self c = (
-  c.self.invariant.0,
-  c.self.invariant.1,
-  rw c.structs-structs.ensures at c.ask_once.ensures.meetings,
-)
+pub returns-clause-asked : goal.returns-clause-asked
+returns-clause-asked c = rw (← c.self.view_is) (on_ok_weaker c.ask_rows.result
+    (λ adds t u h k same. rows_ask_types (structs_of c.self.inside.body.types.now.table.structs) _ _ _ t u
+    c.args.one.now c.args.other.now c.in-Some.known.now _ _ (rw c.structs-structs.ensures at c.learn.ensures.right)
+    c.in-Some.ensures.found h k same
+    (rw (c.as_slice-signs.ensures.value, c.regions.ensures, c.regions-in-Some.ensures, c.as_slice-regions.ensures.value)
+    at adds)) c.ask_rows.ensures)

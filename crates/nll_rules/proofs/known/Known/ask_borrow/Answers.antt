@@ -1,5 +1,8 @@
 use Rattle.std.proofs.lemmas.Result.{on_ok_weaker}
-use Rattle.nll_types.specs.Places.{path_of}
+use Rattle.nll_statements.specs.Flat.{path_in}
+use Rattle.nll_rules.specs.Flows.{place_type}
+use Rattle.nll_rules.proofs.AgreeLemmas.{borrow_agrees}
+use Rattle.nll_rules.proofs.KnowingLemmas.{row_in_stays}
 use Rattle.nll_rules.proofs.PairLemmas.{adds_same, adds_swapped}
 use Rattle.nll_rules.proofs.StatementLemmas.{asks_borrow, outlives_rests}
 use Rattle.nll_rules.proofs.known.Known.ask_borrow.Goals as goal
@@ -7,19 +10,19 @@ use Rattle.nll_rules.proofs.known.Known.ask_borrow.Goals as goal
 pub returns-clause-asked : goal.returns-clause-asked
 returns-clause-asked c =
     let k = c.args.self.now in
-    let b = c.args.borrow.now in
+    let p = path_in k.lists c.args.place in
+    let q = path_in k.lists c.args.borrowed in
+    let r = c.args.region in
     let one = c.walk.ensures.learns in
-    let two = c.reference_to.ensures.learns in
-    let rests = outlives_rests k.structs k.variables (path_of b.borrowed.now) _ b.region _ _
-    c.in_ok-target.ensures.rests (rw c.as_slice.ensures.value at c.in_ok-ask_outlives.ensures) in
-    on_ok_weaker c.ask_into.result (λ h.
-    let into = rw (
-      two.structs,
-      two.variables,
-      one.structs,
-      one.variables,
-      c.in_ok-one.ensures.at,
-      c.in_ok-target.ensures.at,
-    ) at h in
-    adds_same _ _ _ _ (λ x. asks_borrow k.structs k.variables (path_of c.args.place.now) b.region b.mutable
-    (path_of b.borrowed.now) x) (adds_swapped _ _ _ _ _ rests into)) c.ask_into.ensures.asked
+    let two = c.walk-2.ensures.learns in
+    let target = row_in_stays c.walk.new.self c.walk-2.new.self (place_type k c.args.borrowed) c.in_ok-target.target
+    two c.in_ok-target.ensures.row in
+    let other = rw (one.structs, one.variables, one.lists) at c.in_ok-other.ensures.row in
+    let rests = outlives_rests k.structs k.variables q _ r _ _ c.in_ok-target.ensures.rests
+    (rw c.as_slice.ensures.value at c.in_ok-ask_outlives.ensures) in
+    on_ok_weaker c.meet_reference.result (λ h m agrees.
+    let met = (rw (two.structs, one.structs) at
+    (h m (place_type k c.args.borrowed) (place_type k c.args.place) target other))
+    (borrow_agrees k.structs k.variables p r m q agrees) in
+    adds_same _ _ _ _ (λ x. asks_borrow k.structs k.variables p r m q x) (adds_swapped _ _ _ _ _ rests met))
+    c.meet_reference.ensures.asked

@@ -1,21 +1,18 @@
-use Rattle.std.proofs.Common.{refl}
-use Rattle.nll_types.specs.Declarations.{structs_of}
-use Rattle.nll_rules.proofs.InterningLemmas.{earlier_more}
-use Rattle.nll_rules.proofs.KnowingLemmas.{meetings_stay, learns_more}
+use Rattle.std.proofs.lemmas.Result.{IfOk-weaker}
+use Rattle.nll_rules.proofs.KnownLemmas.{part_none, part_there}
 use Rattle.nll_rules.proofs.known.Known.part.Goals as goal
 
-pub part_once-requires-clause-parts : goal.part_once-requires-clause-parts
-part_once-requires-clause-parts c = rw c.structs-structs.ensures c.self.invariant.1
+pub returns-in-None-clause-row : goal.returns-in-None-clause-row
+returns-in-None-clause-row c t h =
+    let k = c.args.self.now in
+    let none = rw c.in-None.is at c.in_ok-shape.ensures.at in
+    part_none k.structs k.table _ k.regions _ t c.args.row c.args.place h none
 
-pub invariant_of-self : goal.invariant_of-self
-invariant_of-self c = (
-  earlier_more _ _ c.self.inside.variables.items c.part_once.ensures.keeps.longer c.self.invariant.0,
-  rw c.structs-structs.ensures at c.part_once.ensures.parts,
-  meetings_stay (structs_of c.self.inside.body.types.now.table.structs) c.self.inside.types c.part_once.new.types
-      c.self.inside.meetings.entries c.self.invariant.2 c.part_once.ensures.keeps,
-)
-
-pub returns-clause-learns : goal.returns-clause-learns
-returns-clause-learns c =
-    rw (← c.self.view_is) (learns_more _ c.self.inside.variables.items c.part_once.new.types refl
-    c.self.invariant.0 c.part_once.ensures.keeps)
+pub returns-in-Some-clause-row : goal.returns-in-Some-clause-row
+returns-in-Some-clause-row c =
+    let k = c.args.self.now in
+    let learns = c.part_shape.ensures.learns in
+    let there = rw c.in-Some.is at c.in_ok-shape.ensures.at in
+    IfOk-weaker c.part_of_shape.result _ _
+    (λ o row t h. part_there k.structs k.table c.part_shape.new.self.table _ k.regions _ t c.args.row c.args.place
+    c.in-Some.shape o h learns.table there (rw (learns.structs, learns.regions) at row)) c.part_of_shape.ensures.row

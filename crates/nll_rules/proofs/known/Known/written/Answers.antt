@@ -1,15 +1,18 @@
-use Rattle.std.proofs.Common.{refl}
-use Rattle.nll_types.specs.Declarations.{structs_of}
-use Rattle.nll_rules.proofs.KnowingLemmas.{known_stays, learns_more}
+use Rattle.std.proofs.Common.{◌<◌, length, subst, arith}
+use Rattle.nll_types.specs.Table.{Extends}
+use Rattle.nll_rules.specs.Knowing.{KnownTypes}
+use Rattle.nll_rules.proofs.KnownLemmas.{written_row}
 use Rattle.nll_rules.proofs.known.Known.written.Goals as goal
 
-pub invariant_of-self : goal.invariant_of-self
-invariant_of-self c =
-    known_stays (structs_of c.self.inside.body.types.now.table.structs) c.self.inside.types c.number_written.new.types
-    c.self.inside.variables.items
-    c.self.inside.parts.entries c.self.inside.meetings.entries c.number_written.ensures.keeps c.self.invariant
+pub learn-requires : goal.learn-requires
+learn-requires c =
+    let e = subst (λ (k : KnownTypes). Extends k.shapes k.table) c.self.view_is c.self.invariant.1 in
+    let l = e.longer in let w = c.requires.within in omega arith
 
-pub returns-clause-learns : goal.returns-clause-learns
-returns-clause-learns c =
-    rw (← c.self.view_is) (learns_more _ c.self.inside.variables.items c.number_written.new.types refl
-    c.self.invariant.0 c.number_written.ensures.keeps)
+pub returns-clause-row : goal.returns-clause-row
+returns-clause-row c =
+    let k = c.args.self.now in
+    let e = subst (λ (k : KnownTypes). Extends k.shapes k.table) c.self.view_is c.self.invariant.1 in
+    let learns = c.learn.ensures.learns in
+    rw learns.regions (written_row k.shapes k.table c.learn.new.self.table k.regions c.args.ty c.in_ok-count.count
+    c.requires e learns.table c.in_ok-count.ensures.count)

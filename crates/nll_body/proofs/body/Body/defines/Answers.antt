@@ -1,0 +1,16 @@
+use Rattle.std.proofs.Common.{ap, sym, ◌∙◌}
+use Rattle.nll_types.specs.Rows.{tree_at}
+use Rattle.nll_statements.specs.Effects.{defined}
+use Rattle.nll_statements.specs.Flat.{statement_in}
+use Rattle.nll_statements.proofs.MapLemmas.{same_defined}
+use Rattle.nll_body.proofs.KeptLemmas.{meant_there}
+use Rattle.nll_body.proofs.body.Body.defines.Goals as goal
+
+pub returns : goal.returns
+returns c = λ i there.
+    c.defines.ensures
+    ∙ sym (same_defined (λ r. r) (tree_at c.self.inside.types.table.shapes c.self.inside.types.regions.items)
+    (statement_in c.self.inside.points c.at.result.now))
+    ∙ ap defined (meant_there c.self.inside.outlives.items c.self.inside.asserts.items c.self.inside.types
+    c.self.inside.variables.items c.self.inside.points c.self.inside.labels c.self.inside.graph c.args.self.now
+    c.self.view_is c.args.point c.at.result.now c.at.ensures i there)

@@ -1,0 +1,110 @@
+-- Types by their shapes and rows of regions, while a statement is looked at.
+-- Source: project's choice. Only private contracts cite this file.
+use Rattle.std.specs.Prelude.{◌≡◌, ℕ, ◌+◌, ◌-◌, ◌<◌, List, [], ◌∷◌, length, take, drop}
+use Rattle.std.specs.Prelude.{Option, Some, None, option_map, unwrap_or, slice_get, slice_index_or}
+use Rattle.nll_types.specs.Types.{TypeTree, TypeTrees, int, parameter, reference, tuple, named}
+use Rattle.nll_types.specs.Types.{function}
+use Rattle.nll_types.specs.Structs.{Struct, argument}
+use Rattle.nll_types.specs.Rows.{region_row}
+use Rattle.nll_types.specs.Shapes.{Shape, ShapeList, int_shape, parameter_shape, reference_shape}
+use Rattle.nll_types.specs.Shapes.{tuple_shape, named_shape, function_shape, no_shape, more_shapes}
+use Rattle.nll_types.specs.Shapes.{shape_of}
+use Rattle.nll_types.specs.Table.{shape_in}
+use Rattle.nll_types.specs.declared.node.Node.{Node}
+use Rattle.nll_types.specs.declared.parameter.Sign.TheVariants.{Covariant}
+use Rattle.nll_rules.specs.Signs.{signs}
+use Rattle.nll_rules.specs.declared.field_rows.UseRow.{UseRow}
+use Rattle.nll_rules.specs.declared.row_signs.ShapeSigns.{ShapeSigns}
+use Rattle.nll_rules.specs.declared.type_row.TypeRow.{TypeRow}
+
+-- ---- shapes
+
+abbrev mutual
+  -- how many regions the row of a type of this shape has
+  pub row_length : Shape → ℕ
+  row_length int_shape = 0
+  row_length (parameter_shape k) = 0
+  row_length (reference_shape m t) = row_length t + 1
+  row_length (tuple_shape ts) = rows_length ts
+  row_length (named_shape s n ts) = rows_length ts + n
+  row_length (function_shape ts t) = rows_length ts + row_length t
+
+  -- how many those of types of these shapes have together
+  pub rows_length : ShapeList → ℕ
+  rows_length no_shape = 0
+  rows_length (more_shapes t ts) = row_length t + rows_length ts
+
+-- the parts of a shape whose rows stand first in its row, one after another
+abbrev pub first_parts : Shape → ShapeList
+first_parts (tuple_shape ts) = ts
+first_parts (named_shape s n ts) = ts
+first_parts (function_shape ts t) = ts
+first_parts _ = no_shape
+
+-- where the rows of these begin, one after another from this place on, and where the last ends
+abbrev pub starts_from : ℕ → ShapeList → List ℕ
+starts_from n no_shape = n ∷ []
+starts_from n (more_shapes t ts) = n ∷ starts_from (n + row_length t) ts
+
+-- The signs are those of the shape's row, and the places those where the rows of its first parts
+-- begin.
+pub record AreSignsOf (structs : List Struct) (s : Shape) (e : ShapeSigns) : Type 0 where
+  pub signs : e.signs.items ≡ signs structs Covariant s
+  pub starts : e.starts.items ≡ starts_from 0 (first_parts s)
+
+-- what is known of the shapes of these numbers, as far as something is known, is right
+abbrev pub AreSigns : List Struct → List Node → List (Option ShapeSigns) → Type 0
+AreSigns structs ns known = (k : ℕ) (e : ShapeSigns) → slice_get known k ≡ Some (Some e)
+    → (k < length ns) × AreSignsOf structs (shape_in ns k) e
+
+-- the signs of the shape are known
+abbrev pub AreKnown : List (Option ShapeSigns) → ℕ → Type 0
+AreKnown known k = (e : ShapeSigns) × (slice_get known k ≡ Some (Some e))
+
+-- ---- the row of a struct with its arguments
+
+-- the row of the argument for a type parameter, from where it begins to where the next one begins,
+-- and none where there is no such argument
+abbrev pub argument_row : UseRow → ℕ → List ℕ
+argument_row u k =
+    drop (slice_index_or u.starts.now k 0) (take (slice_index_or u.starts.now (k + 1) 0) u.row.now)
+
+-- the region arguments
+abbrev pub own_row : UseRow → List ℕ
+own_row u = drop u.regions u.row.now
+
+-- The row is that of a use of a struct with these region arguments and type arguments.
+pub record IsUseRow (u : UseRow) (rs : List ℕ) (ts : TypeTrees) : Type 0 where
+  pub regions : own_row u ≡ rs
+  pub types : (k : ℕ) → argument_row u k ≡ region_row (argument ts k)
+
+-- ---- a type at hand
+
+-- the form of a type: types of different forms ask nothing of each other
+abbrev pub form : TypeTree → ℕ
+form int = 0
+form (parameter k) = 1
+form (reference r m t) = 2
+form (tuple ts) = 3
+form (named s rs ts) = 4
+form (function ts t) = 5
+
+-- the list in which the row is
+abbrev pub list_of_row : List ℕ → TypeRow → List ℕ
+list_of_row regions c = unwrap_or (option_map (λ v. v.items) c.made) regions
+
+-- the row
+abbrev pub row_of : List ℕ → TypeRow → List ℕ
+row_of regions c = take c.count (drop c.first (list_of_row regions c))
+
+-- The shape and the row are those of the type.
+pub record IsRowOf (ns : List Node) (regions : List ℕ) (t : TypeTree) (c : TypeRow) : Type 0 where
+  pub within : c.shape < length ns
+  pub shape : shape_in ns c.shape ≡ shape_of t
+  pub row : row_of regions c ≡ region_row t
+
+-- those of the type where there is one, and else none
+abbrev pub IsRowIn : List Node → List ℕ → Option TypeTree → Option TypeRow → Type 0
+IsRowIn ns regions None o = o ≡ None
+IsRowIn ns regions (Some t) None = ⊥
+IsRowIn ns regions (Some t) (Some c) = IsRowOf ns regions t c
