@@ -11,8 +11,7 @@ root=$(dirname "$here")
 proved=$root/out/world_program/crates/world_program/out/world_program
 unproved=$root/out/world_program-unproved
 below="nll_sets nll_problem nll_text nll_format nll_facts nll_core fixpoint nll_cut mail nll_mail nll_owner \
-    nll_model nll_lists nll_types nll_statements \
-    nll_mir_grammar nll_resolve nll_body nll_live nll_mir_text nll_rules"
+    nll_model nll_lists nll_types nll_body nll_mir_grammar nll_live nll_mir_text nll_rules"
 used="nll_problem nll_core fixpoint nll_cut mail nll_mail nll_owner nll_model nll_lists nll_text nll_format nll_facts \
     nll_body nll_mir_text nll_rules anyhow"
 

@@ -6,9 +6,9 @@
 #   build_program.sh --tree FOLDER NAME BELOW USED
 #
 # NAME is a path: the source is NAME.rattle. NAME.modules, if there is one, has the paths of sources that are modules of
-# the program, and NAME.proofs its written proofs, each after a line `== PATH`. BELOW are the crates that it stands on,
-# directly or not, and USED those that it names, the kit's among them; the words are those of the run. With `--tree`
-# nothing is proved or built: FOLDER gets the sources of the program and of the crates below it
+# the program, which get their written proofs, and NAME.proofs its own, each after a line `== PATH`. BELOW are the
+# crates that it stands on, directly or not, and USED those that it names, the kit's among them; the words are those of
+# the run. With `--tree` nothing is proved or built: FOLDER gets the sources of the program and of the crates below it
 # (tools/compile_unproved.py).
 # Such a program is no crate of the gate, which takes no `.rt` file outside of one. It is built in
 # out/NAME, over copies of the crates below it with what was built of them, so that none of these is
@@ -41,8 +41,14 @@ done > "$room/crates.txt"
 echo "$name: $used" >> "$room/crates.txt"
 cp "$root/HANDLES" "$room/HANDLES"
 cp "$folder/$name.rattle" "$room/crates/$name/src/main.rt"
-[ ! -f "$folder/$name.modules" ] || sed "s|^|$root/|" "$folder/$name.modules" | xargs -I{} cp {} "$room/crates/$name/src/"
 cd "$room/crates/$name"
+[ ! -f "$folder/$name.modules" ] || while IFS=/ read -r _ crate _ module; do
+    cp "$root/crates/$crate/src/$module" src/
+    proofs=proofs/${module%.rt}
+    [ -d "$root/crates/$crate/$proofs" ] || continue
+    mkdir -p proofs && cp -r "$root/crates/$crate/$proofs" proofs/
+    find "$proofs" -type f -exec sed -i "s/Rattle\.$crate\./Rattle.$name./" {} +
+done < "$folder/$name.modules"
 if [ -f "$folder/$name.proofs" ]; then
     mkdir -p proofs && : > proofs/Lib.antt
     sed -n 's/^== //p' "$folder/$name.proofs" | while read -r path; do

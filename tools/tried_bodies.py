@@ -8,10 +8,10 @@ They are in crates/*/tried-bodies, and each is an edit as those of must-fail/ ar
 come of it, with the crate of tests that shows it:
 
     # wrong: a stop sets no flag that others see
-    # fails: nll_shared_tests ledger_rows::all_stop
+    # fails: nll_run_tests ledger_rows::all_stop
 
     # wrong: a post waits for a lock
-    # refused: nll_shared_tests: the trait bound `Global: Wait` is not satisfied
+    # refused: nll_run_tests: the trait bound `Global: Wait` is not satisfied
 
 That crate and those below it are copied, and the edit is made in the copy. `rt try --test` then compiles the tests and
 runs them; it proves nothing, and needs no proof of anything. Of its tests the copy has the named one alone. It must

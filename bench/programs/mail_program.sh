@@ -6,6 +6,5 @@
 [ "$#" = 0 ] || { sed -n '2,/^\[/{/^#/s/^# \{0,1\}//p}' "$0"; exit; }
 set -eu
 here=$(cd "$(dirname "$0")" && pwd)
-below="nll_sets nll_problem fixpoint mail ledger worker run keeper reach nll_mail nll_ledger nll_shared_tests"
-"$here/../../tools/build_program.sh" "$here/mail_program" "$below" \
-    "$below anyhow thiserror" ring 1000
+below="nll_sets nll_problem mail nll_mail"
+"$here/../../tools/build_program.sh" "$here/mail_program" "$below" "$below anyhow thiserror" ring 1000

@@ -10,6 +10,6 @@ small=$(mktemp)
 trap 'rm -f "$small"' EXIT
 printf 'nll-mir 1\nlet _0: int\nblocks 1\nblock bb0\nreturn\nend\n' > "$small"
 "$here/../../tools/build_program.sh" "$here/mir_program" \
-    "nll_sets nll_problem nll_text nll_format nll_types nll_statements nll_mir_grammar \
-    nll_resolve nll_body nll_live nll_mir_text" \
+    "nll_sets nll_problem nll_text nll_format nll_facts nll_types nll_body nll_mir_grammar \
+    nll_live nll_mir_text" \
     "nll_sets nll_problem nll_body nll_live nll_mir_text" bases "$small"

@@ -173,14 +173,3 @@ next_step starts p blocks k old mid new within start before adds same =
     (targets_step starts p (take k blocks) (get_or blocks k 0)
     (get_or starts (get_or blocks k 0) 0) old mid new before adds same
     (slice_get-get_or starts (get_or blocks k 0) 0 start))
-
--- no target yet
-pub targets_none : (starts : List ℕ) (p : ℕ) (g : Graph) → AddsTargets starts p [] g g
-targets_none starts p g = record {
-  others = refl;
-  next = λ r q. (inl, ⊎_elim (λ h. h) (λ led. absurd (none_there led.1.0 led.1.1)));
-  counted = omega arith;
-}
-  where
-    none_there : (b : ℕ) → Contains [] b → ⊥
-    none_there b h = absurd (omega (arith, h.1))

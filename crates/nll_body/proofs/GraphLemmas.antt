@@ -1,29 +1,17 @@
 -- What the graph has after some of the points, and after all.
-use Rattle.std.proofs.Common.{◌≡◌, ℕ, ◌+◌, ◌≤◌, List, [], Contains, length, Some, slice_get, inl, inr, refl, sym, ap, ◌∙◌, subst, ⊎_elim, arith, get_or}
+use Rattle.std.proofs.Common.{◌≡◌, ℕ, ◌+◌, ◌≤◌, List, [], Contains, length, Some, slice_get, inl, inr, sym, ap, ◌∙◌, subst, ⊎_elim, arith, get_or}
 use Rattle.std.proofs.lemmas.Bool.{cases_lt}
 use Rattle.std.proofs.lemmas.Option.{get_or_from_slice_get, slice_get_within}
 use Rattle.std.proofs.lemmas.List.Sums.{sum_by_more, sum_by_more_le}
 use Rattle.nll_problem.specs.Graph.{Graph}
-use Rattle.nll_problem.specs.GraphBuilding.{bare_graph}
 use Rattle.nll_problem.specs.Limits.{most_edges}
-use Rattle.nll_statements.specs.Statements.{Statement, return}
+use Rattle.nll_body.specs.Statements.{Statement, return}
 use Rattle.nll_body.specs.Edges.{LeavesTo, edges_from, edge_count}
 use Rattle.nll_body.specs.Making.{AddsPoint, HasPoints}
 use Rattle.nll_body.specs.Bodies.{BodyText, IsGraphOf}
 
 none_there : {X : Type 0} (x : X) → Contains [] x → ⊥
 none_there x h = absurd (omega (arith, h.1))
-
--- nothing yet
-pub points_none : {R T : Type 0} (starts : List ℕ) (count : ℕ) (stand : List (Statement R T))
-    → HasPoints starts count stand 0 (bare_graph (length stand) count)
-points_none starts count stand = record {
-  points = refl;
-  universals = refl;
-  next = λ p q. (λ h. absurd (none_there (p, q) h), λ h. absurd (omega (arith, h.0)));
-  returns = λ p. (λ h. absurd (none_there p h), λ h. absurd (omega (arith, h.0)));
-  counted = omega arith;
-}
 
 -- one statement stands at a point
 pub some_same : {R T : Type 0} (i j : Statement R T) → Some i ≡ Some j → i ≡ j

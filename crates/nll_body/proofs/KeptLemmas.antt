@@ -3,18 +3,18 @@ use Rattle.std.proofs.Common.{◌≡◌, ◌<◌, ℕ, List, map, length, get_or
 use Rattle.std.proofs.lemmas.List.{length-map}
 use Rattle.std.proofs.lemmas.Option.{get_or_from_slice_get, same_Some, slice_get_within, slice_get_read}
 use Rattle.nll_problem.specs.Graph.{Graph}
-use Rattle.nll_format.specs.Labels.{Labels, blocks}
+use Rattle.nll_format.specs.Labels.{Labels}
 use Rattle.nll_types.specs.Declarations.{structs_of}
 use Rattle.nll_types.specs.Types.{TypeTree}
 use Rattle.nll_types.specs.Rows.{tree_at}
 use Rattle.nll_types.specs.Structs.{IsWellFormed}
 use Rattle.nll_types.specs.declared.body_types.BodyTypes.{BodyTypes}
 use Rattle.nll_types.specs.declared.typed.Typed.{Typed}
-use Rattle.nll_statements.specs.Flat.{StatementLists, statement_in, statements_in}
-use Rattle.nll_statements.specs.Statements.{Statement}
-use Rattle.nll_statements.specs.declared.flat.Stmt.{Stmt}
-use Rattle.nll_body.specs.Bodies.{BodyText, HasType, StandsAt, IsGraphOf}
-use Rattle.nll_body.specs.Kept.{kept_body, IsKept}
+use Rattle.nll_body.specs.Flat.{StatementLists, statement_in, statements_in}
+use Rattle.nll_body.specs.Statements.{Statement}
+use Rattle.nll_body.specs.declared.flat.Stmt.{Stmt}
+use Rattle.nll_body.specs.Bodies.{BodyText, HasType, StandsAt}
+use Rattle.nll_body.specs.Kept.{kept_body}
 use Rattle.nll_body.specs.Sound.{IsSound}
 use Rattle.nll_body.specs.Typed.{meant, trees_at}
 use Rattle.nll_body.proofs.MeantLemmas.{mapped_at}
@@ -33,22 +33,6 @@ module _ (outlives asserts : List (ℕ × ℕ)) (types : BodyTypes) (variables :
     starts = starts;
     points = map (meant types) (statements_in points);
   }
-
-  pub kept_same : (names : List (List ℕ)) (universals : ℕ) (starts : List ℕ) (labels : Labels) (graph : Graph)
-      → labels ≡ record { names = names; points = blocks starts } → graph.universals ≡ universals
-      → kept_body labels outlives asserts types variables points graph ≡ made names universals starts
-  kept_same names universals starts labels graph named count =
-      ap (λ (l : Labels). kept_body l outlives asserts types variables points graph) named
-      ∙ ap (λ (n : ℕ). made names n starts) count
-
-  pub kept_made : (names : List (List ℕ)) (universals : ℕ) (starts : List ℕ) (labels : Labels) (graph : Graph)
-      → labels ≡ record { names = names; points = blocks starts } → IsGraphOf (made names universals starts) graph
-      → IsSound (made names universals starts)
-      → IsKept (kept_body labels outlives asserts types variables points graph) labels graph
-  kept_made names universals starts labels graph named shown sound =
-      subst (λ (b : BodyText). IsKept b labels graph)
-      (sym (kept_same names universals starts labels graph named shown.universals))
-      (record { named = named; shown = shown; sound = sound })
 
   module _ (labels : Labels) (graph : Graph) (body : BodyText)
       (is : kept_body labels outlives asserts types variables points graph ≡ body) where

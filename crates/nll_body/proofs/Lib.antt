@@ -1,3 +1,14 @@
+pub mod ExitLemmas
+pub mod EffectLemmas
+pub mod FlatLemmas
+pub mod AddedLemmas
+pub mod MapLemmas
+pub mod TypePairLemmas
+pub mod MeetingLemmas
+pub mod JudgedLemmas
+pub mod OperandLemmas
+pub mod CallLemmas
+pub mod StatementMeantLemmas
 pub mod EdgeLemmas
 pub mod PointLemmas
 pub mod GraphLemmas

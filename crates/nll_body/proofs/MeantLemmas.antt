@@ -5,8 +5,8 @@ use Rattle.std.proofs.lemmas.List.{length-map, take-map}
 use Rattle.std.proofs.lemmas.List.Sums.{sum_by-cons}
 use Rattle.std.proofs.lemmas.Option.{none-some, same_Some, slice_get-map}
 use Rattle.nll_problem.specs.Graph.{Graph}
-use Rattle.nll_statements.specs.Statements.{Statement, map_statement, return}
-use Rattle.nll_statements.proofs.MapLemmas.{same_terminator, same_targets, same_edges, same_return}
+use Rattle.nll_body.specs.Statements.{Statement, map_statement, return}
+use Rattle.nll_body.proofs.MapLemmas.{same_terminator, same_targets, same_edges, same_return}
 use Rattle.nll_body.specs.Edges.{LeadsTo, LeavesTo, edges_from, edge_count}
 use Rattle.nll_body.specs.Making.{AreBlocks, AreEnds, HasPoints}
 

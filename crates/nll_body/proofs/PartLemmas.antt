@@ -4,7 +4,7 @@ use Rattle.std.proofs.lemmas.List.{length-map}
 use Rattle.nll_problem.specs.Graph.{Graph}
 use Rattle.nll_problem.specs.Limits.{most_edges}
 use Rattle.nll_types.specs.Rows.{tree_at}
-use Rattle.nll_statements.specs.Flat.{statements_in}
+use Rattle.nll_body.specs.Flat.{statements_in}
 use Rattle.nll_body.specs.Bodies.{IsGraphOf}
 use Rattle.nll_body.specs.Edges.{edge_count}
 use Rattle.nll_body.specs.Making.{AreBlocks, AreEnds, HasPoints}

@@ -3,8 +3,8 @@ use Rattle.std.proofs.Common.{◌≡◌, ℕ, ◌+◌, true, false, List, [], �
 use Rattle.std.proofs.lemmas.Bool.{false≢true}
 use Rattle.nll_problem.specs.Answers.{AddsFact}
 use Rattle.nll_problem.specs.Graph.{Graph}
-use Rattle.nll_statements.specs.Statements.{Statement, is_terminator, return, assign, borrow, make, read, live, dead, nop, goto, switch, drop, call, stop}
-use Rattle.nll_statements.specs.Effects.{targets}
+use Rattle.nll_body.specs.Statements.{Statement, is_terminator, return, assign, borrow, make, read, live, dead, nop, goto, switch, drop, call, stop}
+use Rattle.nll_body.specs.Effects.{targets}
 use Rattle.nll_body.specs.Edges.{LeadsTo}
 use Rattle.nll_body.specs.Making.{AddsTargets, AddsEdges, AddsPoint}
 use Rattle.nll_body.proofs.EdgeLemmas.{one_more, pair, pair_left, pair_right}

@@ -6,8 +6,8 @@ use Rattle.nll_problem.specs.Graph.{Graph, IsNext, IsReturn}
 use Rattle.nll_format.specs.Labels.{Labels, blocks}
 use Rattle.nll_types.specs.Types.{TypeTree}
 use Rattle.nll_types.specs.Structs.{Struct}
-use Rattle.nll_statements.specs.Statements.{Statement, is_terminator, return}
-use Rattle.nll_statements.specs.Effects.{targets}
+use Rattle.nll_body.specs.Statements.{Statement, is_terminator, return}
+use Rattle.nll_body.specs.Effects.{targets}
 
 -- A body: its regions' names, 'static first and the universal ones before the others, the pairs of
 -- universal regions of which the first is known to outlive the second, the pairs of regions of

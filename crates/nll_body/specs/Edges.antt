@@ -1,9 +1,9 @@
 -- The edges that leave the points of a body.
 -- Source: project's choice.
-pub use Rattle.nll_statements.specs.Edges.{edges_from, edge_count}
+pub use Rattle.nll_body.specs.Exits.{edges_from, edge_count}
 use Rattle.std.specs.Prelude.{◌≡◌, ◌⊎◌, ℕ, ◌+◌, false, List, Contains, Some, slice_get}
-use Rattle.nll_statements.specs.Statements.{Statement, is_terminator}
-use Rattle.nll_statements.specs.Effects.{targets}
+use Rattle.nll_body.specs.Statements.{Statement, is_terminator}
+use Rattle.nll_body.specs.Effects.{targets}
 
 -- a list of blocks leads to q: it is the first point of one of them
 abbrev pub LeadsTo : List ℕ → List ℕ → ℕ → Type 0

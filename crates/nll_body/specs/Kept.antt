@@ -5,7 +5,7 @@ use Rattle.nll_format.specs.Labels.{Labels, Points, numbers, blocks}
 use Rattle.nll_types.specs.Declarations.{structs_of}
 use Rattle.nll_types.specs.declared.body_types.BodyTypes.{BodyTypes}
 use Rattle.nll_types.specs.declared.typed.Typed.{Typed}
-use Rattle.nll_statements.specs.Flat.{StatementLists, statements_in}
+use Rattle.nll_body.specs.Flat.{StatementLists, statements_in}
 use Rattle.nll_body.specs.Bodies.{BodyText, IsGraphOf, labels_of}
 use Rattle.nll_body.specs.Sound.{IsSound}
 use Rattle.nll_body.specs.Typed.{meant, trees_at}

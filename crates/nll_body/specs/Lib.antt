@@ -1,3 +1,15 @@
+pub mod Statements
+pub mod Effects
+pub mod Written
+pub mod Exits
+pub mod CodeStatements
+pub mod Judging
+pub mod Found
+pub mod TypePairs
+pub mod Typing
+pub mod Meant
+pub mod Flat
+pub mod Within
 pub mod Bodies
 pub mod Edges
 pub mod WellTyped

@@ -4,8 +4,8 @@ use Rattle.std.specs.Prelude.{◌≡◌, ◌⊎◌, ◌↔◌, ℕ, ◌+◌, ◌
 use Rattle.std.specs.Prelude.{Some, slice_get, Contains}
 use Rattle.indexmap.specs.IndexSet.{insert_all}
 use Rattle.nll_problem.specs.Graph.{Graph, IsNext, IsReturn}
-use Rattle.nll_statements.specs.Statements.{Statement, return}
-use Rattle.nll_statements.specs.Effects.{targets}
+use Rattle.nll_body.specs.Statements.{Statement, return}
+use Rattle.nll_body.specs.Effects.{targets}
 use Rattle.nll_body.specs.Edges.{LeadsTo, LeavesTo, edges_from, edge_count}
 
 -- The graph got the edges from p to the first points of these blocks.

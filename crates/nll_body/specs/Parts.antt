@@ -2,7 +2,7 @@
 -- Source: project's choice.
 use Rattle.std.specs.Prelude.{map}
 use Rattle.nll_types.specs.Declarations.{structs_of}
-use Rattle.nll_statements.specs.Flat.{statements_in}
+use Rattle.nll_body.specs.Flat.{statements_in}
 use Rattle.nll_body.specs.Bodies.{BodyText}
 use Rattle.nll_body.specs.Typed.{HaveRows, meant, trees_at}
 use Rattle.nll_body.specs.declared.parts.BodyParts.{BodyParts}

@@ -6,9 +6,9 @@ use Rattle.nll_problem.specs.Limits.{most_variables}
 use Rattle.nll_format.specs.Labels.{AreFirstPoints}
 use Rattle.nll_types.specs.Types.{TypeTree}
 use Rattle.nll_types.specs.Structs.{AreInOrder, IsWellFormed}
-use Rattle.nll_statements.specs.Statements.{Statement, types_written}
-use Rattle.nll_statements.specs.Effects.{targets}
-use Rattle.nll_statements.specs.Written.{regions_written}
+use Rattle.nll_body.specs.Statements.{Statement, types_written}
+use Rattle.nll_body.specs.Effects.{targets}
+use Rattle.nll_body.specs.Written.{regions_written}
 use Rattle.nll_body.specs.Bodies.{BodyText, StandsAt, GoesOn}
 use Rattle.nll_body.specs.Edges.{edge_count}
 use Rattle.nll_body.specs.WellTyped.{IsWellTyped}

@@ -6,9 +6,9 @@ use Rattle.nll_types.specs.Rows.{HasRow, tree_at}
 use Rattle.nll_types.specs.Types.{TypeTree}
 use Rattle.nll_types.specs.declared.body_types.BodyTypes.{BodyTypes}
 use Rattle.nll_types.specs.declared.typed.Typed.{Typed}
-use Rattle.nll_statements.specs.Flat.{statement_in, statements_in}
-use Rattle.nll_statements.specs.Meant.{HasRows, meant_by}
-use Rattle.nll_statements.specs.Statements.{Statement}
+use Rattle.nll_body.specs.Flat.{statement_in, statements_in}
+use Rattle.nll_body.specs.Meant.{HasRows, meant_by}
+use Rattle.nll_body.specs.Statements.{Statement}
 use Rattle.nll_body.specs.Bodies.{BodyText}
 use Rattle.nll_body.specs.declared.typed.StatementAt.{StatementAt}
 use Rattle.nll_body.specs.declared.typed.TypedBody.{TypedBody}

@@ -4,8 +4,8 @@ use Rattle.std.specs.Prelude.{◌≡◌, ◌≤◌, ℕ, true, length, All}
 use Rattle.nll_problem.specs.Limits.{most_structs}
 use Rattle.nll_types.specs.Types.{TypeTree}
 use Rattle.nll_types.specs.Shapes.{is_small}
-use Rattle.nll_statements.specs.Statements.{Statement}
-use Rattle.nll_statements.specs.Typing.{types_agree, types_are_small, are_small}
+use Rattle.nll_body.specs.Statements.{Statement}
+use Rattle.nll_body.specs.Typing.{types_agree, types_are_small, are_small}
 use Rattle.nll_body.specs.Bodies.{BodyText, StandsAt}
 
 -- The body is well typed: at each point each place has a type, the types that must be equal when

@@ -9,8 +9,8 @@ ghost use Rattle.nll_types.specs.Places.{type_of, path_of};
 ghost use Rattle.nll_types.specs.Structs.{IsWellFormed};
 ghost use Rattle.nll_types.specs.Types.{TypeTree, HasRegion};
 ghost use Rattle.nll_types.specs.Views.{tree};
-ghost use Rattle.nll_statements.specs.Effects.{variables_used, defined, dropped};
-ghost use Rattle.nll_statements.specs.Statements.{Statement as standing};
+ghost use Rattle.nll_body.specs.Effects.{variables_used, defined, dropped};
+ghost use Rattle.nll_body.specs.Statements.{Statement as standing};
 ghost use Rattle.nll_body.specs.Typed.{IsTypedBody, meant_at};
 ghost use Rattle.nll_body.specs.Bodies.{HasType, IsGraphOf, StandsAt, labels_of};
 ghost use Rattle.nll_body.specs.Parts.{AreTyped, body_of};
@@ -18,11 +18,11 @@ ghost use Rattle.nll_body.specs.Sound.{IsSound};
 
 use crate::edges::graph_of;
 use crate::parts::BodyParts;
+use crate::statements::Statements;
 use crate::typed::{StatementAt, TypedBody};
 use nll_format::Labels;
 use nll_problem::{BuildError, Graph, RegionId};
 use nll_sets::Memory;
-use nll_statements::Statements;
 use nll_types::{BodyTypes, Place, Structs, Ty, Typed, behind, types_of_places_are_well_formed};
 use std::alloc::Global;
 use std::marker::Model;
@@ -56,7 +56,7 @@ impl Drop for Body {
 impl Model for Body {
     ghost use Rattle.std.specs.Coded.{codes, Coded};
     ghost use Rattle.nll_types.specs.TypeCodes.{Step, tree_code, trees_code};
-    ghost use Rattle.nll_statements.specs.Flat.{statements_in};
+    ghost use Rattle.nll_body.specs.Flat.{statements_in};
     ghost use Rattle.nll_body.specs.Bodies.{BodyText};
     ghost use Rattle.nll_body.specs.Kept.{kept_body, IsKept};
     ghost use Rattle.nll_body.specs.Typed.{HaveRows};

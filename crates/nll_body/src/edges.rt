@@ -7,15 +7,16 @@ ghost use Rattle.nll_problem.specs.Answers.{AddsFact};
 ghost use Rattle.nll_problem.specs.Graph.{IsNext};
 ghost use Rattle.nll_problem.specs.GraphBuilding.{bare_graph};
 ghost use Rattle.nll_problem.specs.Limits.{most_points, most_edges, most_universals};
-ghost use Rattle.nll_statements.specs.Effects.{targets};
-ghost use Rattle.nll_statements.specs.Flat.{StatementLists, statement_in, statements_in};
-ghost use Rattle.nll_statements.specs.Statements.{is_terminator, return};
+ghost use Rattle.nll_body.specs.Effects.{targets};
+ghost use Rattle.nll_body.specs.Flat.{StatementLists, statement_in, statements_in};
+ghost use Rattle.nll_body.specs.Statements.{is_terminator, return};
 ghost use Rattle.nll_body.specs.Edges.{LeadsTo, LeavesTo, edges_from, edge_count};
 ghost use Rattle.nll_body.specs.Making.{AddsTargets, AddsEdges, AddsPoint};
 ghost use Rattle.nll_body.specs.Making.{AreBlocks, AreEnds, HasPoints};
 
+use crate::flat::Stmt;
+use crate::statements::Statements;
 use nll_problem::{BuildError, Graph, GraphBuilder};
-use nll_statements::{Statements, Stmt};
 use std::alloc::Global;
 
 // Adds an edge for which there is room.

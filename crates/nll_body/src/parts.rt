@@ -1,7 +1,7 @@
 //! What a reader gathers for a body.
 
+use crate::statements::Statements;
 use nll_format::Names;
-use nll_statements::Statements;
 use nll_types::{BodyTypes, Typed};
 
 /// The parts of a body.

@@ -1,6 +1,7 @@
 //! A body with its types by number.
 
-use nll_statements::{Statements, Stmt};
+use crate::flat::Stmt;
+use crate::statements::Statements;
 use nll_types::{BodyTypes, Typed};
 
 /// A statement or terminator, with the lists and the types of its body.

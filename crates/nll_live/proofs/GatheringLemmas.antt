@@ -7,8 +7,8 @@ use Rattle.std.proofs.lemmas.List.Quantifiers.{all_pairs_push}
 use Rattle.std.proofs.lemmas.Option.{slice_get_cases, slice_get_within}
 use Rattle.nll_problem.specs.Rows.{row_at, with_item}
 use Rattle.nll_types.specs.Types.{TypeTree}
-use Rattle.nll_statements.specs.Statements.{Statement}
-use Rattle.nll_statements.specs.Effects.{variables_used, defined, dropped}
+use Rattle.nll_body.specs.Statements.{Statement}
+use Rattle.nll_body.specs.Effects.{variables_used, defined, dropped}
 use Rattle.nll_body.specs.Bodies.{BodyText, StandsAt}
 use Rattle.nll_live.specs.Live.{UsesAt, DropsAt, DefinesAt}
 use Rattle.nll_live.specs.Gathering.{IsListed, Lists, AreListed, AscendBelow}

@@ -5,8 +5,8 @@ use Rattle.std.specs.Prelude.{◌⊎◌, ℕ, List, ⊤}
 use Rattle.nll_problem.specs.Walks.{IsWalk}
 use Rattle.nll_types.specs.Types.{TypeTree, HasRegion}
 use Rattle.nll_types.specs.DropRegions.{IsDropRegion}
-use Rattle.nll_statements.specs.Statements.{Statement}
-use Rattle.nll_statements.specs.Effects.{Uses, Defines, DropsVariable}
+use Rattle.nll_body.specs.Statements.{Statement}
+use Rattle.nll_body.specs.Effects.{Uses, Defines, DropsVariable}
 use Rattle.nll_body.specs.Bodies.{BodyText, HasType, StandsAt, GoesOn}
 
 -- ---- what is at a point

@@ -14,7 +14,7 @@ use Rattle.nll_mir_grammar.specs.TypeTexts.{written}
 use Rattle.nll_mir_grammar.specs.declared.type_text.TypePiece.{TypePiece}
 use Rattle.nll_mir_grammar.specs.Lines.{argument_of, form_of}
 use Rattle.nll_mir_grammar.specs.declared.line.Line.{Line}
-use Rattle.nll_statements.specs.Statements.{assign, borrow, make, read, live, dead, nop, goto, switch, drop, call, return, stop}
+use Rattle.nll_body.specs.Statements.{assign, borrow, make, read, live, dead, nop, goto, switch, drop, call, return, stop}
 use Rattle.nll_mir_grammar.specs.MirForms.{Form, universal, outlives, further, assert_line, struct_line, variable, blocks, block, at_point, end, spelled_form, IsWritable, IsWritableOperand, IsSpelled}
 use Rattle.nll_mir_grammar.specs.Versions.{is_of_version, IsSpelledIn}
 use Rattle.nll_mir_grammar.specs.declared.version.Version.{Version}

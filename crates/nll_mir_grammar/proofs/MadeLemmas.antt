@@ -10,8 +10,8 @@ use Rattle.nll_types.specs.declared.place.Projection.TheVariants.{Deref, Field}
 use Rattle.nll_types.specs.declared.parameter.Parameter.{Parameter}
 use Rattle.nll_types.specs.declared.parameter.Sign.{Sign}
 use Rattle.nll_types.specs.declared.parameter.Sign.TheVariants.{Covariant, Contravariant, Invariant}
-use Rattle.nll_statements.specs.Statements.{Statement, assign, borrow, make, read, live, dead, nop, goto, switch, call, return, stop}
-use Rattle.nll_statements.specs.Statements as statements
+use Rattle.nll_body.specs.Statements.{Statement, assign, borrow, make, read, live, dead, nop, goto, switch, call, return, stop}
+use Rattle.nll_body.specs.Statements as statements
 use Rattle.nll_text.specs.LineTokens.{tokens_in}
 use Rattle.nll_mir_grammar.specs.WrittenTypes.{Name, WrittenType, WrittenTypes, Arguments, int, reference, tuple, named, function, none, more, no_argument, region_argument, type_argument, mutability, spelled, spelled_parts, spelled_more_parts, spelled_arguments, spelled_more_arguments}
 use Rattle.nll_mir_grammar.specs.MirForms.{Form, outlives, assert_line, struct_line, variable, at_point, end, WrittenParameter, region_parameter, type_parameter, block_word, spelled_projection, spelled_place, spelled_operand, parted, in_parentheses, sign_token, dangling_mark, spelled_marks, spelled_parameter, spelled_parameters, drop_mark, spelled_exits, spelled_wheres, spelled_argument, spelled_statement, spelled_form, IsSpelled, HasForm}

@@ -11,7 +11,7 @@ use Rattle.nll_mir_grammar.specs.Functions.{has_function, have_function}
 use Rattle.nll_mir_grammar.specs.WrittenTypes.{WrittenType}
 use Rattle.nll_mir_grammar.specs.TypeTexts.{written}
 use Rattle.nll_mir_grammar.specs.declared.type_text.TypePiece.{TypePiece}
-use Rattle.nll_statements.specs.Kept.{arguments_of}
+use Rattle.nll_body.specs.CodeStatements.{arguments_of}
 use Rattle.nll_mir_grammar.specs.Tuples.{parts, IsTuple}
 
 -- whether all of a row pass, of which the first ones did

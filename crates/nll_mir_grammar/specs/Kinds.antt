@@ -13,8 +13,8 @@ use Rattle.nll_mir_grammar.specs.Parts.{places, operands, types, tuples, argumen
 use Rattle.nll_mir_grammar.specs.Parts.{drop_marks, parameter_lists, bounds, bound_lists}
 use Rattle.nll_mir_grammar.specs.Parts.{block_lists}
 use Rattle.nll_mir_grammar.specs.Parts.{exits}
-use Rattle.nll_statements.specs.Statements.{assign, borrow, make, read, live, dead, nop}
-use Rattle.nll_statements.specs.Statements.{goto, switch, drop, call, return, stop}
+use Rattle.nll_body.specs.Statements.{assign, borrow, make, read, live, dead, nop}
+use Rattle.nll_body.specs.Statements.{goto, switch, drop, call, return, stop}
 use Rattle.nll_mir_grammar.specs.MirForms.{Form, universal, outlives, further, assert_line}
 use Rattle.nll_mir_grammar.specs.MirForms.{struct_line, variable, blocks, block, at_point, end}
 use Rattle.nll_mir_grammar.specs.MirForms.{WrittenParameter}

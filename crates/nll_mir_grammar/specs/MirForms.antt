@@ -15,8 +15,8 @@ use Rattle.nll_types.specs.declared.parameter.Sign.TheVariants.{Covariant, Contr
 use Rattle.nll_types.specs.declared.parameter.Sign.TheVariants.{Invariant}
 use Rattle.nll_mir_grammar.specs.WrittenTypes.{Name, WrittenType, WrittenTypes, tuple, spelled}
 use Rattle.nll_mir_grammar.specs.WrittenTypes.{mutability, HasNames, is_capital}
-use Rattle.nll_statements.specs.Statements.{Statement, assign, borrow, make, read, live, dead, nop}
-use Rattle.nll_statements.specs.Statements.{goto, switch, drop, call, return, stop}
+use Rattle.nll_body.specs.Statements.{Statement, assign, borrow, make, read, live, dead, nop}
+use Rattle.nll_body.specs.Statements.{goto, switch, drop, call, return, stop}
 
 -- A parameter of a struct: a region's name or a type's.
 pub data WrittenParameter : Type 0 where

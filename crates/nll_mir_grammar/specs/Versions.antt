@@ -8,7 +8,7 @@ use Rattle.nll_types.specs.declared.parameter.Sign.{Sign}
 use Rattle.nll_types.specs.declared.parameter.Sign.TheVariants.{Covariant, Contravariant}
 use Rattle.nll_types.specs.declared.parameter.Sign.TheVariants.{Invariant}
 use Rattle.nll_mir_grammar.specs.Functions.{has_function, have_function}
-use Rattle.nll_statements.specs.Statements.{types_written}
+use Rattle.nll_body.specs.Statements.{types_written}
 use Rattle.nll_mir_grammar.specs.MirForms.{WrittenParameter, region_parameter, type_parameter}
 use Rattle.nll_mir_grammar.specs.MirForms.{Form, assert_line, struct_line, variable, at_point}
 use Rattle.nll_mir_grammar.specs.MirForms.{HasForm, IsSpelled}

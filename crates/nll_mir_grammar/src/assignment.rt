@@ -14,7 +14,7 @@ use crate::line::Line;
 use crate::pairs::Read;
 use crate::place::{operand_at, place_at};
 use crate::right::{borrow_at, make_at, signature_at};
-use nll_statements::{Call, Make, Statement};
+use nll_body::{Call, Make, Statement};
 use nll_text::{after_sign, word_at};
 use nll_types::Place;
 use std::alloc::Global;

@@ -22,8 +22,8 @@ use crate::lines::{
 use crate::pairs::Read;
 use crate::points::{dead_line, drop_line, goto_line, live_line, read_line, switch_line};
 use crate::version::{Version, is_of_version};
+use nll_body::Statement;
 use nll_sets::Memory;
-use nll_statements::Statement;
 use nll_text::{is_gap, word_at};
 use std::alloc::Global;
 

@@ -5,7 +5,7 @@ ghost use Rattle.nll_mir_grammar.specs.TypeTexts.{written};
 ghost use Rattle.nll_mir_grammar.specs.Tuples.{IsTuple};
 
 use crate::type_text::TypeText;
-use nll_statements::Statement;
+use nll_body::Statement;
 use nll_types::Parameter;
 use std::marker::Model;
 

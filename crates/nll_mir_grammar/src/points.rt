@@ -13,7 +13,7 @@ use crate::line::Line;
 use crate::pairs::Read;
 use crate::place::{operand_at, place_at};
 use crate::words::{block_at, variable_at};
-use nll_statements::Statement;
+use nll_body::Statement;
 use std::alloc::Global;
 
 /// After `live`.

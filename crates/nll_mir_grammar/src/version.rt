@@ -9,7 +9,7 @@ ghost use Rattle.nll_mir_grammar.specs.Versions as spec;
 
 use crate::line::{Line, ParameterText, StructText};
 use crate::type_text::TypeText;
-use nll_statements::Statement;
+use nll_body::Statement;
 use nll_types::{Operand, Sign};
 
 /// A version of MIR texts.

@@ -8,7 +8,7 @@ use Rattle.nll_text.specs.Tokens.{Token, sign, AreTokens, IsMadeOf}
 use Rattle.nll_text.proofs.SkippedLemmas.{kept_tokens}
 use Rattle.nll_text.proofs.Utf8Lemmas.{IsUtf8-word, made_is_utf8}
 use Rattle.nll_text.proofs.TokenLemmas.{made_of_tokens}
-use Rattle.nll_statements.specs.Statements.{assign, borrow, make, read, live, dead, nop, goto, switch, drop, call, return, stop}
+use Rattle.nll_body.specs.Statements.{assign, borrow, make, read, live, dead, nop, goto, switch, drop, call, return, stop}
 use Rattle.nll_mir_grammar.specs.MirForms.{Form, universal, outlives, further, assert_line, struct_line, variable, blocks, block, at_point, end, HasForm, spelled_form, spelled_parameter, spelled_parameters, drop_mark, WrittenParameter, region_parameter, type_parameter}
 use Rattle.nll_mir_grammar.specs.WrittenTypes.{tuple, spelled}
 use Rattle.nll_mir_text.specs.MirReading.{IsNamed, HasTexts, HasFewParameters}

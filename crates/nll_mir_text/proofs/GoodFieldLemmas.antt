@@ -9,8 +9,8 @@ use Rattle.nll_types.specs.Types.{parameter, named, type_count}
 use Rattle.nll_types.specs.Structs.{Struct, IsWellFormed, AreWellFormed}
 use Rattle.nll_mir_grammar.specs.WrittenTypes.{Name, WrittenType, WrittenTypes, Arguments, no_argument, region_argument, type_argument}
 use Rattle.nll_mir_grammar.specs.WrittenTypes as written
-use Rattle.nll_resolve.specs.Naming.{Scope, is_among, meant, all_meant, regions_meant, types_meant, is_known, kinds_of, same_kinds, has_arguments}
-use Rattle.nll_resolve.specs.ToldTypes.{are_known, arguments_are_known, have_arguments, arguments_have_arguments}
+use Rattle.nll_mir_text.specs.Naming.{Scope, is_among, meant, all_meant, regions_meant, types_meant, is_known, kinds_of, same_kinds, has_arguments}
+use Rattle.nll_mir_text.specs.ToldTypes.{are_known, arguments_are_known, have_arguments, arguments_have_arguments}
 use Rattle.nll_mir_text.specs.MirReading.{region_count, other_count, AreKinds}
 
 true_both : (a b : Bool) → a && b ≡ true → (a ≡ true) × (b ≡ true)

@@ -8,15 +8,15 @@ use Rattle.nll_types.specs.Tables.{Tables, AddsShapes}
 use Rattle.nll_types.specs.declared.body_types.BodyTypes.{BodyTypes}
 use Rattle.nll_types.specs.declared.typed.Typed.{Typed}
 use Rattle.nll_types.proofs.RowLemmas.{trees_later, rows_later}
-use Rattle.nll_statements.specs.Kept.{statement_of}
-use Rattle.nll_statements.specs.Meant.{HasRows}
-use Rattle.nll_statements.specs.Statements.{Statement, types_written}
-use Rattle.nll_statements.specs.declared.statement.Statement.{Statement as Kept}
-use Rattle.nll_statements.proofs.MeantLemmas.{meant_later, has_rows_later}
-use Rattle.nll_body.specs.Typed.{HaveRows, meant, trees_at}
+use Rattle.nll_body.specs.Flat.{StatementLists, statements_in}
+use Rattle.nll_body.specs.Meant.{HasRows}
+use Rattle.nll_body.specs.Statements.{Statement, types_written}
+use Rattle.nll_body.specs.declared.flat.Stmt.{Stmt}
+use Rattle.nll_body.proofs.StatementMeantLemmas.{meant_later, has_rows_later}
+use Rattle.nll_body.specs.Typed.{HaveRows, meant}
 use Rattle.nll_mir_grammar.specs.MirForms.{Form, at_point}
 use Rattle.nll_mir_grammar.specs.WrittenTypes.{Name, WrittenType}
-use Rattle.nll_resolve.specs.Naming.{Scope, has_arguments}
+use Rattle.nll_mir_text.specs.Naming.{Scope, has_arguments}
 use Rattle.nll_mir_text.specs.MirSaid.{Said, group}
 use Rattle.nll_mir_text.specs.MirFaults.{is_in_order}
 use Rattle.nll_mir_text.specs.MirReading.{said_by, scope_in, IsReady, IsDue}
@@ -49,50 +49,63 @@ module _ (old new : BodyTypes) (grows : AddsTypes old new) where
     points = λ k d l. has_rows_later _ _ _ _ grows.table.extends grows.regions _ (h.points k d l);
   }
 
--- the reader with other types
-abbrev pub grown : Reader → BodyTypes → Reader
-grown r t = record r { variables = record r.variables { types = t } }
+-- the reader with other types and lists
+abbrev pub grown : Reader → BodyTypes → StatementLists → Reader
+grown r t l = record r {
+  variables = record r.variables { types = t };
+  points = record r.points { statements = l };
+}
 
-module _ (r : Reader) (t : BodyTypes) (grows : AddsTypes r.variables.types t) (h : IsReady r) where
-  pub said_grown : said_by (grown r t) ≡ said_by r
+module _ (r : Reader) (t : BodyTypes) (l : StatementLists) (grows : AddsTypes r.variables.types t)
+    (same : statements_in l ≡ statements_in r.points.statements) (h : IsReady r) where
+  pub said_grown : said_by (grown r t l) ≡ said_by r
   said_grown =
       let structs = grows.table.structs in
       let variables = trees_later _ _ _ _ grows.table.extends grows.regions _ h.rows.variables in
       let points = points_later r.variables.types t grows _ h.rows.points in
-      rw (structs, variables, points) refl
+      rw (structs, variables, same, points) refl
 
-  pub ready_grown : IsReady (grown r t)
-  ready_grown = record {
-    static = h.static;
-    universals = h.universals;
-    few_universals = h.few_universals;
-    few_regions = h.few_regions;
-    no_parameter = h.no_parameter;
-    named_structs = h.named_structs ∙ sym (ap length grows.table.structs);
-    counted_kinds = h.counted_kinds ∙ sym (ap length grows.table.structs);
-    kinds = rw grows.table.structs h.kinds;
-    few_structs = rw grows.table.structs h.few_structs;
-    few_variables = h.few_variables;
-    rows = have_rows_later r.variables.types t grows _ _ h.rows;
-    few_blocks = h.few_blocks;
-    no_start = h.no_start;
-    starts = h.starts;
-    few_points = h.few_points;
-    edges = h.edges;
-    few_edges = h.few_edges;
+  pub is_grown : IsGrown r (grown r t l)
+  is_grown = record {
+    said = said_grown;
+    ready = record {
+      static = h.static;
+      universals = h.universals;
+      few_universals = h.few_universals;
+      few_regions = h.few_regions;
+      no_parameter = h.no_parameter;
+      named_structs = h.named_structs ∙ sym (ap length grows.table.structs);
+      counted_kinds = h.counted_kinds ∙ sym (ap length grows.table.structs);
+      kinds = rw grows.table.structs h.kinds;
+      few_structs = rw grows.table.structs h.few_structs;
+      few_variables = h.few_variables;
+      rows = rw same (have_rows_later r.variables.types t grows _ _ h.rows);
+      few_blocks = h.few_blocks;
+      no_start = h.no_start;
+      starts = h.starts;
+      few_points = rw same h.few_points;
+      edges = rw same h.edges;
+      few_edges = h.few_edges;
+    };
   }
 
-  pub is_grown : IsGrown r (grown r t)
-  is_grown = record { said = said_grown; ready = ready_grown }
+  -- a line that was in order is
+  pub order_grown : (i : Statement Name WrittenType) → is_in_order (said_by r) (at_point i) ≡ true
+      → is_in_order (said_by (grown r t l)) (at_point i) ≡ true
+  order_grown i order = ap (λ (s : Said). is_in_order s (at_point i)) said_grown ∙ order
 
-  -- a line that was in order is, and a statement is still that of its line
-  pub placed_grown : (i : Statement Name WrittenType) (k : Kept ℕ Typed) (fits : Bool) → IsPlaced r i k fits
-      → IsPlaced (grown r t) i k fits
-  placed_grown i k fits p = record {
-    order = ap (λ (s : Said). is_in_order s (at_point i)) said_grown ∙ p.order;
-    of = statement_later r.variables.types t grows (scope_in r.regions r.structs) i (statement_of k) p.of;
-    fits = p.fits;
-  }
+-- with types alone a statement is still that of its line
+pub placed_grown : (r : Reader) (t : BodyTypes) → AddsTypes r.variables.types t → IsReady r
+    → (i : Statement Name WrittenType) (flat : Stmt) (fits : Bool) → IsPlaced r i flat fits
+    → IsPlaced (grown r t r.points.statements) i flat fits
+placed_grown r t grows ready i flat fits p = record {
+  order = order_grown r t r.points.statements grows refl ready i p.order;
+  of = record {
+    within = p.of.within;
+    of = statement_later r.variables.types t grows (scope_in r.regions r.structs) i _ p.of.of;
+  };
+  fits = p.fits;
+}
 
 -- a reader that says what it said is still prepared for a line
 pub due_grown : (old new : Reader) (f : Form) → IsGrown old new → IsDue old f → IsDue new f
@@ -110,17 +123,17 @@ pub adds_table : (types : BodyTypes) (t : Tables) → AddsShapes types.table t
 adds_table types t grows = record { table = grows; regions = prefix_same types.regions.items }
 
 -- a statement that is made of a line that is in order
-pub placed_of : {E : Type 0} (r : Reader) (t : BodyTypes) (i : Statement Name WrittenType)
-    (o : Result (Option (Kept ℕ Typed)) E) (first last : Bool) → IsReady r
+pub placed_of : {E : Type 0} (r : Reader) (t : BodyTypes) (l : StatementLists) (i : Statement Name WrittenType)
+    (o : Result (Option Stmt) E) (first last : Bool) → statements_in l ≡ statements_in r.points.statements → IsReady r
     → is_in_order (said_by r) (at_point i) ≡ true → first ≡ true
-    → IfOk o (λ _. AddsTypes r.variables.types t) → IfOk o (MadeOf (scope_in r.regions r.structs) i t)
+    → IfOk o (λ _. AddsTypes r.variables.types t) → IfOk o (MadeOf (scope_in r.regions r.structs) i t l)
     → IfOk o (FitOf (scope_in r.regions r.structs) i first last)
     → IfOk o (λ k. MatchOption k (has_names (scope_in r.regions r.structs) i ≡ false)
-    (λ k. IsPlaced (grown r t) i k last))
-placed_of r t i (Err e) first last ready order flag adds made fit = tt
-placed_of r t i (Ok None) first last ready order flag adds made fit = made
-placed_of r t i (Ok (Some k)) first last ready order flag adds made fit = record {
-  order = ap (λ (s : Said). is_in_order s (at_point i)) (said_grown r t adds ready) ∙ order;
+    (λ k. IsPlaced (grown r t l) i k last))
+placed_of r t l i (Err e) first last same ready order flag adds made fit = tt
+placed_of r t l i (Ok None) first last same ready order flag adds made fit = made
+placed_of r t l i (Ok (Some k)) first last same ready order flag adds made fit = record {
+  order = order_grown r t l adds same ready i order;
   of = made;
   fits = fit ∙ ap (λ b. b && list_all (has_arguments (scope_in r.regions r.structs)) (types_written i)) flag;
 }

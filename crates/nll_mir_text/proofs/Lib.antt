@@ -20,3 +20,7 @@ pub mod TypedLemmas
 pub mod VariableLemmas
 pub mod VersionLemmas
 pub mod ResolvedLemmas
+pub mod NameLaws
+mod RowLemmas
+mod ShapedLemmas
+mod ResolvedTypeLemmas

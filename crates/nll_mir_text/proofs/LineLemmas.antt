@@ -9,7 +9,7 @@ use Rattle.std.proofs.lemmas.List.Elements.{Contains-push_cases, All-cons, All-n
 use Rattle.std.proofs.lemmas.Option.{get_or_from_slice_get, slice_get_within, slice_get-get_or}
 use Rattle.nll_format.specs.Names.{number_of}
 use Rattle.nll_mir_grammar.specs.WrittenTypes.{Name}
-use Rattle.nll_resolve.specs.Naming.{is_among}
+use Rattle.nll_mir_text.specs.Naming.{is_among}
 
 -- ---- tests
 

@@ -36,18 +36,6 @@ pub moved : {X : Type 0} (old new all one rest : List X) → new ≡ old ++ one 
     → new ++ rest ≡ all
 moved old new all one rest h k = ap (λ xs. xs ++ rest) h ∙ (append_assoc old one rest ∙ k)
 
--- the image of one item more
-pub map_item : {X Y : Type 0} (f : X → Y) (xs : List X) (i : ℕ) (x : X) → i < length xs → x ≡ get_or xs i x
-    → map f (take (i + 1) xs) ≡ map f (take i xs) ++ f x ∷ []
-map_item f xs i x within is = map_more f xs i x within ∙ ap (λ y. map f (take i xs) ++ f y ∷ []) (sym is)
-
--- the images of the items so far, with that of one item more behind them
-pub map_pushed : {X Y : Type 0} (f : X → Y) (new old : List Y) (y : Y) (xs : List X) (i : ℕ) (d : X) → i < length xs
-    → new ≡ old ++ y ∷ [] → y ≡ f (get_or xs i d) → old ≡ map f (take i xs) → new ≡ map f (take (i + 1) xs)
-map_pushed f new old y xs i d within pushed is before =
-    pushed ∙ (ap (λ ys. ys ++ y ∷ []) before
-    ∙ (ap (λ z. map f (take i xs) ++ z ∷ []) is ∙ sym (map_more f xs i d within)))
-
 -- no item is left where none is counted
 pub none_left : {X : Type 0} (xs : List X) → length xs ≡ 0 → xs ≡ []
 none_left [] h = refl

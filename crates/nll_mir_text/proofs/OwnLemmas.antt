@@ -16,8 +16,8 @@ use Rattle.nll_mir_grammar.specs.MirForms.{WrittenParameter, region_parameter, t
 use Rattle.nll_mir_grammar.specs.Lines.{parameter_of}
 use Rattle.nll_mir_grammar.specs.declared.line.ParameterText.{ParameterText}
 use Rattle.nll_mir_grammar.specs.declared.line.ParameterText.TheVariants as parameters
-use Rattle.nll_resolve.specs.Naming.{Scope, is_among, is_known}
-use Rattle.nll_resolve.specs.ToldTypes.{are_known, arguments_are_known}
+use Rattle.nll_mir_text.specs.Naming.{Scope, is_among, is_known}
+use Rattle.nll_mir_text.specs.ToldTypes.{are_known, arguments_are_known}
 use Rattle.nll_mir_text.specs.MirSaid.{Said, scope_inside, region_in, type_in}
 use Rattle.nll_mir_text.specs.StructLines.{regions_in, types_in}
 use Rattle.nll_mir_text.specs.MirFaults.{has_repeats}
@@ -220,16 +220,6 @@ module _ (ps : List WrittenParameter) (x : Name) (p : Parameter) (old after : Ow
             ∙ sym (both_rows qs (region_names ps) (type_names ps ++ x ∷ []) (regions_stay ps x p)
             (types_more ps x p))));
       }
-
--- no parameter yet
-pub own_none : (own : OwnNames) → own.regions ≡ codes "static" ∷ [] → own.types ≡ [] → own.repeats ≡ false
-    → AreOwn [] own
-own_none own regions types repeats = record {
-  regions = record { same = λ _. regions; members = λ x. ap (λ (xs : List Name). is_among xs x) regions };
-  types = record { same = λ _. types; members = λ x. ap (λ (xs : List Name). is_among xs x) types };
-  repeats = repeats;
-  few = omega (arith, ap length regions);
-}
 
 -- ---- the parameters of the code
 

@@ -11,28 +11,28 @@ use Rattle.nll_format.specs.Names.{number_of}
 use Rattle.nll_format.specs.declared.error.TextKind.{TextKind}
 use Rattle.nll_format.specs.declared.error.TextKind.TheVariants.{Syntax, Unknown, Range, Shape, TypeSize, Limit}
 use Rattle.nll_types.specs.Types.{TypeTree}
-use Rattle.nll_types.specs.Judging.{IsJudged}
+use Rattle.nll_body.specs.Judging.{IsJudged}
 use Rattle.nll_types.specs.Rows.{tree_at}
 use Rattle.nll_types.specs.Structs.{Struct}
 use Rattle.nll_types.specs.declared.body_types.BodyTypes.{BodyTypes}
 use Rattle.nll_types.specs.declared.typed.Typed.{Typed}
-use Rattle.nll_types.specs.declared.judgement.Judgement.{Judgement}
+use Rattle.nll_body.specs.declared.judgement.Judgement.{Judgement}
 use Rattle.nll_mir_grammar.specs.WrittenTypes.{Name, WrittenType}
-use Rattle.nll_statements.specs.Statements.{Statement, types_written, is_terminator}
-use Rattle.nll_statements.specs.Effects.{targets}
-use Rattle.nll_statements.specs.Written.{regions_written, variables_written}
-use Rattle.nll_statements.specs.Edges.{edges_from, edge_count}
-use Rattle.nll_statements.proofs.MapLemmas.{same_terminator, same_targets, same_edges, same_variables}
-use Rattle.nll_resolve.specs.Naming.{Scope, is_among, is_known, has_arguments, meant}
-use Rattle.nll_statements.specs.Kept.{statement_of}
-use Rattle.nll_statements.specs.declared.statement.Statement.{Statement as Kept}
+use Rattle.nll_body.specs.Statements.{Statement, types_written, is_terminator}
+use Rattle.nll_body.specs.Effects.{targets}
+use Rattle.nll_body.specs.Written.{regions_written, variables_written}
+use Rattle.nll_body.specs.Exits.{edges_from, edge_count}
+use Rattle.nll_body.proofs.MapLemmas.{same_terminator, same_targets, same_edges, same_variables}
+use Rattle.nll_mir_text.specs.Naming.{Scope, is_among, is_known, meant}
+use Rattle.nll_body.specs.Flat.{statement_in}
+use Rattle.nll_body.specs.declared.flat.Stmt.{Stmt}
 use Rattle.nll_body.specs.Typed.{meant as meant_with}
-use Rattle.nll_statements.specs.Typing.{types_agree, types_are_small}
+use Rattle.nll_body.specs.Typing.{types_agree, types_are_small}
 use Rattle.nll_mir_grammar.specs.MirForms.{at_point}
 use Rattle.nll_mir_text.specs.declared.reader.Reader.{Reader}
 use Rattle.nll_mir_text.specs.MirSaid.{Said}
 use Rattle.nll_mir_text.specs.MirSteps.{says, statement_meant}
-use Rattle.nll_mir_text.specs.MirFaults.{are_declared, is_in_order, knows, has_targets, shapes_fit, first_fault}
+use Rattle.nll_mir_text.specs.MirFaults.{knows_variables, is_in_order, knows, has_targets, shapes_fit, first_fault}
 use Rattle.nll_mir_text.specs.MirReading.{said_by, scope_in}
 use Rattle.nll_mir_text.specs.ResolvedLines.{IsPlaced}
 use Rattle.nll_mir_text.specs.ResolvedStatements.{has_names, IsOfPoint, IsOfStatement}
@@ -76,8 +76,11 @@ module _ (s : Scope) (i : Statement Name WrittenType) (types : BodyTypes) (r : S
       ∙ (ap (λ (m : Statement ℕ TypeTree). is_terminator m) of.meant
       ∙ same_terminator (number_of s.regions) (meant s) i)
 
-module _ (r : Reader) (i : Statement Name WrittenType) (k : Kept ℕ Typed) (fits : Bool)
-    (placed : IsPlaced r i k fits) where
+module _ (r : Reader) (i : Statement Name WrittenType) (flat : Stmt) (fits : Bool)
+    (placed : IsPlaced r i flat fits) where
+  abbrev here : Statement ℕ Typed
+  here = statement_in r.points.statements flat
+
   abbrev variables : List TypeTree
   variables = (said_by r).variables
 
@@ -85,41 +88,41 @@ module _ (r : Reader) (i : Statement Name WrittenType) (k : Kept ℕ Typed) (fit
   structs = (said_by r).structs
 
   knows_is : (declared : Bool)
-      → declared ≡ list_all (λ x. nat_lt x (length r.variables.typed.items)) (variables_written (statement_of k))
+      → declared ≡ list_all (λ x. nat_lt x (length r.variables.typed.items)) (variables_written here)
       → declared ≡ knows (said_by r) i
   knows_is declared d =
       let counted = length-map r.variables.typed.items
       (tree_at r.variables.types.table.shapes r.variables.types.regions.items) in
       let declared_is : declared ≡ list_all (λ x. nat_lt x (length variables)) (variables_written i) =
-      d ∙ (ap (λ m. list_all (λ x. nat_lt x m) (variables_written (statement_of k))) (sym counted)
+      d ∙ (ap (λ m. list_all (λ x. nat_lt x m) (variables_written here)) (sym counted)
       ∙ ap (list_all (λ x. nat_lt x (length variables)))
-      (variables_resolved (scope_in r.regions r.structs) i r.variables.types (statement_of k) placed.of)) in
-      declared_is ∙ all_three _ _ _ placed.of.known
+      (variables_resolved (scope_in r.regions r.structs) i r.variables.types here placed.of.of)) in
+      declared_is ∙ all_three _ _ _ placed.of.of.known
 
-  fits_is : (agree : Bool) → agree ≡ types_agree structs variables (meant_with r.variables.types (statement_of k))
+  fits_is : (agree : Bool) → agree ≡ types_agree structs variables (meant_with r.variables.types here)
       → (fits && agree) ≡ shapes_fit (said_by r) i
   fits_is agree a =
       let agree_is : agree ≡ types_agree structs variables (statement_meant (said_by r) i) =
-      a ∙ ap (types_agree structs variables) placed.of.meant in
+      a ∙ ap (types_agree structs variables) placed.of.of.meant in
       rw (placed.fits, agree_is) refl
 
   -- what is judged of the statement
   pub point_judged : (judged j : Judgement) → j.declared ≡ judged.declared → j.fits ≡ (fits && judged.fits)
       → j.small ≡ judged.small
       → judged.declared
-      ≡ list_all (λ x. nat_lt x (length r.variables.typed.items)) (variables_written (statement_of k))
-      → IsJudged (types_agree structs variables (meant_with r.variables.types (statement_of k)))
-      (types_are_small structs variables (meant_with r.variables.types (statement_of k))) judged
+      ≡ list_all (λ x. nat_lt x (length r.variables.typed.items)) (variables_written here)
+      → IsJudged (types_agree structs variables (meant_with r.variables.types here))
+      (types_are_small structs variables (meant_with r.variables.types here)) judged
       → IsOfPoint (said_by r) i j
   point_judged judged j declared fit small d e = record {
     known = declared ∙ knows_is judged.declared d;
     fits = fit ∙ fits_is judged.fits e.fits;
     fits_small = λ told.
-        let agreed : types_agree structs variables (meant_with r.variables.types (statement_of k)) ≡ true =
+        let agreed : types_agree structs variables (meant_with r.variables.types here) ≡ true =
         sym e.fits ∙ second fits judged.fits (sym fit ∙ told) in
         small ∙ (e.fits_small
-        ∙ (ap (λ b. b && types_are_small structs variables (meant_with r.variables.types (statement_of k))) agreed
-        ∙ ap (types_are_small structs variables) placed.of.meant));
+        ∙ (ap (λ b. b && types_are_small structs variables (meant_with r.variables.types here)) agreed
+        ∙ ap (types_are_small structs variables) placed.of.of.meant));
   }
 
 unknown_last : (a b c : Bool) → (b && c) ≡ false → (a && b && c) ≡ false
@@ -129,7 +132,7 @@ unknown_last false b c h = refl
 -- a name in the statement isn't declared
 pub names_unknown : (s : Said) (i : Statement Name WrittenType) → has_names s.scope i ≡ false → knows s i ≡ false
 names_unknown s i none =
-    unknown_last (are_declared s (variables_written i)) (list_all (is_among s.scope.regions) (regions_written i))
+    unknown_last (knows_variables s (variables_written i)) (list_all (is_among s.scope.regions) (regions_written i))
     (list_all (is_known s.scope) (types_written i)) none
 
 -- ---- faults

@@ -1,80 +1,89 @@
--- What a statement of the code is over numbers.
-use Rattle.std.proofs.Common.{◌≡◌, ℕ, zero, suc, ◌+◌, ◌<◌, Bool, true, false, List, [], ◌∷◌, ◌++◌, get_or, length, map, take, refl, sym, ap, ◌∙◌, Option, Some, None, append_assoc, arith}
-use Rattle.std.specs.Prelude.{◌&&◌, All, MatchOption, ⊤}
-use Rattle.std.specs.Borrow.{Bor}
-use Rattle.std.proofs.lemmas.List.{map_more}
-use Rattle.nll_format.specs.Names.{number_of}
+-- What is made of a statement of the code, but for a call.
+use Rattle.std.proofs.Common.{◌≡◌, ℕ, zero, suc, Bool, true, List, [], ◌∷◌, map, refl, sym, subst, arith, rules}
+use Rattle.std.specs.Prelude.{◌&&◌, All}
+use Rattle.std.specs.List.{list_all}
+use Rattle.std.proofs.Math.Bool.{and-true}
+use Rattle.nll_sets.proofs.PrefixLemmas.{prefix_same, prefix_further}
+use Rattle.nll_types.specs.Grown.{AddsTypes}
+use Rattle.nll_types.specs.Places.{path_of}
+use Rattle.nll_types.specs.Operands.{operand_of}
 use Rattle.nll_types.specs.Rows.{HasRow}
 use Rattle.nll_types.specs.declared.body_types.BodyTypes.{BodyTypes}
-use Rattle.nll_types.specs.declared.place.Place.{Place}
 use Rattle.nll_types.specs.declared.typed.Typed.{Typed}
 use Rattle.nll_types.proofs.RowLemmas.{tree_is, has_row}
+use Rattle.nll_types.proofs.ShapingLemmas.{extends_same, grows_then}
+use Rattle.nll_mir_grammar.specs.WrittenTypes.{Name, WrittenType}
 use Rattle.nll_mir_grammar.specs.TypeTexts.{written}
 use Rattle.nll_mir_grammar.specs.declared.type_text.TypePiece.{TypePiece}
-use Rattle.nll_statements.specs.Kept.{made_of, statement_of}
-use Rattle.nll_statements.specs.declared.statement.Make.{Make}
-use Rattle.nll_statements.specs.declared.statement.Statement.{Statement as Kept}
-use Rattle.nll_statements.specs.declared.statement.Statement.TheVariants as kept
-use Rattle.nll_statements.specs.Statements.{map_statement}
-use Rattle.nll_resolve.specs.Naming.{Scope, is_among, is_known}
-use Rattle.nll_resolve.specs.Resolution.{IsResolved}
-use Rattle.nll_mir_text.specs.ResolvedStatements.{as_written, has_names, IsOfStatement, MadeOf, FitOf}
+use Rattle.nll_body.specs.CodeStatements.{made_of}
+use Rattle.nll_body.specs.Flat.{StatementLists}
+use Rattle.nll_body.specs.Meant.{meant_by}
+use Rattle.nll_body.specs.Statements.{Statement, make, map_statement, types_written}
+use Rattle.nll_body.specs.Within.{Grows, IsFlatStatement}
+use Rattle.nll_body.specs.declared.flat.Stmt.{Stmt}
+use Rattle.nll_body.specs.declared.statement.Make.{Make}
+use Rattle.nll_mir_text.specs.Naming.{Scope, has_arguments}
+use Rattle.nll_mir_text.specs.Resolution.{IsResolved}
+use Rattle.nll_mir_text.specs.ResolvedStatements.{has_names, meant_in, IsFlatOf, IsOfStatement}
 
--- the images of the items so far behind others, with that of one item more
-pub behind_more : {X Y : Type 0} (f : X → Y) (new old before : List Y) (y : Y) (xs : List X) (i : ℕ) (d : X)
-    → i < length xs → new ≡ old ++ y ∷ [] → y ≡ f (get_or xs i d) → old ≡ before ++ map f (take i xs)
-    → new ≡ before ++ map f (take (i + 1) xs)
-behind_more f new old before y xs i d within pushed is all =
-    pushed
-    ∙ (ap (λ ys. ys ++ y ∷ []) all
-    ∙ (append_assoc before (map f (take i xs)) (y ∷ [])
-    ∙ (ap (λ z. before ++ (map f (take i xs) ++ z ∷ [])) is
-    ∙ ap (λ ys. before ++ ys) (sym (map_more f xs i d within)))))
+-- ---- types and lists that grow
 
-pub and_true : (b : Bool) → (b && true) ≡ b
-and_true true = refl
-and_true false = refl
+pub adds_same : (a : BodyTypes) → AddsTypes a a
+adds_same a = record {
+  table = record { structs = refl; extends = extends_same a.table.shapes };
+  regions = prefix_same a.regions.items;
+}
 
--- nothing of these
-pub none : {X : Type 0} (P : X → Type 0) → All P []
-none P k d l = absurd (omega (arith, l))
+pub adds_then : (a b c : BodyTypes) → AddsTypes a b → AddsTypes b c → AddsTypes a c
+adds_then a b c f g = record {
+  table = grows_then a.table b.table c.table f.table g.table;
+  regions = prefix_further a.regions.items b.regions.items c.regions.items f.regions g.regions;
+}
 
--- of one alone
-pub alone : {X : Type 0} (P : X → Type 0) (x : X) → P x → All P (x ∷ [])
-alone P x h zero d l = h
-alone P x h (suc k) d l = absurd (omega (arith, l))
+pub grows_same : (l : StatementLists) → Grows l l
+grows_same l = record { points = refl; lists = search (rules, prefix_same) }
 
 -- ---- statements
 
--- a borrow over numbers
-pub borrow_resolved : (s : Scope) (types : BodyTypes) (p : Place) (r : Bor (List ℕ)) (m : Bool) (q : Place)
-    (o : Option (Kept ℕ Typed))
-    → MatchOption o (is_among s.regions r.now ≡ false)
-    (λ i. (is_among s.regions r.now ≡ true) × (i ≡ kept.Borrow p (number_of s.regions r.now) m q))
-    → MadeOf s (as_written (kept.Borrow p r m q)) types o
-borrow_resolved s types p r m q None h = rw h refl
-borrow_resolved s types p r m q (Some i) h = rw h.1 (record { known = rw h.0 refl; rows = none _; meant = refl })
+-- nothing of these
+none : {X : Type 0} (P : X → Type 0) → All P []
+none P k d l = absurd (omega (arith, l))
 
--- the flag of one
-pub borrow_fits : (s : Scope) (p : Place) (r : Bor (List ℕ)) (m : Bool) (q : Place) (old : Bool)
-    (o : Option (Kept ℕ Typed))
-    → FitOf s (as_written (kept.Borrow p r m q)) old old o
-borrow_fits s p r m q old None = tt
-borrow_fits s p r m q old (Some i) = sym (and_true old)
+-- of one alone
+alone : {X : Type 0} (P : X → Type 0) (x : X) → P x → All P (x ∷ [])
+alone P x h zero d l = h
+alone P x h (suc k) d l = absurd (omega (arith, l))
 
--- ---- what is made
-
--- the names in the type of what is made are those of the statement
-pub names_of_made : (s : Scope) (m : Make (List TypePiece))
-    → has_names s (map_statement (λ (r : Bor (List ℕ)). r.now) written (made_of m)) ≡ is_known s (written m.ty)
-names_of_made s m = and_true (is_known s (written m.ty))
+-- the number of a statement over numbers
+pub flat_of : (s : Scope) (i : Statement Name WrittenType) (types : BodyTypes) (lists : StatementLists) (flat : Stmt)
+    (k : Statement ℕ Typed) → IsOfStatement s i types k → IsFlatStatement lists k flat → IsFlatOf s i types lists flat
+flat_of s i types lists flat k of is =
+    record { within = is.0; of = subst (IsOfStatement s i types) (sym is.1) of }
 
 -- what is made over numbers
-pub made_resolved : (s : Scope) (types : BodyTypes) (m : Make (List TypePiece)) (n : Make Typed) → n.place ≡ m.place
-    → n.operands ≡ m.operands → IsResolved s (written m.ty) types n.ty
-    → IsOfStatement s (map_statement (λ (r : Bor (List ℕ)). r.now) written (made_of m)) types (made_of n)
-made_resolved s types m n place operands of = record {
-  known = names_of_made s m ∙ of.known;
-  rows = alone (HasRow types.table.shapes types.regions.items) n.ty (has_row _ _ n.ty _ of.typed);
-  meant = rw (place, operands, tree_is _ _ n.ty _ of.typed) refl;
+pub made_resolved : (s : Scope) (types : BodyTypes) (m : Make (List TypePiece)) (v : Typed)
+    → IsResolved s (written m.ty) types v
+    → IsOfStatement s (map_statement (λ (r : Name). r) written (made_of m)) types
+    (make (path_of m.place) v (map operand_of m.operands.items))
+made_resolved s types m v of = record {
+  known = rw and-true of.known;
+  rows = alone (HasRow types.table.shapes types.regions.items) v (has_row _ _ v _ of.typed);
+  meant = rw (tree_is _ _ v _ of.typed) refl;
+}
+
+-- Lists grew by a statement without types, for which the number stands.
+pub record IsPut (s : Scope) (i : Statement Name WrittenType) (types : BodyTypes) (old new : StatementLists)
+    (flat : Stmt) : Type 0 where
+  pub grows : Grows old new
+  pub of : IsFlatOf s i types new flat
+  pub fits : (b : Bool) → b ≡ (b && list_all (has_arguments s) (types_written i))
+
+pub put : (s : Scope) (i : Statement Name WrittenType) (types : BodyTypes) (old new : StatementLists) (flat : Stmt)
+    (k : Statement ℕ Typed) → Grows old new → IsFlatStatement new k flat → has_names s i ≡ true
+    → types_written k ≡ [] → types_written i ≡ []
+    → meant_by types.table.shapes types.regions.items k ≡ meant_in s i → IsPut s i types old new flat
+put s i types old new flat k grows is known untyped unwritten meant = record {
+  grows = grows;
+  of = flat_of s i types new flat k (record { known = known; rows = rw untyped (none _); meant = meant }) is;
+  fits = λ b. rw (unwritten, and-true) refl;
 }

@@ -14,8 +14,8 @@ use Rattle.nll_format.specs.declared.error.TextKind.TheVariants.{Syntax}
 use Rattle.nll_types.specs.Types.{TypeTree}
 use Rattle.nll_types.specs.Structs.{Struct}
 use Rattle.nll_mir_grammar.specs.WrittenTypes.{Name, WrittenType, WrittenTypes}
-use Rattle.nll_statements.specs.Statements.{Statement, is_terminator}
-use Rattle.nll_resolve.specs.Naming.{Scope, meant}
+use Rattle.nll_body.specs.Statements.{Statement, is_terminator}
+use Rattle.nll_mir_text.specs.Naming.{Scope, meant}
 use Rattle.nll_mir_grammar.specs.MirForms.{Form, WrittenParameter, universal, outlives, further, assert_line, struct_line, variable, blocks, block, at_point, end}
 use Rattle.nll_mir_grammar.specs.declared.version.Version.{Version}
 use Rattle.nll_mir_text.specs.declared.groups.Group.TheVariants.{End}
@@ -33,19 +33,6 @@ use Rattle.nll_mir_text.proofs.GroupLemmas.{follows, before_blocks, last_push, n
 first_is : {A : Type 0} (b : Bool) (x : A) (o : Option A) → b ≡ false → cond (not b) (Some x) o ≡ Some x
 first_is true x o h = absurd cc
 first_is false x o h = refl
-
--- a line that stands out of order has the fault `Syntax` first
-pub out_of_order : (s : Said) (f : Form) → is_in_order s f ≡ false → first_fault s f ≡ Some Syntax
-out_of_order s (universal a) h = first_is _ _ _ h
-out_of_order s (outlives a b) h = first_is _ _ _ h
-out_of_order s (further x) h = first_is _ _ _ h
-out_of_order s (assert_line a b) h = first_is _ _ _ h
-out_of_order s (struct_line n ps has_drop fields) h = first_is _ _ _ h
-out_of_order s (variable x t) h = first_is _ _ _ h
-out_of_order s (blocks n) h = first_is _ _ _ h
-out_of_order s (block n) h = first_is _ _ _ h
-out_of_order s (at_point i) h = first_is _ _ _ h
-out_of_order s end h = first_is _ _ _ h
 
 -- a line without a fault stands in order
 pub in_order : (s : Said) (f : Form) → first_fault s f ≡ None → is_in_order s f ≡ true
@@ -395,14 +382,6 @@ said_after_push : (s : Said) (forms : List Form) (f : Form)
     → said_after s (forms ++ f ∷ []) ≡ says (said_after s forms) f
 said_after_push s [] f = refl
 said_after_push s (g ∷ forms) f = said_after_push (says s g) forms f
-
--- of lines without a fault it is what they say together
-pub said_line_by_line : (v : Version) (lines : List (List ℕ)) (forms : List Form) → Says (mir v) [] lines forms
-    → said_after nothing_said forms ≡ said forms
-said_line_by_line v lines forms h = behind_all (λ fs. said_after nothing_said fs ≡ said fs)
-    (λ fs f fine same. said_after_push nothing_said fs f
-    ∙ (ap (λ (s : Said). says s f) same ∙ sym (said_push fs f fine)))
-    v [] lines forms h refl
 
 -- ---- the last line
 

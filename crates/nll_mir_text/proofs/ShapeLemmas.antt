@@ -8,7 +8,7 @@ use Rattle.nll_types.specs.Shapes.{Shape, ShapeList, shape_of, shapes_of, is_sma
 use Rattle.nll_types.specs.Table.{shape_in, shapes_in, all_at}
 use Rattle.nll_types.specs.declared.node.Node.{Node}
 use Rattle.nll_types.proofs.ShapeLemmas.{same_nodes}
-use Rattle.nll_statements.specs.Typing.{are_small}
+use Rattle.nll_body.specs.Typing.{are_small}
 
 -- the smallness of a type is that of its shape
 pub small_of_shape : (t : TypeTree) (s : Shape) → s ≡ shape_of t → is_small_shape s ≡ is_small t

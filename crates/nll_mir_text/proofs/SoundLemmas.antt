@@ -12,23 +12,23 @@ use Rattle.nll_problem.specs.Limits.{most_points, most_edges, most_universals, m
 use Rattle.nll_types.specs.Types.{TypeTree}
 use Rattle.nll_types.specs.Structs.{Struct, AreInOrder, IsWellFormed}
 use Rattle.nll_mir_grammar.specs.WrittenTypes.{Name, WrittenType, WrittenTypes}
-use Rattle.nll_statements.specs.Statements.{Statement, is_terminator, map_statement, types_written}
-use Rattle.nll_statements.specs.Effects.{targets}
-use Rattle.nll_statements.specs.Written.{regions_written, variables_written}
-use Rattle.nll_statements.proofs.MapLemmas.{regions_mapped, types_mapped}
+use Rattle.nll_body.specs.Statements.{Statement, is_terminator, types_written}
+use Rattle.nll_body.specs.Effects.{targets}
+use Rattle.nll_body.specs.Written.{regions_written, variables_written}
+use Rattle.nll_body.proofs.MapLemmas.{regions_mapped, types_mapped}
 use Rattle.nll_mir_grammar.specs.MirForms.{Form, WrittenParameter, universal, outlives, further, assert_line, struct_line, variable, blocks, block, at_point, end}
-use Rattle.nll_resolve.specs.Naming.{meant, is_among, has_arguments, is_known}
-use Rattle.nll_resolve.specs.ToldTypes.{have_arguments, are_known}
+use Rattle.nll_mir_text.specs.Naming.{meant, is_among, has_arguments, is_known}
+use Rattle.nll_mir_text.specs.ToldTypes.{have_arguments, are_known}
 use Rattle.nll_format.specs.Text.{Says, IsText}
 use Rattle.nll_body.specs.Edges.{edges_from, edge_count}
 use Rattle.nll_body.specs.Sound.{IsSound}
 use Rattle.nll_body.specs.WellTyped.{IsWellTyped}
-use Rattle.nll_statements.proofs.MapLemmas.{same_edges, same_targets, same_terminator}
+use Rattle.nll_body.proofs.MapLemmas.{same_edges, same_targets, same_terminator}
 use Rattle.nll_mir_text.specs.MirSaid.{Said, said, scope_inside}
 use Rattle.nll_mir_text.specs.StructLines.{is_region}
 use Rattle.nll_mir_text.specs.MirSteps.{says, nothing_said, declared, statement_meant}
-use Rattle.nll_mir_text.specs.MirFaults.{is_universal, first_fault, has_targets, shapes_fit, knows, are_declared, is_in_body}
-use Rattle.nll_statements.specs.Typing.{types_agree}
+use Rattle.nll_mir_text.specs.MirFaults.{is_universal, first_fault, has_targets, shapes_fit, knows, knows_variables, is_in_body}
+use Rattle.nll_body.specs.Typing.{types_agree}
 use Rattle.nll_mir_text.specs.MirReading.{AreKinds}
 use Rattle.nll_mir_grammar.specs.declared.version.Version.{Version}
 use Rattle.nll_mir_text.specs.MirText.{mir, body_said}
@@ -546,7 +546,7 @@ module _ (s : Said) (w : IsWell s) where
   writes i known fit =
       let j = statement_meant s i in
       let names =
-      three (are_declared s (variables_written i)) (list_all (is_among s.scope.regions) (regions_written i))
+      three (knows_variables s (variables_written i)) (list_all (is_among s.scope.regions) (regions_written i))
       (list_all (is_known s.scope) (types_written i)) known in
       let args =
       and_parts (list_all (has_arguments s.scope) (types_written i))

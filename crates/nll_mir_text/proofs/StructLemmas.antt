@@ -8,12 +8,12 @@ use Rattle.std.proofs.Math.Seq.{take-length}
 use Rattle.nll_problem.specs.Limits.{most_structs}
 use Rattle.nll_format.specs.declared.error.TextKind.TheVariants.{Unknown, Duplicate, Shape, TypeSize, Limit}
 use Rattle.nll_problem.specs.declared.error.Kind.TheVariants.{Structs}
-use Rattle.nll_statements.specs.Typing.{are_small}
+use Rattle.nll_body.specs.Typing.{are_small}
 use Rattle.nll_types.specs.Structs.{Struct, no_struct, HasGoodFields, AreWellFormed, AreInOrder}
 use Rattle.nll_mir_grammar.specs.WrittenTypes.{Name, WrittenTypes}
 use Rattle.nll_mir_grammar.specs.MirForms.{WrittenParameter, region_parameter, type_parameter, struct_line}
-use Rattle.nll_resolve.specs.Naming.{is_among, all_meant}
-use Rattle.nll_resolve.specs.ToldTypes.{are_known, have_arguments}
+use Rattle.nll_mir_text.specs.Naming.{is_among, all_meant}
+use Rattle.nll_mir_text.specs.ToldTypes.{are_known, have_arguments}
 use Rattle.nll_mir_text.specs.MirSaid.{Said, scope_inside}
 use Rattle.nll_mir_text.specs.StructLines.{is_region, regions_in, types_in}
 use Rattle.nll_mir_text.specs.MirSteps.{declared}
@@ -137,10 +137,6 @@ module _ (s : Said) (n : Name) (ps : List WrittenParameter) (has_drop : Bool) (f
       struct_too_large small = rw (order, known, once, fit, small) refl
 
       module _ (small : are_small (all_meant (scope_inside s.scope ps) fields) ≡ true) where
-        pub too_many_structs : most_structs ≤ length s.structs
-            → first_fault s (struct_line n ps has_drop fields) ≡ Some (Limit Structs)
-        too_many_structs many = rw (order, known, once, fit, small, le-leb _ _ many) refl
-
         pub no_struct_fault : length s.structs < most_structs → first_fault s (struct_line n ps has_drop fields) ≡ None
         no_struct_fault few = rw (order, known, once, fit, small, lt-leb _ _ few) refl
 

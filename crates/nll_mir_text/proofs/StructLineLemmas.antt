@@ -11,8 +11,8 @@ use Rattle.nll_types.specs.Declarations.{structs_of}
 use Rattle.nll_types.specs.Declarations as kept
 use Rattle.nll_types.specs.Rows.{HasRow, tree_at}
 use Rattle.nll_types.specs.declared.node.Node.{Node}
-use Rattle.nll_statements.specs.Flat.{statements_in}
-use Rattle.nll_statements.specs.Meant.{HasRows, meant_by}
+use Rattle.nll_body.specs.Flat.{statements_in}
+use Rattle.nll_body.specs.Meant.{HasRows, meant_by}
 use Rattle.nll_types.specs.declared.structs.Declaration.{Declaration}
 use Rattle.nll_mir_grammar.specs.WrittenTypes.{Name, WrittenType, WrittenTypes}
 use Rattle.nll_mir_grammar.specs.TypeTexts.{written}
@@ -20,7 +20,7 @@ use Rattle.nll_mir_grammar.specs.Lines.{parameter_of}
 use Rattle.nll_mir_grammar.specs.MirForms.{WrittenParameter}
 use Rattle.nll_mir_grammar.specs.Tuples.{IsTuple, parts}
 use Rattle.nll_mir_grammar.specs.declared.line.StructText.{StructText}
-use Rattle.nll_resolve.specs.Naming.{Scope, all_meant, meant}
+use Rattle.nll_mir_text.specs.Naming.{Scope, all_meant, meant}
 use Rattle.nll_mir_text.specs.declared.groups.Group.TheVariants.{Structs}
 use Rattle.nll_mir_text.specs.MirSaid.{Said, scope_inside}
 use Rattle.nll_mir_text.specs.StructLines.{is_region, regions_in, types_in}

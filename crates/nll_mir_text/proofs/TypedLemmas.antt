@@ -9,9 +9,9 @@ use Rattle.nll_types.specs.Types.{TypeTree}
 use Rattle.nll_types.specs.Structs.{Struct}
 use Rattle.nll_types.specs.Shapes.{is_small}
 use Rattle.nll_mir_grammar.specs.WrittenTypes.{Name, WrittenType, WrittenTypes}
-use Rattle.nll_statements.specs.Statements.{Statement, types_written}
-use Rattle.nll_statements.specs.Typing.{types_agree, types_are_small, are_small}
-use Rattle.nll_resolve.specs.Naming.{meant, has_arguments}
+use Rattle.nll_body.specs.Statements.{Statement, types_written}
+use Rattle.nll_body.specs.Typing.{types_agree, types_are_small, are_small}
+use Rattle.nll_mir_text.specs.Naming.{meant, has_arguments}
 use Rattle.nll_format.specs.Text.{Says, IsText}
 use Rattle.nll_mir_grammar.specs.MirForms.{Form, WrittenParameter, universal, outlives, further, assert_line, struct_line, variable, blocks, block, at_point, end}
 use Rattle.nll_mir_grammar.specs.declared.version.Version.{Version}

@@ -8,7 +8,7 @@ use Rattle.nll_format.specs.declared.error.TextKind.TheVariants.{Unknown, Range,
 use Rattle.nll_types.specs.Shapes.{is_small}
 use Rattle.nll_mir_grammar.specs.WrittenTypes.{WrittenType}
 use Rattle.nll_mir_grammar.specs.MirForms.{variable}
-use Rattle.nll_resolve.specs.Naming.{is_known, has_arguments, meant}
+use Rattle.nll_mir_text.specs.Naming.{is_known, has_arguments, meant}
 use Rattle.nll_mir_text.specs.MirSaid.{Said}
 use Rattle.nll_mir_text.specs.MirFaults.{is_in_order, first_fault}
 

@@ -1,3 +1,7 @@
+pub mod Naming
+pub mod Resolution
+pub mod ToldTypes
+pub mod Resolving
 pub mod MirSaid
 pub mod MirFaults
 pub mod MirText

@@ -14,15 +14,15 @@ use Rattle.nll_format.specs.declared.error.TextKind.TheVariants.{Syntax, Unknown
 use Rattle.nll_format.specs.declared.error.TextKind.TheVariants.{Shape, TypeSize, Limit}
 use Rattle.nll_types.specs.Shapes.{is_small}
 use Rattle.nll_mir_grammar.specs.WrittenTypes.{Name, WrittenType, tuple}
-use Rattle.nll_statements.specs.Statements.{Statement, types_written}
-use Rattle.nll_statements.specs.Effects.{targets}
-use Rattle.nll_statements.specs.Written.{regions_written, variables_written}
-use Rattle.nll_statements.specs.Edges.{edges_from, edge_count}
-use Rattle.nll_statements.specs.Typing.{types_agree, types_are_small, are_small}
+use Rattle.nll_body.specs.Statements.{Statement, types_written}
+use Rattle.nll_body.specs.Effects.{targets}
+use Rattle.nll_body.specs.Written.{regions_written, variables_written}
+use Rattle.nll_body.specs.Exits.{edges_from, edge_count}
+use Rattle.nll_body.specs.Typing.{types_agree, types_are_small, are_small}
 use Rattle.nll_mir_grammar.specs.MirForms.{WrittenParameter}
 use Rattle.nll_mir_grammar.specs.MirForms.{Form, universal, outlives, further, assert_line}
 use Rattle.nll_mir_grammar.specs.MirForms.{struct_line, variable, blocks, block, at_point, end}
-use Rattle.nll_resolve.specs.Naming.{Scope, is_among, is_known, has_arguments, meant, all_meant}
+use Rattle.nll_mir_text.specs.Naming.{Scope, is_among, is_known, has_arguments, meant, all_meant}
 use Rattle.nll_mir_text.specs.MirSaid.{Said, group, scope_inside, meant_in}
 
 -- ---- order
@@ -61,13 +61,13 @@ redeclares s n ps =
     || list_any (is_among (n ∷ s.structs)) (scope_inside s ps).parameters
 
 -- the variables are declared
-abbrev pub are_declared : Said → List ℕ → Bool
-are_declared s xs = list_all (λ x. nat_lt x (length s.variables)) xs
+abbrev pub knows_variables : Said → List ℕ → Bool
+knows_variables s xs = list_all (λ x. nat_lt x (length s.variables)) xs
 
 -- each name and each variable in the statement is declared
 abbrev pub knows : Said → Statement Name WrittenType → Bool
 knows s i =
-    are_declared s (variables_written i)
+    knows_variables s (variables_written i)
     && list_all (is_among s.scope.regions) (regions_written i)
     && list_all (is_known s.scope) (types_written i)
 

@@ -8,9 +8,9 @@ use Rattle.nll_problem.specs.Limits.{most_points, most_edges, most_universals, m
 use Rattle.nll_problem.specs.Limits.{most_variables, most_structs, most_bytes}
 use Rattle.nll_types.specs.Declarations.{structs_of}
 use Rattle.nll_types.specs.Structs.{Struct, struct_at}
-use Rattle.nll_statements.specs.Statements.{Statement, is_terminator}
-use Rattle.nll_statements.specs.Edges.{edges_from, edge_count}
-use Rattle.nll_statements.specs.Flat.{statements_in}
+use Rattle.nll_body.specs.Statements.{Statement, is_terminator}
+use Rattle.nll_body.specs.Exits.{edges_from, edge_count}
+use Rattle.nll_body.specs.Flat.{statements_in}
 use Rattle.nll_body.specs.Typed.{HaveRows, meant, trees_at}
 use Rattle.nll_format.specs.Text.{IsText}
 use Rattle.nll_format.specs.declared.error.TextKind.{TextKind}
@@ -20,7 +20,7 @@ use Rattle.nll_mir_grammar.specs.MirForms.{WrittenParameter, region_parameter, t
 pub use Rattle.nll_mir_grammar.specs.Lines.{struct_form}
 use Rattle.nll_mir_grammar.specs.declared.version.Version.{Version}
 use Rattle.nll_mir_grammar.specs.WrittenTypes.{Name, WrittenType}
-use Rattle.nll_resolve.specs.Naming.{Scope}
+use Rattle.nll_mir_text.specs.Naming.{Scope}
 use Rattle.nll_mir_text.specs.declared.tables.Regions.{Regions}
 use Rattle.nll_mir_text.specs.declared.tables.StructNames.{StructNames}
 use Rattle.nll_mir_text.specs.MirSaid.{Said, said, group}

@@ -10,11 +10,11 @@ use Rattle.nll_types.specs.Types.{TypeTree}
 use Rattle.nll_types.specs.Structs.{Struct}
 use Rattle.nll_types.specs.declared.parameter.Parameter.{Parameter}
 use Rattle.nll_mir_grammar.specs.WrittenTypes.{Name, WrittenType, WrittenTypes}
-use Rattle.nll_statements.specs.Statements.{Statement, is_terminator, map_statement}
+use Rattle.nll_body.specs.Statements.{Statement, is_terminator, map_statement}
 use Rattle.nll_mir_grammar.specs.MirForms.{WrittenParameter, region_parameter, type_parameter}
 use Rattle.nll_mir_grammar.specs.MirForms.{Form, universal, outlives, further, assert_line}
 use Rattle.nll_mir_grammar.specs.MirForms.{struct_line, variable, blocks, block, at_point, end}
-use Rattle.nll_resolve.specs.Naming.{Scope, meant, all_meant}
+use Rattle.nll_mir_text.specs.Naming.{Scope, meant, all_meant}
 
 -- ---- the parameters of a struct
 

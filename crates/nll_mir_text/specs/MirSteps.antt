@@ -6,11 +6,11 @@ use Rattle.nll_problem.specs.Building.{same_pair}
 use Rattle.nll_types.specs.Types.{TypeTree}
 use Rattle.nll_types.specs.Structs.{Struct}
 use Rattle.nll_mir_grammar.specs.WrittenTypes.{Name, WrittenType, WrittenTypes}
-use Rattle.nll_statements.specs.Statements.{Statement, is_terminator}
+use Rattle.nll_body.specs.Statements.{Statement, is_terminator}
 use Rattle.nll_mir_grammar.specs.MirForms.{WrittenParameter}
 use Rattle.nll_mir_grammar.specs.MirForms.{Form, universal, outlives, further, assert_line}
 use Rattle.nll_mir_grammar.specs.MirForms.{struct_line, variable, blocks, block, at_point, end}
-use Rattle.nll_resolve.specs.Naming.{meant}
+use Rattle.nll_mir_text.specs.Naming.{meant}
 use Rattle.nll_mir_text.specs.declared.groups.Group.{Group}
 use Rattle.nll_mir_text.specs.declared.groups.Group.TheVariants.{Header, Universals, Outlives}
 use Rattle.nll_mir_text.specs.declared.groups.Group.TheVariants.{Regions, Asserts, Structs}

@@ -1,6 +1,6 @@
 -- What is judged of the statements of a body.
 -- Source: project's choice. Only private contracts cite this file.
-use Rattle.std.specs.Prelude.{◌≡◌, ℕ, ◌<◌, ◌^◌, Bool, true, false, ◌&&◌, List, ◌++◌, map, All}
+use Rattle.std.specs.Prelude.{◌≡◌, ℕ, ◌<◌, ◌^◌, Bool, true, false, ◌&&◌, List, map, All}
 use Rattle.std.specs.Prelude.{⊤, Option, MatchOption}
 use Rattle.std.specs.List.{list_all}
 use Rattle.std.specs.Borrow.{Bor}
@@ -9,21 +9,24 @@ use Rattle.nll_types.specs.Types.{TypeTree}
 use Rattle.nll_types.specs.Operands.{Operand, operand_of}
 use Rattle.nll_types.specs.Rows.{HasRow, tree_at}
 use Rattle.nll_types.specs.declared.body_types.BodyTypes.{BodyTypes}
-use Rattle.nll_types.specs.declared.judgement.Judgement.{Judgement}
 use Rattle.nll_types.specs.declared.operand.Operand.{Operand as KeptOperand}
 use Rattle.nll_types.specs.declared.typed.Typed.{Typed}
 use Rattle.nll_mir_grammar.specs.WrittenTypes.{Name, WrittenType}
 use Rattle.nll_mir_grammar.specs.TypeTexts.{written}
 use Rattle.nll_mir_grammar.specs.declared.type_text.TypePiece.{TypePiece}
-use Rattle.nll_statements.specs.Statements.{Statement, is_terminator, map_statement, types_written}
-use Rattle.nll_statements.specs.Edges.{edges_from}
-use Rattle.nll_statements.specs.Written.{regions_written}
-use Rattle.nll_statements.specs.Kept.{statement_of}
-use Rattle.nll_statements.specs.Meant.{HasRows, meant_by}
-use Rattle.nll_statements.specs.Typing.{types_are_small}
-use Rattle.nll_statements.specs.declared.edges.Exits.{Exits}
-use Rattle.nll_statements.specs.declared.statement.Statement.{Statement as Kept}
-use Rattle.nll_resolve.specs.Naming.{Scope, is_among, is_known, has_arguments, meant}
+use Rattle.nll_body.specs.Statements.{Statement, is_terminator, map_statement, types_written}
+use Rattle.nll_body.specs.Exits.{edges_from}
+use Rattle.nll_body.specs.Written.{regions_written}
+use Rattle.nll_body.specs.CodeStatements.{statement_of}
+use Rattle.nll_body.specs.Meant.{HasRows, meant_by}
+use Rattle.nll_body.specs.Typing.{types_are_small}
+use Rattle.nll_body.specs.Flat.{StatementLists, statement_in}
+use Rattle.nll_body.specs.Within.{IsStatementIn}
+use Rattle.nll_body.specs.declared.exits.Exits.{Exits}
+use Rattle.nll_body.specs.declared.flat.Stmt.{Stmt}
+use Rattle.nll_body.specs.declared.judgement.Judgement.{Judgement}
+use Rattle.nll_body.specs.declared.statement.Statement.{Statement as Kept}
+use Rattle.nll_mir_text.specs.Naming.{Scope, is_among, is_known, has_arguments, meant}
 pub use Rattle.nll_mir_text.specs.MirSaid.{meant_in}
 use Rattle.nll_mir_text.specs.MirSaid.{Said}
 use Rattle.nll_mir_text.specs.MirSteps.{statement_meant}
@@ -46,41 +49,38 @@ pub record IsOfStatement (s : Scope) (i : Statement Name WrittenType) (types : B
   pub rows : HasRows types.table.shapes types.regions.items r
   pub meant : meant_by types.table.shapes types.regions.items r ≡ meant_in s i
 
+-- The number stands for something in the lists, and for what the written statement means.
+pub record IsFlatOf (s : Scope) (i : Statement Name WrittenType) (types : BodyTypes)
+    (lists : StatementLists) (flat : Stmt) : Type 0 where
+  pub within : IsStatementIn lists flat
+  pub of : IsOfStatement s i types (statement_in lists flat)
+
 -- what is made of a written statement: nothing where a name isn't declared
-abbrev pub MadeOf : Scope → Statement Name WrittenType → BodyTypes → Option (Kept ℕ Typed) → Type 0
-MadeOf s i types o =
-    MatchOption o (has_names s i ≡ false) (λ r. IsOfStatement s i types (statement_of r))
+abbrev pub MadeOf : Scope → Statement Name WrittenType → BodyTypes → StatementLists → Option Stmt
+    → Type 0
+MadeOf s i types lists o = MatchOption o (has_names s i ≡ false) (IsFlatOf s i types lists)
 
 -- the flag is what it was, and where a statement is made each name in the types that are written
 -- has the arguments that it takes
-abbrev pub FitOf : Scope → Statement Name WrittenType → Bool → Bool → Option (Kept ℕ Typed) → Type 0
+abbrev pub FitOf : Scope → Statement Name WrittenType → Bool → Bool → Option Stmt → Type 0
 FitOf s i old new o =
-    MatchOption o ⊤ (λ r. new ≡ (old && list_all (has_arguments s) (types_written i)))
+    MatchOption o ⊤ (λ _. new ≡ (old && list_all (has_arguments s) (types_written i)))
 
 -- an argument of a call as it is meant, where names mean this
 abbrev pub argument_meant : Scope → KeptOperand × List TypePiece → Operand × TypeTree
 argument_meant s a = (operand_of a.0, meant s (written a.1))
 
--- an argument of a call of the code over numbers
-abbrev pub argument_resolved : BodyTypes → KeptOperand × Typed → Operand × TypeTree
-argument_resolved types a =
-    (operand_of a.0, tree_at types.table.shapes types.regions.items a.1)
+-- an argument of a call over numbers
+abbrev pub argument_resolved : BodyTypes → Operand × Typed → Operand × TypeTree
+argument_resolved types a = (a.0, tree_at types.table.shapes types.regions.items a.1)
 
 -- The names in the types of arguments are declared, and the arguments over numbers are what these
 -- mean.
 pub record AreOfArguments (s : Scope) (texts : List (KeptOperand × List TypePiece))
-    (types : BodyTypes) (args : List (KeptOperand × Typed)) : Type 0 where
+    (types : BodyTypes) (args : List (Operand × Typed)) : Type 0 where
   pub known : list_all (λ a. is_known s (written a.1)) texts ≡ true
   pub rows : All (HasRow types.table.shapes types.regions.items) (map (λ a. a.1) args)
   pub meant : map (argument_resolved types) args ≡ map (argument_meant s) texts
-
--- Of all arguments those that are left are not gone through yet; of the others the names are
--- declared, and the arguments over numbers are what these mean.
-pub record AreAmid (s : Scope) (all left : List (KeptOperand × List TypePiece))
-    (types : BodyTypes) (args : List (KeptOperand × Typed)) : Type 0 where
-  pub front : List (KeptOperand × List TypePiece)
-  pub cut : front ++ left ≡ all
-  pub of : AreOfArguments s front types args
 
 -- the numbers of a bound's two regions
 abbrev pub bound_numbers : List Name → Bor (List ℕ) × Bor (List ℕ) → ℕ × ℕ

@@ -8,9 +8,9 @@ use Rattle.nll_mir_grammar.specs.MirForms.{WrittenParameter}
 use Rattle.nll_types.specs.declared.parameter.Parameter.{Parameter}
 use Rattle.nll_mir_grammar.specs.declared.line.ParameterText.{ParameterText}
 use Rattle.nll_mir_grammar.specs.declared.line.ParameterText.TheVariants as parameters
-use Rattle.nll_resolve.specs.Naming.{Scope, is_among, all_meant}
-use Rattle.nll_resolve.specs.ToldTypes.{are_known, have_arguments}
-use Rattle.nll_statements.specs.Typing.{are_small}
+use Rattle.nll_mir_text.specs.Naming.{Scope, is_among, all_meant}
+use Rattle.nll_mir_text.specs.ToldTypes.{are_known, have_arguments}
+use Rattle.nll_body.specs.Typing.{are_small}
 use Rattle.nll_mir_text.specs.MirSaid.{region_in, type_in}
 use Rattle.nll_mir_text.specs.MirFaults.{has_repeats}
 use Rattle.nll_mir_text.specs.declared.tables.StructNames.{StructNames}

@@ -2,12 +2,11 @@
 
 ghost use Rattle.std.specs.Prelude.{◌≡◌, Bool, Some, true, false, IfOk, IfErr, MatchOption, OnOk};
 ghost use Rattle.nll_mir_grammar.specs.MirForms as forms;
-ghost use Rattle.nll_mir_grammar.specs.Lines.{form_of};
 ghost use Rattle.nll_mir_grammar.specs.WrittenTypes.{Name, WrittenType};
-ghost use Rattle.nll_mir_grammar.specs.declared.line.Line.TheVariants as lines;
-ghost use Rattle.nll_statements.specs.Kept.{statement_of};
-ghost use Rattle.nll_statements.specs.Meant.{HasRows};
-ghost use Rattle.nll_statements.specs.Statements.{Statement as written_statement};
+ghost use Rattle.nll_body.specs.Flat.{statement_in};
+ghost use Rattle.nll_body.specs.Meant.{HasRows};
+ghost use Rattle.nll_body.specs.Statements.{Statement as written_statement};
+ghost use Rattle.nll_body.specs.Within.{IsStatementIn};
 ghost use Rattle.nll_mir_text.specs.MirFaults.{first_fault, is_in_order};
 ghost use Rattle.nll_mir_text.specs.MirReading.{said_by, scope_in, IsAdmitted, IsDue, IsReady};
 ghost use Rattle.nll_mir_text.specs.MirReading.{IsTaken, IsRefused};
@@ -21,12 +20,11 @@ use crate::ranges::targets_are_blocks;
 use crate::reader::Reader;
 use crate::resolution::resolve_statement;
 use crate::tables::scope_in;
+use nll_body::{Judgement, Places, Statement, Stmt, judge_statement};
 use nll_format::TextKind;
 use nll_mir_grammar::TypeText;
 use nll_problem::{Kind, MAX_EDGES, MAX_POINTS};
 use nll_sets::Memory;
-use nll_statements::{ResolvedStatement, Statement, judge_statement};
-use nll_types::Judgement;
 
 impl Reader {
     /// Begins a block.
@@ -60,13 +58,10 @@ impl Reader {
     }
 
     // What there is with a statement, unless it has a fault by what was judged of it.
-    fn admit_judged(
-        &self,
-        judged: JudgedPoint,
-        statement: &ResolvedStatement,
-    ) -> Result<Admitted, TextKind>
+    fn admit_judged(&self, judged: JudgedPoint, statement: &Stmt) -> Result<Admitted, TextKind>
         requires ready { IsReady self.now }
-        requires exits { AreExits judged.exits (statement_of statement.now) }
+        requires exits { AreExits judged.exits
+            (statement_in self.now.points.statements statement.now) }
         ensures admitted { IfOk result (λ a. (i : written_statement Name WrittenType)
             (fits : Bool) → IsPlaced self.now i statement.now fits
             → IsOfPoint (said_by self.now) i judged.judgement
@@ -79,7 +74,7 @@ impl Reader {
         if !judged.judgement.declared {
             return Err(TextKind::Unknown);
         }
-        if !targets_are_blocks(self.points.blocks, statement) {
+        if !targets_are_blocks(self.points.blocks, &self.points.statements, statement) {
             return Err(TextKind::Range);
         }
         if !judged.judgement.fits {
@@ -103,20 +98,27 @@ impl Reader {
 
     // Judges what is to be at the next point, the names in whose types have the arguments that they
     // take or not, and finds how it goes on. The shapes of its types are in the table then.
-    fn judge(&mut self, statement: &ResolvedStatement, fits: bool) -> Result<JudgedPoint, Memory>
+    fn judge(&mut self, statement: &Stmt, fits: bool) -> Result<JudgedPoint, Memory>
         requires ready { IsReady self.old }
         requires rows { HasRows self.old.variables.types.table.shapes
-            self.old.variables.types.regions.items (statement_of statement.now) }
+            self.old.variables.types.regions.items
+            (statement_in self.old.points.statements statement.now) }
         ensures grown { IfOk result (λ _. IsGrown self.old self.new) }
         ensures judged { IfOk result (λ j. (i : written_statement Name WrittenType)
             → IsPlaced self.old i statement.now fits
             → IsOfPoint (said_by self.old) i j.judgement
             × IsPlaced self.new i statement.now fits) }
-        ensures exits { IfOk result (λ j. AreExits j.exits (statement_of statement.now)) }
+        ensures exits { IfOk result (λ j. AreExits j.exits
+            (statement_in self.new.points.statements statement.now)) }
+        ensures points { self.new.points ≡ self.old.points }
     {
-        let exits = statement.exits(self.alloc)?;
-        let (table, variables) = (&mut self.variables.types.table, &self.variables.typed);
-        let judged = judge_statement(self.alloc, table, variables.as_slice(), statement)?;
+        let places = Places {
+            variables: self.variables.typed.as_slice(),
+            statements: &self.points.statements,
+        };
+        let exits = places.statements.exits(self.alloc, statement)?;
+        let table = &mut self.variables.types.table;
+        let judged = judge_statement(self.alloc, table, &places, statement)?;
         let judgement = Judgement {
             fits: fits & judged.fits,
             ..judged
@@ -125,14 +127,16 @@ impl Reader {
     }
 
     // Judges what is to be at the next point: what there is with it.
-    fn admit(&mut self, statement: &ResolvedStatement, fits: bool) -> Result<Admitted, TextKind>
+    fn admit(&mut self, statement: &Stmt, fits: bool) -> Result<Admitted, TextKind>
         requires ready { IsReady self.old }
         requires rows { HasRows self.old.variables.types.table.shapes
-            self.old.variables.types.regions.items (statement_of statement.now) }
+            self.old.variables.types.regions.items
+            (statement_in self.old.points.statements statement.now) }
         ensures admitted { IfOk result (λ a. (i : written_statement Name WrittenType)
             → IsPlaced self.old i statement.now fits
             → IsAdmitted (said_by self.old) i a self.new
             × IsPlaced self.new i statement.now fits) }
+        ensures points { self.new.points ≡ self.old.points }
         ensures refused { IfErr result (λ kind. (i : written_statement Name WrittenType)
             → IsPlaced self.old i statement.now fits
             → IsRefused (said_by self.old) (forms.at_point i) kind) }
@@ -142,22 +146,26 @@ impl Reader {
     }
 
     // Writes an admitted statement at the next point.
-    fn put(&mut self, statement: ResolvedStatement, admitted: Admitted) -> Result<(), Memory>
+    fn put(&mut self, statement: Stmt, admitted: Admitted) -> Result<(), Memory>
+        requires { IsStatementIn self.old.points.statements statement }
         ensures { OnOk result ((i : written_statement Name WrittenType) (fits : Bool)
             → IsAdmitted (said_by self.old) i admitted self.old
             → IsPlaced self.old i statement fits
             → IsTaken (said_by self.old) (forms.at_point i) self.new) }
     {
-        add_point(&mut self.points, &statement, admitted)?;
+        add_point(&mut self.points, statement, admitted)?;
         self.reached = Group::Blocks;
         Ok(())
     }
 
-    // Adds the statement at the next point, over numbers, unless it has a fault.
-    fn add_resolved(&mut self, statement: ResolvedStatement, fits: bool) -> Result<(), TextKind>
+    // Adds a statement at the next point, unless it has a fault. What it consists of is in the
+    // lists.
+    fn add_resolved(&mut self, statement: Stmt, fits: bool) -> Result<(), TextKind>
         requires ready { IsReady self.old }
         requires rows { HasRows self.old.variables.types.table.shapes
-            self.old.variables.types.regions.items (statement_of statement) }
+            self.old.variables.types.regions.items
+            (statement_in self.old.points.statements statement) }
+        requires within { IsStatementIn self.old.points.statements statement }
         ensures taken { OnOk result ((i : written_statement Name WrittenType)
             → IsPlaced self.old i statement fits
             → IsTaken (said_by self.old) (forms.at_point i) self.new) }
@@ -165,50 +173,45 @@ impl Reader {
             → IsPlaced self.old i statement fits
             → IsRefused (said_by self.old) (forms.at_point i) kind) }
     {
-        match self.admit(&statement, fits) {
-            Ok(admitted) => Ok(self.put(statement, admitted)?),
-            Err(kind) => {
-                drop(statement);
-                Err(kind)
-            }
-        }
+        let admitted = self.admit(&statement, fits)?;
+        self.put(statement, admitted)?;
+        Ok(())
     }
 
-    // The statement of a line over numbers, where each name in it is declared.
+    // The statement of a line in numbers, where each name in it is declared. What it consists of is
+    // added to the lists.
     fn resolve(
         &mut self,
-        statement: Statement<&[u8], TypeText<'_>>,
+        statement: &Statement<&[u8], TypeText<'_>>,
         fits: &mut bool,
-    ) -> Result<Option<ResolvedStatement>, Memory>
+    ) -> Result<Option<Stmt>, Memory>
         requires ready { IsReady self.old }
-        requires order { is_in_order (said_by self.old) (form_of (lines.At statement)) ≡ true }
+        requires order { is_in_order (said_by self.old) (forms.at_point (as_written statement.now))
+            ≡ true }
         requires fitting { fits.old ≡ true }
         ensures grown { IfOk result (λ _. IsGrown self.old self.new) }
         ensures resolved { IfOk result (λ o. MatchOption o
             (has_names (scope_in self.old.regions self.old.structs)
-            (as_written statement.entry) ≡ false)
-            (λ i. IsPlaced self.new (as_written statement.entry) i fits.new)) }
+            (as_written statement.now) ≡ false)
+            (λ i. IsPlaced self.new (as_written statement.now) i fits.new)) }
     {
+        // Clause call.
+        let _ = self.points.statements.call_counts();
         let scope = scope_in(&self.regions, &self.structs);
-        resolve_statement(
-            self.alloc,
-            &scope,
-            statement,
-            &mut self.variables.types,
-            fits,
-        )
+        let (types, statements) = (&mut self.variables.types, &mut self.points.statements);
+        resolve_statement(self.alloc, &scope, statement, types, statements, fits)
     }
 
     /// Adds the statement at the next point.
     pub(crate) fn add_statement(
         &mut self,
-        statement: Statement<&[u8], TypeText<'_>>,
+        statement: &Statement<&[u8], TypeText<'_>>,
     ) -> Result<(), TextKind>
-        requires { IsDue self.old (form_of (lines.At statement)) }
+        requires { IsDue self.old (forms.at_point (as_written statement.now)) }
         ensures taken { OnOk result
-            (IsTaken (said_by self.old) (form_of (lines.At statement.entry)) self.new) }
+            (IsTaken (said_by self.old) (forms.at_point (as_written statement.now)) self.new) }
         ensures refused { IfErr result
-            (IsRefused (said_by self.old) (form_of (lines.At statement.entry))) }
+            (IsRefused (said_by self.old) (forms.at_point (as_written statement.now))) }
     {
         let mut fits = true;
         match self.resolve(statement, &mut fits)? {

@@ -1,6 +1,6 @@
 //! The fields of a struct: judging them, and making their types.
 
-ghost use Rattle.std.specs.Prelude.{◌≡◌, ◌<◌, ◌^◌, ◌&&◌, ◌++◌, true, false, length, map, IfOk, OnOk};
+ghost use Rattle.std.specs.Prelude.{◌≡◌, ◌<◌, ◌^◌, ◌&&◌, true, false, length, map, IfOk};
 ghost use Rattle.std.specs.Prelude.{MatchOption};
 ghost use Rattle.std.specs.List.{list_all};
 ghost use Rattle.nll_types.specs.Shapes.{is_small_shape, tuple_shape, shapes_of};
@@ -13,17 +13,18 @@ ghost use Rattle.nll_mir_grammar.specs.TypeTexts.{written};
 ghost use Rattle.nll_mir_grammar.specs.WrittenTypes.{WrittenType};
 ghost use Rattle.nll_mir_grammar.specs.Lines.{parameter_of};
 ghost use Rattle.nll_mir_grammar.specs.Tuples.{IsTuple, parts};
-ghost use Rattle.nll_resolve.specs.Naming.{Scope as naming_scope, has_arguments, is_known};
-ghost use Rattle.nll_resolve.specs.Resolution.{IsResolved};
+ghost use Rattle.nll_mir_text.specs.Naming.{Scope as naming_scope, has_arguments, is_known};
+ghost use Rattle.nll_mir_text.specs.Resolution.{IsResolved};
 ghost use Rattle.nll_mir_text.specs.StructLines.{regions_in, types_in};
-ghost use Rattle.nll_statements.specs.Typing as typing;
+ghost use Rattle.nll_body.specs.Typing as typing;
 ghost use Rattle.nll_mir_text.specs.StructLines.{AreJudged, own_scope, region_marks, type_marks};
 
 use crate::own_names::OwnNames;
 use crate::parameters::push_marks;
+use crate::scope::Scope;
 use crate::tables::StructNames;
+use crate::type_resolution::resolve;
 use nll_mir_grammar::{ParameterText, StructText, TypeText};
-use nll_resolve::{Scope, resolve};
 use nll_sets::Memory;
 use nll_types::{BodyTypes, Declaration, Node, Shapes, Ty, Typed};
 use std::alloc::Global;

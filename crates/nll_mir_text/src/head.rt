@@ -2,8 +2,8 @@
 
 ghost use Rattle.std.specs.Prelude.{◌≡◌, ◌<◌, ◌^◌, length, map, Some, None, true, false};
 ghost use Rattle.std.specs.Prelude.{IfOk, IfErr, MatchOption, OnOk, OnErr};
-ghost use Rattle.nll_resolve.specs.Naming.{has_arguments, is_among, is_known};
-ghost use Rattle.nll_resolve.specs.Resolution.{IsResolved};
+ghost use Rattle.nll_mir_text.specs.Naming.{has_arguments, is_among, is_known};
+ghost use Rattle.nll_mir_text.specs.Resolution.{IsResolved};
 ghost use Rattle.nll_format.specs.Names.{number_of};
 ghost use Rattle.nll_mir_grammar.specs.TypeTexts.{written};
 ghost use Rattle.nll_mir_grammar.specs.WrittenTypes.{WrittenType};
@@ -24,10 +24,10 @@ use crate::own_names::{OwnNames, gather_names, redeclares};
 use crate::parameters::kinds;
 use crate::reader::Reader;
 use crate::tables::scope_in;
+use crate::type_resolution::resolve;
 use nll_format::TextKind;
 use nll_mir_grammar::{StructText, TypeText};
 use nll_problem::{Kind, MAX_POINTS, MAX_REGIONS, MAX_UNIVERSALS};
-use nll_resolve::resolve;
 use nll_sets::Memory;
 use nll_types::Typed;
 

@@ -1,6 +1,7 @@
 //! The reader of MIR texts, of versions 1 and 2.
-//! Read `tables`, `groups`, `resolution`, `own_names`, `fields`, `reader`, `head`, `blocks`,
-//! `header`, `text`, `mir`, then `laws`; the definitions are in specs/.
+//! Read `scope`, `rows`, `made`, `type_resolution`, `tables`, `groups`, `resolution`, `own_names`,
+//! `fields`, `reader`, `head`, `blocks`, `header`, `text`, `mir`, then `laws`; the definitions are
+//! in specs/.
 #![tactic(auto)]
 
 mod blocks;
@@ -10,6 +11,7 @@ mod head;
 mod header;
 mod laws;
 mod limits;
+mod made;
 mod mir;
 mod next_point;
 mod own_names;
@@ -17,8 +19,11 @@ mod parameters;
 mod ranges;
 mod reader;
 mod resolution;
+mod rows;
+mod scope;
 mod tables;
 mod text;
+mod type_resolution;
 
 pub use header::is_mir_header;
 pub use laws::{
@@ -31,3 +36,5 @@ pub use nll_body::{Body, Stmt};
 pub use nll_facts::{Facts, read_facts};
 pub use nll_format::{Labels, PointName, TextError, TextKind};
 pub use nll_types::{Place, Ty};
+pub use scope::Scope;
+pub use type_resolution::resolve;

@@ -1,14 +1,12 @@
 //! Judging a statement over numbers, and putting it at the next point.
 
-ghost use Rattle.std.specs.Prelude.{◌≡◌, ◌++◌, ◌∷◌, [], not, IfOk, OnOk};
-ghost use Rattle.nll_types.specs.Tables.{AddsShapes};
-ghost use Rattle.nll_statements.specs.Flat.{statements_in};
-ghost use Rattle.nll_statements.specs.Kept.{statement_of};
+ghost use Rattle.std.specs.Prelude.{◌≡◌, ◌++◌, ◌∷◌, [], not, OnOk};
+ghost use Rattle.nll_body.specs.Flat.{statement_in, statements_in};
+ghost use Rattle.nll_body.specs.Within.{IsStatementIn};
 
 use crate::tables::Points;
+use nll_body::{Exits, Judgement, Stmt};
 use nll_sets::Memory;
-use nll_statements::{Exits, ResolvedStatement};
-use nll_types::Judgement;
 
 /// What a body has with a statement that is admitted.
 #[derive(Clone, Copy)]
@@ -27,15 +25,13 @@ pub struct JudgedPoint {
 }
 
 /// Writes an admitted statement or terminator at the next point.
-pub fn add_point(
-    points: &mut Points,
-    statement: &ResolvedStatement,
-    admitted: Admitted,
-) -> Result<(), Memory>
+pub fn add_point(points: &mut Points, statement: Stmt, admitted: Admitted) -> Result<(), Memory>
+    requires { IsStatementIn points.old.statements statement }
     ensures blocks { points.new.blocks ≡ points.old.blocks }
     ensures starts { points.new.starts ≡ points.old.starts }
     ensures statements { OnOk result (statements_in points.new.statements
-        ≡ statements_in points.old.statements ++ statement_of statement.now ∷ []) }
+        ≡ statements_in points.old.statements
+        ++ statement_in points.old.statements statement ∷ []) }
     ensures edges { OnOk result (points.new.edges ≡ admitted.edges) }
     ensures owes { OnOk result (points.new.owes ≡ not admitted.ends) }
 {

@@ -7,7 +7,7 @@ ghost use Rattle.std.specs.Str.{IsUtf8};
 ghost use Rattle.nll_mir_grammar.specs.Lines.{parameter_of};
 ghost use Rattle.nll_mir_grammar.specs.MirForms.{WrittenParameter};
 ghost use Rattle.nll_mir_grammar.specs.MirForms as forms;
-ghost use Rattle.nll_resolve.specs.Naming.{is_among};
+ghost use Rattle.nll_mir_text.specs.Naming.{is_among};
 ghost use Rattle.nll_types.specs.declared.parameter.Parameter.{Parameter as marks};
 ghost use Rattle.nll_mir_text.specs.MirFaults.{has_repeats};
 ghost use Rattle.nll_mir_text.specs.MirReading.{IsNamed};

@@ -2,10 +2,10 @@
 
 ghost use Rattle.std.specs.Prelude.{◌≡◌, ◌∷◌, nat_lt};
 ghost use Rattle.std.specs.List.{list_all};
-ghost use Rattle.nll_statements.specs.Effects.{other_block, targets};
-ghost use Rattle.nll_statements.specs.Kept.{statement_of};
+ghost use Rattle.nll_body.specs.Effects.{other_block, targets};
+ghost use Rattle.nll_body.specs.Flat.{statement_in};
 
-use nll_statements::{ResolvedStatement, Statement};
+use nll_body::{Statements, Stmt};
 
 // Whether a number is below an end.
 fn is_below(number: u32, end: usize) -> bool
@@ -37,15 +37,22 @@ fn exits_are_blocks(count: usize, block: u32, unwind: Option<u32>) -> bool
 }
 
 /// Whether the blocks to which a statement goes on are among the first this many.
-pub fn targets_are_blocks(count: u32, statement: &ResolvedStatement) -> bool
-    ensures { result ≡ list_all (λ x. nat_lt x count) (targets (statement_of statement.now)) }
+pub fn targets_are_blocks(count: u32, statements: &Statements, statement: &Stmt) -> bool
+    ensures { result ≡ list_all (λ x. nat_lt x count)
+        (targets (statement_in statements.now statement.now)) }
 {
     let count = count as usize;
     match statement {
-        Statement::Goto(block) => is_below(*block, count),
-        Statement::Switch(_, blocks) => all_below(blocks.as_slice(), count),
-        Statement::Drop(_, block, unwind) => exits_are_blocks(count, *block, *unwind),
-        Statement::Call(call) => exits_are_blocks(count, call.target, call.unwind),
+        Stmt::Goto(block) | Stmt::Drop(_, block) => is_below(*block, count),
+        Stmt::DropUnwind(_, block, unwind) => exits_are_blocks(count, *block, Some(*unwind)),
+        Stmt::Switch(number) => match statements.switch(*number) {
+            Some(switch) => all_below(statements.blocks(switch.blocks), count),
+            None => true,
+        },
+        Stmt::Call(number) => match statements.call(*number) {
+            Some(call) => exits_are_blocks(count, call.target, call.unwind),
+            None => true,
+        },
         _ => true,
     }
 }

@@ -8,18 +8,17 @@ ghost use Rattle.nll_mir_text.specs.MirFaults.{is_in_order};
 ghost use Rattle.nll_mir_text.specs.MirSteps as steps;
 ghost use Rattle.nll_mir_text.specs.MirReading.{said_by, HoldsForms, IsReady, HasTexts};
 ghost use Rattle.nll_mir_text.specs.MirReading.{HasFewParameters, IsDue, IsTaken, IsRefused};
-ghost use Rattle.nll_statements.specs.Flat.{statements_in};
+ghost use Rattle.nll_body.specs.Flat.{statements_in};
 ghost use Rattle.nll_body.specs.Parts.{AreTyped, body_of};
 ghost use Rattle.nll_mir_text.specs.MirText.{body_said, mir};
 
 use crate::groups::{Group, group_of};
 use crate::tables::{Points, Regions, StructNames, Variables};
 use indexmap::IndexSet;
-use nll_body::BodyParts;
+use nll_body::{BodyParts, Statements};
 use nll_format::{LineReader, Names, TextKind, pass_over};
 use nll_mir_grammar::{Line, Version, line_of};
 use nll_sets::Memory;
-use nll_statements::Statements;
 use nll_types::BodyTypes;
 use std::alloc::Global;
 
@@ -139,7 +138,12 @@ impl Reader {
             }
             Line::Blocks(count) => self.set_blocks(count),
             Line::Block(number) => self.add_block(number),
-            Line::At(statement) => self.add_statement(statement),
+            Line::At(statement) => {
+                let taken = self.add_statement(&statement);
+                // Early drop.
+                drop(statement);
+                taken
+            }
             Line::End => self.end(),
         }
     }

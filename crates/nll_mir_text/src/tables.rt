@@ -2,15 +2,15 @@
 
 ghost use Rattle.std.specs.Prelude.{◌≡◌, ◌++◌, ◌∷◌, [], false, map, OnOk};
 ghost use Rattle.std.specs.Str.{IsUtf8};
-ghost use Rattle.nll_resolve.specs.Naming.{is_among};
-ghost use Rattle.nll_resolve.specs.Resolution.{scope_of};
+ghost use Rattle.nll_mir_text.specs.Naming.{is_among};
+ghost use Rattle.nll_mir_text.specs.Resolution.{scope_of};
 ghost use Rattle.nll_mir_text.specs.MirReading as spec;
 
+use crate::scope::Scope;
 use indexmap::IndexSet;
+use nll_body::Statements;
 use nll_format::Names;
-use nll_resolve::Scope;
 use nll_sets::Memory;
-use nll_statements::Statements;
 use nll_types::{BodyTypes, Typed};
 use std::alloc::Global;
 

@@ -1,6 +1,7 @@
 //! Why a test didn't get what it requested.
 use nll_core::{BuildError, Memory};
 use nll_cut::CutError;
+use nll_model::ModelError;
 use nll_owner::OwnerError;
 use std::alloc::{AllocError, AllocFailed};
 
@@ -10,6 +11,7 @@ pub enum Failure {
     Problem(BuildError),
     Cut(CutError),
     Owner(OwnerError),
+    Model(ModelError),
     Memory,
     /// A turn names no owner, or one owner twice.
     Wrong,
@@ -34,6 +36,12 @@ impl From<CutError> for Failure {
 impl From<OwnerError> for Failure {
     fn from(error: OwnerError) -> Failure {
         Failure::Owner(error)
+    }
+}
+
+impl From<ModelError> for Failure {
+    fn from(error: ModelError) -> Failure {
+        Failure::Model(error)
     }
 }
 

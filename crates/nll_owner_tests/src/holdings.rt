@@ -3,13 +3,14 @@ ghost use Rattle.std.specs.Prelude.{◌≡◌, ◌<◌, ℕ, List, Bool, false, 
 ghost use Rattle.nll_cut.specs.Partition.{owner_of};
 ghost use Rattle.nll_owner.specs.Holding.{HasSet};
 
+use super::dealt::{Asked, told};
 use super::failure::Failure;
 use super::turns::compare;
 use nll_core::{Element, Problem, RegionId, RunSet};
 use nll_cut::Cut;
 use nll_mail::Growth;
 use nll_owner::{Holding, Owner, OwnerError};
-use nll_worked::{BY_TURNS, FILLED_HOLE, REACHED, Written, worked_problem};
+use nll_worked::{BY_TURNS, FILLED_HOLE, REACHED, Written};
 use std::alloc::{AllocError, Global};
 
 // An owner of a problem: how many owners there are, its number, another owner, and the growths that
@@ -181,8 +182,8 @@ fn prepare(owner: &mut Owner<'_>, from: u16, growths: &[Growth]) -> Result<(), O
     }
 }
 
-// What an owner of a cut reports and gives out, once it got growths.
-fn handed_over(
+/// What an owner of a cut reports and gives out, once it got growths.
+pub fn handed_over(
     alloc: Global,
     problem: &Problem,
     cut: &Cut,
@@ -207,39 +208,18 @@ fn handed_over(
     Ok(out)
 }
 
-// Like `handed_over`, with the regions of a problem assigned round-robin.
-fn handed_round(
-    alloc: Global,
-    problem: &Problem,
-    owners: u16,
-    me: u16,
-    from: u16,
-    growths: &[Growth],
-) -> Result<String, Failure> {
-    let cut = Cut::round(alloc, problem.regions(), owners)?;
-    let handed = if me < cut.owners() {
-        handed_over(alloc, problem, &cut, me, from, growths)
-    } else {
-        Err(Failure::Length)
-    };
-    drop(cut);
-    handed
-}
-
-// Like `handed_round`, for a written problem.
+// Like `handed_over`, for a written problem whose regions are assigned round-robin.
 fn handed(
     alloc: Global,
     written: Written,
     owners: u16,
     me: u16,
     from: u16,
-    told: &[(u32, u32)],
+    growths: &[(u32, u32)],
 ) -> Result<String, Failure> {
-    let growths = growths_of(alloc, told)?;
-    let problem = worked_problem(alloc, written)?;
-    let handed = handed_round(alloc, &problem, owners, me, from, growths.as_slice());
-    drop(problem);
-    handed
+    let growths = growths_of(alloc, growths)?;
+    let asked = Asked::Handed(me, from, growths.as_slice());
+    told(alloc, written, owners, asked)
 }
 
 #[test]

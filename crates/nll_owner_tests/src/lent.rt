@@ -3,6 +3,7 @@
 ghost use Rattle.std.specs.Prelude.{◌≡◌, length};
 ghost use Rattle.nll_owner.specs.Tables.{AreTables};
 
+use super::dealt::{Asked, told};
 use super::failure::Failure;
 use super::owner_text::{write_counts, write_values};
 use super::turns::{ROWS, compare};
@@ -10,7 +11,6 @@ use nll_core::Problem;
 use nll_cut::Cut;
 use nll_mail::Growth;
 use nll_owner::{Owner, OwnerError, Tables};
-use nll_worked::{Written, worked_problem};
 use std::alloc::Global;
 
 // The owners of a cut, on lent tables.
@@ -144,8 +144,9 @@ fn told_on(alloc: Global, problem: &Problem, cut: &Cut, tables: &Tables) -> Resu
     Ok(out)
 }
 
-// Like `told_on`, with the tables made once.
-fn told_over(alloc: Global, problem: &Problem, cut: &Cut) -> Result<String, Failure>
+/// What owners have on lent tables, which are made once, when no growth is left, and how many
+/// growths there were.
+pub fn lent_over(alloc: Global, problem: &Problem, cut: &Cut) -> Result<String, Failure>
     requires { length cut.now.list ≡ problem.now.regions }
 {
     let tables = Tables::of(alloc, problem, cut)?;
@@ -154,25 +155,9 @@ fn told_over(alloc: Global, problem: &Problem, cut: &Cut) -> Result<String, Fail
     told
 }
 
-// Like `told_over`, with the regions of a problem assigned round-robin.
-fn told_round(alloc: Global, problem: &Problem, owners: u16) -> Result<String, Failure> {
-    let cut = Cut::round(alloc, problem.regions(), owners)?;
-    let told = told_over(alloc, problem, &cut);
-    drop(cut);
-    told
-}
-
-// Like `told_round`, for a written problem.
-fn told(alloc: Global, written: Written, owners: u16) -> Result<String, Failure> {
-    let problem = worked_problem(alloc, written)?;
-    let told = told_round(alloc, &problem, owners);
-    drop(problem);
-    told
-}
-
 #[test]
 fn owners_on_lent_tables_come_to_the_least_values(rt: HostRuntime) {
     for (written, owners, want, _) in ROWS {
-        compare(&rt, told(rt.alloc(), *written, *owners), want);
+        compare(&rt, told(rt.alloc(), *written, *owners, Asked::Lent), want);
     }
 }

@@ -7,7 +7,6 @@ use nll_core::{Element, Problem, RegionId};
 use nll_cut::Cut;
 use nll_mail::Growth;
 use nll_owner::Owner;
-use nll_worked::{Written, worked_problem};
 use std::alloc::{AllocError, Global};
 
 // Writes what an owner has in a region.
@@ -79,33 +78,6 @@ pub fn driven_over(
     Ok(out)
 }
 
-/// What the owners of a problem have once they are driven, with the regions assigned round-robin:
-/// the value of each region, and how many growths each owner has grown, given and received.
-pub fn driven(
-    alloc: Global,
-    written: Written,
-    owners: u16,
-    turns: &[Turn],
-) -> Result<String, Failure> {
-    let problem = worked_problem(alloc, written)?;
-    let told = driven_round(alloc, &problem, owners, turns);
-    drop(problem);
-    told
-}
-
-// Like `driven_over`, for a problem whose regions are assigned round-robin.
-fn driven_round(
-    alloc: Global,
-    problem: &Problem,
-    owners: u16,
-    turns: &[Turn],
-) -> Result<String, Failure> {
-    let cut = Cut::round(alloc, problem.regions(), owners)?;
-    let told = driven_over(alloc, problem, &cut, turns);
-    drop(cut);
-    told
-}
-
 // Writes the logs of owners: the region and the element of each growth.
 fn write_logs(out: &mut String, owners: &[Owner]) -> Result<(), AllocError> {
     for owner in owners {
@@ -117,8 +89,13 @@ fn write_logs(out: &mut String, owners: &[Owner]) -> Result<(), AllocError> {
     Ok(())
 }
 
-// The logs of the owners of a cut once they are driven.
-fn logs_over(alloc: Global, problem: &Problem, cut: &Cut, turns: &[Turn]) -> Result<String, Failure>
+/// The logs of the owners of a cut once they are driven: the region and the element of each growth.
+pub fn logs_over(
+    alloc: Global,
+    problem: &Problem,
+    cut: &Cut,
+    turns: &[Turn],
+) -> Result<String, Failure>
     requires { length cut.now.list ≡ problem.now.regions }
 {
     let mut out = String::new(alloc);
@@ -129,33 +106,6 @@ fn logs_over(alloc: Global, problem: &Problem, cut: &Cut, turns: &[Turn]) -> Res
     driven?;
     written?;
     Ok(out)
-}
-
-// Like the call above, with the regions of a problem assigned round-robin.
-fn logs_round(
-    alloc: Global,
-    problem: &Problem,
-    owners: u16,
-    turns: &[Turn],
-) -> Result<String, Failure> {
-    let cut = Cut::round(alloc, problem.regions(), owners)?;
-    let told = logs_over(alloc, problem, &cut, turns);
-    drop(cut);
-    told
-}
-
-/// The logs of the owners of a problem once they are driven, with the regions assigned round-robin:
-/// the region and the element of each growth.
-pub fn logs_of(
-    alloc: Global,
-    written: Written,
-    owners: u16,
-    turns: &[Turn],
-) -> Result<String, Failure> {
-    let problem = worked_problem(alloc, written)?;
-    let told = logs_round(alloc, &problem, owners, turns);
-    drop(problem);
-    told
 }
 
 // Writes what each turn answers, and how many growths each owner has grown, given and received
@@ -174,8 +124,9 @@ fn write_turns(
     Ok(())
 }
 
-// What the turns of the owners of a cut answer.
-fn answers_over(
+/// What each turn answers of the owners of a cut, and how many growths each owner has grown, given
+/// and received then.
+pub fn answers_over(
     alloc: Global,
     problem: &Problem,
     cut: &Cut,
@@ -189,33 +140,6 @@ fn answers_over(
     drop(network);
     written?;
     Ok(out)
-}
-
-// Like the call above, with the regions of a problem assigned round-robin.
-fn answers_round(
-    alloc: Global,
-    problem: &Problem,
-    owners: u16,
-    turns: &[Turn],
-) -> Result<String, Failure> {
-    let cut = Cut::round(alloc, problem.regions(), owners)?;
-    let told = answers_over(alloc, problem, &cut, turns);
-    drop(cut);
-    told
-}
-
-/// What each turn answers of the owners of a problem, to whom the regions are assigned round-robin,
-/// and how many growths each owner has grown, given and received then.
-pub fn answers_of(
-    alloc: Global,
-    written: Written,
-    owners: u16,
-    turns: &[Turn],
-) -> Result<String, Failure> {
-    let problem = worked_problem(alloc, written)?;
-    let told = answers_round(alloc, &problem, owners, turns);
-    drop(problem);
-    told
 }
 
 // Hands a growth to an owner that is ready for it, and writes what it answers.
@@ -249,8 +173,9 @@ fn write_last_answers(out: &mut String, owner: &mut Owner) -> Result<(), AllocEr
     write!(out, "{unsent}|")
 }
 
-// What the first of two owners answers to them, and what it has for the other then.
-fn last_answers_over(alloc: Global, problem: &Problem, cut: &Cut) -> Result<String, Failure>
+/// What the first of two owners answers, once it is loaded, to a growth of rank 2^61, to one of the
+/// rank before, and to one of rank 1 that asks it to grow; and what it has for the other then.
+pub fn last_answers_over(alloc: Global, problem: &Problem, cut: &Cut) -> Result<String, Failure>
     requires { length cut.now.list ≡ problem.now.regions }
 {
     let mut out = String::new(alloc);
@@ -265,22 +190,4 @@ fn last_answers_over(alloc: Global, problem: &Problem, cut: &Cut) -> Result<Stri
     written?;
     write!(out, "{entries}")?;
     Ok(out)
-}
-
-// Like the call above, with the regions of a problem assigned round-robin.
-fn last_answers_round(alloc: Global, problem: &Problem) -> Result<String, Failure> {
-    let cut = Cut::round(alloc, problem.regions(), 2)?;
-    let told = last_answers_over(alloc, problem, &cut);
-    drop(cut);
-    told
-}
-
-/// What the first of two owners of a problem answers, once it is loaded, to a growth of rank 2^61,
-/// to one of the rank before, and to one of rank 1 that asks it to grow; and what it has for the
-/// other then.
-pub fn answers_at_the_last_rank(alloc: Global, written: Written) -> Result<String, Failure> {
-    let problem = worked_problem(alloc, written)?;
-    let told = last_answers_round(alloc, &problem);
-    drop(problem);
-    told
 }

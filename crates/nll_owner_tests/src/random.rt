@@ -1,11 +1,12 @@
 //! Owners of random problems and random cuts, driven in a random order, come to the values that
 //! `solve` gives.
-ghost use Rattle.std.specs.Prelude.{◌≡◌, ◌<◌, ◌≤◌, length};
+ghost use Rattle.std.specs.Prelude.{◌≡◌, ◌<◌, length};
 
 use super::driver::Turn::{self, Load, Post, Take};
 use super::failure::Failure;
 use super::owner_text::driven_over;
-use nll_core::{At, BuildError, Constraint, Problem, ProblemBuilder, RegionId, Values, solve};
+use super::world_text::write_values;
+use nll_core::{At, BuildError, Constraint, Problem, ProblemBuilder, RegionId, solve};
 use nll_cut::Cut;
 use std::alloc::{AllocError, Global};
 
@@ -91,32 +92,11 @@ fn turns_of(alloc: Global, owners: u16, seed: u32) -> Result<Vec<Turn>, AllocErr
     Ok(turns)
 }
 
-// Writes the value of a region.
-fn write_value(out: &mut String, values: &Values, region: RegionId) -> Result<(), AllocError>
-    requires { region < length values.now }
-{
-    write!(out, "{}:", region.0)?;
-    for element in values.iter(region) {
-        write!(out, " {}", element.0)?;
-    }
-    out.push('|')
-}
-
-// Writes the value of each region.
-fn write_all(out: &mut String, values: &Values, regions: u32) -> Result<(), AllocError>
-    requires { regions ≤ length values.now }
-{
-    for number in 0..regions {
-        write_value(out, values, RegionId(number))?;
-    }
-    Ok(())
-}
-
 // The least values, as `solve` gives them.
 fn solved(alloc: Global, problem: &Problem) -> Result<String, Failure> {
     let mut out = String::new(alloc);
     let values = solve(alloc, problem)?;
-    let written = write_all(&mut out, &values, problem.regions());
+    let written = write_values(&mut out, problem, &values);
     drop(values);
     written?;
     Ok(out)

@@ -1,7 +1,7 @@
 //! Owners that are driven by all orders of turns that are named here come to the same values.
+use super::dealt::{Asked, told};
 use super::driver::Turn::{self, Load, Post, Take};
 use super::failure::Failure;
-use super::owner_text::{answers_of, driven, logs_of};
 use nll_worked::{BY_TURNS, EVERYWHERE, FILLED_HOLE, REACHED, TWO_SOURCES, Written};
 use std::process::Abort;
 
@@ -264,7 +264,7 @@ pub fn compare(rt: &impl Abort, told: Result<String, Failure>, want: &str) {
 fn driven_owners_come_to_the_least_values(rt: HostRuntime) {
     for (written, owners, want, orders) in ROWS {
         for turns in *orders {
-            let told = driven(rt.alloc(), *written, *owners, turns);
+            let told = told(rt.alloc(), *written, *owners, Asked::Driven(turns));
             compare(&rt, told, want);
         }
     }
@@ -273,7 +273,7 @@ fn driven_owners_come_to_the_least_values(rt: HostRuntime) {
 #[test]
 fn named_turns_are_taken_in_their_order(rt: HostRuntime) {
     for (written, owners, turns, want) in TAKEN {
-        let told = answers_of(rt.alloc(), *written, *owners, turns);
+        let told = told(rt.alloc(), *written, *owners, Asked::Answers(turns));
         compare(&rt, told, want);
     }
 }
@@ -281,7 +281,7 @@ fn named_turns_are_taken_in_their_order(rt: HostRuntime) {
 #[test]
 fn a_driver_takes_its_turns_in_their_order(rt: HostRuntime) {
     for (turns, want) in LOGGED {
-        let told = logs_of(rt.alloc(), TWO_SOURCES, 3, turns);
+        let told = told(rt.alloc(), TWO_SOURCES, 3, Asked::Logs(turns));
         compare(&rt, told, want);
     }
 }
@@ -289,7 +289,8 @@ fn a_driver_takes_its_turns_in_their_order(rt: HostRuntime) {
 #[test]
 fn a_turn_of_no_owner_is_wrong(rt: HostRuntime) {
     for turn in WRONG {
-        let told = driven(rt.alloc(), BY_TURNS, 2, &[Load(0), *turn]);
+        let turns = [Load(0), *turn];
+        let told = told(rt.alloc(), BY_TURNS, 2, Asked::Driven(&turns));
         let is_right = told.err() == Some(Failure::Wrong);
         assert!(rt; is_right, "{turn:?}");
     }

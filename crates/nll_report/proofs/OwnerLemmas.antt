@@ -11,10 +11,10 @@ use Rattle.nll_format.specs.Text.{Format, IsFault, IsRefusal}
 use Rattle.nll_format.specs.declared.error.TextError.{TextError}
 use Rattle.nll_format.specs.declared.error.TextKind.{TextKind}
 use Rattle.nll_format.specs.declared.error.TextKind.TheVariants as kind
-use Rattle.nll_cut.specs.Partition.{Answers, Cut, cut_of, list_error, may_be_count, owners_error, stranger_error}
+use Rattle.nll_cut.specs.Partition.{Answers, Cut, cut_of, list_error, may_be_count, stranger_error}
 use Rattle.nll_cut.specs.declared.error.CutError.{CutError}
 use Rattle.nll_cut.specs.declared.error.CutError.TheVariants as due
-use Rattle.nll_lists.specs.CutText.{Means, cut}
+use Rattle.nll_lists.specs.CutText.{cut}
 use Rattle.run.specs.declared.error.RunError.TheVariants as run
 use Rattle.nll_answer.specs.Answer.{IsProblemAnswer}
 use Rattle.nll_answer.specs.Running.{IsRunError}
@@ -23,12 +23,12 @@ use Rattle.nll_answer.specs.declared.error.AnswerError.{AnswerError}
 use Rattle.nll_answer.specs.declared.error.AnswerError.TheVariants as answer
 use Rattle.nll_command_line.specs.Options.{Said}
 use Rattle.nll_command_line.specs.declared.options.Deal.{Deal}
-use Rattle.nll_report.specs.Owners.{AsksForOwners, IsAskedCut, IsCutFileRefused, IsCutRefused, IsCutTextRefused, IsFileTold, IsOwnersRefused, IsWorkRefused, count_of, deal_of}
+use Rattle.nll_report.specs.Owners.{AsksForOwners, IsAskedCut, IsCutTextRefused, IsFileTold, IsOwnersRefused, IsWorkRefused, count_of, deal_of}
 use Rattle.nll_report.specs.Run.{AreOwnersRefused, IsAskedAnswer, IsFileAnswer, IsFileRefused}
 use Rattle.nll_report.specs.Refusal.{IsCutRefusal, cut_refusal_at, refusal_of}
 use Rattle.nll_report.specs.Texts.{Holds, Lacks}
 use Rattle.nll_report.specs.declared.messages.Refusal.{Refusal}
-use Rattle.nll_report.specs.declared.messages.Refusal.TheVariants.{Usage, CannotRead, Text, Limit, CutText, CutLength, NoSuchOwner, ScheduleText, Thread, Memory, CannotWrite}
+use Rattle.nll_report.specs.declared.messages.Refusal.TheVariants.{Text, Limit, Thread, Memory}
 
 -- ---- so many owners as there may be
 
@@ -36,65 +36,12 @@ pub may_be : (count : ℕ) → 0 < count → count ≤ most_owners → may_be_co
 may_be count some few =
     and_from (ltb 0 count) (leb count most_owners) (lt-ltb 0 count some) (le-leb count most_owners few)
 
--- whether the number of owners is the error
-abbrev is_owners : Option CutError → Bool
-is_owners None = false
-is_owners (Some due.Owners) = true
-is_owners (Some due.Length) = false
-is_owners (Some (due.NoSuchOwner index)) = false
-is_owners (Some due.Memory) = false
-
-abbrev told_owners : {T : Type 0} → Result T CutError → Bool
-told_owners (Ok value) = false
-told_owners (Err error) = is_owners (Some error)
-
-no_owners : {T : Type 0} (e : Option CutError) (r : Result T CutError) → is_owners e ≡ false → Answers e r
-    → told_owners r ≡ false
-no_owners e (Ok value) other h = refl
-no_owners e (Err due.Owners) other h = absurd (⊎_elim
-    (λ is. true≢false (sym (ap is_owners is) ∙ other))
-    (λ is. true≢false (ap (λ x. is_owners (Some x)) is.1))
-    h)
-no_owners e (Err due.Length) other h = refl
-no_owners e (Err (due.NoSuchOwner index)) other h = refl
-no_owners e (Err due.Memory) other h = refl
-
-not_owners : {T : Type 0} (e : Option CutError) (r : Result T CutError) → is_owners e ≡ false → Answers e r
-    → r ≢ Err due.Owners
-not_owners e r other h = λ is. true≢false (sym (ap told_owners is) ∙ no_owners e r other h)
-
-by_deal : (count : ℕ) → may_be_count count ≡ true → owners_error count ≡ None
-by_deal count may = ap (λ b. if b then None else Some due.Owners) may
-
--- a deal among so many owners is never refused for their number
-pub dealt_not_owners : {T : Type 0} (count : ℕ) (r : Result T CutError) → may_be_count count ≡ true
-    → Answers (owners_error count) r → r ≢ Err due.Owners
-dealt_not_owners count r may h = not_owners (owners_error count) r (ap is_owners (by_deal count may)) h
-
 by_list : (regions count : ℕ) (list : List ℕ) → may_be_count count ≡ true
     → list_error regions count list ≡ (if not (eqb (length list) regions) then Some due.Length else stranger_error
     (position (nat_le count) list))
 by_list regions count list may =
     ap (λ b. if not b then Some due.Owners else if not (eqb (length list) regions) then Some due.Length
     else stranger_error (position (nat_le count) list)) may
-
-stranger_other : (found : Option ℕ) → is_owners (stranger_error found) ≡ false
-stranger_other None = refl
-stranger_other (Some index) = refl
-
-entries_other : (same : Bool) (found : Option ℕ)
-    → is_owners (if not same then Some due.Length else stranger_error found) ≡ false
-entries_other true found = stranger_other found
-entries_other false found = refl
-
--- nor is a list
-pub listed_not_owners : {T : Type 0} (regions count : ℕ) (list : List ℕ) (r : Result T CutError)
-    → may_be_count count ≡ true
-    → Answers (list_error regions count list) r → r ≢ Err due.Owners
-listed_not_owners regions count list r may h =
-    not_owners (list_error regions count list) r
-    (ap is_owners (by_list regions count list may)
-    ∙ entries_other (eqb (length list) regions) (position (nat_le count) list)) h
 
 size_by : (same : Bool) (found : Option ℕ) → (if not same then Some due.Length else stranger_error found) ≡ None
     → same ≡ true
@@ -128,36 +75,6 @@ module _ {T : Type 0} (made : Result T CutError) (r : Result T Refusal) (ok : If
       at (Err e) (Ok value) ok err h = absurd err
       at (Err e) (Err f) ok err h = tt
 
-  pub dealt_refused : (count : ℕ) → may_be_count count ≡ true → Answers (owners_error count) made
-      → IfErr r (λ e. e ≡ Memory)
-  dealt_refused count may h = at made r ok err h
-    where
-      at : (made : Result T CutError) (r : Result T Refusal) → IfOk made (λ value. r ≡ Ok value)
-          → IfErr made (λ e. IsErrAnd r (IsCutRefusal e))
-          → Answers (owners_error count) made → IfErr r (λ e. e ≡ Memory)
-      at (Ok value) r ok err h = subst (λ x. IfErr x (λ e. e ≡ Memory)) (sym ok) tt
-      at (Err e) (Ok value) ok err h = absurd err
-      at (Err e) (Err f) ok err h = ⊎_elim
-          (λ is. absurd (none-some e (sym (by_deal count may) ∙ is)))
-          (λ is. subst (λ x. IsCutRefusal x f) is.1 err)
-          h
-
-  pub listed_refused : (e : Option CutError) → Answers e made
-      → IfErr r (λ f. (f ≡ Memory) ⊎ ((why : CutError) × (e ≡ Some why) × IsCutRefusal why f))
-  listed_refused e h = at made r ok err h
-    where
-      at : (made : Result T CutError) (r : Result T Refusal) → IfOk made (λ value. r ≡ Ok value)
-          → IfErr made (λ e. IsErrAnd r (IsCutRefusal e))
-          → Answers e made → IfErr r (λ f. (f ≡ Memory) ⊎ ((why : CutError) × (e ≡ Some why) × IsCutRefusal why f))
-      at (Ok value) r ok err h =
-          subst (λ x. IfErr x (λ f. (f ≡ Memory) ⊎ ((why : CutError) × (e ≡ Some why) × IsCutRefusal why f)))
-          (sym ok) tt
-      at (Err why) (Ok value) ok err h = absurd err
-      at (Err why) (Err f) ok err h = ⊎_elim
-          (λ is. inr (why, is, err))
-          (λ is. inl (subst (λ x. IsCutRefusal x f) is.1 err))
-          h
-
 -- ---- the fault of a text
 
 abbrev pub is_memory : TextKind → Bool
@@ -174,23 +91,6 @@ fault_of format text error refusal k other is = subst (IsFault format text error
 -- ---- the text of a cut file
 
 module _ (regions count : ℕ) (text : List ℕ) where
-  -- its list is no cut
-  pub list_told : (list : List ℕ) (e : Refusal) → Means text list
-      → (e ≡ Memory) ⊎ ((why : CutError) × (list_error regions count list ≡ Some why) × IsCutRefusal why e)
-      → IsCutTextRefused regions count text e
-  list_told list e means = ⊎_elim
-      (λ is. subst (IsCutTextRefused regions count text) (sym is) refl)
-      (λ h. by_error h.0 h.1 h.2)
-    where
-      by_error : (why : CutError) → list_error regions count list ≡ Some why → IsCutRefusal why e
-          → IsCutTextRefused regions count text e
-      by_error due.Owners is h = absurd h
-      by_error due.Length is h =
-          subst (IsCutTextRefused regions count text) (sym h) (record { list = list; means = means; due = is })
-      by_error (due.NoSuchOwner index) is h =
-          subst (IsCutTextRefused regions count text) (sym h) (record { list = list; means = means; due = is })
-      by_error due.Memory is h = subst (IsCutTextRefused regions count text) (sym h) refl
-
   -- it has a fault
   module _ (error : TextError) (refusal : IsRefusal (IsFault cut text) error) where
     told_in : (k : TextKind) → error.kind ≡ k → IsCutTextRefused regions count text (cut_refusal_at error.line k)
@@ -206,50 +106,13 @@ module _ (regions count : ℕ) (text : List ℕ) where
     told_in kind.End is = fault_of cut text error refusal kind.End refl is
     told_in kind.Memory is = refl
 
-    pub cut_text_told : (e : Refusal) → e ≡ cut_refusal_at error.line error.kind → IsCutTextRefused regions count text e
-    cut_text_told e is = subst (IsCutTextRefused regions count text) (sym is) (told_in error.kind refl)
-
 -- ---- the file of a cut
 
 abbrev pub is_wanting : Refusal → Bool
 is_wanting Memory = true
 is_wanting other = false
 
--- a refusal of its text is one of the file
-pub cut_file_told : (holds : Holds) (lacks : Lacks) (regions count : ℕ) (path text : List ℕ) (e : Refusal)
-    → holds path text
-    → IsCutTextRefused regions count text e → IsCutFileRefused holds lacks regions count path e
-cut_file_told holds lacks regions count path text Usage held h = (text, held, h)
-cut_file_told holds lacks regions count path text (CannotRead other) held h =
-    absurd (true≢false (sym (ap is_wanting h)))
-cut_file_told holds lacks regions count path text (Text line k) held h = (text, held, h)
-cut_file_told holds lacks regions count path text (Limit counted) held h = (text, held, h)
-cut_file_told holds lacks regions count path text (CutText line k) held h = (text, held, h)
-cut_file_told holds lacks regions count path text CutLength held h = (text, held, h)
-cut_file_told holds lacks regions count path text (NoSuchOwner index) held h = (text, held, h)
-cut_file_told holds lacks regions count path text (ScheduleText line k) held h = (text, held, h)
-cut_file_told holds lacks regions count path text Thread held h = (text, held, h)
-cut_file_told holds lacks regions count path text Memory held h = tt
-cut_file_told holds lacks regions count path text CannotWrite held h = (text, held, h)
-
 -- ---- owners at work
-
--- why there is no cut is why there is no report
-pub cut_told : (holds : Holds) (lacks : Lacks) (q : Problem) (count : ℕ) (how : Deal) (path : Option (List ℕ))
-    (e : Refusal)
-    → IsCutRefused holds lacks q.regions count path e → IsWorkRefused holds lacks q count how path e
-cut_told holds lacks q count how path Usage h = h
-cut_told holds lacks q count how path (CannotRead other) h = h
-cut_told holds lacks q count how path (Text line k) h = h
-cut_told holds lacks q count how path (Limit counted) h = h
-cut_told holds lacks q count how path (CutText line k) h = h
-cut_told holds lacks q count how path CutLength h = h
-cut_told holds lacks q count how path (NoSuchOwner index) h = h
-cut_told holds lacks q count how path (ScheduleText line k) h = h
-cut_told holds lacks q count how None Thread h = absurd (true≢false (sym (ap is_wanting h)))
-cut_told holds lacks q count how (Some path) Thread h = absurd (true≢false (sym (ap is_wanting h.2)))
-cut_told holds lacks q count how path Memory h = tt
-cut_told holds lacks q count how path CannotWrite h = h
 
 -- and so is why a run by the cut that is asked for is refused
 module _ (holds : Holds) (lacks : Lacks) (q : Problem) (count : ℕ) (how : Deal) (path : Option (List ℕ)) (c : Cut)

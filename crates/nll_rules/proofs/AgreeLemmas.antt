@@ -7,13 +7,13 @@ use Rattle.nll_types.specs.Types.{TypeTree, TypeTrees, int, parameter, reference
 use Rattle.nll_types.specs.Structs.{Struct, struct_at, put_in, put_in_all}
 use Rattle.nll_types.specs.Places.{PlacePath, type_of, behind}
 use Rattle.nll_types.specs.Operands.{Operand, operand_type, reference_to}
-use Rattle.nll_types.specs.Shapes.{shape_of, same_shape}
-use Rattle.nll_types.specs.Judging.{agree}
+use Rattle.nll_types.specs.Shapes.{shape_of}
+use Rattle.nll_body.specs.Judging.{agree}
 use Rattle.nll_types.specs.declared.place.Projection.TheVariants.{Field}
 use Rattle.nll_types.proofs.SameShapeLemmas.{same_shape_decides}
-use Rattle.nll_statements.specs.Statements.{Statement, assign, borrow, make, switch, call}
-use Rattle.nll_statements.specs.TypePairs.{beside, beside_parts, operand_types, parts_of_type, type_pairs}
-use Rattle.nll_statements.specs.Typing.{pairs_agree, types_agree}
+use Rattle.nll_body.specs.Statements.{Statement, assign, borrow, make, call}
+use Rattle.nll_body.specs.TypePairs.{beside, beside_parts, operand_types, parts_of_type, type_pairs}
+use Rattle.nll_body.specs.Typing.{pairs_agree, types_agree}
 use Rattle.nll_rules.specs.Flows.{InputsAgree, PartsAgree}
 
 -- ---- two types that agree
@@ -139,11 +139,6 @@ module _ (structs : List Struct) (variables : List TypeTree) where
       → agree (Some made) (type_of structs variables p) ≡ true
   make_agrees p made ops h =
       first_agrees (Some made) (type_of structs variables p) [] (make_pairs p made ops h).1
-
-  -- what is switched on and an `int`
-  pub switch_agrees : (op : Operand) (bs : List ℕ) → types_agree structs variables (switch op bs) ≡ true
-      → agree (operand_type structs variables op) (Some int) ≡ true
-  switch_agrees op bs h = first_agrees (operand_type structs variables op) (Some int) [] (pairs (switch op bs) h)
 
   abbrev Argument : Type 0
   Argument = Operand × TypeTree

@@ -1,15 +1,15 @@
--- The row of a use of a struct: where in it the rows of its arguments are.
-use Rattle.std.proofs.Common.{◌≡◌, ℕ, zero, suc, ◌+◌, ◌-◌, List, [], ◌∷◌, ◌++◌, length, take, drop, refl, sym, ap, ◌∙◌, subst, append_assoc, length-append, add-one, arith}
+-- The row of a use of a struct, and where in it the rows of its arguments are.
+use Rattle.std.proofs.Common.{◌≡◌, ℕ, zero, suc, ◌+◌, ◌-◌, ◌<◌, ◌≤◌, List, [], ◌∷◌, ◌++◌, length, take, drop, refl, sym, ap, ◌∙◌, subst, append_assoc, get_or, length-append, add-one, arith}
 use Rattle.std.specs.Prelude.{slice_index_or, min}
 use Rattle.std.proofs.Math.Seq.{drop-nil, take-append_seam, drop-append_seam}
-use Rattle.std.proofs.lemmas.List.{append-nil, drop-take, drop_min, take_min, length-take}
-use Rattle.nll_types.specs.Types.{TypeTree, TypeTrees, int, parameter, reference, tuple, named, function, none, more}
+use Rattle.std.proofs.lemmas.List.{append-nil, drop-append-le, drop-take, drop_all, drop_min, length-take, map_push, take_min, take_more}
+use Rattle.nll_types.specs.Types.{TypeTrees, none, more}
 use Rattle.nll_types.specs.Shapes.{ShapeList, no_shape, more_shapes, shape_of, shapes_of}
-use Rattle.nll_types.specs.Structs.{argument, put_in, put_in_all}
+use Rattle.nll_types.specs.Structs.{argument, put_in, put_in_all, region_in}
 use Rattle.nll_types.specs.Rows.{region_row, region_rows}
 use Rattle.nll_types.specs.Views.{tree, trees}
 use Rattle.nll_types.specs.declared.ty.Ty.{Ty}
-use Rattle.nll_rules.specs.TypeRows.{row_length, rows_length, starts_from, IsUseRow}
+use Rattle.nll_rules.specs.TypeRows.{IsUseRow, row_from, row_length, rows_length, starts_from}
 use Rattle.nll_rules.specs.declared.field_rows.UseRow.{UseRow}
 use Rattle.nll_rules.proofs.RowSignLemmas.{row_length_of, rows_length_of}
 
@@ -17,13 +17,32 @@ use Rattle.nll_rules.proofs.RowSignLemmas.{row_length_of, rows_length_of}
 
 -- what lies between two places of a list, as far as the list goes
 pub slice_between : (xs : List ℕ) (from to first last : ℕ) → last ≡ min to (length xs) → first ≡ min from last
-    → take (last - first) (drop first xs) ≡ drop from (take to xs)
+    → drop first (take last xs) ≡ drop from (take to xs)
 slice_between xs from to first last l f =
-    let whole : first + (last - first) ≡ last = omega arith in
-    sym (drop-take first (last - first) xs) ∙ ap (λ (n : ℕ). drop first (take n xs)) (whole ∙ l)
-    ∙ ap (drop first) (take_min to xs)
+    ap (λ (n : ℕ). drop first (take n xs)) l ∙ ap (drop first) (take_min to xs)
     ∙ ap (λ (n : ℕ). drop n (take to xs)) (f ∙ ap (min from) (l ∙ sym (length-take to xs)))
     ∙ drop_min from (take to xs)
+
+-- ---- rows that templates make
+
+-- nothing lies between a place and itself
+pub none_from : (row : List ℕ) (n : ℕ) → drop n (take n row) ≡ []
+none_from row n = drop_all n (take n row) (omega (arith, length-take n row))
+
+-- the region at a place is one more between that place and one before it
+pub row_on : (row old before now : List ℕ) (from place : ℕ) → from ≤ place → place < length row
+    → now ≡ before ++ (place + 1) ∷ [] → row_from row before ≡ row_from row old ++ drop from (take place row)
+    → row_from row now ≡ row_from row old ++ drop from (take (place + 1) row)
+row_on row old before now from place l m is h =
+    let here : region_in row (place + 1) ≡ get_or row place 0 = ap (region_in row) (add-one place) in
+    let more : drop from (take (place + 1) row) ≡ drop from (take place row) ++ get_or row place 0 ∷ [] =
+    ap (drop from) (take_more row place 0 m)
+    ∙ drop-append-le from (take place row) (get_or row place 0 ∷ []) (omega (arith, length-take place row)) in
+    ap (row_from row) is ∙ map_push (region_in row) before (place + 1)
+    ∙ ap (λ (xs : List ℕ). xs ++ region_in row (place + 1) ∷ []) h
+    ∙ append_assoc (row_from row old) (drop from (take place row)) (region_in row (place + 1) ∷ [])
+    ∙ ap (λ (xs : List ℕ). row_from row old ++ xs)
+    (ap (λ (r : ℕ). drop from (take place row) ++ r ∷ []) here ∙ sym more)
 
 -- what two lists that are appended, one after the other, make of a list
 pub row_joined : (old middle new first second : List ℕ) → middle ≡ old ++ first → new ≡ middle ++ second
@@ -96,25 +115,22 @@ argument_between before (more t ts) rest (suc k) =
 -- ---- the row of a use
 
 -- The row of a struct with its arguments, with the places where the rows of its type arguments
--- begin, is that of a use of the struct with these arguments.
-pub is_use_row : (u : UseRow) (s : ℕ) (rs : List ℕ) (ts : TypeTrees) → u.row.now ≡ region_row (named s rs ts)
-    → u.starts.now ≡ starts_from 0 (shapes_of ts) → u.regions ≡ rows_length (shapes_of ts) → IsUseRow u rs ts
-is_use_row u s rs ts row starts own = record {
-  regions =
-      ap (λ (n : ℕ). drop n u.row.now) (own ∙ rows_length_of ts) ∙ ap (drop (length (region_rows ts))) row
-      ∙ drop-append_seam (region_rows ts) rs;
-  types = λ k. ap (λ (m : ℕ). drop (slice_index_or u.starts.now k 0)
-      (take (slice_index_or u.starts.now m 0) u.row.now)) (add-one k)
-      ∙ ap (λ (xs : List ℕ). drop (slice_index_or xs k 0) (take (slice_index_or xs (suc k) 0) u.row.now)) starts
-      ∙ ap (λ (xs : List ℕ). drop (slice_index_or (starts_from 0 (shapes_of ts)) k 0)
-      (take (slice_index_or (starts_from 0 (shapes_of ts)) (suc k) 0) xs)) row ∙ argument_between [] ts rs k;
-}
-
--- The region arguments begin where the last of the rows of type arguments ends.
-pub is_use_row_by_last : (u : UseRow) (s : ℕ) (rs : List ℕ) (ts : TypeTrees) (d : ℕ)
-    → u.row.now ≡ region_row (named s rs ts) → u.starts.now ≡ starts_from 0 (shapes_of ts)
-    → u.regions ≡ slice_index_or u.starts.now (length u.starts.now - 1) d → IsUseRow u rs ts
-is_use_row_by_last u s rs ts d row starts own =
-    let last = last_start 0 (shapes_of ts) d in
-    is_use_row u s rs ts row starts
-    (own ∙ ap (λ (xs : List ℕ). slice_index_or xs (length xs - 1) d) starts ∙ last ∙ (omega arith))
+-- begin, is that of a use of the struct with these arguments: the region arguments begin where the
+-- last of the rows of type arguments ends.
+pub is_use_row : (u : UseRow) (row rs : List ℕ) (ts : TypeTrees) (d : ℕ) → length row ≡ u.count
+    → row ≡ region_rows ts ++ rs → u.starts.now ≡ starts_from 0 (shapes_of ts)
+    → u.regions ≡ slice_index_or u.starts.now (length u.starts.now - 1) d → IsUseRow u row rs ts
+is_use_row u row rs ts d count is starts own =
+    let last : u.regions ≡ rows_length (shapes_of ts) =
+    own ∙ ap (λ (xs : List ℕ). slice_index_or xs (length xs - 1) d) starts ∙ last_start 0 (shapes_of ts) d
+    ∙ (omega arith) in record {
+      counted = count;
+      regions =
+          ap (λ (n : ℕ). drop n row) (last ∙ rows_length_of ts) ∙ ap (drop (length (region_rows ts))) is
+          ∙ drop-append_seam (region_rows ts) rs;
+      types = λ k. ap (λ (m : ℕ). drop (slice_index_or u.starts.now k 0)
+          (take (slice_index_or u.starts.now m 0) row)) (add-one k)
+          ∙ ap (λ (xs : List ℕ). drop (slice_index_or xs k 0) (take (slice_index_or xs (suc k) 0) row)) starts
+          ∙ ap (λ (xs : List ℕ). drop (slice_index_or (starts_from 0 (shapes_of ts)) k 0)
+          (take (slice_index_or (starts_from 0 (shapes_of ts)) (suc k) 0) xs)) is ∙ argument_between [] ts rs k;
+    }

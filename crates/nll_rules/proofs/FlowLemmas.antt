@@ -1,25 +1,23 @@
 -- What types at hand ask where they meet.
-use Rattle.std.proofs.Common.{◌≡◌, ◌↔◌, ◌⊎◌, ℕ, ◌<◌, Bool, true, List, ◌∷◌, [], length, map, Option, Some, None, Contains, ap, arith, subst, ⊎_elim, ◌∙◌}
-use Rattle.std.specs.Prelude.{All, IfSome, option_map, slice_get, unwrap_or}
+use Rattle.std.proofs.Common.{◌≡◌, ◌↔◌, ◌⊎◌, ℕ, Bool, true, List, length, map, Option, Some, None, Contains, ap, subst, ⊎_elim, ◌∙◌}
+use Rattle.std.specs.Prelude.{All, option_map, slice_get, unwrap_or}
 use Rattle.std.proofs.lemmas.List.{length-map}
 use Rattle.nll_types.specs.Types.{TypeTree, reference}
 use Rattle.nll_types.specs.Operands.{Operand, reference_to}
 use Rattle.nll_types.specs.Rows.{HasRow}
 use Rattle.nll_types.specs.Shapes.{reference_shape, shape_of}
-use Rattle.nll_types.specs.Structs.{Struct}
-use Rattle.nll_types.specs.declared.node.Node.{Node}
 use Rattle.nll_types.specs.declared.typed.Typed.{Typed}
-use Rattle.nll_statements.specs.Flat.{StatementLists, argument_in, call_in, make_in, operand_in, path_in, sliced, statement_in, switch_in}
-use Rattle.nll_statements.specs.Meant.{HasRows, meant_by}
-use Rattle.nll_statements.specs.Statements.{call, nop}
-use Rattle.nll_statements.specs.Typing.{agree, types_agree}
-use Rattle.nll_statements.specs.declared.flat.FlatCall.{FlatCall}
-use Rattle.nll_statements.specs.declared.flat.FlatMake.{FlatMake}
-use Rattle.nll_statements.specs.declared.flat.FlatOperand.{FlatOperand}
-use Rattle.nll_statements.specs.declared.flat.FlatOperand.TheVariants.{Copy, Move}
-use Rattle.nll_statements.specs.declared.flat.FlatSwitch.{FlatSwitch}
-use Rattle.nll_statements.specs.declared.flat.Stmt.{Stmt}
-use Rattle.nll_statements.specs.declared.flat.Stmt.TheVariants as flat
+use Rattle.nll_body.specs.Flat.{StatementLists, argument_in, call_in, make_in, operand_in, path_in, sliced, statement_in, switch_in}
+use Rattle.nll_body.specs.Meant.{meant_by}
+use Rattle.nll_body.specs.Statements.{call, nop}
+use Rattle.nll_body.specs.Typing.{agree, types_agree}
+use Rattle.nll_body.specs.declared.flat.FlatCall.{FlatCall}
+use Rattle.nll_body.specs.declared.flat.FlatMake.{FlatMake}
+use Rattle.nll_body.specs.declared.flat.FlatOperand.{FlatOperand}
+use Rattle.nll_body.specs.declared.flat.FlatOperand.TheVariants.{Copy, Move}
+use Rattle.nll_body.specs.declared.flat.FlatSwitch.{FlatSwitch}
+use Rattle.nll_body.specs.declared.flat.Stmt.{Stmt}
+use Rattle.nll_body.specs.declared.flat.Stmt.TheVariants as flat
 use Rattle.nll_rules.specs.Asking.{Asks}
 use Rattle.nll_rules.specs.Flows.{AddsMet, InputsAgree, IsAtHand, PartsAgree, inputs_of, place_type, value_type, written_type}
 use Rattle.nll_rules.specs.Knowing.{KnownTypes}
@@ -55,13 +53,6 @@ met_reference k r c d old new each m (Some t) None a b agrees = absurd (agrees_n
 met_reference k r c d old new each m (Some t) (Some u) a b agrees =
     adds_same _ _ old new (both_there k.structs (reference r m t) u)
     (each m t u a b (one_shape (reference r m t) u agrees))
-
--- what is at hand has the number of a shape
-pub within_table : (k : KnownTypes) (o : Option TypeTree) (c : Option TypeRow) → IsAtHand k o c
-    → IfSome c (λ d. d.shape < length k.table)
-within_table k None c h = rw h tt
-within_table k (Some t) None h = absurd h
-within_table k (Some t) (Some c) h = h.within
 
 -- what is copied or moved is a place
 pub of_place : (k : KnownTypes) (op : FlatOperand) (n : ℕ) → (op ≡ Copy n) ⊎ (op ≡ Move n)

@@ -1,5 +1,5 @@
 -- What is known of a body stays known, and is of the body.
-use Rattle.std.proofs.Common.{◌≡◌, ℕ, true, List, length, map, get_or, refl, sym, ap, ◌∙◌, subst, Some, None, Option}
+use Rattle.std.proofs.Common.{◌≡◌, ℕ, true, List, length, map, get_or, sym, ap, ◌∙◌, subst, Some, None, Option}
 use Rattle.std.specs.Prelude.{All, slice_get}
 use Rattle.std.proofs.lemmas.List.{length-map}
 use Rattle.std.proofs.lemmas.Option.{get_or_from_slice_get, slice_get_within, slice_get-get_or}
@@ -8,12 +8,12 @@ use Rattle.nll_types.specs.Rows.{tree_at}
 use Rattle.nll_types.specs.Types.{TypeTree}
 use Rattle.nll_types.specs.declared.node.Node.{Node}
 use Rattle.nll_types.specs.declared.typed.Typed.{Typed}
-use Rattle.nll_types.proofs.ShapingLemmas.{extends_same, extends_then}
-use Rattle.nll_statements.specs.Flat.{statement_in, statements_in}
-use Rattle.nll_statements.specs.Meant.{HasRows, meant_by}
-use Rattle.nll_statements.specs.Statements.{Statement}
-use Rattle.nll_statements.specs.Typing.{types_agree}
-use Rattle.nll_statements.specs.declared.flat.Stmt.{Stmt}
+use Rattle.nll_types.proofs.ShapingLemmas.{extends_then}
+use Rattle.nll_body.specs.Flat.{statement_in, statements_in}
+use Rattle.nll_body.specs.Meant.{HasRows, meant_by}
+use Rattle.nll_body.specs.Statements.{Statement}
+use Rattle.nll_body.specs.Typing.{types_agree}
+use Rattle.nll_body.specs.declared.flat.Stmt.{Stmt}
 use Rattle.nll_body.specs.Bodies.{BodyText, StandsAt}
 use Rattle.nll_body.specs.Sound.{IsSound}
 use Rattle.nll_body.specs.Typed.{IsTypedBody}
@@ -25,16 +25,6 @@ use Rattle.nll_rules.proofs.KnownLemmas.{row_later}
 use Rattle.nll_rules.proofs.StatementLemmas.{get_mapped}
 
 -- ---- what stays
-
-pub learns_same : (k : KnownTypes) → Learns k k
-learns_same k = record {
-  structs = refl;
-  shapes = refl;
-  regions = refl;
-  lists = refl;
-  variables = refl;
-  table = extends_same k.table;
-}
 
 pub learns_then : (a b c : KnownTypes) → Learns a b → Learns b c → Learns a c
 learns_then a b c x y = record {

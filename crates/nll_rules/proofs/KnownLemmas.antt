@@ -1,29 +1,31 @@
 -- What is found of types at hand.
-use Rattle.std.proofs.Common.{◌≡◌, ℕ, zero, suc, ◌+◌, ◌-◌, ◌<◌, ◌≤◌, Bool, List, [], ◌∷◌, ◌++◌, length, take, drop, map, refl, sym, ap, ◌∙◌, subst, append_assoc, length-append, arith, Option, Some, None, ◌↔◌}
+use Rattle.std.proofs.Common.{◌≡◌, ℕ, ◌<◌, Bool, List, [], ◌∷◌, ◌++◌, length, take, drop, refl, sym, ap, ◌∙◌, subst, arith, Option, Some, None, ◌↔◌}
 use Rattle.std.specs.Prelude.{MatchOption, option_map, slice_get}
 use Rattle.std.specs.Global.{Vec}
 use Rattle.std.proofs.Math.Seq.{take-append_seam}
-use Rattle.std.proofs.lemmas.List.{take_all}
-use Rattle.nll_types.specs.Places.{behind}
-use Rattle.nll_types.specs.Rows.{region_row, region_rows, HasRow, IsTyped, tree_at}
-use Rattle.nll_types.specs.Shapes.{Shape, ShapeList, reference_shape, tuple_shape, named_shape, shape_of, shapes_of, behind_shape}
+use Rattle.std.proofs.lemmas.List.{same_from_push}
+use Rattle.std.proofs.lemmas.Option.{get_or_from_slice_get, slice_get_within}
+use Rattle.nll_types.specs.Rows.{region_row, region_rows, HasRow, tree_at}
+use Rattle.nll_types.specs.Shapes.{Shape, ShapeList, reference_shape, tuple_shape, named_shape, shape_at, shape_of, shapes_of, behind_shape}
 use Rattle.nll_types.specs.Structs.{Struct, field_type}
-use Rattle.nll_types.specs.Table.{Extends, IsOver, at, shape_in, shape_over, shapes_in}
-use Rattle.nll_types.specs.Types.{TypeTree, TypeTrees, int, parameter, reference, tuple, named, function, type_at}
+use Rattle.nll_types.specs.Table.{Extends, IsOver, all_at, at, shape_in, shape_over, shapes_in}
+use Rattle.nll_types.specs.Types.{TypeTree, TypeTrees, int, parameter, reference, tuple, named, function, type_at, type_count}
 use Rattle.nll_types.specs.declared.node.Node.{Node}
 use Rattle.nll_types.specs.declared.node.Node.TheVariants as nodes
 use Rattle.nll_types.specs.declared.parameter.Sign.{Sign}
 use Rattle.nll_types.specs.declared.parameter.Sign.TheVariants.{Covariant}
-use Rattle.nll_types.specs.declared.place.Projection.TheVariants.{Deref, Field}
+use Rattle.nll_types.specs.declared.place.Projection.TheVariants.{Field}
 use Rattle.nll_types.specs.declared.typed.Typed.{Typed}
-use Rattle.nll_types.proofs.ShapeLemmas.{behind_agrees}
+use Rattle.nll_types.proofs.ProjectLemmas.{count_tuple, shape_at_all}
+use Rattle.nll_types.proofs.ShapeLemmas.{behind_agrees, shape_at_of}
 use Rattle.nll_types.proofs.TableLemmas.{length_from}
+use Rattle.nll_rules.specs.Knowing.{IsFieldIn}
 use Rattle.nll_rules.specs.Pairs.{AddsPairs}
 use Rattle.nll_rules.specs.Signs.{RowsAsk, signs}
 use Rattle.nll_rules.specs.Subtyping.{SubtypeAsks}
-use Rattle.nll_rules.specs.TypeRows.{AreSigns, IsRowIn, IsRowOf, IsUseRow, first_parts, form, row_length, row_of, starts_from}
-use Rattle.nll_rules.specs.Walks.{cross, past}
+use Rattle.nll_rules.specs.TypeRows.{AreSigns, AreSignsOf, IsRowIn, IsRowOf, IsUseRow, first_parts, row_from, row_length, row_of, starts_from}
 use Rattle.nll_rules.specs.declared.field_rows.UseRow.{UseRow}
+use Rattle.nll_rules.specs.declared.fields.FieldRow.{FieldRow}
 use Rattle.nll_rules.specs.declared.row_signs.ShapeSigns.{ShapeSigns}
 use Rattle.nll_rules.specs.declared.type_row.TypeRow.{TypeRow}
 use Rattle.nll_rules.proofs.PairLemmas.{adds_same}
@@ -126,19 +128,6 @@ reference_node ns i target m node l at over is =
     let first : target < i = below 0 (omega arith) in
     (at ∙ ap (shape_over (shapes_in ns)) is, omega arith)
 
-last_same : (xs ys : List ℕ) (x y : ℕ) → xs ++ x ∷ [] ≡ ys ++ y ∷ [] → (xs ≡ ys) × (x ≡ y)
-last_same [] [] x y e = (refl, cc)
-last_same [] (b ∷ []) x y e = absurd cc
-last_same [] (b ∷ c ∷ ys) x y e = absurd cc
-last_same (a ∷ []) [] x y e = absurd cc
-last_same (a ∷ c ∷ xs) [] x y e = absurd cc
-last_same (a ∷ xs) (b ∷ ys) x y e =
-    let first : a ≡ b = cc in
-    let rest : xs ++ x ∷ [] ≡ ys ++ y ∷ [] = cc in
-    let h = last_same xs ys x y rest in
-    let same : xs ≡ ys = h.0 in
-    (cc, h.1)
-
 pub reference_row : (ns : List Node) (regions : List ℕ) (t : TypeTree) (c r : TypeRow) (m : Bool) (target q : ℕ)
     → IsRowOf ns regions t c → shape_in ns c.shape ≡ reference_shape m (shape_in ns target) → target < length ns
     → r.shape ≡ target → row_of regions c ≡ row_of regions r ++ q ∷ []
@@ -147,7 +136,7 @@ reference_row ns regions (reference p n u) c r m target q h is l at row =
     let shape : reference_shape n (shape_of u) ≡ reference_shape m (shape_in ns target) = sym h.shape ∙ is in
     let flag : n ≡ m = cc in
     let behind : shape_of u ≡ shape_in ns target = cc in
-    let last = last_same (region_row u) (row_of regions r) p q (sym h.row ∙ row) in
+    let last = same_from_push (region_row u) (row_of regions r) p q (sym h.row ∙ row) in
     let region : p ≡ q = last.1 in (
       u,
       cc,
@@ -163,123 +152,123 @@ reference_row ns regions (tuple ts) c r m target q h is l at row = absurd (let e
 reference_row ns regions (named s rs ts) c r m target q h is l at row = absurd (let e = sym h.shape ∙ is in cc)
 reference_row ns regions (function ts t) c r m target q h is l at row = absurd (let e = sym h.shape ∙ is in cc)
 
--- a reference has a region
-pub empty_row : (ns : List Node) (regions : List ℕ) (t : TypeTree) (c : TypeRow) → IsRowOf ns regions t c
-    → row_of regions c ≡ [] → form t ≡ 2 → ⊥
-empty_row ns regions (reference p n u) c h none e =
-    let l = ap length (sym h.row ∙ none) in omega (arith, length-append (region_row u) (p ∷ []))
-empty_row ns regions int c h none e = cc
-empty_row ns regions (parameter k) c h none e = cc
-empty_row ns regions (tuple ts) c h none e = cc
-empty_row ns regions (named s rs ts) c h none e = cc
-empty_row ns regions (function ts t) c h none e = cc
+-- ---- parts of tuples
 
--- ---- parts
-
-pub part_none : (structs : List Struct) (ns new : List Node) (regions after : List ℕ) (t : TypeTree) (c : TypeRow)
-    (k : ℕ) → IsRowOf ns regions t c → None ≡ behind_shape structs (Field k) (shape_in ns c.shape)
-    → IsRowIn new after (behind structs (Field k) t) None
-part_none structs ns new regions after t c k h none =
-    there (behind structs (Field k) t)
-    (behind_agrees structs (Field k) t ∙ ap (behind_shape structs (Field k)) (sym h.shape) ∙ sym none)
+-- what is found of the part at a place of a tuple is its type
+pub tuple_row : (ns : List Node) (regions : List ℕ) (ts : TypeTrees) (c : TypeRow) (k : ℕ) (parts : Vec ℕ)
+    (starts : List ℕ) (o : Option TypeRow) → IsRowOf ns regions (tuple ts) c
+    → shape_in ns c.shape ≡ shape_over (shapes_in ns) (nodes.Tuple parts) → IsOver c.shape (nodes.Tuple parts)
+    → starts ≡ starts_from 0 (first_parts (shape_in ns c.shape))
+    → ((ts : TypeTrees) → starts ≡ starts_from 0 (shapes_of ts) → length parts.items ≡ type_count ts
+    → row_of regions c ≡ region_rows ts → MatchOption o (type_at ts k ≡ None)
+    (λ r. (t : TypeTree) × (type_at ts k ≡ Some t) × (slice_get parts.items k ≡ Some r.shape)
+    × (row_of regions r ≡ region_row t)))
+    → IsRowIn ns regions (type_at ts k) o
+tuple_row ns regions ts c k parts starts o h node over begun row =
+    there o (row ts (begun ∙ ap (λ (s : Shape). starts_from 0 (first_parts s)) h.shape) count h.row)
   where
-    there : (o : Option TypeTree) → option_map shape_of o ≡ None → IsRowIn new after o None
+    known : List Shape
+    known = shapes_in ns
+
+    same : shapes_of ts ≡ all_at known parts.items
+    same = (let e : tuple_shape (shapes_of ts) ≡ tuple_shape (all_at known parts.items) = sym h.shape ∙ node in cc)
+
+    count : length parts.items ≡ type_count ts
+    count = (let e = count_tuple [] known parts (tuple ts) (ap tuple_shape same) in cc)
+
+    at_part : (i : ℕ) (t : TypeTree) → slice_get parts.items k ≡ Some i → type_at ts k ≡ Some t
+        → at known i ≡ shape_of t
+    at_part i t e f =
+        let d : Some (at known i) ≡ Some (shape_of t) =
+        ap (option_map (at known)) (sym e) ∙ shape_at_all known parts.items k
+        ∙ ap (λ (ss : ShapeList). shape_at ss k) (sym same) ∙ sym (shape_at_of ts k) ∙ ap (option_map shape_of) f in cc
+
+    there : (o : Option TypeRow) → MatchOption o (type_at ts k ≡ None)
+        (λ r. (t : TypeTree) × (type_at ts k ≡ Some t) × (slice_get parts.items k ≡ Some r.shape)
+        × (row_of regions r ≡ region_row t)) → IsRowIn ns regions (type_at ts k) o
+    there None m = subst (λ (p : Option TypeTree). IsRowIn ns regions p None) (sym m) refl
+    there (Some r) m =
+        let below = over k (slice_get_within parts.items k r.shape m.2) in
+        let is = get_or_from_slice_get parts.items k r.shape 0 m.2 in
+        subst (λ (p : Option TypeTree). IsRowIn ns regions p (Some r)) (sym m.1) (record {
+          within = (let l = h.within in omega arith);
+          shape = at_part r.shape m.0 m.2 m.1;
+          row = m.3;
+        })
+
+-- ---- fields of structs
+
+-- where there is no shape of a field there is no field
+pub no_field : (structs : List Struct) (ns later : List Node) (shape s k : ℕ) (rs : List ℕ) (ts : TypeTrees)
+    → shape_of (named s rs ts) ≡ shape_in ns shape → None ≡ behind_shape structs (Field k) (shape_in ns shape)
+    → IsFieldIn later (named s rs ts) (field_type structs s rs ts k) None
+no_field structs ns later shape s k rs ts e none =
+    there (field_type structs s rs ts k)
+    (behind_agrees structs (Field k) (named s rs ts) ∙ ap (behind_shape structs (Field k)) e ∙ sym none)
+  where
+    there : (o : Option TypeTree) → option_map shape_of o ≡ None → IsFieldIn later (named s rs ts) o None
     there None e = refl
     there (Some u) e = absurd cc
 
-pub part_there : (structs : List Struct) (ns later new : List Node) (regions after : List ℕ) (t : TypeTree)
-    (c : TypeRow) (k shape : ℕ) (o : Option TypeRow) → IsRowOf ns regions t c → Extends ns later
-    → Some (shape_in later shape) ≡ behind_shape structs (Field k) (shape_in ns c.shape)
-    → ((t u : TypeTree) → IsRowOf later regions t c → behind structs (Field k) t ≡ Some u
-    → shape_in later shape ≡ shape_of u → IsRowIn new after (Some u) o)
-    → IsRowIn new after (behind structs (Field k) t) o
-part_there structs ns later new regions after t c k shape o h e is row =
-    there (behind structs (Field k) t) refl
-    (behind_agrees structs (Field k) t ∙ ap (behind_shape structs (Field k)) (sym h.shape) ∙ sym is)
+-- what the row of a declaration makes is the row of the field's type
+pub template_is : (structs : List Struct) (ns : List Node) (shape s j n k : ℕ) (rs : List ℕ) (ts : TypeTrees)
+    (is : ShapeList) (e : ShapeSigns) (u : UseRow) (o : Option (Vec ℕ))
+    → shape_of (named s rs ts) ≡ shape_in ns shape → shape_in ns shape ≡ named_shape j n is
+    → AreSignsOf structs (shape_in ns shape) e
+    → ((row rs : List ℕ) (ts : TypeTrees) → length row ≡ length e.signs.items
+    → e.starts.items ≡ starts_from 0 (shapes_of ts) → row ≡ region_rows ts ++ rs → IsUseRow u row rs ts)
+    → ((row rs : List ℕ) (ts : TypeTrees) → IsUseRow u row rs ts
+    → option_map (λ v. row_from row v.items) o ≡ option_map region_row (field_type structs j rs ts k))
+    → option_map (λ v. row_from (region_row (named s rs ts)) v.items) o
+    ≡ option_map region_row (field_type structs s rs ts k)
+template_is structs ns shape s j n k rs ts is e u o same node signs used row =
+    row (region_row (named s rs ts)) rs ts (used (region_row (named s rs ts)) rs ts count begun refl)
+    ∙ ap (λ (z : ℕ). option_map region_row (field_type structs z rs ts k)) own
   where
-    there : (p : Option TypeTree) → behind structs (Field k) t ≡ p
-        → option_map shape_of p ≡ Some (shape_in later shape) → IsRowIn new after p o
-    there None at s = absurd cc
-    there (Some u) at s =
-        let same : shape_in later shape ≡ shape_of u = cc in
-        row t u (row_later ns later regions t c e h) at same
+    own : j ≡ s
+    own = (let d : named_shape j n is ≡ shape_of (named s rs ts) = sym node ∙ sym same in cc)
 
--- what a type's shape says of it
-pub tuple_part_row : (structs : List Struct) (ns : List Node) (regions : List ℕ) (t u : TypeTree) (c : TypeRow)
-    (k shape : ℕ) (is : ShapeList) (starts : List ℕ) (o : Option TypeRow)
-    → IsRowOf ns regions t c → shape_in ns c.shape ≡ tuple_shape is
-    → starts ≡ starts_from 0 (first_parts (shape_in ns c.shape)) → behind structs (Field k) t ≡ Some u
-    → shape_in ns shape ≡ shape_of u → shape < length ns
-    → ((ts : TypeTrees) (t : TypeTree) → starts ≡ starts_from 0 (shapes_of ts) → row_of regions c ≡ region_rows ts
-    → type_at ts k ≡ Some t → MatchOption o ⊥ (λ r. (r.shape ≡ shape) × (row_of regions r ≡ region_row t)))
-    → IsRowIn ns regions (Some u) o
-tuple_part_row structs ns regions (tuple ts) u c k shape is starts o h e at there same l row =
-    made o (row ts u (at ∙ ap (λ (s : Shape). starts_from 0 (first_parts s)) h.shape) h.row there)
+    begun : e.starts.items ≡ starts_from 0 (shapes_of ts)
+    begun = signs.starts ∙ ap (λ (z : Shape). starts_from 0 (first_parts z)) (sym same)
+
+    count : length (region_row (named s rs ts)) ≡ length e.signs.items
+    count = sym (ap length signs.signs ∙ signs_length structs Covariant (shape_in ns shape)
+        ∙ ap row_length (sym same) ∙ row_length_of (named s rs ts))
+
+-- with the shape of the field it is what is to be known of the field
+pub made_field : (structs : List Struct) (ns later new : List Node) (shape made s k : ℕ) (rs : List ℕ) (ts : TypeTrees)
+    (o : Option (Vec ℕ)) → shape_of (named s rs ts) ≡ shape_in ns shape → Extends later new → made < length later
+    → Some (shape_in later made) ≡ behind_shape structs (Field k) (shape_in ns shape)
+    → option_map (λ v. row_from (region_row (named s rs ts)) v.items) o
+    ≡ option_map region_row (field_type structs s rs ts k)
+    → IsFieldIn new (named s rs ts) (field_type structs s rs ts k)
+    (option_map (λ v. record { shape = made; template = v }) o)
+made_field structs ns later new shape made s k rs ts o same x within is row =
+    there o (field_type structs s rs ts k) row
+    (behind_agrees structs (Field k) (named s rs ts) ∙ ap (behind_shape structs (Field k)) same ∙ sym is)
   where
-    made : (o : Option TypeRow) → MatchOption o ⊥ (λ r. (r.shape ≡ shape) × (row_of regions r ≡ region_row u))
-        → IsRowIn ns regions (Some u) o
-    made None m = m
-    made (Some r) m = record {
-      within = subst (λ (i : ℕ). i < length ns) (sym m.0) l;
-      shape = ap (shape_in ns) m.0 ∙ same;
-      row = m.1;
-    }
-tuple_part_row structs ns regions int u c k shape is starts o h e at there same l row = absurd cc
-tuple_part_row structs ns regions (parameter j) u c k shape is starts o h e at there same l row = absurd cc
-tuple_part_row structs ns regions (reference r m t) u c k shape is starts o h e at there same l row = absurd cc
-tuple_part_row structs ns regions (named s rs ts) u c k shape is starts o h e at there same l row =
-    absurd (let d = sym h.shape ∙ e in cc)
-tuple_part_row structs ns regions (function ts t) u c k shape is starts o h e at there same l row = absurd cc
-
-pub field_row_is : (structs : List Struct) (ns : List Node) (regions : List ℕ) (t u : TypeTree) (c : TypeRow)
-    (k s n : ℕ) (is : ShapeList) (starts : List ℕ) (arguments : UseRow) (o : Option (Vec ℕ))
-    → IsRowOf ns regions t c → shape_in ns c.shape ≡ named_shape s n is
-    → starts ≡ starts_from 0 (first_parts (shape_in ns c.shape)) → behind structs (Field k) t ≡ Some u
-    → ((rs : List ℕ) (ts : TypeTrees) → starts ≡ starts_from 0 (shapes_of ts) → row_of regions c ≡ region_rows ts ++ rs
-    → IsUseRow arguments rs ts)
-    → ((rs : List ℕ) (ts : TypeTrees) → IsUseRow arguments rs ts
-    → option_map (λ v. v.items) o ≡ option_map region_row (field_type structs s rs ts k))
-    → option_map (λ v. v.items) o ≡ Some (region_row u)
-field_row_is structs ns regions (named j rs ts) u c k s n is starts arguments o h e at there used row =
-    let same : j ≡ s = (let d = sym h.shape ∙ e in cc) in
-    row rs ts (used rs ts (at ∙ ap (λ (s : Shape). starts_from 0 (first_parts s)) h.shape) h.row)
-    ∙ ap (option_map region_row) (ap (λ (z : ℕ). field_type structs z rs ts k) (sym same) ∙ there)
-field_row_is structs ns regions int u c k s n is starts arguments o h e at there used row = absurd cc
-field_row_is structs ns regions (parameter j) u c k s n is starts arguments o h e at there used row = absurd cc
-field_row_is structs ns regions (reference r m t) u c k s n is starts arguments o h e at there used row = absurd cc
-field_row_is structs ns regions (tuple ts) u c k s n is starts arguments o h e at there used row =
-    absurd (let d = sym h.shape ∙ e in cc)
-field_row_is structs ns regions (function ts t) u c k s n is starts arguments o h e at there used row = absurd cc
-
--- a field whose row was made
-pub made_row : (ns : List Node) (regions : List ℕ) (u : TypeTree) (shape n : ℕ) (made : Vec ℕ) (o : Option (Vec ℕ))
-    → shape < length ns → shape_in ns shape ≡ shape_of u → o ≡ Some made → n ≡ length made.items
-    → option_map (λ v. v.items) o ≡ Some (region_row u)
-    → IsRowOf ns regions u (record { shape = shape; first = 0; count = n; made = Some made })
-made_row ns regions u shape n made o l same is count row =
-    let items : made.items ≡ region_row u =
-    (let e : Some made.items ≡ Some (region_row u) =
-    ap (option_map (λ (v : Vec ℕ). v.items)) (sym is) ∙ row in cc) in record {
-      within = l;
-      shape = same;
-      row = take_all n made.items (omega (arith, count)) ∙ items;
+    there : (o : Option (Vec ℕ)) (p : Option TypeTree)
+        → option_map (λ v. row_from (region_row (named s rs ts)) v.items) o ≡ option_map region_row p
+        → option_map shape_of p ≡ Some (shape_in later made)
+        → IsFieldIn new (named s rs ts) p (option_map (λ v. record { shape = made; template = v }) o)
+    there o None r d = absurd cc
+    there None (Some v) r d = absurd cc
+    there (Some v) (Some z) r d = record {
+      within = (let longer = x.longer in omega arith);
+      shape = (let e : shape_of z ≡ shape_in later made = cc in x.kept made within ∙ sym e);
+      row = (let e : row_from (region_row (named s rs ts)) v.items ≡ region_row z = cc in e);
     }
 
--- a type without regions
-pub bare_row : (ns later : List Node) (regions : List ℕ) (u : TypeTree) (shape n : ℕ) → shape < length ns
-    → Extends ns later → shape_in ns shape ≡ shape_of u → n ≡ row_length (shape_in ns shape) → n ≡ 0
-    → IsRowOf later regions u (record { shape = shape; first = 0; count = 0; made = None })
-bare_row ns later regions u shape n l e same is nothing =
-    let count = ap row_length (sym same) ∙ sym is ∙ nothing in
-    let none : length (region_row u) ≡ 0 = sym (row_length_of u) ∙ count in record {
-      within = (let a = e.longer in omega arith);
-      shape = e.kept shape l ∙ same;
-      row = sym (empty (region_row u) none);
-    }
-  where
-    empty : (xs : List ℕ) → length xs ≡ 0 → xs ≡ []
-    empty [] h = refl
-    empty (x ∷ xs) h = absurd (omega (arith, h))
+-- the type of a field that is known
+pub field_row : (ns later : List Node) (regions : List ℕ) (t : TypeTree) (o : Option TypeTree) (c r : TypeRow)
+    (f : FieldRow) → IsRowOf ns regions t c → IsFieldIn later t o (Some f) → r.shape ≡ f.shape
+    → row_of regions r ≡ row_from (row_of regions c) f.template.items → IsRowIn later regions o (Some r)
+field_row ns later regions t None c r f h is shape row = absurd (let e : Some f ≡ None = is in cc)
+field_row ns later regions t (Some u) c r f h is shape row = record {
+  within = (let l = is.within in omega (arith, shape));
+  shape = ap (shape_in later) shape ∙ is.shape;
+  row = row ∙ ap (λ (qs : List ℕ). row_from qs f.template.items) h.row ∙ is.row;
+}
 
 -- ---- what is there
 
@@ -291,12 +280,3 @@ row_there ns regions (Some t) c h = (t, refl, h)
 pub row_none : (ns : List Node) (regions : List ℕ) (o : Option TypeTree) → IsRowIn ns regions o None → o ≡ None
 row_none ns regions None h = refl
 row_none ns regions (Some t) h = absurd h
-
-pub deref_row : (structs : List Struct) (ns : List Node) (regions : List ℕ) (t u : TypeTree) (c : TypeRow) (r : ℕ)
-    (m : Bool) → t ≡ reference r m u → IsRowOf ns regions u c → IsRowIn ns regions (behind structs Deref t) (Some c)
-deref_row structs ns regions t u c r m is h =
-    subst (λ (z : TypeTree). IsRowIn ns regions (behind structs Deref z) (Some c)) (sym is) h
-
-pub deref_past : (t u : TypeTree) (r : ℕ) (m : Bool) (old new : List ℕ) → t ≡ reference r m u → new ≡ cross r m old
-    → new ≡ past Deref t old
-deref_past t u r m old new is e = e ∙ ap (λ (z : TypeTree). past Deref z old) (sym is)

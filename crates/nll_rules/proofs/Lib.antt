@@ -5,6 +5,7 @@ pub mod AgreeLemmas
 pub mod RowSignLemmas
 pub mod FieldLemmas
 pub mod TypeRowLemmas
+pub mod KnownFieldLemmas
 pub mod KnownLemmas
 pub mod ReborrowLemmas
 pub mod StatementLemmas

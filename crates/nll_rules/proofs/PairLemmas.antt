@@ -35,9 +35,6 @@ adds_swapped p q a b c h k =
 abbrev pub AtOneBelow : ℕ → (ℕ → ℕ × ℕ → Type 0) → ℕ × ℕ → Type 0
 AtOneBelow n kind x = (k : ℕ) × (k < n) × kind k x
 
-pub below_none : (kind : ℕ → ℕ × ℕ → Type 0) (a : List (ℕ × ℕ)) → AddsPairs (AtOneBelow 0 kind) a a
-below_none kind a = adds_none (AtOneBelow 0 kind) a (λ x p. (let l = p.1 in absurd (omega arith)))
-
 pub below_more : (kind : ℕ → ℕ × ℕ → Type 0) (here : ℕ × ℕ → Type 0) (n : ℕ) (a b c : List (ℕ × ℕ))
     → ((x : ℕ × ℕ) → here x ↔ kind n x)
     → AddsPairs (AtOneBelow n kind) a b → AddsPairs here b c → AddsPairs (AtOneBelow (n + 1) kind) a c

@@ -7,7 +7,7 @@ use Rattle.nll_problem.specs.declared.constraint.Constraint.{Constraint}
 use Rattle.nll_problem.specs.declared.error.BuildError.{BuildError}
 use Rattle.nll_types.specs.Types.{TypeTree}
 use Rattle.nll_types.specs.Structs.{Struct}
-use Rattle.nll_statements.specs.Statements.{Statement}
+use Rattle.nll_body.specs.Statements.{Statement}
 use Rattle.nll_body.specs.Bodies.{BodyText, StandsAt, GoesOn}
 use Rattle.nll_rules.specs.Asking.{Asks}
 use Rattle.nll_rules.specs.Pairs.{AddsPairs}

@@ -11,7 +11,6 @@ use Rattle.nll_types.specs.declared.place.Projection.{Projection}
 use Rattle.nll_types.specs.declared.place.Projection.TheVariants.{Deref, Field}
 use Rattle.nll_rules.specs.Reborrows.{RestsOn}
 use Rattle.nll_rules.specs.Walks.{past, rests}
-use Rattle.nll_rules.specs.TypeRows.{form}
 
 -- ---- from a type that may be there
 
@@ -210,16 +209,6 @@ step_on structs ps n d p t u regions l is e =
     ∙ ap (λ (o : Option TypeTree). unwrap_or
     (option_map (λ u. rests structs (drop (n + 1) ps) u (past p t regions)) o) (past p t regions)) e
 
--- a dereference of what is no reference leads nowhere, and goes through nothing
-pub deref_none : (structs : List Struct) (t : TypeTree) (regions : List ℕ) → (form t ≡ 2 → ⊥)
-    → (None ≡ behind structs Deref t) × (regions ≡ past Deref t regions)
-deref_none structs int regions differs = (refl, refl)
-deref_none structs (parameter k) regions differs = (refl, refl)
-deref_none structs (reference r m t) regions differs = absurd (differs refl)
-deref_none structs (tuple ts) regions differs = (refl, refl)
-deref_none structs (named s rs ts) regions differs = (refl, refl)
-deref_none structs (function ts t) regions differs = (refl, refl)
-
 pub rests_from : (structs : List Struct) (variables : List TypeTree) (p : PlacePath) (o : Option TypeTree)
     (regions : List ℕ) → slice_get variables p.variable ≡ o
     → regions ≡ unwrap_or (option_map (λ u. rests structs p.projections u []) o) [] → (a : ℕ)
@@ -247,14 +236,6 @@ pub record IsOnWay (structs : List Struct) (variables : List TypeTree) (place : 
   pub leads : behind_all structs (drop n place.projections) t ≡ type_of structs variables place
   pub rests : rests structs (drop n place.projections) t regions
       ≡ unwrap_or (option_map (λ u. rests structs place.projections u []) (slice_get variables place.variable)) []
-
-pub way_begins : (structs : List Struct) (variables : List TypeTree) (place : PlacePath) (t : TypeTree)
-    → slice_get variables place.variable ≡ Some t → IsOnWay structs variables place 0 t []
-way_begins structs variables place t is = record {
-  leads = ap (option_and_then (behind_all structs place.projections)) (sym is);
-  rests =
-      ap (λ (o : Option TypeTree). unwrap_or (option_map (λ u. rests structs place.projections u []) o) []) (sym is);
-}
 
 pub way_on : (structs : List Struct) (variables : List TypeTree) (place : PlacePath) (n : ℕ) (d p : Projection)
     (t u : TypeTree) (regions new : List ℕ) → n < length place.projections → get_or place.projections n d ≡ p
@@ -287,11 +268,3 @@ way_ends structs variables place n t regions l w =
       λ a. rests_from structs variables place (slice_get variables place.variable) regions refl
           (ap (λ (z : List Projection). rests structs z t regions) (sym e) ∙ w.rests) a,
     )
-
-pub no_variable : (structs : List Struct) (variables : List TypeTree) (place : PlacePath) (regions : List ℕ)
-    → None ≡ slice_get variables place.variable → regions ≡ []
-    → (None ≡ type_of structs variables place) × ((a : ℕ) → Contains regions a ↔ RestsOn structs variables place a)
-no_variable structs variables place regions is none = (
-  ap (option_and_then (behind_all structs place.projections)) is,
-  λ a. rests_from structs variables place None regions (sym is) none a,
-)

@@ -11,14 +11,14 @@ use Rattle.nll_types.specs.Operands.{Operand, constant, copied, moved, operand_t
 use Rattle.nll_types.specs.declared.parameter.Sign.{Sign}
 use Rattle.nll_types.specs.declared.parameter.Sign.TheVariants.{Covariant, Contravariant, Invariant}
 use Rattle.nll_types.proofs.WellFormedLemmas.{place_good}
-use Rattle.nll_statements.specs.Statements.{Statement, assign, borrow, make, read, live, dead, nop, goto, switch, drop, call, return, stop}
+use Rattle.nll_body.specs.Statements.{Statement, assign, borrow, make, read, live, dead, nop, goto, switch, drop, call, return, stop}
 use Rattle.nll_body.specs.Bodies.{BodyText, StandsAt}
 use Rattle.nll_body.specs.Sound.{IsSound}
 use Rattle.nll_body.proofs.RangeLemmas.{region_within, part_good}
 use Rattle.nll_rules.specs.Positions.{Turn, own, target, part, region_argument, type_argument, input, output, HasRegionAt, times, sign_of}
 use Rattle.nll_rules.specs.Subtyping.{IsAsked, SubtypeAsks}
 use Rattle.nll_rules.specs.Reborrows.{RestsOn, prefix}
-use Rattle.nll_statements.proofs.TypePairLemmas.{Meet, pairs_meet}
+use Rattle.nll_body.proofs.TypePairLemmas.{Meet, pairs_meet}
 use Rattle.nll_rules.specs.Asking.{AsksPair, Asks}
 
 -- ---- lists

@@ -1,11 +1,10 @@
 -- The signs of rows, and where in a row the rows of its first parts begin.
-use Rattle.std.proofs.Common.{◌≡◌, ℕ, zero, suc, ◌+◌, ◌-◌, ◌<◌, ◌≤◌, List, [], ◌∷◌, ◌++◌, length, length-append, append-nil, append_assoc, get_or, set, take, drop, refl, sym, ap, ◌∙◌, subst, add-one, arith, ⊎_elim, inl, inr, ◌↔◌, ◌⊎◌, Option, Some, None, Bool, true, false}
-use Rattle.std.specs.Prelude.{MatchOption, is_some, min, slice_get, slice_index_or}
-use Rattle.std.proofs.lemmas.List.{drop-append-le, length-take-le, take_more}
-use Rattle.std.proofs.lemmas.Option.{get_or_from_slice_get, slice_get_within}
-use Rattle.std.proofs.Math.Seq.{drop-cons, drop-append_seam, take-append_seam}
-use Rattle.nll_types.specs.Items.{rows_before}
-use Rattle.nll_types.specs.Rows.{region_row, region_rows}
+use Rattle.std.proofs.Common.{◌≡◌, ℕ, zero, suc, ◌+◌, ◌<◌, ◌≤◌, List, [], ◌∷◌, ◌++◌, length, length-append, append-nil, append_assoc, get_or, set, take, drop, refl, sym, ap, ◌∙◌, subst, add-one, arith, ⊎_elim, inl, inr, ◌↔◌, ◌⊎◌, Option, Some, None, Bool, true, false}
+use Rattle.std.specs.Prelude.{MatchOption, is_some, min, slice_get}
+use Rattle.std.proofs.lemmas.List.{length-take-le, take_more}
+use Rattle.std.proofs.lemmas.Option.{slice_get_within}
+use Rattle.std.proofs.Math.Seq.{drop-cons}
+use Rattle.nll_types.specs.Rows.{region_row, region_rows, rows_before}
 use Rattle.nll_types.specs.Shapes.{Shape, ShapeList, int_shape, parameter_shape, reference_shape, tuple_shape, named_shape, function_shape, no_shape, more_shapes, shape_of, shapes_of}
 use Rattle.nll_types.specs.Structs.{Struct, struct_at}
 use Rattle.nll_types.specs.Table.{Extends, all_at, at, shape_in}

@@ -7,8 +7,8 @@ use Rattle.nll_types.specs.Structs.{Struct}
 use Rattle.nll_types.specs.Places.{PlacePath, type_of, behind}
 use Rattle.nll_types.specs.Operands.{Operand, operand_type, reference_to}
 use Rattle.nll_types.specs.declared.place.Projection.TheVariants.{Field}
-use Rattle.nll_statements.specs.Statements.{Statement, assign, borrow, make, switch, call}
-use Rattle.nll_statements.proofs.TypePairLemmas.{Meet, pairs_meet}
+use Rattle.nll_body.specs.Statements.{Statement, assign, borrow, make, switch, call}
+use Rattle.nll_body.proofs.TypePairLemmas.{Meet, pairs_meet}
 use Rattle.nll_rules.specs.Positions.{Turn, own, HasRegionAt}
 use Rattle.nll_rules.specs.Subtyping.{SubtypeAsks}
 use Rattle.nll_rules.specs.Reborrows.{RestsOn}
@@ -160,12 +160,6 @@ inputs_within structs variables args n k x le p = (let l = get_below args k (p.0
 
 -- ---- pairs of a row
 
-pub both_none : (structs : List Struct) (one : Option TypeTree) (x : ℕ × ℕ) → BothAsk structs one None x → ⊥
-both_none structs one x b = (let e = b.3 in cc)
-
-pub none_both : (structs : List Struct) (other : Option TypeTree) (x : ℕ × ℕ) → BothAsk structs None other x → ⊥
-none_both structs other x b = (let e = b.2 in cc)
-
 pub both_there : (structs : List Struct) (t u : TypeTree) (x : ℕ × ℕ)
     → SubtypeAsks structs t u x ↔ BothAsk structs (Some t) (Some u) x
 both_there structs t u x = (
@@ -173,12 +167,6 @@ both_there structs t u x = (
   λ b. subst (λ (z : TypeTree). SubtypeAsks structs z u x) (sym (some_is t b.0 b.2))
       (subst (λ (z : TypeTree). SubtypeAsks structs b.0 z x) (sym (some_is u b.1 b.3)) b.4),
 )
-
--- where both types are there, what the subtyping asks is all
-pub adds_both : (structs : List Struct) (one other : Option TypeTree) (t u : TypeTree) (a b : List (ℕ × ℕ))
-    → one ≡ Some t → other ≡ Some u
-    → AddsPairs (SubtypeAsks structs t u) a b → AddsPairs (BothAsk structs one other) a b
-adds_both structs one other t u a b e d h = rw (e, d) (adds_same _ _ a b (both_there structs t u) h)
 
 -- the pairs that are appended are those
 pub adds_list : (old new pairs : List (ℕ × ℕ)) → new ≡ old ++ pairs → AddsPairs (Contains pairs) old new

@@ -154,12 +154,6 @@ pub asks_named : (structs : List Struct) (outer : Sign) (s : ℕ) (rs qs : List 
     ↔ SubtypeAsksBehind structs outer (named s rs ts) (named s qs us) x
 asks_named structs outer s rs qs ts us x = (⊎_elim here inside, λ w. back w.0 w.1 w.2 w.3 w.4 w.5)
   where
-    region_sign : ℕ → ℕ → Sign
-    region_sign n k = sign_or (struct_at structs n).regions k Invariant
-
-    type_sign : ℕ → ℕ → Sign
-    type_sign n k = sign_or (struct_at structs n).types k Invariant
-
     here : AtOne (ArgumentAsks (struct_at structs s).regions outer rs qs) x
         → SubtypeAsksBehind structs outer (named s rs ts) (named s qs us) x
     here k = (let y = k.1 in (

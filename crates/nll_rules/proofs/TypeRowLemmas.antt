@@ -1,15 +1,14 @@
 -- Parts of rows.
-use Rattle.std.proofs.Common.{◌≡◌, ℕ, suc, ◌+◌, ◌-◌, ◌<◌, ◌≤◌, List, [], ◌∷◌, ◌++◌, length, take, drop, sym, ap, ◌∙◌, refl, zero, length-append, arith, Some}
-use Rattle.std.specs.Prelude.{slice_get, slice_index_or}
+use Rattle.std.proofs.Common.{◌≡◌, ℕ, suc, ◌+◌, ◌-◌, ◌<◌, ◌≤◌, List, length, take, drop, sym, ap, ◌∙◌, refl, zero, length-append, arith, None, Some}
+use Rattle.std.specs.Prelude.{slice_index_or}
 use Rattle.std.proofs.lemmas.List.{length-take, length-drop, take-take, drop-drop, drop-take}
-use Rattle.std.proofs.lemmas.Option.{get_or_from_slice_get, slice_get_within}
-use Rattle.nll_types.specs.Items.{rows_before}
-use Rattle.nll_types.specs.Rows.{region_row, region_rows}
-use Rattle.nll_types.specs.Shapes.{ShapeList, no_shape, more_shapes, shape_of, shapes_of}
-use Rattle.nll_types.specs.Types.{TypeTree, TypeTrees, none, more, type_at}
-use Rattle.nll_types.proofs.RowPutLemmas.{part_row, part_slice}
+use Rattle.std.proofs.lemmas.Option.{get_or_from_slice_get}
+use Rattle.nll_types.specs.Rows.{region_row, region_rows, rows_before}
+use Rattle.nll_types.specs.Shapes.{shape_of, shapes_of}
+use Rattle.nll_types.specs.Types.{TypeTree, TypeTrees, none, more, type_at, type_count}
+use Rattle.nll_types.proofs.PartRowLemmas.{part_row, part_slice}
 use Rattle.nll_rules.specs.TypeRows.{row_length, starts_from}
-use Rattle.nll_rules.proofs.RowSignLemmas.{end_at, row_length_of, start_at}
+use Rattle.nll_rules.proofs.RowSignLemmas.{end_at, start_at}
 
 -- a part of a part of a list
 pub part_of_part : (xs : List ℕ) (f c i j : ℕ) → i ≤ j → j ≤ length (take c (drop f xs))
@@ -25,10 +24,24 @@ part_of_part xs f c i j l m =
 
 -- ---- parts of tuples
 
-pub ends_within : (starts : List ℕ) (ts : TypeTrees) (k : ℕ) (t : TypeTree) → starts ≡ starts_from 0 (shapes_of ts)
-    → type_at ts k ≡ Some t → k + 1 < length starts
-ends_within starts ts k t at e =
-    slice_get_within starts (k + 1) _ (ap (λ (xs : List ℕ). slice_get xs (k + 1)) at ∙ end_at ts k t e)
+pub type_there : (ts : TypeTrees) (k : ℕ) → k < type_count ts → (t : TypeTree) × (type_at ts k ≡ Some t)
+type_there none k l = absurd (omega arith)
+type_there (more t ts) zero l = (t, refl)
+type_there (more t ts) (suc k) l = type_there ts k (omega arith)
+
+pub no_type : (ts : TypeTrees) (k : ℕ) → type_count ts ≤ k → type_at ts k ≡ None
+no_type none k l = refl
+no_type (more t ts) zero l = absurd (omega arith)
+no_type (more t ts) (suc k) l = no_type ts k (omega arith)
+
+-- there is one place more than there are parts
+pub starts_counted : (starts : List ℕ) (ts : TypeTrees) → starts ≡ starts_from 0 (shapes_of ts)
+    → length starts ≡ type_count ts + 1
+starts_counted starts ts at = ap length at ∙ counted 0 ts
+  where
+    counted : (n : ℕ) (ts : TypeTrees) → length (starts_from n (shapes_of ts)) ≡ type_count ts + 1
+    counted n none = refl
+    counted n (more t ts) = (let e = counted (n + row_length (shape_of t)) ts in omega arith)
 
 -- The row of a part is between these places.
 pub record IsBetween (row : List ℕ) (t : TypeTree) (from end' : ℕ) : Type 0 where

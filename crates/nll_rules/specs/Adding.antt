@@ -14,7 +14,7 @@ use Rattle.nll_problem.specs.declared.error.BuildError.{BuildError}
 use Rattle.nll_problem.specs.declared.error.BuildError.TheVariants.{Limit, Memory}
 use Rattle.nll_problem.specs.declared.error.Kind.TheVariants.{Constraints}
 use Rattle.nll_types.specs.Types.{TypeTree}
-use Rattle.nll_statements.specs.Statements.{Statement}
+use Rattle.nll_body.specs.Statements.{Statement}
 use Rattle.nll_body.specs.Bodies.{BodyText, IsGraphOf, StandsAt}
 use Rattle.nll_rules.specs.Asking.{Asks}
 use Rattle.nll_rules.specs.BodyProblem.{IsAskedAt, HasTooMany}

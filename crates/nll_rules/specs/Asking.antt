@@ -3,8 +3,8 @@
 use Rattle.std.specs.Prelude.{◌≡◌, ◌⊎◌, ℕ, List, Contains, Some}
 use Rattle.nll_types.specs.Types.{TypeTree}
 use Rattle.nll_types.specs.Structs.{Struct}
-use Rattle.nll_statements.specs.Statements.{Statement, borrow, call}
-use Rattle.nll_statements.specs.TypePairs.{type_pairs}
+use Rattle.nll_body.specs.Statements.{Statement, borrow, call}
+use Rattle.nll_body.specs.TypePairs.{type_pairs}
 use Rattle.nll_rules.specs.Subtyping.{SubtypeAsks}
 use Rattle.nll_rules.specs.Reborrows.{RestsOn}
 

@@ -11,7 +11,7 @@ use Rattle.nll_problem.specs.declared.at.At.TheVariants.{All, Point}
 use Rattle.nll_problem.specs.declared.constraint.Constraint.{Constraint}
 use Rattle.nll_problem.specs.declared.error.Kind.TheVariants.{Constraints}
 use Rattle.nll_types.specs.Types.{TypeTree}
-use Rattle.nll_statements.specs.Statements.{Statement}
+use Rattle.nll_body.specs.Statements.{Statement}
 use Rattle.nll_body.specs.Bodies.{BodyText, StandsAt, GoesOn, IsGraphOf}
 use Rattle.nll_live.specs.Live.{IsBaseOf}
 use Rattle.nll_rules.specs.Asking.{Asks}

@@ -8,9 +8,9 @@ use Rattle.nll_types.specs.Operands.{Operand, operand_type}
 use Rattle.nll_types.specs.Rows.{tree_at}
 use Rattle.nll_types.specs.declared.place.Projection.TheVariants.{Field}
 use Rattle.nll_types.specs.declared.typed.Typed.{Typed}
-use Rattle.nll_statements.specs.Flat.{argument_in, operand_in, path_in}
-use Rattle.nll_statements.specs.Typing.{agree}
-use Rattle.nll_statements.specs.declared.flat.FlatOperand.{FlatOperand}
+use Rattle.nll_body.specs.Flat.{argument_in, operand_in, path_in}
+use Rattle.nll_body.specs.Typing.{agree}
+use Rattle.nll_body.specs.declared.flat.FlatOperand.{FlatOperand}
 use Rattle.nll_rules.specs.Knowing.{KnownTypes}
 use Rattle.nll_rules.specs.Pairs.{AddsPairs, BothAsk}
 use Rattle.nll_rules.specs.TypeRows.{IsRowIn}

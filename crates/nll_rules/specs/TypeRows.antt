@@ -1,10 +1,10 @@
 -- Types by their shapes and rows of regions, while a statement is looked at.
 -- Source: project's choice. Only private contracts cite this file.
-use Rattle.std.specs.Prelude.{◌≡◌, ℕ, ◌+◌, ◌-◌, ◌<◌, List, [], ◌∷◌, length, take, drop}
+use Rattle.std.specs.Prelude.{◌≡◌, ℕ, ◌+◌, ◌<◌, List, [], ◌∷◌, length, map, take, drop}
 use Rattle.std.specs.Prelude.{Option, Some, None, option_map, unwrap_or, slice_get, slice_index_or}
 use Rattle.nll_types.specs.Types.{TypeTree, TypeTrees, int, parameter, reference, tuple, named}
 use Rattle.nll_types.specs.Types.{function}
-use Rattle.nll_types.specs.Structs.{Struct, argument}
+use Rattle.nll_types.specs.Structs.{Struct, argument, region_in}
 use Rattle.nll_types.specs.Rows.{region_row}
 use Rattle.nll_types.specs.Shapes.{Shape, ShapeList, int_shape, parameter_shape, reference_shape}
 use Rattle.nll_types.specs.Shapes.{tuple_shape, named_shape, function_shape, no_shape, more_shapes}
@@ -65,18 +65,24 @@ AreKnown known k = (e : ShapeSigns) × (slice_get known k ≡ Some (Some e))
 
 -- the row of the argument for a type parameter, from where it begins to where the next one begins,
 -- and none where there is no such argument
-abbrev pub argument_row : UseRow → ℕ → List ℕ
-argument_row u k =
-    drop (slice_index_or u.starts.now k 0) (take (slice_index_or u.starts.now (k + 1) 0) u.row.now)
+abbrev pub argument_row : UseRow → List ℕ → ℕ → List ℕ
+argument_row u row k =
+    drop (slice_index_or u.starts.now k 0) (take (slice_index_or u.starts.now (k + 1) 0) row)
 
 -- the region arguments
-abbrev pub own_row : UseRow → List ℕ
-own_row u = drop u.regions u.row.now
+abbrev pub own_row : UseRow → List ℕ → List ℕ
+own_row u row = drop u.regions row
 
 -- The row is that of a use of a struct with these region arguments and type arguments.
-pub record IsUseRow (u : UseRow) (rs : List ℕ) (ts : TypeTrees) : Type 0 where
-  pub regions : own_row u ≡ rs
-  pub types : (k : ℕ) → argument_row u k ≡ region_row (argument ts k)
+pub record IsUseRow (u : UseRow) (row rs : List ℕ) (ts : TypeTrees) : Type 0 where
+  pub counted : length row ≡ u.count
+  pub regions : own_row u row ≡ rs
+  pub types : (k : ℕ) → argument_row u row k ≡ region_row (argument ts k)
+
+-- the row that a template makes of a struct's row: 0 stands for 'static, and k + 1 for the region
+-- at the place k of the struct's row
+abbrev pub row_from : List ℕ → List ℕ → List ℕ
+row_from row template = map (region_in row) template
 
 -- ---- a type at hand
 

@@ -7,11 +7,11 @@ ghost use Rattle.nll_types.specs.Places.{behind};
 ghost use Rattle.nll_types.specs.Rows.{HasRow};
 ghost use Rattle.nll_types.specs.Types.{TypeTree};
 ghost use Rattle.nll_types.specs.declared.place.Projection.TheVariants.{Field as field};
-ghost use Rattle.nll_statements.specs.Flat.{argument_in, call_in, make_in, operand_in, path_in};
-ghost use Rattle.nll_statements.specs.Flat.{statement_in};
-ghost use Rattle.nll_statements.specs.Meant.{HasRows, meant_by};
-ghost use Rattle.nll_statements.specs.Statements as spec;
-ghost use Rattle.nll_statements.specs.Typing.{types_agree};
+ghost use Rattle.nll_body.specs.Flat.{argument_in, call_in, make_in, operand_in, path_in};
+ghost use Rattle.nll_body.specs.Flat.{statement_in};
+ghost use Rattle.nll_body.specs.Meant.{HasRows, meant_by};
+ghost use Rattle.nll_body.specs.Statements as spec;
+ghost use Rattle.nll_body.specs.Typing.{types_agree};
 ghost use Rattle.nll_rules.specs.Asking.{Asks};
 ghost use Rattle.nll_rules.specs.Flows.{AddsMet, InputsAgree, IsAtHand, PartsAgree, inputs_of};
 ghost use Rattle.nll_rules.specs.Flows.{place_type, value_type, written_type};
@@ -20,9 +20,9 @@ ghost use Rattle.nll_rules.specs.Pairs.{AddsPairs, AtOne, InputAsks, OneOutlives
 
 use crate::known::Known;
 use crate::type_row::TypeRow;
+use nll_body::{FlatCall, FlatMake, FlatOperand, Stmt};
 use nll_problem::RegionId;
 use nll_sets::Memory;
-use nll_statements::{FlatCall, FlatMake, FlatOperand, Stmt};
 use nll_types::Typed;
 use std::alloc::Global;
 

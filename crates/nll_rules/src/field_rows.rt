@@ -1,11 +1,11 @@
-//! The rows of struct fields' types, with a use's arguments substituted.
+//! Where the regions of a struct's field are in the row of the struct.
 
-ghost use Rattle.std.specs.Prelude.{◌≡◌, ◌++◌, ℕ, List, OnOk, map};
+ghost use Rattle.std.specs.Prelude.{◌≡◌, ◌++◌, ℕ, List, OnOk, length, map};
 ghost use Rattle.nll_types.specs.Rows.{region_row, region_rows};
 ghost use Rattle.nll_types.specs.Structs.{put_in, put_in_all, region_in};
 ghost use Rattle.nll_types.specs.Types.{TypeTrees};
 ghost use Rattle.nll_types.specs.Views.{tree, trees};
-ghost use Rattle.nll_rules.specs.TypeRows.{IsUseRow, argument_row, own_row};
+ghost use Rattle.nll_rules.specs.TypeRows.{IsUseRow, argument_row, own_row, row_from};
 
 use nll_problem::RegionId;
 use nll_sets::Memory;
@@ -15,7 +15,8 @@ use nll_types::Ty;
 /// region arguments.
 #[derive(Clone, Copy)]
 pub(crate) struct UseRow<'a> {
-    pub(crate) row: &'a [RegionId],
+    /// How many regions the row has.
+    pub(crate) count: usize,
     /// Where the rows of the type arguments begin, and the last of them ends.
     pub(crate) starts: &'a [usize],
     /// Where the region arguments begin.
@@ -23,94 +24,101 @@ pub(crate) struct UseRow<'a> {
 }
 
 impl<'a> UseRow<'a> {
-    // What a region of a field's type becomes.
-    fn region(&self, region: RegionId) -> RegionId
-        ensures { result ≡ region_in (own_row self.now) region }
+    // The number of a template for what a region of a field's type becomes.
+    fn region(&self, region: RegionId) -> usize
+        ensures { (row : List ℕ) → length row ≡ self.now.count
+            → region_in row result ≡ region_in (own_row self.now row) region }
     {
         if region.0 == 0 {
-            return RegionId(0);
+            return 0;
         }
         let place = self.regions.saturating_add((region.0 - 1) as usize);
-        if place < self.row.len() {
-            self.row[place]
-        } else {
-            RegionId(0)
-        }
+        if place < self.count { place + 1 } else { 0 }
     }
 
-    // The row of the argument for a type parameter.
-    fn argument(&self, parameter: usize) -> &'a [RegionId]
-        ensures { result.now ≡ argument_row self.now parameter }
+    // Appends the numbers of the regions of the argument for a type parameter.
+    fn push_argument(&self, parameter: usize, template: &mut Vec<usize>) -> Result<(), Memory>
+        ensures { OnOk result ((row : List ℕ) → length row ≡ self.now.count
+            → row_from row template.new.items
+            ≡ row_from row template.old.items ++ argument_row self.now row parameter) }
     {
         let next = parameter.saturating_add(1);
         if next >= self.starts.len() {
-            return &[];
+            return Ok(());
         }
-        let end = self.starts[next].min(self.row.len());
+        let end = self.starts[next].min(self.count);
         let from = self.starts[parameter].min(end);
-        &self.row[from..end]
+        for place in from..end {
+            template.push(place + 1)?;
+        }
+        Ok(())
     }
 }
 
-/// Appends the row of a field's type with the arguments of a use substituted.
+/// Appends to a template what makes the row of a field's type, as it is declared, of the row of
+/// each use of its struct.
 ///
 /// # Cost
-/// Linear in the field's type as it is declared, and in the row (not proved).
+/// Linear in the field's type as it is declared, and in what is appended (not proved).
 #[cycle(field_rows)]
 pub(crate) fn push_field(
     ty: &Ty,
     arguments: &UseRow<'_>,
-    row: &mut Vec<RegionId>,
+    template: &mut Vec<usize>,
 ) -> Result<(), Memory>
-    ensures { OnOk result ((rs : List ℕ) (ts : TypeTrees) → IsUseRow arguments.now rs ts
-        → row.new.items ≡ row.old.items ++ region_row (put_in rs ts (tree ty.now))) }
+    ensures { OnOk result ((row rs : List ℕ) (ts : TypeTrees) → IsUseRow arguments.now row rs ts
+        → row_from row template.new.items
+        ≡ row_from row template.old.items ++ region_row (put_in rs ts (tree ty.now))) }
 {
     match ty {
         Ty::Int => Ok(()),
-        Ty::Parameter(number) => {
-            row.extend_from_slice(arguments.argument(*number))?;
-            Ok(())
-        }
+        Ty::Parameter(number) => arguments.push_argument(*number, template),
         Ty::Reference(region, _, target) => {
-            push_field(target, arguments, row)?;
-            row.push(arguments.region(*region))?;
+            push_field(target, arguments, template)?;
+            template.push(arguments.region(*region))?;
             Ok(())
         }
-        Ty::Tuple(parts) => push_fields(parts.as_slice(), arguments, row),
+        Ty::Tuple(parts) => push_fields(parts.as_slice(), arguments, template),
         Ty::Named(_, regions, parts) => {
-            push_fields(parts.as_slice(), arguments, row)?;
-            push_regions(regions.as_slice(), arguments, row)
+            push_fields(parts.as_slice(), arguments, template)?;
+            push_regions(regions.as_slice(), arguments, template)
         }
         Ty::Function(inputs, output) => {
-            push_fields(inputs.as_slice(), arguments, row)?;
-            push_field(output, arguments, row)
+            push_fields(inputs.as_slice(), arguments, template)?;
+            push_field(output, arguments, template)
         }
     }
 }
 
-// Appends the rows of types, one after another.
+// Appends what makes the rows of types, one after another.
 #[cycle(field_rows)]
-fn push_fields(parts: &[Ty], arguments: &UseRow<'_>, row: &mut Vec<RegionId>) -> Result<(), Memory>
-    ensures { OnOk result ((rs : List ℕ) (ts : TypeTrees) → IsUseRow arguments.now rs ts
-        → row.new.items ≡ row.old.items ++ region_rows (put_in_all rs ts (trees parts.now))) }
+fn push_fields(
+    parts: &[Ty],
+    arguments: &UseRow<'_>,
+    template: &mut Vec<usize>,
+) -> Result<(), Memory>
+    ensures { OnOk result ((row rs : List ℕ) (ts : TypeTrees) → IsUseRow arguments.now row rs ts
+        → row_from row template.new.items
+        ≡ row_from row template.old.items ++ region_rows (put_in_all rs ts (trees parts.now))) }
 {
     for part in parts {
-        push_field(part, arguments, row)?;
+        push_field(part, arguments, template)?;
     }
     Ok(())
 }
 
-// Appends what regions of a field's type become.
+// Appends the numbers of what regions of a field's type become.
 fn push_regions(
     regions: &[RegionId],
     arguments: &UseRow<'_>,
-    row: &mut Vec<RegionId>,
+    template: &mut Vec<usize>,
 ) -> Result<(), Memory>
-    ensures { OnOk result (row.new.items
-        ≡ row.old.items ++ map (region_in (own_row arguments.now)) regions.now) }
+    ensures { OnOk result ((row : List ℕ) → length row ≡ arguments.now.count
+        → row_from row template.new.items ≡ row_from row template.old.items
+        ++ map (region_in (own_row arguments.now row)) regions.now) }
 {
     for region in regions {
-        row.push(arguments.region(*region))?;
+        template.push(arguments.region(*region))?;
     }
     Ok(())
 }

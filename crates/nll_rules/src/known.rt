@@ -1,39 +1,40 @@
 //! What is known of the types of a body.
 
-ghost use Rattle.std.specs.Prelude.{◌≡◌, ◌<◌, All, Bool, IfOk, OnOk, MatchOption, Some, length};
-ghost use Rattle.std.specs.Prelude.{IfSome, map, option_map, slice_get};
+ghost use Rattle.std.specs.Prelude.{◌≡◌, ◌<◌, ℕ, All, Bool, IfOk, IfSome, List, MatchOption, OnOk};
+ghost use Rattle.std.specs.Prelude.{length, map, option_map, slice_get};
 ghost use Rattle.nll_types.specs.Declarations.{structs_of};
 ghost use Rattle.nll_types.specs.Places.{behind};
-ghost use Rattle.nll_types.specs.Rows.{HasRow, tree_at};
+ghost use Rattle.nll_types.specs.Rows.{HasRow, region_row, tree_at};
 ghost use Rattle.nll_types.specs.Shapes.{behind_shape, reference_shape, shape_of};
+ghost use Rattle.nll_types.specs.Structs.{field_type};
 ghost use Rattle.nll_types.specs.Table.{shape_in};
-ghost use Rattle.nll_types.specs.Types.{TypeTree, reference};
+ghost use Rattle.nll_types.specs.Types.{TypeTree, TypeTrees, named, reference, tuple, type_at};
 ghost use Rattle.nll_types.specs.declared.place.Projection.TheVariants.{Field as field};
-ghost use Rattle.nll_rules.specs.Knowing.{Learns};
+ghost use Rattle.nll_rules.specs.Knowing.{IsFieldIn, Learns};
 ghost use Rattle.nll_rules.specs.Pairs.{AddsPairs};
 ghost use Rattle.nll_rules.specs.Subtyping.{SubtypeAsks};
-ghost use Rattle.nll_rules.specs.TypeRows.{IsRowIn, IsRowOf, form, row_length};
+ghost use Rattle.nll_rules.specs.TypeRows.{IsRowIn, IsRowOf, form, row_from, row_length};
 
-use crate::part_rows::{field_row, tuple_part, use_row};
+use crate::fields::{FieldKey, FieldRow, known_field};
+use crate::part_rows::{field_template, tuple_part, use_row};
 use crate::reborrow::ask_reference_rows;
 use crate::row_signs::{SignTable, ask_rows};
 use crate::type_row::TypeRow;
 use indexmap::IndexMap;
-use nll_body::TypedBody;
+use nll_body::{Statements, TypedBody};
 use nll_problem::RegionId;
 use nll_sets::Memory;
-use nll_statements::Statements;
-use nll_types::{FieldUse, Node, Shapes, Typed, part_once};
+use nll_types::{Node, Shapes, Typed, part_once};
 use std::alloc::Global;
 use std::marker::Model;
 
 /// What is known of the types of a body: the shapes of its types and of what lies behind
-/// projections, and the signs of shapes. Each is found once.
+/// projections, the fields of shapes, and the signs of shapes. Each is found once.
 #[derive(Drop)]
 pub(crate) struct Known<'a> {
     body: TypedBody<'a>,
     shapes: Shapes,
-    fields: IndexMap<FieldUse, usize>,
+    fields: IndexMap<FieldKey, FieldRow>,
     signs: SignTable,
 }
 
@@ -42,10 +43,9 @@ impl<'a> Model for Known<'a> {
     ghost use Rattle.std.specs.Coded.{codes, Coded};
     ghost use Rattle.nll_types.specs.TypeCodes.{Step, tree_code, trees_code};
     ghost use Rattle.nll_types.specs.Declarations.{structs_of};
-    ghost use Rattle.nll_types.specs.Memo.{AreRemembered};
     ghost use Rattle.nll_types.specs.Rows.{HasRow, tree_at};
     ghost use Rattle.nll_types.specs.Table.{Extends};
-    ghost use Rattle.nll_rules.specs.Knowing.{KnownTypes};
+    ghost use Rattle.nll_rules.specs.Knowing.{AreFields, KnownTypes};
     ghost use Rattle.nll_rules.specs.TypeRows.{AreSigns};
 
     ghost Value = { KnownTypes };
@@ -67,7 +67,7 @@ impl<'a> Model for Known<'a> {
         All (HasRow k.body.types.now.table.shapes k.body.types.now.regions.items)
         k.body.variables.now
         × Extends k.body.types.now.table.shapes k.shapes
-        × AreRemembered (structs_of k.body.types.now.table.structs) k.shapes k.fields.entries
+        × AreFields (structs_of k.body.types.now.table.structs) k.shapes k.fields.entries
         × AreSigns (structs_of k.body.types.now.table.structs) k.shapes k.signs.known.items };
 }
 
@@ -182,8 +182,34 @@ impl<'a> Known<'a> {
         }
     }
 
-    // The shape of a part of a tuple or of a field of a struct, where there is one.
-    fn part_shape(
+    // The part of a tuple, where it has the part.
+    fn tuple_part(
+        &mut self,
+        alloc: Global,
+        row: TypeRow,
+        place: usize,
+    ) -> Result<Option<TypeRow>, Memory>
+        requires { row.shape < length self.old.table }
+        ensures learns { Learns self.old self.new }
+        ensures row { IfOk result (λ o. (ts : TypeTrees)
+            → IsRowOf self.old.table self.old.regions (tuple ts) row
+            → IsRowIn self.new.table self.new.regions (type_at ts place) o) }
+    {
+        let regions = self.body.types.regions.as_slice();
+        let structs = self.body.types.table.structs();
+        self.signs.learn(alloc, structs, &self.shapes, row.shape)?;
+        let starts = match self.signs.get(row.shape) {
+            Some(known) => known.starts.as_slice(),
+            None => unreachable!(),
+        };
+        let Node::Tuple(parts) = self.shapes.node(row.shape) else {
+            return Ok(None);
+        };
+        Ok(tuple_part(regions, starts, parts.as_slice(), row, place))
+    }
+
+    // The shape of a field of a struct of this shape, where it has the field.
+    fn field_shape(
         &mut self,
         alloc: Global,
         shape: usize,
@@ -196,86 +222,97 @@ impl<'a> Known<'a> {
             ≡ behind_shape self.old.structs (field place) (shape_in self.old.table shape)) }
     {
         let structs = self.body.types.table.structs();
-        part_once(
-            alloc,
-            structs,
-            &mut self.shapes,
-            &mut self.fields,
-            shape,
-            place,
-        )
+        // A field is kept in `fields`, so what this remembers serves no second time.
+        let mut once = IndexMap::new(alloc);
+        let made = part_once(alloc, structs, &mut self.shapes, &mut once, shape, place);
+        // Early drop.
+        drop(once);
+        made
     }
 
-    // The type of this shape that is a part of a tuple or a field of a struct, where there is one.
-    fn part_row(
+    // The template of a field of a struct of this shape, where it has the field.
+    fn template(
         &mut self,
         alloc: Global,
-        row: TypeRow,
         shape: usize,
         place: usize,
-    ) -> Result<Option<TypeRow>, Memory>
-        requires row { row.shape < length self.old.table }
-        requires shape { shape < length self.old.table }
+    ) -> Result<Option<Vec<usize>>, Memory>
+        requires { shape < length self.old.table }
         ensures learns { Learns self.old self.new }
-        ensures row { IfOk result (λ o. (t u : TypeTree)
-            → IsRowOf self.old.table self.old.regions t row
-            → behind self.old.structs (field place) t ≡ Some u
-            → shape_in self.old.table shape ≡ shape_of u
-            → IsRowIn self.new.table self.new.regions (Some u) o) }
+        ensures row { IfOk result (λ o. (s : ℕ) (rs : List ℕ) (ts : TypeTrees)
+            → shape_of (named s rs ts) ≡ shape_in self.old.table shape
+            → option_map (λ v. row_from (region_row (named s rs ts)) v.items) o
+            ≡ option_map region_row (field_type self.old.structs s rs ts place)) }
     {
-        let types = self.body.types;
-        let structs = types.table.structs();
-        let regions = types.regions.as_slice();
-        self.signs.learn(alloc, structs, &self.shapes, row.shape)?;
-        let starts = match self.signs.get(row.shape) {
-            Some(known) => known.starts.as_slice(),
+        let structs = self.body.types.table.structs();
+        self.signs.learn(alloc, structs, &self.shapes, shape)?;
+        let arguments = match self.signs.get(shape) {
+            Some(known) => use_row(known.starts.as_slice(), known.signs.len()),
             None => unreachable!(),
         };
-        match self.shapes.node(row.shape) {
-            Node::Tuple(_) => Ok(tuple_part(regions, starts, row, shape, place)),
-            Node::Named(named, _, _) => {
-                let arguments = use_row(starts, row.regions(regions));
-                match field_row(alloc, structs, *named, &arguments, place)? {
-                    Some(made) => Ok(Some(TypeRow {
-                        shape,
-                        first: 0,
-                        count: made.len(),
-                        made: Some(made),
-                    })),
-                    None => Ok(None),
-                }
-            }
-            _ => Ok(None),
+        let Node::Named(named, _, _) = self.shapes.node(shape) else {
+            return Ok(None);
+        };
+        field_template(alloc, structs, *named, &arguments, place)
+    }
+
+    // What is to be known of a field of a struct of this shape, where it has the field.
+    fn make_field(
+        &mut self,
+        alloc: Global,
+        shape: usize,
+        place: usize,
+    ) -> Result<Option<FieldRow>, Memory>
+        requires { shape < length self.old.table }
+        ensures learns { Learns self.old self.new }
+        ensures field { IfOk result (λ o. (s : ℕ) (rs : List ℕ) (ts : TypeTrees)
+            → shape_of (named s rs ts) ≡ shape_in self.old.table shape
+            → IsFieldIn self.new.table (named s rs ts)
+            (field_type self.old.structs s rs ts place) o) }
+    {
+        let Some(made) = self.field_shape(alloc, shape, place)? else {
+            return Ok(None);
+        };
+        match self.template(alloc, shape, place)? {
+            Some(template) => Ok(Some(FieldRow {
+                shape: made,
+                template,
+            })),
+            None => Ok(None),
         }
     }
 
-    // Like `part_row`, but no row is made where it has no region.
-    fn part_of_shape(
+    // The field of a struct, where it has the field. Its shape and its template are made once.
+    fn field(
         &mut self,
         alloc: Global,
         row: TypeRow,
-        shape: usize,
         place: usize,
     ) -> Result<Option<TypeRow>, Memory>
-        requires row { row.shape < length self.old.table }
-        requires shape { shape < length self.old.table }
+        requires { row.shape < length self.old.table }
         ensures learns { Learns self.old self.new }
-        ensures row { IfOk result (λ o. (t u : TypeTree)
-            → IsRowOf self.old.table self.old.regions t row
-            → behind self.old.structs (field place) t ≡ Some u
-            → shape_in self.old.table shape ≡ shape_of u
-            → IsRowIn self.new.table self.new.regions (Some u) o) }
+        ensures row { IfOk result (λ o. (s : ℕ) (rs : List ℕ) (ts : TypeTrees)
+            → IsRowOf self.old.table self.old.regions (named s rs ts) row
+            → IsRowIn self.new.table self.new.regions
+            (field_type self.old.structs s rs ts place) o) }
     {
-        let count = self.learn(alloc, shape)?;
-        if count == 0 {
-            return Ok(Some(TypeRow {
-                shape,
-                first: 0,
-                count: 0,
-                made: None,
-            }));
+        let regions = self.regions();
+        let sought = FieldKey {
+            shape: row.shape,
+            place,
+        };
+        if let Some(known) = known_field(&self.fields, sought) {
+            let part = known.of(alloc, row.regions(regions))?;
+            return Ok(Some(part));
         }
-        self.part_row(alloc, row, shape, place)
+        match self.make_field(alloc, row.shape, place)? {
+            Some(made) => {
+                let part = made.of(alloc, row.regions(regions))?;
+                self.fields.insert(sought, made)?;
+                Ok(Some(part))
+            }
+            None => Ok(None),
+        }
     }
 
     /// The type of a part of a tuple or of a field of a struct, where there is one.
@@ -291,9 +328,10 @@ impl<'a> Known<'a> {
             → IsRowOf self.old.table self.old.regions t row
             → IsRowIn self.new.table self.new.regions (behind self.old.structs (field place) t) o) }
     {
-        match self.part_shape(alloc, row.shape, place)? {
-            Some(shape) => self.part_of_shape(alloc, row, shape, place),
-            None => Ok(None),
+        match self.shapes.node(row.shape) {
+            Node::Tuple(_) => self.tuple_part(alloc, row, place),
+            Node::Named(_, _, _) => self.field(alloc, row, place),
+            _ => Ok(None),
         }
     }
 

@@ -2,9 +2,10 @@
 //! that its statements ask, by the subtyping of types, by reborrows, and by calls. It knows no
 //! text.
 //!
-//! Reading order: `sign`, `row_signs`, `field_rows`, `type_row`, `part_rows` say what types at hand
-//! are; `reborrow`, `known`, `walk`, `asking` say what a statement asks; `error`, `body_problem`,
-//! `facts`, `constraints`, `laws` put the problem together. The definitions are in specs/.
+//! Reading order: `sign`, `row_signs`, `type_row`, `field_rows`, `part_rows`, `fields` say what
+//! types at hand are; `reborrow`, `known`, `walk`, `asking` say what a statement asks; `error`,
+//! `body_problem`, `facts`, `constraints`, `laws` put the problem together. The definitions are in
+//! specs/.
 #![tactic(auto)]
 
 mod asking;
@@ -13,6 +14,7 @@ mod constraints;
 mod error;
 mod facts;
 mod field_rows;
+mod fields;
 mod known;
 mod laws;
 mod part_rows;

@@ -1,12 +1,13 @@
 //! The rows of parts of tuples and of fields of structs.
 
-ghost use Rattle.std.specs.Prelude.{◌≡◌, ◌++◌, ℕ, List, IfOk, MatchOption, Some, option_map};
+ghost use Rattle.std.specs.Prelude.{◌≡◌, ◌++◌, ℕ, List, IfOk, MatchOption, None, Some};
+ghost use Rattle.std.specs.Prelude.{length, option_map, slice_get};
 ghost use Rattle.nll_types.specs.Declarations.{structs_of};
 ghost use Rattle.nll_types.specs.Rows.{region_row, region_rows};
 ghost use Rattle.nll_types.specs.Shapes.{shapes_of};
 ghost use Rattle.nll_types.specs.Structs as spec;
-ghost use Rattle.nll_types.specs.Types.{TypeTree, TypeTrees, type_at};
-ghost use Rattle.nll_rules.specs.TypeRows.{IsUseRow, row_of, starts_from};
+ghost use Rattle.nll_types.specs.Types.{TypeTree, TypeTrees, type_at, type_count};
+ghost use Rattle.nll_rules.specs.TypeRows.{IsUseRow, row_from, row_of, starts_from};
 
 use crate::field_rows::{UseRow, push_field};
 use crate::type_row::TypeRow;
@@ -15,56 +16,59 @@ use nll_sets::Memory;
 use nll_types::Structs;
 use std::alloc::Global;
 
-/// The part of this shape at a place of a tuple. The rows of the tuple's parts begin at these
-/// places of its row.
+/// The part at a place of a tuple, where it has the part. The tuple's parts have these shapes, and
+/// their rows begin at these places of its row.
 pub(crate) fn tuple_part(
     body: &[RegionId],
     starts: &[usize],
+    parts: &[usize],
     row: TypeRow,
-    shape: usize,
     place: usize,
 ) -> Option<TypeRow>
-    ensures { (ts : TypeTrees) (t : TypeTree) → starts.now ≡ starts_from 0 (shapes_of ts)
-        → row_of body.now row ≡ region_rows ts → type_at ts place ≡ Some t
-        → MatchOption result ⊥
-        (λ r. (r.shape ≡ shape) × (row_of body.now r ≡ region_row t)) }
+    ensures { (ts : TypeTrees) → starts.now ≡ starts_from 0 (shapes_of ts)
+        → length parts.now ≡ type_count ts → row_of body.now row ≡ region_rows ts
+        → MatchOption result (type_at ts place ≡ None)
+        (λ r. (t : TypeTree) × (type_at ts place ≡ Some t)
+        × (slice_get parts.now place ≡ Some r.shape) × (row_of body.now r ≡ region_row t)) }
 {
-    let ends = starts.len();
-    if place >= ends || place + 1 >= ends {
+    if place >= parts.len() || place + 1 >= starts.len() {
         return None;
     }
-    Some(row.slice(body, starts[place], starts[place + 1], shape))
+    Some(row.slice(body, starts[place], starts[place + 1], parts[place]))
 }
 
-/// The row of a use of a struct: the rows of its type arguments begin at these places.
-pub(crate) fn use_row<'a>(starts: &'a [usize], row: &'a [RegionId]) -> UseRow<'a>
-    ensures { (rs : List ℕ) (ts : TypeTrees) → starts.now ≡ starts_from 0 (shapes_of ts)
-        → row.now ≡ region_rows ts ++ rs → IsUseRow result rs ts }
+/// The row of a use of a struct, which has so many regions: the rows of its type arguments begin at
+/// these places.
+pub(crate) fn use_row(starts: &[usize], count: usize) -> UseRow<'_>
+    ensures { (row rs : List ℕ) (ts : TypeTrees) → length row ≡ count
+        → starts.now ≡ starts_from 0 (shapes_of ts) → row ≡ region_rows ts ++ rs
+        → IsUseRow result row rs ts }
 {
     UseRow {
-        row,
+        count,
         starts,
         regions: starts.last().copied().unwrap_or(0),
     }
 }
 
-/// The row of a field of a struct with arguments, where it has the field.
-pub(crate) fn field_row(
+/// The template of a field of a struct, where it has the field: it makes the field's row of the row
+/// of each use of the struct.
+pub(crate) fn field_template(
     alloc: Global,
     structs: &Structs,
     named: usize,
     arguments: &UseRow<'_>,
     place: usize,
-) -> Result<Option<Vec<RegionId>>, Memory>
-    ensures { IfOk result (λ o. (rs : List ℕ) (ts : TypeTrees) → IsUseRow arguments.now rs ts
-        → option_map (λ v. v.items) o ≡ option_map region_row
-        (spec.field_type (structs_of structs.now) named rs ts place)) }
+) -> Result<Option<Vec<usize>>, Memory>
+    ensures { IfOk result (λ o. (row rs : List ℕ) (ts : TypeTrees)
+        → IsUseRow arguments.now row rs ts → option_map (λ v. row_from row v.items) o
+        ≡ option_map region_row (spec.field_type (structs_of structs.now) named rs ts place)) }
 {
     match structs.field(named, place) {
         Some(ty) => {
-            let mut row = Vec::new(alloc);
-            push_field(ty, arguments, &mut row)?;
-            Ok(Some(row))
+            let mut template = Vec::new(alloc);
+            push_field(ty, arguments, &mut template)?;
+            Ok(Some(template))
         }
         None => Ok(None),
     }

@@ -4,7 +4,7 @@ ghost use Rattle.std.specs.Prelude.{◌≡◌, ◌↔◌, ◌<◌, ℕ, length};
 ghost use Rattle.std.specs.Prelude.{Contains, IfOk, OnOk};
 ghost use Rattle.nll_types.specs.Places.{behind, type_of};
 ghost use Rattle.nll_types.specs.Types.{TypeTree};
-ghost use Rattle.nll_statements.specs.Flat.{path_in};
+ghost use Rattle.nll_body.specs.Flat.{path_in};
 ghost use Rattle.nll_rules.specs.Knowing.{Learns};
 ghost use Rattle.nll_rules.specs.Reborrows.{RestsOn};
 ghost use Rattle.nll_rules.specs.TypeRows.{IsRowIn, IsRowOf};

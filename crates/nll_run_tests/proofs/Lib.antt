@@ -1,1 +1,1 @@
-pub mod PlaceLemmas
+pub mod ListLemmas

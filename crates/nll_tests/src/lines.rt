@@ -45,7 +45,7 @@ pub fn write_line(out: &mut Transcript, line: &str, asked: OfLine) {
             )
         }
         OfLine::Capital => out.flag("", is_capital(line.as_bytes()), ""),
-        OfLine::Names | OfLine::Resolved | OfLine::Effects => {
+        OfLine::Names | OfLine::Resolved | OfLine::Effects | OfLine::Exits => {
             type_names::write_in_scope(out, line, asked)
         }
         _ => write_told(out, line.as_bytes(), asked),
@@ -58,8 +58,7 @@ fn write_told(out: &mut Transcript, line: &[u8], asked: OfLine) {
         OfLine::Type => written_types::write_front(out, line),
         OfLine::Function => written_types::write_function_flag(out, line),
         OfLine::First => mir_lines::write_version_flag(out, line),
-        OfLine::Form => mir_lines::write_form(out, line, false),
-        _ => mir_lines::write_form(out, line, true),
+        _ => mir_lines::write_form(out, line),
     }
 }
 

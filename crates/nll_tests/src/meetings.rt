@@ -1,10 +1,16 @@
-//! What is judged where types meet.
-ghost use Rattle.std.specs.Prelude.{◌≡◌, ◌<◌, length};
+//! What is judged where types meet in a statement.
+ghost use Rattle.std.specs.Prelude.{◌≡◌, ◌<◌, ◌∷◌, [], ℕ, IfOk, length};
+ghost use Rattle.nll_types.specs.Rows.{numbers_of};
+ghost use Rattle.nll_types.specs.Table.{AreBelow};
+ghost use Rattle.nll_body.specs.Flat.{statement_in};
+ghost use Rattle.nll_body.specs.Statements.{types_written};
 
 use super::transcript::Transcript;
 use super::type_data::{Step, types_of};
+use nll_body::{FlatCall, Judgement, Places, Slice, Statements, Stmt, judge_statement};
+use nll_core::RegionId;
 use nll_sets::Memory;
-use nll_types::{Judgement, Operand, Place, Projection, Ty, TypeTable, Typed};
+use nll_types::{Operand, Place, Projection, Ty, TypeTable, Typed};
 use smallvec::SmallVec;
 use std::alloc::Global;
 
@@ -15,9 +21,9 @@ pub enum Meeting {
     Assigned,
     /// A reference to the place, `mut` or not, goes to `_0`.
     Borrowed(bool),
-    /// A value of the type of `_0` goes to the place.
+    /// What a call returns, of the type of `_0`, goes to the place.
     Given,
-    /// The place's value is used where the type of `_0` is required.
+    /// The place's value is switched on: an `int` is required.
     Wanted,
     /// Nothing: the place is read.
     Read,
@@ -36,6 +42,42 @@ fn of_shape(shape: usize) -> Typed
     Typed { shape, first: 0 }
 }
 
+// A call without arguments whose result, of a type, goes to a place.
+fn add_call(statements: &mut Statements, ty: Typed, place: &Place) -> Result<Stmt, Memory>
+    ensures { IfOk result (λ s. types_written (statement_in statements.new s) ≡ ty ∷ []) }
+{
+    let none = Slice { first: 0, count: 0 };
+    let call = FlatCall {
+        place: statements.add_place(place)?,
+        arguments: none,
+        result: ty,
+        wheres: none,
+        target: 0,
+        unwind: None,
+    };
+    statements.add_call(call)
+}
+
+// The statement in which they meet, where `_0` has this type.
+fn add_meeting(
+    statements: &mut Statements,
+    meeting: Meeting,
+    first: Typed,
+    place: Place,
+) -> Result<Stmt, Memory>
+    ensures { IfOk result (λ s. (n : ℕ) → first.shape < n
+        → AreBelow n (numbers_of (types_written (statement_in statements.new s)))) }
+{
+    let whole = Place::Whole(0);
+    match meeting {
+        Meeting::Assigned => statements.add_assign(&whole, &Operand::Copy(place)),
+        Meeting::Borrowed(mutable) => statements.add_borrow(&whole, RegionId(0), mutable, &place),
+        Meeting::Given => add_call(statements, first, &place),
+        Meeting::Wanted => statements.add_switch(&Operand::Move(place), &[0]),
+        Meeting::Read => Ok(Stmt::Read(statements.add_place(&place)?)),
+    }
+}
+
 // What is judged of a place, where `_0` and `_1` have types of these shapes.
 fn judged(
     alloc: Global,
@@ -48,19 +90,13 @@ fn judged(
     requires first { first < length table.old.shapes }
     requires second { second < length table.old.shapes }
 {
-    let variables = [of_shape(first), of_shape(second)];
-    let whole = Place::Whole(0);
-    match meeting {
-        Meeting::Assigned => {
-            table.judge_assigned(alloc, &variables, &Operand::Copy(place), &whole)
-        }
-        Meeting::Borrowed(mutable) => {
-            table.judge_borrowed(alloc, &variables, &whole, mutable, &place)
-        }
-        Meeting::Given => table.judge_given(alloc, &variables, first, &place),
-        Meeting::Wanted => table.judge_operand(alloc, &variables, &Operand::Move(place), first),
-        Meeting::Read => table.judge_read(alloc, &variables, &place),
-    }
+    let mut statements = Statements::new(alloc);
+    let statement = add_meeting(&mut statements, meeting, of_shape(first), place)?;
+    let places = Places {
+        variables: &[of_shape(first), of_shape(second)],
+        statements: &statements,
+    };
+    judge_statement(alloc, table, &places, &statement)
 }
 
 // Writes what is judged, with a bar after it.

@@ -1,19 +1,15 @@
-//! Lines of MIR texts, by their forms, and how their statements go on.
+//! Lines of MIR texts, by their forms.
 use super::lines::OfLine;
 use super::rows::Asked::Form;
 use super::rows::{Row, compare_rows, compare_text};
 use super::statement_text::write_statement;
 use super::transcript::Transcript;
 use super::written_types::{write_flag, write_pieces};
-use nll_mir_grammar::{Line, ParameterText, StructText, TypeText, Version, line_of, one_form};
+use nll_mir_grammar::{Line, ParameterText, StructText, Version, line_of, one_form};
 use nll_sets::Memory;
-use nll_statements::Statement;
 use nll_text::{one_token_list, tokens_make_a_line};
 use nll_types::{Parameter, Sign};
 use std::alloc::Global;
-
-// A statement as it is written.
-type Written<'a> = Statement<&'a [u8], TypeText<'a>>;
 
 // The marks of a parameter.
 fn marks_of(parameter: &Parameter) -> &'static str {
@@ -62,36 +58,16 @@ fn write_line(out: &mut Transcript, line: &Line<'_>) {
         }
         Line::Blocks(count) => out.number("blocks ", *count, ""),
         Line::Block(number) => out.number("block ", *number, ""),
-        Line::At(statement) => write_statement(out, None, statement),
+        Line::At(statement) => write_statement(out, statement),
         Line::End => out.say("end"),
     }
 }
 
-// Writes how many edges leave the point of a statement, and whether the block ends with it.
-fn write_exits(out: &mut Transcript, statement: &Written<'_>) {
-    match statement.exits(out.alloc) {
-        Ok(exits) => {
-            out.size("", exits.edges);
-            out.say(if exits.ends { " ends" } else { "" });
-        }
-        Err(_) => out.say("refused"),
-    }
-}
-
-// Writes the form of a line, or how its statement goes on, where it is one.
-fn write_told(out: &mut Transcript, line: &Line<'_>, goes_on: bool) {
-    match line {
-        Line::At(statement) if goes_on => write_exits(out, statement),
-        _ if goes_on => out.say("no statement"),
-        _ => write_line(out, line),
-    }
-}
-
-/// Writes the form of a line in version 2, which has each form, or how its statement goes on.
-pub fn write_form(out: &mut Transcript, line: &[u8], goes_on: bool) {
+/// Writes the form of a line in version 2, which has each form.
+pub fn write_form(out: &mut Transcript, line: &[u8]) {
     match line_of(out.alloc, Version::Second, line) {
         Ok(Some(form)) => {
-            write_told(out, &form, goes_on);
+            write_line(out, &form);
             drop(form);
         }
         Ok(None) => out.say("none"),
@@ -408,36 +384,7 @@ end ~ true true
 end end ~ false false
 ";
 
-// Statements and terminators; and how many edges leave the point of each, and whether the block
-// ends with it.
-const EXITS: &str = "
-_1 = const ~ 1
-_1 = move _3.1 ~ 1
-_2 = &'r mut _1.* ~ 1
-_3 = make (int, int)(copy _1, const) ~ 1
-read _4.0 ~ 1
-live _4 ~ 1
-dead _4 ~ 1
-nop ~ 1
-goto bb0 ~ 1 ends
-switch const bb1 ~ 1 ends
-switch const bb3 bb3 ~ 1 ends
-switch copy _1 bb2 bb1 ~ 2 ends
-switch copy _1 bb1 bb0 bb1 ~ 2 ends
-switch move _1 bb3 bb1 bb0 bb2 ~ 4 ends
-drop _4 -> bb1 ~ 1 ends
-drop _4 -> bb1 unwind bb0 ~ 2 ends
-drop _4 -> bb1 unwind bb1 ~ 1 ends
-_2 = call f(): int where 'a: 'b -> bb1 ~ 1 ends
-_4.0 = call f(copy _1: int, move _3.0: int): int -> bb1 unwind bb0 ~ 2 ends
-_4 = call f(): int -> bb1 unwind bb1 ~ 1 ends
-return ~ 0 ends
-stop ~ 0 ends
-end ~ no statement
-";
-
-// A line has one of the forms, or none; which of them are forms of version 1. Each block to which a
-// statement goes on is one edge.
+// A line has one of the forms, or none; which of them are forms of version 1.
 #[test]
 fn lines_have_forms(rt: HostRuntime) {
     compare_text(&rt, rt.alloc(), OfLine::Form, LINES);
@@ -446,7 +393,6 @@ fn lines_have_forms(rt: HostRuntime) {
     compare_text(&rt, rt.alloc(), OfLine::Form, STRAYS);
     compare_rows(&rt, rt.alloc(), BROKEN);
     compare_text(&rt, rt.alloc(), OfLine::First, VERSIONS);
-    compare_text(&rt, rt.alloc(), OfLine::Exits, EXITS);
     one_form();
     one_token_list();
     tokens_make_a_line();

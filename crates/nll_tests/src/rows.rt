@@ -84,7 +84,7 @@ fn write_told(out: &mut Transcript, says: &str, asked: Asked) {
     match asked {
         Asked::Line(of_line) => write_line(out, says, of_line),
         Asked::Skipped(line) => write_skipped(out, line),
-        Asked::Form(line) => write_form(out, line, false),
+        Asked::Form(line) => write_form(out, line),
         Asked::New(points, universals) => write_new(out, points, universals),
         Asked::Behind(numbers, first, calls) => write_behind(out, numbers, first, calls),
         Asked::Made(numbers, calls, of_problem) => {

@@ -1,10 +1,12 @@
-//! Statements of lines, over the numbers that the names in them stand for.
-use super::transcript::Transcript;
+//! Statements of lines in flat lists, over the numbers that the names in them stand for.
+ghost use Rattle.std.specs.Prelude.{◌+◌, ◌≤◌, IfSome};
+
+use nll_body::{Call, FlatCall, Slice, Statement, Statements, Stmt};
 use nll_core::RegionId;
 use nll_mir_grammar::{Line, TypeText, Version, line_of};
-use nll_resolve::{Scope, resolve};
-use nll_statements::{Call, Make, ResolvedStatement, Statement};
+use nll_mir_text::{Scope, resolve};
 use nll_types::{BodyTypes, Operand, Typed};
+use std::alloc::Global;
 
 // The region of a name, or 99 where the scope has none of that name.
 fn region_of(scope: &Scope<'_>, name: &[u8]) -> RegionId {
@@ -13,7 +15,7 @@ fn region_of(scope: &Scope<'_>, name: &[u8]) -> RegionId {
 
 // The type that a written type means, where each name in it is known.
 fn type_of(
-    out: &mut Transcript,
+    alloc: Global,
     scope: &Scope<'_>,
     types: &mut BodyTypes,
     text: &TypeText<'_>,
@@ -22,126 +24,128 @@ fn type_of(
         return None;
     }
     let mut fits = true;
-    match resolve(out.alloc, scope, text, types, &mut fits) {
-        Ok(ty) => ty,
-        Err(_) => None,
-    }
+    resolve(alloc, scope, text, types, &mut fits).ok()?
 }
 
-// What is made, where each name in its type is known.
-fn make_of(
-    out: &mut Transcript,
+// The part of a list that begins here, and ends where the list does.
+fn slice_to(first: usize, end: usize) -> Option<Slice>
+    ensures { IfSome result (λ s. s.first + s.count ≤ end) }
+{
+    let first = first.min(end);
+    let count = end - first;
+    Slice::of(first, count).ok()
+}
+
+// Adds the arguments of a call, where the names in their types are known.
+fn add_arguments(
+    alloc: Global,
     scope: &Scope<'_>,
     types: &mut BodyTypes,
-    made: Make<TypeText<'_>>,
-) -> Option<ResolvedStatement> {
-    let Make {
-        place,
-        ty: text,
-        operands,
-    } = made;
-    let ty = type_of(out, scope, types, &text)?;
-    let made = Make {
-        place,
-        ty,
-        operands,
-    };
-    Some(Statement::Make(Box::new(out.alloc, made).ok()?))
+    statements: &mut Statements,
+    arguments: &[(Operand, TypeText<'_>)],
+) -> Option<()> {
+    for argument in arguments {
+        let ty = type_of(alloc, scope, types, &argument.1)?;
+        statements.add_argument(&argument.0, ty).ok()?;
+    }
+    Some(())
 }
 
-// The bounds of a call.
-fn bounds_of(
-    out: &mut Transcript,
+// Adds the bounds of a call.
+fn add_bounds(
     scope: &Scope<'_>,
+    statements: &mut Statements,
     bounds: &[(&[u8], &[u8])],
-) -> Vec<(RegionId, RegionId)> {
-    let mut made = Vec::new(out.alloc);
+) -> Option<()> {
     for bound in bounds {
-        let pushed = made.push((region_of(scope, bound.0), region_of(scope, bound.1)));
-        out.note(pushed);
+        let pair = (region_of(scope, bound.0), region_of(scope, bound.1));
+        statements.add_pair(pair).ok()?;
     }
-    made
+    Some(())
 }
 
-// The arguments of a call whose types have known names.
-fn arguments_of(
-    out: &mut Transcript,
+// Adds a call at the next point, where the names in its types are known.
+fn add_call(
+    alloc: Global,
     scope: &Scope<'_>,
     types: &mut BodyTypes,
-    arguments: Vec<(Operand, TypeText<'_>)>,
-) -> Vec<(Operand, Typed)> {
-    let mut made = Vec::new(out.alloc);
-    for (operand, text) in arguments {
-        if let Some(ty) = type_of(out, scope, types, &text) {
-            out.note(made.push((operand, ty)));
-        }
-    }
-    made
-}
-
-// A call, where each name in the type of its result is known.
-fn call_of(
-    out: &mut Transcript,
-    scope: &Scope<'_>,
-    types: &mut BodyTypes,
-    call: Call<&[u8], TypeText<'_>>,
-) -> Option<ResolvedStatement> {
-    let Call {
+    statements: &mut Statements,
+    call: &Call<&[u8], TypeText<'_>>,
+) -> Option<()> {
+    let (argument, pair) = statements.call_counts();
+    add_arguments(alloc, scope, types, statements, call.arguments.as_slice())?;
+    add_bounds(scope, statements, call.wheres.as_slice())?;
+    let result = type_of(alloc, scope, types, &call.result)?;
+    let place = statements.add_place(&call.place).ok()?;
+    let (arguments, pairs) = statements.call_counts();
+    let flat = FlatCall {
         place,
-        arguments,
-        result: text,
-        wheres: bounds,
-        target,
-        unwind,
-    } = call;
-    let result = type_of(out, scope, types, &text)?;
-    let call = Call {
-        place,
-        arguments: arguments_of(out, scope, types, arguments),
+        arguments: slice_to(argument, arguments)?,
         result,
-        wheres: bounds_of(out, scope, bounds.as_slice()),
-        target,
-        unwind,
+        wheres: slice_to(pair, pairs)?,
+        target: call.target,
+        unwind: call.unwind,
     };
-    Some(Statement::Call(Box::new(out.alloc, call).ok()?))
+    let added = statements.add_call(flat).ok()?;
+    statements.push(added).ok()
 }
 
-// A statement over numbers.
-fn resolved(
-    out: &mut Transcript,
+// Adds a statement at the next point, where the names in its types are known.
+fn add_statement(
+    alloc: Global,
     scope: &Scope<'_>,
     types: &mut BodyTypes,
-    statement: Statement<&[u8], TypeText<'_>>,
-) -> Option<ResolvedStatement> {
-    match statement {
-        Statement::Assign(target, operand) => Some(Statement::Assign(target, operand)),
+    statements: &mut Statements,
+    statement: &Statement<&[u8], TypeText<'_>>,
+) -> Option<()> {
+    let added = match statement {
+        Statement::Assign(target, operand) => statements.add_assign(target, operand).ok()?,
         Statement::Borrow(target, region, mutable, source) => {
             let region = region_of(scope, region);
-            Some(Statement::Borrow(target, region, mutable, source))
+            statements
+                .add_borrow(target, region, *mutable, source)
+                .ok()?
         }
-        Statement::Make(made) => make_of(out, scope, types, Box::into_inner(made)),
-        Statement::Read(source) => Some(Statement::Read(source)),
-        Statement::Live(variable) => Some(Statement::Live(variable)),
-        Statement::Dead(variable) => Some(Statement::Dead(variable)),
-        Statement::Nop => Some(Statement::Nop),
-        Statement::Goto(block) => Some(Statement::Goto(block)),
-        Statement::Switch(operand, blocks) => Some(Statement::Switch(operand, blocks)),
-        Statement::Drop(variable, block, unwind) => Some(Statement::Drop(variable, block, unwind)),
-        Statement::Call(call) => call_of(out, scope, types, Box::into_inner(call)),
-        Statement::Return => Some(Statement::Return),
-        Statement::Stop => Some(Statement::Stop),
-    }
+        Statement::Make(made) => {
+            let ty = type_of(alloc, scope, types, &made.ty)?;
+            statements
+                .add_make(&made.place, ty, made.operands.as_slice())
+                .ok()?
+        }
+        Statement::Read(source) => Stmt::Read(statements.add_place(source).ok()?),
+        Statement::Live(variable) => Stmt::Live(*variable),
+        Statement::Dead(variable) => Stmt::Dead(*variable),
+        Statement::Nop => Stmt::Nop,
+        Statement::Goto(block) => Stmt::Goto(*block),
+        Statement::Switch(operand, blocks) => {
+            statements.add_switch(operand, blocks.as_slice()).ok()?
+        }
+        Statement::Drop(variable, block, None) => Stmt::Drop(*variable, *block),
+        Statement::Drop(variable, block, Some(unwind)) => {
+            Stmt::DropUnwind(*variable, *block, *unwind)
+        }
+        Statement::Call(call) => return add_call(alloc, scope, types, statements, call),
+        Statement::Return => Stmt::Return,
+        Statement::Stop => Stmt::Stop,
+    };
+    statements.push(added).ok()
 }
 
-/// The statement that is written in a line, where the names in its types are known.
-pub fn statement_of(
-    out: &mut Transcript,
+/// Adds the statement that is written in a line at the next point, where the names in its types are
+/// known.
+pub fn add_line(
+    alloc: Global,
     scope: &Scope<'_>,
     types: &mut BodyTypes,
+    statements: &mut Statements,
     line: &[u8],
-) -> Option<ResolvedStatement> {
-    match line_of(out.alloc, Version::Second, line) {
-        Ok(Some(Line::At(statement))) => resolved(out, scope, types, statement),
+) -> Option<()> {
+    match line_of(alloc, Version::Second, line) {
+        Ok(Some(Line::At(statement))) => {
+            let added = add_statement(alloc, scope, types, statements, &statement);
+            drop(statement);
+            added
+        }
         _ => None,
     }
 }

@@ -1,79 +1,90 @@
 //! Statements over numbers: what is written in them, and what they do.
 use super::lines::OfLine;
 use super::rows::compare_text;
-use super::statement_names::statement_of;
-use super::statement_text::write_statement;
+use super::statement_names::add_line;
+use super::statement_text::write_flat;
 use super::transcript::Transcript;
-use nll_resolve::Scope;
-use nll_statements::{ResolvedStatement, Statements, Stmt};
+use nll_body::{StatementAt, Statements};
+use nll_mir_text::Scope;
 use nll_types::BodyTypes;
 
 // Writes the variables that a statement uses, that which it defines, and that which it drops.
-fn write_variables(out: &mut Transcript, statements: &Statements, statement: &Stmt) {
+fn write_variables(out: &mut Transcript, at: StatementAt<'_>) {
     let mut used = Vec::new(out.alloc);
-    out.note(statements.uses(statement, &mut used));
+    out.note(at.statements.uses(at.statement, &mut used));
     out.numbers("", used.as_slice());
     drop(used);
-    out.option(" ", statements.defines(statement));
-    out.option(" ", statements.drops(statement));
+    out.option(" ", at.statements.defines(at.statement));
+    out.option(" ", at.statements.drops(at.statement));
 }
 
 // Writes the blocks to which a statement goes on.
-fn write_targets(out: &mut Transcript, statements: &Statements, statement: &Stmt) {
+fn write_targets(out: &mut Transcript, at: StatementAt<'_>) {
     let mut blocks = Vec::new(out.alloc);
-    out.note(statements.targets(statement, &mut blocks));
+    out.note(at.statements.targets(at.statement, &mut blocks));
     out.numbers(" ", blocks.as_slice());
     drop(blocks);
 }
 
-// Writes what the last of these statements does: what it uses, defines and drops, where it goes on,
-// if that is asked, and whether the block ends with it.
-fn write_last(out: &mut Transcript, statements: &Statements, goes_on: bool) {
-    if let Some(last) = statements.len().checked_sub(1) {
-        let statement = statements.at(last);
-        write_variables(out, statements, statement);
-        if goes_on {
-            write_targets(out, statements, statement);
+// Writes how many edges leave the point of a statement, and whether the block ends with it.
+fn write_exits(out: &mut Transcript, at: StatementAt<'_>) {
+    match at.statements.exits(out.alloc, at.statement) {
+        Ok(exits) => {
+            out.size("", exits.edges);
+            out.say(if exits.ends { " ends" } else { "" });
         }
-        out.flag(" ", statements.is_terminator(statement), "");
+        Err(_) => out.say("refused"),
     }
 }
 
-// Writes what a statement does. In the lists it comes twice, so that it has other numbers there
-// than the first of each kind.
-fn write_effects(out: &mut Transcript, statement: &ResolvedStatement, goes_on: bool) {
-    let mut statements = Statements::new(out.alloc);
-    out.note(statements.push(statement));
-    out.note(statements.push(statement));
-    write_last(out, &statements, goes_on);
-    drop(statements);
+// Writes what a statement does: what it uses, defines and drops, where it goes on, if that is
+// asked, and whether the block ends with it.
+fn write_effects(out: &mut Transcript, at: StatementAt<'_>, goes_on: bool) {
+    write_variables(out, at);
+    if goes_on {
+        write_targets(out, at);
+    }
+    out.flag(" ", at.statements.is_terminator(at.statement), "");
 }
 
-/// Writes the statement of a line over numbers, and what it does.
-pub fn write_resolved(out: &mut Transcript, scope: &Scope<'_>, line: &[u8]) {
-    let mut types = BodyTypes::new(out.alloc);
-    match statement_of(out, scope, &mut types, line) {
-        Some(statement) => {
-            write_statement(out, Some(&types), &statement);
+// Writes what is asked of a statement.
+fn write_told(out: &mut Transcript, at: StatementAt<'_>, asked: OfLine) {
+    match asked {
+        OfLine::Exits => write_exits(out, at),
+        OfLine::Effects => write_effects(out, at, true),
+        _ => {
+            write_flat(out, at);
             out.say(" ");
-            write_effects(out, &statement, false);
-            drop(statement);
+            write_effects(out, at, false);
         }
-        None => out.say("no statement"),
     }
-    drop(types);
 }
 
-/// Writes what the statement of a line does, and where it goes on.
-pub fn write_done(out: &mut Transcript, scope: &Scope<'_>, line: &[u8]) {
-    let mut types = BodyTypes::new(out.alloc);
-    match statement_of(out, scope, &mut types, line) {
-        Some(statement) => {
-            write_effects(out, &statement, true);
-            drop(statement);
+// Writes what is asked of the last of these statements.
+fn write_last(out: &mut Transcript, types: &BodyTypes, statements: &Statements, asked: OfLine) {
+    match statements.len().checked_sub(1) {
+        Some(last) => {
+            let statement = statements.at(last);
+            let at = StatementAt {
+                statement,
+                statements,
+                types,
+            };
+            write_told(out, at, asked);
         }
         None => out.say("no statement"),
     }
+}
+
+/// Writes what is asked of the statement of a line. In the lists it comes twice, so that it has
+/// other numbers there than the first of each kind.
+pub fn write_asked(out: &mut Transcript, scope: &Scope<'_>, line: &[u8], asked: OfLine) {
+    let mut types = BodyTypes::new(out.alloc);
+    let mut statements = Statements::new(out.alloc);
+    let _ = add_line(out.alloc, scope, &mut types, &mut statements, line);
+    let _ = add_line(out.alloc, scope, &mut types, &mut statements, line);
+    write_last(out, &types, &statements, asked);
+    drop(statements);
     drop(types);
 }
 
@@ -170,11 +181,41 @@ stop ~ [] None None [] true
 end ~ no statement
 ";
 
-// Each kind of statement is resolved as it is written, and does what it should.
+// Statements and terminators; and how many edges leave the point of each, and whether the block
+// ends with it.
+const EXITS: &str = "
+_1 = const ~ 1
+_1 = move _3.1 ~ 1
+_2 = &'r mut _1.* ~ 1
+_3 = make (int, int)(copy _1, const) ~ 1
+read _4.0 ~ 1
+live _4 ~ 1
+dead _4 ~ 1
+nop ~ 1
+goto bb0 ~ 1 ends
+switch const bb1 ~ 1 ends
+switch const bb3 bb3 ~ 1 ends
+switch copy _1 bb2 bb1 ~ 2 ends
+switch copy _1 bb1 bb0 bb1 ~ 2 ends
+switch move _1 bb3 bb1 bb0 bb2 ~ 4 ends
+drop _4 -> bb1 ~ 1 ends
+drop _4 -> bb1 unwind bb0 ~ 2 ends
+drop _4 -> bb1 unwind bb1 ~ 1 ends
+_2 = call f(): int where 'a: 'b -> bb1 ~ 1 ends
+_4.0 = call f(copy _1: int, move _3.0: int): int -> bb1 unwind bb0 ~ 2 ends
+_4 = call f(): int -> bb1 unwind bb1 ~ 1 ends
+return ~ 0 ends
+stop ~ 0 ends
+end ~ no statement
+";
+
+// Each kind of statement is resolved as it is written, and does what it should. Each block to which
+// a statement goes on is one edge.
 #[test]
 fn statements_are_resolved(rt: HostRuntime) {
     compare_text(&rt, rt.alloc(), OfLine::Resolved, STATEMENTS);
     compare_text(&rt, rt.alloc(), OfLine::Resolved, MADE);
     compare_text(&rt, rt.alloc(), OfLine::Resolved, CALLS);
     compare_text(&rt, rt.alloc(), OfLine::Effects, EFFECTS);
+    compare_text(&rt, rt.alloc(), OfLine::Exits, EXITS);
 }

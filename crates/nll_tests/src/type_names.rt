@@ -6,7 +6,7 @@ use super::statements;
 use super::transcript::Transcript;
 use nll_format::Names;
 use nll_mir_grammar::{TypeText, type_at};
-use nll_resolve::{Scope, resolve};
+use nll_mir_text::{Scope, resolve};
 use nll_types::{BodyTypes, Typed};
 
 // A table of names.
@@ -72,8 +72,7 @@ fn kinds(out: &mut Transcript) -> Vec<Vec<bool>> {
 fn write_asked(out: &mut Transcript, scope: &Scope<'_>, line: &str, asked: OfLine) {
     match asked {
         OfLine::Names => write_front(out, scope, line.as_bytes()),
-        OfLine::Effects => statements::write_done(out, scope, line.as_bytes()),
-        _ => statements::write_resolved(out, scope, line.as_bytes()),
+        _ => statements::write_asked(out, scope, line.as_bytes(), asked),
     }
 }
 

@@ -18,7 +18,6 @@ pub mod MemoLemmas
 pub mod SameShapeLemmas
 pub mod WayLemmas
 pub mod NumberLemmas
-pub mod MeetingLemmas
 pub mod RowLemmas
-pub mod RowPutLemmas
+pub mod PartRowLemmas
 pub mod FillLemmas

@@ -5,7 +5,7 @@ use Rattle.nll_types.specs.Types.{TypeTree}
 use Rattle.nll_types.specs.Rows.{numbers_of}
 use Rattle.nll_types.specs.Shapes.{shape_of}
 use Rattle.nll_types.specs.Table.{Extends, AreBelow, shape_in}
-use Rattle.nll_types.specs.Judging.{HaveShapes}
+use Rattle.nll_types.specs.Tables.{HaveShapes}
 use Rattle.nll_types.specs.declared.node.Node.{Node}
 use Rattle.nll_types.specs.declared.typed.Typed.{Typed}
 

@@ -9,7 +9,7 @@ use Rattle.nll_types.specs.Types.{TypeTree, TypeTrees, int, parameter, reference
 use Rattle.nll_types.specs.Structs.{Struct, IsWellFormed, AreWellFormed}
 use Rattle.nll_types.specs.Shapes.{Shape, shape_of, shapes_of}
 use Rattle.nll_types.specs.Table.{Extends, AreBelow}
-use Rattle.nll_types.specs.Judging.{HaveShapes}
+use Rattle.nll_types.specs.Tables.{HaveShapes}
 use Rattle.nll_types.specs.Rows.{region_row, region_rows, filled, all_filled, tree_at, IsTyped, HasRow, numbers_of}
 use Rattle.nll_types.specs.declared.node.Node.{Node}
 use Rattle.nll_types.specs.declared.typed.Typed.{Typed}

@@ -13,7 +13,4 @@ pub mod Declarations
 pub mod Collecting
 pub mod Grown
 pub mod Rows
-pub mod Items
 pub mod TypeCodes
-pub mod Judging
-pub mod Found

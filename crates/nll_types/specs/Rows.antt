@@ -1,7 +1,7 @@
 -- Types as shapes and rows of regions: a type is its shape filled with its row.
 -- Source: project's choice.
-use Rattle.std.specs.Prelude.{◌≡◌, ◌<◌, ◌≤◌, ℕ, List, [], ◌∷◌, ◌++◌, map, take, drop, length}
-use Rattle.std.specs.Prelude.{slice_index_or}
+use Rattle.std.specs.Prelude.{◌≡◌, ◌<◌, ◌≤◌, ℕ, zero, suc, ◌+◌, List, [], ◌∷◌, ◌++◌, map, take, drop}
+use Rattle.std.specs.Prelude.{length, slice_index_or}
 use Rattle.nll_sets.specs.Prefix.{IsPrefix}
 use Rattle.nll_types.specs.Types.{TypeTree, TypeTrees, int, parameter, reference, tuple, named}
 use Rattle.nll_types.specs.Types.{function, none, more}
@@ -26,6 +26,12 @@ abbrev mutual
   pub region_rows : TypeTrees → List ℕ
   region_rows none = []
   region_rows (more t ts) = region_row t ++ region_rows ts
+
+-- how many regions the rows of the first types have
+abbrev pub rows_before : TypeTrees → ℕ → ℕ
+rows_before ts zero = 0
+rows_before none (suc k) = 0
+rows_before (more t ts) (suc k) = length (region_row t) + rows_before ts k
 
 abbrev mutual
   -- The type of this shape whose regions are the first of these, in the order of a row; and the

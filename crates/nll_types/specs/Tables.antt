@@ -1,7 +1,9 @@
 -- The structs and the shapes of a body.
 -- Source: project's choice.
-use Rattle.std.specs.Prelude.{◌≡◌, List}
-use Rattle.nll_types.specs.Table.{Extends}
+use Rattle.std.specs.Prelude.{◌≡◌, ℕ, List, map}
+use Rattle.nll_types.specs.Shapes.{shape_of}
+use Rattle.nll_types.specs.Table.{Extends, shape_in}
+use Rattle.nll_types.specs.Types.{TypeTree}
 use Rattle.nll_types.specs.declared.node.Node.{Node}
 use Rattle.nll_types.specs.declared.structs.Declaration.{Declaration}
 
@@ -14,3 +16,7 @@ pub record Tables : Type 0 where
 pub record AddsShapes (old new : Tables) : Type 0 where
   pub structs : new.structs ≡ old.structs
   pub extends : Extends old.shapes new.shapes
+
+-- the numbers are those of the shapes of these types
+abbrev pub HaveShapes : List Node → List ℕ → List TypeTree → Type 0
+HaveShapes ns numbers types = map (shape_in ns) numbers ≡ map shape_of types

@@ -6,11 +6,8 @@ mod copies;
 mod drop_regions;
 mod drop_search;
 mod drop_sources;
-mod found;
-mod judgement;
 mod laws;
 mod limits;
-mod meetings;
 mod memo;
 mod node;
 mod operand;
@@ -30,7 +27,6 @@ mod typed;
 
 pub use body_types::BodyTypes;
 pub use copies::copy;
-pub use judgement::Judgement;
 pub use laws::{
     arguments_of_types_and_shapes_agree, projections_of_types_and_shapes_agree,
     same_shape_means_equal_shapes, types_are_as_large_as_shapes, types_of_places_are_well_formed,

@@ -1,7 +1,7 @@
 use Rattle.std.proofs.Common.{◌≡◌, Contains, inr, subst}
 use Rattle.std.proofs.lemmas.Result.{on_ok_weaker}
-use Rattle.nll_statements.specs.Effects.{targets}
-use Rattle.nll_statements.specs.Flat.{statement_in}
+use Rattle.nll_body.specs.Effects.{targets}
+use Rattle.nll_body.specs.Flat.{statement_in}
 use Rattle.nll_body.specs.Edges.{LeadsTo}
 use Rattle.nll_body.specs.Making.{AddsTargets}
 use Rattle.nll_body.proofs.PointLemmas.{targets_listed, terminator_edges}

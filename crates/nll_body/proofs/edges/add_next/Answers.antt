@@ -1,8 +1,8 @@
 use Rattle.std.proofs.Common.{◌+◌, inl, refl, sym, ap, ◌∙◌, arith}
 use Rattle.std.proofs.lemmas.Bool.{false≢true}
 use Rattle.std.proofs.lemmas.Result.{on_ok_weaker}
-use Rattle.nll_statements.specs.Flat.{statement_in}
-use Rattle.nll_statements.specs.Statements.{is_terminator}
+use Rattle.nll_body.specs.Flat.{statement_in}
+use Rattle.nll_body.specs.Statements.{is_terminator}
 use Rattle.nll_body.proofs.PointLemmas.{other_point, return_point, statement_edge}
 use Rattle.nll_body.proofs.edges.add_next.Goals as goal
 

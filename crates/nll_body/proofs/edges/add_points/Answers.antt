@@ -1,6 +1,6 @@
 use Rattle.std.proofs.Common.{◌≡◌, ◌<◌, subst, sym}
 use Rattle.std.specs.Prelude.{Some, slice_get}
-use Rattle.nll_statements.specs.Flat.{statement_in, statements_in}
+use Rattle.nll_body.specs.Flat.{statement_in, statements_in}
 use Rattle.nll_body.proofs.GraphLemmas.{points_step, points_room}
 use Rattle.nll_body.proofs.MeantLemmas.{mapped_at}
 use Rattle.nll_body.proofs.edges.add_points.Goals as goal

@@ -1,4 +1,4 @@
-use Rattle.nll_statements.specs.Flat.{statements_in}
+use Rattle.nll_body.specs.Flat.{statements_in}
 use Rattle.nll_body.specs.Making.{HasPoints}
 use Rattle.nll_body.proofs.edges.add_points.Given as goal
 

@@ -1,5 +1,5 @@
 use Rattle.std.proofs.Common.{List, ◌++◌, ℕ, Contains, ap, ◌∙◌}
-use Rattle.nll_statements.specs.Effects.{variables_used}
+use Rattle.nll_body.specs.Effects.{variables_used}
 use Rattle.nll_live.specs.Live.{UsesAt}
 use Rattle.nll_live.proofs.GatheringLemmas.{lists_as, uses_are}
 use Rattle.nll_live.proofs.points_by_variable.list_uses_of.Goals as goal

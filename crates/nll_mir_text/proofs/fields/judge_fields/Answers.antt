@@ -1,6 +1,6 @@
 use Rattle.std.proofs.Common.{sym, ap, ◌∙◌}
 use Rattle.nll_types.specs.Shapes.{shape_of}
-use Rattle.nll_resolve.specs.Naming.{is_known, has_arguments, all_meant, meant}
+use Rattle.nll_mir_text.specs.Naming.{is_known, has_arguments, all_meant, meant}
 use Rattle.nll_mir_grammar.specs.Tuples.{parts}
 use Rattle.nll_mir_text.proofs.fields.judge_fields.Goals as goal
 

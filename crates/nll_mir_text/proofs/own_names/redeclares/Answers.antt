@@ -1,7 +1,7 @@
 use Rattle.std.proofs.Common.{◌∙◌, ◌∷◌, map, sym}
 use Rattle.std.proofs.lemmas.Bool.{or_parts}
 use Rattle.nll_mir_grammar.specs.Lines.{parameter_of}
-use Rattle.nll_resolve.specs.Naming.{is_among}
+use Rattle.nll_mir_text.specs.Naming.{is_among}
 use Rattle.nll_mir_text.specs.MirFaults.{has_repeats}
 use Rattle.nll_mir_text.specs.StructLines.{region_names, type_names}
 use Rattle.nll_mir_text.proofs.OwnLemmas.{none_redeclared, not_among, taken_any}

@@ -1,126 +1,71 @@
-use Rattle.std.proofs.Common.{refl, sym}
-use Rattle.nll_resolve.specs.Resolution.{scope_of}
-use Rattle.nll_mir_text.proofs.CallLemmas.{adds_same}
-use Rattle.nll_mir_text.proofs.ResolvedLemmas.{and_true, borrow_resolved, borrow_fits, none}
+use Rattle.std.proofs.Common.{ap, refl}
+use Rattle.nll_body.specs.Statements.{read}
+use Rattle.nll_body.proofs.FlatLemmas.{places_grow}
+use Rattle.nll_mir_text.specs.Resolution.{scope_of}
+use Rattle.nll_mir_text.specs.ResolvedStatements.{as_written}
+use Rattle.nll_mir_text.proofs.ResolvedLemmas.{adds_same, grows_same, put, IsPut}
 use Rattle.nll_mir_text.proofs.resolution.resolve_statement.Goals as goal
+use Rattle.nll_mir_text.proofs.resolution.resolve_statement.Goals.{in-Assign+in_ok-made-in-Assign, in-Borrow+in-Some+in_ok-made-in-Borrow, in-Read+in_ok-add_place-in-Read, in-Live, in-Dead, in-Nop, in-Goto, in-Switch+in_ok-made-in-Switch, in-Drop-default-default-None, in-Drop-default-default-Some, in-Return, in-Stop}
 
-pub returns-in-Assign-clause-adds : goal.returns-in-Assign-clause-adds
-returns-in-Assign-clause-adds c = adds_same c.args.types.now
+is_put : (c : goal.Joined-statement) → IsPut (scope_of c.args.scope.now) (as_written c.args.statement.now)
+    c.args.types.now c.args.statements.now c.match-statement.statements c.match-statement.made
+is_put c =
+    let s = scope_of c.args.scope.now in
+    let types = c.args.types.now in
+    elim c.match-statement.branch [
+      | in-Assign+in_ok-made-in-Assign w ↦
+          rw (w.statements-is, w.made-is, w.in-Assign.is)
+          (put s _ types _ _ _ _ w.in_ok-made-in-Assign.ensures.grows w.in_ok-made-in-Assign.ensures.flat refl refl refl
+          refl)
+      | in-Borrow+in-Some+in_ok-made-in-Borrow w ↦
+          rw (w.statements-is, w.made-is, w.in-Borrow.is)
+          (put s _ types _ _ _ _ w.in_ok-made-in-Borrow.ensures.grows w.in_ok-made-in-Borrow.ensures.flat
+          (rw w.in-Some.ensures.0 refl) refl refl (rw w.in-Some.ensures.1 refl))
+      | in-Read+in_ok-add_place-in-Read w ↦
+          rw (w.statements-is, w.made-is, w.in-Read.is)
+          (put s _ types _ _ _ _ (places_grow _ _ w.in_ok-add_place-in-Read.ensures.places)
+          (w.in_ok-add_place-in-Read.ensures.number.0, ap read w.in_ok-add_place-in-Read.ensures.number.1) refl
+          refl refl refl)
+      | in-Live w ↦
+          rw (w.statements-is, w.made-is, w.in-Live.is)
+          (put s _ types _ _ _ _ (grows_same _) (tt, refl) refl refl refl refl)
+      | in-Dead w ↦
+          rw (w.statements-is, w.made-is, w.in-Dead.is)
+          (put s _ types _ _ _ _ (grows_same _) (tt, refl) refl refl refl refl)
+      | in-Nop w ↦
+          rw (w.statements-is, w.made-is, w.in-Nop.is)
+          (put s _ types _ _ _ _ (grows_same _) (tt, refl) refl refl refl refl)
+      | in-Goto w ↦
+          rw (w.statements-is, w.made-is, w.in-Goto.is)
+          (put s _ types _ _ _ _ (grows_same _) (tt, refl) refl refl refl refl)
+      | in-Switch+in_ok-made-in-Switch w ↦
+          rw (w.statements-is, w.made-is, w.in-Switch.is)
+          (put s _ types _ _ _ _ w.in_ok-made-in-Switch.ensures.grows
+          (rw w.as_slice.ensures.value at w.in_ok-made-in-Switch.ensures.flat) refl refl refl refl)
+      | in-Drop-default-default-None w ↦
+          let unwind = rw w.in-Drop-default-default-None.is at w.in-Drop-default-default-None.field-2-is in
+          rw (w.statements-is, w.made-is, w.in-Drop-default-default-None.is, unwind)
+          (put s _ types _ _ _ _ (grows_same _) (tt, refl) refl refl refl refl)
+      | in-Drop-default-default-Some w ↦
+          let unwind = rw w.in-Drop-default-default-Some.is at w.in-Drop-default-default-Some.field-2-is in
+          rw (w.statements-is, w.made-is, w.in-Drop-default-default-Some.is, unwind)
+          (put s _ types _ _ _ _ (grows_same _) (tt, refl) refl refl refl refl)
+      | in-Return w ↦
+          rw (w.statements-is, w.made-is, w.in-Return.is)
+          (put s _ types _ _ _ _ (grows_same _) (tt, refl) refl refl refl refl)
+      | in-Stop w ↦
+          rw (w.statements-is, w.made-is, w.in-Stop.is)
+          (put s _ types _ _ _ _ (grows_same _) (tt, refl) refl refl refl refl)
+    ]
 
-pub returns-in-Assign-clause-made : goal.returns-in-Assign-clause-made
-returns-in-Assign-clause-made c = rw c.in-Assign.is (record { known = refl; rows = none _; meant = refl })
+pub returns-clause-adds : goal.returns-clause-adds
+returns-clause-adds c = adds_same c.args.types.now
 
-pub returns-in-Assign-clause-fits : goal.returns-in-Assign-clause-fits
-returns-in-Assign-clause-fits c = rw c.in-Assign.is (sym (and_true c.args.fits.now))
+pub returns-clause-grows : goal.returns-clause-grows
+returns-clause-grows c = (is_put c).grows
 
-pub returns-in-Borrow-clause-adds : goal.returns-in-Borrow-clause-adds
-returns-in-Borrow-clause-adds c = adds_same c.args.types.now
+pub returns-clause-made : goal.returns-clause-made
+returns-clause-made c = (is_put c).of
 
-pub returns-in-Borrow-clause-made : goal.returns-in-Borrow-clause-made
-returns-in-Borrow-clause-made c =
-    rw c.in-Borrow.is (borrow_resolved (scope_of c.args.scope.now) c.args.types.now c.in-Borrow.target
-    c.in-Borrow.region c.in-Borrow.mutable c.in-Borrow.source c.resolve_borrow.result c.resolve_borrow.ensures)
-
-pub returns-in-Borrow-clause-fits : goal.returns-in-Borrow-clause-fits
-returns-in-Borrow-clause-fits c =
-    rw c.in-Borrow.is (borrow_fits (scope_of c.args.scope.now) c.in-Borrow.target
-    c.in-Borrow.region c.in-Borrow.mutable c.in-Borrow.source c.args.fits.now c.resolve_borrow.result)
-
-pub returns-in-Make-clause-adds : goal.returns-in-Make-clause-adds
-returns-in-Make-clause-adds c = c.resolve_make.ensures.adds
-
-pub returns-in-Make-clause-made : goal.returns-in-Make-clause-made
-returns-in-Make-clause-made c = rw c.in-Make.is c.resolve_make.ensures.made
-
-pub returns-in-Make-clause-fits : goal.returns-in-Make-clause-fits
-returns-in-Make-clause-fits c = rw c.in-Make.is c.resolve_make.ensures.fits
-
-pub returns-in-Read-clause-adds : goal.returns-in-Read-clause-adds
-returns-in-Read-clause-adds c = adds_same c.args.types.now
-
-pub returns-in-Read-clause-made : goal.returns-in-Read-clause-made
-returns-in-Read-clause-made c = rw c.in-Read.is (record { known = refl; rows = none _; meant = refl })
-
-pub returns-in-Read-clause-fits : goal.returns-in-Read-clause-fits
-returns-in-Read-clause-fits c = rw c.in-Read.is (sym (and_true c.args.fits.now))
-
-pub returns-in-Live-clause-adds : goal.returns-in-Live-clause-adds
-returns-in-Live-clause-adds c = adds_same c.args.types.now
-
-pub returns-in-Live-clause-made : goal.returns-in-Live-clause-made
-returns-in-Live-clause-made c = rw c.in-Live.is (record { known = refl; rows = none _; meant = refl })
-
-pub returns-in-Live-clause-fits : goal.returns-in-Live-clause-fits
-returns-in-Live-clause-fits c = rw c.in-Live.is (sym (and_true c.args.fits.now))
-
-pub returns-in-Dead-clause-adds : goal.returns-in-Dead-clause-adds
-returns-in-Dead-clause-adds c = adds_same c.args.types.now
-
-pub returns-in-Dead-clause-made : goal.returns-in-Dead-clause-made
-returns-in-Dead-clause-made c = rw c.in-Dead.is (record { known = refl; rows = none _; meant = refl })
-
-pub returns-in-Dead-clause-fits : goal.returns-in-Dead-clause-fits
-returns-in-Dead-clause-fits c = rw c.in-Dead.is (sym (and_true c.args.fits.now))
-
-pub returns-in-Nop-clause-adds : goal.returns-in-Nop-clause-adds
-returns-in-Nop-clause-adds c = adds_same c.args.types.now
-
-pub returns-in-Nop-clause-made : goal.returns-in-Nop-clause-made
-returns-in-Nop-clause-made c = rw c.in-Nop.is (record { known = refl; rows = none _; meant = refl })
-
-pub returns-in-Nop-clause-fits : goal.returns-in-Nop-clause-fits
-returns-in-Nop-clause-fits c = rw c.in-Nop.is (sym (and_true c.args.fits.now))
-
-pub returns-in-Goto-clause-adds : goal.returns-in-Goto-clause-adds
-returns-in-Goto-clause-adds c = adds_same c.args.types.now
-
-pub returns-in-Goto-clause-made : goal.returns-in-Goto-clause-made
-returns-in-Goto-clause-made c = rw c.in-Goto.is (record { known = refl; rows = none _; meant = refl })
-
-pub returns-in-Goto-clause-fits : goal.returns-in-Goto-clause-fits
-returns-in-Goto-clause-fits c = rw c.in-Goto.is (sym (and_true c.args.fits.now))
-
-pub returns-in-Switch-clause-adds : goal.returns-in-Switch-clause-adds
-returns-in-Switch-clause-adds c = adds_same c.args.types.now
-
-pub returns-in-Switch-clause-made : goal.returns-in-Switch-clause-made
-returns-in-Switch-clause-made c = rw c.in-Switch.is (record { known = refl; rows = none _; meant = refl })
-
-pub returns-in-Switch-clause-fits : goal.returns-in-Switch-clause-fits
-returns-in-Switch-clause-fits c = rw c.in-Switch.is (sym (and_true c.args.fits.now))
-
-pub returns-in-Drop-clause-adds : goal.returns-in-Drop-clause-adds
-returns-in-Drop-clause-adds c = adds_same c.args.types.now
-
-pub returns-in-Drop-clause-made : goal.returns-in-Drop-clause-made
-returns-in-Drop-clause-made c = rw c.in-Drop.is (record { known = refl; rows = none _; meant = refl })
-
-pub returns-in-Drop-clause-fits : goal.returns-in-Drop-clause-fits
-returns-in-Drop-clause-fits c = rw c.in-Drop.is (sym (and_true c.args.fits.now))
-
-pub returns-in-Call-clause-adds : goal.returns-in-Call-clause-adds
-returns-in-Call-clause-adds c = c.resolve_called.ensures.adds
-
-pub returns-in-Call-clause-made : goal.returns-in-Call-clause-made
-returns-in-Call-clause-made c = rw c.in-Call.is c.resolve_called.ensures.made
-
-pub returns-in-Call-clause-fits : goal.returns-in-Call-clause-fits
-returns-in-Call-clause-fits c = rw c.in-Call.is c.resolve_called.ensures.fits
-
-pub returns-in-Return-clause-adds : goal.returns-in-Return-clause-adds
-returns-in-Return-clause-adds c = adds_same c.args.types.now
-
-pub returns-in-Return-clause-made : goal.returns-in-Return-clause-made
-returns-in-Return-clause-made c = rw c.in-Return.is (record { known = refl; rows = none _; meant = refl })
-
-pub returns-in-Return-clause-fits : goal.returns-in-Return-clause-fits
-returns-in-Return-clause-fits c = rw c.in-Return.is (sym (and_true c.args.fits.now))
-
-pub returns-in-Stop-clause-adds : goal.returns-in-Stop-clause-adds
-returns-in-Stop-clause-adds c = adds_same c.args.types.now
-
-pub returns-in-Stop-clause-made : goal.returns-in-Stop-clause-made
-returns-in-Stop-clause-made c = rw c.in-Stop.is (record { known = refl; rows = none _; meant = refl })
-
-pub returns-in-Stop-clause-fits : goal.returns-in-Stop-clause-fits
-returns-in-Stop-clause-fits c = rw c.in-Stop.is (sym (and_true c.args.fits.now))
+pub returns-clause-fits : goal.returns-clause-fits
+returns-clause-fits c = (is_put c).fits c.args.fits.now

@@ -1,6 +1,6 @@
 use Rattle.std.proofs.Common.{refl}
-use Rattle.nll_statements.specs.Flat.{statement_in}
-use Rattle.nll_statements.specs.Meant.{meant_by}
+use Rattle.nll_body.specs.Flat.{statement_in}
+use Rattle.nll_body.specs.Meant.{meant_by}
 use Rattle.nll_rules.proofs.KnowingLemmas.{of_body_later, stands, stands_agree, stands_rows}
 use Rattle.nll_rules.proofs.PointLemmas.{asked_pairs, kept_asked}
 use Rattle.nll_rules.proofs.constraints.find_asked.Goals as goal

@@ -6,6 +6,7 @@ use Rattle.nll_types.specs.Structs.{put_in_all, region_in}
 use Rattle.nll_types.specs.Views.{tree, trees}
 use Rattle.nll_types.specs.declared.ty.Ty.{Ty}
 use Rattle.nll_types.proofs.ViewLemmas.{tree_tuple, tree_named, tree_function}
+use Rattle.nll_rules.specs.TypeRows.{row_from}
 use Rattle.nll_rules.proofs.FieldLemmas.{row_joined, rows_more}
 use Rattle.nll_rules.proofs.field_rows.+field_rows.Goals as goal
 
@@ -19,8 +20,8 @@ push_field-returns-in_ok-push_fields-in-Named t c =
     let parts = rw c.as_slice-in-Named.ensures.value at c.in_ok-push_fields-in-Named.ensures in
     let regions = rw c.as_slice-in-Named-2.ensures.value at c.push_regions.ensures in
     rw (ap tree c.in-Named.is ∙ tree_named _ _ _)
-    (on_ok_weaker c.push_regions.result (λ e rs ts h. row_joined _ _ _ _ _ (parts rs ts h)
-    (rw (ap (λ (qs : List ℕ). map (region_in qs) own) h.regions) at e)) regions)
+    (on_ok_weaker c.push_regions.result (λ e row rs ts h. row_joined _ _ _ _ _ (parts row rs ts h)
+    (rw (ap (λ (qs : List ℕ). map (region_in qs) own) h.regions) at (e row h.counted))) regions)
 
 pub push_field-returns-in_ok-push_fields-in-Function : goal.push_field-returns-in_ok-push_fields-in-Function
 push_field-returns-in_ok-push_fields-in-Function t c =
@@ -28,7 +29,7 @@ push_field-returns-in_ok-push_fields-in-Function t c =
     let output = rw c.deref-in-Function.ensures at c.push_field-in-Function.ensures in
     rw (ap tree c.in-Function.is ∙ tree_function _ _)
     (on_ok_weaker c.push_field-in-Function.result
-    (λ e rs ts h. row_joined _ _ _ _ _ (inputs rs ts h) (e rs ts h)) output)
+    (λ e row rs ts h. row_joined _ _ _ _ _ (inputs row rs ts h) (e row rs ts h)) output)
 
 pub push_fields-loop-part-preserved : goal.push_fields-loop-part-preserved
 push_fields-loop-part-preserved t c =
@@ -37,9 +38,10 @@ push_fields-loop-part-preserved t c =
     let one : take (c.loop-part.part-index + 1) parts ≡ before ++ c.part-item.result ∷ [] =
     take_more parts c.loop-part.part-index c.part-item.result c.loop-part-test.true
     ∙ ap (λ (p : Ty). before ++ p ∷ []) (sym c.part-item.is) in
-    λ rs ts h.
-    row_joined _ _ _ _ _ (c.loop-part.invariant rs ts h) (c.in_ok-push_field.ensures rs ts h)
-    ∙ ap (λ (qs : List ℕ). c.args.row.now.items ++ qs) (sym (rows_more rs ts before c.part-item.result)
+    λ row rs ts h.
+    row_joined _ _ _ _ _ (c.loop-part.invariant row rs ts h) (c.in_ok-push_field.ensures row rs ts h)
+    ∙ ap (λ (qs : List ℕ). row_from row c.args.template.now.items ++ qs)
+    (sym (rows_more rs ts before c.part-item.result)
     ∙ ap (λ (ps : List Ty). region_rows (put_in_all rs ts (trees ps))) (sym one))
 
 pub push_fields-returns : goal.push_fields-returns

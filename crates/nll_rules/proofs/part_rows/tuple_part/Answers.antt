@@ -1,17 +1,24 @@
-use Rattle.std.proofs.Common.{◌≡◌, ◌∙◌, refl, arith}
-use Rattle.nll_rules.proofs.TypeRowLemmas.{ends_within, part_between}
+use Rattle.std.proofs.Common.{◌∙◌, Some, ap, arith, sym}
+use Rattle.std.proofs.lemmas.Option.{slice_get-get_or}
+use Rattle.nll_rules.proofs.TypeRowLemmas.{no_type, part_between, starts_counted, type_there}
 use Rattle.nll_rules.proofs.part_rows.tuple_part.Goals as goal
-use Rattle.nll_rules.proofs.part_rows.tuple_part.Goals.{then-place-ends-via-then-place-ends, then-place-ends-via-else-place-ends+then-place-ends-2}
+use Rattle.nll_rules.proofs.part_rows.tuple_part.Goals.{then-place-parts-via-then-place-parts, then-place-parts-via-else-place-parts+then-place-starts}
 
-pub returns-then-place-ends : goal.returns-then-place-ends
-returns-then-place-ends c ts t at row e =
-    let l = ends_within c.args.starts.now ts c.args.place t at e in
-    elim c.then-place-ends.branch [
-      | then-place-ends-via-then-place-ends w ↦ omega (arith, w.if-place-ends.true)
-      | then-place-ends-via-else-place-ends+then-place-ends-2 w ↦ omega (arith, w.if-place-ends-2.true)
+pub returns-then-place-parts : goal.returns-then-place-parts
+returns-then-place-parts c ts at count row =
+    let l = starts_counted c.args.starts.now ts at in
+    elim c.then-place-parts.branch [
+      | then-place-parts-via-then-place-parts w ↦ no_type ts c.args.place (omega (arith, w.if-place-parts.true))
+      | then-place-parts-via-else-place-parts+then-place-starts w ↦
+          no_type ts c.args.place (omega (arith, w.if-place-starts.true))
     ]
 
 pub returns : goal.returns
-returns c ts t at row e =
-    let b = part_between _ c.args.starts.now ts c.args.place t at row e in
-    (c.slice.ensures.shape, c.slice.ensures.row b.onward b.within ∙ b.part)
+returns c ts at count row =
+    let there = type_there ts c.args.place (omega (arith, c.if-place-parts.false)) in
+    let b = part_between _ c.args.starts.now ts c.args.place there.0 at row there.1 in (
+      there.0,
+      there.1,
+      slice_get-get_or c.args.parts.now c.args.place 0 c.if-place-parts.false ∙ ap Some (sym c.slice.ensures.shape),
+      c.slice.ensures.row b.onward b.within ∙ b.part,
+    )

@@ -1,8 +1,8 @@
 use Rattle.std.proofs.Common.{ap, sym, ◌∙◌}
 use Rattle.nll_types.specs.Rows.{tree_at}
-use Rattle.nll_statements.specs.Effects.{defined}
-use Rattle.nll_statements.specs.Flat.{statement_in}
-use Rattle.nll_statements.proofs.MapLemmas.{same_defined}
+use Rattle.nll_body.specs.Effects.{defined}
+use Rattle.nll_body.specs.Flat.{statement_in}
+use Rattle.nll_body.proofs.MapLemmas.{same_defined}
 use Rattle.nll_body.proofs.KeptLemmas.{meant_there}
 use Rattle.nll_body.proofs.body.Body.defines.Goals as goal
 

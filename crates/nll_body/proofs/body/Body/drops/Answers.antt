@@ -1,8 +1,8 @@
 use Rattle.std.proofs.Common.{ap, sym, ◌∙◌}
 use Rattle.nll_types.specs.Rows.{tree_at}
-use Rattle.nll_statements.specs.Effects.{dropped}
-use Rattle.nll_statements.specs.Flat.{statement_in}
-use Rattle.nll_statements.proofs.MapLemmas.{same_dropped}
+use Rattle.nll_body.specs.Effects.{dropped}
+use Rattle.nll_body.specs.Flat.{statement_in}
+use Rattle.nll_body.proofs.MapLemmas.{same_dropped}
 use Rattle.nll_body.proofs.KeptLemmas.{meant_there}
 use Rattle.nll_body.proofs.body.Body.drops.Goals as goal
 

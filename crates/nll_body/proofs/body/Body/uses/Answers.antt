@@ -1,9 +1,9 @@
 use Rattle.std.proofs.Common.{List, ℕ, ◌++◌, ap, sym, ◌∙◌}
 use Rattle.std.proofs.lemmas.Result.{on_ok_weaker}
 use Rattle.nll_types.specs.Rows.{tree_at}
-use Rattle.nll_statements.specs.Effects.{variables_used}
-use Rattle.nll_statements.specs.Flat.{statement_in}
-use Rattle.nll_statements.proofs.MapLemmas.{same_used}
+use Rattle.nll_body.specs.Effects.{variables_used}
+use Rattle.nll_body.specs.Flat.{statement_in}
+use Rattle.nll_body.proofs.MapLemmas.{same_used}
 use Rattle.nll_body.proofs.KeptLemmas.{meant_there}
 use Rattle.nll_body.proofs.body.Body.uses.Goals as goal
 

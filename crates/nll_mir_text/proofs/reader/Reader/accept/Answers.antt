@@ -46,10 +46,10 @@ pub returns-in-Block-clause-refused : goal.returns-in-Block-clause-refused
 returns-in-Block-clause-refused c = rw c.in-Block.is c.add_block.ensures.refused
 
 pub returns-in-At-clause-taken : goal.returns-in-At-clause-taken
-returns-in-At-clause-taken c = rw c.in-At.is c.add_statement.ensures.taken
+returns-in-At-clause-taken c = rw c.in-At.is c.add_statement-taken.ensures.taken
 
 pub returns-in-At-clause-refused : goal.returns-in-At-clause-refused
-returns-in-At-clause-refused c = rw c.in-At.is c.add_statement.ensures.refused
+returns-in-At-clause-refused c = rw c.in-At.is c.add_statement-taken.ensures.refused
 
 pub returns-in-End-clause-taken : goal.returns-in-End-clause-taken
 returns-in-End-clause-taken c = rw c.in-End.is c.end.ensures.taken

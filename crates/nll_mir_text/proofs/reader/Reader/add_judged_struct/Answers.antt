@@ -4,9 +4,9 @@ use Rattle.nll_mir_grammar.specs.TypeTexts.{written}
 use Rattle.nll_mir_grammar.specs.Lines.{parameter_of}
 use Rattle.nll_mir_grammar.specs.Tuples.{parts}
 use Rattle.std.proofs.lemmas.List.{length-map}
-use Rattle.nll_resolve.specs.Naming.{Scope, all_meant}
-use Rattle.nll_resolve.specs.ToldTypes.{are_known, have_arguments}
-use Rattle.nll_statements.specs.Typing.{are_small}
+use Rattle.nll_mir_text.specs.Naming.{Scope, all_meant}
+use Rattle.nll_mir_text.specs.ToldTypes.{are_known, have_arguments}
+use Rattle.nll_body.specs.Typing.{are_small}
 use Rattle.nll_types.specs.Declarations as kept
 use Rattle.nll_mir_text.specs.MirFaults.{redeclares}
 use Rattle.nll_mir_text.specs.MirSaid.{scope_inside}

@@ -1,10 +1,9 @@
-use Rattle.std.proofs.Common.{◌≡◌, ◌∙◌, inr, map, refl, sym, ap, subst}
+use Rattle.std.proofs.Common.{◌∙◌, inr, map, refl, sym, ap, subst}
 use Rattle.std.proofs.lemmas.Result.{on_ok_weaker, IfErr-weaker}
 use Rattle.nll_mir_grammar.specs.TypeTexts.{written}
 use Rattle.nll_mir_grammar.specs.Lines.{parameter_of}
 use Rattle.nll_mir_grammar.specs.Tuples.{parts}
-use Rattle.nll_resolve.specs.Naming.{has_arguments, is_known}
-use Rattle.nll_resolve.specs.Resolution.{IsResolved}
+use Rattle.nll_mir_text.specs.Naming.{is_known}
 use Rattle.nll_mir_text.specs.StructLines.{own_scope}
 use Rattle.nll_mir_text.specs.MirReading.{IsRefused, IsTaken, said_by, struct_form}
 use Rattle.nll_mir_text.proofs.GrownLemmas.{due_grown}

@@ -1,4 +1,4 @@
-use Rattle.std.proofs.Common.{◌≡◌, ◌∙◌, ℕ, List, [], ◌∷◌, ◌++◌, true, length, map, ap, refl, sym, subst, inr, arith, length-append}
+use Rattle.std.proofs.Common.{◌≡◌, ◌∙◌, ℕ, [], ◌∷◌, ◌++◌, true, length, map, ap, refl, sym, subst, inr, arith, length-append}
 use Rattle.std.specs.Prelude.{◌==◌, All, vec_len}
 use Rattle.std.proofs.lemmas.Bool.{eq-eqb}
 use Rattle.std.proofs.lemmas.List.{length-map, map_push}
@@ -8,11 +8,8 @@ use Rattle.nll_types.specs.Shapes.{is_small}
 use Rattle.nll_types.specs.Types.{TypeTree}
 use Rattle.nll_types.proofs.RowLemmas.{has_row, tree_is}
 use Rattle.nll_mir_grammar.specs.MirForms.{variable}
-use Rattle.nll_mir_grammar.specs.WrittenTypes.{WrittenType}
-use Rattle.nll_resolve.specs.Naming.{meant}
-use Rattle.nll_resolve.specs.Resolution.{IsResolved}
-use Rattle.nll_body.specs.Typed.{trees_at}
-use Rattle.nll_mir_text.specs.MirReading.{said_by, scope_in}
+use Rattle.nll_mir_text.specs.Naming.{meant}
+use Rattle.nll_mir_text.specs.MirReading.{said_by}
 use Rattle.nll_mir_text.specs.declared.reader.Reader.{Reader}
 use Rattle.nll_mir_text.proofs.GroupLemmas.{follows}
 use Rattle.nll_mir_text.proofs.ShapeLemmas.{small_of_shape}

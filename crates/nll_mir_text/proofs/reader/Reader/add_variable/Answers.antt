@@ -2,7 +2,7 @@ use Rattle.std.proofs.Common.{◌∙◌, ap, sym, subst, inr}
 use Rattle.std.proofs.lemmas.Result.{on_ok_weaker, IfErr-weaker}
 use Rattle.nll_mir_grammar.specs.MirForms.{variable}
 use Rattle.nll_mir_grammar.specs.TypeTexts.{written}
-use Rattle.nll_resolve.specs.Naming.{Scope, has_arguments}
+use Rattle.nll_mir_text.specs.Naming.{has_arguments}
 use Rattle.nll_mir_text.specs.MirFaults.{is_in_order}
 use Rattle.nll_mir_text.specs.MirReading.{IsRefused, IsTaken, said_by}
 use Rattle.nll_mir_text.specs.MirSaid.{Said}

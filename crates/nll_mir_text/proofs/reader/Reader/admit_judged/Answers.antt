@@ -1,9 +1,8 @@
-use Rattle.std.proofs.Common.{◌≡◌, refl, sym, ◌∙◌, inr, length, map, arith}
+use Rattle.std.proofs.Common.{◌≡◌, refl, sym, ◌∙◌, inr, length, arith}
 use Rattle.std.proofs.lemmas.List.{length-map}
 use Rattle.std.proofs.lemmas.Bool.{not-true, not-false}
-use Rattle.nll_statements.specs.Edges.{edge_count}
-use Rattle.nll_statements.specs.Flat.{statements_in}
-use Rattle.nll_statements.specs.Kept.{statement_of}
+use Rattle.nll_body.specs.Exits.{edge_count}
+use Rattle.nll_body.specs.Flat.{statements_in}
 use Rattle.nll_body.specs.Typed.{meant as meant_with}
 use Rattle.nll_mir_text.specs.declared.reader.Reader.{Reader}
 use Rattle.nll_mir_text.specs.MirReading.{said_by, scope_in}
@@ -27,7 +26,7 @@ pub returns-then-not-targets_are_blocks-clause-refused : goal.returns-then-not-t
 returns-then-not-targets_are_blocks-clause-refused c = λ i fits placed told.
     let s = said_by c.args.self.now in
     let known = sym told.known ∙ (not-false _ c.if-not-judged.false) in
-    let blocks = sym (targets_are s i _ (statement_of c.args.statement.now) placed.of _ c.targets_are_blocks.ensures)
+    let blocks = sym (targets_are s i _ _ placed.of.of _ c.targets_are_blocks.ensures)
     ∙ c.if-not-targets_are_blocks.true in
     inr (out_of_range s i placed.order known blocks)
 
@@ -35,7 +34,7 @@ pub returns-then-not-judged-2-clause-refused : goal.returns-then-not-judged-2-cl
 returns-then-not-judged-2-clause-refused c = λ i fits placed told.
     let s = said_by c.args.self.now in
     let known = sym told.known ∙ (not-false _ c.if-not-judged.false) in
-    let blocks = sym (targets_are s i _ (statement_of c.args.statement.now) placed.of _ c.targets_are_blocks.ensures)
+    let blocks = sym (targets_are s i _ _ placed.of.of _ c.targets_are_blocks.ensures)
     ∙ c.if-not-targets_are_blocks.false in
     inr (unfit s i placed.order known blocks (sym told.fits ∙ (not-true _ c.if-not-judged-2.true)))
 
@@ -43,7 +42,7 @@ pub returns-then-not-judged-3-clause-refused : goal.returns-then-not-judged-3-cl
 returns-then-not-judged-3-clause-refused c = λ i fits placed told.
     let s = said_by c.args.self.now in
     let known = sym told.known ∙ (not-false _ c.if-not-judged.false) in
-    let blocks = sym (targets_are s i _ (statement_of c.args.statement.now) placed.of _ c.targets_are_blocks.ensures)
+    let blocks = sym (targets_are s i _ _ placed.of.of _ c.targets_are_blocks.ensures)
     ∙ c.if-not-targets_are_blocks.false in
     inr (too_large s i placed.order known blocks (sym told.fits ∙ (not-false _ c.if-not-judged-2.false))
     (sym (told.fits_small (not-false _ c.if-not-judged-2.false)) ∙ (not-true _ c.if-not-judged-3.true)))
@@ -52,7 +51,7 @@ pub returns-then-len-clause-refused : goal.returns-then-len-clause-refused
 returns-then-len-clause-refused c = λ i fits placed told.
     let s = said_by c.args.self.now in
     let known = sym told.known ∙ (not-false _ c.if-not-judged.false) in
-    let blocks = sym (targets_are s i _ (statement_of c.args.statement.now) placed.of _ c.targets_are_blocks.ensures)
+    let blocks = sym (targets_are s i _ _ placed.of.of _ c.targets_are_blocks.ensures)
     ∙ c.if-not-targets_are_blocks.false in
     inr (too_many_points s i placed.order known blocks (sym told.fits ∙ (not-false _ c.if-not-judged-2.false))
     (sym (told.fits_small (not-false _ c.if-not-judged-2.false)) ∙ (not-false _ c.if-not-judged-3.false))
@@ -62,11 +61,11 @@ pub returns-then-edges-gt-MAX_EDGES-clause-refused : goal.returns-then-edges-gt-
 returns-then-edges-gt-MAX_EDGES-clause-refused c = λ i fits placed told.
     let s = said_by c.args.self.now in
     let known = sym told.known ∙ (not-false _ c.if-not-judged.false) in
-    let blocks = sym (targets_are s i _ (statement_of c.args.statement.now) placed.of _ c.targets_are_blocks.ensures)
+    let blocks = sym (targets_are s i _ _ placed.of.of _ c.targets_are_blocks.ensures)
     ∙ c.if-not-targets_are_blocks.false in
     let edges =
     edges_resolved (scope_in c.args.self.now.regions c.args.self.now.structs) i _
-    (statement_of c.args.statement.now) placed.of in
+    _ placed.of.of in
     inr (too_many_edges s i placed.order known blocks (sym told.fits ∙ (not-false _ c.if-not-judged-2.false))
     (sym (told.fits_small (not-false _ c.if-not-judged-2.false)) ∙ (not-false _ c.if-not-judged-3.false))
     (omega (arith, counted c.args.self.now, c.len.ensures, c.if-len.false))
@@ -83,11 +82,11 @@ pub returns-clause-admitted : goal.returns-clause-admitted
 returns-clause-admitted c = λ i fits placed told.
     let s = said_by c.args.self.now in
     let known = sym told.known ∙ (not-false _ c.if-not-judged.false) in
-    let blocks = sym (targets_are s i _ (statement_of c.args.statement.now) placed.of _ c.targets_are_blocks.ensures)
+    let blocks = sym (targets_are s i _ _ placed.of.of _ c.targets_are_blocks.ensures)
     ∙ c.if-not-targets_are_blocks.false in
     let edges =
     edges_resolved (scope_in c.args.self.now.regions c.args.self.now.structs) i _
-    (statement_of c.args.statement.now) placed.of in
+    _ placed.of.of in
     record {
       fine = no_fault s i placed.order known blocks (sym told.fits ∙ (not-false _ c.if-not-judged-2.false))
           (sym (told.fits_small (not-false _ c.if-not-judged-2.false)) ∙ (not-false _ c.if-not-judged-3.false))
@@ -112,5 +111,5 @@ returns-clause-admitted c = λ i fits placed told.
       few_edges = omega (arith, c.if-edges-gt-MAX_EDGES.false);
       ends = c.requires.exits.ends
           ∙ ends_resolved (scope_in c.args.self.now.regions c.args.self.now.structs) i _
-          (statement_of c.args.statement.now) placed.of;
+          _ placed.of.of;
     }

@@ -14,7 +14,7 @@ judge_statement-requires-clause-written c = below_rows _ _ _ c.requires.rows
 
 pub returns-clause-grown : goal.returns-clause-grown
 returns-clause-grown c =
-    is_grown c.args.self.now _ (adds_table c.args.self.now.variables.types _ c.in_ok-judged.ensures.grows)
+    is_grown c.args.self.now _ _ (adds_table c.args.self.now.variables.types _ c.in_ok-judged.ensures.grows) refl
     c.requires.ready
 
 pub returns-clause-judged : goal.returns-clause-judged

@@ -4,11 +4,10 @@ use Rattle.std.proofs.lemmas.List.{length-append, map_push}
 use Rattle.std.proofs.lemmas.List.Elements.{All-push}
 use Rattle.nll_types.specs.Types.{TypeTree}
 use Rattle.nll_types.specs.declared.typed.Typed.{Typed}
-use Rattle.nll_statements.specs.Edges.{edge_count}
-use Rattle.nll_statements.specs.Flat.{statements_in}
-use Rattle.nll_statements.specs.Kept.{statement_of}
-use Rattle.nll_statements.specs.Meant.{HasRows}
-use Rattle.nll_statements.specs.Statements.{Statement}
+use Rattle.nll_body.specs.Exits.{edge_count}
+use Rattle.nll_body.specs.Flat.{statement_in, statements_in}
+use Rattle.nll_body.specs.Meant.{HasRows}
+use Rattle.nll_body.specs.Statements.{Statement}
 use Rattle.nll_body.specs.Typed.{meant as meant_with}
 use Rattle.nll_mir_text.specs.MirSteps.{statement_meant}
 use Rattle.nll_mir_text.specs.MirReading.{said_by, scope_in}
@@ -22,13 +21,13 @@ returns c = λ i fits h placed.
     let r = h.ready in
     let types = old.variables.types in
     let kept = statements_in old.points.statements in
-    let k = statement_of c.args.statement in
+    let k = statement_in old.points.statements c.args.statement in
     let new = statements_in c.add_point.new.points.statements in
     let e = c.in_ok-add_point.ensures in
     let stand : map (meant_with types) new ≡ s.points ++ statement_meant s i ∷ [] =
     ap (map (meant_with types)) e.statements
     ∙ (map_push (meant_with types) kept k
-    ∙ ap (λ (m : Statement ℕ TypeTree). s.points ++ m ∷ []) placed.of.meant) in
+    ∙ ap (λ (m : Statement ℕ TypeTree). s.points ++ m ∷ []) placed.of.of.meant) in
     let more : edge_count new ≡ edge_count (kept ++ k ∷ []) =
     ap (λ (is : List (Statement ℕ Typed)). edge_count is) e.statements in
     let counted : c.add_point.new.points.edges ≡ edge_count new =
@@ -39,10 +38,10 @@ returns c = λ i fits h placed.
       h.counted,
       more,
       edges_more kept k,
-      edges_resolved (scope_in old.regions old.structs) i types k placed.of,
+      edges_resolved (scope_in old.regions old.structs) i types k placed.of.of,
     ) in
     let points =
-    All-push (HasRows types.table.shapes types.regions.items) kept k r.rows.points placed.of.rows in
+    All-push (HasRows types.table.shapes types.regions.items) kept k r.rows.points placed.of.of.rows in
     record {
       fine = h.fine;
       says = point_said s i _ _ _ _ e.blocks (ap (λ v. v.items) e.starts) stand

@@ -1,9 +1,9 @@
-use Rattle.std.proofs.Common.{◌≡◌, ◌∙◌, false, length, ap, subst, arith}
+use Rattle.std.proofs.Common.{◌≡◌, ◌∙◌, false, length, ap, refl, subst, arith}
 use Rattle.std.specs.Prelude.{◌&&◌, IfOk, MatchOption}
 use Rattle.std.proofs.lemmas.Result.{IfOk-weaker}
 use Rattle.nll_mir_grammar.specs.TypeTexts.{written}
-use Rattle.nll_resolve.specs.Naming.{Scope, has_arguments, is_known}
-use Rattle.nll_resolve.specs.Resolution.{IsResolved}
+use Rattle.nll_mir_text.specs.Naming.{Scope, has_arguments, is_known}
+use Rattle.nll_mir_text.specs.Resolution.{IsResolved}
 use Rattle.nll_mir_text.specs.MirReading.{scope_in}
 use Rattle.nll_mir_text.proofs.GrownLemmas.{is_grown}
 use Rattle.nll_mir_text.proofs.reader.Reader.resolve_variable.Goals as goal
@@ -14,7 +14,7 @@ resolve-requires c =
 
 pub returns-clause-grown : goal.returns-clause-grown
 returns-clause-grown c = IfOk-weaker c.resolve.result _ _
-    (λ o adds. is_grown c.args.self.now _ adds c.requires.ready) c.resolve.ensures.adds
+    (λ o adds. is_grown c.args.self.now _ _ adds refl c.requires.ready) c.resolve.ensures.adds
 
 pub returns-clause-fits : goal.returns-clause-fits
 returns-clause-fits c =

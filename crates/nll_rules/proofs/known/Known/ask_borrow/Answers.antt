@@ -1,5 +1,5 @@
 use Rattle.std.proofs.lemmas.Result.{on_ok_weaker}
-use Rattle.nll_statements.specs.Flat.{path_in}
+use Rattle.nll_body.specs.Flat.{path_in}
 use Rattle.nll_rules.specs.Flows.{place_type}
 use Rattle.nll_rules.proofs.AgreeLemmas.{borrow_agrees}
 use Rattle.nll_rules.proofs.KnowingLemmas.{row_in_stays}

@@ -1,10 +1,9 @@
-use Rattle.std.proofs.Common.{ℕ, ◌≤◌, List, ◌≡◌, get_or, length, map, arith, ◌∙◌}
-use Rattle.std.proofs.lemmas.List.{length-map}
+use Rattle.std.proofs.Common.{◌≤◌, get_or, length, arith}
 use Rattle.std.proofs.lemmas.Option.{slice_get-get_or}
 use Rattle.nll_types.specs.declared.typed.Typed.{Typed}
-use Rattle.nll_statements.specs.Flat.{operand_in}
-use Rattle.nll_statements.specs.declared.flat.FlatOperand.{FlatOperand}
-use Rattle.nll_statements.specs.declared.flat.FlatOperand.TheVariants.{Const}
+use Rattle.nll_body.specs.Flat.{operand_in}
+use Rattle.nll_body.specs.declared.flat.FlatOperand.{FlatOperand}
+use Rattle.nll_body.specs.declared.flat.FlatOperand.TheVariants.{Const}
 use Rattle.nll_rules.specs.Flows.{inputs_of, written_type}
 use Rattle.nll_rules.proofs.FlowLemmas.{input_is, input_row, inputs_count}
 use Rattle.nll_rules.proofs.KnowingLemmas.{learns_then}

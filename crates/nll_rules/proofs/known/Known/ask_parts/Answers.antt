@@ -1,8 +1,8 @@
-use Rattle.std.proofs.Common.{◌<◌, ◌≤◌, get_or, length, map, arith}
+use Rattle.std.proofs.Common.{◌≤◌, get_or, length, map, arith}
 use Rattle.std.proofs.lemmas.List.{length-map}
 use Rattle.std.proofs.lemmas.Option.{slice_get-get_or}
-use Rattle.nll_statements.specs.Flat.{operand_in}
-use Rattle.nll_statements.specs.declared.flat.FlatOperand.TheVariants.{Const}
+use Rattle.nll_body.specs.Flat.{operand_in}
+use Rattle.nll_body.specs.declared.flat.FlatOperand.TheVariants.{Const}
 use Rattle.nll_rules.specs.Flows.{written_type}
 use Rattle.nll_rules.proofs.KnowingLemmas.{learns_then}
 use Rattle.nll_rules.proofs.PairLemmas.{below_more, below_all}

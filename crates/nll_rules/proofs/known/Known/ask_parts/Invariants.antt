@@ -1,5 +1,5 @@
 use Rattle.std.proofs.Common.{map}
-use Rattle.nll_statements.specs.Flat.{operand_in}
+use Rattle.nll_body.specs.Flat.{operand_in}
 use Rattle.nll_rules.specs.Flows.{written_type}
 use Rattle.nll_rules.specs.Knowing.{Learns}
 use Rattle.nll_rules.specs.Pairs.{AddsPairs, PartAsks}

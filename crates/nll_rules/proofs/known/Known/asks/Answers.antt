@@ -1,7 +1,6 @@
 use Rattle.std.proofs.Common.{arith, subst}
-use Rattle.nll_types.specs.declared.typed.Typed.{Typed}
-use Rattle.nll_statements.specs.Flat.{operand_in, path_in}
-use Rattle.nll_statements.specs.Meant.{HasRows}
+use Rattle.nll_body.specs.Flat.{operand_in, path_in}
+use Rattle.nll_body.specs.Meant.{HasRows}
 use Rattle.nll_rules.proofs.AgreeLemmas.{assign_agrees}
 use Rattle.nll_rules.proofs.FlowLemmas.{called_is, made_is, switched_asks}
 use Rattle.nll_rules.proofs.PairLemmas.{adds_none, adds_same}

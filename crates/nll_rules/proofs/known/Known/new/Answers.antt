@@ -1,8 +1,5 @@
-use Rattle.std.proofs.Common.{◌≡◌, List, [], sym, subst}
 use Rattle.nll_types.specs.Declarations.{structs_of}
-use Rattle.nll_types.specs.Memo.{AreRemembered}
-use Rattle.nll_types.specs.declared.memo.FieldUse.{FieldUse}
-use Rattle.nll_types.proofs.MemoLemmas.{remembered_none}
+use Rattle.nll_rules.proofs.KnownFieldLemmas.{no_fields}
 use Rattle.nll_rules.proofs.KnownLemmas.{extends_copy, no_signs}
 use Rattle.nll_rules.proofs.known.Known.new.Goals as goal
 
@@ -11,6 +8,6 @@ invariant_of-result c =
     let structs = structs_of c.args.body.types.now.table.structs in (
       c.requires,
       extends_copy _ _ (rw c.shapes.ensures at c.in_ok-shapes.ensures),
-      rw c.new.ensures.empty (remembered_none structs c.in_ok-shapes.shapes),
+      rw c.new.ensures.empty (no_fields structs c.in_ok-shapes.shapes),
       no_signs structs c.in_ok-shapes.shapes _ c.new-2.ensures,
     )

@@ -1,5 +1,5 @@
 use Rattle.std.proofs.Common.{◌<◌, Some, length, refl, sym, arith}
-use Rattle.nll_statements.specs.Flat.{path_in}
+use Rattle.nll_body.specs.Flat.{path_in}
 use Rattle.nll_rules.proofs.KnowingLemmas.{learns_then}
 use Rattle.nll_rules.proofs.KnownLemmas.{row_none, row_there}
 use Rattle.nll_rules.proofs.ReborrowLemmas.{way_on, way_stops, way_ends}

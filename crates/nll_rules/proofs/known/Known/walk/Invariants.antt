@@ -1,6 +1,5 @@
-use Rattle.std.proofs.Common.{◌<◌, length}
 use Rattle.nll_types.specs.Types.{TypeTree}
-use Rattle.nll_statements.specs.Flat.{path_in}
+use Rattle.nll_body.specs.Flat.{path_in}
 use Rattle.nll_rules.specs.Knowing.{Learns}
 use Rattle.nll_rules.specs.TypeRows.{IsRowOf}
 use Rattle.nll_rules.proofs.ReborrowLemmas.{IsOnWay}

@@ -1,4 +1,4 @@
-use Rattle.std.proofs.Common.{◌<◌, length, subst, arith}
+use Rattle.std.proofs.Common.{subst, arith}
 use Rattle.nll_types.specs.Table.{Extends}
 use Rattle.nll_rules.specs.Knowing.{KnownTypes}
 use Rattle.nll_rules.proofs.KnownLemmas.{written_row}

@@ -1,5 +1,5 @@
-use Rattle.std.proofs.Common.{◌≡◌, ◌+◌, ◌-◌, ℕ, length, take, drop, ap, arith}
-use Rattle.nll_rules.specs.TypeRows.{list_of_row, row_of}
+use Rattle.std.proofs.Common.{◌≡◌, length, ap, arith}
+use Rattle.nll_rules.specs.TypeRows.{list_of_row}
 use Rattle.nll_rules.proofs.TypeRowLemmas.{part_of_part}
 use Rattle.nll_rules.proofs.type_row.TypeRow.slice.Goals as goal
 

@@ -1,5 +1,5 @@
 use Rattle.std.proofs.Common.{◌≡◌, Some, slice_get, subst}
-use Rattle.nll_run_tests.proofs.PlaceLemmas.{map_place}
+use Rattle.nll_run_tests.proofs.ListLemmas.{map_place}
 use Rattle.nll_run_tests.proofs.watches.WatchedLedger.open.Goals as goal
 
 pub returns-clause-shares : goal.returns-clause-shares

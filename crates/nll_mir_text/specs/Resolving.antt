@@ -1,0 +1,169 @@
+-- Resolving the pieces of a written type, one after another.
+-- Source: project's choice. Only private contracts cite this file.
+use Rattle.std.specs.Prelude.{◌≡◌, ◌<◌, ◌-◌, ◌++◌, ℕ, Bool, true, false, ◌&&◌, ◌||◌}
+use Rattle.std.specs.Prelude.{if◌then◌else◌, List, [], ◌∷◌, length, map, reverse, take, drop}
+use Rattle.std.specs.Prelude.{slice_index, slice_index_or}
+use Rattle.nll_format.specs.Names.{number_of}
+use Rattle.nll_types.specs.Types.{TypeTree, TypeTrees, int, parameter, reference, tuple, named}
+use Rattle.nll_types.specs.Types.{function}
+use Rattle.nll_types.specs.Shapes.{shape_of}
+use Rattle.nll_types.specs.Table.{AreBelow, shape_in}
+use Rattle.nll_types.specs.Views.{row_of}
+use Rattle.nll_types.specs.declared.node.Node.{Node}
+use Rattle.nll_types.specs.declared.body_types.BodyTypes.{BodyTypes}
+use Rattle.nll_mir_grammar.specs.WrittenTypes.{Name}
+use Rattle.nll_mir_grammar.specs.TypeTexts as written
+use Rattle.nll_mir_grammar.specs.TypeTexts.{make_int, make_reference, begin_row, add_region}
+use Rattle.nll_mir_grammar.specs.TypeTexts.{add_type, make_tuple, make_named, make_function}
+use Rattle.nll_mir_text.specs.Naming.{Scope, is_among, kinds_taken, same_kinds}
+use Rattle.nll_mir_text.specs.declared.rows.Mark.{Mark}
+use Rattle.nll_mir_text.specs.declared.rows.Mark.TheVariants as marks
+use Rattle.nll_mir_text.specs.declared.type_resolution.Resolving.{Resolving}
+
+-- ---- what is in rows, the newest first
+
+-- the entries of the newest row
+abbrev pub newest : List Mark → List Mark
+newest [] = []
+newest (marks.Row k n ∷ ms) = []
+newest (marks.Region r ∷ ms) = marks.Region r ∷ newest ms
+newest (marks.Part ∷ ms) = marks.Part ∷ newest ms
+
+-- the entries of the other rows
+abbrev pub others : List Mark → List Mark
+others [] = []
+others (marks.Row k n ∷ ms) = ms
+others (marks.Region r ∷ ms) = others ms
+others (marks.Part ∷ ms) = others ms
+
+-- how many types and how many regions come before the newest row
+abbrev pub starts : List Mark → ℕ × ℕ
+starts [] = (0, 0)
+starts (marks.Row k n ∷ ms) = (k, n)
+starts (marks.Region r ∷ ms) = starts ms
+starts (marks.Part ∷ ms) = starts ms
+
+-- whether it is a region
+abbrev pub is_region : Mark → Bool
+is_region (marks.Region r) = true
+is_region (marks.Row k n) = false
+is_region marks.Part = false
+
+-- the regions among these
+abbrev pub regions_in : List Mark → List ℕ
+regions_in [] = []
+regions_in (marks.Region r ∷ ms) = r ∷ regions_in ms
+regions_in (marks.Row k n ∷ ms) = regions_in ms
+regions_in (marks.Part ∷ ms) = regions_in ms
+
+-- ---- what is resolved
+
+-- The types that are made so far, the newest last, and all regions so far; the entries of the rows,
+-- the newest first; and what is known of the names so far.
+pub record State : Type 0 where
+  pub made : List TypeTree
+  pub regions : List ℕ
+  pub rows : List Mark
+  pub known : Bool
+  pub fits : Bool
+
+-- nothing after these regions
+abbrev pub nothing : List ℕ → State
+nothing regions = record { made = []; regions = regions; rows = []; known = true; fits = true }
+
+-- the newest type; an `int` where there is none
+abbrev pub newest_type : List TypeTree → TypeTree
+newest_type ts = slice_index_or ts (length ts - 1) int
+
+-- a list without its last item
+abbrev pub older : {X : Type 0} → List X → List X
+older xs = take (length xs - 1) xs
+
+-- the arguments of the newest row, in order
+abbrev pub arguments : State → List Mark
+arguments st = reverse (newest st.rows)
+
+-- the types before the newest row
+abbrev pub types_before : State → List TypeTree
+types_before st = take (starts st.rows).0 st.made
+
+-- the types of the newest row
+abbrev pub types_inside : State → TypeTrees
+types_inside st = row_of (drop (starts st.rows).0 st.made)
+
+-- the type of a name that has the newest row as its arguments
+abbrev pub named_type : Scope → Name → State → TypeTree
+named_type s n st =
+    if is_among s.parameters n then parameter (number_of s.parameters n)
+    else named (number_of s.structs n) (regions_in (arguments st)) (types_inside st)
+
+-- the regions after a name; where it is a type parameter's, those of the row go
+abbrev pub named_regions : Scope → Name → State → List ℕ
+named_regions s n st =
+    if is_among s.parameters n then take (starts st.rows).1 st.regions
+    else st.regions ++ regions_in (arguments st)
+
+-- what a piece makes of what is resolved so far
+abbrev pub after : Scope → written.Piece → State → State
+after s make_int st = record st { made = st.made ++ int ∷ [] }
+after s (make_reference m r) st = record st {
+  made = older st.made ++ reference (number_of s.regions r) m (newest_type st.made) ∷ [];
+  regions = st.regions ++ number_of s.regions r ∷ [];
+  known = st.known && is_among s.regions r;
+}
+after s begin_row st =
+    record st { rows = marks.Row (length st.made) (length st.regions) ∷ st.rows }
+after s (add_region r) st = record st {
+  rows = marks.Region (number_of s.regions r) ∷ st.rows;
+  known = st.known && is_among s.regions r;
+}
+after s add_type st = record st { rows = marks.Part ∷ st.rows }
+after s make_tuple st = record st {
+  made = types_before st ++ tuple (types_inside st) ∷ [];
+  rows = others st.rows;
+}
+after s (make_named n) st = record {
+  made = types_before st ++ named_type s n st ∷ [];
+  regions = named_regions s n st;
+  rows = others st.rows;
+  known = st.known && (is_among s.parameters n || is_among s.structs n);
+  fits = st.fits && same_kinds (map is_region (arguments st)) (kinds_taken s n);
+}
+after s make_function st =
+    let others_made = record st { made = older st.made } in
+    record st {
+      made = types_before others_made
+          ++ function (types_inside others_made) (newest_type st.made) ∷ [];
+      rows = others st.rows;
+    }
+
+-- what pieces make of what is resolved so far
+abbrev pub run : Scope → List written.Piece → State → State
+run s [] st = st
+run s (p ∷ ps) st = run s ps (after s p st)
+
+-- ---- what the code keeps of it
+
+-- There is a number for each of these types; where each name so far is known, it is that of the
+-- type's shape.
+pub record AreShaped (known : Bool) (shapes : List Node) (ts : List TypeTree) (numbers : List ℕ)
+    : Type 0 where
+  pub counted : length numbers ≡ length ts
+  pub each : known ≡ true → (k : ℕ) → k < length numbers
+      → shape_in shapes (slice_index numbers k) ≡ shape_of (slice_index_or ts k int)
+
+-- The code has what is resolved so far: the shapes of the types, the regions at the end of the
+-- body's list, and the rest.
+pub record IsOf (st : State) (types : BodyTypes) (kept : Resolving) : Type 0 where
+  pub shapes : AreShaped kept.known types.table.shapes st.made kept.shapes.items
+  pub regions : types.regions.items ≡ st.regions
+  pub rows : reverse kept.rows.items ≡ st.rows
+  pub known : kept.known ≡ st.known
+  pub fits : kept.fits ≡ st.fits
+
+-- A piece is resolved: the numbers are of shapes, and each state that the code had is followed by
+-- what the piece makes of it.
+pub record Resolves (s : Scope) (p : written.Piece) (types : BodyTypes) (kept : Resolving)
+    (types_new : BodyTypes) (kept_new : Resolving) : Type 0 where
+  pub below : AreBelow (length types_new.table.shapes) kept_new.shapes.items
+  pub made : (st : State) → IsOf st types kept → IsOf (after s p st) types_new kept_new

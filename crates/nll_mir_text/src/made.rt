@@ -1,0 +1,140 @@
+//! Types that are made of those that were made before, the newest last.
+
+ghost use Rattle.std.specs.Prelude.{◌≡◌, ◌<◌, ◌++◌, ◌∷◌, [], List, length, drop, reverse, take};
+ghost use Rattle.std.specs.Prelude.{Bool, IfOk, IsTrue, OnOk, true};
+ghost use Rattle.nll_types.specs.Shapes.{reference_shape, shape_of};
+ghost use Rattle.nll_types.specs.Table.{AreBelow, IsOver, shape_in, shape_over, shapes_in};
+ghost use Rattle.nll_types.specs.Tables.{AddsShapes};
+ghost use Rattle.nll_types.specs.Types.{TypeTree};
+ghost use Rattle.nll_mir_text.specs.Resolving.{AreShaped, newest_type, older, others, starts};
+
+use crate::rows::{Rows, newest_row};
+use nll_sets::Memory;
+use nll_types::{Node, Shapes, TypeTable};
+use smallvec::SmallVec;
+use std::alloc::Global;
+
+// How far after its target a reference is looked for.
+const NEAR: usize = 8;
+
+/// The shapes of the types that are made, the newest last. Few types have more parts.
+pub(crate) type Made = SmallVec<usize, 8>;
+
+// Whether a shape is that of a reference to the target.
+fn is_reference(shapes: &Shapes, shape: usize, mutable: bool, target: usize) -> bool
+    requires shape { shape < length shapes.now }
+    requires target { target < length shapes.now }
+    ensures { IsTrue result
+        → shape_in shapes.now shape ≡ reference_shape mutable (shape_in shapes.now target) }
+{
+    match shapes.node(shape) {
+        Node::Reference(marked, behind) => {
+            let same = shapes.is_same(*behind, target);
+            (*marked == mutable) & same
+        }
+        _ => false,
+    }
+}
+
+// The number of the shape of a reference. Most come soon after their targets, and are found there
+// without hashing.
+fn known_reference(table: &mut TypeTable, mutable: bool, target: usize) -> Result<usize, Memory>
+    requires { target < length table.old.shapes }
+    ensures grows { AddsShapes table.old table.new }
+    ensures within { IfOk result (λ i. i < length table.new.shapes) }
+    ensures at { IfOk result (λ i. shape_in table.new.shapes i
+        ≡ reference_shape mutable (shape_in table.old.shapes target)) }
+{
+    let shapes = table.shapes();
+    let end = target + NEAR.min(shapes.len() - target);
+    for shape in target + 1..end {
+        if is_reference(shapes, shape, mutable, target) {
+            return Ok(shape);
+        }
+    }
+    table.add(Node::Reference(mutable, target))
+}
+
+/// The number of the shape of a reference; of its target where a name is unknown.
+pub(crate) fn reference_to(
+    known: bool,
+    table: &mut TypeTable,
+    mutable: bool,
+    target: usize,
+) -> Result<usize, Memory>
+    requires { target < length table.old.shapes }
+    ensures grows { AddsShapes table.old table.new }
+    ensures within { IfOk result (λ i. i < length table.new.shapes) }
+    ensures at { IfOk result (λ i. known ≡ true → shape_in table.new.shapes i
+        ≡ reference_shape mutable (shape_in table.old.shapes target)) }
+{
+    if known {
+        known_reference(table, mutable, target)
+    } else {
+        Ok(target)
+    }
+}
+
+/// Takes the newest shape off; that of `int` where there is none.
+pub(crate) fn pop(table: &mut TypeTable, made: &mut Made) -> Result<usize, Memory>
+    requires { AreBelow (length table.old.shapes) made.old.items }
+    ensures grows { AddsShapes table.old table.new }
+    ensures within { IfOk result (λ i. i < length table.new.shapes) }
+    ensures newest { IfOk result (λ i. (known : Bool) (ts : List TypeTree)
+        → AreShaped known table.old.shapes ts made.old.items → known ≡ true
+        → shape_in table.new.shapes i ≡ shape_of (newest_type ts)) }
+    ensures older { made.new.items ≡ older made.old.items }
+{
+    match made.pop() {
+        Some(shape) => Ok(shape),
+        None => table.add(Node::Int),
+    }
+}
+
+/// Takes off the shapes of the newest row, which is complete then.
+pub(crate) fn pop_row(alloc: Global, made: &mut Made, rows: &mut Rows) -> Result<Vec<usize>, Memory>
+    ensures row { IfOk result
+        (λ v. v.items ≡ drop (starts (reverse rows.old.items)).0 made.old.items) }
+    ensures made { OnOk result
+        (made.new.items ≡ take (starts (reverse rows.old.items)).0 made.old.items) }
+    ensures rows { OnOk result (reverse rows.new.items ≡ others (reverse rows.old.items)) }
+{
+    let row = newest_row(rows.as_slice());
+    let start = row.types.min(made.len());
+    let parts = Vec::from_slice(alloc, &made.as_slice()[start..])?;
+    made.truncate(start);
+    rows.truncate(row.place.saturating_sub(1));
+    Ok(parts)
+}
+
+// The number of the shape of a node, where each name is known.
+fn number(known: bool, table: &mut TypeTable, node: Node) -> Result<usize, Memory>
+    requires { IsOver (length table.old.shapes) node }
+    ensures grows { AddsShapes table.old table.new }
+    ensures within { IfOk result (λ i. i < length table.new.shapes) }
+    ensures at { IfOk result (λ i. known ≡ true
+        → shape_in table.new.shapes i ≡ shape_over (shapes_in table.old.shapes) node) }
+{
+    table.add(if known { node } else { Node::Int })
+}
+
+/// Appends the shape of a node; some shape where a name is unknown, since none is asked for then.
+pub(crate) fn push(
+    known: bool,
+    table: &mut TypeTable,
+    node: Node,
+    made: &mut Made,
+) -> Result<(), Memory>
+    requires node { IsOver (length table.old.shapes) node }
+    requires below { AreBelow (length table.old.shapes) made.old.items }
+    ensures grows { AddsShapes table.old table.new }
+    ensures below { OnOk result (AreBelow (length table.new.shapes) made.new.items) }
+    ensures made { OnOk result ((ts : List TypeTree) (t : TypeTree)
+        → AreShaped known table.old.shapes ts made.old.items
+        → (known ≡ true → shape_over (shapes_in table.old.shapes) node ≡ shape_of t)
+        → AreShaped known table.new.shapes (ts ++ t ∷ []) made.new.items) }
+{
+    let shape = number(known, table, node)?;
+    made.push(shape)?;
+    Ok(())
+}

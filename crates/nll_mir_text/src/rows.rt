@@ -1,0 +1,101 @@
+//! The entries of rows of arguments that aren't complete.
+
+ghost use Rattle.std.specs.Prelude.{◌≡◌, ◌-◌, ◌≤◌, length, map, reverse, drop, take, slice_index_or};
+ghost use Rattle.std.specs.Prelude.{[]};
+ghost use Rattle.nll_mir_text.specs.Naming as naming;
+ghost use Rattle.nll_mir_text.specs.Resolution.{scope_of};
+ghost use Rattle.nll_mir_text.specs.Resolving as spec;
+
+use crate::scope::Scope;
+use nll_problem::RegionId;
+use smallvec::SmallVec;
+
+/// An entry of a row, or the beginning of one.
+#[derive(Clone, Copy)]
+pub enum Mark {
+    /// A row begins, after this many types and this many regions.
+    Row(usize, usize),
+    /// A region.
+    Region(RegionId),
+    /// A type.
+    Part,
+}
+
+impl Default for Mark {
+    fn default() -> Mark {
+        Mark::Part
+    }
+}
+
+/// The rows that aren't complete, the newest last. Few types have more in them.
+pub(crate) type Rows = SmallVec<Mark, 4>;
+
+/// Where the newest row begins.
+#[derive(Clone, Copy)]
+pub(crate) struct Beginning {
+    /// How many marks there are up to its beginning.
+    pub place: usize,
+    /// How many types come before it.
+    pub types: usize,
+    /// How many regions come before it.
+    pub regions: usize,
+}
+
+/// Where the newest row begins.
+pub(crate) fn newest_row(rows: &[Mark]) -> Beginning
+    ensures within { result.place ≤ length rows.now }
+    ensures newest { reverse (drop result.place rows.now) ≡ spec.newest (reverse rows.now) }
+    ensures others { reverse (take (result.place - 1) rows.now) ≡ spec.others (reverse rows.now) }
+    ensures types { result.types ≡ (spec.starts (reverse rows.now)).0 }
+    ensures regions { result.regions ≡ (spec.starts (reverse rows.now)).1 }
+{
+    let mut place = rows.len();
+    while place > 0 {
+        if let Mark::Row(types, regions) = rows[place - 1] {
+            return Beginning {
+                place,
+                types,
+                regions,
+            };
+        }
+        place -= 1;
+    }
+    Beginning {
+        place: 0,
+        types: 0,
+        regions: 0,
+    }
+}
+
+// Whether it is a region.
+fn is_region(mark: Mark) -> bool
+    ensures { result ≡ spec.is_region mark }
+{
+    matches!(mark, Mark::Region(_))
+}
+
+/// Whether arguments are of these kinds.
+pub(crate) fn are_of(arguments: &[Mark], kinds: &[bool]) -> bool
+    ensures { result ≡ naming.same_kinds (map spec.is_region arguments.now) kinds.now }
+{
+    if arguments.len() != kinds.len() {
+        return false;
+    }
+    for number in 0..arguments.len() {
+        if is_region(arguments[number]) != kinds[number] {
+            return false;
+        }
+    }
+    true
+}
+
+/// Whether a struct takes arguments of these kinds.
+pub(crate) fn takes(scope: &Scope<'_>, number: usize, arguments: &[Mark]) -> bool
+    ensures { result ≡ naming.same_kinds (map spec.is_region arguments.now)
+        (slice_index_or (scope_of scope.now).kinds number []) }
+{
+    match scope.kinds.get(number) {
+        Some(kinds) => are_of(arguments, kinds.as_slice()),
+        None => are_of(arguments, &[]),
+    }
+}

@@ -1,4 +1,0 @@
-pub mod NameLaws
-mod RowLemmas
-mod ShapedLemmas
-mod ResolvedLemmas

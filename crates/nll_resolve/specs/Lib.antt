@@ -1,4 +1,0 @@
-pub mod Naming
-pub mod Resolution
-pub mod ToldTypes
-pub mod Resolving

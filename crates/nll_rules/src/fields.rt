@@ -1,0 +1,70 @@
+//! The fields of structs that are known: their shapes, and where their regions are in the row of
+//! the struct.
+
+ghost use Rattle.std.specs.Prelude.{◌≡◌, ℕ, List, Contains, IfOk, IfSome};
+ghost use Rattle.nll_types.specs.Structs.{region_in};
+ghost use Rattle.nll_rules.specs.TypeRows.{row_from, row_of};
+
+use crate::type_row::TypeRow;
+use indexmap::IndexMap;
+use nll_problem::RegionId;
+use nll_sets::Memory;
+use std::alloc::Global;
+
+/// A field of a struct with arguments: the number of the struct's shape, and the field's place.
+#[derive(Clone, Copy, PartialEq, Eq, Hash)]
+pub(crate) struct FieldKey {
+    pub(crate) shape: usize,
+    pub(crate) place: usize,
+}
+
+/// The type of a field: its shape, and the template that makes its row of the row of the struct.
+#[derive(Drop)]
+pub(crate) struct FieldRow {
+    pub(crate) shape: usize,
+    /// A number for each region of the field's row: 0 for `'static`, and k + 1 for the region at
+    /// the place k of the struct's row.
+    pub(crate) template: Vec<usize>,
+}
+
+// The region of a number of a template.
+fn region_at(row: &[RegionId], number: usize) -> RegionId
+    ensures { result ≡ region_in row.now number }
+{
+    if number == 0 || number > row.len() {
+        RegionId(0)
+    } else {
+        row[number - 1]
+    }
+}
+
+impl FieldRow {
+    /// The type of the field, where this is the row of the struct.
+    pub(crate) fn of(&self, alloc: Global, row: &[RegionId]) -> Result<TypeRow, Memory>
+        ensures shape { IfOk result (λ r. r.shape ≡ self.now.shape) }
+        ensures row { IfOk result (λ r. (regions : List ℕ)
+            → row_of regions r ≡ row_from row.now self.now.template.items) }
+    {
+        let template = self.template.as_slice();
+        let mut made = Vec::with_capacity(alloc, template.len())?;
+        for number in template {
+            made.push_reserved(region_at(row, *number));
+        }
+        Ok(TypeRow {
+            shape: self.shape,
+            first: 0,
+            count: made.len(),
+            made: Some(made),
+        })
+    }
+}
+
+/// What is known of a field.
+pub(crate) fn known_field(
+    fields: &IndexMap<FieldKey, FieldRow>,
+    sought: FieldKey,
+) -> Option<&FieldRow>
+    ensures { IfSome result (λ f. Contains fields.now.entries (sought, f.now)) }
+{
+    fields.get(&sought)
+}

@@ -1,0 +1,219 @@
+//! The types of a body's variables and of places in them, by the regions that are written in each.
+ghost use Rattle.std.specs.Prelude.{◌≡◌, ◌<◌, length, Some};
+ghost use Rattle.nll_types.specs.Places.{type_of, path_of};
+ghost use Rattle.nll_types.specs.Structs.{IsWellFormed};
+ghost use Rattle.nll_types.specs.Types.{TypeTree};
+ghost use Rattle.nll_types.specs.Views.{tree};
+
+use super::body_text::{Asked, compare_lines};
+use super::pieces::{write_number, write_piece};
+use nll_body::{Body, StatementAt, Stmt, TypedBody};
+use nll_problem::RegionId;
+use nll_sets::Memory;
+use nll_types::{BodyTypes, Place, Projection, Ty, Typed, behind};
+use smallvec::SmallVec;
+use std::alloc::Global;
+use std::process::Abort;
+
+// A body whose variables have references, a tuple and a struct, and which makes a tuple.
+const BODY: &str = "nll-mir 1|region 'a|region 'b|region 'c|struct W<'x +>(&'x int)|let _0: int|\
+    let _1: &'a mut &'b int|let _2: (int, W<'c>)|blocks 1|block bb0|\
+    _2 = make (int, W<'b>)(const, copy _2.1)|stop|end|";
+
+// Writes which of the first four regions are among these.
+fn write_which(rt: &impl Abort, out: &mut String, regions: &[RegionId]) {
+    for number in 0..4 {
+        if regions.contains(&RegionId(number)) {
+            write_number(rt, out, " ", u64::from(number), "");
+        }
+    }
+}
+
+// Writes the regions of a type.
+fn write_type(rt: &impl Abort, alloc: Global, out: &mut String, body: &Body, ty: &Ty)
+    requires { IsWellFormed body.now.structs (length body.now.names) 0 (tree ty.now) }
+{
+    let regions = body.structs().regions(alloc, ty).expect(rt, "memory");
+    write_which(rt, out, regions.as_slice());
+}
+
+// Writes the regions of a variable's type.
+fn write_variable(rt: &impl Abort, alloc: Global, out: &mut String, body: &Body, variable: u32)
+    requires { variable < length body.now.variables }
+{
+    write_piece(rt, out, "|");
+    let ty = body.var_type(alloc, variable).expect(rt, "memory");
+    write_type(rt, alloc, out, body, &ty);
+}
+
+/// Writes the regions of each variable's type.
+pub fn write_variables(rt: &impl Abort, alloc: Global, out: &mut String, body: &Body) {
+    for variable in 0..body.variables() {
+        write_variable(rt, alloc, out, body, variable as u32);
+    }
+}
+
+// Writes the regions of the type of a place that has one.
+fn write_found(rt: &impl Abort, alloc: Global, out: &mut String, body: &Body, place: &Place)
+    requires { (t : TypeTree)
+        × (type_of body.now.structs body.now.variables (path_of place.now) ≡ Some t) }
+{
+    let ty = body.place_type(alloc, place).expect(rt, "memory");
+    write_type(rt, alloc, out, body, &ty);
+}
+
+// Writes the regions of a place's type, or that it has none.
+fn write_place(
+    rt: &impl Abort,
+    alloc: Global,
+    out: &mut String,
+    body: &Body,
+    place: &Place,
+) -> Result<(), Memory> {
+    let variable = place.variable();
+    if variable as usize >= body.variables() {
+        write_piece(rt, out, " none");
+        return Ok(());
+    }
+    let ty = body.var_type(alloc, variable)?;
+    match behind(alloc, body.structs(), ty, place.projections())? {
+        Some(ty) => {
+            drop(ty);
+            write_found(rt, alloc, out, body, place);
+        }
+        None => write_piece(rt, out, " none"),
+    }
+    Ok(())
+}
+
+// Writes the regions of the type of a place in a variable.
+fn write_one(
+    rt: &impl Abort,
+    alloc: Global,
+    out: &mut String,
+    body: &Body,
+    (variable, projections): (u32, &[Projection]),
+) {
+    let projections = SmallVec::from_slice(alloc, projections).expect(rt, "memory");
+    let place = Place::new(alloc, variable, projections).expect(rt, "memory");
+    write_place(rt, alloc, out, body, &place).expect(rt, "memory");
+}
+
+/// Writes the regions of the types of the places below, each after a bar.
+pub fn write_places(rt: &impl Abort, alloc: Global, out: &mut String, body: &Body) {
+    for place in PLACES {
+        write_piece(rt, out, "|");
+        write_one(rt, alloc, out, body, *place);
+    }
+}
+
+// Writes the regions of some types.
+#[cycle(trees)]
+fn write_trees(rt: &impl Abort, out: &mut String, types: &[Ty]) {
+    for ty in types {
+        write_tree(rt, out, ty);
+    }
+}
+
+// Writes the regions of a type that has no function in it.
+#[cycle(trees)]
+fn write_tree(rt: &impl Abort, out: &mut String, ty: &Ty) {
+    match ty {
+        Ty::Int | Ty::Parameter(_) | Ty::Function(_, _) => {}
+        Ty::Reference(region, _, target) => {
+            write_which(rt, out, &[*region]);
+            write_tree(rt, out, target);
+        }
+        Ty::Tuple(parts) => write_trees(rt, out, parts.as_slice()),
+        Ty::Named(_, regions, types) => {
+            write_which(rt, out, regions.as_slice());
+            write_trees(rt, out, types.as_slice());
+        }
+    }
+}
+
+// Writes the regions of a type by number.
+fn write_number_of(rt: &impl Abort, alloc: Global, out: &mut String, types: &BodyTypes, ty: Typed) {
+    write_piece(rt, out, "|");
+    if ty.shape < types.table.shapes().len() {
+        let ty = types.tree(alloc, ty).expect(rt, "memory");
+        write_tree(rt, out, &ty);
+    }
+}
+
+// Writes the regions of the type that is made at a point, if one is.
+fn write_made(rt: &impl Abort, alloc: Global, out: &mut String, line: StatementAt<'_>) {
+    if let Stmt::Make(number) = line.statement {
+        if let Some(made) = line.statements.make(*number) {
+            write_number_of(rt, alloc, out, line.types, made.ty);
+        }
+    }
+}
+
+/// Writes the regions of the types that go by number: of the variables, of the statements, and of
+/// the statement at each point.
+pub fn write_typed(rt: &impl Abort, alloc: Global, out: &mut String, body: &Body) {
+    let TypedBody {
+        types,
+        variables,
+        points,
+    } = body.typed();
+    for ty in variables {
+        write_number_of(rt, alloc, out, types, *ty);
+    }
+    for point in 0..points.len() {
+        let line = StatementAt {
+            statement: points.at(point),
+            statements: points,
+            types,
+        };
+        write_made(rt, alloc, out, line);
+    }
+    for point in 0..body.points() {
+        write_made(rt, alloc, out, body.line_at(point));
+    }
+}
+
+// The regions of each variable's type: of the second those of a reference to a reference, of the
+// third that of a struct in a tuple.
+#[test]
+fn variables_have_types(rt: HostRuntime) {
+    compare_lines(&rt, rt.alloc(), Asked::Variables, BODY, "|| 1 2| 3");
+}
+
+// By number the types are the same. The tuple that is made has a region of its own.
+#[test]
+fn types_go_by_number(rt: HostRuntime) {
+    compare_lines(&rt, rt.alloc(), Asked::Typed, BODY, "|| 1 2| 3| 2| 2");
+}
+
+const DEREF: Projection = Projection::Deref;
+
+const FIRST: Projection = Projection::Field(0);
+
+const SECOND: Projection = Projection::Field(1);
+
+// Places: `_0`, `_1`, `_1.*`, `_1.*.*`, `_2`, `_2.0`, `_2.1`, `_2.1.0` and `_2.1.0.*`; and `_1.0`,
+// `_2.1.1` and `_3`, which there are not.
+const PLACES: &[(u32, &[Projection])] = &[
+    (0, &[]),
+    (1, &[]),
+    (1, &[DEREF]),
+    (1, &[DEREF, DEREF]),
+    (2, &[]),
+    (2, &[FIRST]),
+    (2, &[SECOND]),
+    (2, &[SECOND, FIRST]),
+    (2, &[SECOND, FIRST, DEREF]),
+    (1, &[FIRST]),
+    (2, &[SECOND, SECOND]),
+    (3, &[]),
+];
+
+// The type of a place in a variable is that of what is taken of it. The report has the regions of
+// each place's type.
+#[test]
+fn places_have_types(rt: HostRuntime) {
+    let want = "|| 1 2| 2|| 3|| 3| 3|| none| none| none";
+    compare_lines(&rt, rt.alloc(), Asked::Places, BODY, want);
+}
