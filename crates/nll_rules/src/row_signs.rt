@@ -37,6 +37,19 @@ pub(crate) enum PartSigns<'a> {
     Arguments(Sign, &'a [Parameter]),
 }
 
+// Appends a pair, unless it is the last one.
+fn push_new(pair: (RegionId, RegionId), asked: &mut Vec<(RegionId, RegionId)>) -> Result<(), Memory>
+    ensures { OnOk result (AddsPairs (λ x. pair ≡ x) asked.old.items asked.new.items) }
+{
+    if let Some(last) = asked.last().copied() {
+        if last.0.0 == pair.0.0 && last.1.0 == pair.1.0 {
+            return Ok(());
+        }
+    }
+    asked.push(pair)?;
+    Ok(())
+}
+
 /// Appends what a position of this sign asks of two regions.
 pub(crate) fn ask_pair(
     sign: Sign,
@@ -47,14 +60,13 @@ pub(crate) fn ask_pair(
     ensures { OnOk result (AddsPairs (IsAsked sign a b) asked.old.items asked.new.items) }
 {
     match sign {
-        Sign::Covariant => asked.push((a, b))?,
-        Sign::Contravariant => asked.push((b, a))?,
+        Sign::Covariant => push_new((a, b), asked),
+        Sign::Contravariant => push_new((b, a), asked),
         Sign::Invariant => {
-            asked.push((a, b))?;
-            asked.push((b, a))?;
+            push_new((a, b), asked)?;
+            push_new((b, a), asked)
         }
     }
-    Ok(())
 }
 
 /// Appends what two rows ask of each other, place by place, by the signs.
