@@ -5,9 +5,9 @@ use Rattle.std.specs.Borrow.{Bor}
 use Rattle.std.proofs.lemmas.List.{append-nil, length-append, map-append, reverse-append, take_more}
 use Rattle.std.proofs.Math.Seq.{take-length}
 use Rattle.nll_text.specs.Tokens.{Token, sign}
-use Rattle.nll_mir_grammar.specs.WrittenTypes.{WrittenType, WrittenTypes, Arguments, int, reference, tuple, named, function, none, more, no_argument, type_argument}
-use Rattle.nll_mir_grammar.specs.TypeTexts.{Piece, plain, steps, part_steps, argument_steps, add_type, make_reference, make_tuple, make_named, make_function, begin_row, joined_arguments}
-use Rattle.nll_mir_grammar.specs.OpenTypes.{Frame, behind, parts, arguments, inputs, output, joined, Steps, begun, complete, IsOpen, AreOpen, AreRead, ComesTo, GoesFurther, pending, Begins, IsBegun, IsCompleted, IsClosed, EndsWith}
+use Rattle.nll_mir_grammar.specs.WrittenTypes.{Name, WrittenType, WrittenTypes, Arguments, int, reference, tuple, named, function, none, more, no_argument, type_argument}
+use Rattle.nll_mir_grammar.specs.TypeTexts.{Piece, plain, steps, part_steps, argument_steps, add_type, begin_reference, make_tuple, make_named, make_function, begin_row, joined_arguments}
+use Rattle.nll_mir_grammar.specs.OpenTypes.{Frame, behind, parts, arguments, inputs, output, joined, Steps, begun, complete, IsOpen, AreOpen, IsFitting, AreRead, ComesTo, GoesFurther, pending, Begins, IsBegun, IsCompleted, IsClosed, EndsWith}
 use Rattle.nll_mir_grammar.specs.declared.opens.State.{State}
 use Rattle.nll_mir_grammar.specs.declared.opens.State.TheVariants.{Want, WantArgument, Have, Inside, WantArrow}
 use Rattle.nll_mir_grammar.specs.declared.fronts.Front.{Front}
@@ -17,7 +17,7 @@ use Rattle.nll_mir_grammar.specs.declared.opens.Open.TheVariants as opens
 use Rattle.nll_mir_grammar.specs.declared.type_text.TypePiece.{TypePiece}
 use Rattle.nll_mir_grammar.specs.declared.type_text.TypePiece.TheVariants as kept
 use Rattle.nll_mir_grammar.proofs.PieceLemmas.{part_steps_more, argument_steps_more}
-use Rattle.nll_mir_grammar.proofs.StepLemmas.{step_behind, step_output, step_input, step_close_input, step_part, step_type_argument, step_close_part, step_close_argument}
+use Rattle.nll_mir_grammar.proofs.StepLemmas.{step_output, step_input, step_close_input, step_part, step_type_argument, step_close_part, step_close_argument}
 use Rattle.nll_mir_grammar.proofs.FrontSteps.{front_thunk, front_function, front_int, front_unit, front_tuple, front_reference, front_generic, front_name}
 
 -- ---- tokens that are left
@@ -54,11 +54,24 @@ begins_less fronts.Function ts rest b = two_less _ _ ts rest b.0
 
 -- ---- pieces and what is open, one thing more or less
 
+-- Something that is open stands in front of what is open.
+open_first : (o : Open) (f : Frame) (os : List Open) (frames : List Frame) → IsOpen o f → AreOpen os frames
+    → AreOpen (o ∷ os) (f ∷ frames)
+open_first opens.Tuple f os frames is r =
+    subst (λ z. AreOpen (opens.Tuple ∷ os) (z ∷ frames)) (sym is.1) ((is.0, refl), r)
+open_first (opens.Arguments n) f os frames is r =
+    subst (λ z. AreOpen (opens.Arguments n ∷ os) (z ∷ frames)) (sym is.1) ((is.0, refl), r)
+open_first opens.Inputs f os frames is r =
+    subst (λ z. AreOpen (opens.Inputs ∷ os) (z ∷ frames)) (sym is.1) ((is.0, refl), r)
+open_first opens.Output f os frames is r =
+    subst (λ z. AreOpen (opens.Output ∷ os) (z ∷ frames)) (sym is.1) ((is.0, refl), r)
+
 -- one thing more is open, and one less
 opened_more : (os os' : List Open) (o : Open) (f : Frame) (frames : List Frame) → os' ≡ os ++ o ∷ []
     → IsOpen o f → AreOpen (reverse os) frames → AreOpen (reverse os') (f ∷ frames)
 opened_more os os' o f frames e is r =
-    subst (λ (z : List Open). AreOpen z (f ∷ frames)) (sym (ap reverse e ∙ reverse-append os (o ∷ []))) (is, r)
+    subst (λ (z : List Open). AreOpen z (f ∷ frames)) (sym (ap reverse e ∙ reverse-append os (o ∷ [])))
+    (open_first o f (reverse os) frames is r)
 
 opened_less : (os outer : List Open) (o : Open) (frames : List Frame) → os ≡ outer ++ o ∷ []
     → AreOpen (reverse os) frames → AreOpen (o ∷ reverse outer) frames
@@ -82,8 +95,9 @@ row_more front row row' t e =
 pub comes_so : (s s' : State) (frames frames' : List Frame) (t t' : WrittenType) (ts ts' : List Token)
     (ps ps' row : List TypePiece) (os os' : List Open) → AreRead s frames t ps os → ps' ≡ ps ++ row
     → (begun frames ++ complete s t) ++ map plain row ≡ begun frames' ++ complete s' t'
-    → AreOpen (reverse os') frames' → Steps s frames t ts s' frames' t' ts' → ComesTo s frames t ts s' ps' os' ts'
-comes_so s s' frames frames' t t' ts ts' ps ps' row os os' r put made are step = record {
+    → AreOpen (reverse os') frames' → IsFitting s' frames' → Steps s frames t ts s' frames' t' ts'
+    → ComesTo s frames t ts s' ps' os' ts'
+comes_so s s' frames frames' t t' ts ts' ps ps' row os os' r put made are fits step = record {
   frames' = frames';
   t' = t';
   same = step;
@@ -91,6 +105,7 @@ comes_so s s' frames frames' t t' ts ts' ps ps' row os os' r put made are step =
     pieces = ap (map plain) put ∙ map-append plain ps row ∙ ap (λ (qs : List Piece). qs ++ map plain row) r.pieces
         ∙ made;
     are_open = are;
+    fits = fits;
   };
 }
 
@@ -105,24 +120,24 @@ begun_type front frames t u ps ps' row os s made step h r =
     subst (λ (z : State). IsBegun front frames t os z ps' os) (sym h.0) (record {
       comes = λ ts rest b. comes_so Want Have frames frames t u ts rest ps ps' row os os r h.1
           (append_assoc (begun frames) [] (map plain row) ∙ ap (λ (qs : List Piece). begun frames ++ qs) made)
-          r.are_open (step ts rest b);
+          r.are_open tt (step ts rest b);
       few = omega arith;
     })
 
 -- something is open
 begun_frame : (front : Front) (f : Frame) (frames : List Frame) (t : WrittenType) (ps ps' row : List TypePiece)
     (os os' : List Open) (o : Open) (s s' : State) → IsOpen o f → begun (f ∷ frames) ≡ begun frames ++ map plain row
-    → complete s' t ≡ [] → pending s' ≤ 1
+    → complete s' t ≡ [] → pending s' ≤ 1 → IsFitting s' (f ∷ frames)
     → ((ts rest : List Token) → Begins front ts rest → Steps Want frames t ts s' (f ∷ frames) t rest)
     → (s ≡ s') × (ps' ≡ ps ++ row) × (os' ≡ os ++ o ∷ []) → AreRead Want frames t ps os
     → IsBegun front frames t os s ps' os'
-begun_frame front f frames t ps ps' row os os' o s s' is made none_made few step h r =
+begun_frame front f frames t ps ps' row os os' o s s' is made none_made few fits step h r =
     let l = length_more os os' o h.2 in
     subst (λ (z : State). IsBegun front frames t os z ps' os') (sym h.0) (record {
       comes = λ ts rest b. comes_so Want s' frames (f ∷ frames) t t ts rest ps ps' row os os' r h.1
           (append_assoc (begun frames) [] (map plain row) ∙ sym made
           ∙ sym (ap (λ (qs : List Piece). begun (f ∷ frames) ++ qs) none_made ∙ append-nil (begun (f ∷ frames))))
-          (opened_more os os' o f frames h.2 is r.are_open) (step ts rest b);
+          (opened_more os os' o f frames h.2 is r.are_open) fits (step ts rest b);
       few = omega arith;
     })
 
@@ -154,16 +169,20 @@ pub begun_tuple : (front : Front) (ps ps' : List TypePiece) (os os' : List Open)
     (t : WrittenType) → AreRead Want frames t ps os → IsBegun front frames t os s ps' os'
 begun_tuple front ps ps' os os' s is h frames t r =
     begun_frame front (parts none) frames t ps ps' (kept.Row ∷ []) os os' opens.Tuple s Want (none, refl) refl refl
-    (omega arith) (λ ts rest b. front_tuple frames t t ts rest (subst (λ z. Begins z ts rest) is b)) h r
+    (omega arith) tt (λ ts rest b. front_tuple frames t t ts rest (subst (λ z. Begins z ts rest) is b)) h r
 
-pub begun_reference : (front : Front) (q : Bor (List ℕ)) (m : Bool) (ps : List TypePiece) (os os' : List Open)
-    (s : State) → front ≡ fronts.Reference q m → (s ≡ Want) × (os' ≡ os ++ opens.Behind m q ∷ [])
-    → (frames : List Frame) (t : WrittenType) → AreRead Want frames t ps os → IsBegun front frames t os s ps os'
-begun_reference front q m ps os os' s is h frames t r =
-    begun_frame front (behind q.now m) frames t ps ps [] os os' (opens.Behind m q) s Want refl
-    (sym (append-nil (begun frames))) refl (omega arith)
-    (λ ts rest b. front_reference q m frames t t ts rest (subst (λ z. Begins z ts rest) is b))
-    (h.0, sym (append-nil ps), h.1) r
+pub begun_reference : (front : Front) (q : Bor (List ℕ)) (m : Bool) (ps ps' : List TypePiece) (os : List Open)
+    (s : State) → front ≡ fronts.Reference q m → (s ≡ Want) × (ps' ≡ ps ++ kept.Reference m q ∷ [])
+    → (frames : List Frame) (t : WrittenType) → AreRead Want frames t ps os → IsBegun front frames t os s ps' os
+begun_reference front q m ps ps' os s is h frames t r =
+    subst (λ (z : State). IsBegun front frames t os z ps' os) (sym h.0) (record {
+      comes = λ ts rest b. comes_so Want Want frames (behind q.now m ∷ frames) t t ts rest ps ps'
+          (kept.Reference m q ∷ []) os os r h.1
+          (append_assoc (begun frames) [] (begin_reference m q.now ∷ [])
+          ∙ sym (append-nil (begun frames ++ begin_reference m q.now ∷ [])))
+          r.are_open tt (front_reference q m frames t t ts rest (subst (λ z. Begins z ts rest) is b));
+      few = omega arith;
+    })
 
 pub begun_generic : (front : Front) (n : Bor (List ℕ)) (ps ps' : List TypePiece) (os os' : List Open) (s : State)
     → front ≡ fronts.Generic n
@@ -171,7 +190,7 @@ pub begun_generic : (front : Front) (n : Bor (List ℕ)) (ps ps' : List TypePiec
     (t : WrittenType) → AreRead Want frames t ps os → IsBegun front frames t os s ps' os'
 begun_generic front n ps ps' os os' s is h frames t r =
     begun_frame front (arguments n.now no_argument) frames t ps ps' (kept.Row ∷ []) os os' (opens.Arguments n) s
-    WantArgument (no_argument, refl) refl refl (omega arith)
+    WantArgument (no_argument, refl) refl refl (omega arith) tt
     (λ ts rest b. front_generic n frames t t ts rest (subst (λ z. Begins z ts rest) is b)) h r
 
 pub begun_thunk : (front : Front) (ps ps' : List TypePiece) (os os' : List Open) (s : State) → front ≡ fronts.Thunk
@@ -179,14 +198,14 @@ pub begun_thunk : (front : Front) (ps ps' : List TypePiece) (os os' : List Open)
     (t : WrittenType) → AreRead Want frames t ps os → IsBegun front frames t os s ps' os'
 begun_thunk front ps ps' os os' s is h frames t r =
     begun_frame front (output none) frames t ps ps' (kept.Row ∷ []) os os' opens.Output s WantArrow (none, refl) refl
-    refl (omega arith) (λ ts rest b. front_thunk frames t t ts rest (subst (λ z. Begins z ts rest) is b)) h r
+    refl (omega arith) tt (λ ts rest b. front_thunk frames t t ts rest (subst (λ z. Begins z ts rest) is b)) h r
 
 pub begun_function : (front : Front) (ps ps' : List TypePiece) (os os' : List Open) (s : State)
     → front ≡ fronts.Function → (s ≡ Want) × (ps' ≡ ps ++ kept.Row ∷ []) × (os' ≡ os ++ opens.Inputs ∷ [])
     → (frames : List Frame) (t : WrittenType) → AreRead Want frames t ps os → IsBegun front frames t os s ps' os'
 begun_function front ps ps' os os' s is h frames t r =
     begun_frame front (inputs none) frames t ps ps' (kept.Row ∷ []) os os' opens.Inputs s Want (none, refl) refl refl
-    (omega arith) (λ ts rest b. front_function frames t t ts rest (subst (λ z. Begins z ts rest) is b)) h r
+    (omega arith) tt (λ ts rest b. front_function frames t t ts rest (subst (λ z. Begins z ts rest) is b)) h r
 
 -- the step of a beginning, with the tokens that it takes
 pub further_begin : (front : Front) (ts rest : List Token) (frames : List Frame) (t : WrittenType)
@@ -210,36 +229,55 @@ last_is xs os n o p e f some is =
     sym (take-length os) ∙ ap (λ (i : ℕ). take i os) (sym k) ∙ take_more os (length os - 1) p l
     ∙ ap (λ (z : Open). take (length os - 1) os ++ z ∷ []) same
 
--- What is so wherever the innermost frame is what is open last is so of all frames that are what is open.
+-- What is so wherever the innermost frame is what is open last, and with each reference more, is so of all frames
+-- that are what is open.
 by_frame : (os outer : List Open) (o : Open) (P : List Frame → Type 0) → os ≡ outer ++ o ∷ []
+    → ((q : Name) (m : Bool) (frames : List Frame) → P frames → P (behind q m ∷ frames))
     → ((f : Frame) (frames : List Frame) → IsOpen o f → AreOpen (reverse outer) frames → P (f ∷ frames))
     → (frames : List Frame) → AreOpen (reverse os) frames → P frames
-by_frame os outer o P e each frames r = by frames (opened_less os outer o frames e r)
+by_frame os outer o P e waits each frames r = by frames (opened_less os outer o frames e r)
   where
     by : (frames : List Frame) → AreOpen (o ∷ reverse outer) frames → P frames
     by [] h = absurd h
-    by (f ∷ frames) h = each f frames h.0 h.1
+    by (behind q m ∷ frames) h = waits q m frames (by frames h)
+    by (parts done ∷ frames) h = each (parts done) frames h.0 h.1
+    by (arguments n done ∷ frames) h = each (arguments n done) frames h.0 h.1
+    by (inputs done ∷ frames) h = each (inputs done) frames h.0 h.1
+    by (output done ∷ frames) h = each (output done) frames h.0 h.1
 
 -- ---- a complete type
 
--- it is what a reference points to
-pub completed_behind : (ps ps' : List TypePiece) (os os' : List Open) (m : Bool) (q : Bor (List ℕ)) (s : State)
-    → os ≡ take (length os - 1) os ++ opens.Behind m q ∷ []
-    → (s ≡ Have) × (ps' ≡ ps ++ kept.Reference m q ∷ []) × (os' ≡ take (length os - 1) os) → (frames : List Frame)
+-- A reference to the complete type is complete, too.
+pub read_behind : (q : Name) (m : Bool) (frames : List Frame) (t : WrittenType) (ps : List TypePiece)
+    (os : List Open) → AreRead Have (behind q m ∷ frames) t ps os → AreRead Have frames (reference q m t) ps os
+read_behind q m frames t ps os r = record {
+  pieces = r.pieces ∙ append_assoc (begun frames) (begin_reference m q ∷ []) (steps t);
+  are_open = r.are_open;
+  fits = tt;
+}
+
+-- Each type that is complete in these frames becomes a part of the innermost thing that was open, or completes it.
+abbrev Completes : (ps ps' : List TypePiece) (os os' : List Open) (s : State) → List Frame → Type 0
+Completes ps ps' os os' s frames =
     (t : WrittenType) → AreRead Have frames t ps os → IsCompleted frames t os s ps' os'
-completed_behind ps ps' os os' m q s e h frames t r =
-    subst (λ (z : State). IsCompleted frames t os z ps' os') (sym h.0)
-    (by_frame os os' (opens.Behind m q) (λ fs. AreRead Have fs t ps os → IsCompleted fs t os Have ps' os') f
-    (λ g frames is are. subst (λ z. AreRead Have (z ∷ frames) t ps os → IsCompleted (z ∷ frames) t os Have ps' os')
-    (sym is) (λ r. record {
-      comes = λ ts. comes_so Have Have (behind q.now m ∷ frames) frames t (reference q.now m t) ts ts ps ps'
-          (kept.Reference m q ∷ []) os os' r h.1 (append_assoc (begun frames) (steps t) (make_reference m q.now ∷ []))
-          are (step_behind frames q.now m t ts);
-      few = (let l = length_more os' os (opens.Behind m q) f in omega arith);
-    })) frames r.are_open r)
-  where
-    f : os ≡ os' ++ opens.Behind m q ∷ []
-    f = e ∙ ap (λ (z : List Open). z ++ opens.Behind m q ∷ []) (sym h.2)
+
+-- what a reference points to
+completes_behind : (ps ps' : List TypePiece) (os os' : List Open) (s : State) (q : Name) (m : Bool)
+    (frames : List Frame) → Completes ps ps' os os' s frames → Completes ps ps' os os' s (behind q m ∷ frames)
+completes_behind ps ps' os os' s q m frames each t r =
+    let h = each (reference q m t) (read_behind q m frames t ps os r) in
+    record {
+      comes = λ ts. let c = h.comes ts in record {
+        frames' = c.frames';
+        t' = c.t';
+        same = record {
+          there = λ whole rest f. c.same.there whole rest f;
+          back = λ whole rest f. c.same.back whole rest f;
+        };
+        read = c.read;
+      };
+      few = h.few;
+    }
 
 -- it is the result of a function
 pub completed_output : (ps ps' : List TypePiece) (os os' : List Open) (s : State)
@@ -248,17 +286,16 @@ pub completed_output : (ps ps' : List TypePiece) (os os' : List Open) (s : State
     (t : WrittenType) → AreRead Have frames t ps os → IsCompleted frames t os s ps' os'
 completed_output ps ps' os os' s e h frames t r =
     subst (λ (z : State). IsCompleted frames t os z ps' os') (sym h.0)
-    (by_frame os os' opens.Output (λ fs. AreRead Have fs t ps os → IsCompleted fs t os Have ps' os') f
-    (λ g frames is are. subst (λ z. AreRead Have (z ∷ frames) t ps os → IsCompleted (z ∷ frames) t os Have ps' os')
-    (sym is.1) (λ r. record {
+    (by_frame os os' opens.Output (Completes ps ps' os os' Have) f (completes_behind ps ps' os os' Have)
+    (λ g frames is are. subst (λ z. Completes ps ps' os os' Have (z ∷ frames)) (sym is.1) (λ t r. record {
       comes = λ ts. comes_so Have Have (output is.0 ∷ frames) frames t (function is.0 t) ts ts ps ps'
           (kept.Function ∷ []) os os' r h.1
           (ap (λ (qs : List Piece). qs ++ make_function ∷ [])
           (append_assoc (begun frames) (begin_row ∷ part_steps is.0) (steps t))
           ∙ append_assoc (begun frames) (begin_row ∷ (part_steps is.0 ++ steps t)) (make_function ∷ []))
-          are (step_output frames is.0 t ts);
+          are tt (step_output frames is.0 t ts);
       few = (let l = length_more os' os opens.Output f in omega arith);
-    })) frames r.are_open r)
+    })) frames r.are_open t r)
   where
     f : os ≡ os' ++ opens.Output ∷ []
     f = e ∙ ap (λ (z : List Open). z ++ opens.Output ∷ []) (sym h.2)
@@ -267,11 +304,12 @@ completed_output ps ps' os os' s e h frames t r =
 more_in_row : (f g : Frame) (frames : List Frame) (t : WrittenType) (ps ps' : List TypePiece) (os outer : List Open)
     (o : Open) → os ≡ outer ++ o ∷ [] → IsOpen o g → AreOpen (reverse outer) frames
     → (begun (f ∷ frames) ++ steps t) ++ add_type ∷ [] ≡ begun (g ∷ frames) ++ []
+    → IsFitting Inside (g ∷ frames)
     → ((ts : List Token) → Steps Have (f ∷ frames) t ts Inside (g ∷ frames) t ts) → ps' ≡ ps ++ kept.Part ∷ []
     → AreRead Have (f ∷ frames) t ps os → IsCompleted (f ∷ frames) t os Inside ps' os
-more_in_row f g frames t ps ps' os outer o e is are made step put r = record {
+more_in_row f g frames t ps ps' os outer o e is are made fits step put r = record {
   comes = λ ts. comes_so Have Inside (f ∷ frames) (g ∷ frames) t t ts ts ps ps' (kept.Part ∷ []) os os r put made
-      (opened_more outer os o g frames e is are) (step ts);
+      (opened_more outer os o g frames e is are) fits (step ts);
   few = omega arith;
 }
 
@@ -285,48 +323,46 @@ pub completed_part : (ps ps' : List TypePiece) (os : List Open) (o : Open) (s : 
     → (frames : List Frame) (t : WrittenType) → AreRead Have frames t ps os → IsCompleted frames t os s ps' os
 completed_part ps ps' os o s e row h frames t r =
     subst (λ (z : State). IsCompleted frames t os z ps' os) (sym h.0)
-    (by_frame os (take (length os - 1) os) o Completes e
+    (by_frame os outer o (Completes ps ps' os os Inside) e (completes_behind ps ps' os os Inside)
     (λ g frames is are. ⊎_elim
     (λ k. a_part g frames are k (subst (λ z. IsOpen z g) k is))
     (⊎_elim (λ k. an_argument g frames are k.0 k.1 (subst (λ z. IsOpen z g) k.1 is))
-    (λ k. an_input g frames are k (subst (λ z. IsOpen z g) k is))) row) frames r.are_open r)
+    (λ k. an_input g frames are k (subst (λ z. IsOpen z g) k is))) row) frames r.are_open t r)
   where
     outer : List Open
     outer = take (length os - 1) os
 
-    Completes : List Frame → Type 0
-    Completes fs = AreRead Have fs t ps os → IsCompleted fs t os Inside ps' os
-
     a_part : (g : Frame) (frames : List Frame) → AreOpen (reverse outer) frames → o ≡ opens.Tuple
-        → (done : WrittenTypes) × (g ≡ parts done) → Completes (g ∷ frames)
+        → (done : WrittenTypes) × (g ≡ parts done) → Completes ps ps' os os Inside (g ∷ frames)
     a_part g frames are k is =
-        let done = joined is.0 (more t none) in
-        subst (λ z. Completes (z ∷ frames)) (sym is.1)
-        (more_in_row (parts is.0) (parts done) frames t ps ps' os outer o e
+        subst (λ z. Completes ps ps' os os Inside (z ∷ frames)) (sym is.1)
+        (λ t. let done = joined is.0 (more t none) in
+        more_in_row (parts is.0) (parts done) frames t ps ps' os outer o e
         (subst (λ z. IsOpen z (parts done)) (sym k) (done, refl)) are
         (row_more (begun frames) (part_steps is.0) (part_steps done) t (part_steps_more is.0 t))
-        (step_part frames is.0 t t) h.1)
+        tt (step_part frames is.0 t t) h.1)
 
     an_argument : (g : Frame) (frames : List Frame) → AreOpen (reverse outer) frames → (n : Bor (List ℕ))
-        → o ≡ opens.Arguments n → (done : Arguments) × (g ≡ arguments n.now done) → Completes (g ∷ frames)
+        → o ≡ opens.Arguments n → (done : Arguments) × (g ≡ arguments n.now done)
+        → Completes ps ps' os os Inside (g ∷ frames)
     an_argument g frames are n k is =
-        let done = joined_arguments is.0 (type_argument t no_argument) in
-        subst (λ z. Completes (z ∷ frames)) (sym is.1)
-        (more_in_row (arguments n.now is.0) (arguments n.now done) frames t ps ps' os outer o e
+        subst (λ z. Completes ps ps' os os Inside (z ∷ frames)) (sym is.1)
+        (λ t. let done = joined_arguments is.0 (type_argument t no_argument) in
+        more_in_row (arguments n.now is.0) (arguments n.now done) frames t ps ps' os outer o e
         (subst (λ z. IsOpen z (arguments n.now done)) (sym k) (done, refl)) are
         (row_more (begun frames) (argument_steps is.0) (argument_steps done) t
         (argument_steps_more is.0 (type_argument t no_argument)))
-        (step_type_argument frames n.now is.0 t t) h.1)
+        tt (step_type_argument frames n.now is.0 t t) h.1)
 
     an_input : (g : Frame) (frames : List Frame) → AreOpen (reverse outer) frames → o ≡ opens.Inputs
-        → (done : WrittenTypes) × (g ≡ inputs done) → Completes (g ∷ frames)
+        → (done : WrittenTypes) × (g ≡ inputs done) → Completes ps ps' os os Inside (g ∷ frames)
     an_input g frames are k is =
-        let done = joined is.0 (more t none) in
-        subst (λ z. Completes (z ∷ frames)) (sym is.1)
-        (more_in_row (inputs is.0) (inputs done) frames t ps ps' os outer o e
+        subst (λ z. Completes ps ps' os os Inside (z ∷ frames)) (sym is.1)
+        (λ t. let done = joined is.0 (more t none) in
+        more_in_row (inputs is.0) (inputs done) frames t ps ps' os outer o e
         (subst (λ z. IsOpen z (inputs done)) (sym k) (done, refl)) are
         (row_more (begun frames) (part_steps is.0) (part_steps done) t (part_steps_more is.0 t))
-        (step_input frames is.0 t t) h.1)
+        tt (step_input frames is.0 t t) h.1)
 
 -- ---- the end of a row
 
@@ -344,11 +380,11 @@ pub closed_tuple : (ps ps' : List TypePiece) (os os' : List Open) (s : State)
     → IsClosed frames t c os s ps' os'
 closed_tuple ps ps' os os' s e h frames t c next r ends =
     subst (λ (z : State). IsClosed frames t c os z ps' os') (sym h.0)
-    (by_frame os os' opens.Tuple Closed f
+    (by_frame os os' opens.Tuple Closed f (λ q m frames closed r ends. absurd ends)
     (λ g frames is are. subst (λ z. Closed (z ∷ frames)) (sym is.1) (λ r ends. record {
       comes = λ ts. subst (λ z. ComesTo Inside (parts is.0 ∷ frames) t (sign z ∷ ts) Have ps' os' ts) (sym ends.0)
           (comes_so Inside Have (parts is.0 ∷ frames) frames t (tuple is.0) (sign 41 ∷ ts) ts ps ps'
-          (kept.Tuple ∷ []) os os' r h.1 (row_ends (begun frames) (part_steps is.0) make_tuple) are
+          (kept.Tuple ∷ []) os os' r h.1 (row_ends (begun frames) (part_steps is.0) make_tuple) are tt
           (step_close_part frames is.0 t ts));
       few = (let l = length_more os' os opens.Tuple f in omega arith);
     })) frames r.are_open r ends)
@@ -367,12 +403,12 @@ pub closed_name : (n : Bor (List ℕ)) (ps ps' : List TypePiece) (os os' : List 
     → IsClosed frames t c os s ps' os'
 closed_name n ps ps' os os' s e h frames t c next r ends =
     subst (λ (z : State). IsClosed frames t c os z ps' os') (sym h.0)
-    (by_frame os os' (opens.Arguments n) Closed f
+    (by_frame os os' (opens.Arguments n) Closed f (λ q m frames closed r ends. absurd ends)
     (λ g frames is are. subst (λ z. Closed (z ∷ frames)) (sym is.1) (λ r ends. record {
       comes = λ ts. subst (λ z. ComesTo Inside (arguments n.now is.0 ∷ frames) t (sign z ∷ ts) Have ps' os' ts)
           (sym ends.0)
           (comes_so Inside Have (arguments n.now is.0 ∷ frames) frames t (named n.now is.0) (sign 62 ∷ ts) ts ps ps'
-          (kept.Named n ∷ []) os os' r h.1 (row_ends (begun frames) (argument_steps is.0) (make_named n.now)) are
+          (kept.Named n ∷ []) os os' r h.1 (row_ends (begun frames) (argument_steps is.0) (make_named n.now)) are tt
           (step_close_argument frames n.now is.0 t ts));
       few = (let l = length_more os' os (opens.Arguments n) f in omega arith);
     })) frames r.are_open r ends)
@@ -383,10 +419,9 @@ closed_name n ps ps' os os' s e h frames t c next r ends =
     Closed : List Frame → Type 0
     Closed fs = AreRead Inside fs t ps os → EndsWith fs c next → IsClosed fs t c os Have ps' os'
 
--- What is no type when its row ends: a function, whose result comes next. A reference and a function's result
--- have no row.
+-- What is no type when its row ends: a function, whose result comes next. A function's result has no row.
 abbrev pub IsNoType : Open → Type 0
-IsNoType o = ((m : Bool) × (q : Bor (List ℕ)) × (o ≡ opens.Behind m q)) ⊎ ((o ≡ opens.Inputs) ⊎ (o ≡ opens.Output))
+IsNoType o = (o ≡ opens.Inputs) ⊎ (o ≡ opens.Output)
 
 -- the arguments of a function are complete
 pub closed_inputs : (ps : List TypePiece) (os os' : List Open) (o : Open) (s : State)
@@ -396,12 +431,10 @@ pub closed_inputs : (ps : List TypePiece) (os os' : List Open) (o : Open) (s : S
     → IsClosed frames t c os s ps os'
 closed_inputs ps os os' o s e which h frames t c next r ends =
     subst (λ (z : State). IsClosed frames t c os z ps os') (sym h.0)
-    (by_frame os outer o Closed e
-    (λ g frames is are. ⊎_elim
-    (λ k. subst (λ z. Closed (z ∷ frames)) (sym (subst (λ z. IsOpen z g) k.2 is)) (λ r ends. absurd ends))
-    (⊎_elim (λ k. awaited g frames are (subst (λ z. IsOpen z g) k is))
+    (by_frame os outer o Closed e (λ q m frames closed r ends. absurd ends)
+    (λ g frames is are. ⊎_elim (λ k. awaited g frames are (subst (λ z. IsOpen z g) k is))
     (λ k. let out : (done : WrittenTypes) × (g ≡ output done) = subst (λ z. IsOpen z g) k is in
-    subst (λ z. Closed (z ∷ frames)) (sym out.1) (λ r ends. absurd ends))) which)
+    subst (λ z. Closed (z ∷ frames)) (sym out.1) (λ r ends. absurd ends)) which)
     frames r.are_open r ends)
   where
     outer : List Open
@@ -417,7 +450,7 @@ closed_inputs ps os os' o s e which h frames t c next r ends =
           (sym ends.0)
           (comes_so Inside WantArrow (inputs is.0 ∷ frames) (output is.0 ∷ frames) t t (sign 41 ∷ ts) ts ps ps
           [] os os' r (sym (append-nil ps)) (append-nil (begun (inputs is.0 ∷ frames) ++ []))
-          (opened_more outer os' opens.Output (output is.0) frames h.1 (is.0, refl) are)
+          (opened_more outer os' opens.Output (output is.0) frames h.1 (is.0, refl) are) tt
           (step_close_input frames is.0 t t ts));
       few = (let l = length_more outer os o e in let k = length_more outer os' opens.Output h.1 in omega arith);
     })

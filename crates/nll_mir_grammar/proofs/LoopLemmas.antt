@@ -5,12 +5,12 @@ use Rattle.std.specs.Borrow.{Bor}
 use Rattle.std.proofs.lemmas.Bool.{eqb-true, false≢true}
 use Rattle.std.proofs.lemmas.List.{append-nil, nil_from_length}
 use Rattle.nll_text.specs.Tokens.{Token, region, arrow, sign}
-use Rattle.nll_mir_grammar.specs.WrittenTypes.{Name, WrittenType, Arguments, int, no_argument, region_argument}
+use Rattle.nll_mir_grammar.specs.WrittenTypes.{Name, WrittenType, Arguments, int, reference, no_argument, region_argument}
 use Rattle.nll_mir_grammar.specs.Reading.{HasNoType, IsTypeIn}
 use Rattle.nll_text.specs.Grammars.{HasNone, IsNotNext, regions}
 use Rattle.nll_text.specs.Grammars.{Begins as Starts}
 use Rattle.nll_mir_grammar.specs.TypeTexts.{Piece, plain, steps, argument_steps, add_region, begin_row, joined_arguments, written, IsType}
-use Rattle.nll_mir_grammar.specs.OpenTypes.{Frame, parts, arguments, inputs, Steps, IsStuck, begun, complete, AreOpen, AreRead, ComesTo, GoesFurther, pending, EndsWith, takes_region}
+use Rattle.nll_mir_grammar.specs.OpenTypes.{Frame, behind, parts, arguments, inputs, output, Steps, IsStuck, begun, complete, AreOpen, IsFitting, AreRead, ComesTo, GoesFurther, pending, EndsWith, takes_region}
 use Rattle.nll_mir_grammar.specs.declared.opens.State.{State}
 use Rattle.nll_mir_grammar.specs.declared.opens.State.TheVariants.{Want, WantArgument, Have, Inside, WantArrow}
 use Rattle.nll_mir_grammar.specs.declared.opens.Open.{Open}
@@ -19,45 +19,45 @@ use Rattle.nll_mir_grammar.specs.declared.type_text.TypePiece.{TypePiece}
 use Rattle.nll_mir_grammar.specs.declared.type_text.TypePiece.TheVariants as kept
 use Rattle.nll_mir_grammar.proofs.PieceLemmas.{argument_steps_more, is_type, written_is}
 use Rattle.nll_mir_grammar.proofs.StepLemmas.{step_comma_input, step_arrow, stuck_input, step_region, step_no_region, stuck_region, step_comma_part, stuck_part, step_comma_argument, stuck_argument, none_before, type_here}
-use Rattle.nll_mir_grammar.proofs.FurtherLemmas.{one_less, comes_so, row_ends}
+use Rattle.nll_mir_grammar.proofs.FurtherLemmas.{one_less, comes_so, row_ends, read_behind}
 
 -- ---- steps that change neither the pieces nor what is open
 
 -- a comma comes, or `->`, or no region
 unchanged : (ts rest : List Token) (s s' : State) (frames : List Frame) (t : WrittenType) (ps : List TypePiece)
     (os : List Open) → pending s' + 4 * length rest < pending s + 4 * length ts
-    → complete s t ≡ [] → complete s' t ≡ []
+    → complete s t ≡ [] → complete s' t ≡ [] → IsFitting s' frames
     → Steps s frames t ts s' frames t rest → AreRead s frames t ps os
     → GoesFurther s frames t os ts s' ps os rest
-unchanged ts rest s s' frames t ps os falls e f step r = record {
+unchanged ts rest s s' frames t ps os falls e f fits step r = record {
   falls = omega (arith, falls);
   comes = comes_so s s' frames frames t t ts rest ps ps [] os os r
       (sym (append-nil ps)) (append-nil (begun frames ++ complete s t)
-      ∙ ap (λ (qs : List Piece). begun frames ++ qs) (e ∙ sym f)) r.are_open step;
+      ∙ ap (λ (qs : List Piece). begun frames ++ qs) (e ∙ sym f)) r.are_open fits step;
 }
 
 -- behind a comma comes the next thing of the row
 comma_so : (ts rest : List Token) (s' next : State) (frames : List Frame) (t : WrittenType) (ps : List TypePiece)
-    (os : List Open) → ts ≡ sign 44 ∷ rest → pending next ≤ 1 → complete next t ≡ []
+    (os : List Open) → ts ≡ sign 44 ∷ rest → pending next ≤ 1 → complete next t ≡ [] → IsFitting next frames
     → Steps Inside frames t (sign 44 ∷ rest) next frames t rest
     → s' ≡ next → AreRead Inside frames t ps os → GoesFurther Inside frames t os ts s' ps os rest
-comma_so ts rest s' next frames t ps os is few f step state r =
+comma_so ts rest s' next frames t ps os is few f fits step state r =
     let less = one_less (sign 44) ts rest is in
     subst (λ z. GoesFurther Inside frames t os ts z ps os rest) (sym state)
-    (unchanged ts rest Inside next frames t ps os (omega (arith, less, few)) refl f
+    (unchanged ts rest Inside next frames t ps os (omega (arith, less, few)) refl f fits
     (subst (λ z. Steps Inside frames t z next frames t rest) (sym is) step) r)
 
 pub further_comma : (ts rest : List Token) (frames : List Frame) (t : WrittenType) (c : ℕ) (s' : State)
     (ps : List TypePiece) (os : List Open) → EndsWith frames c s' → ts ≡ sign 44 ∷ rest
     → AreRead Inside frames t ps os → GoesFurther Inside frames t os ts s' ps os rest
 further_comma ts rest (parts done ∷ frames) t c s' ps os ends is r =
-    comma_so ts rest s' Want (parts done ∷ frames) t ps os is (omega arith) refl
+    comma_so ts rest s' Want (parts done ∷ frames) t ps os is (omega arith) refl tt
     (step_comma_part frames done t t rest) ends.1 r
 further_comma ts rest (arguments n done ∷ frames) t c s' ps os ends is r =
-    comma_so ts rest s' WantArgument (arguments n done ∷ frames) t ps os is (omega arith) refl
+    comma_so ts rest s' WantArgument (arguments n done ∷ frames) t ps os is (omega arith) refl tt
     (step_comma_argument frames n done t t rest) ends.1 r
 further_comma ts rest (inputs done ∷ frames) t c s' ps os ends is r =
-    comma_so ts rest s' Want (inputs done ∷ frames) t ps os is (omega arith) refl
+    comma_so ts rest s' Want (inputs done ∷ frames) t ps os is (omega arith) refl tt
     (step_comma_input frames done t t rest) ends.1 r
 further_comma ts rest _ t c s' ps os ends is r = absurd ends
 
@@ -85,7 +85,7 @@ further_arrow None after ts frames t ps os m r = m frames t
 further_arrow (Some p) after ts frames t ps os m r =
     let less = one_less arrow ts (after p.1) m.1 in
     subst (λ (z : State). GoesFurther WantArrow frames t os ts z ps os (after p.1)) (sym m.0)
-    (unchanged ts (after p.1) WantArrow Want frames t ps os (omega (arith, less)) refl refl
+    (unchanged ts (after p.1) WantArrow Want frames t ps os (omega (arith, less)) refl refl tt
     (subst (λ (z : List Token). Steps WantArrow frames t z Want frames t (after p.1)) (sym m.1)
     (step_arrow frames t t (after p.1))) r)
 
@@ -95,7 +95,7 @@ pub further_no_region : (ts : List Token) (frames : List Frame) (t : WrittenType
     (os : List Open) → HasNone regions ts → AreRead WantArgument frames t ps os
     → GoesFurther WantArgument frames t os ts Want ps os ts
 further_no_region ts frames t ps os other r =
-    unchanged ts ts WantArgument Want frames t ps os (omega arith) refl refl
+    unchanged ts ts WantArgument Want frames t ps os (omega arith) refl refl tt
     (step_no_region frames t t ts
     (λ q rest e. other q rest (record { joined = e; allowed = tt; follows = tt }))) r
 
@@ -123,7 +123,7 @@ further_region ts rest (arguments n done ∷ frames) t ps ps' os q s takes is h 
           ∙ ap (λ (qs : List Piece). begun frames ++ begin_row ∷ qs)
           (sym (argument_steps_more done (region_argument q.now no_argument)))
           ∙ sym (append-nil (begun frames ++ begin_row ∷ argument_steps more_done)))
-          (same_open more_done (reverse os) r.are_open)
+          (same_open more_done (reverse os) r.are_open) tt
           (subst (λ (z : List Token). Steps WantArgument (arguments n done ∷ frames) t z Inside
           (arguments n more_done ∷ frames) t rest) (sym is.joined)
           (step_region frames n done t t q.now rest));
@@ -132,7 +132,6 @@ further_region ts rest (arguments n done ∷ frames) t ps ps' os q s takes is h 
     same_open : (done' : Arguments) (rev : List Open) → AreOpen rev (arguments n done ∷ frames)
         → AreOpen rev (arguments n done' ∷ frames)
     same_open done' [] h = absurd h
-    same_open done' (opens.Behind m r ∷ rev) h = (let e = h.0 in absurd cc)
     same_open done' (opens.Tuple ∷ rev) h = (let e = h.0.1 in absurd cc)
     same_open done' (opens.Arguments p ∷ rev) h =
         ((done', (let e = h.0.1 in let k : n ≡ p.now = cc in ap (λ z. arguments z done') k)), h.1)
@@ -149,7 +148,7 @@ first_comes t ts ps os e f = rw (e, f) (record {
   frames' = [];
   t' = t;
   same = record { there = λ whole rest f. f; back = λ whole rest f. f };
-  read = record { pieces = refl; are_open = tt };
+  read = record { pieces = refl; are_open = tt; fits = tt };
 })
 
 -- A type is complete, and nothing is open.
@@ -158,22 +157,27 @@ pub record IsWhole (ts at_ts : List Token) (ps : List TypePiece) : Type 0 where
   pub same : Steps Want [] int ts Have [] whole at_ts
   pub pieces : map plain ps ≡ steps whole
 
+-- This is so where a type is complete in frames that are all references.
+whole_in : (ts at_ts : List Token) (ps : List TypePiece) (frames : List Frame) (t : WrittenType)
+    → Steps Want [] int ts Have frames t at_ts → AreRead Have frames t ps [] → IsWhole ts at_ts ps
+whole_in ts at_ts ps [] t same r = record { whole = t; same = same; pieces = r.pieces }
+whole_in ts at_ts ps (behind q m ∷ frames) t same r =
+    whole_in ts at_ts ps frames (reference q m t) (record {
+      there = λ whole rest f. same.there whole rest f;
+      back = λ whole rest f. same.back whole rest f;
+    }) (read_behind q m frames t ps [] r)
+whole_in ts at_ts ps (parts _ ∷ frames) t same r = absurd r.are_open
+whole_in ts at_ts ps (arguments _ _ ∷ frames) t same r = absurd r.are_open
+whole_in ts at_ts ps (inputs _ ∷ frames) t same r = absurd r.are_open
+whole_in ts at_ts ps (output _ ∷ frames) t same r = absurd r.are_open
+
 -- This is so where the loop ends.
 pub at_end : (s : State) (ts at_ts : List Token) (ps : List TypePiece) (os : List Open) → s ≡ Have
     → (length os == 0) ≡ true → ComesTo Want [] int ts s ps os at_ts → IsWhole ts at_ts ps
-at_end s ts at_ts ps os e none_open c = by c.frames' c.same c.read
-  where
-    f : os ≡ []
-    f = nil_from_length os (eqb-true (length os) 0 none_open)
-
-    by : (frames : List Frame) → Steps Want [] int ts s frames c.t' at_ts → AreRead s frames c.t' ps os
-        → IsWhole ts at_ts ps
-    by [] same r = record {
-      whole = c.t';
-      same = subst (λ z. Steps Want [] int ts z [] c.t' at_ts) e same;
-      pieces = r.pieces ∙ ap (λ z. complete z c.t') e;
-    }
-    by (g ∷ frames) same r = absurd (subst (λ (z : List Open). AreOpen (reverse z) (g ∷ frames)) f r.are_open)
+at_end s ts at_ts ps os e none_open c =
+    whole_in ts at_ts ps c.frames' c.t' (subst (λ z. Steps Want [] int ts z c.frames' c.t' at_ts) e c.same)
+    (subst (λ (z : List Open). AreRead Have c.frames' c.t' ps z) (nil_from_length os (eqb-true (length os) 0 none_open))
+    (subst (λ z. AreRead z c.frames' c.t' ps os) e c.read))
 
 -- Then the pieces are those of a type, which stands in front where no `<` follows; `o` has what is behind a `<`.
 pub whole_pieces : (ts at_ts : List Token) (ps : List TypePiece) → IsWhole ts at_ts ps → IsType ps

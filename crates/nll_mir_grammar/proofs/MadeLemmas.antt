@@ -10,7 +10,7 @@ use Rattle.nll_types.specs.declared.place.Projection.TheVariants.{Deref, Field}
 use Rattle.nll_types.specs.declared.parameter.Parameter.{Parameter}
 use Rattle.nll_types.specs.declared.parameter.Sign.{Sign}
 use Rattle.nll_types.specs.declared.parameter.Sign.TheVariants.{Covariant, Contravariant, Invariant}
-use Rattle.nll_body.specs.Statements.{Statement, assign, borrow, make, read, live, dead, nop, goto, switch, call, return, stop}
+use Rattle.nll_body.specs.Statements.{Statement, assign, borrow, make, read, live, dead, goto, switch, call}
 use Rattle.nll_body.specs.Statements as statements
 use Rattle.nll_text.specs.LineTokens.{tokens_in}
 use Rattle.nll_mir_grammar.specs.WrittenTypes.{Name, WrittenType, WrittenTypes, Arguments, int, reference, tuple, named, function, none, more, no_argument, region_argument, type_argument, mutability, spelled, spelled_parts, spelled_more_parts, spelled_arguments, spelled_more_arguments}

@@ -124,12 +124,6 @@ operands_before t n constant r h = tt
 operands_before t n (copied p) r h = no_projection t r n
 operands_before t n (moved p) r h = no_projection t r n
 
--- the place that is copied or moved
-place_of : PlacePath → Operand → PlacePath
-place_of p constant = p
-place_of p (copied q) = q
-place_of p (moved q) = q
-
 behind_word : (v w : List ℕ) (ts xs ys : List Token) → ts ≡ word v ∷ xs → ts ≡ word w ∷ ys → bytes_eq v w ≡ false → ⊥
 behind_word v w ts xs ys e f n = words_apart v w n (word_same v w (head_same _ _ _ _ (sym e ∙ f)))
 

@@ -5,7 +5,7 @@ use Rattle.std.specs.List.{list_any}
 use Rattle.std.proofs.lemmas.List.{append-nil}
 use Rattle.std.proofs.lemmas.List.Folds.{list_any-append}
 use Rattle.nll_mir_grammar.specs.WrittenTypes.{WrittenType, WrittenTypes, Arguments, int, reference, tuple, named, function, none, more, no_argument, region_argument, type_argument}
-use Rattle.nll_mir_grammar.specs.TypeTexts.{Piece, make_reference, add_region, add_type, make_tuple, make_named, make_function, plain, steps, part_steps, argument_steps, joined_arguments, types_among, top, made, written, type_made, IsType}
+use Rattle.nll_mir_grammar.specs.TypeTexts.{Piece, Begun, row, waiting, with_type, add_region, add_type, make_tuple, make_named, make_function, plain, steps, part_steps, argument_steps, joined_arguments, types_among, top, made, written, type_made, IsType}
 use Rattle.nll_mir_grammar.specs.OpenTypes.{joined}
 use Rattle.nll_mir_grammar.specs.Functions.{has_function, have_function, arguments_have_function, is_function}
 use Rattle.nll_mir_grammar.specs.declared.type_text.TypePiece.{TypePiece}
@@ -46,61 +46,59 @@ among_arguments none = refl
 among_arguments (more t ts) = ap (more t) (among_arguments ts)
 
 -- arguments, and nothing more
-joined_no_argument : (row : Arguments) → joined_arguments row no_argument ≡ row
+joined_no_argument : (args : Arguments) → joined_arguments args no_argument ≡ args
 joined_no_argument no_argument = refl
-joined_no_argument (region_argument r row) = ap (region_argument r) (joined_no_argument row)
-joined_no_argument (type_argument t row) = ap (type_argument t) (joined_no_argument row)
+joined_no_argument (region_argument r args) = ap (region_argument r) (joined_no_argument args)
+joined_no_argument (type_argument t args) = ap (type_argument t) (joined_no_argument args)
 
 mutual
   unfolding arguments_of
 
-  -- the pieces of a type make it
-  pieces_make : (t : WrittenType) (rest : List Piece) (xs : List WrittenType) (ys : List Arguments)
-      → made (xs, ys) (steps t ++ rest) ≡ made (t ∷ xs, ys) rest
+  -- The pieces of a type make it, and the references around it that wait for it.
+  pieces_make : (t : WrittenType) (rest : List Piece) (xs : List WrittenType) (ys : List Begun)
+      → made (xs, ys) (steps t ++ rest) ≡ made (with_type t (xs, ys)) rest
   pieces_make int rest xs ys = refl
-  pieces_make (reference r m t) rest xs ys =
-      ap (made (xs, ys)) (append_assoc (steps t) (make_reference m r ∷ []) rest)
-      ∙ pieces_make t (make_reference m r ∷ rest) xs ys
+  pieces_make (reference r m t) rest xs ys = pieces_make t rest xs (waiting m r ∷ ys)
   pieces_make (tuple ts) rest xs ys =
-      ap (made (xs, no_argument ∷ ys)) (append_assoc (part_steps ts) (make_tuple ∷ []) rest)
+      ap (made (xs, row no_argument ∷ ys)) (append_assoc (part_steps ts) (make_tuple ∷ []) rest)
       ∙ (parts_make ts (make_tuple ∷ rest) xs no_argument ys
-      ∙ ap (λ (us : WrittenTypes). made (tuple us ∷ xs, ys) rest) (among_arguments ts))
+      ∙ ap (λ (us : WrittenTypes). made (with_type (tuple us) (xs, ys)) rest) (among_arguments ts))
   pieces_make (named n args) rest xs ys =
-      ap (made (xs, no_argument ∷ ys)) (append_assoc (argument_steps args) (make_named n ∷ []) rest)
+      ap (made (xs, row no_argument ∷ ys)) (append_assoc (argument_steps args) (make_named n ∷ []) rest)
       ∙ arguments_make args (make_named n ∷ rest) xs no_argument ys
   pieces_make (function ts t) rest xs ys =
-      ap (made (xs, no_argument ∷ ys)) (append_assoc (part_steps ts ++ steps t) (make_function ∷ []) rest
+      ap (made (xs, row no_argument ∷ ys)) (append_assoc (part_steps ts ++ steps t) (make_function ∷ []) rest
       ∙ append_assoc (part_steps ts) (steps t) (make_function ∷ rest))
       ∙ (parts_make ts (steps t ++ make_function ∷ rest) xs no_argument ys
-      ∙ (pieces_make t (make_function ∷ rest) xs (arguments_of ts ∷ ys)
-      ∙ ap (λ (us : WrittenTypes). made (function us t ∷ xs, ys) rest) (among_arguments ts)))
+      ∙ (pieces_make t (make_function ∷ rest) xs (row (arguments_of ts) ∷ ys)
+      ∙ ap (λ (us : WrittenTypes). made (with_type (function us t) (xs, ys)) rest) (among_arguments ts)))
 
   -- the pieces of types in a row put them behind those of the row
-  parts_make : (ts : WrittenTypes) (rest : List Piece) (xs : List WrittenType) (row : Arguments)
-      (ys : List Arguments) → made (xs, row ∷ ys) (part_steps ts ++ rest)
-      ≡ made (xs, joined_arguments row (arguments_of ts) ∷ ys) rest
-  parts_make none rest xs row ys =
-      ap (λ (args : Arguments). made (xs, args ∷ ys) rest) (sym (joined_no_argument row))
-  parts_make (more t ts) rest xs row ys =
-      ap (made (xs, row ∷ ys)) (append_assoc (steps t) (add_type ∷ part_steps ts) rest)
-      ∙ (pieces_make t (add_type ∷ (part_steps ts ++ rest)) xs (row ∷ ys)
-      ∙ (parts_make ts rest xs (joined_arguments row (type_argument t no_argument)) ys
-      ∙ ap (λ (args : Arguments). made (xs, args ∷ ys) rest) (joined_type row t (arguments_of ts))))
+  parts_make : (ts : WrittenTypes) (rest : List Piece) (xs : List WrittenType) (args : Arguments)
+      (ys : List Begun) → made (xs, row args ∷ ys) (part_steps ts ++ rest)
+      ≡ made (xs, row (joined_arguments args (arguments_of ts)) ∷ ys) rest
+  parts_make none rest xs args ys =
+      ap (λ (us : Arguments). made (xs, row us ∷ ys) rest) (sym (joined_no_argument args))
+  parts_make (more t ts) rest xs args ys =
+      ap (made (xs, row args ∷ ys)) (append_assoc (steps t) (add_type ∷ part_steps ts) rest)
+      ∙ (pieces_make t (add_type ∷ (part_steps ts ++ rest)) xs (row args ∷ ys)
+      ∙ (parts_make ts rest xs (joined_arguments args (type_argument t no_argument)) ys
+      ∙ ap (λ (us : Arguments). made (xs, row us ∷ ys) rest) (joined_type args t (arguments_of ts))))
 
   -- the pieces of arguments put them behind those of the row
-  arguments_make : (args : Arguments) (rest : List Piece) (xs : List WrittenType) (row : Arguments)
-      (ys : List Arguments) → made (xs, row ∷ ys) (argument_steps args ++ rest)
-      ≡ made (xs, joined_arguments row args ∷ ys) rest
-  arguments_make no_argument rest xs row ys =
-      ap (λ (us : Arguments). made (xs, us ∷ ys) rest) (sym (joined_no_argument row))
-  arguments_make (region_argument r args) rest xs row ys =
-      arguments_make args rest xs (joined_arguments row (region_argument r no_argument)) ys
-      ∙ ap (λ (us : Arguments). made (xs, us ∷ ys) rest) (joined_region row r args)
-  arguments_make (type_argument t args) rest xs row ys =
-      ap (made (xs, row ∷ ys)) (append_assoc (steps t) (add_type ∷ argument_steps args) rest)
-      ∙ (pieces_make t (add_type ∷ (argument_steps args ++ rest)) xs (row ∷ ys)
-      ∙ (arguments_make args rest xs (joined_arguments row (type_argument t no_argument)) ys
-      ∙ ap (λ (us : Arguments). made (xs, us ∷ ys) rest) (joined_type row t args)))
+  arguments_make : (us : Arguments) (rest : List Piece) (xs : List WrittenType) (args : Arguments)
+      (ys : List Begun) → made (xs, row args ∷ ys) (argument_steps us ++ rest)
+      ≡ made (xs, row (joined_arguments args us) ∷ ys) rest
+  arguments_make no_argument rest xs args ys =
+      ap (λ (vs : Arguments). made (xs, row vs ∷ ys) rest) (sym (joined_no_argument args))
+  arguments_make (region_argument r us) rest xs args ys =
+      arguments_make us rest xs (joined_arguments args (region_argument r no_argument)) ys
+      ∙ ap (λ (vs : Arguments). made (xs, row vs ∷ ys) rest) (joined_region args r us)
+  arguments_make (type_argument t us) rest xs args ys =
+      ap (made (xs, row args ∷ ys)) (append_assoc (steps t) (add_type ∷ argument_steps us) rest)
+      ∙ (pieces_make t (add_type ∷ (argument_steps us ++ rest)) xs (row args ∷ ys)
+      ∙ (arguments_make us rest xs (joined_arguments args (type_argument t no_argument)) ys
+      ∙ ap (λ (vs : Arguments). made (xs, row vs ∷ ys) rest) (joined_type args t us)))
 
 -- What the pieces of a type make is that type.
 steps_make : (t : WrittenType) → type_made (steps t) ≡ t
@@ -141,8 +139,7 @@ mutual
   -- A piece of the type makes a function where one is written in it.
   function_steps : (t : WrittenType) → list_any makes_function (steps t) ≡ has_function t
   function_steps int = refl
-  function_steps (reference r m t) =
-      any_then (steps t) (make_reference m r ∷ []) _ false (function_steps t) refl ∙ or_false (has_function t)
+  function_steps (reference r m t) = function_steps t
   function_steps (tuple ts) =
       any_then (part_steps ts) (make_tuple ∷ []) _ false (function_part_steps ts) refl ∙ or_false (have_function ts)
   function_steps (named n args) =

@@ -1,10 +1,10 @@
 -- Steps through a type.
-use Rattle.std.proofs.Common.{◌≡◌, Bool, List, [], ◌∷◌, ◌++◌, refl, sym, ap, ◌∙◌, subst, append_assoc, ⊎_elim, inl, inr}
+use Rattle.std.proofs.Common.{◌≡◌, List, [], ◌∷◌, ◌++◌, refl, sym, ap, ◌∙◌, subst, append_assoc, ⊎_elim, inl, inr}
 use Rattle.nll_text.specs.Tokens.{Token, region, arrow, sign}
 use Rattle.nll_mir_grammar.specs.WrittenTypes.{Name, WrittenType, WrittenTypes, Arguments, int, reference, tuple, named, function, none, more, no_argument, region_argument, type_argument, mutability, spelled, spelled_parts, spelled_more_parts, spelled_arguments, spelled_more_arguments, HasNames, HaveNames, ArgumentsHaveNames, IsFree, BeginsWithType}
 use Rattle.nll_mir_grammar.specs.Reading.{HasNoType, IsTypeIn}
 use Rattle.nll_mir_grammar.specs.TypeTexts.{joined_arguments}
-use Rattle.nll_mir_grammar.specs.OpenTypes.{Frame, behind, parts, arguments, inputs, output, joined, Closes, GoesInside, Reads, GoesOn, GoesOnWithRegion, Finishes, Steps, TypesGoOn, ResultGoesOn, IsStuck, IsNoFront}
+use Rattle.nll_mir_grammar.specs.OpenTypes.{Frame, parts, arguments, inputs, output, joined, Closes, GoesInside, Reads, GoesOn, GoesOnWithRegion, Finishes, Steps, TypesGoOn, ResultGoesOn, IsStuck, IsNoFront}
 use Rattle.nll_mir_grammar.specs.declared.opens.State.{State}
 use Rattle.nll_mir_grammar.specs.declared.opens.State.TheVariants.{Want, WantArgument, Have, Inside, WantArrow}
 use Rattle.nll_mir_grammar.proofs.FrontLemmas.{apart, no_name_of}
@@ -31,11 +31,6 @@ joined_region (region_argument r done) q us = ap (region_argument r) (joined_reg
 joined_region (type_argument u done) q us = ap (type_argument u) (joined_region done q us)
 
 -- ---- behind a whole type
-
--- a reference is complete
-pub step_behind : (fs : List Frame) (q : Name) (m : Bool) (t : WrittenType) (ts : List Token)
-    → Steps Have (behind q m ∷ fs) t ts Have fs (reference q m t) ts
-step_behind fs q m t ts = record { there = λ whole rest f. f; back = λ whole rest f. f }
 
 -- a function is complete
 pub step_output : (fs : List Frame) (done : WrittenTypes) (t : WrittenType) (ts : List Token)

@@ -9,8 +9,8 @@ use Rattle.nll_mir_grammar.specs.WrittenTypes.{no_argument, region_argument, typ
 use Rattle.nll_mir_grammar.specs.WrittenTypes.{spelled, spelled_more_parts}
 use Rattle.nll_mir_grammar.specs.WrittenTypes.{spelled_more_arguments, is_capital}
 use Rattle.nll_mir_grammar.specs.WrittenTypes.{HasNames, HaveNames, ArgumentsHaveNames, IsFree}
-use Rattle.nll_mir_grammar.specs.TypeTexts.{Piece, begin_row, steps, part_steps, argument_steps}
-use Rattle.nll_mir_grammar.specs.TypeTexts.{joined_arguments, plain}
+use Rattle.nll_mir_grammar.specs.TypeTexts.{Piece, begin_reference, begin_row, steps}
+use Rattle.nll_mir_grammar.specs.TypeTexts.{part_steps, argument_steps, joined_arguments, plain}
 use Rattle.nll_mir_grammar.specs.declared.type_text.TypePiece.{TypePiece}
 use Rattle.nll_mir_grammar.specs.declared.fronts.Front.{Front}
 use Rattle.nll_mir_grammar.specs.declared.fronts.Front.TheVariants as fronts
@@ -160,7 +160,7 @@ IsStuck s frames t ts =
 -- the pieces of what is begun, the innermost frame's last
 abbrev pub begun : List Frame → List Piece
 begun [] = []
-begun (behind r m ∷ frames) = begun frames
+begun (behind r m ∷ frames) = begun frames ++ begin_reference m r ∷ []
 begun (parts done ∷ frames) = begun frames ++ begin_row ∷ part_steps done
 begun (arguments n done ∷ frames) = begun frames ++ begin_row ∷ argument_steps done
 begun (inputs done ∷ frames) = begun frames ++ begin_row ∷ part_steps done
@@ -173,17 +173,25 @@ complete _ t = []
 
 -- The frame is what is open, with something that is read of it.
 abbrev pub IsOpen : Open → Frame → Type 0
-IsOpen (opens.Behind m r) f = f ≡ behind r.now m
 IsOpen opens.Tuple f = (done : WrittenTypes) × (f ≡ parts done)
 IsOpen (opens.Arguments n) f = (done : Arguments) × (f ≡ arguments n.now done)
 IsOpen opens.Inputs f = (done : WrittenTypes) × (f ≡ inputs done)
 IsOpen opens.Output f = (done : WrittenTypes) × (f ≡ output done)
 
--- The frames are what is open, both the innermost first.
+-- The frames are what is open, and references among it, both the innermost first. A reference isn't
+-- kept: it is complete as soon as its type is.
 abbrev pub AreOpen : List Open → List Frame → Type 0
+AreOpen os (behind r m ∷ frames) = AreOpen os frames
 AreOpen [] [] = Unit {0}
 AreOpen (o ∷ os) (f ∷ frames) = IsOpen o f × AreOpen os frames
 AreOpen _ _ = ⊥
+
+-- The state fits the frames: a reference is innermost only where its type comes next or is
+-- complete.
+abbrev pub IsFitting : State → List Frame → Type 0
+IsFitting WantArgument (behind r m ∷ frames) = ⊥
+IsFitting Inside (behind r m ∷ frames) = ⊥
+IsFitting _ frames = Unit {0}
 
 -- The pieces are those of the frames, and of the type where one is complete; the frames are what is
 -- open, the innermost last.
@@ -191,9 +199,9 @@ pub record AreRead (s : State) (frames : List Frame) (t : WrittenType) (ps : Lis
     (opened : List Open) : Type 0 where
   pub pieces : map plain ps ≡ begun frames ++ complete s t
   pub are_open : AreOpen (reverse opened) frames
+  pub fits : IsFitting s frames
 
--- how many steps that take no token may come, apart from those that complete a reference or a
--- function
+-- how many steps that take no token may come, apart from those that complete a function
 abbrev pub pending : State → ℕ
 pending WantArgument = 1
 pending Have = 1

@@ -1,5 +1,6 @@
--- A written type as the code keeps it: pieces, of which each makes a type or a row out of what was
--- made last, so that parts come before what they are parts of.
+-- A written type as the code keeps it: pieces in the order of its text. Each begins something or
+-- makes a type of what was made last; so a reference comes before the type that it points to, and
+-- other parts before what they are parts of.
 -- Source: project's choice.
 use Rattle.std.specs.Prelude.{◌≡◌, Bool, List, [], ◌∷◌, ◌++◌, map}
 use Rattle.nll_mir_grammar.specs.WrittenTypes.{Name, WrittenType, WrittenTypes, Arguments}
@@ -11,8 +12,8 @@ use Rattle.nll_mir_grammar.specs.declared.type_text.TypePiece.TheVariants as kep
 -- A piece, without where its name lies in memory.
 pub data Piece : Type 0 where
   make_int : Piece
-  -- a reference to the type that was made last
-  make_reference : Bool → Name → Piece
+  -- a reference to the type that is made next
+  begin_reference : Bool → Name → Piece
   -- a row of no arguments
   begin_row : Piece
   -- the region goes to the end of the row, or the type that was made last
@@ -28,7 +29,7 @@ pub data Piece : Type 0 where
 -- the piece that a value of the program stands for
 abbrev pub plain : TypePiece → Piece
 plain kept.Int = make_int
-plain (kept.Reference m r) = make_reference m r.now
+plain (kept.Reference m r) = begin_reference m r.now
 plain kept.Row = begin_row
 plain (kept.Region r) = add_region r.now
 plain kept.Part = add_type
@@ -42,7 +43,7 @@ abbrev mutual
   -- the pieces that make a type
   pub steps : WrittenType → List Piece
   steps int = make_int ∷ []
-  steps (reference r m t) = steps t ++ make_reference m r ∷ []
+  steps (reference r m t) = begin_reference m r ∷ steps t
   steps (tuple ts) = begin_row ∷ part_steps ts ++ make_tuple ∷ []
   steps (named n args) = begin_row ∷ argument_steps args ++ make_named n ∷ []
   steps (function ts t) = begin_row ∷ part_steps ts ++ steps t ++ make_function ∷ []
@@ -60,19 +61,42 @@ abbrev mutual
 
 -- ---- the type of pieces
 
--- what is made so far, the newest first: types, and rows of arguments
+-- What is begun and not complete: a row with the arguments read so far, or a reference whose type
+-- comes next.
+pub data Begun : Type 0 where
+  row : Arguments → Begun
+  waiting : Bool → Name → Begun
+
+-- what is made so far, the newest first: types, and what is begun
 abbrev pub Made : Type 0
-Made = List WrittenType × List Arguments
+Made = List WrittenType × List Begun
 
 -- the newest type; an `int` where there is none
 abbrev pub top : List WrittenType → WrittenType
 top [] = int
 top (t ∷ ts) = t
 
--- the newest row of arguments; no argument where there is no row
-abbrev pub top_row : List Arguments → Arguments
+-- the newest row of arguments; no argument where no row is newest
+abbrev pub top_row : List Begun → Arguments
 top_row [] = no_argument
-top_row (row ∷ rows) = row
+top_row (row args ∷ begun) = args
+top_row (waiting m r ∷ begun) = no_argument
+
+-- the type with the references around it that wait for it
+abbrev pub with_waiting : WrittenType → List Begun → WrittenType
+with_waiting t [] = t
+with_waiting t (row args ∷ begun) = t
+with_waiting t (waiting m r ∷ begun) = with_waiting (reference r m t) begun
+
+-- what is begun, without the references that wait for the next type
+abbrev pub without_waiting : List Begun → List Begun
+without_waiting [] = []
+without_waiting (row args ∷ begun) = row args ∷ begun
+without_waiting (waiting m r ∷ begun) = without_waiting begun
+
+-- the type is complete, and with it the references that wait for it
+abbrev pub with_type : WrittenType → Made → Made
+with_type t m = (with_waiting t m.1 ∷ m.0, without_waiting m.1)
 
 -- what lies below the newest
 abbrev pub below : {X : Type 0} → List X → List X
@@ -93,19 +117,19 @@ types_among (type_argument t args) = more t (types_among args)
 
 -- what a piece makes of what is made so far
 abbrev pub after : Piece → Made → Made
-after make_int m = (int ∷ m.0, m.1)
-after (make_reference mutable r) m = (reference r mutable (top m.0) ∷ below m.0, m.1)
-after begin_row m = (m.0, no_argument ∷ m.1)
+after make_int m = with_type int m
+after (begin_reference mutable r) m = (m.0, waiting mutable r ∷ m.1)
+after begin_row m = (m.0, row no_argument ∷ m.1)
 after (add_region r) m =
-    (m.0, joined_arguments (top_row m.1) (region_argument r no_argument) ∷ below m.1)
+    (m.0, row (joined_arguments (top_row m.1) (region_argument r no_argument)) ∷ below m.1)
 after add_type m = (
   below m.0,
-  joined_arguments (top_row m.1) (type_argument (top m.0) no_argument) ∷ below m.1,
+  row (joined_arguments (top_row m.1) (type_argument (top m.0) no_argument)) ∷ below m.1,
 )
-after make_tuple m = (tuple (types_among (top_row m.1)) ∷ m.0, below m.1)
-after (make_named n) m = (named n (top_row m.1) ∷ m.0, below m.1)
+after make_tuple m = with_type (tuple (types_among (top_row m.1))) (m.0, below m.1)
+after (make_named n) m = with_type (named n (top_row m.1)) (m.0, below m.1)
 after make_function m =
-    (function (types_among (top_row m.1)) (top m.0) ∷ below m.0, below m.1)
+    with_type (function (types_among (top_row m.1)) (top m.0)) (below m.0, below m.1)
 
 -- what pieces make of what is made so far
 abbrev pub made : Made → List Piece → Made

@@ -17,14 +17,10 @@ use nll_text::{after_arrow, after_sign, region_at};
 use smallvec::SmallVec;
 use std::mem::size_of;
 
-/// What is begun and not complete.
-///
-/// # Size
-/// It has the size that a reference needs: a text may nest millions of them.
+/// What is begun and not complete. A reference isn't kept: it is complete as soon as the type that
+/// it points to is.
 #[derive(Clone, Copy)]
 pub enum Open<'a> {
-    /// A reference: whether it is `mut`, and its region's name.
-    Behind(bool, &'a [u8]),
     /// A tuple, whose row is begun.
     Tuple,
     /// A name, the row of whose arguments is begun.
@@ -122,7 +118,7 @@ pub fn begin<'a>(
         Front::Unit => put_empty(pieces, TypePiece::Tuple),
         Front::Tuple => open_row(pieces, opened, Open::Tuple, State::Want),
         Front::Reference(region, is_mut) => {
-            put_open(opened, Open::Behind(is_mut, region), State::Want)
+            put(pieces, TypePiece::Reference(is_mut, region), State::Want)
         }
         Front::Generic(name) => open_row(
             pieces,
@@ -159,8 +155,8 @@ fn want<'a>(
 
 // Whether the arguments of a name are the innermost thing that is open.
 fn has_name(opened: &Opened<'_>) -> bool
-    ensures { (s : stage) (frames : List Frame) (t : WrittenType) (ps : List piece)
-        → AreRead s frames t ps opened.now.items → result ≡ takes_region frames }
+    ensures { (frames : List Frame) (t : WrittenType) (ps : List piece)
+        → AreRead State.WantArgument frames t ps opened.now.items → result ≡ takes_region frames }
 {
     match opened.as_slice().last() {
         Some(Open::Arguments(_)) => true,
@@ -214,7 +210,6 @@ fn complete<'a>(pieces: &mut Vec<TypePiece<'a>>, opened: &mut Opened<'a>) -> Res
         → IsCompleted frames t opened.old.items s pieces.new.items opened.new.items) }
 {
     match opened.as_slice()[opened.len() - 1] {
-        Open::Behind(is_mut, region) => end(pieces, opened, TypePiece::Reference(is_mut, region)),
         Open::Output => end(pieces, opened, TypePiece::Function),
         Open::Tuple | Open::Arguments(_) | Open::Inputs => {
             put(pieces, TypePiece::Part, State::Inside)
@@ -227,8 +222,8 @@ fn complete<'a>(pieces: &mut Vec<TypePiece<'a>>, opened: &mut Opened<'a>) -> Res
 fn ends_at(opened: &Opened<'_>) -> Option<(u8, State)>
     ensures some { IfSome result (λ _. 0 < length opened.now.items) }
     ensures sign { IfSome result (λ p. lex.is_sign p.0 ≡ true) }
-    ensures ends { (s : stage) (frames : List Frame) (t : WrittenType) (ps : List piece)
-        → AreRead s frames t ps opened.now.items → MatchOption result
+    ensures ends { (frames : List Frame) (t : WrittenType) (ps : List piece)
+        → AreRead State.Inside frames t ps opened.now.items → MatchOption result
         ((u : WrittenType) (ts : List lex.Token) → IsStuck State.Inside frames u ts)
         (λ p. EndsWith frames p.0 p.1) }
 {
@@ -251,7 +246,7 @@ fn close<'a>(pieces: &mut Vec<TypePiece<'a>>, opened: &mut Opened<'a>) -> Result
     match opened.as_slice()[opened.len() - 1] {
         Open::Tuple => end(pieces, opened, TypePiece::Tuple),
         Open::Arguments(name) => end(pieces, opened, TypePiece::Named(name)),
-        Open::Behind(..) | Open::Inputs | Open::Output => {
+        Open::Inputs | Open::Output => {
             opened.truncate(opened.len() - 1);
             put_open(opened, Open::Output, State::WantArrow)
         }

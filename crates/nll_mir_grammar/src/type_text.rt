@@ -1,20 +1,20 @@
 //! Types as they are written.
 
 ghost use Rattle.std.specs.Prelude.{◌≡◌};
-ghost use Rattle.std.specs.List.{list_any};
 ghost use Rattle.nll_mir_grammar.specs.Functions as functions;
 ghost use Rattle.nll_mir_grammar.specs.TypeTexts.{IsType, written};
 
 use std::marker::Model;
 use std::mem::size_of;
 
-/// A piece of a written type: it makes a type or a row, of the type and of the row that were made
-/// last.
+/// A piece of a written type: it begins something, or makes a type of the type and of the row that
+/// were made last.
 #[derive(Clone, Copy)]
 pub enum TypePiece<'a> {
     /// `int`
     Int,
-    /// A reference to the type: whether it is `mut`, and its region's name without the `'`.
+    /// A reference to the type that is made next: whether it is `mut`, and its region's name
+    /// without the `'`.
     Reference(bool, &'a [u8]),
     /// A row of no arguments is begun.
     Row,
@@ -32,7 +32,8 @@ pub enum TypePiece<'a> {
 
 const _: () = prove!(size_of::<TypePiece<'_>>() == 24);
 
-/// A type as it is written: pieces in a row, in which parts come before what they are parts of.
+/// A type as it is written: pieces in a row. A reference comes before the type that it points to;
+/// other parts come before what they are parts of.
 ///
 /// # Shape
 /// It may have as many pieces, and be as deep, as its text is long; so nothing that goes over it
@@ -65,7 +66,7 @@ fn is_function(piece: &TypePiece<'_>) -> bool
 }
 
 impl<'a> TypeText<'a> {
-    /// The pieces: parts before what they are parts of.
+    /// The pieces, in the order of the text.
     pub fn pieces(&self) -> &[TypePiece<'a>]
         ensures value { result.now ≡ self.now }
         ensures sound { IsType self.now }

@@ -1,7 +1,7 @@
 -- The order of groups.
-use Rattle.std.proofs.Common.{◌≡◌, ◌⊎◌, ◌↔◌, ℕ, ◌+◌, ◌<◌, ◌≤◌, Bool, true, not, max, List, [], ◌∷◌, ◌++◌, Option, None, inl, inr, refl, ⊎_elim, arith}
+use Rattle.std.proofs.Common.{◌≡◌, ◌⊎◌, ℕ, ◌+◌, ◌<◌, ◌≤◌, Bool, true, not, max, List, [], ◌∷◌, ◌++◌, Option, None, inl, inr, refl, ⊎_elim, arith}
 use Rattle.std.specs.Prelude.{◌&&◌, nat_le}
-use Rattle.std.specs.List.{filter_map, AllByRecursion}
+use Rattle.std.specs.List.{filter_map}
 use Rattle.std.proofs.lemmas.Bool.{and_parts, not-true, leb-true, leb-false, le-leb, eqb-true, cases_lt}
 use Rattle.nll_mir_grammar.specs.MirForms.{Form, universal, outlives, further, assert_line, struct_line, variable, blocks, block, at_point, end}
 use Rattle.nll_mir_text.specs.declared.groups.Group.{Group}
@@ -61,14 +61,6 @@ group_reached f forms = omega arith
 
 pub reached_more : (f : Form) (forms : List Form) → reached forms ≤ reached (f ∷ forms)
 reached_more f forms = omega arith
-
--- no line of a later group is there
-pub none_later : (forms : List Form) (n : ℕ) → (reached forms ≤ n) ↔ AllByRecursion (λ f. group f ≤ n) forms
-none_later [] n = (λ _. tt, λ _. omega arith)
-none_later (f ∷ forms) n = (
-  λ h. (omega (arith, h), (none_later forms n).0 (omega (arith, h))),
-  λ h. omega (arith, h.0, (none_later forms n).1 h.1),
-)
 
 which : (m n : ℕ) → (max m n ≡ m) ⊎ (max m n ≡ n)
 which m n = ⊎_elim (λ less. inr (omega (arith, less))) (λ more. inl (omega (arith, more))) (cases_lt m n)

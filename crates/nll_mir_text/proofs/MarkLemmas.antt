@@ -1,6 +1,6 @@
 -- What is marked of parameters, and whether they are regions.
-use Rattle.std.proofs.Common.{◌≡◌, arith, List, [], ◌∷◌, ◌++◌, map, take, drop, get_or, ℕ, ◌+◌, ◌<◌, refl, sym, ap, ◌∙◌, length}
-use Rattle.std.proofs.lemmas.List.{append_assoc, at_drop_more, map_more}
+use Rattle.std.proofs.Common.{◌≡◌, arith, List, [], ◌∷◌, ◌++◌, map, drop, get_or, ℕ, ◌+◌, ◌<◌, refl, sym, ap, ◌∙◌, length}
+use Rattle.std.proofs.lemmas.List.{append_assoc, at_drop_more}
 use Rattle.nll_mir_grammar.specs.MirForms.{WrittenParameter, region_parameter, type_parameter}
 use Rattle.nll_mir_grammar.specs.Lines.{parameter_of}
 use Rattle.nll_mir_grammar.specs.declared.line.ParameterText.{ParameterText}

@@ -43,10 +43,6 @@ second false b h = absurd cc
 
 -- ---- what is judged
 
-first : (a b : Bool) → (a && b) ≡ true → a ≡ true
-first true b h = refl
-first false b h = absurd cc
-
 all_three : (a b c : Bool) → (b && c) ≡ true → a ≡ (a && b && c)
 all_three true b c h = sym h
 all_three false b c h = refl

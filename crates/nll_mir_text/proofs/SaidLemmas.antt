@@ -10,7 +10,6 @@ use Rattle.indexmap.specs.IndexSet.{insert_all, insert_key}
 use Rattle.nll_problem.specs.Building.{same_pair}
 use Rattle.nll_format.specs.Names.{number_of}
 use Rattle.nll_format.specs.Text.{Fits, skipped, of_form, Says}
-use Rattle.nll_format.specs.declared.error.TextKind.TheVariants.{Syntax}
 use Rattle.nll_types.specs.Types.{TypeTree}
 use Rattle.nll_types.specs.Structs.{Struct}
 use Rattle.nll_mir_grammar.specs.WrittenTypes.{Name, WrittenType, WrittenTypes}
@@ -21,7 +20,7 @@ use Rattle.nll_mir_grammar.specs.declared.version.Version.{Version}
 use Rattle.nll_mir_text.specs.declared.groups.Group.TheVariants.{End}
 use Rattle.nll_mir_text.specs.MirSaid.{Said, said, group, reached, universal_in, further_in, outlives_in, assert_in, struct_in, variable_in, blocks_in, statement_of_form, owes_in, numbers_of, universals_said, names_said, meant_in, with_fronts, declared_in, start_in}
 use Rattle.nll_mir_text.specs.StructLines.{is_region}
-use Rattle.nll_mir_text.specs.MirSteps.{says, declared, nothing_said, has_reached}
+use Rattle.nll_mir_text.specs.MirSteps.{says, declared, has_reached}
 use Rattle.nll_mir_text.specs.MirFaults.{first_fault, is_in_order, is_universal}
 use Rattle.nll_mir_text.specs.MirReading.{Adds}
 use Rattle.nll_mir_text.specs.MirText.{mir}
@@ -29,10 +28,6 @@ use Rattle.nll_mir_text.proofs.FaultLemmas.{faultless}
 use Rattle.nll_mir_text.proofs.GroupLemmas.{follows, before_blocks, last_push, none_before, group_reached, reached_more, reached_at, is_reached, of_first_or_later, reached_most}
 
 -- ---- the order of lines
-
-first_is : {A : Type 0} (b : Bool) (x : A) (o : Option A) → b ≡ false → cond (not b) (Some x) o ≡ Some x
-first_is true x o h = absurd cc
-first_is false x o h = refl
 
 -- a line without a fault stands in order
 pub in_order : (s : Said) (f : Form) → first_fault s f ≡ None → is_in_order s f ≡ true
@@ -372,16 +367,6 @@ module _ (P : List Form → Type 0) (more : (forms : List Form) (f : Form) → f
   behind_all v before [] forms says h = subst P (sym says) h
   behind_all v before (line ∷ lines) forms says h =
       behind_all v (before ++ says.0) lines forms says.2 (behind_line v before line says.0 says.1 h)
-
--- what is said, line by line
-abbrev said_after : Said → List Form → Said
-said_after s [] = s
-said_after s (f ∷ forms) = said_after (says s f) forms
-
-said_after_push : (s : Said) (forms : List Form) (f : Form)
-    → said_after s (forms ++ f ∷ []) ≡ says (said_after s forms) f
-said_after_push s [] f = refl
-said_after_push s (g ∷ forms) f = said_after_push (says s g) forms f
 
 -- ---- the last line
 

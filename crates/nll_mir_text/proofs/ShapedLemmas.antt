@@ -1,5 +1,5 @@
 -- The shapes of types that are made, where some are taken off.
-use Rattle.std.proofs.Common.{◌≡◌, ℕ, Bool, true, false, ◌&&◌, suc, ◌+◌, ◌-◌, List, [], ◌∷◌, ◌++◌, length, take, drop, refl, ap, ◌∙◌, arith, ⊎_elim}
+use Rattle.std.proofs.Common.{◌≡◌, ℕ, true, suc, ◌+◌, ◌-◌, List, [], ◌∷◌, ◌++◌, length, take, drop, refl, ap, ◌∙◌, arith, ⊎_elim}
 use Rattle.std.proofs.Math.Seq.{get_or-append_seam}
 use Rattle.std.proofs.lemmas.Bool.{cases_lt}
 use Rattle.std.proofs.lemmas.List.{get_or-drop, get_or-take, get_or_append_left, length-append, length-drop, length-take}
@@ -10,102 +10,101 @@ use Rattle.nll_types.specs.Table.{AreBelow, Extends, all_at, shape_in, shapes_in
 use Rattle.nll_types.specs.Types.{TypeTree, int}
 use Rattle.nll_types.specs.Views.{row_of}
 use Rattle.nll_types.specs.declared.node.Node.{Node}
-use Rattle.nll_mir_text.specs.Resolving.{AreShaped, older}
+use Rattle.nll_types.specs.declared.body_types.BodyTypes.{BodyTypes}
+use Rattle.nll_mir_grammar.specs.TypeTexts.{Piece}
+use Rattle.nll_mir_text.specs.Naming.{Scope}
+use Rattle.nll_mir_text.specs.Resolving.{AreShaped, IsOf, Resolves, State, after, older}
+use Rattle.nll_mir_text.specs.declared.type_resolution.Resolving.{Resolving}
 
 -- what follows from two facts on a call that was done
 pub both_ok : {T E : Type 0} {P Q R : Type 0} (r : Result T E) → (P → Q → R) → OnOk r P → OnOk r Q → OnOk r R
 both_ok (Ok x) f p q = f p q
 both_ok (Err y) f p q = tt
 
--- a name is known before another one that is, too
-pub and_known : (k l : Bool) → k && l ≡ true → k ≡ true
-and_known true l e = refl
-and_known false l e = e
-
 pub below_take : (n m : ℕ) (is : List ℕ) → AreBelow n is → AreBelow n (take m is)
 below_take n m is b = λ k l.
     rw (get_or-take m is k 0 (omega (arith, l, length-take m is))) (b k (omega (arith, l, length-take m is)))
 
-module _ (known : Bool) (shapes : List Node) where
+module _ (shapes : List Node) where
   -- all but the first, those from a place on, and those in front of it
-  shaped_rest : (t : TypeTree) (ts : List TypeTree) (i : ℕ) (is : List ℕ) → AreShaped known shapes (t ∷ ts) (i ∷ is)
-      → AreShaped known shapes ts is
+  shaped_rest : (t : TypeTree) (ts : List TypeTree) (i : ℕ) (is : List ℕ) → AreShaped shapes (t ∷ ts) (i ∷ is)
+      → AreShaped shapes ts is
   shaped_rest t ts i is a = record {
     counted = omega (arith, a.counted);
-    each = λ e k l. a.each e (suc k) (omega (arith, l));
+    each = λ k l. a.each (suc k) (omega (arith, l));
   }
 
-  shaped_drop : (n : ℕ) (ts : List TypeTree) (is : List ℕ) → AreShaped known shapes ts is
-      → AreShaped known shapes (drop n ts) (drop n is)
+  shaped_drop : (n : ℕ) (ts : List TypeTree) (is : List ℕ) → AreShaped shapes ts is
+      → AreShaped shapes (drop n ts) (drop n is)
   shaped_drop n ts is a = record {
     counted = omega (arith, length-drop n ts, length-drop n is, a.counted);
-    each = λ e k l. rw (get_or-drop n is k 0, get_or-drop n ts k int)
-        (a.each e (n + k) (omega (arith, l, length-drop n is)));
+    each = λ k l. rw (get_or-drop n is k 0, get_or-drop n ts k int)
+        (a.each (n + k) (omega (arith, l, length-drop n is)));
   }
 
-  shaped_take : (n : ℕ) (ts : List TypeTree) (is : List ℕ) → AreShaped known shapes ts is
-      → AreShaped known shapes (take n ts) (take n is)
+  shaped_take : (n : ℕ) (ts : List TypeTree) (is : List ℕ) → AreShaped shapes ts is
+      → AreShaped shapes (take n ts) (take n is)
   shaped_take n ts is a = record {
     counted = omega (arith, length-take n ts, length-take n is, a.counted);
-    each = λ e k l. rw (
+    each = λ k l. rw (
       get_or-take n is k 0 (omega (arith, l, length-take n is)),
       get_or-take n ts k int (omega (arith, l, length-take n is)),
     )
-        (a.each e k (omega (arith, l, length-take n is)));
+        (a.each k (omega (arith, l, length-take n is)));
   }
 
   -- the shapes of types in a row
-  row_shaped : known ≡ true → (ts : List TypeTree) (is : List ℕ) → AreShaped known shapes ts is
+  row_shaped : (ts : List TypeTree) (is : List ℕ) → AreShaped shapes ts is
       → all_at (shapes_in shapes) is ≡ shapes_of (row_of ts)
-  row_shaped e [] [] a = refl
-  row_shaped e (t ∷ ts) (i ∷ is) a =
-      let here = a.each e 0 (omega arith) in
-      let rest = row_shaped e ts is (shaped_rest t ts i is a) in
+  row_shaped [] [] a = refl
+  row_shaped (t ∷ ts) (i ∷ is) a =
+      let here = a.each 0 (omega arith) in
+      let rest = row_shaped ts is (shaped_rest t ts i is a) in
       cc
-  row_shaped e [] (i ∷ is) a = absurd (omega (arith, a.counted))
-  row_shaped e (t ∷ ts) [] a = absurd (omega (arith, a.counted))
+  row_shaped [] (i ∷ is) a = absurd (omega (arith, a.counted))
+  row_shaped (t ∷ ts) [] a = absurd (omega (arith, a.counted))
 
   -- where the types from a place on are taken: those that stay, and those in the row
-  pub front_taken : (n m : ℕ) (ts : List TypeTree) (is left : List ℕ) → AreShaped known shapes ts is → left ≡ take n is
-      → n ≡ m → AreShaped known shapes (take m ts) left
+  pub front_taken : (n m : ℕ) (ts : List TypeTree) (is left : List ℕ) → AreShaped shapes ts is → left ≡ take n is
+      → n ≡ m → AreShaped shapes (take m ts) left
   front_taken n m ts is left a e f = rw (e, f) (shaped_take m ts is a)
 
-  pub row_taken : (n m : ℕ) (ts : List TypeTree) (is row : List ℕ) → AreShaped known shapes ts is → row ≡ drop n is
-      → n ≡ m → known ≡ true → all_at (shapes_in shapes) row ≡ shapes_of (row_of (drop m ts))
-  row_taken n m ts is row a e f g = rw (e, f) (row_shaped g (drop m ts) (drop m is) (shaped_drop m ts is a))
+  pub row_taken : (n m : ℕ) (ts : List TypeTree) (is row : List ℕ) → AreShaped shapes ts is → row ≡ drop n is
+      → n ≡ m → all_at (shapes_in shapes) row ≡ shapes_of (row_of (drop m ts))
+  row_taken n m ts is row a e f = rw (e, f) (row_shaped (drop m ts) (drop m is) (shaped_drop m ts is a))
 
 -- numbers keep their shapes where a table grows
-pub shaped_kept : (known : Bool) (old new : List Node) (ts : List TypeTree) (is : List ℕ) → Extends old new
-    → AreBelow (length old) is → AreShaped known old ts is → AreShaped known new ts is
-shaped_kept known old new ts is e b a = record {
+pub shaped_kept : (old new : List Node) (ts : List TypeTree) (is : List ℕ) → Extends old new
+    → AreBelow (length old) is → AreShaped old ts is → AreShaped new ts is
+shaped_kept old new ts is e b a = record {
   counted = a.counted;
-  each = λ f k l. e.kept (slice_index is k) (b k l) ∙ a.each f k l;
-}
-
--- where fewer names are known
-pub shaped_still : (known now : Bool) (shapes : List Node) (ts : List TypeTree) (is : List ℕ)
-    → (now ≡ true → known ≡ true) → AreShaped known shapes ts is → AreShaped now shapes ts is
-shaped_still known now shapes ts is still a = record {
-  counted = a.counted;
-  each = λ e k l. a.each (still e) k l;
+  each = λ k l. e.kept (slice_index is k) (b k l) ∙ a.each k l;
 }
 
 -- where the newest is taken
-pub older_taken : (known : Bool) (shapes : List Node) (ts : List TypeTree) (is left : List ℕ)
-    → AreShaped known shapes ts is → left ≡ older is → AreShaped known shapes (older ts) left
-older_taken known shapes ts is left a e =
-    front_taken known shapes (length is - 1) (length ts - 1) ts is left a e (ap (λ n. n - 1) a.counted)
+pub older_taken : (shapes : List Node) (ts : List TypeTree) (is left : List ℕ)
+    → AreShaped shapes ts is → left ≡ older is → AreShaped shapes (older ts) left
+older_taken shapes ts is left a e =
+    front_taken shapes (length is - 1) (length ts - 1) ts is left a e (ap (λ n. n - 1) a.counted)
 
 -- where one more type is made
-pub shaped_push : (known : Bool) (shapes : List Node) (ts : List TypeTree) (is : List ℕ) (t : TypeTree) (i : ℕ)
-    → AreShaped known shapes ts is → (known ≡ true → shape_in shapes i ≡ shape_of t)
-    → AreShaped known shapes (ts ++ t ∷ []) (is ++ i ∷ [])
-shaped_push known shapes ts is t i a last = record {
+pub shaped_push : (shapes : List Node) (ts : List TypeTree) (is : List ℕ) (t : TypeTree) (i : ℕ)
+    → AreShaped shapes ts is → shape_in shapes i ≡ shape_of t
+    → AreShaped shapes (ts ++ t ∷ []) (is ++ i ∷ [])
+shaped_push shapes ts is t i a last = record {
   counted = omega (arith, a.counted, length-append is (i ∷ []), length-append ts (t ∷ []));
-  each = λ e k l. ⊎_elim
+  each = λ k l. ⊎_elim
       (λ h. rw (get_or_append_left is (i ∷ []) 0 k h, get_or_append_left ts (t ∷ []) int k (rw a.counted at h))
-      (a.each e k h))
+      (a.each k h))
       (λ h. let m : k ≡ length is = omega (arith, h, l, length-append is (i ∷ [])) in
-      rw (m, get_or-append_seam is i [] 0, a.counted, get_or-append_seam ts t [] int) (last e))
+      rw (m, get_or-append_seam is i [] 0, a.counted, get_or-append_seam ts t [] int) last)
       (cases_lt k (length is));
 }
+
+-- a piece whose name, if it has one, is known
+pub piece_done : (s : Scope) (p : Piece) (types : BodyTypes) (kept : Resolving) (types_new : BodyTypes)
+    (kept_new : Resolving) → AreBelow (length types_new.table.shapes) kept_new.shapes.items
+    → ((st : State) → IsOf st types kept → IsOf (after s p st) types_new kept_new)
+    → Resolves s p types kept types_new kept_new true
+piece_done s p types kept types_new kept_new below made =
+    record { below = below; made = λ e st a. made st a; unknown = λ e. absurd (cc); same = λ e. absurd (cc) }

@@ -4,6 +4,7 @@ use Rattle.std.specs.Prelude.{◌≡◌, ◌<◌, ◌-◌, ◌++◌, ℕ, Bool, 
 use Rattle.std.specs.Prelude.{if◌then◌else◌, List, [], ◌∷◌, length, map, reverse, take, drop}
 use Rattle.std.specs.Prelude.{slice_index, slice_index_or}
 use Rattle.nll_format.specs.Names.{number_of}
+use Rattle.nll_sets.specs.Prefix.{IsPrefix}
 use Rattle.nll_types.specs.Types.{TypeTree, TypeTrees, int, parameter, reference, tuple, named}
 use Rattle.nll_types.specs.Types.{function}
 use Rattle.nll_types.specs.Shapes.{shape_of}
@@ -13,7 +14,7 @@ use Rattle.nll_types.specs.declared.node.Node.{Node}
 use Rattle.nll_types.specs.declared.body_types.BodyTypes.{BodyTypes}
 use Rattle.nll_mir_grammar.specs.WrittenTypes.{Name}
 use Rattle.nll_mir_grammar.specs.TypeTexts as written
-use Rattle.nll_mir_grammar.specs.TypeTexts.{make_int, make_reference, begin_row, add_region}
+use Rattle.nll_mir_grammar.specs.TypeTexts.{make_int, begin_reference, begin_row, add_region}
 use Rattle.nll_mir_grammar.specs.TypeTexts.{add_type, make_tuple, make_named, make_function}
 use Rattle.nll_mir_text.specs.Naming.{Scope, is_among, kinds_taken, same_kinds}
 use Rattle.nll_mir_text.specs.declared.rows.Mark.{Mark}
@@ -28,6 +29,7 @@ newest [] = []
 newest (marks.Row k n ∷ ms) = []
 newest (marks.Region r ∷ ms) = marks.Region r ∷ newest ms
 newest (marks.Part ∷ ms) = marks.Part ∷ newest ms
+newest (marks.Behind m r ∷ ms) = marks.Behind m r ∷ newest ms
 
 -- the entries of the other rows
 abbrev pub others : List Mark → List Mark
@@ -35,6 +37,7 @@ others [] = []
 others (marks.Row k n ∷ ms) = ms
 others (marks.Region r ∷ ms) = others ms
 others (marks.Part ∷ ms) = others ms
+others (marks.Behind m r ∷ ms) = others ms
 
 -- how many types and how many regions come before the newest row
 abbrev pub starts : List Mark → ℕ × ℕ
@@ -42,12 +45,14 @@ starts [] = (0, 0)
 starts (marks.Row k n ∷ ms) = (k, n)
 starts (marks.Region r ∷ ms) = starts ms
 starts (marks.Part ∷ ms) = starts ms
+starts (marks.Behind m r ∷ ms) = starts ms
 
 -- whether it is a region
 abbrev pub is_region : Mark → Bool
 is_region (marks.Region r) = true
 is_region (marks.Row k n) = false
 is_region marks.Part = false
+is_region (marks.Behind m r) = false
 
 -- the regions among these
 abbrev pub regions_in : List Mark → List ℕ
@@ -55,6 +60,37 @@ regions_in [] = []
 regions_in (marks.Region r ∷ ms) = r ∷ regions_in ms
 regions_in (marks.Row k n ∷ ms) = regions_in ms
 regions_in (marks.Part ∷ ms) = regions_in ms
+regions_in (marks.Behind m r ∷ ms) = regions_in ms
+
+-- the type with the references around it that wait for it
+abbrev pub with_references : TypeTree → List Mark → TypeTree
+with_references t (marks.Behind m r ∷ ms) = with_references (reference r m t) ms
+with_references t [] = t
+with_references t (marks.Row k n ∷ ms) = t
+with_references t (marks.Region r ∷ ms) = t
+with_references t (marks.Part ∷ ms) = t
+
+-- the regions of those references, the innermost first
+abbrev pub regions_around : List Mark → List ℕ
+regions_around (marks.Behind m r ∷ ms) = r ∷ regions_around ms
+regions_around [] = []
+regions_around (marks.Row k n ∷ ms) = []
+regions_around (marks.Region r ∷ ms) = []
+regions_around (marks.Part ∷ ms) = []
+
+-- the marks without those references
+abbrev pub without_references : List Mark → List Mark
+without_references (marks.Behind m r ∷ ms) = without_references ms
+without_references [] = []
+without_references (marks.Row k n ∷ ms) = marks.Row k n ∷ ms
+without_references (marks.Region r ∷ ms) = marks.Region r ∷ ms
+without_references (marks.Part ∷ ms) = marks.Part ∷ ms
+
+-- no reference waits for the next type
+abbrev pub NoneWaits : List Mark → Type 0
+NoneWaits ms =
+    (without_references ms ≡ ms) × (regions_around ms ≡ [])
+    × ((t : TypeTree) → with_references t ms ≡ t)
 
 -- ---- what is resolved
 
@@ -103,12 +139,23 @@ named_regions s n st =
     if is_among s.parameters n then take (starts st.rows).1 st.regions
     else st.regions ++ regions_in (arguments st)
 
+-- the type is complete, and with it the references that wait for it
+abbrev pub type_completed : TypeTree → State → State
+type_completed t st = record st {
+  made = st.made ++ with_references t st.rows ∷ [];
+  regions = st.regions ++ regions_around st.rows;
+  rows = without_references st.rows;
+}
+
+-- the newest row is taken off, with the types that are in it
+abbrev pub without_row : State → State
+without_row st = record st { made = types_before st; rows = others st.rows }
+
 -- what a piece makes of what is resolved so far
 abbrev pub after : Scope → written.Piece → State → State
-after s make_int st = record st { made = st.made ++ int ∷ [] }
-after s (make_reference m r) st = record st {
-  made = older st.made ++ reference (number_of s.regions r) m (newest_type st.made) ∷ [];
-  regions = st.regions ++ number_of s.regions r ∷ [];
+after s make_int st = type_completed int st
+after s (begin_reference m r) st = record st {
+  rows = marks.Behind m (number_of s.regions r) ∷ st.rows;
   known = st.known && is_among s.regions r;
 }
 after s begin_row st =
@@ -118,52 +165,59 @@ after s (add_region r) st = record st {
   known = st.known && is_among s.regions r;
 }
 after s add_type st = record st { rows = marks.Part ∷ st.rows }
-after s make_tuple st = record st {
-  made = types_before st ++ tuple (types_inside st) ∷ [];
-  rows = others st.rows;
-}
-after s (make_named n) st = record {
-  made = types_before st ++ named_type s n st ∷ [];
+after s make_tuple st = type_completed (tuple (types_inside st)) (without_row st)
+after s (make_named n) st = type_completed (named_type s n st) (record {
+  made = types_before st;
   regions = named_regions s n st;
   rows = others st.rows;
   known = st.known && (is_among s.parameters n || is_among s.structs n);
   fits = st.fits && same_kinds (map is_region (arguments st)) (kinds_taken s n);
-}
+})
 after s make_function st =
     let others_made = record st { made = older st.made } in
-    record st {
-      made = types_before others_made
-          ++ function (types_inside others_made) (newest_type st.made) ∷ [];
-      rows = others st.rows;
-    }
+    type_completed (function (types_inside others_made) (newest_type st.made))
+    (without_row others_made)
 
 -- what pieces make of what is resolved so far
 abbrev pub run : Scope → List written.Piece → State → State
 run s [] st = st
 run s (p ∷ ps) st = run s ps (after s p st)
 
+-- these regions come first at each step
+abbrev pub KeepsRegions : Scope → List ℕ → List written.Piece → State → Type 0
+KeepsRegions s rs [] st = IsPrefix rs st.regions
+KeepsRegions s rs (p ∷ ps) st = IsPrefix rs st.regions × KeepsRegions s rs ps (after s p st)
+
 -- ---- what the code keeps of it
 
--- There is a number for each of these types; where each name so far is known, it is that of the
--- type's shape.
-pub record AreShaped (known : Bool) (shapes : List Node) (ts : List TypeTree) (numbers : List ℕ)
-    : Type 0 where
+-- There is a number for each of these types: that of its shape.
+pub record AreShaped (shapes : List Node) (ts : List TypeTree) (numbers : List ℕ) : Type 0 where
   pub counted : length numbers ≡ length ts
-  pub each : known ≡ true → (k : ℕ) → k < length numbers
+  pub each : (k : ℕ) → k < length numbers
       → shape_in shapes (slice_index numbers k) ≡ shape_of (slice_index_or ts k int)
 
--- The code has what is resolved so far: the shapes of the types, the regions at the end of the
--- body's list, and the rest.
+-- The code has what is resolved so far: each name is known, the shapes of the types are there, the
+-- regions stand at the end of the body's list, and the rest is the same.
 pub record IsOf (st : State) (types : BodyTypes) (kept : Resolving) : Type 0 where
-  pub shapes : AreShaped kept.known types.table.shapes st.made kept.shapes.items
+  pub shapes : AreShaped types.table.shapes st.made kept.shapes.items
   pub regions : types.regions.items ≡ st.regions
   pub rows : reverse kept.rows.items ≡ st.rows
-  pub known : kept.known ≡ st.known
+  pub known : st.known ≡ true
   pub fits : kept.fits ≡ st.fits
 
--- A piece is resolved: the numbers are of shapes, and each state that the code had is followed by
--- what the piece makes of it.
+-- Where the name in a piece is known, the code follows each state that it had by what the piece
+-- makes of it; else the body's regions stay as they are. The numbers are of shapes.
 pub record Resolves (s : Scope) (p : written.Piece) (types : BodyTypes) (kept : Resolving)
-    (types_new : BodyTypes) (kept_new : Resolving) : Type 0 where
+    (types_new : BodyTypes) (kept_new : Resolving) (known : Bool) : Type 0 where
   pub below : AreBelow (length types_new.table.shapes) kept_new.shapes.items
-  pub made : (st : State) → IsOf st types kept → IsOf (after s p st) types_new kept_new
+  pub made : known ≡ true → (st : State) → IsOf st types kept
+      → IsOf (after s p st) types_new kept_new
+  pub unknown : known ≡ false → (st : State) → (after s p st).known ≡ false
+  pub same : known ≡ false → types_new.regions.items ≡ types.regions.items
+
+-- All is resolved, and this is the number of the newest type's shape.
+pub record IsAllResolved (st : State) (types : BodyTypes) (kept : Resolving) (i : ℕ) : Type 0 where
+  pub shape : shape_in types.table.shapes i ≡ shape_of (newest_type st.made)
+  pub regions : types.regions.items ≡ st.regions
+  pub known : st.known ≡ true
+  pub fits : kept.fits ≡ st.fits

@@ -1,6 +1,6 @@
 //! The fields of a struct: judging them, and making their types.
 
-ghost use Rattle.std.specs.Prelude.{◌≡◌, ◌<◌, ◌^◌, ◌&&◌, true, false, length, map, IfOk};
+ghost use Rattle.std.specs.Prelude.{◌≡◌, ◌<◌, ◌^◌, ◌&&◌, true, false, length, map, IfOk, IfSome};
 ghost use Rattle.std.specs.Prelude.{MatchOption};
 ghost use Rattle.std.specs.List.{list_all};
 ghost use Rattle.nll_types.specs.Shapes.{is_small_shape, tuple_shape, shapes_of};
@@ -63,8 +63,8 @@ fn has_small_parts(shapes: &Shapes, shape: usize) -> bool
     }
 }
 
-/// The fields of a struct, as a tuple, where each name in them is known. The flag stays true where
-/// each name in them has arguments of the kinds that it takes.
+/// The fields of a struct, as a tuple, where each name in them is known. The flag stays true then
+/// where each name in them has arguments of the kinds that it takes.
 pub fn resolve_fields(
     alloc: Global,
     own: &OwnNames,
@@ -75,8 +75,8 @@ pub fn resolve_fields(
 ) -> Result<Option<Typed>, Memory>
     requires { length own.now.regions < 2 ^ 32 }
     ensures adds { IfOk result (λ _. AddsTypes types.old types.new) }
-    ensures fits { IfOk result (λ _. fits.new
-        ≡ (fits.old && has_arguments (own_scope own.now structs.now) (written fields.now))) }
+    ensures fits { IfOk result (λ o. IfSome o (λ _. fits.new
+        ≡ (fits.old && has_arguments (own_scope own.now structs.now) (written fields.now)))) }
     ensures resolved { IfOk result (λ o. MatchOption o
         (is_known (own_scope own.now structs.now) (written fields.now) ≡ false)
         (IsResolved (own_scope own.now structs.now) (written fields.now) types.new)) }

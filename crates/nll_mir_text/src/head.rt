@@ -1,7 +1,7 @@
 //! Lines of the head: regions, structs, variables, and how many blocks there must be.
 
 ghost use Rattle.std.specs.Prelude.{◌≡◌, ◌<◌, ◌^◌, length, map, Some, None, true, false};
-ghost use Rattle.std.specs.Prelude.{IfOk, IfErr, MatchOption, OnOk, OnErr};
+ghost use Rattle.std.specs.Prelude.{IfOk, IfErr, IfSome, MatchOption, OnOk, OnErr};
 ghost use Rattle.nll_mir_text.specs.Naming.{has_arguments, is_among, is_known};
 ghost use Rattle.nll_mir_text.specs.Resolution.{IsResolved};
 ghost use Rattle.nll_format.specs.Names.{number_of};
@@ -156,8 +156,8 @@ impl Reader {
         requires ready { IsReady self.old }
         requires fitting { fits.old ≡ true }
         ensures grown { IfOk result (λ _. IsGrown self.old self.new) }
-        ensures fits { IfOk result (λ _. fits.new ≡ has_arguments
-            (scope_in self.old.regions self.old.structs) (written text.now)) }
+        ensures fits { IfOk result (λ o. IfSome o (λ _. fits.new ≡ has_arguments
+            (scope_in self.old.regions self.old.structs) (written text.now))) }
         ensures resolved { IfOk result (λ o. MatchOption o
             (is_known (scope_in self.old.regions self.old.structs) (written text.now) ≡ false)
             (IsResolved (scope_in self.new.regions self.new.structs) (written text.now)
@@ -236,8 +236,8 @@ impl Reader {
         ensures grown { IfOk result (λ _. IsGrown self.old self.new) }
         ensures structs { IfOk result (λ _. self.new.structs ≡ self.old.structs) }
         ensures tuple { IsTuple (written text.now.fields) }
-        ensures fits { IfOk result (λ _. fits.new ≡ has_arguments
-            (own_scope own.now self.old.structs) (written text.now.fields)) }
+        ensures fits { IfOk result (λ o. IfSome o (λ _. fits.new ≡ has_arguments
+            (own_scope own.now self.old.structs) (written text.now.fields))) }
         ensures resolved { IfOk result (λ o. MatchOption o
             (is_known (own_scope own.now self.old.structs) (written text.now.fields) ≡ false)
             (IsResolved (own_scope own.now self.old.structs) (written text.now.fields)

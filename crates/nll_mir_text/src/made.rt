@@ -1,9 +1,9 @@
 //! Types that are made of those that were made before, the newest last.
 
-ghost use Rattle.std.specs.Prelude.{◌≡◌, ◌<◌, ◌++◌, ◌∷◌, [], List, length, drop, reverse, take};
-ghost use Rattle.std.specs.Prelude.{Bool, IfOk, IsTrue, OnOk, true};
+ghost use Rattle.std.specs.Prelude.{◌≡◌, ◌<◌, List, length, drop, reverse, take};
+ghost use Rattle.std.specs.Prelude.{IfOk, IsTrue, OnOk};
 ghost use Rattle.nll_types.specs.Shapes.{reference_shape, shape_of};
-ghost use Rattle.nll_types.specs.Table.{AreBelow, IsOver, shape_in, shape_over, shapes_in};
+ghost use Rattle.nll_types.specs.Table.{AreBelow, shape_in};
 ghost use Rattle.nll_types.specs.Tables.{AddsShapes};
 ghost use Rattle.nll_types.specs.Types.{TypeTree};
 ghost use Rattle.nll_mir_text.specs.Resolving.{AreShaped, newest_type, older, others, starts};
@@ -36,9 +36,13 @@ fn is_reference(shapes: &Shapes, shape: usize, mutable: bool, target: usize) -> 
     }
 }
 
-// The number of the shape of a reference. Most come soon after their targets, and are found there
-// without hashing.
-fn known_reference(table: &mut TypeTable, mutable: bool, target: usize) -> Result<usize, Memory>
+/// The number of the shape of a reference. Most come soon after their targets, and are found there
+/// without hashing.
+pub(crate) fn reference_to(
+    table: &mut TypeTable,
+    mutable: bool,
+    target: usize,
+) -> Result<usize, Memory>
     requires { target < length table.old.shapes }
     ensures grows { AddsShapes table.old table.new }
     ensures within { IfOk result (λ i. i < length table.new.shapes) }
@@ -55,33 +59,13 @@ fn known_reference(table: &mut TypeTable, mutable: bool, target: usize) -> Resul
     table.add(Node::Reference(mutable, target))
 }
 
-/// The number of the shape of a reference; of its target where a name is unknown.
-pub(crate) fn reference_to(
-    known: bool,
-    table: &mut TypeTable,
-    mutable: bool,
-    target: usize,
-) -> Result<usize, Memory>
-    requires { target < length table.old.shapes }
-    ensures grows { AddsShapes table.old table.new }
-    ensures within { IfOk result (λ i. i < length table.new.shapes) }
-    ensures at { IfOk result (λ i. known ≡ true → shape_in table.new.shapes i
-        ≡ reference_shape mutable (shape_in table.old.shapes target)) }
-{
-    if known {
-        known_reference(table, mutable, target)
-    } else {
-        Ok(target)
-    }
-}
-
 /// Takes the newest shape off; that of `int` where there is none.
 pub(crate) fn pop(table: &mut TypeTable, made: &mut Made) -> Result<usize, Memory>
     requires { AreBelow (length table.old.shapes) made.old.items }
     ensures grows { AddsShapes table.old table.new }
     ensures within { IfOk result (λ i. i < length table.new.shapes) }
-    ensures newest { IfOk result (λ i. (known : Bool) (ts : List TypeTree)
-        → AreShaped known table.old.shapes ts made.old.items → known ≡ true
+    ensures newest { IfOk result (λ i. (ts : List TypeTree)
+        → AreShaped table.old.shapes ts made.old.items
         → shape_in table.new.shapes i ≡ shape_of (newest_type ts)) }
     ensures older { made.new.items ≡ older made.old.items }
 {
@@ -105,36 +89,4 @@ pub(crate) fn pop_row(alloc: Global, made: &mut Made, rows: &mut Rows) -> Result
     made.truncate(start);
     rows.truncate(row.place.saturating_sub(1));
     Ok(parts)
-}
-
-// The number of the shape of a node, where each name is known.
-fn number(known: bool, table: &mut TypeTable, node: Node) -> Result<usize, Memory>
-    requires { IsOver (length table.old.shapes) node }
-    ensures grows { AddsShapes table.old table.new }
-    ensures within { IfOk result (λ i. i < length table.new.shapes) }
-    ensures at { IfOk result (λ i. known ≡ true
-        → shape_in table.new.shapes i ≡ shape_over (shapes_in table.old.shapes) node) }
-{
-    table.add(if known { node } else { Node::Int })
-}
-
-/// Appends the shape of a node; some shape where a name is unknown, since none is asked for then.
-pub(crate) fn push(
-    known: bool,
-    table: &mut TypeTable,
-    node: Node,
-    made: &mut Made,
-) -> Result<(), Memory>
-    requires node { IsOver (length table.old.shapes) node }
-    requires below { AreBelow (length table.old.shapes) made.old.items }
-    ensures grows { AddsShapes table.old table.new }
-    ensures below { OnOk result (AreBelow (length table.new.shapes) made.new.items) }
-    ensures made { OnOk result ((ts : List TypeTree) (t : TypeTree)
-        → AreShaped known table.old.shapes ts made.old.items
-        → (known ≡ true → shape_over (shapes_in table.old.shapes) node ≡ shape_of t)
-        → AreShaped known table.new.shapes (ts ++ t ∷ []) made.new.items) }
-{
-    let shape = number(known, table, node)?;
-    made.push(shape)?;
-    Ok(())
 }

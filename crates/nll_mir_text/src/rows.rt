@@ -1,16 +1,17 @@
-//! The entries of rows of arguments that aren't complete.
+//! The entries of rows of arguments that aren't complete, and the references that wait for a type.
 
 ghost use Rattle.std.specs.Prelude.{◌≡◌, ◌-◌, ◌≤◌, length, map, reverse, drop, take, slice_index_or};
-ghost use Rattle.std.specs.Prelude.{[]};
+ghost use Rattle.std.specs.Prelude.{[], ◌∷◌, MatchOption};
 ghost use Rattle.nll_mir_text.specs.Naming as naming;
 ghost use Rattle.nll_mir_text.specs.Resolution.{scope_of};
 ghost use Rattle.nll_mir_text.specs.Resolving as spec;
+ghost use Rattle.nll_mir_text.specs.Resolving.{NoneWaits};
 
 use crate::scope::Scope;
 use nll_problem::RegionId;
 use smallvec::SmallVec;
 
-/// An entry of a row, or the beginning of one.
+/// An entry of a row, the beginning of one, or a reference.
 #[derive(Clone, Copy)]
 pub enum Mark {
     /// A row begins, after this many types and this many regions.
@@ -19,6 +20,8 @@ pub enum Mark {
     Region(RegionId),
     /// A type.
     Part,
+    /// A reference waits for the type that it points to: whether it is `mut`, and its region.
+    Behind(bool, RegionId),
 }
 
 impl Default for Mark {
@@ -27,8 +30,8 @@ impl Default for Mark {
     }
 }
 
-/// The rows that aren't complete, the newest last. Few types have more in them.
-pub(crate) type Rows = SmallVec<Mark, 4>;
+/// The rows and the references that aren't complete, the newest last. Few types have more in them.
+pub(crate) type Rows = SmallVec<Mark, 8>;
 
 /// Where the newest row begins.
 #[derive(Clone, Copy)]
@@ -65,6 +68,23 @@ pub(crate) fn newest_row(rows: &[Mark]) -> Beginning
         types: 0,
         regions: 0,
     }
+}
+
+/// Takes off the newest mark, where it is a reference's.
+pub(crate) fn pop_reference(rows: &mut Rows) -> Option<(bool, RegionId)>
+    ensures { MatchOption result
+        ((rows.new.items ≡ rows.old.items) × NoneWaits (reverse rows.old.items))
+        (λ r. reverse rows.old.items ≡ Mark.Behind r.0 r.1 ∷ reverse rows.new.items) }
+{
+    let count = rows.len();
+    if count == 0 {
+        return None;
+    }
+    if let Mark::Behind(mutable, region) = rows.as_slice()[count - 1] {
+        rows.truncate(count - 1);
+        return Some((mutable, region));
+    }
+    None
 }
 
 // Whether it is a region.

@@ -18,13 +18,6 @@ use Rattle.nll_rules.specs.Flows.{InputsAgree, PartsAgree}
 
 -- ---- two types that agree
 
--- both are there, and they have one shape
-pub there : (one other : Option TypeTree) → agree one other ≡ true
-    → (t u : TypeTree) × (one ≡ Some t) × (other ≡ Some u) × (shape_of t ≡ shape_of u)
-there None other h = absurd (let e : false ≡ true = h in cc)
-there (Some t) None h = absurd (let e : false ≡ true = h in cc)
-there (Some t) (Some u) h = (t, u, refl, refl, (same_shape_decides t u).0 h)
-
 pub one_shape : (t u : TypeTree) → agree (Some t) (Some u) ≡ true → shape_of t ≡ shape_of u
 one_shape t u h = (same_shape_decides t u).0 h
 

@@ -19,11 +19,10 @@ use Rattle.nll_body.specs.declared.flat.FlatSwitch.{FlatSwitch}
 use Rattle.nll_body.specs.declared.flat.Stmt.{Stmt}
 use Rattle.nll_body.specs.declared.flat.Stmt.TheVariants as flat
 use Rattle.nll_rules.specs.Asking.{Asks}
-use Rattle.nll_rules.specs.Flows.{AddsMet, InputsAgree, IsAtHand, PartsAgree, inputs_of, place_type, value_type, written_type}
-use Rattle.nll_rules.specs.Knowing.{KnownTypes}
+use Rattle.nll_rules.specs.Flows.{AddsMet, InputsAgree, PartsAgree, inputs_of, place_type, value_type, written_type}
+use Rattle.nll_rules.specs.Knowing.{IsAtHand, IsTypeOfRow, KnownTypes}
 use Rattle.nll_rules.specs.Pairs.{AddsPairs, AtOne, BothAsk, InputAsks, PartAsks}
 use Rattle.nll_rules.specs.Subtyping.{SubtypeAsks}
-use Rattle.nll_rules.specs.TypeRows.{IsRowOf}
 use Rattle.nll_rules.specs.declared.type_row.TypeRow.{TypeRow}
 use Rattle.nll_rules.proofs.AgreeLemmas.{agrees_none, call_agrees, call_inputs, make_agrees, make_parts, none_agrees, one_shape}
 use Rattle.nll_rules.proofs.KnowingLemmas.{at_place}
@@ -34,7 +33,7 @@ use Rattle.nll_rules.proofs.StatementLemmas.{asks_call, asks_make, asks_nothing,
 
 -- two rows ask what the types that agree ask
 pub met : (k : KnownTypes) (c d : TypeRow) (old new : List (ℕ × ℕ))
-    → ((t u : TypeTree) → IsRowOf k.table k.regions t c → IsRowOf k.table k.regions u d → shape_of t ≡ shape_of u
+    → ((t u : TypeTree) → IsTypeOfRow k t c → IsTypeOfRow k u d → shape_of t ≡ shape_of u
     → AddsPairs (SubtypeAsks k.structs t u) old new)
     → (o p : Option TypeTree) → IsAtHand k o (Some c) → IsAtHand k p (Some d) → AddsMet k o p old new
 met k c d old new each None p a b agrees = absurd (none_agrees p agrees)
@@ -44,7 +43,7 @@ met k c d old new each (Some t) (Some u) a b agrees =
 
 -- and so do a reference to what has the first row, and what has the second
 pub met_reference : (k : KnownTypes) (r : ℕ) (c d : TypeRow) (old new : List (ℕ × ℕ))
-    → ((m : Bool) (t u : TypeTree) → IsRowOf k.table k.regions t c → IsRowOf k.table k.regions u d
+    → ((m : Bool) (t u : TypeTree) → IsTypeOfRow k t c → IsTypeOfRow k u d
     → reference_shape m (shape_of t) ≡ shape_of u → AddsPairs (SubtypeAsks k.structs (reference r m t) u) old new)
     → (m : Bool) (o p : Option TypeTree) → IsAtHand k o (Some c) → IsAtHand k p (Some d)
     → AddsMet k (reference_to r m o) p old new

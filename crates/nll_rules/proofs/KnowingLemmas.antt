@@ -1,7 +1,6 @@
 -- What is known of a body stays known, and is of the body.
-use Rattle.std.proofs.Common.{◌≡◌, ℕ, true, List, length, map, get_or, sym, ap, ◌∙◌, subst, Some, None, Option}
-use Rattle.std.specs.Prelude.{All, slice_get}
-use Rattle.std.proofs.lemmas.List.{length-map}
+use Rattle.std.proofs.Common.{◌≡◌, ℕ, true, List, ◌++◌, append_assoc, length, map, get_or, sym, ap, ◌∙◌, subst, arith, Some, None, Option}
+use Rattle.std.specs.Prelude.{All, IfSome, slice_get}
 use Rattle.std.proofs.lemmas.Option.{get_or_from_slice_get, slice_get_within, slice_get-get_or}
 use Rattle.nll_types.specs.Declarations.{structs_of}
 use Rattle.nll_types.specs.Rows.{tree_at}
@@ -18,10 +17,10 @@ use Rattle.nll_body.specs.Bodies.{BodyText, StandsAt}
 use Rattle.nll_body.specs.Sound.{IsSound}
 use Rattle.nll_body.specs.Typed.{IsTypedBody}
 use Rattle.nll_body.specs.declared.typed.TypedBody.{TypedBody}
-use Rattle.nll_rules.specs.Knowing.{IsOfBody, KnownTypes, Learns}
-use Rattle.nll_rules.specs.TypeRows.{IsRowIn, IsRowOf}
+use Rattle.nll_rules.specs.Knowing.{IsAtHand, IsAvailable, IsOfBody, IsSameBody, IsTypeOfRow, KnownTypes, Learns, known_row}
+use Rattle.nll_rules.specs.TypeRows.{IsWholeRow, row_in}
 use Rattle.nll_rules.specs.declared.type_row.TypeRow.{TypeRow}
-use Rattle.nll_rules.proofs.KnownLemmas.{row_later}
+use Rattle.nll_rules.proofs.RowListLemmas.{row_grown}
 use Rattle.nll_rules.proofs.StatementLemmas.{get_mapped}
 
 -- ---- what stays
@@ -34,22 +33,75 @@ learns_then a b c x y = record {
   lists = y.lists ∙ x.lists;
   variables = y.variables ∙ x.variables;
   table = extends_then a.table b.table c.table x.table y.table;
+  made = (
+    x.made.0 ++ y.made.0,
+    y.made.1 ∙ ap (λ (rows : List ℕ). rows ++ y.made.0) x.made.1 ∙ append_assoc a.made x.made.0 y.made.0,
+  );
+}
+
+-- a row that is there stays
+pub row_at_stays : (a b : KnownTypes) (c : TypeRow) → Learns a b → IsWholeRow (known_row a c) c
+    → known_row b c ≡ known_row a c
+row_at_stays a b c l whole =
+    ap (λ (rows : List ℕ). row_in b.regions rows c) l.made.1
+    ∙ ap (λ (body : List ℕ). row_in body (a.made ++ l.made.0) c) l.regions
+    ∙ row_grown a.regions a.made l.made.0 c whole
+
+pub known_stays : (a b : KnownTypes) (c : TypeRow) → Learns a b → IsAvailable a c → IsAvailable b c
+known_stays a b c l h = record {
+  within = (let n = h.within in let m = l.table.longer in omega arith);
+  whole = ap length (row_at_stays a b c l h.whole) ∙ h.whole;
 }
 
 -- a type at hand keeps its shape and its row
-pub row_stays : (a b : KnownTypes) (t : TypeTree) (c : TypeRow) → Learns a b → IsRowOf a.table a.regions t c
-    → IsRowOf b.table b.regions t c
-row_stays a b t c l h = rw l.regions (row_later a.table b.table a.regions t c l.table h)
+pub row_stays : (a b : KnownTypes) (t : TypeTree) (c : TypeRow) → Learns a b → IsTypeOfRow a t c → IsTypeOfRow b t c
+row_stays a b t c l h = record {
+  within = (let n = h.within in let m = l.table.longer in omega arith);
+  shape = l.table.kept c.shape h.within ∙ h.shape;
+  row = row_at_stays a b c l h.whole ∙ h.row;
+  whole = ap length (row_at_stays a b c l h.whole) ∙ h.whole;
+}
 
-pub row_in_stays : (a b : KnownTypes) (o : Option TypeTree) (c : Option TypeRow) → Learns a b
-    → IsRowIn a.table a.regions o c → IsRowIn b.table b.regions o c
+pub row_in_stays : (a b : KnownTypes) (o : Option TypeTree) (c : Option TypeRow) → Learns a b → IsAtHand a o c
+    → IsAtHand b o c
 row_in_stays a b None c l h = h
 row_in_stays a b (Some t) None l h = absurd h
 row_in_stays a b (Some t) (Some c) l h = row_stays a b t c l h
 
+-- the shape and the row of a type at hand are there
+pub type_known : (k : KnownTypes) (t : TypeTree) (c : TypeRow) → IsTypeOfRow k t c → IsAvailable k c
+type_known k t c h = record {
+  within = h.within;
+  whole = h.whole;
+}
+
+pub known_at_hand : (k : KnownTypes) (o : Option TypeTree) (c : TypeRow) → IsAtHand k o (Some c) → IsAvailable k c
+known_at_hand k None c h = absurd (let e : Some c ≡ None = h in cc)
+known_at_hand k (Some t) c h = type_known k t c h
+
+-- where there is a row
+pub known_later : (a b : KnownTypes) (o : Option TypeRow) → Learns a b → IfSome o (IsAvailable a)
+    → IfSome o (IsAvailable b)
+known_later a b None l h = h
+known_later a b (Some c) l h = known_stays a b c l h
+
+pub at_hand_known : (k : KnownTypes) (o : Option TypeTree) (c : Option TypeRow) → IsAtHand k o c
+    → IfSome c (IsAvailable k)
+at_hand_known k o None h = tt
+at_hand_known k o (Some c) h = known_at_hand k o c h
+
 -- ---- what is of a body
 
-pub of_body_later : (body : BodyText) (a b : KnownTypes) → Learns a b → IsOfBody body a → IsOfBody body b
+pub learns_same : (a b : KnownTypes) → Learns a b → IsSameBody a b
+learns_same a b l = record {
+  structs = l.structs;
+  shapes = l.shapes;
+  regions = l.regions;
+  lists = l.lists;
+  variables = l.variables;
+}
+
+pub of_body_later : (body : BodyText) (a b : KnownTypes) → IsSameBody a b → IsOfBody body a → IsOfBody body b
 of_body_later body a b l h = record {
   structs = l.structs ∙ h.structs;
   variables = l.variables ∙ h.variables;
@@ -65,10 +117,6 @@ at_place P xs k x h e = subst P (get_or_from_slice_get xs k x x e) (h k x (slice
 module _ (body : BodyText) (k : KnownTypes) (h : IsOfBody body k) where
   abbrev meant : Statement ℕ Typed → Statement ℕ TypeTree
   meant i = meant_by k.shapes k.regions i
-
-  pub known_points : length k.lists.points ≡ length body.points
-  known_points = sym (length-map k.lists.points (statement_in k.lists))
-      ∙ sym (length-map (statements_in k.lists) meant) ∙ ap length h.points
 
   there : (p : ℕ) (s : Stmt) → slice_get k.lists.points p ≡ Some s
       → slice_get (statements_in k.lists) p ≡ Some (statement_in k.lists s)

@@ -1,9 +1,9 @@
 -- What is found of types at hand.
-use Rattle.std.proofs.Common.{◌≡◌, ℕ, ◌<◌, Bool, List, [], ◌∷◌, ◌++◌, length, take, drop, refl, sym, ap, ◌∙◌, subst, arith, Option, Some, None, ◌↔◌}
-use Rattle.std.specs.Prelude.{MatchOption, option_map, slice_get}
+use Rattle.std.proofs.Common.{◌≡◌, ℕ, ◌<◌, Bool, true, false, List, [], ◌∷◌, ◌++◌, length, take, drop, ◌≤◌, refl, sym, ap, ◌∙◌, subst, arith, Option, Some, None, ◌↔◌}
+use Rattle.std.specs.Prelude.{◌-◌, MatchOption, if◌then◌else◌, nat_lt, option_map, slice_get}
 use Rattle.std.specs.Global.{Vec}
 use Rattle.std.proofs.Math.Seq.{take-append_seam}
-use Rattle.std.proofs.lemmas.List.{same_from_push}
+use Rattle.std.proofs.lemmas.List.{length-append, length-drop, nil_from_length, same_from_push}
 use Rattle.std.proofs.lemmas.Option.{get_or_from_slice_get, slice_get_within}
 use Rattle.nll_types.specs.Rows.{region_row, region_rows, HasRow, tree_at}
 use Rattle.nll_types.specs.Shapes.{Shape, ShapeList, reference_shape, tuple_shape, named_shape, shape_at, shape_of, shapes_of, behind_shape}
@@ -19,11 +19,11 @@ use Rattle.nll_types.specs.declared.typed.Typed.{Typed}
 use Rattle.nll_types.proofs.ProjectLemmas.{count_tuple, shape_at_all}
 use Rattle.nll_types.proofs.ShapeLemmas.{behind_agrees, shape_at_of}
 use Rattle.nll_types.proofs.TableLemmas.{length_from}
-use Rattle.nll_rules.specs.Knowing.{IsFieldIn}
+use Rattle.nll_rules.specs.Knowing.{AsksAt, IsFieldIn, IsTypeOfRow, KnownTypes, known_row}
 use Rattle.nll_rules.specs.Pairs.{AddsPairs}
 use Rattle.nll_rules.specs.Signs.{RowsAsk, signs}
 use Rattle.nll_rules.specs.Subtyping.{SubtypeAsks}
-use Rattle.nll_rules.specs.TypeRows.{AreSigns, AreSignsOf, IsRowIn, IsRowOf, IsUseRow, first_parts, row_from, row_length, row_of, starts_from}
+use Rattle.nll_rules.specs.TypeRows.{AreSigns, AreSignsOf, IsRowIn, IsRowOf, IsUseRow, IsWholeRow, first_parts, row_from, row_in, row_length, starts_from}
 use Rattle.nll_rules.specs.declared.field_rows.UseRow.{UseRow}
 use Rattle.nll_rules.specs.declared.fields.FieldRow.{FieldRow}
 use Rattle.nll_rules.specs.declared.row_signs.ShapeSigns.{ShapeSigns}
@@ -40,29 +40,42 @@ extends_copy ns later e = record {
   kept = λ i l. ap (λ (known : List Shape). at known i) e;
 }
 
--- also where there are more shapes
-pub row_later : (ns later : List Node) (regions : List ℕ) (t : TypeTree) (c : TypeRow) → Extends ns later
-    → IsRowOf ns regions t c → IsRowOf later regions t c
-row_later ns later regions t c e h = record {
-  within = (let l = h.within in let m = e.longer in omega arith);
-  shape = e.kept c.shape h.within ∙ h.shape;
-  row = h.row;
-}
-
 -- ---- types that are written
 
-pub written_row : (ns old new : List Node) (regions : List ℕ) (v : Typed) (n : ℕ) → HasRow ns regions v
+-- a row that the body's list has
+written_in : (body made : List ℕ) (shape first n : ℕ) (row rest : List ℕ) → drop first body ≡ row ++ rest
+    → n ≡ length row
+    → row_in body made (record { shape = shape; first = first; count = n }) ≡ row
+written_in body made shape first n row rest e is = by (nat_lt first (length body)) refl
+  where
+    one : take n (drop first body) ≡ row
+    one = ap (take n) e ∙ ap (λ (m : ℕ). take m (row ++ rest)) is ∙ take-append_seam row rest
+
+    by : (b : Bool) → nat_lt first (length body) ≡ b
+        → take n (if b then drop first body else drop (first - length body) made) ≡ row
+    by true l = one
+    by false l =
+        let none : length row ≡ 0 = omega (arith, length-drop first body, ap length e, length-append row rest, past l)
+        in
+        let empty : row ≡ [] = nil_from_length row none in
+        let zero : n ≡ 0 = is ∙ none in
+        rw (zero, empty) refl
+      where
+        past : nat_lt first (length body) ≡ false → length body ≤ first
+        past l = search (arith)
+
+pub written_row : (ns old new : List Node) (body made : List ℕ) (v : Typed) (n : ℕ) → HasRow ns body v
     → Extends ns old → Extends old new → n ≡ row_length (shape_in old v.shape)
-    → IsRowOf new regions (tree_at ns regions v)
-    (record { shape = v.shape; first = v.first; count = n; made = None })
-written_row ns old new regions v n h e f is =
-    let t = tree_at ns regions v in
+    → IsRowOf new body made (tree_at ns body v) (record { shape = v.shape; first = v.first; count = n })
+written_row ns old new body made v n h e f is =
+    let t = tree_at ns body v in
     let count : n ≡ length (region_row t) =
-    is ∙ ap row_length (e.kept v.shape h.within ∙ h.shape) ∙ row_length_of t in record {
+    is ∙ ap row_length (e.kept v.shape h.within ∙ h.shape) ∙ row_length_of t in
+    let row = written_in body made v.shape v.first n (region_row t) h.row.0 h.row.1 count in record {
       within = (let l = h.within in let a = e.longer in let b = f.longer in omega arith);
       shape = f.kept v.shape (let l = h.within in let a = e.longer in omega arith) ∙ e.kept v.shape h.within ∙ h.shape;
-      row = ap (λ (m : ℕ). take m (drop v.first regions)) count ∙ ap (take (length (region_row t))) h.row.1
-          ∙ take-append_seam (region_row t) h.row.0;
+      row = row;
+      whole = ap length row ∙ sym count;
     }
 
 -- ---- signs
@@ -84,38 +97,20 @@ known_count structs ns known shape n e are found is =
 swap : {A B : Type 0} → A ↔ B → B ↔ A
 swap e = (e.1, e.0)
 
--- what the rows of two types ask by the signs of their shape is what the types ask
-pub rows_ask_types : (structs : List Struct) (ns : List Node) (known : List (Option ShapeSigns)) (regions : List ℕ)
-    (t u : TypeTree) (one other : TypeRow) (e : ShapeSigns) (old new : List (ℕ × ℕ)) → AreSigns structs ns known
-    → slice_get known one.shape ≡ Some (Some e) → IsRowOf ns regions t one → IsRowOf ns regions u other
-    → shape_of t ≡ shape_of u
-    → AddsPairs (RowsAsk e.signs.items (row_of regions one) (row_of regions other)) old new
-    → AddsPairs (SubtypeAsks structs t u) old new
-rows_ask_types structs ns known regions t u one other e old new are found h k same adds =
-    let is : e.signs.items ≡ signs structs Covariant (shape_of t) =
-    (are one.shape e found).1.signs ∙ ap (signs structs Covariant) h.shape in
-    adds_same _ _ old new (λ x. swap (rows_asked structs t u x same))
-    (subst (λ (rs : List ℕ). AddsPairs (RowsAsk (signs structs Covariant (shape_of t)) (region_row t) rs) old new) k.row
+-- what two types ask that meet is what the rows ask by the signs of their shape
+pub met_types : (k : KnownTypes) (t u : TypeTree) (one other : TypeRow) (old new : List (ℕ × ℕ)) → IsTypeOfRow k t one
+    → IsTypeOfRow k u other → shape_of t ≡ shape_of u → AddsPairs (AsksAt k (record { one = one; other = other })) old
+    new
+    → AddsPairs (SubtypeAsks k.structs t u) old new
+met_types k t u one other old new h i same adds =
+    let is : signs k.structs Covariant (shape_in k.table other.shape) ≡ signs k.structs Covariant (shape_of t) =
+    ap (signs k.structs Covariant) (i.shape ∙ sym same) in
+    adds_same _ _ old new (λ x. swap (rows_asked k.structs t u x same))
+    (subst (λ (rs : List ℕ). AddsPairs (RowsAsk (signs k.structs Covariant (shape_of t)) (region_row t) rs) old new)
+    i.row
     (subst (λ (rs : List ℕ).
-    AddsPairs (RowsAsk (signs structs Covariant (shape_of t)) rs (row_of regions other)) old new) h.row
-    (subst (λ (ss : List Sign). AddsPairs (RowsAsk ss (row_of regions one) (row_of regions other)) old new) is adds)))
-
--- and so it is of a reference and a type of its shape
-pub rows_ask_reference : (structs : List Struct) (ns : List Node) (known : List (Option ShapeSigns)) (regions : List ℕ)
-    (r : ℕ) (m : Bool) (t u : TypeTree) (target other : TypeRow) (e : ShapeSigns) (old new : List (ℕ × ℕ))
-    → AreSigns structs ns known → slice_get known other.shape ≡ Some (Some e) → IsRowOf ns regions t target
-    → IsRowOf ns regions u other → reference_shape m (shape_of t) ≡ shape_of u
-    → AddsPairs (RowsAsk e.signs.items (row_of regions target ++ r ∷ []) (row_of regions other)) old new
-    → AddsPairs (SubtypeAsks structs (reference r m t) u) old new
-rows_ask_reference structs ns known regions r m t u target other e old new are found h k same adds =
-    let is : e.signs.items ≡ signs structs Covariant (shape_of u) =
-    (are other.shape e found).1.signs ∙ ap (signs structs Covariant) k.shape in
-    let ss = signs structs Covariant (shape_of (reference r m t)) in
-    adds_same _ _ old new (λ x. swap (rows_asked structs (reference r m t) u x same))
-    (subst (λ (rs : List ℕ). AddsPairs (RowsAsk ss (region_row t ++ r ∷ []) rs) old new) k.row
-    (subst (λ (rs : List ℕ). AddsPairs (RowsAsk ss (rs ++ r ∷ []) (row_of regions other)) old new) h.row
-    (subst (λ (zs : List Sign). AddsPairs (RowsAsk zs (row_of regions target ++ r ∷ []) (row_of regions other)) old new)
-    (is ∙ ap (signs structs Covariant) (sym same)) adds)))
+    AddsPairs (RowsAsk (signs k.structs Covariant (shape_of t)) rs (known_row k other)) old new) h.row
+    (subst (λ (ss : List Sign). AddsPairs (RowsAsk ss (known_row k one) (known_row k other)) old new) is adds)))
 
 -- ---- references
 
@@ -128,15 +123,16 @@ reference_node ns i target m node l at over is =
     let first : target < i = below 0 (omega arith) in
     (at ∙ ap (shape_over (shapes_in ns)) is, omega arith)
 
-pub reference_row : (ns : List Node) (regions : List ℕ) (t : TypeTree) (c r : TypeRow) (m : Bool) (target q : ℕ)
-    → IsRowOf ns regions t c → shape_in ns c.shape ≡ reference_shape m (shape_in ns target) → target < length ns
-    → r.shape ≡ target → row_of regions c ≡ row_of regions r ++ q ∷ []
-    → (u : TypeTree) × (t ≡ reference q m u) × IsRowOf ns regions u r
-reference_row ns regions (reference p n u) c r m target q h is l at row =
+pub reference_row : (ns : List Node) (body made : List ℕ) (t : TypeTree) (c r : TypeRow) (m : Bool) (target q : ℕ)
+    → IsRowOf ns body made t c → shape_in ns c.shape ≡ reference_shape m (shape_in ns target) → target < length ns
+    → r.shape ≡ target → IsWholeRow (row_in body made r) r
+    → row_in body made c ≡ row_in body made r ++ q ∷ []
+    → (u : TypeTree) × (t ≡ reference q m u) × IsRowOf ns body made u r
+reference_row ns body made (reference p n u) c r m target q h is l at whole row =
     let shape : reference_shape n (shape_of u) ≡ reference_shape m (shape_in ns target) = sym h.shape ∙ is in
     let flag : n ≡ m = cc in
     let behind : shape_of u ≡ shape_in ns target = cc in
-    let last = same_from_push (region_row u) (row_of regions r) p q (sym h.row ∙ row) in
+    let last = same_from_push (region_row u) (row_in body made r) p q (sym h.row ∙ row) in
     let region : p ≡ q = last.1 in (
       u,
       cc,
@@ -144,27 +140,28 @@ reference_row ns regions (reference p n u) c r m target q h is l at row =
         within = subst (λ (i : ℕ). i < length ns) (sym at) l;
         shape = ap (shape_in ns) at ∙ sym behind;
         row = sym last.0;
+        whole = whole;
       },
     )
-reference_row ns regions int c r m target q h is l at row = absurd (let e = sym h.shape ∙ is in cc)
-reference_row ns regions (parameter k) c r m target q h is l at row = absurd (let e = sym h.shape ∙ is in cc)
-reference_row ns regions (tuple ts) c r m target q h is l at row = absurd (let e = sym h.shape ∙ is in cc)
-reference_row ns regions (named s rs ts) c r m target q h is l at row = absurd (let e = sym h.shape ∙ is in cc)
-reference_row ns regions (function ts t) c r m target q h is l at row = absurd (let e = sym h.shape ∙ is in cc)
+reference_row ns body made int c r m target q h is l at whole row = absurd (let e = sym h.shape ∙ is in cc)
+reference_row ns body made (parameter k) c r m target q h is l at whole row = absurd (let e = sym h.shape ∙ is in cc)
+reference_row ns body made (tuple ts) c r m target q h is l at whole row = absurd (let e = sym h.shape ∙ is in cc)
+reference_row ns body made (named s rs ts) c r m target q h is l at whole row = absurd (let e = sym h.shape ∙ is in cc)
+reference_row ns body made (function ts t) c r m target q h is l at whole row = absurd (let e = sym h.shape ∙ is in cc)
 
 -- ---- parts of tuples
 
 -- what is found of the part at a place of a tuple is its type
-pub tuple_row : (ns : List Node) (regions : List ℕ) (ts : TypeTrees) (c : TypeRow) (k : ℕ) (parts : Vec ℕ)
-    (starts : List ℕ) (o : Option TypeRow) → IsRowOf ns regions (tuple ts) c
+pub tuple_row : (ns : List Node) (body made : List ℕ) (ts : TypeTrees) (c : TypeRow) (k : ℕ) (parts : Vec ℕ)
+    (starts : List ℕ) (o : Option TypeRow) → IsRowOf ns body made (tuple ts) c
     → shape_in ns c.shape ≡ shape_over (shapes_in ns) (nodes.Tuple parts) → IsOver c.shape (nodes.Tuple parts)
     → starts ≡ starts_from 0 (first_parts (shape_in ns c.shape))
     → ((ts : TypeTrees) → starts ≡ starts_from 0 (shapes_of ts) → length parts.items ≡ type_count ts
-    → row_of regions c ≡ region_rows ts → MatchOption o (type_at ts k ≡ None)
+    → row_in body made c ≡ region_rows ts → MatchOption o (type_at ts k ≡ None)
     (λ r. (t : TypeTree) × (type_at ts k ≡ Some t) × (slice_get parts.items k ≡ Some r.shape)
-    × (row_of regions r ≡ region_row t)))
-    → IsRowIn ns regions (type_at ts k) o
-tuple_row ns regions ts c k parts starts o h node over begun row =
+    × (row_in body made r ≡ region_row t) × IsWholeRow (row_in body made r) r))
+    → IsRowIn ns body made (type_at ts k) o
+tuple_row ns body made ts c k parts starts o h node over begun row =
     there o (row ts (begun ∙ ap (λ (s : Shape). starts_from 0 (first_parts s)) h.shape) count h.row)
   where
     known : List Shape
@@ -185,15 +182,17 @@ tuple_row ns regions ts c k parts starts o h node over begun row =
 
     there : (o : Option TypeRow) → MatchOption o (type_at ts k ≡ None)
         (λ r. (t : TypeTree) × (type_at ts k ≡ Some t) × (slice_get parts.items k ≡ Some r.shape)
-        × (row_of regions r ≡ region_row t)) → IsRowIn ns regions (type_at ts k) o
-    there None m = subst (λ (p : Option TypeTree). IsRowIn ns regions p None) (sym m) refl
+        × (row_in body made r ≡ region_row t) × IsWholeRow (row_in body made r) r) → IsRowIn ns body made (type_at ts
+        k) o
+    there None m = subst (λ (p : Option TypeTree). IsRowIn ns body made p None) (sym m) refl
     there (Some r) m =
         let below = over k (slice_get_within parts.items k r.shape m.2) in
         let is = get_or_from_slice_get parts.items k r.shape 0 m.2 in
-        subst (λ (p : Option TypeTree). IsRowIn ns regions p (Some r)) (sym m.1) (record {
+        subst (λ (p : Option TypeTree). IsRowIn ns body made p (Some r)) (sym m.1) (record {
           within = (let l = h.within in omega arith);
           shape = at_part r.shape m.0 m.2 m.1;
           row = m.3;
+          whole = m.4;
         })
 
 -- ---- fields of structs
@@ -259,24 +258,27 @@ made_field structs ns later new shape made s k rs ts o same x within is row =
       row = (let e : row_from (region_row (named s rs ts)) v.items ≡ region_row z = cc in e);
     }
 
--- the type of a field that is known
-pub field_row : (ns later : List Node) (regions : List ℕ) (t : TypeTree) (o : Option TypeTree) (c r : TypeRow)
-    (f : FieldRow) → IsRowOf ns regions t c → IsFieldIn later t o (Some f) → r.shape ≡ f.shape
-    → row_of regions r ≡ row_from (row_of regions c) f.template.items → IsRowIn later regions o (Some r)
-field_row ns later regions t None c r f h is shape row = absurd (let e : Some f ≡ None = is in cc)
-field_row ns later regions t (Some u) c r f h is shape row = record {
-  within = (let l = is.within in omega (arith, shape));
-  shape = ap (shape_in later) shape ∙ is.shape;
-  row = row ∙ ap (λ (qs : List ℕ). row_from qs f.template.items) h.row ∙ is.row;
+-- the type of a field, whose row is made of that of the struct
+pub field_row : (later : List Node) (body made : List ℕ) (t : TypeTree) (o : Option TypeTree) (row : List ℕ)
+    (c : TypeRow)
+    (f : FieldRow) → region_row t ≡ row → IsFieldIn later t o (Some f) → c.shape ≡ f.shape
+    → c.count ≡ length (row_from row f.template.items) → row_in body made c ≡ row_from row f.template.items
+    → IsRowIn later body made o (Some c)
+field_row later body made t None row c f is h shape count made_row = absurd (let e : Some f ≡ None = h in cc)
+field_row later body made t (Some u) row c f is h shape count made_row = record {
+  within = (let l = h.within in omega (arith, shape));
+  shape = ap (shape_in later) shape ∙ h.shape;
+  row = made_row ∙ ap (λ (qs : List ℕ). row_from qs f.template.items) (sym is) ∙ h.row;
+  whole = ap length made_row ∙ sym count;
 }
 
 -- ---- what is there
 
-pub row_there : (ns : List Node) (regions : List ℕ) (o : Option TypeTree) (c : TypeRow) → IsRowIn ns regions o (Some c)
-    → (t : TypeTree) × (o ≡ Some t) × IsRowOf ns regions t c
-row_there ns regions None c h = absurd (let e : Some c ≡ None = h in cc)
-row_there ns regions (Some t) c h = (t, refl, h)
+pub row_there : (ns : List Node) (body made : List ℕ) (o : Option TypeTree) (c : TypeRow)
+    → IsRowIn ns body made o (Some c) → (t : TypeTree) × (o ≡ Some t) × IsRowOf ns body made t c
+row_there ns body made None c h = absurd (let e : Some c ≡ None = h in cc)
+row_there ns body made (Some t) c h = (t, refl, h)
 
-pub row_none : (ns : List Node) (regions : List ℕ) (o : Option TypeTree) → IsRowIn ns regions o None → o ≡ None
-row_none ns regions None h = refl
-row_none ns regions (Some t) h = absurd h
+pub row_none : (ns : List Node) (body made : List ℕ) (o : Option TypeTree) → IsRowIn ns body made o None → o ≡ None
+row_none ns body made None h = refl
+row_none ns body made (Some t) h = absurd h

@@ -5,8 +5,11 @@ pub mod AgreeLemmas
 pub mod RowSignLemmas
 pub mod FieldLemmas
 pub mod TypeRowLemmas
+pub mod RowListLemmas
+pub mod KeyLemmas
 pub mod KnownFieldLemmas
 pub mod KnownLemmas
+pub mod MeetingLemmas
 pub mod ReborrowLemmas
 pub mod StatementLemmas
 pub mod KnowingLemmas

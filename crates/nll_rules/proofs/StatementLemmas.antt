@@ -14,7 +14,7 @@ use Rattle.nll_rules.specs.Subtyping.{SubtypeAsks}
 use Rattle.nll_rules.specs.Reborrows.{RestsOn}
 use Rattle.nll_rules.specs.Asking.{AsksPair, Asks}
 use Rattle.nll_rules.specs.Pairs.{AddsPairs, AtOne, BothAsk, PartAsks, InputAsks, OneOutlives}
-use Rattle.nll_rules.proofs.PairLemmas.{adds_none, adds_same}
+use Rattle.nll_rules.proofs.PairLemmas.{adds_same}
 use Rattle.nll_rules.proofs.SubtypeLemmas.{get_below}
 
 some_is : {X : Type 0} (a b : X) → Some a ≡ Some b → a ≡ b
@@ -177,9 +177,6 @@ adds_list old new pairs e =
         ⊎_elim (Contains-append_left old pairs x) (Contains-append_right old pairs x),
       );
     })
-
-pub outlives_none : (r : ℕ) (old : List (ℕ × ℕ)) → AddsPairs (OneOutlives [] r) old old
-outlives_none r old = adds_none _ old (λ x w. (let l = w.0.1 in absurd (omega arith)))
 
 pub outlives_more : (xs : List ℕ) (y r : ℕ) (old now next : List (ℕ × ℕ)) → next ≡ now ++ (y, r) ∷ []
     → AddsPairs (OneOutlives xs r) old now → AddsPairs (OneOutlives (xs ++ y ∷ []) r) old next

@@ -13,8 +13,6 @@ use Rattle.nll_body.specs.Typing.{agree}
 use Rattle.nll_body.specs.declared.flat.FlatOperand.{FlatOperand}
 use Rattle.nll_rules.specs.Knowing.{KnownTypes}
 use Rattle.nll_rules.specs.Pairs.{AddsPairs, BothAsk}
-use Rattle.nll_rules.specs.TypeRows.{IsRowIn}
-use Rattle.nll_rules.specs.declared.type_row.TypeRow.{TypeRow}
 
 -- ---- types
 
@@ -33,10 +31,6 @@ value_type k op = operand_type k.structs k.variables (operand_in k.lists op)
 -- the operands of a call, each with the type of the parameter for which it is
 abbrev pub inputs_of : KnownTypes → List (FlatOperand × Typed) → List (Operand × TypeTree)
 inputs_of k args = map (λ a. (a.0, written_type k a.1)) (map (argument_in k.lists) args)
-
--- the type is at hand where there is one
-abbrev pub IsAtHand : KnownTypes → Option TypeTree → Option TypeRow → Type 0
-IsAtHand k o c = IsRowIn k.table k.regions o c
 
 -- ---- types that agree
 

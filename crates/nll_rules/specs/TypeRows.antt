@@ -1,7 +1,8 @@
 -- Types by their shapes and rows of regions, while a statement is looked at.
 -- Source: project's choice. Only private contracts cite this file.
-use Rattle.std.specs.Prelude.{◌≡◌, ℕ, ◌+◌, ◌<◌, List, [], ◌∷◌, length, map, take, drop}
-use Rattle.std.specs.Prelude.{Option, Some, None, option_map, unwrap_or, slice_get, slice_index_or}
+use Rattle.std.specs.Prelude.{◌≡◌, ℕ, ◌+◌, ◌-◌, ◌<◌, nat_lt, if◌then◌else◌, List, [], ◌∷◌}
+use Rattle.std.specs.Prelude.{length, map, take, drop, Option, Some, None, slice_get}
+use Rattle.std.specs.Prelude.{slice_index_or}
 use Rattle.nll_types.specs.Types.{TypeTree, TypeTrees, int, parameter, reference, tuple, named}
 use Rattle.nll_types.specs.Types.{function}
 use Rattle.nll_types.specs.Structs.{Struct, argument, region_in}
@@ -15,6 +16,7 @@ use Rattle.nll_types.specs.declared.parameter.Sign.TheVariants.{Covariant}
 use Rattle.nll_rules.specs.Signs.{signs}
 use Rattle.nll_rules.specs.declared.field_rows.UseRow.{UseRow}
 use Rattle.nll_rules.specs.declared.row_signs.ShapeSigns.{ShapeSigns}
+use Rattle.nll_rules.specs.declared.type_row.RowLists.{RowLists}
 use Rattle.nll_rules.specs.declared.type_row.TypeRow.{TypeRow}
 
 -- ---- shapes
@@ -95,22 +97,31 @@ form (tuple ts) = 3
 form (named s rs ts) = 4
 form (function ts t) = 5
 
--- the list in which the row is
-abbrev pub list_of_row : List ℕ → TypeRow → List ℕ
-list_of_row regions c = unwrap_or (option_map (λ v. v.items) c.made) regions
+-- the row: from its first place on, as many regions as it has; the places of the made rows' list go
+-- on where those of the body's list end
+abbrev pub row_in : List ℕ → List ℕ → TypeRow → List ℕ
+row_in body made c = take c.count
+    (if nat_lt c.first (length body) then drop c.first body
+    else drop (c.first - length body) made)
 
--- the row
-abbrev pub row_of : List ℕ → TypeRow → List ℕ
-row_of regions c = take c.count (drop c.first (list_of_row regions c))
+-- the row, in the lists as the code keeps them
+abbrev pub row_of : RowLists → TypeRow → List ℕ
+row_of lists c = row_in lists.body.now lists.made.items c
+
+-- the lists have as many regions of the row as it has
+abbrev pub IsWholeRow : List ℕ → TypeRow → Type 0
+IsWholeRow row c = length row ≡ c.count
 
 -- The shape and the row are those of the type.
-pub record IsRowOf (ns : List Node) (regions : List ℕ) (t : TypeTree) (c : TypeRow) : Type 0 where
-  pub within : c.shape < length ns
-  pub shape : shape_in ns c.shape ≡ shape_of t
-  pub row : row_of regions c ≡ region_row t
+pub record IsRowOf (ns : List Node) (body made : List ℕ) (t : TypeTree) (c : TypeRow) : Type 0
+  where
+    pub within : c.shape < length ns
+    pub shape : shape_in ns c.shape ≡ shape_of t
+    pub row : row_in body made c ≡ region_row t
+    pub whole : IsWholeRow (row_in body made c) c
 
 -- those of the type where there is one, and else none
-abbrev pub IsRowIn : List Node → List ℕ → Option TypeTree → Option TypeRow → Type 0
-IsRowIn ns regions None o = o ≡ None
-IsRowIn ns regions (Some t) None = ⊥
-IsRowIn ns regions (Some t) (Some c) = IsRowOf ns regions t c
+abbrev pub IsRowIn : List Node → List ℕ → List ℕ → Option TypeTree → Option TypeRow → Type 0
+IsRowIn ns body made None o = o ≡ None
+IsRowIn ns body made (Some t) None = ⊥
+IsRowIn ns body made (Some t) (Some c) = IsRowOf ns body made t c

@@ -1,6 +1,6 @@
 //! What a statement or terminator asks.
 
-ghost use Rattle.std.specs.Prelude.{◌≡◌, ◌<◌, [], All, Bool, IfSome, OnOk, Option, Some, length};
+ghost use Rattle.std.specs.Prelude.{◌≡◌, [], All, Bool, IfSome, OnOk, Option, Some};
 ghost use Rattle.std.specs.Prelude.{map, true};
 ghost use Rattle.nll_types.specs.Operands.{reference_to};
 ghost use Rattle.nll_types.specs.Places.{behind};
@@ -13,12 +13,13 @@ ghost use Rattle.nll_body.specs.Meant.{HasRows, meant_by};
 ghost use Rattle.nll_body.specs.Statements as spec;
 ghost use Rattle.nll_body.specs.Typing.{types_agree};
 ghost use Rattle.nll_rules.specs.Asking.{Asks};
-ghost use Rattle.nll_rules.specs.Flows.{AddsMet, InputsAgree, IsAtHand, PartsAgree, inputs_of};
+ghost use Rattle.nll_rules.specs.Flows.{AddsMet, InputsAgree, PartsAgree, inputs_of};
 ghost use Rattle.nll_rules.specs.Flows.{place_type, value_type, written_type};
-ghost use Rattle.nll_rules.specs.Knowing.{Learns};
+ghost use Rattle.nll_rules.specs.Knowing.{IsAtHand, IsAvailable, Learns};
 ghost use Rattle.nll_rules.specs.Pairs.{AddsPairs, AtOne, InputAsks, OneOutlives, PartAsks};
 
 use crate::known::Known;
+use crate::meetings::Pairs;
 use crate::type_row::TypeRow;
 use nll_body::{FlatCall, FlatMake, FlatOperand, Stmt};
 use nll_problem::RegionId;
@@ -30,7 +31,7 @@ use std::alloc::Global;
 /// space.
 #[derive(Drop)]
 pub(crate) struct Asked {
-    pub(crate) pairs: Vec<(RegionId, RegionId)>,
+    pub(crate) pairs: Pairs,
     pub(crate) crossed: Vec<RegionId>,
 }
 
@@ -47,11 +48,7 @@ impl Asked {
 }
 
 // Appends, for each of these regions, that it outlives this one.
-fn ask_outlives(
-    regions: &[RegionId],
-    region: RegionId,
-    pairs: &mut Vec<(RegionId, RegionId)>,
-) -> Result<(), Memory>
+fn ask_outlives(regions: &[RegionId], region: RegionId, pairs: &mut Pairs) -> Result<(), Memory>
     ensures { OnOk result
         (AddsPairs (OneOutlives regions.now region) pairs.old.items pairs.new.items) }
 {
@@ -68,9 +65,10 @@ impl<'a> Known<'a> {
         alloc: Global,
         one: Option<TypeRow>,
         other: Option<TypeRow>,
-        pairs: &mut Vec<(RegionId, RegionId)>,
+        pairs: &mut Pairs,
     ) -> Result<(), Memory>
-        requires { IfSome one (λ c. c.shape < length self.old.table) }
+        requires one { IfSome one (IsAvailable self.old) }
+        requires other { IfSome other (IsAvailable self.old) }
         ensures learns { Learns self.old self.new }
         ensures asked { OnOk result ((o p : Option TypeTree)
             → IsAtHand self.old o one → IsAtHand self.old p other
@@ -79,7 +77,7 @@ impl<'a> Known<'a> {
         match one {
             Some(one) => match other {
                 Some(other) => {
-                    self.ask(alloc, &one, &other, pairs)?;
+                    self.ask(alloc, one, other, pairs)?;
                     Ok(())
                 }
                 None => Ok(()),
@@ -96,7 +94,7 @@ impl<'a> Known<'a> {
         place: u32,
         asked: &mut Asked,
     ) -> Result<(), Memory>
-        requires { IfSome one (λ c. c.shape < length self.old.table) }
+        requires { IfSome one (IsAvailable self.old) }
         ensures learns { Learns self.old self.new }
         ensures asked { OnOk result ((o : Option TypeTree) → IsAtHand self.old o one
             → AddsMet self.old o (place_type self.old place)
@@ -114,6 +112,7 @@ impl<'a> Known<'a> {
         other: Option<TypeRow>,
         asked: &mut Asked,
     ) -> Result<(), Memory>
+        requires { IfSome other (IsAvailable self.old) }
         ensures learns { Learns self.old self.new }
         ensures asked { OnOk result ((p : Option TypeTree) → IsAtHand self.old p other
             → AddsMet self.old (value_type self.old operand) p
@@ -160,9 +159,10 @@ impl<'a> Known<'a> {
         region: RegionId,
         target: Option<TypeRow>,
         other: Option<TypeRow>,
-        pairs: &mut Vec<(RegionId, RegionId)>,
+        pairs: &mut Pairs,
     ) -> Result<(), Memory>
-        requires { IfSome other (λ c. c.shape < length self.old.table) }
+        requires target { IfSome target (IsAvailable self.old) }
+        requires other { IfSome other (IsAvailable self.old) }
         ensures learns { Learns self.old self.new }
         ensures asked { OnOk result ((m : Bool) (o p : Option TypeTree)
             → IsAtHand self.old o target → IsAtHand self.old p other
@@ -171,7 +171,7 @@ impl<'a> Known<'a> {
         match target {
             Some(target) => match other {
                 Some(other) => {
-                    self.ask_reference(alloc, region, &target, &other, pairs)?;
+                    self.ask_reference(alloc, region, target, other, pairs)?;
                     Ok(())
                 }
                 None => Ok(()),

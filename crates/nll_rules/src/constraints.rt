@@ -161,6 +161,7 @@ fn find_asked(
     ensures asked { OnOk result (AreAskedAt body.now point asked.new.pairs.items) }
 {
     asked.pairs.clear();
+    known.make_room(alloc);
     known.asks(alloc, known.statements().at(point as usize), asked)?;
     keep_once(&mut asked.pairs);
     Ok(())

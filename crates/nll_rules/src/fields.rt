@@ -1,9 +1,10 @@
 //! The fields of structs that are known: their shapes, and where their regions are in the row of
 //! the struct.
 
-ghost use Rattle.std.specs.Prelude.{◌≡◌, ℕ, List, Contains, IfOk, IfSome};
+ghost use Rattle.std.specs.Prelude.{◌≡◌, Contains, IfOk, IfSome};
 ghost use Rattle.nll_types.specs.Structs.{region_in};
-ghost use Rattle.nll_rules.specs.TypeRows.{row_from, row_of};
+ghost use Rattle.nll_rules.specs.Knowing.{IsAmongUses};
+ghost use Rattle.nll_rules.specs.TypeRows.{row_from};
 
 use crate::type_row::TypeRow;
 use indexmap::IndexMap;
@@ -39,24 +40,26 @@ fn region_at(row: &[RegionId], number: usize) -> RegionId
 }
 
 impl FieldRow {
-    /// The type of the field, where this is the row of the struct.
-    pub(crate) fn of(&self, alloc: Global, row: &[RegionId]) -> Result<TypeRow, Memory>
-        ensures shape { IfOk result (λ r. r.shape ≡ self.now.shape) }
-        ensures row { IfOk result (λ r. (regions : List ℕ)
-            → row_of regions r ≡ row_from row.now self.now.template.items) }
+    /// The row of the field, where this is the row of the struct.
+    pub(crate) fn of(&self, alloc: Global, row: &[RegionId]) -> Result<Vec<RegionId>, Memory>
+        ensures { IfOk result (λ v. v.items ≡ row_from row.now self.now.template.items) }
     {
         let template = self.template.as_slice();
         let mut made = Vec::with_capacity(alloc, template.len())?;
         for number in template {
             made.push_reserved(region_at(row, *number));
         }
-        Ok(TypeRow {
-            shape: self.shape,
-            first: 0,
-            count: made.len(),
-            made: Some(made),
-        })
+        Ok(made)
     }
+}
+
+/// A field of a use of a struct: the number of the struct's shape, the field's place, and the row
+/// of the use.
+#[derive(PartialEq, Eq, Hash, Drop)]
+pub(crate) struct FieldUse {
+    pub(crate) shape: usize,
+    pub(crate) place: usize,
+    pub(crate) row: Vec<RegionId>,
 }
 
 /// What is known of a field.
@@ -67,4 +70,11 @@ pub(crate) fn known_field(
     ensures { IfSome result (λ f. Contains fields.now.entries (sought, f.now)) }
 {
     fields.get(&sought)
+}
+
+/// The type of a field of a use that is known.
+pub(crate) fn known_use(uses: &IndexMap<FieldUse, TypeRow>, sought: &FieldUse) -> Option<TypeRow>
+    ensures { IfSome result (IsAmongUses uses.now.entries sought.now) }
+{
+    uses.get(sought).copied()
 }

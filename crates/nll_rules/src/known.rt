@@ -1,7 +1,7 @@
 //! What is known of the types of a body.
 
-ghost use Rattle.std.specs.Prelude.{◌≡◌, ◌<◌, ℕ, All, Bool, IfOk, IfSome, List, MatchOption, OnOk};
-ghost use Rattle.std.specs.Prelude.{length, map, option_map, slice_get};
+ghost use Rattle.std.specs.Prelude.{◌≡◌, ◌<◌, ◌↔◌, ℕ, All, Bool, Contains, IfOk, IfSome, List};
+ghost use Rattle.std.specs.Prelude.{MatchOption, OnOk, length, map, option_map, slice_get};
 ghost use Rattle.nll_types.specs.Declarations.{structs_of};
 ghost use Rattle.nll_types.specs.Places.{behind};
 ghost use Rattle.nll_types.specs.Rows.{HasRow, region_row, tree_at};
@@ -10,16 +10,18 @@ ghost use Rattle.nll_types.specs.Structs.{field_type};
 ghost use Rattle.nll_types.specs.Table.{shape_in};
 ghost use Rattle.nll_types.specs.Types.{TypeTree, TypeTrees, named, reference, tuple, type_at};
 ghost use Rattle.nll_types.specs.declared.place.Projection.TheVariants.{Field as field};
-ghost use Rattle.nll_rules.specs.Knowing.{IsFieldIn, Learns};
+ghost use Rattle.nll_rules.specs.Knowing.{AsksAt, IsAtHand, IsFieldIn, IsFieldOfUse, IsAvailable};
+ghost use Rattle.nll_rules.specs.Knowing.{IsRightField, IsSameBody, IsTypeOfRow, Learns};
 ghost use Rattle.nll_rules.specs.Pairs.{AddsPairs};
 ghost use Rattle.nll_rules.specs.Subtyping.{SubtypeAsks};
-ghost use Rattle.nll_rules.specs.TypeRows.{IsRowIn, IsRowOf, form, row_from, row_length};
+ghost use Rattle.nll_rules.specs.TypeRows.{form, row_from, row_length};
 
-use crate::fields::{FieldKey, FieldRow, known_field};
+use crate::fields::{FieldKey, FieldRow, FieldUse, known_field, known_use};
+use crate::meetings::{Meeting, Pairs, known_pairs};
 use crate::part_rows::{field_template, tuple_part, use_row};
-use crate::reborrow::ask_reference_rows;
+use crate::reborrow::ask_own;
 use crate::row_signs::{SignTable, ask_rows};
-use crate::type_row::TypeRow;
+use crate::type_row::{RowLists, TypeRow};
 use indexmap::IndexMap;
 use nll_body::{Statements, TypedBody};
 use nll_problem::RegionId;
@@ -28,24 +30,36 @@ use nll_types::{Node, Shapes, Typed, part_once};
 use std::alloc::Global;
 use std::marker::Model;
 
+// So many regions of made rows, or pairs, are kept.
+const MOST_KEPT: usize = 1 << 18;
+
+// Of rows with fewer regions it isn't kept what they ask.
+const FEW_REGIONS: usize = 32;
+
 /// What is known of the types of a body: the shapes of its types and of what lies behind
-/// projections, the fields of shapes, and the signs of shapes. Each is found once.
+/// projections, the fields of shapes and of their uses, the signs of shapes, and what large types
+/// asked that met. Each is found once, while there is room.
 #[derive(Drop)]
 pub(crate) struct Known<'a> {
     body: TypedBody<'a>,
     shapes: Shapes,
     fields: IndexMap<FieldKey, FieldRow>,
     signs: SignTable,
+    lists: RowLists<'a>,
+    uses: IndexMap<FieldUse, TypeRow>,
+    asked: IndexMap<Meeting, Pairs>,
+    // How many pairs are kept.
+    pairs: usize,
 }
 
 impl<'a> Model for Known<'a> {
-    ghost use Rattle.std.specs.Prelude.{All, map};
+    ghost use Rattle.std.specs.Prelude.{◌≡◌, All, map};
     ghost use Rattle.std.specs.Coded.{codes, Coded};
     ghost use Rattle.nll_types.specs.TypeCodes.{Step, tree_code, trees_code};
     ghost use Rattle.nll_types.specs.Declarations.{structs_of};
     ghost use Rattle.nll_types.specs.Rows.{HasRow, tree_at};
     ghost use Rattle.nll_types.specs.Table.{Extends};
-    ghost use Rattle.nll_rules.specs.Knowing.{AreFields, KnownTypes};
+    ghost use Rattle.nll_rules.specs.Knowing.{AreFields, AreMet, AreUses, KnownTypes};
     ghost use Rattle.nll_rules.specs.TypeRows.{AreSigns};
 
     ghost Value = { KnownTypes };
@@ -61,6 +75,7 @@ impl<'a> Model for Known<'a> {
       variables = map (tree_at k.body.types.now.table.shapes k.body.types.now.regions.items)
           k.body.variables.now;
       table = k.shapes;
+      made = k.lists.made.items;
     } };
 
     ghost invariant = { λ k.
@@ -68,7 +83,12 @@ impl<'a> Model for Known<'a> {
         k.body.variables.now
         × Extends k.body.types.now.table.shapes k.shapes
         × AreFields (structs_of k.body.types.now.table.structs) k.shapes k.fields.entries
-        × AreSigns (structs_of k.body.types.now.table.structs) k.shapes k.signs.known.items };
+        × AreSigns (structs_of k.body.types.now.table.structs) k.shapes k.signs.known.items
+        × (k.lists.body.now ≡ k.body.types.now.regions.items)
+        × AreUses (structs_of k.body.types.now.table.structs) k.shapes
+        k.lists.body.now k.lists.made.items k.uses.entries
+        × AreMet (structs_of k.body.types.now.table.structs) k.shapes
+        k.lists.body.now k.lists.made.items k.asked.entries };
 }
 
 impl<'a> Known<'a> {
@@ -89,12 +109,35 @@ impl<'a> Known<'a> {
             body.entry.variables.now) }
     {
         let shapes = body.types.table.shapes().copy(alloc)?;
+        let lists = RowLists {
+            body: body.types.regions.as_slice(),
+            made: Vec::new(alloc),
+        };
         Ok(Known {
             body,
             shapes,
             fields: IndexMap::new(alloc),
             signs: SignTable::new(alloc),
+            lists,
+            uses: IndexMap::new(alloc),
+            asked: IndexMap::new(alloc),
+            pairs: 0,
         })
+    }
+
+    /// Forgets rows that were made and what types asked, where that is much. Types at hand are gone
+    /// then.
+    pub(crate) fn make_room(&mut self, alloc: Global)
+        ensures { IsSameBody self.old self.new }
+    {
+        // The invariant holds.
+        let _ = &self.body;
+        if self.lists.made.len() > MOST_KEPT || self.pairs > MOST_KEPT {
+            self.uses = IndexMap::new(alloc);
+            self.asked = IndexMap::new(alloc);
+            self.lists.made.clear();
+            self.pairs = 0;
+        }
     }
 
     /// The statements of the body.
@@ -102,13 +145,6 @@ impl<'a> Known<'a> {
         ensures { result.now ≡ self.now.lists }
     {
         self.body.points
-    }
-
-    // The regions of the body's types.
-    fn regions(&self) -> &'a [RegionId]
-        ensures { result.now ≡ self.now.regions }
-    {
-        self.body.types.regions.as_slice()
     }
 
     // Makes the signs of a shape, where they aren't known, and answers how many there are.
@@ -129,7 +165,7 @@ impl<'a> Known<'a> {
     pub(crate) fn written(&mut self, alloc: Global, ty: Typed) -> Result<TypeRow, Memory>
         requires { HasRow self.old.shapes self.old.regions ty }
         ensures learns { Learns self.old self.new }
-        ensures row { IfOk result (IsRowOf self.new.table self.new.regions
+        ensures row { IfOk result (IsTypeOfRow self.new
             (tree_at self.old.shapes self.old.regions ty)) }
     {
         // The invariant holds.
@@ -139,7 +175,6 @@ impl<'a> Known<'a> {
             shape: ty.shape,
             first: ty.first,
             count,
-            made: None,
         })
     }
 
@@ -150,8 +185,7 @@ impl<'a> Known<'a> {
         variable: u32,
     ) -> Result<Option<TypeRow>, Memory>
         ensures learns { Learns self.old self.new }
-        ensures row { IfOk result (IsRowIn self.new.table self.new.regions
-            (slice_get self.old.variables variable)) }
+        ensures row { IfOk result (IsAtHand self.new (slice_get self.old.variables variable)) }
     {
         match self.body.variables.get(variable as usize).copied() {
             Some(ty) => {
@@ -165,15 +199,15 @@ impl<'a> Known<'a> {
     /// The region of a reference, whether it is `mut`, and what it points to.
     pub(crate) fn reference_at(&self, row: TypeRow) -> Option<(RegionId, bool, TypeRow)>
         requires { row.shape < length self.now.table }
-        ensures { (t : TypeTree) → IsRowOf self.now.table self.now.regions t row
+        ensures { (t : TypeTree) → IsTypeOfRow self.now t row
             → MatchOption result (form t ≡ 2 → ⊥)
             (λ r. (u : TypeTree) × (t ≡ reference r.0 r.1 u)
-            × IsRowOf self.now.table self.now.regions u r.2) }
+            × IsTypeOfRow self.now u r.2) }
     {
         match self.shapes.node(row.shape) {
             Node::Reference(mutable, target) => {
                 let (mutable, target) = (*mutable, *target);
-                match row.split_last(self.regions(), target) {
+                match self.lists.split_last(row, target) {
                     Some((region, behind)) => Some((region, mutable, behind)),
                     None => None,
                 }
@@ -192,10 +226,9 @@ impl<'a> Known<'a> {
         requires { row.shape < length self.old.table }
         ensures learns { Learns self.old self.new }
         ensures row { IfOk result (λ o. (ts : TypeTrees)
-            → IsRowOf self.old.table self.old.regions (tuple ts) row
-            → IsRowIn self.new.table self.new.regions (type_at ts place) o) }
+            → IsTypeOfRow self.old (tuple ts) row
+            → IsAtHand self.new (type_at ts place) o) }
     {
-        let regions = self.body.types.regions.as_slice();
         let structs = self.body.types.table.structs();
         self.signs.learn(alloc, structs, &self.shapes, row.shape)?;
         let starts = match self.signs.get(row.shape) {
@@ -205,7 +238,7 @@ impl<'a> Known<'a> {
         let Node::Tuple(parts) = self.shapes.node(row.shape) else {
             return Ok(None);
         };
-        Ok(tuple_part(regions, starts, parts.as_slice(), row, place))
+        Ok(tuple_part(&self.lists, starts, parts.as_slice(), row, place))
     }
 
     // The shape of a field of a struct of this shape, where it has the field.
@@ -282,7 +315,80 @@ impl<'a> Known<'a> {
         }
     }
 
-    // The field of a struct, where it has the field. Its shape and its template are made once.
+    // Makes the type of a field of each struct that has this shape and this row, where it has the
+    // field. The field's shape and its template are made once.
+    fn make_part(
+        &mut self,
+        alloc: Global,
+        shape: usize,
+        place: usize,
+        row: &[RegionId],
+    ) -> Result<Option<TypeRow>, Memory>
+        requires { shape < length self.old.table }
+        ensures learns { Learns self.old self.new }
+        ensures row { IfOk result (IsFieldOfUse self.old self.new shape place row.now) }
+    {
+        let sought = FieldKey { shape, place };
+        if let Some(known) = known_field(&self.fields, sought) {
+            let made = known.of(alloc, row)?;
+            let part = self.lists.add(known.shape, made.as_slice())?;
+            return Ok(Some(part));
+        }
+        match self.make_field(alloc, shape, place)? {
+            Some(field) => self.add_field(alloc, sought, field, row),
+            None => Ok(None),
+        }
+    }
+
+    // Keeps what is known of a field, and makes its type of a struct's row.
+    fn add_field(
+        &mut self,
+        alloc: Global,
+        key: FieldKey,
+        field: FieldRow,
+        row: &[RegionId],
+    ) -> Result<Option<TypeRow>, Memory>
+        requires { IsRightField self.old.structs self.old.table key field }
+        ensures learns { Learns self.old self.new }
+        ensures row { IfOk result
+            (IsFieldOfUse self.old self.new key.shape key.place row.now) }
+    {
+        let made = field.of(alloc, row)?;
+        let part = self.lists.add(field.shape, made.as_slice())?;
+        self.fields.insert(key, field)?;
+        Ok(Some(part))
+    }
+
+    // Like `make_part`, and keeps the type.
+    fn add_use(&mut self, alloc: Global, used: FieldUse) -> Result<Option<TypeRow>, Memory>
+        requires { used.shape < length self.old.table }
+        ensures learns { Learns self.old self.new }
+        ensures row { IfOk result
+            (IsFieldOfUse self.old self.new used.shape used.place used.row.items) }
+    {
+        match self.make_part(alloc, used.shape, used.place, used.row.as_slice())? {
+            Some(part) => {
+                self.uses.insert(used, part)?;
+                Ok(Some(part))
+            }
+            None => Ok(None),
+        }
+    }
+
+    // The type of a field of a use, where there is the field. It is made once.
+    fn field_of(&mut self, alloc: Global, used: FieldUse) -> Result<Option<TypeRow>, Memory>
+        requires { used.shape < length self.old.table }
+        ensures learns { Learns self.old self.new }
+        ensures row { IfOk result
+            (IsFieldOfUse self.old self.new used.shape used.place used.row.items) }
+    {
+        match known_use(&self.uses, &used) {
+            Some(known) => Ok(Some(known)),
+            None => self.add_use(alloc, used),
+        }
+    }
+
+    // The field of a struct, where it has the field.
     fn field(
         &mut self,
         alloc: Global,
@@ -292,27 +398,15 @@ impl<'a> Known<'a> {
         requires { row.shape < length self.old.table }
         ensures learns { Learns self.old self.new }
         ensures row { IfOk result (λ o. (s : ℕ) (rs : List ℕ) (ts : TypeTrees)
-            → IsRowOf self.old.table self.old.regions (named s rs ts) row
-            → IsRowIn self.new.table self.new.regions
-            (field_type self.old.structs s rs ts place) o) }
+            → IsTypeOfRow self.old (named s rs ts) row
+            → IsAtHand self.new (field_type self.old.structs s rs ts place) o) }
     {
-        let regions = self.regions();
-        let sought = FieldKey {
+        let used = FieldUse {
             shape: row.shape,
             place,
+            row: Vec::from_slice(alloc, self.lists.row(row))?,
         };
-        if let Some(known) = known_field(&self.fields, sought) {
-            let part = known.of(alloc, row.regions(regions))?;
-            return Ok(Some(part));
-        }
-        match self.make_field(alloc, row.shape, place)? {
-            Some(made) => {
-                let part = made.of(alloc, row.regions(regions))?;
-                self.fields.insert(sought, made)?;
-                Ok(Some(part))
-            }
-            None => Ok(None),
-        }
+        self.field_of(alloc, used)
     }
 
     /// The type of a part of a tuple or of a field of a struct, where there is one.
@@ -325,8 +419,8 @@ impl<'a> Known<'a> {
         requires { row.shape < length self.old.table }
         ensures learns { Learns self.old self.new }
         ensures row { IfOk result (λ o. (t : TypeTree)
-            → IsRowOf self.old.table self.old.regions t row
-            → IsRowIn self.new.table self.new.regions (behind self.old.structs (field place) t) o) }
+            → IsTypeOfRow self.old t row
+            → IsAtHand self.new (behind self.old.structs (field place) t) o) }
     {
         match self.shapes.node(row.shape) {
             Node::Tuple(_) => self.tuple_part(alloc, row, place),
@@ -335,32 +429,101 @@ impl<'a> Known<'a> {
         }
     }
 
+    // Appends what two rows ask of each other, place by place, by the signs of the second's shape.
+    fn zip(&mut self, alloc: Global, meeting: Meeting, asked: &mut Pairs) -> Result<(), Memory>
+        requires { meeting.other.shape < length self.old.table }
+        ensures learns { Learns self.old self.new }
+        ensures asked { OnOk result (AddsPairs (AsksAt self.old meeting)
+            asked.old.items asked.new.items) }
+    {
+        let structs = self.body.types.table.structs();
+        self.signs
+            .learn(alloc, structs, &self.shapes, meeting.other.shape)?;
+        match self.signs.get(meeting.other.shape) {
+            Some(known) => {
+                let (one, other) = (self.lists.row(meeting.one), self.lists.row(meeting.other));
+                ask_rows(known.signs.as_slice(), one, other, asked)
+            }
+            None => unreachable!(),
+        }
+    }
+
+    // Keeps what two types ask that met, and appends it.
+    fn add_pairs(&mut self, meeting: Meeting, pairs: Pairs, asked: &mut Pairs) -> Result<(), Memory>
+        requires one { IsAvailable self.old meeting.one }
+        requires other { IsAvailable self.old meeting.other }
+        requires pairs { (x : ℕ × ℕ) → Contains pairs.items x ↔ AsksAt self.old meeting x }
+        ensures learns { Learns self.old self.new }
+        ensures asked { OnOk result (AddsPairs (AsksAt self.old meeting)
+            asked.old.items asked.new.items) }
+    {
+        asked.extend_from_slice(pairs.as_slice())?;
+        self.pairs = self.pairs.saturating_add(pairs.len());
+        self.asked.insert(meeting, pairs)?;
+        Ok(())
+    }
+
+    // Appends what two types ask that meet for the first time, and keeps it.
+    fn ask_first(
+        &mut self,
+        alloc: Global,
+        meeting: Meeting,
+        asked: &mut Pairs,
+    ) -> Result<(), Memory>
+        requires one { IsAvailable self.old meeting.one }
+        requires other { IsAvailable self.old meeting.other }
+        ensures learns { Learns self.old self.new }
+        ensures asked { OnOk result (AddsPairs (AsksAt self.old meeting)
+            asked.old.items asked.new.items) }
+    {
+        let mut pairs = Vec::new(alloc);
+        match self.zip(alloc, meeting, &mut pairs) {
+            Ok(()) => self.add_pairs(meeting, pairs, asked),
+            Err(memory) => Err(memory),
+        }
+    }
+
+    // Appends what two types ask that meet. Of large types it is found once.
+    fn ask_meeting(
+        &mut self,
+        alloc: Global,
+        meeting: Meeting,
+        asked: &mut Pairs,
+    ) -> Result<(), Memory>
+        requires one { IsAvailable self.old meeting.one }
+        requires other { IsAvailable self.old meeting.other }
+        ensures learns { Learns self.old self.new }
+        ensures asked { OnOk result (AddsPairs (AsksAt self.old meeting)
+            asked.old.items asked.new.items) }
+    {
+        if meeting.other.count < FEW_REGIONS {
+            return self.zip(alloc, meeting, asked);
+        }
+        match known_pairs(&self.asked, meeting) {
+            Some(pairs) => {
+                asked.extend_from_slice(pairs.as_slice())?;
+                Ok(())
+            }
+            None => self.ask_first(alloc, meeting, asked),
+        }
+    }
+
     /// Appends what two types of one shape ask of which the first must be a subtype of the second.
     pub(crate) fn ask(
         &mut self,
         alloc: Global,
-        one: &TypeRow,
-        other: &TypeRow,
-        asked: &mut Vec<(RegionId, RegionId)>,
+        one: TypeRow,
+        other: TypeRow,
+        asked: &mut Pairs,
     ) -> Result<(), Memory>
-        requires { one.now.shape < length self.old.table }
+        requires one { IsAvailable self.old one }
+        requires other { IsAvailable self.old other }
         ensures learns { Learns self.old self.new }
         ensures asked { OnOk result ((t u : TypeTree)
-            → IsRowOf self.old.table self.old.regions t one.now
-            → IsRowOf self.old.table self.old.regions u other.now → shape_of t ≡ shape_of u
+            → IsTypeOfRow self.old t one → IsTypeOfRow self.old u other → shape_of t ≡ shape_of u
             → AddsPairs (SubtypeAsks self.old.structs t u) asked.old.items asked.new.items) }
     {
-        let types = self.body.types;
-        let structs = types.table.structs();
-        let regions = types.regions.as_slice();
-        self.signs.learn(alloc, structs, &self.shapes, one.shape)?;
-        match self.signs.get(one.shape) {
-            Some(known) => {
-                let signs = known.signs.as_slice();
-                ask_rows(signs, one.regions(regions), other.regions(regions), asked)
-            }
-            None => unreachable!(),
-        }
+        self.ask_meeting(alloc, Meeting { one, other }, asked)
     }
 
     /// Appends what a reference of a region, `mut` or not, to a value of the first type asks that
@@ -369,30 +532,21 @@ impl<'a> Known<'a> {
         &mut self,
         alloc: Global,
         region: RegionId,
-        target: &TypeRow,
-        other: &TypeRow,
-        asked: &mut Vec<(RegionId, RegionId)>,
+        target: TypeRow,
+        other: TypeRow,
+        asked: &mut Pairs,
     ) -> Result<(), Memory>
-        requires { other.now.shape < length self.old.table }
+        requires target { IsAvailable self.old target }
+        requires other { IsAvailable self.old other }
         ensures learns { Learns self.old self.new }
         ensures asked { OnOk result ((m : Bool) (t u : TypeTree)
-            → IsRowOf self.old.table self.old.regions t target.now
-            → IsRowOf self.old.table self.old.regions u other.now
+            → IsTypeOfRow self.old t target → IsTypeOfRow self.old u other
             → reference_shape m (shape_of t) ≡ shape_of u
             → AddsPairs (SubtypeAsks self.old.structs (reference region m t) u)
             asked.old.items asked.new.items) }
     {
-        let types = self.body.types;
-        let structs = types.table.structs();
-        let regions = types.regions.as_slice();
-        self.signs.learn(alloc, structs, &self.shapes, other.shape)?;
-        match self.signs.get(other.shape) {
-            Some(known) => {
-                let signs = known.signs.as_slice();
-                let behind = target.regions(regions);
-                ask_reference_rows(signs, behind, region, other.regions(regions), asked)
-            }
-            None => unreachable!(),
-        }
+        let meeting = Meeting { one: target, other };
+        self.ask_meeting(alloc, meeting, asked)?;
+        ask_own(region, self.lists.row(other), asked)
     }
 }

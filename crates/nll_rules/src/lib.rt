@@ -2,10 +2,10 @@
 //! that its statements ask, by the subtyping of types, by reborrows, and by calls. It knows no
 //! text.
 //!
-//! Reading order: `sign`, `row_signs`, `type_row`, `field_rows`, `part_rows`, `fields` say what
-//! types at hand are; `reborrow`, `known`, `walk`, `asking` say what a statement asks; `error`,
-//! `body_problem`, `facts`, `constraints`, `laws` put the problem together. The definitions are in
-//! specs/.
+//! Reading order: `sign`, `row_signs`, `type_row`, `field_rows`, `part_rows`, `fields`, `meetings`
+//! say what types at hand are; `reborrow`, `known`, `walk`, `asking` say what a statement asks;
+//! `error`, `body_problem`, `facts`, `constraints`, `laws` put the problem together. The
+//! definitions are in specs/.
 #![tactic(auto)]
 
 mod asking;
@@ -17,6 +17,7 @@ mod field_rows;
 mod fields;
 mod known;
 mod laws;
+mod meetings;
 mod part_rows;
 mod reborrow;
 mod row_signs;

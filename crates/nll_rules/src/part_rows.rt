@@ -7,11 +7,10 @@ ghost use Rattle.nll_types.specs.Rows.{region_row, region_rows};
 ghost use Rattle.nll_types.specs.Shapes.{shapes_of};
 ghost use Rattle.nll_types.specs.Structs as spec;
 ghost use Rattle.nll_types.specs.Types.{TypeTree, TypeTrees, type_at, type_count};
-ghost use Rattle.nll_rules.specs.TypeRows.{IsUseRow, row_from, row_of, starts_from};
+ghost use Rattle.nll_rules.specs.TypeRows.{IsUseRow, IsWholeRow, row_from, row_of, starts_from};
 
 use crate::field_rows::{UseRow, push_field};
-use crate::type_row::TypeRow;
-use nll_problem::RegionId;
+use crate::type_row::{RowLists, TypeRow};
 use nll_sets::Memory;
 use nll_types::Structs;
 use std::alloc::Global;
@@ -19,22 +18,25 @@ use std::alloc::Global;
 /// The part at a place of a tuple, where it has the part. The tuple's parts have these shapes, and
 /// their rows begin at these places of its row.
 pub(crate) fn tuple_part(
-    body: &[RegionId],
+    lists: &RowLists<'_>,
     starts: &[usize],
     parts: &[usize],
     row: TypeRow,
     place: usize,
 ) -> Option<TypeRow>
     ensures { (ts : TypeTrees) → starts.now ≡ starts_from 0 (shapes_of ts)
-        → length parts.now ≡ type_count ts → row_of body.now row ≡ region_rows ts
+        → length parts.now ≡ type_count ts
+        → row_of lists.now row ≡ region_rows ts
         → MatchOption result (type_at ts place ≡ None)
         (λ r. (t : TypeTree) × (type_at ts place ≡ Some t)
-        × (slice_get parts.now place ≡ Some r.shape) × (row_of body.now r ≡ region_row t)) }
+        × (slice_get parts.now place ≡ Some r.shape)
+        × (row_of lists.now r ≡ region_row t)
+        × IsWholeRow (row_of lists.now r) r) }
 {
     if place >= parts.len() || place + 1 >= starts.len() {
         return None;
     }
-    Some(row.slice(body, starts[place], starts[place + 1], parts[place]))
+    Some(lists.slice(row, starts[place], starts[place + 1], parts[place]))
 }
 
 /// The row of a use of a struct, which has so many regions: the rows of its type arguments begin at

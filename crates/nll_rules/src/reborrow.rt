@@ -1,30 +1,20 @@
-//! What a new reference asks of the type into which it flows.
+//! What the region of a new reference asks of the type into which it flows.
 
-ghost use Rattle.std.specs.Prelude.{[], ◌∷◌, ◌++◌, OnOk};
+ghost use Rattle.std.specs.Prelude.{◌≡◌, ◌++◌, ◌∷◌, [], ℕ, List, OnOk};
 ghost use Rattle.nll_rules.specs.Pairs.{AddsPairs};
-ghost use Rattle.nll_rules.specs.Signs.{RowsAsk};
 
-use crate::row_signs::{ask_pair, ask_rows};
+use crate::meetings::Pairs;
+use crate::row_signs::push_new;
 use nll_problem::RegionId;
 use nll_sets::Memory;
-use nll_types::Sign;
 
-/// Appends what the row of a reference of this region asks of another row, by the signs. The row of
-/// what it points to is given: the region is behind it.
-pub(crate) fn ask_reference_rows(
-    signs: &[Sign],
-    target: &[RegionId],
-    region: RegionId,
-    other: &[RegionId],
-    pairs: &mut Vec<(RegionId, RegionId)>,
-) -> Result<(), Memory>
-    ensures { OnOk result (AddsPairs (RowsAsk signs.now (target.now ++ region ∷ []) other.now)
-        pairs.old.items pairs.new.items) }
+/// Appends that the region must outlive the last one of a row, which is a reference's own.
+pub(crate) fn ask_own(region: RegionId, row: &[RegionId], pairs: &mut Pairs) -> Result<(), Memory>
+    ensures { OnOk result ((before : List ℕ) (last : ℕ) → row.now ≡ before ++ last ∷ []
+        → AddsPairs (λ x. (region, last) ≡ x) pairs.old.items pairs.new.items) }
 {
-    ask_rows(signs, target, other, pairs)?;
-    let own = target.len();
-    if own < signs.len() && own < other.len() {
-        ask_pair(signs[own], region, other[own], pairs)?;
+    match row.last().copied() {
+        Some(last) => push_new((region, last), pairs),
+        None => Ok(()),
     }
-    Ok(())
 }

@@ -15,6 +15,7 @@ ghost use Rattle.nll_rules.specs.TypeRows.{AreKnown, AreSigns, AreSignsOf, first
 ghost use Rattle.nll_rules.specs.TypeRows.{starts_from};
 ghost use Rattle.nll_rules.specs.declared.row_signs.ShapeSigns.{ShapeSigns as shape_signs};
 
+use crate::meetings::Pairs;
 use crate::sign::{region_parameters, sign_or, target_sign, times, type_parameters};
 use nll_problem::RegionId;
 use nll_sets::Memory;
@@ -37,8 +38,8 @@ pub(crate) enum PartSigns<'a> {
     Arguments(Sign, &'a [Parameter]),
 }
 
-// Appends a pair, unless it is the last one.
-fn push_new(pair: (RegionId, RegionId), asked: &mut Vec<(RegionId, RegionId)>) -> Result<(), Memory>
+/// Appends a pair, unless it is the last one.
+pub(crate) fn push_new(pair: (RegionId, RegionId), asked: &mut Pairs) -> Result<(), Memory>
     ensures { OnOk result (AddsPairs (λ x. pair ≡ x) asked.old.items asked.new.items) }
 {
     if let Some(last) = asked.last().copied() {
@@ -50,13 +51,8 @@ fn push_new(pair: (RegionId, RegionId), asked: &mut Vec<(RegionId, RegionId)>) -
     Ok(())
 }
 
-/// Appends what a position of this sign asks of two regions.
-pub(crate) fn ask_pair(
-    sign: Sign,
-    a: RegionId,
-    b: RegionId,
-    asked: &mut Vec<(RegionId, RegionId)>,
-) -> Result<(), Memory>
+// Appends what a position of this sign asks of two regions.
+fn ask_pair(sign: Sign, a: RegionId, b: RegionId, asked: &mut Pairs) -> Result<(), Memory>
     ensures { OnOk result (AddsPairs (IsAsked sign a b) asked.old.items asked.new.items) }
 {
     match sign {
@@ -74,7 +70,7 @@ pub(crate) fn ask_rows(
     signs: &[Sign],
     one: &[RegionId],
     other: &[RegionId],
-    asked: &mut Vec<(RegionId, RegionId)>,
+    asked: &mut Pairs,
 ) -> Result<(), Memory>
     ensures { OnOk result
         (AddsPairs (RowsAsk signs.now one.now other.now) asked.old.items asked.new.items) }

@@ -5,9 +5,8 @@ ghost use Rattle.std.specs.Prelude.{Contains, IfOk, OnOk};
 ghost use Rattle.nll_types.specs.Places.{behind, type_of};
 ghost use Rattle.nll_types.specs.Types.{TypeTree};
 ghost use Rattle.nll_body.specs.Flat.{path_in};
-ghost use Rattle.nll_rules.specs.Knowing.{Learns};
+ghost use Rattle.nll_rules.specs.Knowing.{IsAtHand, IsTypeOfRow, Learns};
 ghost use Rattle.nll_rules.specs.Reborrows.{RestsOn};
-ghost use Rattle.nll_rules.specs.TypeRows.{IsRowIn, IsRowOf};
 ghost use Rattle.nll_rules.specs.Walks.{past};
 
 use crate::known::Known;
@@ -30,10 +29,10 @@ impl<'a> Known<'a> {
         requires { row.shape < length self.old.table }
         ensures learns { Learns self.old self.new }
         ensures row { IfOk result (λ o. (t : TypeTree)
-            → IsRowOf self.old.table self.old.regions t row
-            → IsRowIn self.new.table self.new.regions (behind self.old.structs projection t) o) }
+            → IsTypeOfRow self.old t row
+            → IsAtHand self.new (behind self.old.structs projection t) o) }
         ensures past { OnOk result ((t : TypeTree)
-            → IsRowOf self.old.table self.old.regions t row
+            → IsTypeOfRow self.old t row
             → crossed.new.items ≡ past projection t crossed.old.items) }
     {
         match projection {
@@ -63,7 +62,7 @@ impl<'a> Known<'a> {
         crossed: &mut Vec<RegionId>,
     ) -> Result<Option<TypeRow>, Memory>
         ensures learns { Learns self.old self.new }
-        ensures row { IfOk result (IsRowIn self.new.table self.new.regions
+        ensures row { IfOk result (IsAtHand self.new
             (type_of self.old.structs self.old.variables (path_in self.old.lists place))) }
         ensures rests { OnOk result ((a : ℕ) → Contains crossed.new.items a
             ↔ RestsOn self.old.structs self.old.variables (path_in self.old.lists place) a) }

@@ -111,14 +111,14 @@ assert 'x : ~ none
 assert 'x : 'y 'z ~ none
 assert x : 'y ~ none
 struct W() ~ struct W|row|tuple|
-struct F<'x - >(fn(&'x int) -> int) ~ struct F|'x|- row|row|int|& x|part|int|fn|part|tuple|
+struct F<'x - >(fn(&'x int) -> int) ~ struct F|'x|- row|row|& x|int|part|int|fn|part|tuple|
 struct F<'x - ?, T -?, 'y +>() ~ struct F|'x|-? T|-? 'y|+ row|tuple|
 struct F<'x ->() ~ none
-struct W<'x + ?, T => drop (&'x int, T) ~ struct W|'x|+? T|= drop row|int|& x|part|row|T|part|tuple|
+struct W<'x + ?, T => drop (&'x int, T) ~ struct W|'x|+? T|= drop row|& x|int|part|row|T|part|tuple|
 struct W<> () ~ none
 struct W int ~ none
 struct w() ~ none
-let _3: &'p int ~ let 3 int|& p|
+let _3: &'p int ~ let 3 & p|int|
 let 3: int ~ none
 blocks 3 ~ blocks 3
 blocks 03 ~ none
@@ -148,7 +148,7 @@ drop _1 -> bb1 ~ drop 1 to 1
 drop _1 -> bb1 unwind bb2 ~ drop 1 to 1 or 2
 drop _1 bb1 ~ none
 _2 = call call(copy _1: &'c int, const: int): &'c int -> bb1 \
-~ _2 = call copy _1: int|& c|,const: int|,: int|& c| to 1
+~ _2 = call copy _1: & c|int|,const: int|,: & c|int| to 1
 _2.0 = call f(): int where 'a: 'b, 'c: 'd -> bb1 unwind bb2 \
 ~ _2.0 = call : int| a|b| c|d| to 1 or 2
 _2 = call f(): int where -> bb1 ~ none
@@ -243,8 +243,8 @@ struct W drop() ~ struct W|drop row|tuple|
 struct Wdrop() ~ struct Wdrop|row|tuple|
 struct W dropped() ~ none
 structW() ~ none
-let\t_3\r:\t&\r'p\tint ~ let 3 int|& p|
-let _3:&'p int ~ let 3 int|& p|
+let\t_3\r:\t&\r'p\tint ~ let 3 & p|int|
+let _3:&'p int ~ let 3 & p|int|
 let_3: int ~ none
 blocks\t3\r ~ blocks 3
 blocks3 ~ none
@@ -285,7 +285,7 @@ drop _1 > bb1 ~ none
 drop _1 --> bb1 ~ none
 drop _1 ->> bb1 ~ none
 _2=call f(copy _1:&'c int,const:int):&'c int->bb1 \
-~ _2 = call copy _1: int|& c|,const: int|,: int|& c| to 1
+~ _2 = call copy _1: & c|int|,const: int|,: & c|int| to 1
 _2\t=\rcall\tf\r(\tconst\r:\tint\r)\t:\rint\twhere\r'a\t:\r'b\t,\r'c\t:\r'd\t->\rbb1\tunwind\rbb2 \
 ~ _2 = call const: int|,: int| a|b| c|d| to 1 or 2
 _2=call f():int where'a:'b,'c:'d->bb1 unwind bb2 \

@@ -70,8 +70,8 @@ W<> ~ none
 W<'a ~ none
 W<'a,> ~ none
 W<'a> < ~ none
-&'a int = 1 ~ int|& a|left  = 1|
-&'a mut &'b T ~ row|T|& b|mut a|left |
+&'a int = 1 ~ & a|int|left  = 1|
+&'a mut &'b T ~ mut a|& b|row|T|left |
 & int ~ none
 &'a mut ~ none
 () ~ row|tuple|left |
@@ -81,8 +81,8 @@ W<'a> < ~ none
 (int ~ none
 fn() -> int ~ row|int|fn|left |
 fn(int) -> T< ~ none
-fn(&'a int, T) -> (int) ~ row|int|& a|part|row|T|part|row|int|part|tuple|fn|left |
-fn(fn() -> int) -> &'a mut fn() -> T, int ~ row|row|int|fn|part|row|row|T|fn|mut a|fn|left , int|
+fn(&'a int, T) -> (int) ~ row|& a|int|part|row|T|part|row|int|part|tuple|fn|left |
+fn(fn() -> int) -> &'a mut fn() -> T, int ~ row|row|int|fn|part|mut a|row|row|T|fn|fn|left , int|
 (fn(int) -> int) ~ row|row|int|part|int|fn|part|tuple|left |
 W<fn() -> 'a> ~ none
 W<'a, fn() -> int> ~ row|'a|row|int|fn|part|W|left |
@@ -99,7 +99,7 @@ fn('a) -> int ~ none
 fn() -> ~ none
 fn() -> 'a ~ none
 fn() -> -> int ~ none
-(&'a W<'b, &'c int>, int) ~ row|row|'b|int|& c|part|W|& a|part|int|part|tuple|left |
+(&'a W<'b, &'c int>, int) ~ row|& a|row|'b|& c|int|part|W|part|int|part|tuple|left |
 ";
 
 // Types with blanks of each kind between tokens and with none, words that are longer than those of
@@ -115,10 +115,10 @@ int-> ~ int|left ->|
 int; ~ int|left ;|
 int # x ~ int|left  # x|
 ;int ~ none
-& 'a int ~ int|& a|left |
-&\t'a\rmut\t&\r'b\tT ~ row|T|& b|mut a|left |
-&'a mut&'b mut T ~ row|T|mut b|mut a|left |
-&'amut T ~ row|T|& amut|left |
+& 'a int ~ & a|int|left |
+&\t'a\rmut\t&\r'b\tT ~ mut a|& b|row|T|left |
+&'a mut&'b mut T ~ mut a|mut b|row|T|left |
+&'amut T ~ & amut|row|T|left |
 &'a mutT ~ none
 &'a mut_ T ~ none
 &' a int ~ none

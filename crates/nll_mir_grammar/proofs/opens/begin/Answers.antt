@@ -13,7 +13,7 @@ returns-in-Tuple c = IfOk-weaker _ _ _ (λ s h. begun_tuple _ _ _ _ _ s c.in-Tup
 
 pub returns-in-Reference : goal.returns-in-Reference
 returns-in-Reference c =
-    IfOk-weaker _ _ _ (λ s h. begun_reference _ _ _ _ _ _ s c.in-Reference.is h) c.put_open.ensures
+    IfOk-weaker _ _ _ (λ s h. begun_reference _ _ _ _ _ _ s c.in-Reference.is h) c.put-in-Reference.ensures
 
 pub returns-in-Generic : goal.returns-in-Generic
 returns-in-Generic c =

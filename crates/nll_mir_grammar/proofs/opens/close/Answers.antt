@@ -16,10 +16,10 @@ returns-in-Arguments c =
     (last_is _ _ _ _ _ c.as_slice.ensures c.len.ensures.value c.requires c.in-Arguments.is) h)
     c.end-in-Arguments.ensures
 
-pub returns-in-Behind : goal.returns-in-Behind
-returns-in-Behind c =
+pub returns-in-Inputs : goal.returns-in-Inputs
+returns-in-Inputs c =
     let left = c.truncate.ensures.items
-    ∙ ap (λ n. take (n - 1) c.args.opened.now.items) c.len-in-Behind.ensures.value in
+    ∙ ap (λ n. take (n - 1) c.args.opened.now.items) c.len-in-Inputs.ensures.value in
     IfOk-weaker _ _ _ (λ s h. closed_inputs _ _ _ _ s
-    (last_is _ _ _ _ _ c.as_slice.ensures c.len.ensures.value c.requires refl) c.in-Behind.is
+    (last_is _ _ _ _ _ c.as_slice.ensures c.len.ensures.value c.requires refl) c.in-Inputs.is
     (h.0, h.1 ∙ ap (λ (os : List Open). os ++ opens.Output ∷ []) left)) c.put_open.ensures

@@ -1,17 +1,12 @@
 use Rattle.std.proofs.Common.{refl}
 use Rattle.std.proofs.lemmas.Result.{IfOk-weaker}
-use Rattle.nll_mir_grammar.proofs.FurtherLemmas.{last_is, completed_behind, completed_part, completed_output}
+use Rattle.nll_mir_grammar.proofs.FurtherLemmas.{last_is, completed_part, completed_output}
 use Rattle.nll_mir_grammar.proofs.opens.complete.Goals as goal
-
-pub returns-in-Behind : goal.returns-in-Behind
-returns-in-Behind c =
-    IfOk-weaker _ _ _ (λ s h. completed_behind _ _ _ _ _ _ s
-    (last_is _ _ _ _ _ c.as_slice.ensures c.len.ensures.value c.requires c.in-Behind.is) h) c.end.ensures
 
 pub returns-in-Output : goal.returns-in-Output
 returns-in-Output c =
     IfOk-weaker _ _ _ (λ s h. completed_output _ _ _ _ s
-    (last_is _ _ _ _ _ c.as_slice.ensures c.len.ensures.value c.requires c.in-Output.is) h) c.end-in-Output.ensures
+    (last_is _ _ _ _ _ c.as_slice.ensures c.len.ensures.value c.requires c.in-Output.is) h) c.end.ensures
 
 pub returns-in-Tuple : goal.returns-in-Tuple
 returns-in-Tuple c =

@@ -10,9 +10,9 @@ returns-in_default c =
 pub returns-then-not-has_name : goal.returns-then-not-has_name
 returns-then-not-has_name c =
     λ frames t r. stuck_no_name (tokens_in c.args.line.now) _ frames t c.in-Some.region.now
-    (sym (c.has_name.ensures _ frames t _ r) ∙ c.if-not-has_name.true) c.in-Some.ensures.begins
+    (sym (c.has_name.ensures frames t _ r) ∙ c.if-not-has_name.true) c.in-Some.ensures.begins
 
 pub returns : goal.returns
 returns c =
     λ frames t r. further_region (tokens_in c.args.line.now) _ frames t _ _ _ c.in-Some.region _
-    (sym (c.has_name.ensures _ frames t _ r) ∙ c.if-not-has_name.false) c.in-Some.ensures.begins c.in_ok-state.ensures r
+    (sym (c.has_name.ensures frames t _ r) ∙ c.if-not-has_name.false) c.in-Some.ensures.begins c.in_ok-state.ensures r

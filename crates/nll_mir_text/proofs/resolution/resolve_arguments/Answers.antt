@@ -1,4 +1,4 @@
-use Rattle.std.proofs.Common.{Bool, [], take, ap, sym, true, ◌∙◌}
+use Rattle.std.proofs.Common.{Bool, [], take, ap, sym, ◌∙◌}
 use Rattle.std.specs.Prelude.{◌&&◌}
 use Rattle.std.specs.List.{list_all}
 use Rattle.std.proofs.Math.Bool.{and-true, and_assoc}
@@ -37,7 +37,7 @@ loop-argument-preserved c =
         added_more c.args.statements.now c.loop-argument.statements c.add_argument.new.self i.made.0 _ i.made.2
             c.in_ok-add_argument-in-Some.ensures.added,
       );
-      fits = e.fits
+      fits = (rw c.in-Some.is at e.fits)
           ∙ (ap (λ b. b && p a.result) i.fits
           ∙ (and_assoc c.args.fits.now _ (p a.result)
           ∙ ap (λ b. c.args.fits.now && b)

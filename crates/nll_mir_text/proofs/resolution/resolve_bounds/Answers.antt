@@ -1,4 +1,4 @@
-use Rattle.std.proofs.Common.{ap, sym, true, refl, append-nil, ◌∙◌, arith}
+use Rattle.std.proofs.Common.{ap, sym, refl, append-nil, ◌∙◌, arith}
 use Rattle.std.specs.Cmp.Derive.{both_true}
 use Rattle.std.specs.List.{list_all}
 use Rattle.std.proofs.lemmas.List.{take_all, length-map}

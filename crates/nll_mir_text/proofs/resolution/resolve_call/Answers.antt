@@ -87,4 +87,5 @@ returns-clause-made c =
 pub returns-clause-fits : goal.returns-clause-fits
 returns-clause-fits c =
     let arguments = rw (c.in-Some-2.is, c.as_slice-inputs.ensures.value) at c.in_ok-arguments.ensures.made in
-    call_fits (scope_of c.args.scope.now) c.args.call.now c.args.fits.now _ _ arguments.3 c.in_ok-result.ensures.fits
+    call_fits (scope_of c.args.scope.now) c.args.call.now c.args.fits.now _ _ arguments.3
+    (rw c.in-Some-3.is at c.in_ok-result.ensures.fits)

@@ -31,7 +31,7 @@ add_resolved_struct-requires-clause-tuple c = c.in_ok-fields.ensures.tuple
 
 pub add_resolved_struct-requires-clause-fits : goal.add_resolved_struct-requires-clause-fits
 add_resolved_struct-requires-clause-fits c =
-    let e = c.in_ok-fields.ensures in rw e.structs e.fits
+    let e = c.in_ok-fields.ensures in rw e.structs (rw c.in-Some.is at e.fits)
 
 pub returns-in-Some-clause-taken : goal.returns-in-Some-clause-taken
 returns-in-Some-clause-taken c = on_ok_weaker c.add_resolved_struct.result

@@ -4,7 +4,6 @@ use Rattle.std.proofs.lemmas.Bool.{eq-eqb}
 use Rattle.std.proofs.lemmas.List.{length-map, map_push}
 use Rattle.std.proofs.lemmas.List.Elements.{All-push}
 use Rattle.nll_types.specs.Rows.{HasRow, tree_at}
-use Rattle.nll_types.specs.Shapes.{is_small}
 use Rattle.nll_types.specs.Types.{TypeTree}
 use Rattle.nll_types.proofs.RowLemmas.{has_row, tree_is}
 use Rattle.nll_mir_grammar.specs.MirForms.{variable}

@@ -25,7 +25,7 @@ returns-in-Some-clause-taken c =
     record {
       order = ap (λ (s : Said). is_in_order s (variable c.args.number t)) e.grown.said ∙ c.requires.order;
       of = rw c.in-Some.is at e.resolved;
-      fits = e.fits ∙ ap (λ (s : Said). has_arguments s.scope t) (sym e.grown.said);
+      fits = (rw c.in-Some.is at e.fits) ∙ ap (λ (s : Said). has_arguments s.scope t) (sym e.grown.said);
     } in
     on_ok_weaker c.add_resolved_variable.result
     (λ h. subst (λ s. IsTaken s (variable c.args.number t) c.add_resolved_variable.new.self) e.grown.said (h t of))
@@ -39,7 +39,7 @@ returns-in-Some-clause-refused c =
     record {
       order = ap (λ (s : Said). is_in_order s (variable c.args.number t)) e.grown.said ∙ c.requires.order;
       of = rw c.in-Some.is at e.resolved;
-      fits = e.fits ∙ ap (λ (s : Said). has_arguments s.scope t) (sym e.grown.said);
+      fits = (rw c.in-Some.is at e.fits) ∙ ap (λ (s : Said). has_arguments s.scope t) (sym e.grown.said);
     } in
     IfErr-weaker c.add_resolved_variable.result _ _
     (λ kind h. subst (λ s. IsRefused s (variable c.args.number t) kind) e.grown.said (h t of))

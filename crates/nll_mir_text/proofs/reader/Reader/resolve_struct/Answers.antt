@@ -1,9 +1,5 @@
-use Rattle.std.proofs.Common.{◌∙◌, ap, refl}
-use Rattle.std.specs.Prelude.{◌&&◌}
+use Rattle.std.proofs.Common.{refl}
 use Rattle.std.proofs.lemmas.Result.{IfOk-weaker}
-use Rattle.nll_mir_grammar.specs.TypeTexts.{written}
-use Rattle.nll_mir_text.specs.Naming.{has_arguments}
-use Rattle.nll_mir_text.specs.StructLines.{own_scope}
 use Rattle.nll_mir_text.proofs.GrownLemmas.{is_grown}
 use Rattle.nll_mir_text.proofs.reader.Reader.resolve_struct.Goals as goal
 
@@ -16,10 +12,7 @@ returns-clause-tuple c = c.as_type-fields.ensures.tuple
 
 pub returns-clause-fits : goal.returns-clause-fits
 returns-clause-fits c =
-    let s = own_scope c.args.own.now c.args.self.now.structs in
-    let e = rw c.as_type-fields.ensures.value at c.resolve_fields.ensures.fits in
-    IfOk-weaker c.resolve_fields.result _ _
-    (λ o fit. fit ∙ ap (λ b. b && has_arguments s (written c.args.text.now.fields)) c.requires.fitting) e
+    rw (c.as_type-fields.ensures.value, c.requires.fitting) at c.resolve_fields.ensures.fits
 
 pub returns-clause-resolved : goal.returns-clause-resolved
 returns-clause-resolved c = rw c.as_type-fields.ensures.value at c.resolve_fields.ensures.resolved

@@ -1,10 +1,9 @@
-use Rattle.std.proofs.Common.{◌≡◌, ◌∙◌, false, length, ap, refl, subst, arith}
-use Rattle.std.specs.Prelude.{◌&&◌, IfOk, MatchOption}
+use Rattle.std.proofs.Common.{◌≡◌, false, length, ap, refl, subst, arith}
+use Rattle.std.specs.Prelude.{◌&&◌, IfOk, IfSome, MatchOption}
 use Rattle.std.proofs.lemmas.Result.{IfOk-weaker}
 use Rattle.nll_mir_grammar.specs.TypeTexts.{written}
 use Rattle.nll_mir_text.specs.Naming.{Scope, has_arguments, is_known}
 use Rattle.nll_mir_text.specs.Resolution.{IsResolved}
-use Rattle.nll_mir_text.specs.MirReading.{scope_in}
 use Rattle.nll_mir_text.proofs.GrownLemmas.{is_grown}
 use Rattle.nll_mir_text.proofs.reader.Reader.resolve_variable.Goals as goal
 
@@ -19,12 +18,10 @@ returns-clause-grown c = IfOk-weaker c.resolve.result _ _
 pub returns-clause-fits : goal.returns-clause-fits
 returns-clause-fits c =
     let t = written c.args.text.now in
-    let told = subst
-    (λ (s : Scope). IfOk c.resolve.result (λ _. c.resolve.new.fits ≡ (c.args.fits.now && has_arguments s t)))
+    let told = subst (λ (s : Scope). IfOk c.resolve.result (λ o. IfSome o
+    (λ _. c.resolve.new.fits ≡ (c.args.fits.now && has_arguments s t))))
     c.scope_in-scope.ensures c.resolve.ensures.fits in
-    IfOk-weaker c.resolve.result _ _
-    (λ o fit. fit ∙ ap (λ b. b && has_arguments (scope_in c.args.self.now.regions c.args.self.now.structs) t)
-    c.requires.fitting) told
+    rw c.requires.fitting at told
 
 pub returns-clause-resolved : goal.returns-clause-resolved
 returns-clause-resolved c =

@@ -1,12 +1,8 @@
 use Rattle.std.proofs.lemmas.Result.{on_ok_weaker}
-use Rattle.nll_types.specs.Declarations.{structs_of}
-use Rattle.nll_rules.proofs.KnownLemmas.{rows_ask_types}
+use Rattle.nll_rules.proofs.KnownLemmas.{met_types}
 use Rattle.nll_rules.proofs.known.Known.ask.Goals as goal
 
 pub returns-clause-asked : goal.returns-clause-asked
-returns-clause-asked c = rw (← c.self.view_is) (on_ok_weaker c.ask_rows.result
-    (λ adds t u h k same. rows_ask_types (structs_of c.self.inside.body.types.now.table.structs) _ _ _ t u
-    c.args.one.now c.args.other.now c.in-Some.known.now _ _ (rw c.structs-structs.ensures at c.learn.ensures.right)
-    c.in-Some.ensures.found h k same
-    (rw (c.as_slice-signs.ensures.value, c.regions.ensures, c.regions-in-Some.ensures, c.as_slice-regions.ensures.value)
-    at adds)) c.ask_rows.ensures)
+returns-clause-asked c = on_ok_weaker c.ask_meeting.result
+    (λ adds t u h i same. met_types c.args.self.now t u c.args.one c.args.other _ _ h i same adds)
+    c.ask_meeting.ensures.asked

@@ -2,10 +2,21 @@ use Rattle.std.proofs.lemmas.Result.{on_ok_weaker}
 use Rattle.nll_body.specs.Flat.{path_in}
 use Rattle.nll_rules.specs.Flows.{place_type}
 use Rattle.nll_rules.proofs.AgreeLemmas.{borrow_agrees}
-use Rattle.nll_rules.proofs.KnowingLemmas.{row_in_stays}
+use Rattle.nll_rules.proofs.KnowingLemmas.{at_hand_known, known_later, row_in_stays}
 use Rattle.nll_rules.proofs.PairLemmas.{adds_same, adds_swapped}
 use Rattle.nll_rules.proofs.StatementLemmas.{asks_borrow, outlives_rests}
 use Rattle.nll_rules.proofs.known.Known.ask_borrow.Goals as goal
+
+pub meet_reference-requires-clause-target : goal.meet_reference-requires-clause-target
+meet_reference-requires-clause-target c =
+    known_later c.walk.new.self c.walk-2.new.self c.in_ok-target.target c.walk-2.ensures.learns
+    (at_hand_known c.walk.new.self (place_type c.args.self.now c.args.borrowed) c.in_ok-target.target
+    c.in_ok-target.ensures.row)
+
+pub meet_reference-requires-clause-other : goal.meet_reference-requires-clause-other
+meet_reference-requires-clause-other c =
+    at_hand_known c.walk-2.new.self (place_type c.walk.new.self c.args.place) c.in_ok-other.other
+    c.in_ok-other.ensures.row
 
 pub returns-clause-asked : goal.returns-clause-asked
 returns-clause-asked c =

@@ -2,6 +2,7 @@ use Rattle.std.proofs.Common.{Some, refl}
 use Rattle.std.proofs.lemmas.List.Elements.{All-pop}
 use Rattle.nll_types.specs.Rows.{HasRow}
 use Rattle.nll_rules.proofs.FlowLemmas.{called_agrees, called_asks, called_inputs}
+use Rattle.nll_rules.proofs.KnowingLemmas.{learns_then}
 use Rattle.nll_rules.proofs.PairLemmas.{adds_same, adds_append}
 use Rattle.nll_rules.proofs.StatementLemmas.{adds_list}
 use Rattle.nll_rules.proofs.known.Known.ask_call.Goals as goal
@@ -23,6 +24,21 @@ ask_result-requires c =
     let l = c.ask_inputs.ensures.learns in
     rw (l.shapes, l.regions)
     (All-pop (HasRow k.shapes k.regions) _ _ (Some c.args.call.now.result) refl c.requires.rows).1
+
+pub returns-in_err-ask_result-clause-learns : goal.returns-in_err-ask_result-clause-learns
+returns-in_err-ask_result-clause-learns c =
+    learns_then c.args.self.now c.ask_inputs.new.self c.ask_result.new.self c.ask_inputs.ensures.learns
+    c.ask_result.ensures.learns
+
+pub returns-in_err-extend_from_slice-clause-learns : goal.returns-in_err-extend_from_slice-clause-learns
+returns-in_err-extend_from_slice-clause-learns c =
+    learns_then c.args.self.now c.ask_inputs.new.self c.ask_result.new.self c.ask_inputs.ensures.learns
+    c.ask_result.ensures.learns
+
+pub returns-clause-learns : goal.returns-clause-learns
+returns-clause-learns c =
+    learns_then c.args.self.now c.ask_inputs.new.self c.ask_result.new.self c.ask_inputs.ensures.learns
+    c.ask_result.ensures.learns
 
 pub returns-clause-asked : goal.returns-clause-asked
 returns-clause-asked c =

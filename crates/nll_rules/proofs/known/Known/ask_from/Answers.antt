@@ -1,9 +1,18 @@
 use Rattle.nll_rules.proofs.FlowLemmas.{of_place}
-use Rattle.nll_rules.proofs.KnowingLemmas.{row_in_stays}
+use Rattle.nll_rules.proofs.KnowingLemmas.{at_hand_known, known_later, row_in_stays}
 use Rattle.nll_rules.proofs.PairLemmas.{adds_none}
 use Rattle.nll_rules.proofs.StatementLemmas.{constant_asks}
 use Rattle.nll_rules.specs.Flows.{place_type}
 use Rattle.nll_rules.proofs.known.Known.ask_from.Goals as goal
+
+pub meet-requires-clause-one : goal.meet-requires-clause-one
+meet-requires-clause-one c =
+    at_hand_known c.walk.new.self (place_type c.args.self.now c.in-Copy.place) c.in_ok-one-in-Copy.one
+    c.in_ok-one-in-Copy.ensures.row
+
+pub meet-requires-clause-other : goal.meet-requires-clause-other
+meet-requires-clause-other c =
+    known_later c.args.self.now c.walk.new.self c.args.other c.walk.ensures.learns c.requires
 
 pub returns-in-Const-clause-asked : goal.returns-in-Const-clause-asked
 returns-in-Const-clause-asked c p other agrees =

@@ -1,12 +1,17 @@
+use Rattle.std.proofs.Common.{◌≡◌, ap, ◌∙◌}
 use Rattle.std.proofs.lemmas.Result.{on_ok_weaker}
-use Rattle.nll_types.specs.Declarations.{structs_of}
-use Rattle.nll_rules.proofs.KnownLemmas.{rows_ask_reference}
+use Rattle.nll_rules.specs.Knowing.{KnownTypes, known_row}
+use Rattle.nll_rules.proofs.KnowingLemmas.{row_at_stays}
+use Rattle.nll_rules.proofs.MeetingLemmas.{met_reference}
 use Rattle.nll_rules.proofs.known.Known.ask_reference.Goals as goal
 
 pub returns-clause-asked : goal.returns-clause-asked
-returns-clause-asked c = rw (← c.self.view_is) (on_ok_weaker c.ask_reference_rows.result
-    (λ adds m t u h k same. rows_ask_reference (structs_of c.self.inside.body.types.now.table.structs) _ _ _
-    c.args.region m t u c.args.target.now c.args.other.now c.in-Some.known.now _ _
-    (rw c.structs-structs.ensures at c.learn.ensures.right) c.in-Some.ensures.found h k same
-    (rw (c.as_slice-signs.ensures.value, c.regions-behind.ensures, c.regions.ensures, c.as_slice-regions.ensures.value)
-    at adds)) c.ask_reference_rows.ensures)
+returns-clause-asked c =
+    let k = c.args.self.now in
+    let row : c.row.result.now ≡ known_row k c.args.other =
+    rw c.self.invariant.4 at c.row.ensures ∙ ap (λ (v : KnownTypes). known_row v c.args.other) c.self.view_is
+    ∙ row_at_stays k c.ask_meeting.new.self c.args.other c.ask_meeting.ensures.learns c.requires.other.whole in
+    on_ok_weaker c.ask_own.result
+    (λ own m t u h i same. met_reference k c.args.region m t u c.args.target c.args.other _ _ _ h i same
+    c.in_ok-ask_meeting.ensures.asked (λ before last e. own before last (row ∙ e)))
+    c.ask_own.ensures

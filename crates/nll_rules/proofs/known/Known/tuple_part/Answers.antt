@@ -7,7 +7,7 @@ pub returns-clause-row : goal.returns-clause-row
 returns-clause-row c = rw (← c.self.view_is) (λ ts h.
     let ns = c.self.inside.shapes in
     let known = (c.learn.ensures.right c.args.row.shape c.in-Some.known.now c.in-Some.ensures.found).1 in
-    tuple_row ns _ ts c.args.row c.args.place c.in-Tuple.parts c.as_slice-starts.result.now _ h
+    tuple_row ns _ _ ts c.args.row c.args.place c.in-Tuple.parts c.as_slice-starts.result.now _ h
     (c.node.ensures.at ∙ ap (shape_over (shapes_in ns)) c.in-Tuple.is) (rw c.in-Tuple.is at c.node.ensures.over)
     (c.as_slice-starts.ensures.value ∙ known.starts)
-    (rw (c.as_slice-regions.ensures.value, c.as_slice.ensures.value) at c.tuple_part.ensures))
+    (rw (c.as_slice.ensures.value, c.self.invariant.4) at c.tuple_part.ensures))

@@ -15,7 +15,7 @@ returns-in-None-clause-rests c =
     let row = rw (c.in-None.is, e, on.0.structs) at c.in_ok-next.ensures.row in
     let past = rw e at c.in_ok-next.ensures.past in
     (way_stops k.structs k.variables (path_in k.lists c.args.place) n _ _ on.1 c.loop-projection.crossed.items _ l refl
-    (sym (row_none _ _ _ (row on.1 on.2))) (past on.1 on.2) on.3).1
+    (sym (row_none _ _ _ _ (row on.1 on.2))) (past on.1 on.2) on.3).1
 
 pub loop-projection-preserved : goal.loop-projection-preserved
 loop-projection-preserved c =
@@ -26,7 +26,7 @@ loop-projection-preserved c =
     let l : n < length (path_in k.lists c.args.place).projections = rw e at c.loop-projection-test.true in
     let row = rw (c.in-Some-2.is, e, on.0.structs) at c.in_ok-next.ensures.row in
     let past = rw e at c.in_ok-next.ensures.past in
-    let next = row_there _ _ _ _ (row on.1 on.2) in (
+    let next = row_there _ _ _ _ _ (row on.1 on.2) in (
       learns_then k c.loop-projection.self c.step.new.self on.0 c.step.ensures.learns,
       next.0,
       next.2,

@@ -14,5 +14,6 @@ returns-clause-row c =
     let k = c.args.self.now in
     let e = subst (λ (k : KnownTypes). Extends k.shapes k.table) c.self.view_is c.self.invariant.1 in
     let learns = c.learn.ensures.learns in
-    rw learns.regions (written_row k.shapes k.table c.learn.new.self.table k.regions c.args.ty c.in_ok-count.count
+    rw learns.regions (written_row k.shapes k.table c.learn.new.self.table k.regions c.learn.new.self.made c.args.ty
+    c.in_ok-count.count
     c.requires e learns.table c.in_ok-count.ensures.count)

@@ -1,0 +1,10 @@
+use Rattle.std.proofs.lemmas.Result.{on_ok_weaker}
+use Rattle.nll_rules.proofs.known.Known.zip.Goals as goal
+
+pub returns-clause-asked : goal.returns-clause-asked
+returns-clause-asked c = rw (← c.self.view_is) (on_ok_weaker c.ask_rows.result
+    (λ adds.
+    let known = ((rw c.structs-structs.ensures at c.learn.ensures.right) c.args.meeting.other.shape c.in-Some.known.now
+    c.in-Some.ensures.found).1 in
+    rw (c.as_slice.ensures.value, known.signs, c.row-one.ensures, c.row-other.ensures, c.self.invariant.4) at adds)
+    c.ask_rows.ensures)
