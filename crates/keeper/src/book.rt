@@ -1,9 +1,9 @@
 //! What a part writes down: its log, and what it received and gave.
 
-ghost use Rattle.std.specs.Prelude.{◌≡◌, ◌+◌, ◌<◌, ◌≤◌, ◌^◌, ℕ, true, false, Some, IsTrue, length};
-ghost use Rattle.std.specs.Prelude.{List, [], map, replicate};
+ghost use Rattle.std.specs.Prelude.{◌≡◌, ◌+◌, ◌<◌, ◌≤◌, false, IsTrue, length};
+ghost use Rattle.std.specs.Prelude.{[], map, replicate};
 ghost use Rattle.std.specs.declared.vec.Vec.{Vec};
-ghost use Rattle.std.specs.Prelude.{OnOk, OnErr, IfOk, slice_get, slice_set};
+ghost use Rattle.std.specs.Prelude.{OnOk, OnErr, IfOk, slice_set};
 ghost use Rattle.fixpoint.specs.State.{IsSound, Passes, first_state, part_for, given_to};
 ghost use Rattle.fixpoint.specs.Limits.{most_growths};
 ghost use Rattle.keeper.specs.Engine.{IsFound, with_fact};

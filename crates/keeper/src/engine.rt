@@ -1,6 +1,6 @@
 //! Engines: they find what follows.
 
-ghost use Rattle.std.specs.Prelude.{◌≡◌, ◌↔◌, ◌<◌, ◌⊎◌, ◌||◌, Bool, false, IfOk, OnOk, IsTrue};
+ghost use Rattle.std.specs.Prelude.{◌≡◌, ◌↔◌, ◌<◌, Bool, false, IfOk, OnOk, IsTrue};
 ghost use Rattle.fixpoint.specs.Rules.{Sees};
 ghost use Rattle.keeper.specs.Engine.{Finds, nothing, with_fact};
 

@@ -1,6 +1,6 @@
 //! Growths of other owners.
 
-ghost use Rattle.std.specs.Prelude.{◌≡◌, ◌∷◌, [], OnOk, Contains, ℕ};
+ghost use Rattle.std.specs.Prelude.{◌≡◌, ◌∷◌, [], OnOk, Contains};
 ghost use Rattle.fixpoint.specs.State.{IsSound, Passes, with_growths, GotBeginning};
 ghost use Rattle.keeper.specs.Keeping.{IsDue, has};
 

@@ -1,6 +1,6 @@
 //! Keepers: the parts of an engine.
 
-ghost use Rattle.std.specs.Prelude.{◌≡◌, ◌↔◌, ◌<◌, ◌≤◌, ◌+◌, ℕ, true, false, Some, Err, is_ok, map};
+ghost use Rattle.std.specs.Prelude.{◌≡◌, ◌↔◌, ◌<◌, ◌≤◌, ◌+◌, true, false, Some, Err, is_ok, map};
 ghost use Rattle.std.specs.Prelude.{length, Contains, IsTrue, IfOk, OnOk, OnErr, IfSome, IfNone};
 ghost use Rattle.std.specs.Prelude.{slice_get, slice_set};
 ghost use Rattle.nll_sets.specs.Prefix.{IsPrefix};
@@ -213,7 +213,10 @@ impl<'q, E: Engine> Keeper<'q, E> {
         ensures broken { self.now.broken ≡ true → result ≡ 0 }
         ensures sound { IsSound E.rules self.now }
     {
-        unsent_of::<E>(&self.book, &self.boxes, to)
+        if self.book.is_broken() || to >= self.book.owners() {
+            return 0;
+        }
+        self.boxes.lists[to as usize].len() as u64 - self.book.given_to(to)
     }
 
     /// How many growths the log has.
@@ -263,19 +266,4 @@ fn next_of<E: Engine>(book: &Book<'_, E>, boxes: &Outboxes<E::Growth>, to: u16) 
         return Some(list[given]);
     }
     None
-}
-
-// How many growths another owner is still to receive.
-fn unsent_of<E: Engine>(book: &Book<'_, E>, boxes: &Outboxes<E::Growth>, to: u16) -> u64
-    requires { book.now.broken ≡ false → AreParts E.rules book.now.system book.now.log
-        (map (λ list. list.items) boxes.now.lists.items) }
-    ensures count { book.now.broken ≡ false → to < E.rules.parts book.now.system
-        → given_to book.now to + result ≡ length (part_for E.rules book.now to) }
-    ensures past { E.rules.parts book.now.system ≤ to → result ≡ 0 }
-    ensures broken { book.now.broken ≡ true → result ≡ 0 }
-{
-    if book.is_broken() || to >= book.owners() {
-        return 0;
-    }
-    boxes.lists[to as usize].len() as u64 - book.given_to(to)
 }

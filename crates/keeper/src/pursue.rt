@@ -1,6 +1,6 @@
 //! What a keeper does in a call.
 
-ghost use Rattle.std.specs.Prelude.{◌≡◌, false, OnOk, Contains, ℕ, map};
+ghost use Rattle.std.specs.Prelude.{◌≡◌, false, OnOk, Contains, map};
 ghost use Rattle.fixpoint.specs.State.{IsSound, IsDone, Passes, with_growths, GotBeginning};
 ghost use Rattle.nll_sets.specs.Prefix.{IsPrefix};
 ghost use Rattle.keeper.specs.Keeping.{Grows, IsQuiet, has};

@@ -70,23 +70,6 @@ fn share_of(number: u16, pass: LockPass) -> LockShare
     }
 }
 
-// Cuts off the share of this number, which isn't the last one.
-fn cut<R>(book: &LockBook<R>, pass: &mut LockPass, number: u16) -> LockShare
-    requires pass { IsPassOf book.now.lock pass.old }
-    requires number { number + 1 < book.now.owners }
-    requires free { (view pass.old).holds ≡ false }
-    requires rest { (view pass.old).figures
-        ≡ figures (64 - number) (book.now.owners - number) 0 0 0 0 }
-    ensures pass { IsPassOf book.now.lock pass.new }
-    ensures free { (view pass.new).holds ≡ false }
-    ensures rest { (view pass.new).figures
-        ≡ figures (64 - (number + 1)) (book.now.owners - (number + 1)) 0 0 0 0 }
-    ensures share { IsNew book.now number result }
-{
-    let other = book.lock.another::<Parts>(pass);
-    share_of(number, other)
-}
-
 // Deals a share to each owner. The last one keeps the first pass.
 fn deal<R>(book: &LockBook<R>, pass: LockPass, shares: &mut Vec<LockShare>)
     requires pass { IsPassOf book.now.lock pass }
@@ -100,45 +83,10 @@ fn deal<R>(book: &LockBook<R>, pass: LockPass, shares: &mut Vec<LockShare>)
     let mut pass = pass;
     let last = book.owners - 1;
     for number in 0..last {
-        let share = cut(book, &mut pass, number);
-        shares.push_reserved(share);
+        let other = book.lock.another::<Parts>(&mut pass);
+        shares.push_reserved(share_of(number, other));
     }
     shares.push_reserved(share_of(last, pass));
-}
-
-// Puts all passes together, and adds up what was owed and cleared.
-fn add_up<R>(book: &LockBook<R>, lefts: Vec<LockLeft>) -> Totals
-    requires count { vec_len lefts ≡ book.now.owners }
-    requires each { (place : ℕ) (left : LockLeft) → slice_get lefts.items place ≡ Some left
-        → IsLeftOf book.now left × (number_of left ≡ place) }
-    ensures owed { result.owed ≡ sum_by owed_by lefts.items }
-    ensures cleared { result.cleared ≡ sum_by cleared_by lefts.items }
-    ensures quiet { ((place : ℕ) (left : LockLeft)
-        → slice_get lefts.items place ≡ Some left → is_quiet left ≡ true)
-        → result.owed ≡ result.cleared }
-    ensures stopped { (place : ℕ) (left : LockLeft)
-        → slice_get lefts.items place ≡ Some left → is_quiet left ≡ false
-        → (other : ℕ) × (caller : LockLeft)
-        × (slice_get lefts.items other ≡ Some caller) × (has_called caller ≡ true) }
-{
-    let mut lefts = lefts;
-    let Some(last) = lefts.pop() else {
-        unreachable!()
-    };
-    let LockLeft {
-        account,
-        mut pass,
-        ..
-    } = last;
-    let mut owed = account.owed;
-    let mut cleared = account.cleared;
-    while let Some(left) = lefts.pop() {
-        owed += left.account.owed;
-        cleared += left.account.cleared;
-        book.lock.absorb::<Parts>(&mut pass, left.pass);
-    }
-    book.lock.learn_as::<Whole>(&mut pass);
-    Totals { owed, cleared }
 }
 
 impl<R: Wait + Copy + Send + Sync> Ledger for LockLedger<R> {
@@ -265,7 +213,24 @@ impl<R: Wait + Copy + Send + Sync> Ledger for LockLedger<R> {
             → (other : ℕ) × (caller : LockLeft)
             × (slice_get lefts.items other ≡ Some caller) × (has_called caller ≡ true) }
     {
-        add_up(&book, lefts)
+        let mut lefts = lefts;
+        let Some(last) = lefts.pop() else {
+            unreachable!()
+        };
+        let LockLeft {
+            account,
+            mut pass,
+            ..
+        } = last;
+        let mut owed = account.owed;
+        let mut cleared = account.cleared;
+        while let Some(left) = lefts.pop() {
+            owed += left.account.owed;
+            cleared += left.account.cleared;
+            book.lock.absorb::<Parts>(&mut pass, left.pass);
+        }
+        book.lock.learn_as::<Whole>(&mut pass);
+        Totals { owed, cleared }
     }
 }
 

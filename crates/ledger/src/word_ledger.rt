@@ -6,13 +6,12 @@
 //! rule knows of the whole.
 
 ghost use Rattle.std.specs.Prelude.{◌≡◌, ◌+◌, ◌-◌, ◌<◌, ◌≤◌, ℕ, [], false, true};
-ghost use Rattle.std.specs.Prelude.{IfErr, IfOk, Some, slice_get, vec_capacity, vec_len};
+ghost use Rattle.std.specs.Prelude.{Some, slice_get, vec_capacity, vec_len};
 ghost use Rattle.std.specs.List.{sum_by};
 ghost use Rattle.ledger.specs.Figures.{figures};
 ghost use Rattle.ledger.specs.WordShares.{IsNewShare, IsWordLeft, IsWordShare};
 ghost use Rattle.ledger.specs.declared.word_book.WordLeft.{WordLeft};
 ghost use Rattle.ledger.specs.declared.word_book.WordShare.{WordShare};
-ghost use Rattle.fixpoint.specs.Limits.{most_owners};
 
 use crate::figures::{Account, NOTHING_OWED};
 use crate::ledger::{Leave, Ledger, ThreadLedger, Totals};
@@ -33,22 +32,11 @@ pub struct WordLedger;
 
 impl WordLedger {
     /// Ledgers of two words. Each book is made by `open`.
-    pub fn new() -> WordLedger {
+    pub fn new() -> WordLedger
+        ensures { result ≡ record {} }
+    {
         WordLedger
     }
-}
-
-// The words of a book of so many owners, and the seat that has all parts.
-fn open_words(alloc: Global, owners: u16) -> Result<(Words, WordSeat), Memory>
-    requires { (0 < owners) × (owners ≤ most_owners) }
-    ensures { IfOk result (λ opened. (opened.0.shared.table_id.words ≡ 2)
-        × (opened.0.shared.table_id.slots ≡ 0)
-        × (opened.1.table_id ≡ opened.0.shared.table_id)
-        × (opened.1.me ≡ (figures 64 owners 0 0 0 0, []))) }
-{
-    let owed = owners as u64;
-    let opened = Words::of_words(alloc, &[NOTHING_OWED + owed, 0], &owed)?;
-    Ok(opened)
 }
 
 // A share of this number, which has done nothing yet.
@@ -73,21 +61,6 @@ fn share_of(number: u16, seat: WordSeat) -> WordShare
     }
 }
 
-// Cuts off the share of this number, which isn't the last one.
-fn cut(book: &WordBook, seat: &mut WordSeat, number: u16) -> WordShare
-    requires seat { seat.old.table_id ≡ book.now.table.shared.table_id }
-    requires number { number + 1 < book.now.owners }
-    requires rest { seat.old.me
-        ≡ (figures (64 - number) (book.now.owners - number) 0 0 0 0, []) }
-    ensures seat { seat.new.table_id ≡ book.now.table.shared.table_id }
-    ensures rest { seat.new.me
-        ≡ (figures (64 - (number + 1)) (book.now.owners - (number + 1)) 0 0 0 0, []) }
-    ensures share { IsNewShare book.now number result }
-{
-    let other = book.table.shared.split_seat::<Deals>(seat);
-    share_of(number, other)
-}
-
 // Deals a share to each owner. The last one keeps the first seat.
 fn deal(book: &WordBook, seat: WordSeat, shares: &mut Vec<WordShare>)
     requires seat { seat.table_id ≡ book.now.table.shared.table_id }
@@ -100,8 +73,8 @@ fn deal(book: &WordBook, seat: WordSeat, shares: &mut Vec<WordShare>)
     let mut seat = seat;
     let last = book.owners - 1;
     for number in 0..last {
-        let share = cut(book, &mut seat, number);
-        shares.push_reserved(share);
+        let other = book.table.shared.split_seat::<Deals>(&mut seat);
+        shares.push_reserved(share_of(number, other));
     }
     shares.push_reserved(share_of(last, seat));
 }
@@ -117,88 +90,6 @@ fn look(book: &WordBook, share: &mut WordShare) -> bool
     let found = book.table.shared.load::<Looks>(&mut share.seat, FLAG);
     share.marked = found != 0;
     found != 0
-}
-
-// What is left of a share that leaves since all are to stop.
-fn leave_stopped(book: &WordBook, share: WordShare) -> WordLeft
-    requires share { IsWordShare book.now share }
-    requires marked { share.marked ≡ true }
-    ensures left { IsWordLeft book.now result }
-    ensures account { result.account ≡ share.account }
-    ensures quiet { result.quiet ≡ false }
-{
-    let _ = book;
-    let WordShare { account, seat, .. } = share;
-    WordLeft {
-        account,
-        quiet: false,
-        seat,
-    }
-}
-
-// Leaves where the balance is 0; else the share comes back.
-fn leave_quiet(book: &WordBook, share: WordShare) -> Result<WordLeft, WordShare>
-    requires share { IsWordShare book.now share }
-    requires unmarked { share.marked ≡ false }
-    ensures left { IfOk result (λ left. IsWordLeft book.now left
-        × (left.account ≡ share.account) × (left.quiet ≡ true)) }
-    ensures back { IfErr result (λ back. IsWordShare book.now back
-        × (back.account ≡ share.account) × (back.marked ≡ false)) }
-{
-    let WordShare {
-        account,
-        marked,
-        mut seat,
-    } = share;
-    if book.table.shared.load::<Leaves>(&mut seat, BALANCE) == NOTHING_OWED {
-        Ok(WordLeft {
-            account,
-            quiet: true,
-            seat,
-        })
-    } else {
-        Err(WordShare {
-            account,
-            marked,
-            seat,
-        })
-    }
-}
-
-// Puts all seats together, and adds up what was owed and cleared.
-fn add_up(book: &WordBook, lefts: Vec<WordLeft>) -> Totals
-    requires count { vec_len lefts ≡ book.now.owners }
-    requires each { (place : ℕ) (left : WordLeft) → slice_get lefts.items place ≡ Some left
-        → IsWordLeft book.now left × (left.account.number ≡ place) }
-    ensures owed { result.owed ≡ sum_by (λ (left : WordLeft). left.account.owed) lefts.items }
-    ensures cleared { result.cleared
-        ≡ sum_by (λ (left : WordLeft). left.account.cleared) lefts.items }
-    ensures quiet { ((place : ℕ) (left : WordLeft)
-        → slice_get lefts.items place ≡ Some left → left.quiet ≡ true)
-        → result.owed ≡ result.cleared }
-    ensures stopped { (place : ℕ) (left : WordLeft)
-        → slice_get lefts.items place ≡ Some left → left.quiet ≡ false
-        → (other : ℕ) × (caller : WordLeft)
-        × (slice_get lefts.items other ≡ Some caller) × (caller.account.called ≡ true) }
-{
-    let mut lefts = lefts;
-    let Some(last) = lefts.pop() else {
-        unreachable!()
-    };
-    let WordLeft {
-        account,
-        mut seat,
-        ..
-    } = last;
-    let mut owed = account.owed;
-    let mut cleared = account.cleared;
-    while let Some(left) = lefts.pop() {
-        owed += left.account.owed;
-        cleared += left.account.cleared;
-        book.table.shared.join_seat::<Gathers>(&mut seat, left.seat);
-    }
-    book.table.shared.load::<Concludes>(&mut seat, BALANCE);
-    Totals { owed, cleared }
 }
 
 impl Ledger for WordLedger {
@@ -241,7 +132,8 @@ impl Ledger for WordLedger {
 
     fn open(&self, alloc: Global, owners: u16) -> Result<(WordBook, Vec<WordShare>), Memory> {
         let mut shares = Vec::with_capacity(alloc, owners as usize)?;
-        let (table, seat) = open_words(alloc, owners)?;
+        let owed = owners as u64;
+        let (table, seat) = Words::of_words(alloc, &[NOTHING_OWED + owed, 0], &owed)?;
         let book = WordBook { table, owners };
         deal(&book, seat, &mut shares);
         Ok((book, shares))
@@ -279,11 +171,30 @@ impl Ledger for WordLedger {
     fn leave(book: &WordBook, share: WordShare) -> Leave<WordLeft, WordShare> {
         let mut share = share;
         if look(book, &mut share) {
-            return Leave::Stopped(leave_stopped(book, share));
+            let WordShare { account, seat, .. } = share;
+            return Leave::Stopped(WordLeft {
+                account,
+                quiet: false,
+                seat,
+            });
         }
-        match leave_quiet(book, share) {
-            Ok(left) => Leave::Quiet(left),
-            Err(back) => Leave::Open(back),
+        let WordShare {
+            account,
+            marked,
+            mut seat,
+        } = share;
+        if book.table.shared.load::<Leaves>(&mut seat, BALANCE) == NOTHING_OWED {
+            Leave::Quiet(WordLeft {
+                account,
+                quiet: true,
+                seat,
+            })
+        } else {
+            Leave::Open(WordShare {
+                account,
+                marked,
+                seat,
+            })
         }
     }
 
@@ -302,7 +213,24 @@ impl Ledger for WordLedger {
             → (other : ℕ) × (caller : WordLeft)
             × (slice_get lefts.items other ≡ Some caller) × (caller.account.called ≡ true) }
     {
-        add_up(&book, lefts)
+        let mut lefts = lefts;
+        let Some(last) = lefts.pop() else {
+            unreachable!()
+        };
+        let WordLeft {
+            account,
+            mut seat,
+            ..
+        } = last;
+        let mut owed = account.owed;
+        let mut cleared = account.cleared;
+        while let Some(left) = lefts.pop() {
+            owed += left.account.owed;
+            cleared += left.account.cleared;
+            book.table.shared.join_seat::<Gathers>(&mut seat, left.seat);
+        }
+        book.table.shared.load::<Concludes>(&mut seat, BALANCE);
+        Totals { owed, cleared }
     }
 }
 

@@ -4,8 +4,8 @@
 //! A push is the one step of a post, a pop the one step of a take. The sender's pass of the queue
 //! knows what was sent, the receiver's what was received; `settle` puts the two passes together.
 
-ghost use Rattle.std.specs.Prelude.{◌≡◌, ◌<◌, ◌++◌, List, [], ◌∷◌, length, true, false};
-ghost use Rattle.std.specs.Prelude.{IfOk, OnOk, OnErr, IfErr, IfSome, IfNone};
+ghost use Rattle.std.specs.Prelude.{◌≡◌, ◌<◌, ◌++◌, [], ◌∷◌, length, true, false};
+ghost use Rattle.std.specs.Prelude.{IfSome, IfNone};
 ghost use Rattle.std.specs.Arc.{arc_value};
 ghost use Rattle.crossbeam_queue.specs.SegTies.{IsSegPassOf};
 ghost use Rattle.mail.specs.Order.{known};
@@ -176,20 +176,6 @@ pub struct QueuePost<T: Drop> {
     ghost counted: { count ≡ length pass.me.view.client.received },
 }
 
-// The one step of a post: puts a message at the back of the queue.
-fn push<T: Drop, R: Wait>(sender: &mut QueueSender<T, R>, message: T) -> Result<(), T>
-    requires { length sender.old.pass.me.view.client.sent < most_posts }
-    ensures ok { OnOk result (sender.new.pass.me.view.client.sent
-        ≡ sender.old.pass.me.view.client.sent ++ message ∷ []) }
-    ensures back { IfErr result (λ back. back ≡ message) }
-    ensures err { OnErr result (sender.new.pass.me.view.client.sent
-        ≡ sender.old.pass.me.view.client.sent) }
-    ensures queue { (arc_value sender.new.kept).queue ≡ (arc_value sender.old.kept).queue }
-{
-    let queue = &sender.kept.queue;
-    queue.push_as::<Sent, R>(&sender.rt, &mut sender.pass, message)
-}
-
 // The one step of a take: takes the message at the front of the queue, and counts it.
 fn pop<T: Drop, R: Wait>(receiver: &mut QueueReceiver<T, R>) -> Option<T>
     ensures some { IfSome result (λ message. receiver.new.pass.me.view.client.received
@@ -272,7 +258,8 @@ impl<T: Send + Drop, R: Wait + Copy + Send + Sync> Mail<T> for QueueMail<R> {
     }
 
     fn post(sender: &mut QueueSender<T, R>, message: T) -> Result<(), PostError<T>> {
-        match push(sender, message) {
+        let queue = &sender.kept.queue;
+        match queue.push_as::<Sent, R>(&sender.rt, &mut sender.pass, message) {
             Ok(()) => Ok(()),
             Err(back) => Err(PostError::Memory(back)),
         }

@@ -239,7 +239,9 @@ impl RingMail {
     ghost use Rattle.mail.specs.Limits.{most_places};
 
     /// Mailboxes on rings. Each of them is made by `pair`, and nothing was sent through it.
-    pub fn new() -> RingMail {
+    pub fn new() -> RingMail
+        ensures { result ≡ record {} }
+    {
         RingMail
     }
 

@@ -105,12 +105,6 @@ row_next none k l = absurd (omega arith)
 row_next (more t ts) zero l = (t, refl, refl)
 row_next (more t ts) (suc k) l = row_next ts k (omega arith)
 
-pub row_all : (ts : TypeTrees) → row_after (type_count ts) ts ≡ none
-row_all none = refl
-row_all (more t ts) =
-    (let e : type_count ts + 1 ≡ suc (type_count ts) = omega arith in
-    ap (λ (n : ℕ). row_after n (more t ts)) e ∙ row_all ts)
-
 pub row_past : (ts : TypeTrees) (k : ℕ) → type_count ts ≤ k → row_after k ts ≡ none
 row_past none zero l = refl
 row_past none (suc k) l = refl

@@ -1,7 +1,6 @@
 -- A body: what a MIR text means, its points and its graph.
 -- Source: RFC 2094 speaks of MIR; the numbering of points is project's choice.
-use Rattle.std.specs.Prelude.{◌≡◌, ◌⊎◌, ◌↔◌, ℕ, ◌+◌, false, List, length, Contains}
-use Rattle.std.specs.Prelude.{Some, slice_get}
+use Rattle.std.specs.Prelude.{◌≡◌, ◌⊎◌, ◌↔◌, ℕ, ◌+◌, false, List, length, Contains, Some, slice_get}
 use Rattle.nll_problem.specs.Graph.{Graph, IsNext, IsReturn}
 use Rattle.nll_format.specs.Labels.{Labels, blocks}
 use Rattle.nll_types.specs.Types.{TypeTree}

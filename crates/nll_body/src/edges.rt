@@ -63,35 +63,8 @@ fn is_return(statement: &Stmt) -> bool
     }
 }
 
-// Adds the edges that leave a terminator. The list of blocks is scratch space.
-fn add_edges(
-    graph: &mut GraphBuilder,
-    point: u32,
-    points: &Statements,
-    statement: &Stmt,
-    starts: &[u32],
-    blocks: &mut Vec<u32>,
-) -> Result<(), BuildError>
-    requires terminator { is_terminator (statement_in points.now statement.now) ≡ true }
-    requires few { graph.old.points ≤ most_points }
-    requires point { point < graph.old.points }
-    requires blocks { (b : ℕ) → Contains (targets (statement_in points.now statement.now)) b
-        → b < length starts.now }
-    requires ends { (q : ℕ) → LeavesTo starts.now point (statement_in points.now statement.now) q
-        → q < graph.old.points }
-    requires room { length graph.old.edges + edges_from (statement_in points.now statement.now)
-        ≤ most_edges }
-    ensures ok { OnOk result
-        (AddsEdges starts.now point (statement_in points.now statement.now) graph.old graph.new) }
-    ensures err { IfErr result (λ e. e ≡ BuildError.Memory) }
-{
-    blocks.clear();
-    points.targets(statement, blocks)?;
-    add_targets(graph, point, starts, blocks.as_slice())
-}
-
 // Adds the edges that leave a statement or terminator at a point, and the point to the return
-// points where it is one.
+// points where it is one. The list of blocks is scratch space.
 fn add_next(
     graph: &mut GraphBuilder,
     point: u32,
@@ -115,7 +88,9 @@ fn add_next(
     if !points.is_terminator(statement) {
         return add_edge(graph, point, point + 1);
     }
-    add_edges(graph, point, points, statement, starts, blocks)?;
+    blocks.clear();
+    points.targets(statement, blocks)?;
+    add_targets(graph, point, starts, blocks.as_slice())?;
     if !is_return(statement) {
         return Ok(());
     }

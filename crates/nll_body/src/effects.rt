@@ -64,20 +64,6 @@ impl Statements {
         !self.projections(place).is_empty()
     }
 
-    // The variable, where it writes the whole of it.
-    fn written_whole(&self, statement: &Stmt) -> Option<u32>
-        ensures { MatchOption result
-            (flat_map (λ p. other_block (spec.whole_variable p))
-            (target_of (statement_in self.now statement.now)) ≡ [])
-            (λ x. flat_map (λ p. other_block (spec.whole_variable p))
-            (target_of (statement_in self.now statement.now)) ≡ x ∷ []) }
-    {
-        match self.target(statement) {
-            Some(place) if !self.is_projected(place) => Some(self.variable(place)),
-            _ => None,
-        }
-    }
-
     /// The variable that it defines: it writes the whole variable, or the variable's storage
     /// begins or ends.
     ///
@@ -88,7 +74,10 @@ impl Statements {
     {
         match statement {
             Stmt::Live(variable) | Stmt::Dead(variable) => Some(*variable),
-            _ => self.written_whole(statement),
+            _ => match self.target(statement) {
+                Some(place) if !self.is_projected(place) => Some(self.variable(place)),
+                _ => None,
+            },
         }
     }
 
@@ -199,7 +188,7 @@ impl Statements {
             Stmt::Goto(block) | Stmt::Drop(_, block) => push_number(*block, blocks),
             Stmt::DropUnwind(_, block, unwind) => push_exits(*block, Some(*unwind), blocks),
             Stmt::Switch(number) => match self.switch(*number) {
-                Some(switch) => push_numbers(self.blocks(switch.blocks), blocks),
+                Some(switch) => Ok(blocks.extend_from_slice(self.blocks(switch.blocks))?),
                 None => Ok(()),
             },
             Stmt::Call(number) => match self.call(*number) {
@@ -217,15 +206,6 @@ fn push_number(number: u32, numbers: &mut Vec<u32>) -> Result<(), Memory>
     ensures begins { IsPrefix numbers.old.items numbers.new.items }
 {
     numbers.push(number)?;
-    Ok(())
-}
-
-// Appends numbers.
-fn push_numbers(more: &[u32], numbers: &mut Vec<u32>) -> Result<(), Memory>
-    ensures ok { OnOk result (numbers.new.items ≡ numbers.old.items ++ more.now) }
-    ensures begins { IsPrefix numbers.old.items numbers.new.items }
-{
-    numbers.extend_from_slice(more)?;
     Ok(())
 }
 

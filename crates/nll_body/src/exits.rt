@@ -36,7 +36,7 @@ impl Statements {
     {
         match statement {
             Stmt::Goto(_) | Stmt::Drop(_, _) => Ok(ending(1)),
-            Stmt::DropUnwind(_, block, unwind) => Ok(ending(of_two(*block, *unwind))),
+            Stmt::DropUnwind(_, block, unwind) => Ok(ending(exit_count(*block, Some(*unwind)))),
             Stmt::Switch(number) => match self.switch(*number) {
                 Some(switch) => Ok(ending(distinct(alloc, self.blocks(switch.blocks))?)),
                 None => Ok(going_on()),
@@ -70,24 +70,15 @@ fn ending(edges: usize) -> Exits
     Exits { ends: true, edges }
 }
 
-// How many numbers these two are.
-fn of_two(number: u32, other: u32) -> usize
+// How many numbers a number and the other one are, where there is one.
+fn exit_count(number: u32, other: Option<u32>) -> usize
     ensures distinct { result
-        ≡ length (insert_all (λ b c. b == c) [] (number ∷ other ∷ [])) }
+        ≡ length (insert_all (λ b c. b == c) [] (number ∷ other_block other)) }
     ensures few { result ≤ 2 }
 {
-    if other == number { 1 } else { 2 }
-}
-
-// How many blocks a block and the other one are, where there is one.
-fn exit_count(block: u32, unwind: Option<u32>) -> usize
-    ensures distinct { result
-        ≡ length (insert_all (λ b c. b == c) [] (block ∷ other_block unwind)) }
-    ensures few { result ≤ 2 }
-{
-    match unwind {
-        Some(other) => of_two(block, other),
-        None => 1,
+    match other {
+        Some(other) if other != number => 2,
+        _ => 1,
     }
 }
 
@@ -100,7 +91,7 @@ fn distinct(alloc: Global, numbers: &[u32]) -> Result<usize, Memory>
     match numbers {
         [] => Ok(0),
         [_] => Ok(1),
-        [number, other] => Ok(of_two(*number, *other)),
+        [number, other] => Ok(exit_count(*number, Some(*other))),
         _ => distinct_among(alloc, numbers),
     }
 }

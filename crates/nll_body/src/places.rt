@@ -57,16 +57,11 @@ pub(crate) fn find_place(
         });
     }
     let from = places.variables[variable].shape;
-    match table.place_shape(alloc, from, places.statements.projections(place))? {
-        Some((shape, small)) => Ok(Found {
-            declared,
-            typed: Some(TypedShape { shape, small }),
-        }),
-        None => Ok(Found {
-            declared,
-            typed: None,
-        }),
-    }
+    let typed = match table.place_shape(alloc, from, places.statements.projections(place))? {
+        Some((shape, small)) => Some(TypedShape { shape, small }),
+        None => None,
+    };
+    Ok(Found { declared, typed })
 }
 
 /// The shape of an operand, where it has a type, and whether the types of its place are small.

@@ -110,14 +110,6 @@ fn judge_return(table: &TypeTable, variables: &[Typed]) -> Judgement
     Judgement::fitting(true, table.shapes().is_small(variables[0].shape))
 }
 
-// Judges a variable that occurs by itself.
-fn judge_variable(count: usize, variable: u32) -> Judgement
-    ensures declared { result.declared ≡ nat_lt variable count }
-    ensures judged { IsJudged true true result }
-{
-    Judgement::fitting(is_declared(count, variable), true)
-}
-
 /// Judges a statement over variables of these types: its variables, and the types that meet in it.
 ///
 /// # Cost
@@ -138,7 +130,6 @@ pub fn judge_statement(
     ensures judged { IfOk result (IsJudgedIn (structs_of table.old.structs) table.old.shapes
         places.now (statement_in places.now.statements.now statement.now)) }
 {
-    let count = places.variables.len();
     match statement {
         Stmt::Assign(place, operand) => judge_assigned(alloc, table, places, *operand, *place),
         Stmt::Borrow(place, _, mutable, borrowed) => {
@@ -161,7 +152,10 @@ pub fn judge_statement(
         Stmt::Live(variable)
         | Stmt::Dead(variable)
         | Stmt::Drop(variable, _)
-        | Stmt::DropUnwind(variable, _, _) => Ok(judge_variable(count, *variable)),
+        | Stmt::DropUnwind(variable, _, _) => {
+            let declared = is_declared(places.variables.len(), *variable);
+            Ok(Judgement::fitting(declared, true))
+        }
         Stmt::Nop | Stmt::Goto(_) | Stmt::Stop => Ok(Judgement::fitting(true, true)),
     }
 }

@@ -200,9 +200,6 @@ pub record IsReadTo (given : List Given) (others left words : List Text) : Type 
       → (later : List Given) × (more : List Text) × HasOptions later more left × (gs ≡ given ++ later)
       × (os ≡ others ++ more)
 
-pub read_none : (words : List Text) → IsReadTo [] [] words words
-read_none words = record { leads = λ gs os h. h; follows = λ gs os h. (gs, os, h, refl, refl) }
-
 module _ (given : List Given) (others left words : List Text) (so : IsReadTo given others left words) where
   -- ---- all words are read
 

@@ -1,17 +1,17 @@
 //! What the arguments of the command line ask for.
 ghost use Rattle.std.specs.Prelude.{◌≡◌, ◌≢◌, ◌⊎◌, ℕ, List, None, Some, false, map, string_bytes};
-ghost use Rattle.std.specs.Prelude.{Err, IfErr, IfOk, IsOk, IsOkAnd, MatchResult, OnErr};
+ghost use Rattle.std.specs.Prelude.{Err, IfErr, IfOk, IsOk, IsOkAnd, MatchResult};
 ghost use Rattle.std.specs.Prelude.{option_map};
 ghost use Rattle.nll_command_line.specs.Options.{AreRead, Said, Suits, said_by};
 ghost use Rattle.nll_command_line.specs.declared.task.Task.{Task};
 ghost use Rattle.nll_command_line.specs.Taking.{said_of};
 ghost use Rattle.nll_command_line.specs.CommandLine.{AsksPlainlyForHelp, IsLine, IsPlainLine};
-ghost use Rattle.clap.specs.Words.{app_of, found_of, rows_of, rule_of};
+ghost use Rattle.clap.specs.Words.{app_of, found_of, rows_of};
 ghost use Rattle.clap.specs.Words.{new_app, subcommand_rows_of, with_rule, with_subcommand};
 ghost use Rattle.clap.specs.declared.builder.Command.TheViews.{out-Command};
 ghost use Rattle.nll_command_line.specs.Grammar.{AsksForHelpAlone, IsHelpFor, IsLineError};
 ghost use Rattle.nll_command_line.specs.Grammar.{IsTold, IsWordsError};
-ghost use Rattle.nll_command_line.specs.Grammar.{bare_program, file_rule, program};
+ghost use Rattle.nll_command_line.specs.Grammar.{file_rule, program};
 ghost use Rattle.nll_command_line.specs.Grammar.{line_of_found, line_of_matches};
 
 use crate::error::LineError;
@@ -128,7 +128,11 @@ fn asked(alloc: Global, words: &[&str]) -> Result<Asked, LineError>
 fn grammar<'a>(alloc: Global) -> Result<Command<'a>, AllocError>
     ensures { IfOk result (λ c. app_of c ≡ program) }
 {
-    let bare = bare_program(alloc)?;
+    let bare = Command::new(alloc, "nllc")
+        .no_binary_name(true)
+        .disable_help_subcommand(true)
+        .subcommand_required(true)
+        .bin_name("nllc")?;
     let with_values = with_command(alloc, bare, VALUES)?;
     let with_check = with_command(alloc, with_values, CHECK)?;
     with_command(alloc, with_check, REPLAY)
@@ -152,30 +156,13 @@ fn with_command<'a>(
     }
 }
 
-// The program, before its commands.
-fn bare_program<'a>(alloc: Global) -> Result<Command<'a>, AllocError>
-    ensures { IfOk result (λ c. app_of c ≡ bare_program) }
-{
-    let program = Command::new(alloc, "nllc")
-        .no_binary_name(true)
-        .disable_help_subcommand(true)
-        .subcommand_required(true);
-    program.bin_name("nllc")
-}
-
 // A command, with its file.
 fn command<'a>(alloc: Global, name: &'a str) -> Result<Command<'a>, AllocError>
     ensures shape { IfOk result (λ c. app_of c ≡ with_rule (new_app name.entry.now) file_rule) }
     ensures local { IfOk result (λ c. (out-Command c).has_globals ≡ false) }
 {
-    Command::new(alloc, name).arg(file_word(alloc))
-}
-
-fn file_word<'a>(alloc: Global) -> Arg<'a>
-    ensures rule { rule_of result ≡ file_rule }
-    ensures local { result.global ≡ false }
-{
-    Arg::new(alloc, FILE).action(ArgAction::Set).required(true)
+    let file = Arg::new(alloc, FILE).action(ArgAction::Set).required(true);
+    Command::new(alloc, name).arg(file)
 }
 
 // The command line that the arguments make.
@@ -218,18 +205,10 @@ fn refusal(alloc: Global, words: &[&str], kind: ErrorKind) -> LineError
 {
     match kind {
         ErrorKind::OutOfMemory => LineError::Memory,
-        ErrorKind::DisplayHelp => helped(String::from_str(alloc, help_for(words))),
+        ErrorKind::DisplayHelp => match String::from_str(alloc, help_for(words)) {
+            Ok(text) => LineError::Help(text),
+            Err(_) => LineError::Memory,
+        },
         _ => LineError::Usage,
-    }
-}
-
-// Help, where there is room for its text.
-fn helped(text: Result<String, AllocError>) -> LineError
-    ensures help { IfOk text (λ text. result ≡ LineError.Help text) }
-    ensures memory { OnErr text (result ≡ LineError.Memory) }
-{
-    match text {
-        Ok(text) => LineError::Help(text),
-        Err(_) => LineError::Memory,
     }
 }

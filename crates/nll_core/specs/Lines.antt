@@ -2,7 +2,7 @@
 -- successor, and the steps that leave them. Source: project's choice. Only private contracts cite
 -- this file.
 use Rattle.std.specs.Prelude.{◌≡◌, ◌≢◌, ◌⊎◌, ◌↔◌, ℕ, ◌+◌, ◌≤◌, ◌<◌, List, length}
-use Rattle.std.specs.Prelude.{slice_index, slice_index_or, Contains, Option, Some, None}
+use Rattle.std.specs.Prelude.{slice_index, slice_index_or, AllPairs, Contains}
 use Rattle.nll_problem.specs.Graph.{Graph, IsNext, IsReturn, IsSound}
 use Rattle.nll_core.specs.declared.frontiers.landings.Landing.{Landing}
 
@@ -63,14 +63,10 @@ pub record AreLandings (g : Graph) (list : List Landing) (starts : List ℕ) : T
   pub sized : length starts ≡ g.points + 2
   pub start : (t : ℕ) → t < g.points + 2 → IsLandingStart list t (slice_index starts t)
 
--- there is a list, and the number is in it
-abbrev pub IsListed : Option (List ℕ) → ℕ → Type 0
-IsListed (Some list) x = Contains list x
-IsListed None x = ⊥
-
--- the list has exactly the return points of the graph; without a list, there are none
-abbrev pub AreReturns : Graph → Option (List ℕ) → Type 0
-AreReturns g points = (x : ℕ) → IsListed points x ↔ IsReturn g x
+-- the list has exactly the return points of the graph, ascending
+abbrev pub AreReturns : Graph → List ℕ → Type 0
+AreReturns g points =
+    AllPairs (λ x y. x < y) points × ((x : ℕ) → Contains points x ↔ IsReturn g x)
 
 -- These are the points, the ends of lines and the jumps of the graph.
 pub record AreLinesOf (g : Graph) (points universals : ℕ) (ends starts targets : List ℕ)

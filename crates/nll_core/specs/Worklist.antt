@@ -1,7 +1,6 @@
 -- How a solver keeps track of the regions that it still has to visit: one flag for each region.
 -- Source: project's choice. Only private contracts cite this file.
-use Rattle.std.specs.Prelude.{◌≡◌, ◌≢◌, ◌⊎◌, ℕ, ◌≤◌, ◌<◌, Bool, true, false}
-use Rattle.std.specs.Prelude.{List, length, Contains}
+use Rattle.std.specs.Prelude.{◌≡◌, ◌≢◌, ◌⊎◌, ℕ, ◌≤◌, ◌<◌, Bool, true, false, List, length, Contains}
 use Rattle.nll_sets.specs.ElementSet.{flag}
 use Rattle.nll_problem.specs.At.{at_rank}
 use Rattle.nll_problem.specs.Problem.{Problem}

@@ -1,8 +1,8 @@
 //! The values of exactly the base elements.
 
-ghost use Rattle.std.specs.Prelude.{◌≡◌, ℕ, ◌≤◌, ◌<◌, ◌↔◌, length, IfOk, OnOk};
+ghost use Rattle.std.specs.Prelude.{ℕ, ◌<◌, ◌↔◌, IfOk, OnOk};
 ghost use Rattle.nll_problem.specs.Problem.{IsBase};
-ghost use Rattle.nll_core.specs.Values.{set_of, IsHeld, IsShaped};
+ghost use Rattle.nll_core.specs.Values.{IsHeld, IsShaped};
 ghost use Rattle.nll_core.specs.Growing.{Gains, HoldsPoints, HoldsEnds, HoldsFacts};
 
 use crate::values::Values;
@@ -29,30 +29,15 @@ fn insert_universals(problem: &Problem, values: &mut Values) -> Result<(), Memor
     ensures ends { OnOk result (HoldsEnds problem.now values.new) }
 {
     let points = problem.points();
+    let all = Run {
+        first: 0,
+        last: points - 1,
+    };
     for number in 0..problem.universals() {
         let region = RegionId(number);
-        insert_points(values, region, points)?;
+        values.insert_run(region, all)?;
         values.insert(region, Element(points + number))?;
     }
-    Ok(())
-}
-
-// Inserts each point into the value of a region, as one run.
-fn insert_points(values: &mut Values, region: RegionId, points: u32) -> Result<(), Memory>
-    requires some { 0 < points }
-    requires region { region < length values.old }
-    requires elements { points ≤ length (set_of values.old region) }
-    ensures gains { OnOk result
-        (Gains (λ r e. (r ≡ region) × (e < points)) values.old values.new) }
-    ensures covers { OnOk result ((e : ℕ) → e < points → IsHeld values.new region e) }
-{
-    values.insert_run(
-        region,
-        Run {
-            first: 0,
-            last: points - 1,
-        },
-    )?;
     Ok(())
 }
 

@@ -1,9 +1,9 @@
 //! Universal region errors: which universal regions must outlive another and aren't known to.
 
-ghost use Rattle.std.specs.Prelude.{◌≡◌, ◌↔◌, ◌+◌, false, length, IsTrue, IfOk, OnOk};
+ghost use Rattle.std.specs.Prelude.{◌≡◌, ◌+◌, false, length, IfOk, OnOk};
 ghost use Rattle.nll_problem.specs.Problem.{IsUniversal};
 ghost use Rattle.nll_core.specs.Values.{IsHeld, IsShaped};
-ghost use Rattle.nll_problem.specs.Faults.{IsFault, AreFaults};
+ghost use Rattle.nll_problem.specs.Faults.{AreFaults};
 ghost use Rattle.nll_core.specs.Outliving.{AreOutlived, HasNoForeignEnd, FindsUpTo};
 
 use crate::known_outlives::outlived_by;
@@ -92,28 +92,10 @@ fn add_unknown(
     ensures { OnOk result (FindsUpTo problem.now values.now faults.new.items (longer + 1) 0) }
 {
     for shorter in 0..problem.universals() {
-        if is_fault(problem, values, outlived, longer, RegionId(shorter)) {
+        let end = Element(problem.points() + shorter);
+        if values.has(longer, end) && !outlived.has(Element(shorter)) {
             faults.push((longer, RegionId(shorter)))?;
         }
     }
     Ok(())
-}
-
-// Whether one universal region holds the end of another and isn't known to outlive it.
-fn is_fault(
-    problem: &Problem,
-    values: &Values,
-    outlived: &BitSet,
-    longer: RegionId,
-    shorter: RegionId,
-) -> bool
-    requires shaped { IsShaped problem.now values.now }
-    requires longer { IsUniversal problem.now longer }
-    requires shorter { IsUniversal problem.now shorter }
-    requires width { length outlived.now ≡ problem.now.graph.universals }
-    requires known { AreOutlived problem.now longer outlived.now }
-    ensures { IsTrue result ↔ IsFault problem.now (IsHeld values.now) longer shorter }
-{
-    let end = Element(problem.points() + shorter.0);
-    values.has(longer, end) && !outlived.has(Element(shorter.0))
 }

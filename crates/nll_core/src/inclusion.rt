@@ -1,10 +1,9 @@
 //! Whether a set is within another, where a look at a few runs is enough to know.
 
 ghost use Rattle.std.specs.Prelude.{◌≡◌, ℕ, true};
-ghost use Rattle.nll_sets.specs.Runs.{IsWithin};
 ghost use Rattle.nll_core.specs.Search.{IsIn};
 
-use nll_sets::{Run, RunSet};
+use nll_sets::RunSet;
 
 // At most this many runs are looked at, so that it costs no more than a short walk.
 const MOST_RUNS: usize = 64;
@@ -23,21 +22,13 @@ pub fn is_seen_within(inner: &RunSet, outer: &RunSet) -> bool
     }
     let mut near = 0;
     for run in runs {
-        let (at, inside) = has_run(outer, near, *run);
-        if !inside {
+        let (at, Some(other)) = outer.run_near(near, run.first) else {
+            return false;
+        };
+        if run.first < other.first || other.last < run.last {
             return false;
         }
         near = at;
     }
     true
-}
-
-// Whether a set has all elements of a run, with an index near which later runs of it may lie.
-fn has_run(outer: &RunSet, near: usize, run: Run) -> (usize, bool)
-    ensures { result.1 ≡ true → (e : ℕ) → IsWithin run e → IsIn outer.now e }
-{
-    match outer.run_near(near, run.first) {
-        (at, Some(other)) => (at, other.first <= run.first && run.last <= other.last),
-        (at, None) => (at, false),
-    }
 }

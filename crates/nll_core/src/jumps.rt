@@ -1,10 +1,9 @@
 //! The steps of a graph that don't go along a line.
 
-ghost use Rattle.std.specs.Prelude.{◌≡◌, ◌≢◌, ◌↔◌, ◌+◌, ◌<◌, true, Contains, IfOk, OnOk};
+ghost use Rattle.std.specs.Prelude.{◌≡◌, ◌↔◌, ◌+◌, ◌<◌, true, IfOk, OnOk};
 ghost use Rattle.nll_problem.specs.Graph.{IsNext};
-ghost use Rattle.nll_core.specs.Lines.{AreJumps, AreLineEnds, IsJump, Pushes};
+ghost use Rattle.nll_core.specs.Lines.{AreEndsTo, AreJumps, AreLineEnds, IsJump, Pushes};
 
-use crate::line_ends::pass_point;
 use nll_problem::Graph;
 use nll_sets::Memory;
 use std::alloc::Global;
@@ -46,34 +45,30 @@ fn push_jumps(graph: &Graph, point: u32, targets: &mut Vec<u32>) -> Result<bool,
         (Pushes (IsJump graph.now point) targets.old.items targets.new.items) }
     ensures line { IfOk result (λ goes_on. (goes_on ≡ true) ↔ IsNext graph.now point (point + 1)) }
 {
-    let goes_on = push_others(graph.next_of(point), graph.points(), point, targets)?;
-    if graph.is_return(point) {
-        targets.push(graph.points())?;
-    }
-    Ok(goes_on)
-}
-
-// Appends the successors of a point to a list, except the next point of its line. Returns whether
-// that one is among them.
-fn push_others(
-    successors: &[u32],
-    points: u32,
-    point: u32,
-    targets: &mut Vec<u32>,
-) -> Result<bool, Memory>
-    requires { point < points }
-    ensures others { OnOk result (Pushes (λ t. Contains successors.now t × (t ≢ point + 1))
-        targets.old.items targets.new.items) }
-    ensures line { IfOk result (λ goes_on.
-        (goes_on ≡ true) ↔ Contains successors.now (point + 1)) }
-{
     let mut goes_on = false;
-    for successor in successors {
+    for successor in graph.next_of(point) {
         if *successor == point + 1 {
             goes_on = true;
         } else {
             targets.push(*successor)?;
         }
     }
+    if graph.is_return(point) {
+        targets.push(graph.points())?;
+    }
     Ok(goes_on)
+}
+
+// Goes on to a point, given whether its line goes on after it. Where the line ends, this point is
+// the last one for all points that the list lacks up to it.
+fn pass_point(graph: &Graph, ends: &mut Vec<u32>, point: u32, goes_on: bool) -> Result<(), Memory>
+    requires point { point < graph.now.points }
+    requires before { AreEndsTo graph.now point ends.old.items }
+    requires line { (goes_on ≡ true) ↔ IsNext graph.now point (point + 1) }
+    ensures { OnOk result (AreEndsTo graph.now (point + 1) ends.new.items) }
+{
+    if !goes_on {
+        ends.resize(point as usize + 1, point)?;
+    }
+    Ok(())
 }

@@ -86,5 +86,6 @@ pub fn outlived_by(alloc: Global, problem: &Problem, longer: RegionId) -> Result
 {
     let outliving = Outliving { problem };
     let search = search_from::<Outliving, BitSet>(alloc, &outliving, Element(longer.0))?;
-    Ok(search.into_set())
+    let (outlived, _) = search.into_parts();
+    Ok(outlived)
 }

@@ -1,7 +1,7 @@
 //! The least solution of a problem of location-aware regions, and its faults.
 //! The problem is that of `nll_problem`, the sets are those of `nll_sets`; both are found here too.
 //!
-//! Reading order: `values`, `bases`, `lines` (with `line_ends`, `jumps`), `stretches`, `tail_copy`,
+//! Reading order: `values`, `bases`, `lines` (with `jumps`), `stretches`, `tail_copy`,
 //! `walk`, `pairs`, `inclusion`, `order`, `indexed`, `satisfaction`, `solver`; `known_outlives`,
 //! `fault_check`. What owners use beside the solver is in `frontiers`. The definitions are in
 //! specs/.
@@ -14,7 +14,6 @@ mod inclusion;
 mod indexed;
 mod jumps;
 mod known_outlives;
-mod line_ends;
 mod lines;
 mod order;
 mod pairs;

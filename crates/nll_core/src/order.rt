@@ -35,7 +35,12 @@ pub fn order_of(
 {
     let regions = problem.regions();
     let starts = starts_of(alloc, index.constraints(), regions)?;
-    let mut descent = descent_of(alloc, starts.as_slice(), regions)?;
+    let mut descent = Descent {
+        next: Vec::from_slice(alloc, starts.as_slice())?,
+        seen: vec![in alloc; false; regions as usize]?,
+        path: Vec::new(alloc),
+        left: Vec::new(alloc),
+    };
     for root in 0..regions {
         enter(&mut descent, regions, root)?;
         descend(
@@ -62,21 +67,6 @@ fn starts_of(alloc: Global, constraints: &[Constraint], regions: u32) -> Result<
         starts[region + 1] = starts[region].max(starts[region + 1]);
     }
     Ok(starts)
-}
-
-// A search that has seen nothing.
-fn descent_of(alloc: Global, starts: &[usize], regions: u32) -> Result<Descent, Memory>
-    requires { length starts.now ≡ regions + 1 }
-    ensures { IfOk result (λ d. IsDescent regions d) }
-{
-    let next = Vec::from_slice(alloc, starts)?;
-    let seen = vec![in alloc; false; regions as usize]?;
-    Ok(Descent {
-        next,
-        seen,
-        path: Vec::new(alloc),
-        left: Vec::new(alloc),
-    })
 }
 
 // Goes from the regions that were entered to all that are filled from them, also indirectly.

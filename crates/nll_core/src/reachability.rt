@@ -109,5 +109,6 @@ pub fn reached_from<S: ElementSet>(
         return Ok(Vec::new(alloc));
     }
     let search = search_from::<Inside<S>, S>(alloc, &Inside { graph, set }, at)?;
-    Ok(search.into_list())
+    let (_, reached) = search.into_parts();
+    Ok(reached)
 }

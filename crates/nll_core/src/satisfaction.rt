@@ -1,7 +1,6 @@
 //! How the constraints of a pair of regions are met.
 
-ghost use Rattle.std.specs.Prelude.{◌≡◌, ℕ, ◌≤◌, ◌<◌, true, false, Contains, length};
-ghost use Rattle.std.specs.Prelude.{IfOk, OnOk};
+ghost use Rattle.std.specs.Prelude.{◌≡◌, ℕ, ◌≤◌, ◌<◌, true, false, Contains, length, IfOk, OnOk};
 ghost use Rattle.nll_sets.specs.Runs.{first_of, last_of, IsInRuns};
 ghost use Rattle.nll_problem.specs.Graph.{element_count};
 ghost use Rattle.nll_problem.specs.declared.constraint.Constraint as spec;
@@ -103,27 +102,12 @@ fn fill_whole(
     ensures walk { walk.new.reached ≡ walk.old.reached }
 {
     if is_empty(values.set(sup)) {
-        return copy_whole(values, sub, sup);
+        let new = !is_empty(values.set(sub));
+        values.copy(sub, sup)?;
+        return Ok(new);
     }
     walk.list(values.set(sub))?;
     fill_all(values, sup, walk.todo.as_slice())
-}
-
-// Gives a region that holds nothing a copy of another one. Returns whether that one holds
-// something.
-fn copy_whole(values: &mut Values, sub: RegionId, sup: RegionId) -> Result<bool, Memory>
-    requires sub { sub < length values.old }
-    requires sup { sup < length values.old }
-    requires widths { length (set_of values.old sub) ≡ length (set_of values.old sup) }
-    requires nothing { (e : ℕ) → IsHeld values.old sup e → ⊥ }
-    ensures gains { OnOk result
-        (Gains (λ r e. (r ≡ sup) × IsHeld values.old sub e) values.old values.new) }
-    ensures covers { OnOk result ((e : ℕ) → IsHeld values.old sub e → IsHeld values.new sup e) }
-    ensures tells { IfOk result (λ new. Tells new values.old values.new) }
-{
-    let new = !is_empty(values.set(sub));
-    values.copy(sub, sup)?;
-    Ok(new)
 }
 
 /// Whether a set holds nothing.

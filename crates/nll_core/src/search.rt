@@ -107,13 +107,6 @@ impl<R: ElementSet> Search<R> {
         self.list[place]
     }
 
-    /// The set of the elements that were reached.
-    pub fn into_set(self) -> R
-        ensures { R.flags result ≡ self.reached }
-    {
-        self.reached
-    }
-
     /// The set and the list.
     pub fn into_parts(self) -> (R, Vec<Element>)
         ensures set { R.flags result.0 ≡ self.reached }
@@ -121,13 +114,6 @@ impl<R: ElementSet> Search<R> {
     {
         let Search { reached, list } = self;
         (reached, list)
-    }
-
-    /// The list of the elements that were reached, each once.
-    pub fn into_list(self) -> Vec<Element>
-        ensures { result.items ≡ self.list }
-    {
-        self.list
     }
 }
 

@@ -4,8 +4,7 @@
 //! not yet followed as a list.
 
 ghost use Rattle.std.specs.Prelude.{◌≡◌, ◌⊎◌, ◌↔◌, ℕ, ◌≤◌, ◌<◌, true, Contains, length, []};
-ghost use Rattle.std.specs.Prelude.{List, Bool};
-ghost use Rattle.std.specs.Prelude.{IfOk, IfErr, OnOk};
+ghost use Rattle.std.specs.Prelude.{List, Bool, IfOk, IfErr, OnOk};
 ghost use Rattle.nll_problem.specs.Walks.{Reaches};
 ghost use Rattle.nll_sets.specs.Runs.{IsInRuns, IsRunFrom, IsWithin};
 ghost use Rattle.nll_core.specs.Lines.{IsJump};
@@ -130,14 +129,6 @@ fn go_to(
     Ok(known)
 }
 
-// Whether a run has a point.
-#[inline]
-fn has(run: Run, point: u32) -> bool
-    ensures { (result ≡ true) ↔ IsWithin run point }
-{
-    run.first <= point && point <= run.last
-}
-
 // Enters the targets of the jumps from the points of a reached run. Returns whether one of these is
 // a return point.
 fn follow(
@@ -166,7 +157,7 @@ fn follow(
     for target in lines.jumps(run) {
         if *target >= points {
             ends = true;
-        } else if !has(known, *target) {
+        } else if *target < known.first || known.last < *target {
             known = go_to(lines, sub, near, reached, todo, known, *target)?;
         }
     }

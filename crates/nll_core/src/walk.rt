@@ -1,15 +1,12 @@
 //! What constraints of a pair of regions that hold at points ask for, by walks from these.
 
-ghost use Rattle.std.specs.Prelude.{◌≡◌, ℕ, ◌≤◌, ◌<◌, false, Contains, length, []};
-ghost use Rattle.std.specs.Prelude.{OnOk, IfOk};
-ghost use Rattle.std.specs.Prelude.{IfSome, IfNone};
-ghost use Rattle.nll_sets.specs.ElementSet.{flag};
+ghost use Rattle.std.specs.Prelude.{◌≡◌, ℕ, ◌≤◌, ◌<◌, Contains, length, OnOk, IfOk, IfSome, IfNone};
 ghost use Rattle.nll_problem.specs.Graph.{element_count};
 ghost use Rattle.nll_problem.specs.declared.constraint.Constraint as spec;
 ghost use Rattle.nll_core.specs.Search.{IsIn};
-ghost use Rattle.nll_core.specs.Walking.{Grows, IsLineClosed, PointsAscend};
-ghost use Rattle.nll_core.specs.Walking.{AreAskedOf, AreAtPoints, IsLedFrom, AreLedFrom};
-ghost use Rattle.nll_core.specs.Walking.{NoneEverywhere, NoneInside, constraint_at, point_of};
+ghost use Rattle.nll_core.specs.Walking.{Grows, IsLineClosed, PointsAscend, AreAskedOf};
+ghost use Rattle.nll_core.specs.Walking.{AreAtPoints, IsLedFrom, NoneEverywhere, NoneInside};
+ghost use Rattle.nll_core.specs.Walking.{constraint_at, point_of};
 ghost use Rattle.nll_sets.specs.Runs.{first_of, last_of, IsRunFrom, IsWithin, MakeUp};
 
 use crate::lines::Lines;
@@ -52,7 +49,13 @@ impl Walk {
     {
         self.reached.clear();
         self.todo.clear();
-        reach_all(lines, sub, &mut self.reached, &mut self.todo, pair)
+        let points = lines.points();
+        enter_all(lines, sub, &mut self.reached, &mut self.todo, pair)?;
+        let ends = spread(lines, sub, &mut self.reached, &mut self.todo)?;
+        if !ends {
+            return Ok(());
+        }
+        fill_from(sub, &mut self.reached, &mut self.todo, points)
     }
 
     /// Lists the runs of a set, instead of the stretches of a walk.
@@ -80,32 +83,6 @@ fn point_at(pair: &[Constraint], place: usize) -> u32
         At::All => unreachable!(),
         At::Point(point) => point,
     }
-}
-
-// Fills an empty set with what walks inside `sub` reach from the points of constraints.
-fn reach_all(
-    lines: &Lines,
-    sub: &RunSet,
-    reached: &mut RunSet,
-    todo: &mut Vec<Run>,
-    pair: &[Constraint],
-) -> Result<(), Memory>
-    requires sub_width { length sub.now ≡ element_count lines.now }
-    requires width { length reached.old ≡ element_count lines.now }
-    requires points { AreAtPoints lines.now pair.now }
-    requires ascending { PointsAscend pair.now }
-    requires nothing { (x : ℕ) → flag reached.old x ≡ false }
-    requires no_list { todo.old.items ≡ [] }
-    ensures width { OnOk result (length reached.new ≡ length reached.old) }
-    ensures reached { OnOk result (AreLedFrom lines.now sub.now pair.now reached.new) }
-{
-    let points = lines.points();
-    enter_all(lines, sub, reached, todo, pair)?;
-    let ends = spread(lines, sub, reached, todo)?;
-    if !ends {
-        return Ok(());
-    }
-    fill_from(sub, reached, todo, points)
 }
 
 // Enters the points of the constraints that are in `sub`, except those that an earlier entry

@@ -147,10 +147,6 @@ constraint_early : (names : List Name) (f : Form) → group f ≤ 4 → constrai
 constraint_early names (constraint a b p) h = absurd (omega arith)
 constraint_early names _ h = refl
 
-universal_early : (f : Form) → group f ≤ 1 → universal_in f ≡ None
-universal_early (universal a) h = absurd (omega arith)
-universal_early _ h = refl
-
 none_yet : (forms : List Form) → reached forms ≡ 0 → forms ≡ []
 none_yet [] e = refl
 none_yet (f ∷ forms) e = absurd (no_group f (omega arith))
@@ -474,9 +470,3 @@ adds_said forms s t (end) h fine a =
     (a.group ∙ omega (arith, reached_push forms (end))) a.takes.0 refl refl refl (edges_kept forms (end) s h refl)
     (returns_kept forms (end) s h refl)
     (bases_kept forms (end) s h refl) (constraints_kept forms (end) s h refl) (outlives_kept forms (end) s h refl)
-
--- what is said is the same as itself
-pub same_itself : (s : Said) → SameSaid s s
-same_itself s =
-    let same = same_problem s.problem s.problem refl in
-    record { reached = refl; names = refl; problem = same; edge_count = refl; constraint_count = refl }

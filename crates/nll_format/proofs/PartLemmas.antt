@@ -8,7 +8,7 @@ use Rattle.std.proofs.lemmas.Bool.{cases_lt, false≢true}
 use Rattle.std.proofs.lemmas.Fmt.{decimal_is_IsNumeral}
 use Rattle.std.proofs.lemmas.Slice.Eq.{bytes_eq-Decides}
 use Rattle.nll_text.specs.Lines.{is_skipped}
-use Rattle.nll_text.specs.Tokens.{Token, word, IsGap}
+use Rattle.nll_text.specs.Tokens.{Token, word}
 use Rattle.nll_text.specs.LineTokens.{tokens_in}
 use Rattle.nll_text.specs.Grammars.{HasNone, IsNotNext, numbers, regions}
 use Rattle.nll_text.proofs.DecisionLemmas.{same_first, same_rest, tokens_or_not}
@@ -33,10 +33,6 @@ in_spell bytes these h =
     record { made = in_make (map token_of these) bytes h.same (real_parts these); small = h.small }
 
 -- ---- one part after another
-
--- blanks spell nothing
-pub spells_none : (bytes : List ℕ) → IsGap bytes → Spells bytes []
-spells_none bytes gap = record { made = gap; small = tt }
 
 -- a part in front of what the rest spells
 pub spells_more : (bytes rest : List ℕ) (p : Part) (these : List Part) → tokens_in bytes ≡ token_of p ∷ tokens_in rest

@@ -1,7 +1,6 @@
 //! Reading the lines of a text after its header, one after another.
 
-ghost use Rattle.std.specs.Prelude.{◌≡◌, ◌+◌, ◌<◌, ◌≤◌, ◌^◌, [], List, length};
-ghost use Rattle.std.specs.Prelude.{OnOk, IfOk, IfErr};
+ghost use Rattle.std.specs.Prelude.{◌≡◌, ◌+◌, ◌<◌, ◌≤◌, ◌^◌, [], List, length, OnOk, IfOk, IfErr};
 ghost use Rattle.nll_text.specs.Lines.{lines_left, lines_of};
 ghost use Rattle.nll_format.specs.Text.{Says};
 ghost use Rattle.nll_format.specs.Lines.{Advances, AreShort, RefusesBody, RefusesLeft};

@@ -1,8 +1,7 @@
 //! The names of regions, in the order in which they are declared.
 
 ghost use Rattle.std.specs.Prelude.{◌≡◌, ◌<◌, ◌++◌, ◌∷◌, [], length, codes, position, IfOk};
-ghost use Rattle.std.specs.Prelude.{◌↔◌, IsTrue};
-ghost use Rattle.std.specs.Prelude.{MatchOption, OnOk, OnErr, slice_index_or};
+ghost use Rattle.std.specs.Prelude.{◌↔◌, IsTrue, MatchOption, OnOk, OnErr, slice_index_or};
 ghost use Rattle.std.specs.Str.{bytes_eq, IsUtf8};
 ghost use Rattle.nll_format.specs.Names.{number_of};
 

@@ -1,7 +1,6 @@
 //! Reading a whole schedule.
 
-ghost use Rattle.std.specs.Prelude.{◌≡◌, IfOk, IfErr, MatchResult, None, Some, true, false};
-ghost use Rattle.std.specs.Prelude.{nat_lt};
+ghost use Rattle.std.specs.Prelude.{◌≡◌, IfOk, IfErr, MatchResult, None, Some, true, false, nat_lt};
 ghost use Rattle.nll_format.specs.Text.{IsFault, IsRefusal};
 ghost use Rattle.nll_lists.specs.ScheduleLines.{first_part, view};
 ghost use Rattle.nll_lists.specs.ScheduleText.{event_fault, events, schedule, Means};

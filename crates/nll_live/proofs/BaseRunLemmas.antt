@@ -12,7 +12,6 @@ use Rattle.nll_sets.specs.declared.run.Run.{Run}
 use Rattle.nll_problem.specs.BaseRuns.{IsInBaseRun, IsInBaseRuns}
 use Rattle.nll_live.specs.BaseRuns.{Gains, GetsBaseRun, ComesNext, base_run_cmp}
 use Rattle.nll_problem.specs.declared.base_run.BaseRun.{BaseRun}
-use Rattle.nll_live.proofs.GatheringLemmas.{contains_none}
 
 -- ---- what runs cover
 
@@ -72,16 +71,6 @@ runs_step region runs n old mid s of begins ends f =
     ))
     (gains_append (λ r p. (region ≡ r) × IsInFirst runs n p) (IsInBaseRun s) old mid (mid ++ s ∷ []) f
     (gains_one s mid))
-
-pub runs_first : (region : ℕ) (runs : List Run) (old : List BaseRun)
-    → Gains (λ r p. (region ≡ r) × IsInFirst runs 0 p) old old
-runs_first region runs old =
-    gains_none (λ r p. (region ≡ r) × IsInFirst runs 0 p) old (λ r p h. absurd (omega (arith, h.1.1)))
-
--- the runs of one region more
-pub regions_first : (regions : List ℕ) (kind : ℕ → Type 0) (old : List BaseRun)
-    → Gains (λ r p. Contains (take 0 regions) r × kind p) old old
-regions_first regions kind old = gains_none (λ r p. Contains [] r × kind p) old (λ r p h. contains_none r h.0)
 
 pub regions_step : (regions : List ℕ) (kind : ℕ → Type 0) (n e : ℕ) (old mid new : List BaseRun) → n < length regions
     → e ≡ get_or regions n e → Gains (λ r p. Contains (take n regions) r × kind p) old mid

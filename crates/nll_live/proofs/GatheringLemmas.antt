@@ -86,11 +86,6 @@ lists_as a b p old new same f = record {
   );
 }
 
--- a loop over variables: none yet, and one more
-pub lists_first : (variables : List ℕ) (p : ℕ) (lists : List (List ℕ))
-    → Lists (Contains (take 0 variables)) p lists lists
-lists_first variables p lists = lists_none (Contains []) p lists (λ x h. contains_none x)
-
 pub lists_step : (variables : List ℕ) (k p : ℕ) (old mid new : List (List ℕ)) → k < length variables
     → Lists (Contains (take k variables)) p old mid → Lists (λ x. x ≡ get_or variables k 0) p mid new
     → Lists (Contains (take (k + 1) variables)) p old new

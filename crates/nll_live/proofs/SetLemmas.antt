@@ -1,5 +1,5 @@
 -- Sets of points, one a variable.
-use Rattle.std.proofs.Common.{◌≡◌, ◌↔◌, ℕ, ◌+◌, ◌<◌, ◌≤◌, Bool, true, false, List, [], ◌∷◌, ◌++◌, Contains, length, get_or, replicate, take, Result, Ok, Err, refl, sym, ap, ◌∙◌, subst, ⊎_elim, arith, length-append}
+use Rattle.std.proofs.Common.{◌≡◌, ◌↔◌, ℕ, ◌+◌, ◌<◌, ◌≤◌, Bool, true, false, List, [], ◌∷◌, ◌++◌, Contains, length, get_or, replicate, take, Result, Ok, Err, sym, ap, ◌∙◌, subst, ⊎_elim, arith, length-append}
 use Rattle.std.specs.Prelude.{slice_index_or, IfOk, OnOk}
 use Rattle.std.proofs.lemmas.Bool.{cases_lt, false≢true}
 use Rattle.std.proofs.lemmas.List.{length-replicate, get_or-replicate, get_or_append_left, get_or_push, get_or_past, take_more}
@@ -83,13 +83,6 @@ pub record AreSetsUpTo (width : ℕ) (holds : ℕ → ℕ → Type 0) (n : ℕ) 
   pub wide : (x : ℕ) → x < n → length (slice_index_or sets x []) ≡ width
   pub each : (x p : ℕ) → x < n → IsIn sets x p ↔ holds x p
 
-pub sets_first : (width : ℕ) (holds : ℕ → ℕ → Type 0) → AreSetsUpTo width holds 0 []
-sets_first width holds = record {
-  counted = refl;
-  wide = λ x h. absurd (omega (arith, h));
-  each = λ x p h. absurd (omega (arith, h));
-}
-
 pub sets_step : (width : ℕ) (holds : ℕ → ℕ → Type 0) (n : ℕ) (sets : List (List Bool)) (new : List Bool)
     → AreSetsUpTo width holds n sets → length new ≡ width → ((p : ℕ) → (flag new p ≡ true) ↔ holds n p)
     → AreSetsUpTo width holds (n + 1) (sets ++ new ∷ [])
@@ -107,14 +100,6 @@ sets_step width holds n sets new are size is = record {
       subst (λ s. (flag s p ≡ true) ↔ holds x p) (sym (get_or_push sets new [] x (omega (arith, high, h, are.counted))))
       (subst (λ y. (flag new p ≡ true) ↔ holds y p) (sym same) (is p)))
       (cases_lt x n);
-}
-
-pub sets_done : (body : BodyText) (holds : ℕ → ℕ → Type 0) (sets : List (List Bool))
-    → AreSetsUpTo (length body.points) holds (length body.variables) sets → AreSetsOf body holds sets
-sets_done body holds sets are = record {
-  counted = are.counted;
-  width = λ x h. are.wide x (omega (arith, h, are.counted));
-  each = λ x p h. are.each x p (omega (arith, h, are.counted));
 }
 
 -- the lists have just the ends of the walks

@@ -7,8 +7,7 @@ ghost use Rattle.std.specs.List.Sorted.{IsSorted};
 ghost use Rattle.nll_problem.specs.Problem.{IsEarlier};
 ghost use Rattle.nll_sets.specs.Runs.{IsInRuns, last_of};
 ghost use Rattle.nll_problem.specs.BaseRuns.{IsInBaseRuns};
-ghost use Rattle.nll_live.specs.BaseRuns.{ComesNext, Gains, GetsPoints, GetsBaseRun};
-ghost use Rattle.nll_live.specs.BaseRuns.{AreSmall, base_run_cmp};
+ghost use Rattle.nll_live.specs.BaseRuns.{AreSmall, Gains, GetsPoints, base_run_cmp};
 
 use nll_problem::{BaseRun, RegionId};
 use nll_sets::{Memory, Run};
@@ -75,27 +74,11 @@ fn push_pairs(pairs: &mut Vec<(RegionId, u32)>, base_runs: &[BaseRun]) -> Result
     ensures ascending { OnOk result (AllPairs IsEarlier pairs.new.items) }
 {
     for base_run in base_runs {
-        push_base_run(pairs, *base_run)?;
+        // Those of its points that the list has come before the others.
+        let next = next_point(pairs.as_slice(), base_run.region);
+        let first = base_run.first.max(next);
+        push_points(pairs, base_run.region, first, base_run.end)?;
     }
-    Ok(())
-}
-
-// Appends those pairs of a run that aren't in the list.
-fn push_base_run(pairs: &mut Vec<(RegionId, u32)>, base_run: BaseRun) -> Result<(), Memory>
-    requires ascending { AllPairs IsEarlier pairs.old.items }
-    requires small { AreSmall pairs.old.items }
-    requires next { ComesNext base_run pairs.old.items }
-    ensures each { OnOk result (GetsBaseRun base_run pairs.old.items pairs.new.items) }
-    ensures ascending { OnOk result (AllPairs IsEarlier pairs.new.items) }
-    ensures small { OnOk result (AreSmall pairs.new.items) }
-{
-    let next = next_point(pairs.as_slice(), base_run.region);
-    push_points(
-        pairs,
-        base_run.region,
-        base_run.first.max(next),
-        base_run.end,
-    )?;
     Ok(())
 }
 

@@ -1,9 +1,9 @@
 //! The chains of a body's points: a point is in one chain with the point before it where that is
 //! its only predecessor.
 
-ghost use Rattle.std.specs.Prelude.{◌≡◌, ◌<◌, ◌≤◌, ℕ, true, length, IfOk};
+ghost use Rattle.std.specs.Prelude.{◌≡◌, ◌<◌, ◌≤◌, IfOk};
 ghost use Rattle.nll_problem.specs.Graph.{IsNext};
-ghost use Rattle.nll_live.specs.Chains.{AreStarts, FollowsAlone, IsChain};
+ghost use Rattle.nll_live.specs.Chains.{AreStarts, IsChain};
 
 use nll_problem::Predecessors;
 use nll_sets::Memory;
@@ -36,22 +36,10 @@ fn start_of(previous: &Predecessors<'_>, starts: &[u32], point: u32) -> u32
     ensures before { result ≤ point }
     ensures chain { IsChain (IsNext previous.now) result point }
 {
-    if follows_alone(previous, point) {
+    let points = previous.previous_of(point);
+    if points.len() == 1 && point > 0 && points[0] == point - 1 {
         starts[point as usize - 1]
     } else {
         point
     }
-}
-
-// Whether the point before a point alone goes on to it.
-fn follows_alone(previous: &Predecessors<'_>, point: u32) -> bool
-    requires { point < previous.now.points }
-    ensures some { result ≡ true → 0 < point }
-    ensures alone { result ≡ true → FollowsAlone (IsNext previous.now) point }
-{
-    let points = previous.previous_of(point);
-    if points.len() != 1 {
-        return false;
-    }
-    point > 0 && points[0] == point - 1
 }

@@ -3,7 +3,6 @@
 ghost use Rattle.std.specs.Prelude.{◌≡◌, ◌↔◌, ◌+◌, ◌<◌, ◌≤◌, ℕ, [], length, map, slice_index, true};
 ghost use Rattle.std.specs.Prelude.{Contains, IfOk, OnOk};
 ghost use Rattle.nll_body.specs.Bodies.{IsGraphOf};
-ghost use Rattle.nll_problem.specs.Rows.{row_at};
 ghost use Rattle.nll_sets.specs.ElementSet.{flag};
 ghost use Rattle.nll_live.specs.Gathering.{IsListed};
 ghost use Rattle.nll_live.specs.Kinds.{KeepsAt};
@@ -169,22 +168,6 @@ pub(crate) fn find_set(
     };
     room.lows.clear();
     search_back(room, variable + 1, &search, list)?;
-    set_found(alloc, points, room)
-}
-
-// The set of the points that lie between those of the room and their heights.
-fn set_found(alloc: Global, points: u32, room: &mut Room) -> Result<RunSet, Memory>
-    requires tall { length room.old.heights.items ≡ points }
-    requires proper { (low : ℕ) → Contains room.old.lows.items low
-        → low ≤ slice_index room.old.heights.items low }
-    requires within { (p : ℕ) → IsCovered room.old.heights.items room.old.lows.items p
-        → p < points }
-    ensures marks { room.new.marks.items ≡ room.old.marks.items }
-    ensures heights { room.new.heights.items ≡ room.old.heights.items }
-    ensures width { IfOk result (λ set. length set ≡ points) }
-    ensures each { IfOk result (λ set. (p : ℕ) → (flag set p ≡ true)
-        ↔ IsCovered room.old.heights.items room.old.lows.items p) }
-{
     // Inserting at the end of a set costs least.
     room.lows.sort_unstable();
     set_of(alloc, points, room.heights.as_slice(), room.lows.as_slice())

@@ -1,8 +1,7 @@
 //! The points of a body by the variables that they use, drop or define.
 
-ghost use Rattle.std.specs.Prelude.{◌≡◌, ◌+◌, ◌<◌, ℕ, [], length, map, replicate, Contains, IfOk};
-ghost use Rattle.std.specs.Prelude.{OnOk};
-ghost use Rattle.nll_live.specs.Live.{DefinesAt, DropsAt, UsesAt};
+ghost use Rattle.std.specs.Prelude.{◌≡◌, ◌+◌, [], length, map, replicate, Contains, IfOk, OnOk};
+ghost use Rattle.nll_live.specs.Live.{DropsAt, UsesAt};
 ghost use Rattle.nll_live.specs.Gathering.{AreListed, AscendBelow, Lists};
 ghost use Rattle.nll_live.specs.Lows.{AreDefined};
 
@@ -76,7 +75,9 @@ fn list_uses(lists: &mut Vec<Vec<u32>>, body: &Body, used: &mut Vec<u32>) -> Res
         (length body.now.points) (map (λ list. list.items) lists.new.items)) }
 {
     for point in 0..body.points() {
-        list_uses_of(lists, body, used, point)?;
+        used.clear();
+        body.uses(point, used)?;
+        list_at_all(lists, used.as_slice(), point)?;
     }
     Ok(())
 }
@@ -88,7 +89,10 @@ fn list_drops(lists: &mut Vec<Vec<u32>>, body: &Body) -> Result<(), Memory>
         (length body.now.points) (map (λ list. list.items) lists.new.items)) }
 {
     for point in 0..body.points() {
-        list_drop_of(lists, body, point)?;
+        let Some(variable) = body.drops(point) else {
+            continue;
+        };
+        list_at(lists, variable, point)?;
     }
     Ok(())
 }
@@ -99,49 +103,9 @@ fn list_definitions(lists: &mut Vec<Vec<u32>>, body: &Body) -> Result<(), Memory
     ensures { OnOk result (AreDefined body.now (map (λ list. list.items) lists.new.items)) }
 {
     for point in 0..body.points() {
-        list_definition_of(lists, body, point)?;
-    }
-    Ok(())
-}
-
-// Adds a point to the lists of the variables that it uses.
-fn list_uses_of(
-    lists: &mut Vec<Vec<u32>>,
-    body: &Body,
-    used: &mut Vec<u32>,
-    point: u32,
-) -> Result<(), Memory>
-    requires { point < length body.now.points }
-    ensures { OnOk result (Lists (λ x. UsesAt body.now x point) point
-        (map (λ list. list.items) lists.old.items) (map (λ list. list.items) lists.new.items)) }
-{
-    used.clear();
-    body.uses(point, used)?;
-    list_at_all(lists, used.as_slice(), point)?;
-    Ok(())
-}
-
-// Adds a point to the list of the variable that it drops.
-fn list_drop_of(lists: &mut Vec<Vec<u32>>, body: &Body, point: u32) -> Result<(), Memory>
-    requires { point < length body.now.points }
-    ensures { OnOk result (Lists (λ x. DropsAt body.now x point) point
-        (map (λ list. list.items) lists.old.items) (map (λ list. list.items) lists.new.items)) }
-{
-    if let Some(variable) = body.drops(point) {
-        list_at(lists, variable, point)?;
-    }
-    Ok(())
-}
-
-// Adds a point to the list of the variable that it defines.
-fn list_definition_of(lists: &mut Vec<Vec<u32>>, body: &Body, point: u32) -> Result<(), Memory>
-    requires { point < length body.now.points }
-    ensures lists { OnOk result (Lists (λ x. DefinesAt body.now x point) point
-        (map (λ list. list.items) lists.old.items) (map (λ list. list.items) lists.new.items)) }
-    ensures ascending { OnOk result (AscendBelow point (map (λ list. list.items) lists.old.items)
-        → AscendBelow (point + 1) (map (λ list. list.items) lists.new.items)) }
-{
-    if let Some(variable) = body.defines(point) {
+        let Some(variable) = body.defines(point) else {
+            continue;
+        };
         list_at(lists, variable, point)?;
     }
     Ok(())

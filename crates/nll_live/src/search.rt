@@ -5,11 +5,11 @@
 //! all points between are reached. One room serves all searches: a mark is the turn of its search,
 //! a number of its own.
 
-ghost use Rattle.std.specs.Prelude.{◌≡◌, ◌≢◌, ◌↔◌, ◌<◌, ◌≤◌, ℕ, [], length, slice_index, AllPairs};
-ghost use Rattle.std.specs.Prelude.{Contains, IfOk, IsTrue, OnOk, max, replicate, slice_set};
+ghost use Rattle.std.specs.Prelude.{◌≡◌, ◌↔◌, ◌<◌, ◌≤◌, ℕ, [], length, slice_index};
+ghost use Rattle.std.specs.Prelude.{Contains, IfOk, IsTrue, OnOk, replicate};
 ghost use Rattle.nll_live.specs.Live.{DefinesAt, GoesOnUndefined, IsLive};
 ghost use Rattle.nll_live.specs.Searches.{IsLowIn, IsSearch};
-ghost use Rattle.nll_live.specs.Marks.{IsCovered, IsMarked};
+ghost use Rattle.nll_live.specs.Marks.{IsCovered};
 ghost use Rattle.nll_live.specs.Rooms.{GetsReached, HasFound, HasReached};
 
 use crate::lows::low_of;
@@ -110,52 +110,11 @@ fn visit_previous(room: &mut Room, turn: u32, search: &Search<'_>, point: u32) -
         → HasReached room.new turn p) }
 {
     let points = search.previous.previous_of(point);
-    visit_all(room, turn, search, points)?;
-    Ok(())
-}
-
-// Visits each of the points that doesn't define the variable.
-fn visit_all(room: &mut Room, turn: u32, search: &Search<'_>, points: &[u32]) -> Result<(), Memory>
-    requires search { IsSearch search.now }
-    requires some { 0 < turn }
-    requires found { HasFound room.old turn }
-    requires width { length room.old.marks.items ≡ length search.now.body.now.points }
-    requires points { (k : ℕ) → k < length points.now
-        → slice_index points.now k < length search.now.body.now.points }
-    ensures reaches { OnOk result (GetsReached (λ low p. Contains points.now p
-        × (DefinesAt search.now.body.now search.now.variable p → ⊥)
-        × IsLowIn search.now p low) turn room.old room.new) }
-    ensures found { OnOk result (HasFound room.new turn) }
-    ensures all { OnOk result ((p : ℕ) → Contains points.now p
-        → (DefinesAt search.now.body.now search.now.variable p → ⊥) → HasReached room.new turn p) }
-{
-    for point in points {
-        visit_undefined(room, turn, search, *point)?;
-    }
-    Ok(())
-}
-
-// Visits a point, unless it defines the variable.
-fn visit_undefined(
-    room: &mut Room,
-    turn: u32,
-    search: &Search<'_>,
-    point: u32,
-) -> Result<(), Memory>
-    requires search { IsSearch search.now }
-    requires some { 0 < turn }
-    requires found { HasFound room.old turn }
-    requires width { length room.old.marks.items ≡ length search.now.body.now.points }
-    requires point { point < length search.now.body.now.points }
-    ensures reaches { OnOk result (GetsReached (λ low p. (p ≡ point)
-        × (DefinesAt search.now.body.now search.now.variable p → ⊥)
-        × IsLowIn search.now p low) turn room.old room.new) }
-    ensures found { OnOk result (HasFound room.new turn) }
-    ensures all { OnOk result ((DefinesAt search.now.body.now search.now.variable point → ⊥)
-        → HasReached room.new turn point) }
-{
-    if !defines(search.body, search.variable, point) {
-        visit(room, turn, search, point)?;
+    for before in points {
+        if defines(search.body, search.variable, *before) {
+            continue;
+        }
+        visit(room, turn, search, *before)?;
     }
     Ok(())
 }
@@ -185,34 +144,10 @@ fn visit(room: &mut Room, turn: u32, search: &Search<'_>, point: u32) -> Result<
 {
     let low = low_of(search.starts[point as usize], search.definitions, point);
     if room.marks[low as usize] == turn {
-        raise(&mut room.heights, low, point);
-        Ok(())
-    } else {
-        mark(room, turn, low, point)
+        let height = room.heights[low as usize];
+        room.heights[low as usize] = height.max(point);
+        return Ok(());
     }
-}
-
-// Raises the height of a point to another one, where it is lower.
-fn raise(heights: &mut Vec<u32>, low: u32, point: u32)
-    requires { low < length heights.old.items }
-    ensures { heights.new.items
-        ≡ slice_set heights.old.items low (max (slice_index heights.old.items low) point) }
-{
-    let height = heights[low as usize];
-    heights[low as usize] = height.max(point);
-}
-
-// Marks a point, sets its height and adds it to the list.
-fn mark(room: &mut Room, turn: u32, low: u32, point: u32) -> Result<(), Memory>
-    requires found { HasFound room.old turn }
-    requires low { low < length room.old.marks.items }
-    requires new { IsMarked room.old.marks.items turn low → ⊥ }
-    requires before { low ≤ point }
-    ensures reaches { OnOk result
-        (GetsReached (λ k p. (k ≡ low) × (p ≡ point)) turn room.old room.new) }
-    ensures found { OnOk result (HasFound room.new turn) }
-    ensures all { OnOk result (HasReached room.new turn point) }
-{
     room.lows.push(low)?;
     room.marks[low as usize] = turn;
     room.heights[low as usize] = point;

@@ -1,14 +1,12 @@
 -- Lines and their parts.
 use Rattle.std.proofs.Common.{◌≡◌, ℕ, Bool, true, false, List, [], ◌∷◌, map, refl, sym, ap, ◌∙◌, subst, Option, Some, None}
 use Rattle.std.specs.List.{AllByRecursion}
-use Rattle.std.specs.Prelude.{codes}
-use Rattle.std.specs.Prelude.{Result, Ok, Err, IfOk, MatchOption}
+use Rattle.std.specs.Prelude.{codes, Result, Ok, Err, IfOk, MatchOption}
 use Rattle.std.proofs.lemmas.Bool.{false≢true}
 use Rattle.nll_text.specs.Tokens.{Token, word, sign}
 use Rattle.nll_types.specs.Places.{PlacePath}
-use Rattle.nll_types.specs.Operands.{Operand, constant, copied, moved}
+use Rattle.nll_types.specs.Operands.{Operand, constant, copied, moved, operand_of}
 use Rattle.nll_mir_grammar.specs.WrittenTypes.{Name, WrittenType, HasNames, IsFree}
-use Rattle.nll_types.specs.Operands.{operand_of}
 use Rattle.nll_types.specs.declared.operand.Operand.{Operand as Written}
 use Rattle.nll_mir_grammar.specs.TypeTexts.{written}
 use Rattle.nll_mir_grammar.specs.declared.type_text.TypePiece.{TypePiece}
@@ -115,16 +113,6 @@ read_behind_place ts mid p form rest (Ok None) b h =
     pair_none_behind places (behind (sign 61) rights) places_one rights_join ts mid p b h
 read_behind_place ts mid p form rest (Ok (Some x)) b h = assignment_line ts mid h.0 p (form x) (rest x) b h.1 h.2
 read_behind_place ts mid p form rest (Err x) b h = tt
-
--- an operand where no other right side begins
-pub read_value_side : {R E : Type 0} (ts : List Token) (p : PlacePath) (form : R → Form) (rest : R → List Token)
-    (r : Result (Option R) E) → IsNotNext (sign 38) ts → IsNotNext (word (codes "make")) ts
-    → IsNotNext (word (codes "call")) ts
-    → IfOk r (λ o. MatchOption o (HasNone operands ts) (λ x. IsRightSide ts p (form x) (rest x)))
-    → IfOk r (λ o. MatchOption o (HasNone rights ts) (λ x. IsRightSide ts p (form x) (rest x)))
-read_value_side ts p form rest (Ok None) a b d h = no_value ts a b d h
-read_value_side ts p form rest (Ok (Some x)) a b d h = h
-read_value_side ts p form rest (Err x) a b d h = tt
 
 -- a right side behind its first token
 pub read_side_behind : {R E : Type 0} (ts after : List Token) (t : Token) (p : PlacePath) (form : R → Form)
@@ -306,13 +294,3 @@ pub no_form_in : (version : Version) (ts : List Token) (g : Form) → IsSpelled 
     → (f : Form) → IsSpelledIn version ts f → ⊥
 no_form_in version ts g s other f h =
     false≢true (sym other ∙ subst (λ z. is_of_version version z ≡ true) (one_form_lem ts f g h.0 s) h.1)
-
--- a line that is kept where it is of the version is the one that the tokens spell there
-pub line_in_version : (version : Version) (ts : List Token) (line : Line) (r : Option Line)
-    → IsSpelled ts (form_of line)
-    → MatchOption r (is_of_version version (form_of line) ≡ false)
-    (λ kept. (kept ≡ line) × (is_of_version version (form_of kept) ≡ true))
-    → MatchOption r ((f : Form) → IsSpelledIn version ts f → ⊥)
-    (λ kept. IsSpelledIn version ts (form_of kept))
-line_in_version version ts line None s h = no_form_in version ts (form_of line) s h
-line_in_version version ts line (Some kept) s h = (subst (λ (l : Line). IsSpelled ts (form_of l)) (sym h.0) s, h.1)

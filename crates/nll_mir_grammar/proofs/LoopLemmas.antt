@@ -7,8 +7,7 @@ use Rattle.std.proofs.lemmas.List.{append-nil, nil_from_length}
 use Rattle.nll_text.specs.Tokens.{Token, region, arrow, sign}
 use Rattle.nll_mir_grammar.specs.WrittenTypes.{Name, WrittenType, Arguments, int, reference, no_argument, region_argument}
 use Rattle.nll_mir_grammar.specs.Reading.{HasNoType, IsTypeIn}
-use Rattle.nll_text.specs.Grammars.{HasNone, IsNotNext, regions}
-use Rattle.nll_text.specs.Grammars.{Begins as Starts}
+use Rattle.nll_text.specs.Grammars.{HasNone, IsNotNext, regions, Begins as Starts}
 use Rattle.nll_mir_grammar.specs.TypeTexts.{Piece, plain, steps, argument_steps, add_region, begin_row, joined_arguments, written, IsType}
 use Rattle.nll_mir_grammar.specs.OpenTypes.{Frame, behind, parts, arguments, inputs, output, Steps, IsStuck, begun, complete, AreOpen, IsFitting, AreRead, ComesTo, GoesFurther, pending, EndsWith, takes_region}
 use Rattle.nll_mir_grammar.specs.declared.opens.State.{State}
@@ -75,19 +74,13 @@ stuck_inside ts (inputs done ∷ frames) t c s ends comma close =
 stuck_inside ts _ t c s ends comma close = absurd ends
 
 -- `->` comes, or it doesn't
-pub further_arrow : {R : Type 0} (told : Option (State × R)) (after : R → List Token) (ts : List Token)
-    (frames : List Frame) (t : WrittenType) (ps : List TypePiece) (os : List Open)
-    → MatchOption told ((frames : List Frame) (t : WrittenType) → IsStuck WantArrow frames t ts)
-    (λ p. (p.0 ≡ Want) × (ts ≡ arrow ∷ after p.1)) → AreRead WantArrow frames t ps os
-    → MatchOption told (IsStuck WantArrow frames t ts)
-    (λ p. GoesFurther WantArrow frames t os ts p.0 ps os (after p.1))
-further_arrow None after ts frames t ps os m r = m frames t
-further_arrow (Some p) after ts frames t ps os m r =
-    let less = one_less arrow ts (after p.1) m.1 in
-    subst (λ (z : State). GoesFurther WantArrow frames t os ts z ps os (after p.1)) (sym m.0)
-    (unchanged ts (after p.1) WantArrow Want frames t ps os (omega (arith, less)) refl refl tt
-    (subst (λ (z : List Token). Steps WantArrow frames t z Want frames t (after p.1)) (sym m.1)
-    (step_arrow frames t t (after p.1))) r)
+pub further_arrow : (ts rest : List Token) (frames : List Frame) (t : WrittenType) (ps : List TypePiece)
+    (os : List Open) → ts ≡ arrow ∷ rest → AreRead WantArrow frames t ps os
+    → GoesFurther WantArrow frames t os ts Want ps os rest
+further_arrow ts rest frames t ps os e r =
+    let less = one_less arrow ts rest e in
+    unchanged ts rest WantArrow Want frames t ps os (omega (arith, less)) refl refl tt
+    (subst (λ (z : List Token). Steps WantArrow frames t z Want frames t rest) (sym e) (step_arrow frames t t rest)) r
 
 -- ---- an argument comes
 

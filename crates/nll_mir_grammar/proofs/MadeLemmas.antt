@@ -210,11 +210,3 @@ has_form line f s =
 
 pub spells_form : (line : List ℕ) (f : Form) → HasForm line f → IsSpelled (tokens_in line) f
 spells_form line f h = subst (λ (ts : List Token). IsSpelled ts f) (sym (made_are_in line h.0 h.1)) h.2
-
--- a form that the tokens spell in a text of the version is that of the line there
-pub form_there : (version : Version) (line : List ℕ) (r : Option Line)
-    → MatchOption r ((f : Form) → IsSpelledIn version (tokens_in line) f → ⊥)
-    (λ kept. IsSpelledIn version (tokens_in line) (form_of kept))
-    → MatchOption r ((f : Form) → HasFormIn version line f → ⊥) (λ kept. HasFormIn version line (form_of kept))
-form_there version line None h = λ f g. h f (spells_form line f g.0, g.1)
-form_there version line (Some kept) h = (has_form line (form_of kept) h.0, h.1)

@@ -409,12 +409,12 @@ bounds_found ts inner rest (w ∷ ws) e b =
     record { joined = e ∙ ap (λ l. word (codes "where") ∷ l) b.joined; allowed = tt; follows = b.follows }
 
 -- bounds are read behind `where`
-pub read_bounds : {R E : Type 0} (ts inner : List Token) (ws : List (Name × Name)) (after : R → List Token)
+pub read_bounds : {R E : Type 0} (ts inner : List Token) (ws : R → List (Name × Name)) (after : R → List Token)
     (r : Result (Option R) E) → ts ≡ word (codes "where") ∷ inner
-    → IfOk r (λ o. MatchOption o (HasNone (commas bounds) inner) (λ p. Begins (commas bounds) inner ws (after p)))
-    → IfOk r (λ o. MatchOption o (HasNone bound_lists ts) (λ p. Begins bound_lists ts ws (after p)))
+    → IfOk r (λ o. MatchOption o (HasNone (commas bounds) inner) (λ p. Begins (commas bounds) inner (ws p) (after p)))
+    → IfOk r (λ o. MatchOption o (HasNone bound_lists ts) (λ p. Begins bound_lists ts (ws p) (after p)))
 read_bounds ts inner ws after (Ok None) e h = no_bounds ts inner e h
-read_bounds ts inner ws after (Ok (Some p)) e h = bounds_found ts inner (after p) ws e h
+read_bounds ts inner ws after (Ok (Some p)) e h = bounds_found ts inner (after p) (ws p) e h
 read_bounds ts inner ws after (Err x) e h = tt
 
 -- ---- the blocks of a switch

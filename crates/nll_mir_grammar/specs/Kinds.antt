@@ -6,13 +6,11 @@ use Rattle.nll_types.specs.Places.{PlacePath}
 use Rattle.nll_types.specs.Operands.{Operand}
 use Rattle.nll_mir_grammar.specs.WrittenTypes.{Name, WrittenType, WrittenTypes}
 use Rattle.nll_text.specs.Grammars.{Grammar, Begins, any_words, numbers, regions}
-use Rattle.nll_mir_grammar.specs.Grammars.{behind, empty, pair, parentheses}
-use Rattle.nll_mir_grammar.specs.Grammars.{by_kind}
+use Rattle.nll_mir_grammar.specs.Grammars.{behind, empty, pair, parentheses, by_kind}
 use Rattle.nll_mir_grammar.specs.Parts.{names, variables, block_names}
 use Rattle.nll_mir_grammar.specs.Parts.{places, operands, types, tuples, arguments, mutabilities}
 use Rattle.nll_mir_grammar.specs.Parts.{drop_marks, parameter_lists, bounds, bound_lists}
-use Rattle.nll_mir_grammar.specs.Parts.{block_lists}
-use Rattle.nll_mir_grammar.specs.Parts.{exits}
+use Rattle.nll_mir_grammar.specs.Parts.{block_lists, exits}
 use Rattle.nll_body.specs.Statements.{assign, borrow, make, read, live, dead, nop}
 use Rattle.nll_body.specs.Statements.{goto, switch, drop, call, return, stop}
 use Rattle.nll_mir_grammar.specs.MirForms.{Form, universal, outlives, further, assert_line}

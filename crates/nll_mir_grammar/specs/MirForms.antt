@@ -11,8 +11,7 @@ use Rattle.nll_types.specs.declared.place.Projection.{Projection}
 use Rattle.nll_types.specs.declared.place.Projection.TheVariants.{Deref, Field}
 use Rattle.nll_types.specs.declared.parameter.Parameter.{Parameter}
 use Rattle.nll_types.specs.declared.parameter.Sign.{Sign}
-use Rattle.nll_types.specs.declared.parameter.Sign.TheVariants.{Covariant, Contravariant}
-use Rattle.nll_types.specs.declared.parameter.Sign.TheVariants.{Invariant}
+use Rattle.nll_types.specs.declared.parameter.Sign.TheVariants.{Covariant, Contravariant, Invariant}
 use Rattle.nll_mir_grammar.specs.WrittenTypes.{Name, WrittenType, WrittenTypes, tuple, spelled}
 use Rattle.nll_mir_grammar.specs.WrittenTypes.{mutability, HasNames, is_capital}
 use Rattle.nll_body.specs.Statements.{Statement, assign, borrow, make, read, live, dead, nop}

@@ -12,8 +12,7 @@ use Rattle.nll_types.specs.declared.parameter.Sign.{Sign}
 use Rattle.nll_mir_grammar.specs.WrittenTypes.{Name, WrittenType, WrittenTypes, tuple, spelled}
 use Rattle.nll_mir_grammar.specs.WrittenTypes.{mutability, HasNames, IsFree, is_capital}
 use Rattle.nll_text.specs.Grammars.{Grammar, HasNone, IsNotNext, prefixed, regions}
-use Rattle.nll_mir_grammar.specs.Grammars.{behind, pair}
-use Rattle.nll_mir_grammar.specs.Grammars.{MayFollowAll}
+use Rattle.nll_mir_grammar.specs.Grammars.{behind, pair, MayFollowAll}
 use Rattle.nll_mir_grammar.specs.MirForms.{block_word, spelled_projection}
 use Rattle.nll_mir_grammar.specs.MirForms.{spelled_place, spelled_operand, spelled_marks}
 use Rattle.nll_mir_grammar.specs.MirForms.{spelled_parameters, spelled_exits, spelled_wheres}

@@ -5,8 +5,7 @@ use Rattle.std.specs.Prelude.{◌≡◌, ℕ, Bool, true, false, not, ◌&&◌, 
 use Rattle.std.specs.List.{list_all}
 use Rattle.nll_text.specs.Tokens.{Token}
 use Rattle.nll_types.specs.declared.parameter.Sign.{Sign}
-use Rattle.nll_types.specs.declared.parameter.Sign.TheVariants.{Covariant, Contravariant}
-use Rattle.nll_types.specs.declared.parameter.Sign.TheVariants.{Invariant}
+use Rattle.nll_types.specs.declared.parameter.Sign.TheVariants.{Covariant, Contravariant, Invariant}
 use Rattle.nll_mir_grammar.specs.Functions.{has_function, have_function}
 use Rattle.nll_body.specs.Statements.{types_written}
 use Rattle.nll_mir_grammar.specs.MirForms.{WrittenParameter, region_parameter, type_parameter}

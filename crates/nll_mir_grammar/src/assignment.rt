@@ -5,10 +5,8 @@ ghost use Rattle.nll_text.specs.Tokens as lex;
 ghost use Rattle.nll_types.specs.Places.{path_of};
 ghost use Rattle.nll_text.specs.LineTokens.{tokens_in};
 ghost use Rattle.nll_text.specs.Grammars.{HasNone};
-ghost use Rattle.nll_mir_grammar.specs.Grammars.{behind};
 ghost use Rattle.nll_mir_grammar.specs.Kinds.{IsLine, IsRightSide, line_grammars, rights};
 ghost use Rattle.nll_mir_grammar.specs.Lines.{form_of};
-ghost use Rattle.nll_mir_grammar.specs.Parts.{operands};
 
 use crate::line::Line;
 use crate::pairs::Read;
@@ -18,20 +16,6 @@ use nll_body::{Call, Make, Statement};
 use nll_text::{after_sign, word_at};
 use nll_types::Place;
 use std::alloc::Global;
-
-// The borrow that goes to the place, after its `&`.
-fn borrowed<'a>(alloc: Global, place: Place, line: &'a [u8]) -> Read<'a, Line<'a>>
-    ensures { IfOk result
-        (λ o. (ts : List lex.Token) → ts ≡ lex.sign 38 ∷ tokens_in line.now
-        → MatchOption o (HasNone rights ts)
-        (λ p. IsRightSide ts (path_of place) (form_of p.0) (tokens_in p.1.now))) }
-{
-    let Some((region, mutable, source, rest)) = borrow_at(alloc, line)? else {
-        return Ok(None);
-    };
-    let borrow = Statement::Borrow(place, region, mutable, source);
-    Ok(Some((Line::At(borrow), rest)))
-}
 
 // The value of a tuple or struct that goes to the place, after `make`.
 fn made<'a>(alloc: Global, place: Place, line: &'a [u8]) -> Read<'a, Line<'a>>
@@ -81,19 +65,6 @@ fn called<'a>(alloc: Global, place: Place, line: &'a [u8]) -> Read<'a, Line<'a>>
     Ok(Some((Line::At(call), rest)))
 }
 
-// The operand that goes to the place.
-fn assigned<'a>(alloc: Global, place: Place, line: &'a [u8]) -> Read<'a, Line<'a>>
-    ensures { IfOk result
-        (λ o. MatchOption o (HasNone operands (tokens_in line.now))
-        (λ p. IsRightSide (tokens_in line.now) (path_of place) (form_of p.0)
-        (tokens_in p.1.now))) }
-{
-    let Some((operand, rest)) = operand_at(alloc, line)? else {
-        return Ok(None);
-    };
-    Ok(Some((Line::At(Statement::Assign(place, operand)), rest)))
-}
-
 // What goes to the place: the right side of an assignment.
 fn right_side<'a>(alloc: Global, place: Place, line: &'a [u8]) -> Read<'a, Line<'a>>
     ensures { IfOk result
@@ -102,25 +73,21 @@ fn right_side<'a>(alloc: Global, place: Place, line: &'a [u8]) -> Read<'a, Line<
         (tokens_in p.1.now))) }
 {
     if let Some(behind) = after_sign(line, b'&') {
-        return borrowed(alloc, place, behind);
+        let Some((region, mutable, source, rest)) = borrow_at(alloc, behind)? else {
+            return Ok(None);
+        };
+        let borrow = Statement::Borrow(place, region, mutable, source);
+        return Ok(Some((Line::At(borrow), rest)));
     }
     match word_at(line) {
         Some((b"make", behind)) => made(alloc, place, behind),
         Some((b"call", behind)) => called(alloc, place, behind),
-        _ => assigned(alloc, place, line),
-    }
-}
-
-// The `=` of an assignment to the place, and what goes there.
-fn right_behind<'a>(alloc: Global, place: Place, line: &'a [u8]) -> Read<'a, Line<'a>>
-    ensures { IfOk result
-        (λ o. MatchOption o (HasNone (behind (lex.sign 61) rights) (tokens_in line.now))
-        (λ p. (after : List lex.Token) × (tokens_in line.now ≡ lex.sign 61 ∷ after)
-        × IsRightSide after (path_of place) (form_of p.0) (tokens_in p.1.now))) }
-{
-    match after_sign(line, b'=') {
-        Some(behind) => right_side(alloc, place, behind),
-        None => Ok(None),
+        _ => {
+            let Some((operand, rest)) = operand_at(alloc, line)? else {
+                return Ok(None);
+            };
+            Ok(Some((Line::At(Statement::Assign(place, operand)), rest)))
+        }
     }
 }
 
@@ -133,5 +100,8 @@ pub fn assignment_at<'a>(alloc: Global, line: &'a [u8]) -> Read<'a, Line<'a>>
     let Some((place, behind)) = place_at(alloc, line)? else {
         return Ok(None);
     };
-    right_behind(alloc, place, behind)
+    match after_sign(behind, b'=') {
+        Some(behind) => right_side(alloc, place, behind),
+        None => Ok(None),
+    }
 }

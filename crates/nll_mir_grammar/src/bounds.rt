@@ -1,13 +1,12 @@
 //! Bounds: of which regions one must outlive another.
 
-ghost use Rattle.std.specs.Prelude.{◌≡◌, ℕ, List, [], IfOk, MatchOption, map};
+ghost use Rattle.std.specs.Prelude.{ℕ, List, IfOk, MatchOption, map};
 ghost use Rattle.nll_text.specs.LineTokens.{tokens_in};
 ghost use Rattle.nll_text.specs.Grammars.{Begins, HasNone};
 ghost use Rattle.nll_mir_grammar.specs.Parts as parts;
 
 use crate::lists::{Listed, list};
 use crate::pairs::Read;
-use nll_sets::Memory;
 use nll_text::{after_sign, after_word, region_at};
 use std::alloc::Global;
 
@@ -38,33 +37,14 @@ impl<'a> Listed<'a> for (&'a [u8], &'a [u8]) {
     }
 }
 
-// Adds the bounds after `where` to the list, where there are any.
-fn bounds_behind<'a>(
-    alloc: Global,
-    line: &'a [u8],
-    bounds: &mut Bounds<'a>,
-) -> Result<Option<&'a [u8]>, Memory>
-    requires { bounds.old.items ≡ [] }
-    ensures { IfOk result (λ o. MatchOption o (HasNone parts.bound_lists (tokens_in line.now))
-        (λ rest. Begins parts.bound_lists (tokens_in line.now)
-        (map (λ w. (w.0.now, w.1.now)) bounds.new.items) (tokens_in rest.now))) }
-{
-    match after_word(line, b"where") {
-        Some(behind) => list(alloc, behind, bounds),
-        None => Ok(Some(line)),
-    }
-}
-
 /// The bounds after `where`, or none.
 pub fn bounds_in<'a>(alloc: Global, line: &'a [u8]) -> Read<'a, Bounds<'a>>
     ensures { IfOk result (λ o. MatchOption o (HasNone parts.bound_lists (tokens_in line.now))
         (λ p. Begins parts.bound_lists (tokens_in line.now)
         (map (λ w. (w.0.now, w.1.now)) p.0.items) (tokens_in p.1.now))) }
 {
-    let mut bounds = Vec::new(alloc);
-    match bounds_behind(alloc, line, &mut bounds) {
-        Ok(Some(rest)) => Ok(Some((bounds, rest))),
-        Ok(None) => Ok(None),
-        Err(memory) => Err(memory),
+    match after_word(line, b"where") {
+        Some(behind) => list(alloc, behind),
+        None => Ok(Some((Vec::new(alloc), line))),
     }
 }

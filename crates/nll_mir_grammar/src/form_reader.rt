@@ -1,15 +1,13 @@
 //! Reading a line, by its form.
 
-ghost use Rattle.std.specs.Prelude.{◌≡◌, ◌∷◌, true, false, IfOk, MatchOption};
+ghost use Rattle.std.specs.Prelude.{◌≡◌, ◌∷◌, IfOk, MatchOption};
 ghost use Rattle.nll_text.specs.Tokens as lex;
 ghost use Rattle.nll_text.specs.LineTokens.{tokens_in};
 ghost use Rattle.nll_text.specs.Grammars.{HasNone};
 ghost use Rattle.nll_mir_grammar.specs.Kinds as kinds;
-ghost use Rattle.nll_mir_grammar.specs.Kinds.{HasNoKeyword, IsBehind, IsLine, keyword_name};
-ghost use Rattle.nll_mir_grammar.specs.Kinds.{tails};
+ghost use Rattle.nll_mir_grammar.specs.Kinds.{HasNoKeyword, IsBehind, IsLine, keyword_name, tails};
 ghost use Rattle.nll_mir_grammar.specs.Lines.{form_of};
-ghost use Rattle.nll_mir_grammar.specs.MirForms.{Form, IsSpelled};
-ghost use Rattle.nll_mir_grammar.specs.Versions as spec;
+ghost use Rattle.nll_mir_grammar.specs.MirForms.{Form};
 ghost use Rattle.nll_mir_grammar.specs.Versions.{HasFormIn};
 
 use crate::assignment::assignment_at;
@@ -76,35 +74,6 @@ fn line_at<'a>(alloc: Global, line: &'a [u8]) -> Read<'a, Line<'a>>
     }
 }
 
-// The form of the line, where it has one.
-fn spelled_line<'a>(alloc: Global, line: &'a [u8]) -> Result<Option<Line<'a>>, Memory>
-    ensures { IfOk result
-        (λ o. MatchOption o ((f : Form) → IsSpelled (tokens_in line.now) f → ⊥)
-        (λ form. IsSpelled (tokens_in line.now) (form_of form))) }
-{
-    let Some((form, rest)) = line_at(alloc, line)? else {
-        return Ok(None);
-    };
-    if !is_gap(rest) {
-        drop(form);
-        return Ok(None);
-    }
-    Ok(Some(form))
-}
-
-// The line, where it may be in a text of the version.
-fn line_in<'a>(version: Version, line: Line<'a>) -> Option<Line<'a>>
-    ensures { MatchOption result (spec.is_of_version version (form_of line.entry) ≡ false)
-        (λ kept. (kept ≡ line.entry) × (spec.is_of_version version (form_of kept) ≡ true)) }
-{
-    if is_of_version(version, &line) {
-        Some(line)
-    } else {
-        drop(line);
-        None
-    }
-}
-
 /// The form of the line, where it has one in a text of the version.
 ///
 /// # Errors
@@ -120,8 +89,16 @@ pub fn line_of<'a>(
     ensures { IfOk result (λ o. MatchOption o ((f : Form) → HasFormIn version line.now f → ⊥)
         (λ form. HasFormIn version line.now (form_of form))) }
 {
-    match spelled_line(alloc, line)? {
-        Some(form) => Ok(line_in(version, form)),
-        None => Ok(None),
+    let Some((form, rest)) = line_at(alloc, line)? else {
+        return Ok(None);
+    };
+    if !is_gap(rest) {
+        drop(form);
+        return Ok(None);
     }
+    if !is_of_version(version, &form) {
+        drop(form);
+        return Ok(None);
+    }
+    Ok(Some(form))
 }

@@ -1,6 +1,6 @@
 //! The first words of lines.
 
-ghost use Rattle.std.specs.Prelude.{◌≡◌, ◌∷◌, MatchOption, drop, true};
+ghost use Rattle.std.specs.Prelude.{◌≡◌, MatchOption};
 ghost use Rattle.nll_mir_grammar.specs.Kinds.{keyword_name, IsNoLineKeyword, IsNoPointKeyword};
 ghost use Rattle.nll_mir_grammar.specs.declared.keyword.Keyword.{Keyword as keyword};
 
@@ -63,23 +63,13 @@ fn point_keyword(word: &[u8]) -> Option<Keyword>
     }
 }
 
-// Whether the word begins with `_`.
-fn is_mark(word: &[u8]) -> bool
-    ensures { result ≡ true → word.now ≡ 95 ∷ drop 1 word.now }
-{
-    match word {
-        [b'_', ..] => true,
-        _ => false,
-    }
-}
-
 /// The keyword that a word is, where it is one. None begins with `_`, as variables do. Most lines
 /// of a long text are at points, so their keywords come first.
 pub fn keyword_of(word: &[u8]) -> Option<Keyword>
     ensures { MatchOption result ((k : keyword) → word.now ≡ keyword_name k → ⊥)
         (λ k. word.now ≡ keyword_name k) }
 {
-    if is_mark(word) {
+    if let [b'_', ..] = word {
         return None;
     }
     match point_keyword(word) {

@@ -4,11 +4,9 @@
 //! the parts of lines, and `form_reader`.
 #![tactic(auto)]
 
-mod arguments;
 mod assignment;
 mod blocks;
 mod bounds;
-mod exits;
 mod form_reader;
 mod fronts;
 mod keyword;
@@ -17,7 +15,6 @@ mod line;
 mod lines;
 mod lists;
 mod opens;
-mod operands;
 mod pairs;
 mod parameters;
 mod place;

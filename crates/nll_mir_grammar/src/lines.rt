@@ -90,17 +90,6 @@ pub fn let_line<'a>(alloc: Global, line: &'a [u8]) -> Read<'a, Line<'a>>
     Ok(Some((Line::Let(variable, ty), rest)))
 }
 
-// Whether a struct has a drop of its own, and its fields.
-fn fields_at<'a>(alloc: Global, line: &'a [u8]) -> Read<'a, (bool, TupleText<'a>)>
-    ensures { IfOk result
-        (λ o. MatchOption o (HasNone (pair drop_marks tuples) (tokens_in line.now))
-        (λ p. Begins (pair drop_marks tuples) (tokens_in line.now) (p.0.0, parts (written p.0.1))
-        (tokens_in p.1.now))) }
-{
-    let (has_drop, behind) = drop_mark_at(line);
-    with(has_drop, tuple_front(alloc, behind))
-}
-
 // What follows the name of a struct: its parameters, whether it has a drop of its own, and its
 // fields.
 fn struct_behind<'a>(
@@ -116,7 +105,9 @@ fn struct_behind<'a>(
     let Some((parameters, behind)) = parameters_in(alloc, line)? else {
         return Ok(None);
     };
-    with(parameters, fields_at(alloc, behind))
+    let (has_drop, behind) = drop_mark_at(behind);
+    let fields = with(has_drop, tuple_front(alloc, behind));
+    with(parameters, fields)
 }
 
 /// After `struct`.

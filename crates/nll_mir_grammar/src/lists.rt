@@ -1,6 +1,6 @@
 //! Values separated by commas.
 
-ghost use Rattle.std.specs.Prelude.{◌≡◌, ◌≤◌, [], ◌∷◌, ◌++◌, IfOk, MatchOption, OnOk, map};
+ghost use Rattle.std.specs.Prelude.{◌≡◌, [], ◌∷◌, ◌++◌, IfOk, MatchOption, OnOk, map};
 ghost use Rattle.nll_text.specs.Tokens as lex;
 ghost use Rattle.nll_text.specs.LineTokens.{tokens_in};
 ghost use Rattle.nll_text.specs.Grammars.{Begins, Grammar, HasNone};
@@ -27,22 +27,17 @@ pub trait Listed<'a>: Drop {
             (λ p. Begins grammar (tokens_in line.now) (meant p.0) (tokens_in p.1.now))) };
 }
 
-// For how many values room is reserved at first, given what follows the first one.
-fn first_room(line: &[u8]) -> usize
-    ensures { result ≤ 2 }
-{
-    match after_sign(line, b',') {
-        Some(_) => 2,
-        None => 1,
-    }
-}
-
 // Appends a value. The first one reserves room, by what follows it.
 fn put<T: Drop>(values: &mut Vec<T>, value: T, line: &[u8]) -> Result<(), Memory>
     ensures { OnOk result (values.new.items ≡ values.old.items ++ value ∷ []) }
 {
     if values.is_empty() {
-        values.reserve_exact(first_room(line))?;
+        let room = if after_sign(line, b',').is_some() {
+            2
+        } else {
+            1
+        };
+        values.reserve_exact(room)?;
     }
     values.push(value)?;
     Ok(())
@@ -81,8 +76,8 @@ fn next<'a, T: Listed<'a>>(
     }
 }
 
-/// Adds values separated by commas to the list, as many as there are.
-pub fn list<'a, T: Listed<'a>>(
+// Adds values separated by commas to the list, as many as there are.
+fn push_all<'a, T: Listed<'a>>(
     alloc: Global,
     line: &'a [u8],
     values: &mut Vec<T>,
@@ -103,28 +98,18 @@ pub fn list<'a, T: Listed<'a>>(
     Ok(Some(rest))
 }
 
-// Adds the values between `(` and `)` to the list.
-fn enclosed<'a, T: Listed<'a>>(
-    alloc: Global,
-    line: &'a [u8],
-    values: &mut Vec<T>,
-) -> Result<Option<&'a [u8]>, Memory>
-    requires empty { values.old.items ≡ [] }
-    requires listable { IsListable T.grammar (lex.sign 41) }
-    ensures { IfOk result
-        (λ o. MatchOption o (HasNone (parentheses T.grammar) (tokens_in line.now))
-        (λ rest. Begins (parentheses T.grammar) (tokens_in line.now)
-        (map T.meant values.new.items) (tokens_in rest.now))) }
+/// Values separated by commas, as many as there are.
+pub fn list<'a, T: Listed<'a>>(alloc: Global, line: &'a [u8]) -> Read<'a, Vec<T>>
+    requires { IsBefore (lex.sign 44) T.grammar }
+    ensures { IfOk result (λ o. MatchOption o (HasNone (commas T.grammar) (tokens_in line.now))
+        (λ p. Begins (commas T.grammar) (tokens_in line.now) (map T.meant p.0.items)
+        (tokens_in p.1.now))) }
 {
-    let Some(inner) = after_sign(line, b'(') else {
-        return Ok(None);
-    };
-    if let Some(rest) = after_sign(inner, b')') {
-        return Ok(Some(rest));
-    }
-    match list(alloc, inner, values)? {
-        Some(behind) => Ok(after_sign(behind, b')')),
-        None => Ok(None),
+    let mut values = Vec::new(alloc);
+    match push_all(alloc, line, &mut values) {
+        Ok(Some(rest)) => Ok(Some((values, rest))),
+        Ok(None) => Ok(None),
+        Err(memory) => Err(memory),
     }
 }
 
@@ -136,10 +121,17 @@ pub fn values_in<'a, T: Listed<'a>>(alloc: Global, line: &'a [u8]) -> Read<'a, V
         (λ p. Begins (parentheses T.grammar) (tokens_in line.now) (map T.meant p.0.items)
         (tokens_in p.1.now))) }
 {
-    let mut values = Vec::new(alloc);
-    match enclosed(alloc, line, &mut values) {
-        Ok(Some(rest)) => Ok(Some((values, rest))),
-        Ok(None) => Ok(None),
-        Err(memory) => Err(memory),
+    let Some(inner) = after_sign(line, b'(') else {
+        return Ok(None);
+    };
+    if let Some(rest) = after_sign(inner, b')') {
+        return Ok(Some((Vec::new(alloc), rest)));
+    }
+    let Some((values, behind)) = list(alloc, inner)? else {
+        return Ok(None);
+    };
+    match after_sign(behind, b')') {
+        Some(rest) => Ok(Some((values, rest))),
+        None => Ok(None),
     }
 }

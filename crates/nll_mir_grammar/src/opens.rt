@@ -70,15 +70,6 @@ fn put<'a>(
     Ok(state)
 }
 
-// Opens something, in which this may come next.
-fn put_open<'a>(opened: &mut Opened<'a>, inner: Open<'a>, state: State) -> Result<State, Memory>
-    ensures { IfOk result
-        (λ s. (s ≡ state) × (opened.new.items ≡ opened.old.items ++ inner.entry ∷ [])) }
-{
-    opened.push(inner)?;
-    Ok(state)
-}
-
 // Appends a row without arguments, and what is made of it: a type is complete.
 fn put_empty<'a>(pieces: &mut Vec<TypePiece<'a>>, piece: TypePiece<'a>) -> Result<State, Memory>
     ensures { IfOk result (λ s. (s ≡ State.Have)
@@ -100,7 +91,8 @@ fn open_row<'a>(
         × (opened.new.items ≡ opened.old.items ++ inner.entry ∷ [])) }
 {
     pieces.push(TypePiece::Row)?;
-    put_open(opened, inner, state)
+    opened.push(inner)?;
+    Ok(state)
 }
 
 /// Goes on after the beginning of a type.
@@ -129,27 +121,6 @@ pub fn begin<'a>(
         Front::Name(name) => put_empty(pieces, TypePiece::Named(name)),
         Front::Thunk => open_row(pieces, opened, Open::Output, State::WantArrow),
         Front::Function => open_row(pieces, opened, Open::Inputs, State::Want),
-    }
-}
-
-// One step where a type comes next: what may come then, and what follows the tokens that it takes.
-fn want<'a>(
-    line: &'a [u8],
-    pieces: &mut Vec<TypePiece<'a>>,
-    opened: &mut Opened<'a>,
-) -> Result<Option<(State, &'a [u8])>, Memory>
-    ensures { (frames : List Frame) (t : WrittenType)
-        → AreRead State.Want frames t pieces.old.items opened.old.items
-        → IfOk result (λ o. MatchOption o (IsStuck State.Want frames t (tokens_in line.now))
-        (λ p. GoesFurther State.Want frames t opened.old.items (tokens_in line.now)
-        p.0 pieces.new.items opened.new.items (tokens_in p.1.now))) }
-{
-    match front_at(line) {
-        Some((front, rest)) => {
-            let state = begin(front, pieces, opened)?;
-            Ok(Some((state, rest)))
-        }
-        None => Ok(None),
     }
 }
 
@@ -248,7 +219,8 @@ fn close<'a>(pieces: &mut Vec<TypePiece<'a>>, opened: &mut Opened<'a>) -> Result
         Open::Arguments(name) => end(pieces, opened, TypePiece::Named(name)),
         Open::Inputs | Open::Output => {
             opened.truncate(opened.len() - 1);
-            put_open(opened, Open::Output, State::WantArrow)
+            opened.push(Open::Output)?;
+            Ok(State::WantArrow)
         }
     }
 }
@@ -278,17 +250,6 @@ fn inside<'a>(
     Ok(Some((state, rest)))
 }
 
-// One step where the `->` of a function comes next.
-fn want_arrow(line: &[u8]) -> Option<(State, &[u8])>
-    ensures { MatchOption result
-        ((frames : List Frame) (t : WrittenType) →
-        IsStuck State.WantArrow frames t (tokens_in line.now))
-        (λ p. (p.0 ≡ State.Want) × (tokens_in line.now ≡ lex.arrow ∷ tokens_in p.1.now)) }
-{
-    let rest = after_arrow(line)?;
-    Some((State::Want, rest))
-}
-
 /// One step: what may come then, and what follows the tokens that it takes.
 pub fn step<'a>(
     line: &'a [u8],
@@ -304,13 +265,22 @@ pub fn step<'a>(
         p.0 pieces.new.items opened.new.items (tokens_in p.1.now))) }
 {
     match state {
-        State::Want => want(line, pieces, opened),
+        State::Want => {
+            let Some((front, rest)) = front_at(line) else {
+                return Ok(None);
+            };
+            let next = begin(front, pieces, opened)?;
+            Ok(Some((next, rest)))
+        }
         State::WantArgument => want_argument(line, pieces, opened),
         State::Have => {
             let next = complete(pieces, opened)?;
             Ok(Some((next, line)))
         }
         State::Inside => inside(line, pieces, opened),
-        State::WantArrow => Ok(want_arrow(line)),
+        State::WantArrow => match after_arrow(line) {
+            Some(rest) => Ok(Some((State::Want, rest))),
+            None => Ok(None),
+        },
     }
 }

@@ -1,13 +1,14 @@
 //! Places and operands.
 
-ghost use Rattle.std.specs.Prelude.{◌≡◌, ◌++◌, ◌∷◌, [], IfOk, MatchOption, OnOk};
+ghost use Rattle.std.specs.Prelude.{◌≡◌, IfOk, MatchOption};
 ghost use Rattle.nll_types.specs.Places.{path_of};
-ghost use Rattle.nll_types.specs.Operands.{operand_of};
+ghost use Rattle.nll_types.specs.Operands.{Operand as spec, operand_of};
 ghost use Rattle.nll_text.specs.LineTokens.{tokens_in};
 ghost use Rattle.nll_text.specs.Grammars.{Begins, HasNone};
 ghost use Rattle.nll_mir_grammar.specs.Grammars.{many};
 ghost use Rattle.nll_mir_grammar.specs.Parts as parts;
 
+use crate::lists::Listed;
 use crate::pairs::Read;
 use crate::words::variable_at;
 use nll_sets::Memory;
@@ -31,17 +32,6 @@ fn projection_at<'a>(line: &'a [u8]) -> Option<(Projection, &'a [u8])>
     }
 }
 
-// Appends a projection.
-fn push_projection(
-    projections: &mut SmallVec<Projection, 3>,
-    projection: Projection,
-) -> Result<(), Memory>
-    ensures { OnOk result (projections.new.items ≡ projections.old.items ++ projection ∷ []) }
-{
-    projections.push(projection)?;
-    Ok(())
-}
-
 // The projections at the front, as many as there are. Up to three allocate nothing.
 fn projections_at<'a>(
     alloc: Global,
@@ -54,25 +44,10 @@ fn projections_at<'a>(
     let mut projections = SmallVec::new(alloc);
     let mut rest = line;
     while let Some((projection, behind)) = projection_at(rest) {
-        push_projection(&mut projections, projection)?;
+        projections.push(projection)?;
         rest = behind;
     }
     Ok((projections, rest))
-}
-
-// The place of the variable with the projections at the front, in a list.
-fn listed_place<'a>(
-    alloc: Global,
-    variable: u32,
-    line: &'a [u8],
-) -> Result<(Place, &'a [u8]), Memory>
-    ensures variable { IfOk result (λ p. (path_of p.0).variable ≡ variable) }
-    ensures taken { IfOk result (λ p. Begins (many parts.projections) (tokens_in line.now)
-        (path_of p.0).projections (tokens_in p.1.now)) }
-{
-    let (projections, rest) = projections_at(alloc, line)?;
-    let place = Place::new(alloc, variable, projections)?;
-    Ok((place, rest))
 }
 
 // The place of the variable with the projections at the front. Most places have none or one, and
@@ -90,7 +65,10 @@ fn place_behind<'a>(
         return Ok((Place::Whole(variable), line));
     };
     match projection_at(rest) {
-        Some(_) => listed_place(alloc, variable, line),
+        Some(_) => {
+            let (projections, rest) = projections_at(alloc, line)?;
+            Ok((Place::new(alloc, variable, projections)?, rest))
+        }
         None => Ok((Place::Part(variable, projection), rest)),
     }
 }
@@ -127,5 +105,17 @@ pub fn operand_at<'a>(alloc: Global, line: &'a [u8]) -> Read<'a, Operand>
         }
         Some((b"const", rest)) => Ok(Some((Operand::Const, rest))),
         _ => Ok(None),
+    }
+}
+
+impl<'a> Listed<'a> for Operand {
+    ghost Meant = { spec };
+
+    ghost meant = { operand_of };
+
+    ghost grammar = { parts.operands };
+
+    fn read_at(alloc: Global, line: &'a [u8]) -> Read<'a, Operand> {
+        operand_at(alloc, line)
     }
 }

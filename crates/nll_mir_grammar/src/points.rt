@@ -7,8 +7,7 @@ ghost use Rattle.nll_mir_grammar.specs.Kinds.{IsBehind, tails};
 ghost use Rattle.nll_mir_grammar.specs.Lines.{form_of};
 ghost use Rattle.nll_mir_grammar.specs.declared.keyword.Keyword.TheVariants as keyword;
 
-use crate::blocks::blocks_at;
-use crate::exits::exits_at;
+use crate::blocks::{blocks_at, exits_at};
 use crate::line::Line;
 use crate::pairs::Read;
 use crate::place::{operand_at, place_at};

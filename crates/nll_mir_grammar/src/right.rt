@@ -3,22 +3,22 @@
 ghost use Rattle.std.specs.Prelude.{IfOk, MatchOption, map};
 ghost use Rattle.nll_text.specs.Tokens as lex;
 ghost use Rattle.nll_types.specs.Places.{path_of};
-ghost use Rattle.nll_types.specs.Operands.{operand_of};
+ghost use Rattle.nll_types.specs.Operands.{Operand as spec, operand_of};
 ghost use Rattle.nll_mir_grammar.specs.TypeTexts.{written};
+ghost use Rattle.nll_mir_grammar.specs.WrittenTypes.{WrittenType};
 ghost use Rattle.nll_text.specs.LineTokens.{tokens_in};
 ghost use Rattle.nll_text.specs.Grammars.{Begins, HasNone};
 ghost use Rattle.nll_mir_grammar.specs.Grammars.{behind, pair};
 ghost use Rattle.nll_mir_grammar.specs.Kinds.{borrows, makes, results, signatures};
 ghost use Rattle.nll_mir_grammar.specs.Lines.{argument_of, result_of};
-ghost use Rattle.nll_mir_grammar.specs.Parts.{bound_lists, exits};
+ghost use Rattle.nll_mir_grammar.specs.Parts.{arguments, bound_lists, exits};
 
-use crate::arguments::Argument;
+use crate::blocks::{Exits, exits_at};
 use crate::bounds::{Bounds, bounds_in};
-use crate::exits::{Exits, exits_at};
-use crate::lists::values_in;
+use crate::lists::{Listed, values_in};
 use crate::pairs::{Read, with};
-use crate::place::place_at;
-use crate::type_front::type_front;
+use crate::place::{operand_at, place_at};
+use crate::type_front::{type_behind, type_front};
 use crate::type_text::TypeText;
 use crate::words::mutability_at;
 use nll_sets::Memory;
@@ -57,6 +57,24 @@ pub fn make_at<'a>(alloc: Global, line: &'a [u8]) -> Read<'a, (TypeText<'a>, Vec
     with(ty, values_in(alloc, behind))
 }
 
+/// An argument of a call.
+pub type Argument<'a> = (Operand, TypeText<'a>);
+
+impl<'a> Listed<'a> for Argument<'a> {
+    ghost Meant = { spec × WrittenType };
+
+    ghost meant = { argument_of };
+
+    ghost grammar = { arguments };
+
+    fn read_at(alloc: Global, line: &'a [u8]) -> Read<'a, Argument<'a>> {
+        let Some((operand, behind)) = operand_at(alloc, line)? else {
+            return Ok(None);
+        };
+        with(operand, type_behind(alloc, behind))
+    }
+}
+
 /// What a call has after its arguments: the type of its result, bounds, and where it goes on.
 pub type CallResult<'a> = (TypeText<'a>, (Bounds<'a>, Exits));
 
@@ -73,17 +91,6 @@ fn call_end_at<'a>(alloc: Global, line: &'a [u8]) -> Read<'a, (Bounds<'a>, Exits
     with(bounds, Ok(exits_at(behind)))
 }
 
-/// What follows the `:` of a call.
-pub fn result_at<'a>(alloc: Global, line: &'a [u8]) -> Read<'a, CallResult<'a>>
-    ensures { IfOk result (λ o. MatchOption o (HasNone results (tokens_in line.now))
-        (λ p. Begins results (tokens_in line.now) (result_of p.0) (tokens_in p.1.now))) }
-{
-    let Some((ty, behind)) = type_front(alloc, line)? else {
-        return Ok(None);
-    };
-    with(ty, call_end_at(alloc, behind))
-}
-
 // The `:` of a call, and what follows it.
 fn result_behind<'a>(alloc: Global, line: &'a [u8]) -> Read<'a, CallResult<'a>>
     ensures { IfOk result
@@ -91,10 +98,13 @@ fn result_behind<'a>(alloc: Global, line: &'a [u8]) -> Read<'a, CallResult<'a>>
         (λ p. Begins (behind (lex.sign 58) results) (tokens_in line.now) (result_of p.0)
         (tokens_in p.1.now))) }
 {
-    match after_sign(line, b':') {
-        Some(behind) => result_at(alloc, behind),
-        None => Ok(None),
-    }
+    let Some(behind) = after_sign(line, b':') else {
+        return Ok(None);
+    };
+    let Some((ty, behind)) = type_front(alloc, behind)? else {
+        return Ok(None);
+    };
+    with(ty, call_end_at(alloc, behind))
 }
 
 /// What follows the name of a function that is called: arguments, and the rest of the call.

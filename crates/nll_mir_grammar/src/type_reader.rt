@@ -40,22 +40,6 @@ fn read_pieces<'a>(
     Ok(Some(rest))
 }
 
-// Reads the pieces of the type at the front.
-fn pieces_at<'a>(
-    alloc: Global,
-    line: &'a [u8],
-    pieces: &mut Vec<TypePiece<'a>>,
-) -> Result<Option<&'a [u8]>, Memory>
-    requires { pieces.old.items ≡ [] }
-    ensures pieces { IfOk result (λ o. IfSome o (λ _. IsType pieces.new.items)) }
-    ensures reads { IfOk result (λ o. MatchOption o (HasNoType (tokens_in line.now))
-        (λ rest. IsTypeIn (tokens_in line.now) (written pieces.new.items)
-        (tokens_in rest.now))) }
-{
-    let mut opened = SmallVec::new(alloc);
-    read_pieces(line, pieces, &mut opened)
-}
-
 /// The type at the front that no `<` follows, and what follows it.
 pub fn type_at<'a>(
     alloc: Global,
@@ -65,7 +49,11 @@ pub fn type_at<'a>(
         (λ p. IsTypeIn (tokens_in line.now) (written p.0) (tokens_in p.1.now))) }
 {
     let mut pieces = Vec::with_capacity(alloc, 8)?;
-    match pieces_at(alloc, line, &mut pieces) {
+    let mut opened = SmallVec::new(alloc);
+    let read = read_pieces(line, &mut pieces, &mut opened);
+    // Early drop.
+    drop(opened);
+    match read {
         Ok(Some(rest)) => Ok(Some((TypeText::of(pieces), rest))),
         Ok(None) => Ok(None),
         Err(memory) => Err(memory),

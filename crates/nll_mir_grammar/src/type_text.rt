@@ -55,16 +55,6 @@ impl<'a> Model for TypeText<'a> {
     ghost invariant = { λ text. IsType text.pieces.items };
 }
 
-// Whether a piece makes a function.
-fn is_function(piece: &TypePiece<'_>) -> bool
-    ensures { result ≡ functions.is_function piece.now }
-{
-    match piece {
-        TypePiece::Function => true,
-        _ => false,
-    }
-}
-
 impl<'a> TypeText<'a> {
     /// The pieces, in the order of the text.
     pub fn pieces(&self) -> &[TypePiece<'a>]
@@ -82,7 +72,7 @@ impl<'a> TypeText<'a> {
         ensures { result ≡ functions.has_function (written self.now) }
     {
         for piece in self.pieces() {
-            if is_function(piece) {
+            if let TypePiece::Function = piece {
                 return true;
             }
         }

@@ -20,23 +20,16 @@ pub enum Version {
     Second,
 }
 
-// Whether a sign may be in a text of version 1.
-fn is_first_sign(sign: Sign) -> bool
-    ensures { result ≡ spec.is_first_sign sign }
-{
-    match sign {
-        Sign::Covariant | Sign::Invariant => true,
-        Sign::Contravariant => false,
-    }
-}
-
 // Whether a parameter may be in a text of version 1.
 fn is_first_parameter(parameter: &ParameterText<'_>) -> bool
     ensures { result ≡ spec.is_first_parameter (parameter_of parameter.now) }
 {
     match parameter {
         ParameterText::Region(_, parameter) | ParameterText::Type(_, parameter) => {
-            is_first_sign(parameter.sign)
+            match parameter.sign {
+                Sign::Covariant | Sign::Invariant => true,
+                Sign::Contravariant => false,
+            }
         }
     }
 }
@@ -53,20 +46,13 @@ fn are_first_parameters(parameters: &[ParameterText<'_>]) -> bool
     true
 }
 
-// Whether a type may be in a text of version 1.
-fn is_first_type(ty: &TypeText<'_>) -> bool
-    ensures { result ≡ not (has_function (written ty.now)) }
-{
-    !ty.has_function()
-}
-
 // Whether the types of a call's parameters may be in a text of version 1.
 fn are_first_arguments(arguments: &[(Operand, TypeText<'_>)]) -> bool
     ensures { result ≡ list_all (λ t. not (has_function t))
         (map (λ a. written a.1) arguments.now) }
 {
     for argument in arguments {
-        if !is_first_type(&argument.1) {
+        if argument.1.has_function() {
             return false;
         }
     }
@@ -80,7 +66,7 @@ fn is_first_struct(text: &StructText<'_>) -> bool
     if !are_first_parameters(text.parameters.as_slice()) {
         return false;
     }
-    is_first_type(text.fields.as_type())
+    !text.fields.as_type().has_function()
 }
 
 // Whether the types that are written in a statement or terminator may be in a text of version 1.
@@ -88,12 +74,12 @@ fn is_first_statement<'a>(statement: &Statement<&'a [u8], TypeText<'a>>) -> bool
     ensures { result ≡ spec.is_of_first (point_form statement.now) }
 {
     match statement {
-        Statement::Make(make) => is_first_type(&make.ty),
+        Statement::Make(make) => !make.ty.has_function(),
         Statement::Call(call) => {
             if !are_first_arguments(call.arguments.as_slice()) {
                 return false;
             }
-            is_first_type(&call.result)
+            !call.result.has_function()
         }
         _ => true,
     }
@@ -109,7 +95,7 @@ pub(crate) fn is_of_version(version: Version, line: &Line<'_>) -> bool
     match line {
         Line::Assert(_, _) => false,
         Line::Struct(text) => is_first_struct(text),
-        Line::Let(_, ty) => is_first_type(ty),
+        Line::Let(_, ty) => !ty.has_function(),
         Line::At(statement) => is_first_statement(statement),
         _ => true,
     }

@@ -1,6 +1,6 @@
 -- Types that are added leave what a reader's lines say.
-use Rattle.std.proofs.Common.{◌≡◌, ◌∙◌, ℕ, ◌≤◌, Bool, true, false, List, [], ◌∷◌, length, map, refl, ap, sym, subst, suc, arith}
-use Rattle.std.specs.Prelude.{◌&&◌, All, Option, Some, None, MatchOption, Result, Ok, Err, IfOk}
+use Rattle.std.proofs.Common.{◌≡◌, ◌∙◌, ℕ, ◌≤◌, Bool, true, List, [], ◌∷◌, length, map, refl, ap, sym, subst, suc, arith}
+use Rattle.std.specs.Prelude.{All}
 use Rattle.std.specs.List.{list_all}
 use Rattle.nll_sets.proofs.PrefixLemmas.{prefix_same}
 use Rattle.nll_types.specs.Grown.{AddsTypes}
@@ -21,7 +21,7 @@ use Rattle.nll_mir_text.specs.MirSaid.{Said, group}
 use Rattle.nll_mir_text.specs.MirFaults.{is_in_order}
 use Rattle.nll_mir_text.specs.MirReading.{said_by, scope_in, IsReady, IsDue}
 use Rattle.nll_mir_text.specs.ResolvedLines.{IsGrown, IsPlaced}
-use Rattle.nll_mir_text.specs.ResolvedStatements.{has_names, FitOf, IsOfStatement, MadeOf}
+use Rattle.nll_mir_text.specs.ResolvedStatements.{IsFlatOf, IsOfStatement}
 use Rattle.nll_mir_text.specs.declared.reader.Reader.{Reader}
 
 module _ (old new : BodyTypes) (grows : AddsTypes old new) where
@@ -123,17 +123,9 @@ pub adds_table : (types : BodyTypes) (t : Tables) → AddsShapes types.table t
 adds_table types t grows = record { table = grows; regions = prefix_same types.regions.items }
 
 -- a statement that is made of a line that is in order
-pub placed_of : {E : Type 0} (r : Reader) (t : BodyTypes) (l : StatementLists) (i : Statement Name WrittenType)
-    (o : Result (Option Stmt) E) (first last : Bool) → statements_in l ≡ statements_in r.points.statements → IsReady r
-    → is_in_order (said_by r) (at_point i) ≡ true → first ≡ true
-    → IfOk o (λ _. AddsTypes r.variables.types t) → IfOk o (MadeOf (scope_in r.regions r.structs) i t l)
-    → IfOk o (FitOf (scope_in r.regions r.structs) i first last)
-    → IfOk o (λ k. MatchOption k (has_names (scope_in r.regions r.structs) i ≡ false)
-    (λ k. IsPlaced (grown r t l) i k last))
-placed_of r t l i (Err e) first last same ready order flag adds made fit = tt
-placed_of r t l i (Ok None) first last same ready order flag adds made fit = made
-placed_of r t l i (Ok (Some k)) first last same ready order flag adds made fit = record {
-  order = order_grown r t l adds same ready i order;
-  of = made;
-  fits = fit ∙ ap (λ b. b && list_all (has_arguments (scope_in r.regions r.structs)) (types_written i)) flag;
-}
+pub placed_of : (r : Reader) (t : BodyTypes) (l : StatementLists) (i : Statement Name WrittenType) (k : Stmt)
+    (fits : Bool) → AddsTypes r.variables.types t → statements_in l ≡ statements_in r.points.statements → IsReady r
+    → is_in_order (said_by r) (at_point i) ≡ true → IsFlatOf (scope_in r.regions r.structs) i t l k
+    → fits ≡ list_all (has_arguments (scope_in r.regions r.structs)) (types_written i) → IsPlaced (grown r t l) i k fits
+placed_of r t l i k fits adds same ready order made fit =
+    record { order = order_grown r t l adds same ready i order; of = made; fits = fit }

@@ -7,7 +7,6 @@ pub mod GroupLemmas
 pub mod GrownLemmas
 pub mod LawLemmas
 pub mod LineLemmas
-pub mod MarkLemmas
 pub mod NeitherLemmas
 pub mod OwnLemmas
 pub mod PointLemmas
@@ -21,6 +20,8 @@ pub mod VariableLemmas
 pub mod VersionLemmas
 pub mod ResolvedLemmas
 pub mod NameLaws
+pub mod WellHeadLemmas
+pub mod WellLemmas
 mod RowLemmas
 mod ShapedLemmas
 mod ResolvedTypeLemmas

@@ -19,10 +19,9 @@ use Rattle.nll_mir_grammar.specs.declared.line.ParameterText.TheVariants as para
 use Rattle.nll_mir_text.specs.Naming.{Scope, is_among, is_known}
 use Rattle.nll_mir_text.specs.ToldTypes.{are_known, arguments_are_known}
 use Rattle.nll_mir_text.specs.MirSaid.{Said, scope_inside, region_in, type_in}
-use Rattle.nll_mir_text.specs.StructLines.{regions_in, types_in}
+use Rattle.nll_mir_text.specs.StructLines.{regions_in, types_in, AreNamesOf, AreOwn, region_names, type_names, takes_name, own_scope}
 use Rattle.nll_mir_text.specs.MirFaults.{has_repeats}
 use Rattle.nll_mir_text.specs.MirReading.{IsNamed}
-use Rattle.nll_mir_text.specs.StructLines.{AreNamesOf, AreOwn, region_names, type_names, takes_name, own_scope}
 use Rattle.nll_mir_text.specs.declared.tables.StructNames.{StructNames}
 use Rattle.nll_mir_text.specs.declared.own_names.OwnNames.{OwnNames}
 

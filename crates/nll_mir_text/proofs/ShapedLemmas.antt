@@ -1,12 +1,10 @@
 -- The shapes of types that are made, where some are taken off.
 use Rattle.std.proofs.Common.{◌≡◌, ℕ, true, suc, ◌+◌, ◌-◌, List, [], ◌∷◌, ◌++◌, length, take, drop, refl, ap, ◌∙◌, arith, ⊎_elim}
-use Rattle.std.proofs.Math.Seq.{get_or-append_seam}
-use Rattle.std.proofs.lemmas.Bool.{cases_lt}
-use Rattle.std.proofs.lemmas.List.{get_or-drop, get_or-take, get_or_append_left, length-append, length-drop, length-take}
+use Rattle.std.proofs.lemmas.List.{get_or-drop, get_or-take, length-drop, length-take}
 use Rattle.std.specs.Prelude.{slice_index, OnOk, Ok, Err}
 use Rattle.std.specs.declared.result.Result.{Result}
-use Rattle.nll_types.specs.Shapes.{shape_of, shapes_of}
-use Rattle.nll_types.specs.Table.{AreBelow, Extends, all_at, shape_in, shapes_in}
+use Rattle.nll_types.specs.Shapes.{shapes_of}
+use Rattle.nll_types.specs.Table.{AreBelow, Extends, all_at, shapes_in}
 use Rattle.nll_types.specs.Types.{TypeTree, int}
 use Rattle.nll_types.specs.Views.{row_of}
 use Rattle.nll_types.specs.declared.node.Node.{Node}
@@ -20,10 +18,6 @@ use Rattle.nll_mir_text.specs.declared.type_resolution.Resolving.{Resolving}
 pub both_ok : {T E : Type 0} {P Q R : Type 0} (r : Result T E) → (P → Q → R) → OnOk r P → OnOk r Q → OnOk r R
 both_ok (Ok x) f p q = f p q
 both_ok (Err y) f p q = tt
-
-pub below_take : (n m : ℕ) (is : List ℕ) → AreBelow n is → AreBelow n (take m is)
-below_take n m is b = λ k l.
-    rw (get_or-take m is k 0 (omega (arith, l, length-take m is))) (b k (omega (arith, l, length-take m is)))
 
 module _ (shapes : List Node) where
   -- all but the first, those from a place on, and those in front of it
@@ -86,20 +80,6 @@ pub older_taken : (shapes : List Node) (ts : List TypeTree) (is left : List ℕ)
     → AreShaped shapes ts is → left ≡ older is → AreShaped shapes (older ts) left
 older_taken shapes ts is left a e =
     front_taken shapes (length is - 1) (length ts - 1) ts is left a e (ap (λ n. n - 1) a.counted)
-
--- where one more type is made
-pub shaped_push : (shapes : List Node) (ts : List TypeTree) (is : List ℕ) (t : TypeTree) (i : ℕ)
-    → AreShaped shapes ts is → shape_in shapes i ≡ shape_of t
-    → AreShaped shapes (ts ++ t ∷ []) (is ++ i ∷ [])
-shaped_push shapes ts is t i a last = record {
-  counted = omega (arith, a.counted, length-append is (i ∷ []), length-append ts (t ∷ []));
-  each = λ k l. ⊎_elim
-      (λ h. rw (get_or_append_left is (i ∷ []) 0 k h, get_or_append_left ts (t ∷ []) int k (rw a.counted at h))
-      (a.each k h))
-      (λ h. let m : k ≡ length is = omega (arith, h, l, length-append is (i ∷ [])) in
-      rw (m, get_or-append_seam is i [] 0, a.counted, get_or-append_seam ts t [] int) last)
-      (cases_lt k (length is));
-}
 
 -- a piece whose name, if it has one, is known
 pub piece_done : (s : Scope) (p : Piece) (types : BodyTypes) (kept : Resolving) (types_new : BodyTypes)

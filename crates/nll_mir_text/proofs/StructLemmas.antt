@@ -14,11 +14,10 @@ use Rattle.nll_mir_grammar.specs.MirForms.{WrittenParameter, region_parameter, t
 use Rattle.nll_mir_text.specs.Naming.{is_among, all_meant}
 use Rattle.nll_mir_text.specs.ToldTypes.{are_known, have_arguments}
 use Rattle.nll_mir_text.specs.MirSaid.{Said, scope_inside}
-use Rattle.nll_mir_text.specs.StructLines.{is_region, regions_in, types_in}
+use Rattle.nll_mir_text.specs.StructLines.{is_region, regions_in, types_in, region_names, type_names}
 use Rattle.nll_mir_text.specs.MirSteps.{declared}
 use Rattle.nll_mir_text.specs.MirFaults.{has_repeats, redeclares, is_in_order, first_fault}
 use Rattle.nll_mir_text.specs.MirReading.{AreKinds, region_count, other_count}
-use Rattle.nll_mir_text.specs.StructLines.{region_names, type_names}
 use Rattle.nll_mir_text.proofs.FaultLemmas.{faultless}
 use Rattle.nll_mir_text.proofs.GoodFieldLemmas.{all_well_formed}
 

@@ -23,11 +23,10 @@ use Rattle.nll_mir_grammar.specs.declared.line.StructText.{StructText}
 use Rattle.nll_mir_text.specs.Naming.{Scope, all_meant, meant}
 use Rattle.nll_mir_text.specs.declared.groups.Group.TheVariants.{Structs}
 use Rattle.nll_mir_text.specs.MirSaid.{Said, scope_inside}
-use Rattle.nll_mir_text.specs.StructLines.{is_region, regions_in, types_in}
+use Rattle.nll_mir_text.specs.StructLines.{is_region, regions_in, types_in, AreOwn, own_scope}
 use Rattle.nll_mir_text.specs.MirSteps.{says, declared}
 use Rattle.nll_mir_text.specs.MirFaults.{first_fault}
 use Rattle.nll_mir_text.specs.MirReading.{said_by, AreKinds, IsDue, IsTaken, struct_form}
-use Rattle.nll_mir_text.specs.StructLines.{AreOwn, own_scope}
 use Rattle.nll_mir_text.specs.declared.own_names.OwnNames.{OwnNames}
 use Rattle.nll_mir_text.specs.declared.reader.Reader.{Reader}
 use Rattle.nll_mir_text.specs.declared.tables.StructNames.{StructNames}

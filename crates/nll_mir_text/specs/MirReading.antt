@@ -27,7 +27,7 @@ use Rattle.nll_mir_text.specs.MirSaid.{Said, said, group}
 use Rattle.nll_mir_text.specs.MirSteps.{says, rank}
 use Rattle.nll_mir_text.specs.MirFaults.{is_in_order, first_fault}
 use Rattle.nll_mir_text.specs.MirText.{mir}
-use Rattle.nll_mir_text.specs.declared.next_point.Admitted.{Admitted}
+use Rattle.nll_mir_text.specs.declared.blocks.Admitted.{Admitted}
 use Rattle.nll_mir_text.specs.declared.reader.Reader.{Reader}
 
 -- ---- what a reader holds

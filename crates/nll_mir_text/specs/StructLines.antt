@@ -1,21 +1,18 @@
 -- What a reader makes of a struct line.
 -- Source: project's choice. Only private contracts cite this file.
-use Rattle.std.specs.Prelude.{◌≡◌, ◌≤◌, ◌+◌, Bool, true, false, ◌||◌, List, ◌∷◌, map, length, codes}
+use Rattle.std.specs.Prelude.{◌≡◌, ◌≤◌, ◌+◌, Bool, false, ◌||◌, List, ◌∷◌, map, length, codes}
 use Rattle.std.specs.Prelude.{is_some}
 use Rattle.std.specs.List.{filter_map}
-use Rattle.nll_mir_grammar.specs.WrittenTypes.{Name, WrittenTypes}
+use Rattle.nll_mir_grammar.specs.WrittenTypes.{Name}
 use Rattle.nll_mir_grammar.specs.MirForms.{WrittenParameter}
 use Rattle.nll_types.specs.declared.parameter.Parameter.{Parameter}
 use Rattle.nll_mir_grammar.specs.declared.line.ParameterText.{ParameterText}
 use Rattle.nll_mir_grammar.specs.declared.line.ParameterText.TheVariants as parameters
-use Rattle.nll_mir_text.specs.Naming.{Scope, is_among, all_meant}
-use Rattle.nll_mir_text.specs.ToldTypes.{are_known, have_arguments}
-use Rattle.nll_body.specs.Typing.{are_small}
+use Rattle.nll_mir_text.specs.Naming.{Scope, is_among}
 use Rattle.nll_mir_text.specs.MirSaid.{region_in, type_in}
 use Rattle.nll_mir_text.specs.MirFaults.{has_repeats}
 use Rattle.nll_mir_text.specs.declared.tables.StructNames.{StructNames}
 use Rattle.nll_mir_text.specs.declared.own_names.OwnNames.{OwnNames}
-use Rattle.nll_mir_text.specs.declared.fields.JudgedFields.{JudgedFields}
 
 -- the region parameters, by name and mark
 abbrev pub regions_in : List WrittenParameter → List (Name × Parameter)
@@ -71,10 +68,3 @@ own_scope own structs = record {
   structs = structs.names;
   kinds = map (λ ks. ks.items) structs.kinds.items;
 }
-
--- The names in the fields are known; it says whether they have arguments of the kinds that they
--- take, and whether none has more nodes than a type may have.
-pub record AreJudged (s : Scope) (fields : WrittenTypes) (j : JudgedFields) : Type 0 where
-  pub known : are_known s fields ≡ true
-  pub fits : j.fits ≡ have_arguments s fields
-  pub small : j.small ≡ are_small (all_meant s fields)

@@ -1,28 +1,28 @@
 //! Lines of the head: regions, structs, variables, and how many blocks there must be.
 
-ghost use Rattle.std.specs.Prelude.{◌≡◌, ◌<◌, ◌^◌, length, map, Some, None, true, false};
-ghost use Rattle.std.specs.Prelude.{IfOk, IfErr, IfSome, MatchOption, OnOk, OnErr};
-ghost use Rattle.nll_mir_text.specs.Naming.{has_arguments, is_among, is_known};
+ghost use Rattle.std.specs.Prelude.{◌≡◌, ◌<◌, length, map, Some, None, true, false};
+ghost use Rattle.std.specs.Prelude.{IfOk, IfErr, OnOk, OnErr};
+ghost use Rattle.nll_mir_text.specs.Naming.{has_arguments, is_among};
 ghost use Rattle.nll_mir_text.specs.Resolution.{IsResolved};
 ghost use Rattle.nll_format.specs.Names.{number_of};
 ghost use Rattle.nll_mir_grammar.specs.TypeTexts.{written};
 ghost use Rattle.nll_mir_grammar.specs.WrittenTypes.{WrittenType};
 ghost use Rattle.nll_mir_grammar.specs.MirForms as forms;
 ghost use Rattle.nll_mir_grammar.specs.Lines.{parameter_of};
-ghost use Rattle.nll_mir_grammar.specs.Tuples.{IsTuple, parts};
+ghost use Rattle.nll_mir_grammar.specs.Tuples.{IsTuple};
 ghost use Rattle.nll_mir_text.specs.MirFaults.{first_fault, is_universal};
 ghost use Rattle.nll_mir_text.specs.MirReading.{said_by, scope_in, IsReady};
-ghost use Rattle.nll_mir_text.specs.MirReading.{IsDue, IsTaken, IsRefused};
-ghost use Rattle.nll_mir_text.specs.MirReading.{struct_form};
-ghost use Rattle.nll_mir_text.specs.StructLines.{AreJudged, AreOwn, own_scope};
-ghost use Rattle.nll_mir_text.specs.ResolvedLines.{IsGrown, IsOfVariable};
+ghost use Rattle.nll_mir_text.specs.MirReading.{IsDue, IsTaken, IsRefused, struct_form};
+ghost use Rattle.nll_mir_text.specs.StructLines.{AreOwn, own_scope};
+ghost use Rattle.nll_mir_text.specs.ResolvedLines.{IsOfVariable};
 
-use crate::fields::{JudgedFields, declaration, judge_fields, resolve_fields};
+use crate::fields::{declaration, has_small_parts};
 use crate::groups::Group;
 use crate::limits::{MAX_STRUCTS, MAX_VARIABLES};
 use crate::own_names::{OwnNames, gather_names, redeclares};
 use crate::parameters::kinds;
 use crate::reader::Reader;
+use crate::scope::Scope;
 use crate::tables::scope_in;
 use crate::type_resolution::resolve;
 use nll_format::TextKind;
@@ -147,26 +147,6 @@ impl Reader {
         Ok(())
     }
 
-    // The type of a variable, where each name in it is declared.
-    fn resolve_variable(
-        &mut self,
-        text: &TypeText<'_>,
-        fits: &mut bool,
-    ) -> Result<Option<Typed>, Memory>
-        requires ready { IsReady self.old }
-        requires fitting { fits.old ≡ true }
-        ensures grown { IfOk result (λ _. IsGrown self.old self.new) }
-        ensures fits { IfOk result (λ o. IfSome o (λ _. fits.new ≡ has_arguments
-            (scope_in self.old.regions self.old.structs) (written text.now))) }
-        ensures resolved { IfOk result (λ o. MatchOption o
-            (is_known (scope_in self.old.regions self.old.structs) (written text.now) ≡ false)
-            (IsResolved (scope_in self.new.regions self.new.structs) (written text.now)
-            self.new.variables.types)) }
-    {
-        let scope = scope_in(&self.regions, &self.structs);
-        resolve(self.alloc, &scope, text, &mut self.variables.types, fits)
-    }
-
     /// Declares a variable.
     pub(crate) fn add_variable(&mut self, number: u32, text: &TypeText<'_>) -> Result<(), TextKind>
         requires { IsDue self.old (forms.variable number (written text.now)) }
@@ -175,8 +155,15 @@ impl Reader {
         ensures refused { IfErr result
             (IsRefused (said_by self.old) (forms.variable number (written text.now))) }
     {
+        let scope = scope_in(&self.regions, &self.structs);
         let mut fits = true;
-        match self.resolve_variable(text, &mut fits)? {
+        match resolve(
+            self.alloc,
+            &scope,
+            text,
+            &mut self.variables.types,
+            &mut fits,
+        )? {
             Some(ty) => self.add_resolved_variable(number, ty, fits),
             None => Err(TextKind::Unknown),
         }
@@ -223,31 +210,6 @@ impl Reader {
         taken
     }
 
-    // The fields of a struct, as a tuple, where each name in them is known.
-    fn resolve_struct(
-        &mut self,
-        own: &OwnNames,
-        text: &StructText<'_>,
-        fits: &mut bool,
-    ) -> Result<Option<Typed>, Memory>
-        requires ready { IsReady self.old }
-        requires own { length own.now.regions < 2 ^ 32 }
-        requires fitting { fits.old ≡ true }
-        ensures grown { IfOk result (λ _. IsGrown self.old self.new) }
-        ensures structs { IfOk result (λ _. self.new.structs ≡ self.old.structs) }
-        ensures tuple { IsTuple (written text.now.fields) }
-        ensures fits { IfOk result (λ o. IfSome o (λ _. fits.new ≡ has_arguments
-            (own_scope own.now self.old.structs) (written text.now.fields))) }
-        ensures resolved { IfOk result (λ o. MatchOption o
-            (is_known (own_scope own.now self.old.structs) (written text.now.fields) ≡ false)
-            (IsResolved (own_scope own.now self.old.structs) (written text.now.fields)
-            self.new.variables.types)) }
-    {
-        let fields = text.fields.as_type();
-        let types = &mut self.variables.types;
-        resolve_fields(self.alloc, own, &self.structs, fields, types, fits)
-    }
-
     // Declares a struct with these names of its own.
     fn add_named_struct(&mut self, own: &OwnNames, text: &StructText<'_>) -> Result<(), TextKind>
         requires due { IsDue self.old (struct_form text.now) }
@@ -255,8 +217,21 @@ impl Reader {
         ensures taken { OnOk result (IsTaken (said_by self.old) (struct_form text.now) self.new) }
         ensures refused { IfErr result (IsRefused (said_by self.old) (struct_form text.now)) }
     {
+        let scope = Scope {
+            regions: &own.regions,
+            parameters: &own.types,
+            structs: &self.structs.names,
+            kinds: self.structs.kinds.as_slice(),
+        };
+        let fields = text.fields.as_type();
         let mut fits = true;
-        match self.resolve_struct(own, text, &mut fits)? {
+        match resolve(
+            self.alloc,
+            &scope,
+            fields,
+            &mut self.variables.types,
+            &mut fits,
+        )? {
             Some(fields) => self.add_resolved_struct(own, text, fields, fits),
             None => Err(TextKind::Unknown),
         }
@@ -281,40 +256,14 @@ impl Reader {
         ensures taken { OnOk result (IsTaken (said_by self.old) (struct_form text.now) self.new) }
         ensures refused { IfErr result (IsRefused (said_by self.old) (struct_form text.now)) }
     {
-        let judged = judge_fields(&self.variables.types, fields, fits);
-        self.add_judged_struct(own, text, fields, judged)
-    }
-
-    // Declares a struct whose fields are judged.
-    fn add_judged_struct(
-        &mut self,
-        own: &OwnNames,
-        text: &StructText<'_>,
-        fields: Typed,
-        judged: JudgedFields,
-    ) -> Result<(), TextKind>
-        requires due { IsDue self.old (struct_form text.now) }
-        requires own { AreOwn (map parameter_of text.now.parameters.items) own.now }
-        requires fields { IsResolved (own_scope own.now self.old.structs)
-            (written text.now.fields) self.old.variables.types fields }
-        requires tuple { IsTuple (written text.now.fields) }
-        requires judged { AreJudged (own_scope own.now self.old.structs)
-            (parts (written text.now.fields)) judged }
-        ensures taken { OnOk result (IsTaken (said_by self.old) (struct_form text.now) self.new) }
-        ensures refused { IfErr result (IsRefused (said_by self.old) (struct_form text.now)) }
-    {
-        if redeclares(
-            own,
-            &self.structs.names,
-            text.name,
-            text.parameters.as_slice(),
-        ) {
+        let parameters = text.parameters.as_slice();
+        if redeclares(own, &self.structs.names, text.name, parameters) {
             return Err(TextKind::Duplicate);
         }
-        if !judged.fits {
+        if !fits {
             return Err(TextKind::Shape);
         }
-        if !judged.small {
+        if !has_small_parts(self.variables.types.table.shapes(), fields.shape) {
             return Err(TextKind::TypeSize);
         }
         if self.structs.names.len() >= MAX_STRUCTS {

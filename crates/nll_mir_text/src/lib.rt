@@ -13,7 +13,6 @@ mod laws;
 mod limits;
 mod made;
 mod mir;
-mod next_point;
 mod own_names;
 mod parameters;
 mod ranges;

@@ -18,8 +18,8 @@ fn pairs(alloc: Global, reader: &Reader) -> Result<(Vec<(u32, u32)>, Vec<(u32, u
     ensures outlives { IfOk result (λ p. p.0.items ≡ (said_by reader.now).outlives) }
     ensures asserts { IfOk result (λ p. p.1.items ≡ (said_by reader.now).asserts) }
 {
-    let outlives = reader.outlives(alloc)?;
-    let asserts = reader.asserts(alloc)?;
+    let outlives = Vec::from_slice(alloc, reader.regions.outlives.as_slice())?;
+    let asserts = Vec::from_slice(alloc, reader.regions.asserts.as_slice())?;
     Ok((outlives, asserts))
 }
 
@@ -41,19 +41,6 @@ fn make_body(alloc: Global, reader: Reader) -> Result<Body, TextKind>
     }
 }
 
-// The body that a reader's lines say.
-fn body(alloc: Global, reader: Reader) -> Result<Body, TextError>
-    requires ready { IsReady reader }
-    requires sound { IsSound (body_said (said_by reader)) }
-    ensures ok { IfOk result (λ body. body ≡ body_said (said_by reader)) }
-    ensures err { IfErr result (λ error. error ≡ record { line = 0; kind = TextKind.Memory }) }
-{
-    match make_body(alloc, reader) {
-        Ok(body) => Ok(body),
-        Err(kind) => Err(TextError { line: 0, kind }),
-    }
-}
-
 /// Reads a MIR text, of version 1 or 2 by its header.
 ///
 /// # Errors
@@ -68,5 +55,8 @@ pub fn read_mir(alloc: Global, text: &[u8]) -> Result<Body, TextError>
     ensures fault { IfErr result (IsRefusal (IsMirFault text.now)) }
 {
     let reader = read_text(alloc, text)?;
-    body(alloc, reader)
+    match make_body(alloc, reader) {
+        Ok(body) => Ok(body),
+        Err(kind) => Err(TextError { line: 0, kind }),
+    }
 }

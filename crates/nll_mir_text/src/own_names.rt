@@ -1,14 +1,11 @@
 //! The names that a struct line declares for its own fields.
 
-ghost use Rattle.std.specs.Prelude.{◌≡◌, ◌||◌, ◌++◌, ◌∷◌, [], List, not, map, All, IfOk, OnOk};
+ghost use Rattle.std.specs.Prelude.{◌≡◌, ◌||◌, ◌++◌, ◌∷◌, [], not, map, All, IfOk, OnOk};
 ghost use Rattle.std.specs.Prelude.{if◌then◌else◌};
 ghost use Rattle.std.specs.List.{list_any};
 ghost use Rattle.std.specs.Str.{IsUtf8};
 ghost use Rattle.nll_mir_grammar.specs.Lines.{parameter_of};
-ghost use Rattle.nll_mir_grammar.specs.MirForms.{WrittenParameter};
-ghost use Rattle.nll_mir_grammar.specs.MirForms as forms;
 ghost use Rattle.nll_mir_text.specs.Naming.{is_among};
-ghost use Rattle.nll_types.specs.declared.parameter.Parameter.{Parameter as marks};
 ghost use Rattle.nll_mir_text.specs.MirFaults.{has_repeats};
 ghost use Rattle.nll_mir_text.specs.MirReading.{IsNamed};
 ghost use Rattle.nll_mir_text.specs.StructLines.{AreOwn, region_names, type_names, takes_name};
@@ -44,52 +41,6 @@ fn add_name(alloc: Global, names: &mut Names, name: &[u8]) -> Result<bool, Memor
 }
 
 impl OwnNames {
-    // `'static` alone.
-    fn new(alloc: Global) -> Result<OwnNames, Memory>
-        ensures { IfOk result (AreOwn []) }
-    {
-        let regions = Names::new(alloc)?;
-        Ok(OwnNames {
-            regions,
-            types: Names::empty(alloc),
-            repeats: false,
-        })
-    }
-
-    // Adds the name of a region parameter.
-    fn add_region(&mut self, alloc: Global, name: &[u8]) -> Result<(), Memory>
-        requires { IsUtf8 name.now }
-        ensures { OnOk result ((ps : List WrittenParameter) (p : marks) → AreOwn ps self.old
-            → AreOwn (ps ++ forms.region_parameter name.now p ∷ []) self.new) }
-    {
-        let new = add_name(alloc, &mut self.regions, name)?;
-        self.repeats = self.repeats | !new;
-        Ok(())
-    }
-
-    // Adds the name of a type parameter.
-    fn add_type(&mut self, alloc: Global, name: &[u8]) -> Result<(), Memory>
-        requires { IsUtf8 name.now }
-        ensures { OnOk result ((ps : List WrittenParameter) (p : marks) → AreOwn ps self.old
-            → AreOwn (ps ++ forms.type_parameter name.now p ∷ []) self.new) }
-    {
-        let new = add_name(alloc, &mut self.types, name)?;
-        self.repeats = self.repeats | !new;
-        Ok(())
-    }
-
-    // Adds the name of a parameter.
-    fn add(&mut self, alloc: Global, parameter: &ParameterText<'_>) -> Result<(), Memory>
-        requires { IsNamed (parameter_of parameter.now) }
-        ensures { OnOk result ((ps : List WrittenParameter) → AreOwn ps self.old
-            → AreOwn (ps ++ parameter_of parameter.now ∷ []) self.new) }
-    {
-        match parameter {
-            ParameterText::Region(name, _) => self.add_region(alloc, name),
-            ParameterText::Type(name, _) => self.add_type(alloc, name),
-        }
-    }
-
     // Adds the names of parameters.
     fn add_all(&mut self, alloc: Global, parameters: &[ParameterText<'_>]) -> Result<(), Memory>
         requires own { AreOwn [] self.old }
@@ -97,7 +48,11 @@ impl OwnNames {
         ensures { OnOk result (AreOwn (map parameter_of parameters.now) self.new) }
     {
         for parameter in parameters {
-            self.add(alloc, parameter)?;
+            let new = match parameter {
+                ParameterText::Region(name, _) => add_name(alloc, &mut self.regions, name)?,
+                ParameterText::Type(name, _) => add_name(alloc, &mut self.types, name)?,
+            };
+            self.repeats = self.repeats | !new;
         }
         Ok(())
     }
@@ -108,7 +63,11 @@ pub fn gather_names(alloc: Global, parameters: &[ParameterText<'_>]) -> Result<O
     requires { All (λ p. IsNamed (parameter_of p)) parameters.now }
     ensures { IfOk result (AreOwn (map parameter_of parameters.now)) }
 {
-    let mut own = OwnNames::new(alloc)?;
+    let mut own = OwnNames {
+        regions: Names::new(alloc)?,
+        types: Names::empty(alloc),
+        repeats: false,
+    };
     match own.add_all(alloc, parameters) {
         Ok(()) => Ok(own),
         Err(memory) => {
@@ -118,23 +77,15 @@ pub fn gather_names(alloc: Global, parameters: &[ParameterText<'_>]) -> Result<O
     }
 }
 
-// Whether a parameter is of a type and its name is this one or a struct's.
-fn is_taken(structs: &Names, name: &[u8], parameter: &ParameterText<'_>) -> bool
-    ensures { result ≡ takes_name (name.now ∷ structs.now) parameter.now }
-{
-    match parameter {
-        ParameterText::Region(_, _) => false,
-        ParameterText::Type(other, _) => { *other == name || structs.number_of(other).is_some() }
-    }
-}
-
 // Whether the name of a type parameter is this one or a struct's.
 fn any_taken(structs: &Names, name: &[u8], parameters: &[ParameterText<'_>]) -> bool
     ensures { result ≡ list_any (takes_name (name.now ∷ structs.now)) parameters.now }
 {
     for parameter in parameters {
-        if is_taken(structs, name, parameter) {
-            return true;
+        if let ParameterText::Type(other, _) = parameter {
+            if *other == name || structs.number_of(other).is_some() {
+                return true;
+            }
         }
     }
     false

@@ -1,6 +1,6 @@
 //! The reader of the lines of a MIR text: what they say so far, and which line takes what.
 
-ghost use Rattle.std.specs.Prelude.{◌≡◌, ◌↔◌, List, [], false, IsTrue, IfOk, IfErr, OnOk};
+ghost use Rattle.std.specs.Prelude.{◌≡◌, ◌↔◌, List, [], IsTrue, IfOk, IfErr, OnOk};
 ghost use Rattle.nll_mir_grammar.specs.MirForms.{Form};
 ghost use Rattle.nll_mir_grammar.specs.Lines.{form_of};
 ghost use Rattle.nll_mir_text.specs.MirFaults as faults;
@@ -8,7 +8,6 @@ ghost use Rattle.nll_mir_text.specs.MirFaults.{is_in_order};
 ghost use Rattle.nll_mir_text.specs.MirSteps as steps;
 ghost use Rattle.nll_mir_text.specs.MirReading.{said_by, HoldsForms, IsReady, HasTexts};
 ghost use Rattle.nll_mir_text.specs.MirReading.{HasFewParameters, IsDue, IsTaken, IsRefused};
-ghost use Rattle.nll_body.specs.Flat.{statements_in};
 ghost use Rattle.nll_body.specs.Parts.{AreTyped, body_of};
 ghost use Rattle.nll_mir_text.specs.MirText.{body_said, mir};
 
@@ -31,30 +30,6 @@ pub struct Reader {
     pub(crate) structs: StructNames,
     pub(crate) variables: Variables,
     pub(crate) points: Points,
-}
-
-// No block is known.
-fn no_points(alloc: Global) -> Points
-    ensures blocks { result.blocks ≡ 0 }
-    ensures starts { result.starts.items ≡ [] }
-    ensures statements { statements_in result.statements ≡ [] }
-    ensures edges { result.edges ≡ 0 }
-    ensures owes { result.owes ≡ false }
-{
-    Points {
-        blocks: 0,
-        starts: Vec::new(alloc),
-        statements: Statements::new(alloc),
-        edges: 0,
-        owes: false,
-    }
-}
-
-// The names of the regions alone.
-fn names_of(regions: Regions) -> Names
-    ensures { result ≡ regions.names }
-{
-    regions.names
 }
 
 impl Reader {
@@ -83,7 +58,13 @@ impl Reader {
                 types: BodyTypes::new(alloc),
                 typed: Vec::new(alloc),
             },
-            points: no_points(alloc),
+            points: Points {
+                blocks: 0,
+                starts: Vec::new(alloc),
+                statements: Statements::new(alloc),
+                edges: 0,
+                owes: false,
+            },
         })
     }
 
@@ -163,22 +144,6 @@ impl Reader {
         self.accept(line)
     }
 
-    /// The pairs of regions of which the first is known to outlive the second.
-    pub fn outlives(&self, alloc: Global) -> Result<Vec<(u32, u32)>, Memory>
-        ensures { IfOk result (λ v. v.items ≡ (said_by self.now).outlives) }
-    {
-        let outlives = Vec::from_slice(alloc, self.regions.outlives.as_slice())?;
-        Ok(outlives)
-    }
-
-    /// The pairs of regions of which the first must hold, at all points, what the second holds.
-    pub fn asserts(&self, alloc: Global) -> Result<Vec<(u32, u32)>, Memory>
-        ensures { IfOk result (λ v. v.items ≡ (said_by self.now).asserts) }
-    {
-        let asserts = Vec::from_slice(alloc, self.regions.asserts.as_slice())?;
-        Ok(asserts)
-    }
-
     /// The parts of the body that the lines say, of which these are the pairs of regions: those
     /// that are known, and those that are asserted.
     pub fn finish(self, outlives: Vec<(u32, u32)>, asserts: Vec<(u32, u32)>) -> BodyParts
@@ -198,7 +163,7 @@ impl Reader {
         drop(structs);
         let universals = regions.universals as u32;
         BodyParts {
-            names: names_of(regions),
+            names: regions.names,
             universals,
             outlives,
             asserts,

@@ -39,21 +39,6 @@ fn resolve_region(names: &Names, name: &[u8]) -> Option<RegionId>
     }
 }
 
-// The numbers of a bound's regions, where both names are declared.
-fn resolve_bound(names: &Names, bound: &(&[u8], &[u8])) -> Option<(RegionId, RegionId)>
-    requires { length names.now < 2 ^ 32 }
-    ensures { MatchOption result (is_bound names.now bound.now ≡ false)
-        (λ w. (is_bound names.now bound.now ≡ true) × (w ≡ bound_numbers names.now bound.now)) }
-{
-    let Some(longer) = resolve_region(names, bound.0) else {
-        return None;
-    };
-    let Some(shorter) = resolve_region(names, bound.1) else {
-        return None;
-    };
-    Some((longer, shorter))
-}
-
 // Adds the numbers of bounds' regions, where all names are declared.
 fn resolve_bounds(
     names: &Names,
@@ -69,10 +54,13 @@ fn resolve_bounds(
 {
     let slice = Slice::of(statements.call_counts().1, bounds.len())?;
     for bound in bounds {
-        match resolve_bound(names, bound) {
-            Some(numbers) => statements.add_pair(numbers)?,
-            None => return Ok(None),
-        }
+        let Some(longer) = resolve_region(names, bound.0) else {
+            return Ok(None);
+        };
+        let Some(shorter) = resolve_region(names, bound.1) else {
+            return Ok(None);
+        };
+        statements.add_pair((longer, shorter))?;
     }
     Ok(Some(slice))
 }

@@ -87,13 +87,6 @@ pub(crate) fn pop_reference(rows: &mut Rows) -> Option<(bool, RegionId)>
     None
 }
 
-// Whether it is a region.
-fn is_region(mark: Mark) -> bool
-    ensures { result ≡ spec.is_region mark }
-{
-    matches!(mark, Mark::Region(_))
-}
-
 /// Whether arguments are of these kinds.
 pub(crate) fn are_of(arguments: &[Mark], kinds: &[bool]) -> bool
     ensures { result ≡ naming.same_kinds (map spec.is_region arguments.now) kinds.now }
@@ -102,7 +95,7 @@ pub(crate) fn are_of(arguments: &[Mark], kinds: &[bool]) -> bool
         return false;
     }
     for number in 0..arguments.len() {
-        if is_region(arguments[number]) != kinds[number] {
+        if matches!(arguments[number], Mark::Region(_)) != kinds[number] {
             return false;
         }
     }

@@ -11,9 +11,8 @@ ghost use Rattle.nll_types.specs.declared.body_types.BodyTypes.{BodyTypes as kep
 ghost use Rattle.nll_format.specs.Names.{number_of};
 ghost use Rattle.nll_sets.specs.Prefix.{IsPrefix};
 ghost use Rattle.nll_mir_grammar.specs.WrittenTypes.{Name as name};
-ghost use Rattle.nll_mir_grammar.specs.TypeTexts.{add_region, add_type, begin_reference};
-ghost use Rattle.nll_mir_grammar.specs.TypeTexts.{begin_row, make_int, make_function, make_named};
-ghost use Rattle.nll_mir_grammar.specs.TypeTexts.{make_tuple, plain, written};
+ghost use Rattle.nll_mir_grammar.specs.TypeTexts.{add_region, begin_reference, make_function};
+ghost use Rattle.nll_mir_grammar.specs.TypeTexts.{make_named, make_tuple, plain, written};
 ghost use Rattle.nll_mir_text.specs.Naming.{Scope as naming_scope, has_arguments, is_among};
 ghost use Rattle.nll_mir_text.specs.Naming.{is_known};
 ghost use Rattle.nll_mir_text.specs.Resolution.{HasRoom, IsResolved, scope_of};
@@ -80,16 +79,6 @@ fn put_type(node: Node, types: &mut BodyTypes, made: &mut Resolving) -> Result<(
     Ok(())
 }
 
-// An `int` is made.
-fn put_int(types: &mut BodyTypes, made: &mut Resolving) -> Result<(), Memory>
-    requires below { AreBelow (length types.old.table.shapes) made.old.shapes.items }
-    ensures grows { AddsShapes types.old.table types.new.table }
-    ensures made { OnOk result ((s : naming_scope)
-        → Resolves s make_int types.old made.old types.new made.new true) }
-{
-    put_type(Node::Int, types, made)
-}
-
 // A reference waits for the next type, where its region is known.
 fn put_reference(
     scope: &Scope<'_>,
@@ -109,17 +98,6 @@ fn put_reference(
     Ok(known)
 }
 
-// A row begins.
-fn put_row(types: &BodyTypes, made: &mut Resolving) -> Result<(), Memory>
-    requires below { AreBelow (length types.now.table.shapes) made.old.shapes.items }
-    ensures made { OnOk result ((s : naming_scope)
-        → Resolves s begin_row types.now made.old types.now made.new true) }
-{
-    made.rows
-        .push(Mark::Row(made.shapes.len(), types.regions.len()))?;
-    Ok(())
-}
-
 // A region is in the newest row, where it is known.
 fn put_region(scope: &Scope<'_>, region: &[u8], made: &mut Resolving) -> Result<bool, Memory>
     requires room { HasRoom scope.now }
@@ -131,16 +109,6 @@ fn put_region(scope: &Scope<'_>, region: &[u8], made: &mut Resolving) -> Result<
     let (number, known) = find(scope.regions, region);
     made.rows.push(Mark::Region(RegionId(number as u32)))?;
     Ok(known)
-}
-
-// The newest type is in the newest row.
-fn put_part(made: &mut Resolving) -> Result<(), Memory>
-    ensures made { OnOk result ((s : naming_scope) (types : kept_types)
-        → AreBelow (length types.table.shapes) made.old.shapes.items
-        → Resolves s add_type types made.old types made.new true) }
-{
-    made.rows.push(Mark::Part)?;
-    Ok(())
 }
 
 // The tuple of the newest row is made.
@@ -265,9 +233,11 @@ fn resolve_piece(
         }
         TypePiece::Region(region) => return put_region(scope, region, made),
         TypePiece::Named(name) => return put_named(alloc, scope, name, types, made),
-        TypePiece::Int => put_int(types, made)?,
-        TypePiece::Row => put_row(types, made)?,
-        TypePiece::Part => put_part(made)?,
+        TypePiece::Int => put_type(Node::Int, types, made)?,
+        TypePiece::Row => made
+            .rows
+            .push(Mark::Row(made.shapes.len(), types.regions.len()))?,
+        TypePiece::Part => made.rows.push(Mark::Part)?,
         TypePiece::Tuple => put_tuple(alloc, types, made)?,
         TypePiece::Function => put_function(alloc, types, made)?,
     }

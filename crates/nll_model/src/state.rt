@@ -1,7 +1,6 @@
 //! The state of a world, and what each event does to it.
 
-ghost use Rattle.std.specs.Prelude.{◌≡◌, ◌≢◌, ◌↔◌, ℕ, ◌<◌, length, Err, OnOk};
-ghost use Rattle.std.specs.Prelude.{OnErr, IfOk, IsTrue};
+ghost use Rattle.std.specs.Prelude.{◌≡◌, ◌≢◌, ◌↔◌, ℕ, ◌<◌, length, Err, OnOk, OnErr, IfOk, IsTrue};
 ghost use Rattle.nll_problem.specs.Problem.{Problem};
 ghost use Rattle.nll_core.specs.Values.{IsHeld, IsShaped};
 ghost use Rattle.nll_cut.specs.Partition.{Cut};

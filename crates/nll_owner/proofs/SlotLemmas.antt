@@ -31,11 +31,6 @@ range_push a (suc n) = let on : a + 1 + n ≡ a + suc n = omega arith in
 
 -- ---- those of them that pass a test
 
-pub filter_alike : (p q : ℕ → Bool) (xs : List ℕ) → ((x : ℕ) → p x ≡ q x) → filter p xs ≡ filter q xs
-filter_alike p q [] same = refl
-filter_alike p q (x ∷ xs) same = ap (λ b. cond b (x ∷ filter p xs) (filter p xs)) (same x)
-    ∙ ap (λ ys. cond (q x) (x ∷ ys) ys) (filter_alike p q xs same)
-
 pub held_more : (n : ℕ) (c : Cut) (i : ℕ) (reading : ℕ → Bool)
     → held_below (n + 1) c i reading ≡ held_below n c i reading ++ cond (holds_region c i reading n) (n ∷ []) []
 held_more n c i reading =

@@ -15,7 +15,6 @@ use crate::outboxes::Outboxes;
 use crate::slots::Slots;
 use crate::tables::Tables;
 use fixpoint::PartError;
-use nll_core::Steps;
 use nll_cut::Cut;
 use nll_mail::Growth;
 use nll_problem::Problem;
@@ -66,26 +65,9 @@ pub fn load_all(
     ensures done { OnOk result (IsDone knowledge.new) }
     ensures whole { result ≡ Err Broken → ⊥ }
 {
-    load_and_settle(knowledge, following, &tables.steps)?;
-    knowledge.queue(&tables.readers, outboxes)?;
-    Ok(())
-}
-
-// Enters the base elements, and settles.
-fn load_and_settle(
-    knowledge: &mut Knowledge,
-    following: &mut Following,
-    steps: &Steps,
-) -> Result<(), Memory>
-    requires sound { IsSound knowledge.old }
-    requires steps { steps.now ≡ knowledge.old.problem.graph }
-    requires following { IsFollowing Nothing knowledge.old following.old }
-    ensures grows { Grows knowledge.old knowledge.new }
-    ensures following { OnOk result (IsFollowing Nothing knowledge.new following.new) }
-    ensures done { OnOk result (IsDone knowledge.new) }
-{
     knowledge.enter_bases()?;
-    following.settle(knowledge, steps)?;
+    following.settle(knowledge, &tables.steps)?;
+    knowledge.queue(&tables.readers, outboxes)?;
     Ok(())
 }
 
@@ -113,31 +95,8 @@ pub fn receive_and_queue(
     ensures done { OnOk result (IsDone knowledge.new) }
     ensures whole { result ≡ Err Broken → ⊥ }
 {
-    receive_and_settle(knowledge, following, &tables.steps, from, growths)?;
+    knowledge.enter_all_received(from, growths)?;
+    following.follow_all(knowledge, &tables.steps, growths)?;
     knowledge.queue(&tables.readers, outboxes)?;
     Ok(())
-}
-
-// Enters growths into the copies of their regions, and settles.
-fn receive_and_settle(
-    knowledge: &mut Knowledge,
-    following: &mut Following,
-    steps: &Steps,
-    from: u16,
-    growths: &[Growth],
-) -> Result<(), Memory>
-    requires sound { IsSound knowledge.old }
-    requires steps { steps.now ≡ knowledge.old.problem.graph }
-    requires loaded { knowledge.old.loaded ≡ true }
-    requires following { IsFollowing Nothing knowledge.old following.old }
-    requires passes { let o = knowledge.old in (g : Growth) → Contains growths.now g
-        → Passes o.problem o.cut o.me from g }
-    ensures receives { Receives from growths.now knowledge.old knowledge.new }
-    ensures received { OnOk result
-        (knowledge.new.received ≡ with_growths knowledge.old.received from growths.now) }
-    ensures following { OnOk result (IsFollowing Nothing knowledge.new following.new) }
-    ensures done { OnOk result (IsDone knowledge.new) }
-{
-    knowledge.enter_all_received(from, growths)?;
-    following.follow_all(knowledge, steps, growths)
 }

@@ -1,10 +1,8 @@
 //! The sets that an owner gives up at the end.
 
 ghost use Rattle.std.specs.Prelude.{◌≡◌, ◌≢◌, ◌↔◌, ◌<◌, ℕ, Bool, List, [], Contains, length};
-ghost use Rattle.nll_core.specs.Values.{set_of};
 ghost use Rattle.nll_cut.specs.Partition.{owner_of};
 ghost use Rattle.nll_owner.specs.Holding.{HasSet};
-ghost use Rattle.nll_owner.specs.Keeping.{IsSlotIn};
 
 use crate::slots::Slots;
 use nll_core::Values;
@@ -62,7 +60,11 @@ impl Holding {
             → HasSet result r set ↔ HasSet (record { regions = slots; sets = values }) r set }
     {
         let mut values = values;
-        empty_copies(alloc, cut, me, &slots, &mut values);
+        for slot in 0..slots.len() {
+            if cut.owner_of(slots.region(slot)) != me {
+                drop(values.take(alloc, RegionId(slot)));
+            }
+        }
         Holding { slots, values }
     }
 
@@ -79,20 +81,5 @@ impl Holding {
     {
         let slot = self.slots.find(region).unwrap();
         self.values.take(alloc, slot)
-    }
-}
-
-// Frees the sets of the regions of other owners.
-fn empty_copies(alloc: Global, cut: &Cut, me: u16, slots: &Slots, values: &mut Values)
-    requires as_many { length values.old ≡ length slots.now }
-    requires regions { (r : ℕ) → Contains slots.now r → r < length cut.now.list }
-    ensures size { length values.new ≡ length values.old }
-    ensures own { (s r : ℕ) → IsSlotIn slots.now s r → owner_of cut.now r ≡ me
-        → set_of values.new s ≡ set_of values.old s }
-{
-    for slot in 0..slots.len() {
-        if cut.owner_of(slots.region(slot)) != me {
-            drop(values.take(alloc, RegionId(slot)));
-        }
     }
 }

@@ -2,8 +2,7 @@
 
 ghost use Rattle.std.specs.Prelude.{◌≡◌, ◌⊎◌, ◌↔◌, ℕ, ◌+◌, ◌<◌, ◌≤◌, ◌^◌, true, false, max, []};
 ghost use Rattle.std.specs.Prelude.{Some, Contains, length, take, slice_get, slice_set};
-ghost use Rattle.std.specs.Prelude.{IsTrue, map};
-ghost use Rattle.std.specs.Prelude.{replicate, IfOk, OnOk, OnErr, IfSome, IfNone};
+ghost use Rattle.std.specs.Prelude.{IsTrue, map, replicate, IfOk, OnOk, OnErr, IfSome, IfNone};
 ghost use Rattle.std.specs.Prelude.{min, ◌-◌, ◌++◌, vec_len, vec_capacity};
 ghost use Rattle.std.specs.List.{sum, sum_by};
 ghost use Rattle.nll_sets.specs.Runs.{IsInRuns, IsWithin};

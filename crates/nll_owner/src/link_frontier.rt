@@ -69,7 +69,8 @@ impl LinkFrontier {
     {
         match &self.state {
             State::Kept(frontier) => frontier.is_idle(run),
-            State::Fresh(at) => is_outside(*at, run),
+            State::Fresh(At::All) => false,
+            State::Fresh(At::Point(point)) => *point < run.first || run.last < *point,
         }
     }
 
@@ -106,15 +107,5 @@ fn frontier_of_two(alloc: Global, first: At, second: At) -> Result<Box<Frontier>
     match frontier.add(alloc, second) {
         Ok(()) => Ok(Box::new(alloc, frontier)?),
         Err(error) => Err(error),
-    }
-}
-
-// Whether a place is neither all points nor a point of a run.
-fn is_outside(at: At, run: Run) -> bool
-    ensures { result ≡ true → IsIdle (at ∷ []) run [] }
-{
-    match at {
-        At::All => false,
-        At::Point(point) => point < run.first || run.last < point,
     }
 }

@@ -41,8 +41,12 @@ impl LinkRow {
         ensures empty { OnOk result (list.new.items ≡ []) }
     {
         if list.len() > 1 {
-            let links = Links::Many(moved(alloc, list)?);
-            return Ok(LinkRow { links });
+            // It has no room beyond the links.
+            let mut links = Vec::with_capacity(alloc, list.len())?;
+            links.append(list)?;
+            return Ok(LinkRow {
+                links: Links::Many(links),
+            });
         }
         match list.pop() {
             Some(link) => Ok(LinkRow {
@@ -72,16 +76,6 @@ impl LinkRow {
             Links::Many(links) => advance_all(knowledge, due, links, found),
         }
     }
-}
-
-// The links of a list, moved to a list that has no room beyond them.
-fn moved(alloc: Global, list: &mut Vec<Link>) -> Result<Vec<Link>, Memory>
-    ensures items { IfOk result (λ links. links.items ≡ list.old.items) }
-    ensures empty { OnOk result (list.new.items ≡ []) }
-{
-    let mut links = Vec::with_capacity(alloc, list.len())?;
-    links.append(list)?;
-    Ok(links)
 }
 
 // Hands the first runs of a list to the links that read their region.

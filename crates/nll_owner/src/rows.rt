@@ -1,7 +1,7 @@
 //! How runs are handed to the links that read their regions.
 
-ghost use Rattle.std.specs.Prelude.{◌≡◌, ◌↔◌, ◌<◌, ◌≤◌, ℕ, Contains, length, map, drop};
-ghost use Rattle.std.specs.Prelude.{IfOk, IsTrue, OnOk, slice_index_or};
+ghost use Rattle.std.specs.Prelude.{◌≡◌, ◌<◌, ◌≤◌, ℕ, Contains, length, map, drop, IfOk, OnOk};
+ghost use Rattle.std.specs.Prelude.{slice_index_or};
 ghost use Rattle.nll_owner.specs.Owner.{IsSound};
 ghost use Rattle.nll_owner.specs.Keeping.{Grows};
 ghost use Rattle.nll_owner.specs.Following.{IsLinkOf, IsFollowing, LacksOnly};
@@ -91,15 +91,8 @@ fn count_of(region: RegionId, runs: &[RegionRun]) -> usize
         → n < result → slice_index_or runs.now n k ≡ k → k.region ≡ region }
 {
     let mut count = 1;
-    while count < runs.len() && is_of(region, &runs[count]) {
+    while count < runs.len() && runs[count].region == region {
         count += 1;
     }
     count
-}
-
-// Whether a run is of a region.
-fn is_of(region: RegionId, run: &RegionRun) -> bool
-    ensures { IsTrue result ↔ run.now.region ≡ region }
-{
-    run.region == region
 }

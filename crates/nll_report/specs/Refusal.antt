@@ -13,8 +13,7 @@ use Rattle.nll_report.specs.declared.messages.Refusal.{Refusal}
 use Rattle.nll_report.specs.declared.messages.Refusal.TheVariants.{Usage, CannotRead, Text}
 use Rattle.nll_report.specs.declared.messages.Refusal.TheVariants.{Limit, CutText, CutLength}
 use Rattle.nll_report.specs.declared.messages.Refusal.TheVariants.{NoSuchOwner, ScheduleText}
-use Rattle.nll_report.specs.declared.messages.Refusal.TheVariants.{Thread}
-use Rattle.nll_report.specs.declared.messages.Refusal.TheVariants.{Memory, CannotWrite}
+use Rattle.nll_report.specs.declared.messages.Refusal.TheVariants.{Thread, Memory, CannotWrite}
 use Rattle.nll_cut.specs.declared.error.CutError.{CutError}
 use Rattle.nll_cut.specs.declared.error.CutError.TheVariants as cut
 use Rattle.run.specs.declared.error.RunError.TheVariants as run

@@ -12,8 +12,7 @@ use Rattle.nll_command_line.specs.declared.options.Deal.{Deal}
 use Rattle.nll_report.specs.Owners.{IsAskedCut, IsCutRefused, IsFileMeaning, IsFileTold}
 use Rattle.nll_report.specs.Texts.{Holds, Lacks}
 use Rattle.nll_report.specs.declared.messages.Refusal.{Refusal}
-use Rattle.nll_report.specs.declared.messages.Refusal.TheVariants.{CannotRead, ScheduleText}
-use Rattle.nll_report.specs.declared.messages.Refusal.TheVariants.{Memory}
+use Rattle.nll_report.specs.declared.messages.Refusal.TheVariants.{CannotRead, ScheduleText, Memory}
 
 -- a text of the schedule's file lists these events of this many owners
 abbrev pub IsListedSchedule : Holds → List ℕ → ℕ → List Event → Type 0

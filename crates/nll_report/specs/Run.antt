@@ -23,8 +23,7 @@ use Rattle.nll_command_line.specs.Help.{help_for}
 use Rattle.nll_command_line.specs.declared.error.LineError.{LineError}
 use Rattle.nll_command_line.specs.declared.error.LineError.TheVariants as line
 use Rattle.nll_command_line.specs.Grammar.{AsksForHelp}
-use Rattle.nll_report.specs.Owners.{AsksForOwners, IsFileTold, IsOwnersRefused}
-use Rattle.nll_report.specs.Owners.{count_of, deal_of}
+use Rattle.nll_report.specs.Owners.{AsksForOwners, IsFileTold, IsOwnersRefused, count_of, deal_of}
 use Rattle.nll_report.specs.Replays.{IsFileReplay, IsFileReplayRefused}
 use Rattle.nll_report.specs.Sink.{IsCut}
 use Rattle.nll_report.specs.Texts.{Holds, Lacks}

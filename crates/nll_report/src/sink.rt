@@ -1,6 +1,5 @@
 //! The streams that the program writes to.
-ghost use Rattle.std.specs.Prelude.{◌≤◌, ℕ, List, None, Option, IfErr, OnErr, OnOk};
-ghost use Rattle.std.specs.Prelude.{length, take};
+ghost use Rattle.std.specs.Prelude.{◌≤◌, ℕ, List, None, Option, IfErr, OnErr, OnOk, length, take};
 ghost use Rattle.std.specs.Io.KnownBytes.{Appends};
 ghost use Rattle.std.specs.List.{flat_map};
 ghost use Rattle.nll_report.specs.Sink.{IsCut, LeavesRoom, MayRefuse};

@@ -6,8 +6,7 @@ use Rattle.nll_types.specs.Types.{TypeTree, reference, tuple, named, function, t
 use Rattle.nll_types.specs.Structs.{Struct, struct_at}
 use Rattle.nll_types.specs.declared.parameter.Parameter.{Parameter}
 use Rattle.nll_types.specs.declared.parameter.Sign.{Sign}
-use Rattle.nll_types.specs.declared.parameter.Sign.TheVariants.{Covariant, Contravariant}
-use Rattle.nll_types.specs.declared.parameter.Sign.TheVariants.{Invariant}
+use Rattle.nll_types.specs.declared.parameter.Sign.TheVariants.{Covariant, Contravariant, Invariant}
 
 -- The product of two signs: that of a position inside another. Inside a covariant position each
 -- sign stays, inside a contravariant one it is reversed, and inside an invariant one all are

@@ -1,7 +1,6 @@
 -- How the code finds the references on which a reborrow rests.
 -- Source: project's choice. Only private contracts cite this file.
-use Rattle.std.specs.Prelude.{ℕ, Bool, true, false, List, [], ◌∷◌, ◌++◌}
-use Rattle.std.specs.Prelude.{option_map, unwrap_or}
+use Rattle.std.specs.Prelude.{ℕ, Bool, true, false, List, [], ◌∷◌, ◌++◌, option_map, unwrap_or}
 use Rattle.nll_types.specs.Types.{TypeTree, reference}
 use Rattle.nll_types.specs.Structs.{Struct}
 use Rattle.nll_types.specs.Places.{behind}

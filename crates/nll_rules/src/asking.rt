@@ -1,7 +1,6 @@
 //! What a statement or terminator asks.
 
-ghost use Rattle.std.specs.Prelude.{◌≡◌, [], All, Bool, IfSome, OnOk, Option, Some};
-ghost use Rattle.std.specs.Prelude.{map, true};
+ghost use Rattle.std.specs.Prelude.{◌≡◌, [], All, Bool, IfSome, OnOk, Option, Some, map, true};
 ghost use Rattle.nll_types.specs.Operands.{reference_to};
 ghost use Rattle.nll_types.specs.Places.{behind};
 ghost use Rattle.nll_types.specs.Rows.{HasRow};

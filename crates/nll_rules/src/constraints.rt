@@ -7,7 +7,6 @@ ghost use Rattle.nll_problem.specs.Problem.{SameSet};
 ghost use Rattle.nll_body.specs.Sound.{IsSound};
 ghost use Rattle.nll_rules.specs.Adding.{AddsConstraints, AreAskedAt, AreRegions};
 ghost use Rattle.nll_rules.specs.Adding.{IsOfPair, IsOfPairs, IsOfPairsEverywhere, IsRefused};
-ghost use Rattle.nll_rules.specs.Adding.{everywhere};
 ghost use Rattle.nll_rules.specs.Knowing.{IsOfBody};
 ghost use Rattle.nll_rules.specs.BodyProblem.{IsAskedAt, IsAskedSomewhere, IsConstraint};
 
@@ -47,26 +46,11 @@ fn add_everywhere(builder: &mut ProblemBuilder, pairs: &[(u32, u32)]) -> Result<
     ensures err { IfErr result (IsRefused (IsOfPairsEverywhere pairs.now) builder.old) }
 {
     for pair in pairs {
-        add_one_everywhere(builder, *pair)?;
+        let (sup, sub) = (RegionId(pair.0), RegionId(pair.1));
+        let at = At::All;
+        add_constraint(builder, Constraint { sup, sub, at })?;
     }
     Ok(())
-}
-
-// Adds a pair of regions at all points.
-fn add_one_everywhere(builder: &mut ProblemBuilder, pair: (u32, u32)) -> Result<(), BuildError>
-    requires { AreRegions pair builder.old }
-    ensures ok { OnOk result
-        (AddsConstraints (λ c. everywhere pair ≡ c) builder.old builder.new) }
-    ensures err { IfErr result (IsRefused (λ c. everywhere pair ≡ c) builder.old) }
-{
-    add_constraint(
-        builder,
-        Constraint {
-            sup: RegionId(pair.0),
-            sub: RegionId(pair.1),
-            at: At::All,
-        },
-    )
 }
 
 // Adds the constraints that the statements of a body ask.
@@ -130,20 +114,13 @@ fn add_next(
     add_known(body, point, asked.pairs.as_slice(), builder)
 }
 
-// Sorts pairs, and keeps each once.
-fn sort_once(pairs: &mut Vec<(RegionId, RegionId)>)
-    ensures { SameSet pairs.old.items pairs.new.items }
-{
-    pairs.sort_unstable();
-    pairs.dedup();
-}
-
 // Keeps each pair once, where there are many.
 fn keep_once(pairs: &mut Vec<(RegionId, RegionId)>)
     ensures { SameSet pairs.old.items pairs.new.items }
 {
     if pairs.len() > FEW {
-        sort_once(pairs);
+        pairs.sort_unstable();
+        pairs.dedup();
     }
 }
 

@@ -5,8 +5,7 @@ ghost use Rattle.nll_problem.specs.Answers.{AddsFact};
 ghost use Rattle.nll_problem.specs.BaseRuns.{AddsRun, IsProper};
 ghost use Rattle.nll_problem.specs.Limits.{most_regions};
 ghost use Rattle.nll_problem.specs.Problem.{IsUniversal};
-ghost use Rattle.nll_rules.specs.Adding.{AddsBases, AddsOutlives};
-ghost use Rattle.nll_rules.specs.Adding.{AreOfPoints, AreOfUniversals};
+ghost use Rattle.nll_rules.specs.Adding.{AddsBases, AddsOutlives, AreOfPoints, AreOfUniversals};
 
 use nll_problem::{BaseRun, BuildError, ProblemBuilder, RegionId};
 

@@ -1,13 +1,10 @@
 //! The fields of structs that are known: their shapes, and where their regions are in the row of
 //! the struct.
 
-ghost use Rattle.std.specs.Prelude.{◌≡◌, Contains, IfOk, IfSome};
+ghost use Rattle.std.specs.Prelude.{◌≡◌, IfOk};
 ghost use Rattle.nll_types.specs.Structs.{region_in};
-ghost use Rattle.nll_rules.specs.Knowing.{IsAmongUses};
 ghost use Rattle.nll_rules.specs.TypeRows.{row_from};
 
-use crate::type_row::TypeRow;
-use indexmap::IndexMap;
 use nll_problem::RegionId;
 use nll_sets::Memory;
 use std::alloc::Global;
@@ -60,21 +57,4 @@ pub(crate) struct FieldUse {
     pub(crate) shape: usize,
     pub(crate) place: usize,
     pub(crate) row: Vec<RegionId>,
-}
-
-/// What is known of a field.
-pub(crate) fn known_field(
-    fields: &IndexMap<FieldKey, FieldRow>,
-    sought: FieldKey,
-) -> Option<&FieldRow>
-    ensures { IfSome result (λ f. Contains fields.now.entries (sought, f.now)) }
-{
-    fields.get(&sought)
-}
-
-/// The type of a field of a use that is known.
-pub(crate) fn known_use(uses: &IndexMap<FieldUse, TypeRow>, sought: &FieldUse) -> Option<TypeRow>
-    ensures { IfSome result (IsAmongUses uses.now.entries sought.now) }
-{
-    uses.get(sought).copied()
 }

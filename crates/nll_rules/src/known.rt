@@ -16,8 +16,8 @@ ghost use Rattle.nll_rules.specs.Pairs.{AddsPairs};
 ghost use Rattle.nll_rules.specs.Subtyping.{SubtypeAsks};
 ghost use Rattle.nll_rules.specs.TypeRows.{form, row_from, row_length};
 
-use crate::fields::{FieldKey, FieldRow, FieldUse, known_field, known_use};
-use crate::meetings::{Meeting, Pairs, known_pairs};
+use crate::fields::{FieldKey, FieldRow, FieldUse};
+use crate::meetings::{Meeting, Pairs};
 use crate::part_rows::{field_template, tuple_part, use_row};
 use crate::reborrow::ask_own;
 use crate::row_signs::{SignTable, ask_rows};
@@ -26,7 +26,7 @@ use indexmap::IndexMap;
 use nll_body::{Statements, TypedBody};
 use nll_problem::RegionId;
 use nll_sets::Memory;
-use nll_types::{Node, Shapes, Typed, part_once};
+use nll_types::{Node, Shapes, Typed, part};
 use std::alloc::Global;
 use std::marker::Model;
 
@@ -255,12 +255,7 @@ impl<'a> Known<'a> {
             ≡ behind_shape self.old.structs (field place) (shape_in self.old.table shape)) }
     {
         let structs = self.body.types.table.structs();
-        // A field is kept in `fields`, so what this remembers serves no second time.
-        let mut once = IndexMap::new(alloc);
-        let made = part_once(alloc, structs, &mut self.shapes, &mut once, shape, place);
-        // Early drop.
-        drop(once);
-        made
+        part(alloc, structs, &mut self.shapes, shape, place)
     }
 
     // The template of a field of a struct of this shape, where it has the field.
@@ -329,7 +324,7 @@ impl<'a> Known<'a> {
         ensures row { IfOk result (IsFieldOfUse self.old self.new shape place row.now) }
     {
         let sought = FieldKey { shape, place };
-        if let Some(known) = known_field(&self.fields, sought) {
+        if let Some(known) = self.fields.get(&sought) {
             let made = known.of(alloc, row)?;
             let part = self.lists.add(known.shape, made.as_slice())?;
             return Ok(Some(part));
@@ -382,7 +377,7 @@ impl<'a> Known<'a> {
         ensures row { IfOk result
             (IsFieldOfUse self.old self.new used.shape used.place used.row.items) }
     {
-        match known_use(&self.uses, &used) {
+        match self.uses.get(&used).copied() {
             Some(known) => Ok(Some(known)),
             None => self.add_use(alloc, used),
         }
@@ -477,10 +472,8 @@ impl<'a> Known<'a> {
             asked.old.items asked.new.items) }
     {
         let mut pairs = Vec::new(alloc);
-        match self.zip(alloc, meeting, &mut pairs) {
-            Ok(()) => self.add_pairs(meeting, pairs, asked),
-            Err(memory) => Err(memory),
-        }
+        self.zip(alloc, meeting, &mut pairs)?;
+        self.add_pairs(meeting, pairs, asked)
     }
 
     // Appends what two types ask that meet. Of large types it is found once.
@@ -499,7 +492,7 @@ impl<'a> Known<'a> {
         if meeting.other.count < FEW_REGIONS {
             return self.zip(alloc, meeting, asked);
         }
-        match known_pairs(&self.asked, meeting) {
+        match self.asked.get(&meeting) {
             Some(pairs) => {
                 asked.extend_from_slice(pairs.as_slice())?;
                 Ok(())

@@ -1,7 +1,7 @@
 //! The signs of the regions in a type's row, which its shape has, and where in a row the rows of
 //! parts are.
 
-ghost use Rattle.std.specs.Prelude.{◌≡◌, ◌<◌, ◌++◌, ◌↔◌, ◌⊎◌, ℕ, [], length, MatchOption};
+ghost use Rattle.std.specs.Prelude.{◌≡◌, ◌<◌, ◌++◌, ◌↔◌, ℕ, [], length, MatchOption};
 ghost use Rattle.std.specs.Prelude.{IfOk, OnOk, Some, slice_get};
 ghost use Rattle.nll_types.specs.Declarations.{structs_of};
 ghost use Rattle.nll_types.specs.Table.{AreBelow, all_at, shape_in, shapes_in};
@@ -16,7 +16,7 @@ ghost use Rattle.nll_rules.specs.TypeRows.{starts_from};
 ghost use Rattle.nll_rules.specs.declared.row_signs.ShapeSigns.{ShapeSigns as shape_signs};
 
 use crate::meetings::Pairs;
-use crate::sign::{region_parameters, sign_or, target_sign, times, type_parameters};
+use crate::sign::{region_parameters, sign_or, times, type_parameters};
 use nll_problem::RegionId;
 use nll_sets::Memory;
 use nll_types::{Node, Parameter, Shapes, Sign, Structs};
@@ -148,7 +148,7 @@ fn push_signs(
     match shapes.node(shape) {
         Node::Int | Node::Parameter(_) => Ok(()),
         Node::Reference(mutable, target) => {
-            let behind = times(outer, target_sign(*mutable));
+            let behind = if *mutable { Sign::Invariant } else { outer };
             push_signs(structs, shapes, *target, behind, signs)?;
             signs.push(outer)?;
             Ok(())
@@ -297,19 +297,6 @@ impl SignTable {
         }
     }
 
-    // Keeps what is known of a shape.
-    fn put(&mut self, shape: usize, made: ShapeSigns) -> Result<(), Memory>
-        ensures known { OnOk result (slice_get self.new.known.items shape ≡ Some (Some made)) }
-        ensures right { (k : ℕ) (e : shape_signs)
-            → slice_get self.new.known.items k ≡ Some (Some e)
-            → (slice_get self.old.known.items k ≡ Some (Some e)) ⊎ ((k ≡ shape) × (e ≡ made)) }
-        ensures kept { (k : ℕ) → AreKnown self.old.known.items k → AreKnown self.new.known.items k }
-    {
-        make_place(&mut self.known, shape)?;
-        self.known[shape] = Some(made);
-        Ok(())
-    }
-
     /// Makes the signs of a shape, where they aren't known. What was known stays so.
     ///
     /// # Cost
@@ -330,7 +317,9 @@ impl SignTable {
         if self.get(shape).is_some() {
             return Ok(());
         }
+        make_place(&mut self.known, shape)?;
         let made = signs_of(alloc, structs, shapes, shape)?;
-        self.put(shape, made)
+        self.known[shape] = Some(made);
+        Ok(())
     }
 }

@@ -22,17 +22,6 @@ pub(crate) fn times(outer: Sign, inner: Sign) -> Sign
     }
 }
 
-/// The sign of what a reference points to.
-pub(crate) fn target_sign(mutable: bool) -> Sign
-    ensures { result ≡ spec.target_sign mutable }
-{
-    if mutable {
-        Sign::Invariant
-    } else {
-        Sign::Covariant
-    }
-}
-
 /// The sign of a parameter, or this one where there is no such parameter.
 pub(crate) fn sign_or(parameters: &[Parameter], place: usize, other: Sign) -> Sign
     ensures { result ≡ spec.sign_or parameters.now place other }

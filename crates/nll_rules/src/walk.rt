@@ -1,7 +1,6 @@
 //! The types of places, and the references on which a reborrow of a place rests.
 
-ghost use Rattle.std.specs.Prelude.{◌≡◌, ◌↔◌, ◌<◌, ℕ, length};
-ghost use Rattle.std.specs.Prelude.{Contains, IfOk, OnOk};
+ghost use Rattle.std.specs.Prelude.{◌≡◌, ◌↔◌, ◌<◌, ℕ, length, Contains, IfOk, OnOk};
 ghost use Rattle.nll_types.specs.Places.{behind, type_of};
 ghost use Rattle.nll_types.specs.Types.{TypeTree};
 ghost use Rattle.nll_body.specs.Flat.{path_in};

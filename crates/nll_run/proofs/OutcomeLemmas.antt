@@ -1,5 +1,5 @@
 -- The outcome of a run of the regions' parts, in the words of regions.
-use Rattle.std.proofs.Common.{◌≡◌, ◌↔◌, ℕ, ◌<◌, Bool, List, [], Result, Ok, Err, IfOk, Some, length, slice_get, slice_index_or, get_or, sym, subst, arith}
+use Rattle.std.proofs.Common.{◌≡◌, ◌↔◌, ℕ, ◌<◌, Bool, List, [], Result, Ok, Err, IfOk, arith}
 use Rattle.std.proofs.lemmas.Option.{slice_get-get_or}
 use Rattle.mail.specs.declared.mail.Mail as Mail
 use Rattle.run.specs.Outcome as generic

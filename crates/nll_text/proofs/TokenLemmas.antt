@@ -193,9 +193,6 @@ some_token (b ∷ bs) solid e = (let h = has_first b bs solid in let f = sym h.t
 
 -- ---- the bytes behind the blanks
 
-pub core_solid : (line : List ℕ) → first_passes is_blank (without_front_blanks line) ≡ false
-core_solid line = (splits_while is_blank line).stops
-
 pub core_tokens : (line : List ℕ) → tokens_in (without_front_blanks line) ≡ tokens_in line
 core_tokens line =
     let s = splits_while is_blank line in

@@ -3,8 +3,7 @@
 //! This is the plain program with which tests compare `nll_live`'s: it knows no predecessors, no
 //! marks and no runs.
 
-ghost use Rattle.std.specs.Prelude.{◌≡◌, ◌↔◌, ◌<◌, ℕ, true, false, length, IsTrue};
-ghost use Rattle.std.specs.Prelude.{Contains, IfOk};
+ghost use Rattle.std.specs.Prelude.{◌≡◌, ◌↔◌, ◌<◌, ℕ, true, false, length, IsTrue, Contains, IfOk};
 ghost use Rattle.nll_sets.specs.ElementSet.{flag};
 ghost use Rattle.nll_live.specs.Live.{DefinesAt, GoesOnUndefined, IsLive};
 ghost use Rattle.nll_text_tests.specs.LiveRounds.{Flags, GoesOnToFlagged, IsNew, unflagged};

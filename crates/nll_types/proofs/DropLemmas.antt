@@ -1,6 +1,6 @@
 -- Drop regions of each form of type, and the sources that they come from.
-use Rattle.std.proofs.Common.{◌≡◌, ℕ, ◌+◌, ◌<◌, List, [], ◌∷◌, ◌++◌, length, map, refl, sym, ap, ◌∙◌, subst, arith, Bool, false, inl, inr, ⊎_elim, ◌⊎◌, ◌↔◌, Contains}
-use Rattle.std.proofs.lemmas.Bool.{cases_lt}
+use Rattle.std.proofs.Common.{◌≡◌, ℕ, ◌+◌, ◌<◌, List, [], ◌∷◌, ◌++◌, length, map, refl, sym, ap, ◌∙◌, subst, arith, Bool, true, false, ◌||◌, inl, inr, ⊎_elim, ◌⊎◌, ◌↔◌, Contains}
+use Rattle.std.proofs.lemmas.Bool.{cases_lt, false≢true}
 use Rattle.std.proofs.lemmas.List.{length-map}
 use Rattle.std.proofs.lemmas.Option.{slice_get-get_or, slice_get_within, get_or_from_slice_get}
 use Rattle.std.specs.Prelude.{slice_get, Option, Some, IsTrue}
@@ -286,3 +286,7 @@ pub wanted_flags : (structs : List Struct) (w w' d d' : Type 0) (t : TypeTree) (
 wanted_flags structs w w' d d' t a b e f = adds_as structs _ _ a b
     (λ rs ts r. ⊎_elim (λ h. inl (e.0 h.0, h.1)) (λ h. inr (f.0 h.0, h.1)))
     (λ rs ts r. ⊎_elim (λ h. inl (e.1 h.0, h.1)) (λ h. inr (f.1 h.0, h.1)))
+
+pub written_flag : (a b : Bool) (d c : Type 0) → IsTrue b ↔ (d × c) → IsTrue (a || b) ↔ (IsTrue a ⊎ (d × c))
+written_flag true b d c is = (λ h. inl refl, λ h. refl)
+written_flag false b d c is = (λ h. inr (is.0 h), ⊎_elim (λ h. absurd (false≢true h)) (λ h. is.1 h))

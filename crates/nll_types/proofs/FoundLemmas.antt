@@ -76,6 +76,12 @@ among_push (Region q ∷ xs) x = ap (λ (l : List ℕ). q ∷ l) (among_push xs 
 among_push (AnyOf k ∷ xs) x = among_push xs x
 among_push (DropOf k ∷ xs) x = among_push xs x
 
+pub among_skip : (xs : List Source) (x : Source) → ((q : ℕ) → x ≡ Region q → ⊥)
+    → regions_among (xs ++ x ∷ []) ≡ regions_among xs
+among_skip xs (Region q) not = absurd (not q refl)
+among_skip xs (AnyOf k) not = among_push xs (AnyOf k) ∙ append-nil _
+among_skip xs (DropOf k) not = among_push xs (DropOf k) ∙ append-nil _
+
 later : {X : Type 0} (y x : X) (xs : List X) → Contains xs x → Contains (y ∷ xs) x
 later y x xs c = (suc c.0, (let l = c.1 in omega arith), c.2)
 

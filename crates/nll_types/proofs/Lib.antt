@@ -13,7 +13,6 @@ pub mod CopyLemmas
 pub mod OneNumberLemmas
 pub mod ShapingLemmas
 pub mod ProjectLemmas
-pub mod PlaceLemmas
 pub mod MemoLemmas
 pub mod SameShapeLemmas
 pub mod WayLemmas

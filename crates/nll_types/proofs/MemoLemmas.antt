@@ -10,9 +10,9 @@ use Rattle.nll_types.specs.Shapes.{behind_shape}
 use Rattle.nll_types.specs.Table.{Extends, shape_in}
 use Rattle.nll_types.specs.Memo.{AreRemembered}
 use Rattle.nll_types.specs.declared.node.Node.{Node}
-use Rattle.nll_types.specs.declared.memo.FieldUse.{FieldUse}
+use Rattle.nll_types.specs.declared.type_table.FieldUse.{FieldUse}
 use Rattle.nll_types.specs.declared.place.Projection.TheVariants.{Field}
-use Rattle.nll_types.specs.contracts.memo.FieldUsePartialEq.TheImpl as derived
+use Rattle.nll_types.specs.contracts.type_table.FieldUsePartialEq.TheImpl as derived
 
 and_true : (a b : Bool) → (a && b) ≡ true → (a ≡ true) × (b ≡ true)
 and_true true b h = (refl, h)
@@ -25,10 +25,6 @@ same_use x y h =
     let b : x.place ≡ y.place = eqb-true x.place y.place e.1 in
     ap (λ (n : ℕ). let f : FieldUse = record { shape = n; place = x.place } in f) a
     ∙ ap (λ (n : ℕ). let f : FieldUse = record { shape = y.shape; place = n } in f) b
-
--- nothing is remembered
-pub remembered_none : (structs : List Struct) (ns : List Node) → AreRemembered structs ns []
-remembered_none structs ns = record { each = λ x v c. absurd (let l = c.1 in omega arith) }
 
 -- also where the table has grown
 pub remembered_stay : (structs : List Struct) (old new : List Node) (fields : List (FieldUse × ℕ))

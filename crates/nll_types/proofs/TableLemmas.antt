@@ -5,8 +5,7 @@ use Rattle.std.proofs.lemmas.Slice.Eq.{slice_eq-Decides}
 use Rattle.std.proofs.lemmas.Bool.Decides.{Decides-eqb}
 use Rattle.std.proofs.lemmas.List.Sums.{sum_by-cons}
 use Rattle.std.proofs.lemmas.Option.{get_or_from_slice_get}
-use Rattle.std.specs.Prelude.{slice_get, Some, not}
-use Rattle.std.specs.Prelude.{min, sum_by, slice_index, ◌==◌, ◌&&◌, nat_eq}
+use Rattle.std.specs.Prelude.{slice_get, Some, not, min, sum_by, slice_index, ◌==◌, ◌&&◌, nat_eq}
 use Rattle.std.specs.List.{list_any}
 use Rattle.std.specs.Cmp.Lexicographic.{pointwise}
 use Rattle.std.specs.Bool.{beq}

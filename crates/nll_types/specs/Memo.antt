@@ -5,7 +5,7 @@ use Rattle.nll_types.specs.Structs.{Struct}
 use Rattle.nll_types.specs.Shapes.{behind_shape}
 use Rattle.nll_types.specs.Table.{shape_in}
 use Rattle.nll_types.specs.declared.node.Node.{Node}
-use Rattle.nll_types.specs.declared.memo.FieldUse.{FieldUse}
+use Rattle.nll_types.specs.declared.type_table.FieldUse.{FieldUse}
 use Rattle.nll_types.specs.declared.place.Projection.TheVariants.{Field}
 
 -- Each number that is remembered of a part or field is that of its shape.

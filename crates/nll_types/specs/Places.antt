@@ -1,7 +1,7 @@
 -- Places, and their types.
 -- Source: RFC 2094, "Reborrow constraints" (places and dereferences); the forms are project's
 -- choice.
-use Rattle.std.specs.Prelude.{◌≡◌, ◌<◌, ◌≤◌, ℕ, Bool, true, ◌&&◌, List, [], ◌∷◌, length, drop}
+use Rattle.std.specs.Prelude.{ℕ, Bool, true, ◌&&◌, List, [], ◌∷◌}
 use Rattle.std.specs.Prelude.{Option, Some, None, slice_get, option_map, option_and_then, unwrap_or}
 use Rattle.nll_types.specs.Types.{TypeTree, reference, tuple, named, type_at, type_count}
 use Rattle.nll_types.specs.Structs.{Struct, struct_at, field_type}
@@ -59,12 +59,3 @@ abbrev pub path_of : Place → PlacePath
 path_of (Whole x) = record { variable = x; projections = [] }
 path_of (Part x p) = record { variable = x; projections = p ∷ [] }
 path_of (Parts x b) = record { variable = x; projections = b.value.items }
-
--- From the type t, the projections from one place of the list to another lead to the type u, and
--- they are some if any are left.
-pub record LeadsOn (structs : List Struct) (ps : List Projection) (from : ℕ) (t : TypeTree) (to : ℕ)
-    (u : TypeTree) : Type 0 where
-  pub onward : from ≤ to
-  pub goes_on : from < length ps → from < to
-  pub within : from ≤ length ps → to ≤ length ps
-  pub same : behind_all structs (drop from ps) t ≡ behind_all structs (drop to ps) u

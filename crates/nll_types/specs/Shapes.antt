@@ -2,8 +2,7 @@
 -- Source: RFC 2094, "Subtyping" (it relates types that differ in their regions alone); the forms
 -- are project's choice.
 use Rattle.std.specs.Prelude.{ℕ, zero, suc, ◌+◌, Bool, false, true, ◌==◌, ◌&&◌, nat_le, List}
-use Rattle.std.specs.Prelude.{length}
-use Rattle.std.specs.Prelude.{Option, Some, None, option_map}
+use Rattle.std.specs.Prelude.{length, Option, Some, None, option_map}
 use Rattle.std.specs.Bool.{beq}
 use Rattle.nll_problem.specs.Limits.{most_nodes}
 use Rattle.nll_types.specs.Types.{TypeTree, TypeTrees, int, parameter, reference, tuple, named}

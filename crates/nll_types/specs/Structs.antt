@@ -2,8 +2,7 @@
 -- RFC 2094, "Subtyping" (variance of parameters) and "Drop" (parameters that may dangle); the forms
 -- are project's choice.
 use Rattle.std.specs.Prelude.{◌≡◌, ◌<◌, ◌+◌, ℕ, zero, suc, Bool, false, List, [], map, length}
-use Rattle.std.specs.Prelude.{slice_index_or}
-use Rattle.std.specs.Prelude.{Option, option_map, All, take}
+use Rattle.std.specs.Prelude.{slice_index_or, Option, option_map, All, take}
 use Rattle.nll_types.specs.Types.{TypeTree, TypeTrees, int, parameter, reference, tuple, named}
 use Rattle.nll_types.specs.Types.{function, none, more, type_at, type_count}
 use Rattle.nll_types.specs.declared.parameter.Parameter.{Parameter}

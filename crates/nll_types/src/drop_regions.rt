@@ -1,14 +1,13 @@
 //! The regions of a type that liveness requires.
 
-ghost use Rattle.std.specs.Prelude.{◌≡◌, ◌≢◌, ◌⊎◌, ◌↔◌, ◌++◌, ◌∷◌, [], ℕ, List, IsTrue, IfOk};
-ghost use Rattle.std.specs.Prelude.{OnOk, Contains, AllPairs};
+ghost use Rattle.std.specs.Prelude.{◌≡◌, ◌≢◌, ◌↔◌, [], ℕ, IsTrue, IfOk};
+ghost use Rattle.std.specs.Prelude.{Contains, AllPairs};
 ghost use Rattle.nll_types.specs.Types.{HasRegion};
 ghost use Rattle.nll_types.specs.Structs.{IsWellFormed};
 ghost use Rattle.nll_types.specs.Views.{tree};
 ghost use Rattle.nll_types.specs.DropRegions.{IsDropRegion};
 ghost use Rattle.nll_types.specs.Declarations.{structs_of};
 ghost use Rattle.nll_types.specs.Sources.{IsWanted};
-ghost use Rattle.nll_types.specs.Collecting.{regions_among};
 
 use crate::drop_search::collect;
 use crate::source::Source;
@@ -18,30 +17,6 @@ use indexmap::IndexSet;
 use nll_problem::RegionId;
 use nll_sets::Memory;
 use std::alloc::Global;
-
-// Keeps the source, where it is a region.
-fn keep_region(source: &Source, found: &mut Vec<RegionId>) -> Result<(), Memory>
-    ensures { OnOk result (found.new.items ≡ found.old.items ++ regions_among (source.now ∷ [])) }
-{
-    match source {
-        Source::Region(region) => {
-            found.push(*region)?;
-            Ok(())
-        }
-        _ => Ok(()),
-    }
-}
-
-// The regions among sources.
-fn regions_of(alloc: Global, sources: &[Source]) -> Result<Vec<RegionId>, Memory>
-    ensures { IfOk result (λ v. v.items ≡ regions_among sources.now) }
-{
-    let mut found = Vec::new(alloc);
-    for source in sources {
-        keep_region(source, &mut found)?;
-    }
-    Ok(found)
-}
 
 // Regions of a type, by way of its sources: there are none yet.
 fn find_by(
@@ -59,7 +34,13 @@ fn find_by(
     ensures once { IfOk result (λ v. AllPairs (λ q r. q ≢ r) v.items) }
 {
     collect(structs, ty, written, dropped, sources)?;
-    regions_of(alloc, sources.as_slice())
+    let mut found = Vec::new(alloc);
+    for source in sources.as_slice() {
+        if let Source::Region(region) = source {
+            found.push(*region)?;
+        }
+    }
+    Ok(found)
 }
 
 // Regions of a type: those that are written in it, its drop regions, or both.

@@ -1,7 +1,6 @@
 //! The search for drop regions: one walk of the written type, over what is known of each struct.
 
-ghost use Rattle.std.specs.Prelude.{◌≡◌, ◌⊎◌, ◌↔◌, ◌++◌, ℕ, List, Contains, OnOk, IsTrue};
-ghost use Rattle.nll_types.specs.Types.{parameter};
+ghost use Rattle.std.specs.Prelude.{◌↔◌, ◌++◌, ℕ, List, Contains, OnOk, IsTrue};
 ghost use Rattle.nll_types.specs.Structs.{Struct, IsWellFormed, AreWellFormed, region_in};
 ghost use Rattle.nll_types.specs.declared.source.Source.TheVariants.{Region as region};
 ghost use Rattle.nll_types.specs.Views.{tree, trees};
@@ -17,21 +16,6 @@ use crate::ty::Ty;
 use indexmap::IndexSet;
 use nll_problem::RegionId;
 use nll_sets::Memory;
-
-// Adds what is required of a type parameter.
-fn collect_parameter(
-    number: usize,
-    written: bool,
-    dropped: bool,
-    out: &mut IndexSet<Source>,
-) -> Result<(), Memory>
-    ensures { OnOk result ((all : List Struct) → AddsSources all
-        (λ rs ts r. IsWantedOf all (IsTrue written) (IsTrue dropped) (parameter number) rs ts r)
-        out.old.keys out.new.keys) }
-{
-    add_where(written, out, Source::AnyOf(number))?;
-    add_where(dropped, out, Source::DropOf(number))
-}
 
 // Adds the regions, where they are required.
 fn collect_regions(
@@ -51,25 +35,6 @@ fn collect_regions(
     Ok(())
 }
 
-// Adds what a source becomes with these region arguments, where it is a region.
-fn collect_source(
-    source: &Source,
-    regions: &[RegionId],
-    out: &mut IndexSet<Source>,
-) -> Result<(), Memory>
-    ensures { OnOk result ((all : List Struct) → AddsSources all
-        (λ rs ts r. (q : ℕ) × (source.now ≡ region q)
-        × (region_in rs (region_in regions.now q) ≡ r)) out.old.keys out.new.keys) }
-{
-    match source {
-        Source::Region(number) => {
-            let put = region_in(regions, *number);
-            add(out, Source::Region(put))
-        }
-        Source::AnyOf(_) | Source::DropOf(_) => Ok(()),
-    }
-}
-
 // Adds what the regions of a struct's sources become with these arguments, where they are required.
 fn collect_sources(
     sources: &[Source],
@@ -85,36 +50,11 @@ fn collect_sources(
         return Ok(());
     }
     for source in sources {
-        collect_source(source, regions, out)?;
+        if let Source::Region(number) = source {
+            add(out, Source::Region(region_in(regions, *number)))?;
+        }
     }
     Ok(())
-}
-
-// Adds what the region arguments of a struct bring, and what the regions of its sources become.
-fn collect_use(
-    sources: &[Source],
-    regions: &[RegionId],
-    written: bool,
-    dropped: bool,
-    out: &mut IndexSet<Source>,
-) -> Result<(), Memory>
-    ensures { OnOk result ((all : List Struct) → AddsSources all
-        (λ rs ts r. (IsTrue written × IsPutRegion regions.now rs ts r)
-        ⊎ (IsTrue dropped × IsSourceRegion sources.now regions.now rs ts r))
-        out.old.keys out.new.keys) }
-{
-    collect_regions(regions, written, out)?;
-    collect_sources(sources, regions, dropped, out)
-}
-
-// Whether the regions of an argument are required.
-fn wants_written(sources: &IndexSet<Source>, place: usize, written: bool, dropped: bool) -> bool
-    ensures { IsTrue result ↔ WantsWritten sources.now.keys written dropped place }
-{
-    if written {
-        return true;
-    }
-    wants(sources, Source::AnyOf(place), dropped)
 }
 
 // Whether drop regions are required and the source is among the sources.
@@ -142,7 +82,10 @@ pub(crate) fn collect(
 {
     match ty {
         Ty::Int => Ok(()),
-        Ty::Parameter(number) => collect_parameter(*number, written, dropped, out),
+        Ty::Parameter(number) => {
+            add_where(written, out, Source::AnyOf(*number))?;
+            add_where(dropped, out, Source::DropOf(*number))
+        }
         Ty::Reference(region, _, target) => {
             add_where(written, out, Source::Region(*region))?;
             collect(structs, target, written, false, out)
@@ -152,13 +95,8 @@ pub(crate) fn collect(
             let Some(sources) = structs.sources(*number) else {
                 return Ok(());
             };
-            collect_use(
-                sources.as_slice(),
-                regions.as_slice(),
-                written,
-                dropped,
-                out,
-            )?;
+            collect_regions(regions.as_slice(), written, out)?;
+            collect_sources(sources.as_slice(), regions.as_slice(), dropped, out)?;
             collect_arguments(structs, sources, types.as_slice(), written, dropped, out)
         }
         Ty::Function(arguments, returned) => {
@@ -209,7 +147,7 @@ fn collect_arguments(
         out.old.keys out.new.keys) }
 {
     for place in 0..arguments.len() {
-        let written = wants_written(sources, place, written, dropped);
+        let written = written | wants(sources, Source::AnyOf(place), dropped);
         let dropped = wants(sources, Source::DropOf(place), dropped);
         collect(structs, &arguments[place], written, dropped, out)?;
     }

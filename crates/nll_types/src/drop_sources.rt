@@ -1,6 +1,6 @@
 //! Where the drop regions of a struct come from, by its declaration.
 
-ghost use Rattle.std.specs.Prelude.{◌≡◌, ◌<◌, ◌-◌, ◌^◌, ◌↔◌, ◌++◌, ◌∷◌, ◌⊎◌, [], List, IsTrue};
+ghost use Rattle.std.specs.Prelude.{◌≡◌, ◌<◌, ◌-◌, ◌^◌, ◌↔◌, ◌++◌, ◌∷◌, [], List, IsTrue};
 ghost use Rattle.std.specs.Prelude.{OnOk, IfOk, length, true};
 ghost use Rattle.nll_types.specs.DropRegions.{IsKept};
 ghost use Rattle.nll_types.specs.Structs.{Struct, HasGoodFields};
@@ -50,22 +50,6 @@ fn collect_kept_types(parameters: &[Parameter], out: &mut IndexSet<Source>) -> R
     Ok(())
 }
 
-// Adds what the struct's own drop needs.
-fn collect_own(declaration: &Declaration, out: &mut IndexSet<Source>) -> Result<(), Memory>
-    requires { length declaration.now.regions.items < 2 ^ 32 - 1 }
-    ensures { OnOk result ((all : List Struct) → AddsSources all
-        (λ rs ts r. (declaration.now.has_drop ≡ true)
-        × (IsKeptRegion declaration.now.regions.items rs ts r
-        ⊎ IsInKept declaration.now.types.items rs ts r))
-        out.old.keys out.new.keys) }
-{
-    if !declaration.has_drop {
-        return Ok(());
-    }
-    collect_kept_regions(declaration.regions.as_slice(), out)?;
-    collect_kept_types(declaration.types.as_slice(), out)
-}
-
 // Adds where the drop regions of the struct come from: its own drop, and its fields.
 fn collect_declaration(
     structs: &Structs,
@@ -78,7 +62,10 @@ fn collect_declaration(
     ensures { OnOk result (AreSourcesOf (structs_of structs.now ++ declared declaration.now ∷ [])
         (length structs.now) out.new.keys) }
 {
-    collect_own(declaration, out)?;
+    if declaration.has_drop {
+        collect_kept_regions(declaration.regions.as_slice(), out)?;
+        collect_kept_types(declaration.types.as_slice(), out)?;
+    }
     collect_parts(structs, declaration.fields.as_slice(), false, true, out)
 }
 
@@ -94,8 +81,6 @@ pub(crate) fn sources_of(
         (structs_of structs.now ++ declared declaration.now ∷ []) (length structs.now) s.keys) }
 {
     let mut out = IndexSet::new(alloc);
-    match collect_declaration(structs, declaration, &mut out) {
-        Ok(()) => Ok(out),
-        Err(memory) => Err(memory),
-    }
+    collect_declaration(structs, declaration, &mut out)?;
+    Ok(out)
 }

@@ -8,7 +8,6 @@ mod drop_search;
 mod drop_sources;
 mod laws;
 mod limits;
-mod memo;
 mod node;
 mod operand;
 mod parameter;
@@ -32,12 +31,12 @@ pub use laws::{
     same_shape_means_equal_shapes, types_are_as_large_as_shapes, types_of_places_are_well_formed,
 };
 pub use limits::MAX_NODES;
-pub use memo::{FieldUse, part_once};
 pub use node::Node;
 pub use operand::Operand;
 pub use parameter::{Parameter, Sign};
 pub use place::{Place, Projection};
 pub use place_types::behind;
+pub use projections::part;
 pub use shapes::Shapes;
 pub use structs::{Declaration, Structs};
 pub use substitution::put_in;

@@ -1,6 +1,6 @@
 //! Types with their regions erased, each kept once.
 
-ghost use Rattle.std.specs.Prelude.{IsTrue, ◌↔◌, ◌≡◌, ◌<◌, ◌≤◌, ◌+◌, [], length, min};
+ghost use Rattle.std.specs.Prelude.{IsTrue, ◌↔◌, ◌≡◌, ◌<◌, ◌+◌, [], length, min};
 ghost use Rattle.std.specs.Prelude.{IfOk, slice_index, ℕ, sum_by};
 ghost use Rattle.nll_problem.specs.Limits.{most_nodes};
 ghost use Rattle.nll_types.specs.Shapes.{shape_nodes, is_small_shape};
@@ -164,21 +164,6 @@ impl Shapes {
         a == b
     }
 
-    // Whether an `int` has this number.
-    fn has_int(&self, number: usize) -> bool
-        ensures within { IsTrue result → number < length self.now }
-        ensures at { IsTrue result
-            → shape_in self.now number ≡ shape_over (shapes_in self.now) Node.Int }
-    {
-        if number >= self.len() {
-            return false;
-        }
-        match self.node(number) {
-            Node::Int => true,
-            _ => false,
-        }
-    }
-
     // The number of the shape that a node makes of earlier ones, by a search for the node.
     fn put(&mut self, node: Node) -> Result<usize, Memory>
         requires { IsOver (length self.old) node }
@@ -197,8 +182,10 @@ impl Shapes {
             (λ i. shape_in self.new i ≡ shape_over (shapes_in self.old) Node.Int) }
     {
         let known = self.int;
-        if self.has_int(known) {
-            return Ok(known);
+        if known < self.len() {
+            if let Node::Int = self.node(known) {
+                return Ok(known);
+            }
         }
         let number = self.put(Node::Int)?;
         self.int = number;

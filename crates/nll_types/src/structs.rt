@@ -46,15 +46,6 @@ impl Drop for Structs {
     }
 }
 
-// Appends an entry, or changes nothing.
-fn push_entry(entries: &mut Vec<Entry>, entry: Entry) -> Result<(), Memory>
-    ensures ok { OnOk result (entries.new.items ≡ entries.old.items ++ entry ∷ []) }
-    ensures err { OnErr result (entries.new.items ≡ entries.old.items) }
-{
-    entries.push(entry)?;
-    Ok(())
-}
-
 impl Model for Structs {
     ghost use Rattle.std.specs.Prelude.{List, map};
     ghost use Rattle.std.specs.Coded.{codes};
@@ -156,7 +147,8 @@ impl Structs {
                     declaration,
                     sources,
                 };
-                push_entry(&mut self.entries, entry)
+                self.entries.push(entry)?;
+                Ok(())
             }
             Err(memory) => Err(memory),
         }

@@ -1,11 +1,10 @@
 //! Arguments substituted for the parameters of a struct.
 
-ghost use Rattle.std.specs.Prelude.{◌≡◌, IfOk, IsOkAnd, map};
+ghost use Rattle.std.specs.Prelude.{◌≡◌, IfOk, map};
 ghost use Rattle.nll_types.specs.Structs as spec;
-ghost use Rattle.nll_types.specs.Types.{named};
 ghost use Rattle.nll_types.specs.Views.{tree, trees};
 
-use crate::copies::{copy, function, reference, tuple};
+use crate::copies::copy;
 use crate::ty::Ty;
 use nll_problem::RegionId;
 use nll_sets::Memory;
@@ -37,33 +36,6 @@ fn regions_in(alloc: Global, regions: &[RegionId], of: &[RegionId]) -> Result<Ve
     Ok(put)
 }
 
-// The argument for a parameter.
-fn argument(alloc: Global, types: &[Ty], number: usize) -> Result<Ty, Memory>
-    ensures { IfOk result (λ t. tree t ≡ spec.argument (trees types.now) number) }
-{
-    if number >= types.len() {
-        return Ok(Ty::Int);
-    }
-    copy(alloc, &types[number])
-}
-
-// A struct with what its region arguments become, and type arguments, where those were made.
-fn named_in(
-    alloc: Global,
-    number: usize,
-    own: &[RegionId],
-    regions: &[RegionId],
-    arguments: Result<Vec<Ty>, Memory>,
-) -> Result<Ty, Memory>
-    ensures { IfOk result (λ t. IsOkAnd arguments (λ v. tree t
-        ≡ named number (map (spec.region_in regions.now) own.now) (trees v.items))) }
-{
-    match arguments {
-        Ok(arguments) => Ok(Ty::Named(number, regions_in(alloc, regions, own)?, arguments)),
-        Err(memory) => Err(memory),
-    }
-}
-
 /// A field's type with the region arguments and the type arguments substituted for the parameters.
 ///
 /// # Cost
@@ -74,19 +46,27 @@ pub fn put_in(alloc: Global, ty: &Ty, regions: &[RegionId], types: &[Ty]) -> Res
 {
     match ty {
         Ty::Int => Ok(Ty::Int),
-        Ty::Parameter(number) => argument(alloc, types, *number),
-        Ty::Reference(region, mutable, target) => {
-            let target = put_in(alloc, target, regions, types);
-            reference(alloc, region_in(regions, *region), *mutable, target)
+        Ty::Parameter(number) => {
+            if *number < types.len() {
+                copy(alloc, &types[*number])
+            } else {
+                Ok(Ty::Int)
+            }
         }
-        Ty::Tuple(parts) => tuple(put_in_all(alloc, parts.as_slice(), regions, types)),
+        Ty::Reference(region, mutable, target) => {
+            let target = Box::new(alloc, put_in(alloc, target, regions, types)?)?;
+            Ok(Ty::Reference(region_in(regions, *region), *mutable, target))
+        }
+        Ty::Tuple(parts) => Ok(Ty::Tuple(put_in_all(alloc, parts.as_slice(), regions, types)?)),
         Ty::Named(number, own, arguments) => {
-            let arguments = put_in_all(alloc, arguments.as_slice(), regions, types);
-            named_in(alloc, *number, own.as_slice(), regions, arguments)
+            let own = regions_in(alloc, regions, own.as_slice())?;
+            let arguments = put_in_all(alloc, arguments.as_slice(), regions, types)?;
+            Ok(Ty::Named(*number, own, arguments))
         }
         Ty::Function(inputs, returned) => {
-            let inputs = put_in_all(alloc, inputs.as_slice(), regions, types);
-            function(alloc, inputs, put_in(alloc, returned, regions, types))
+            let returned = Box::new(alloc, put_in(alloc, returned, regions, types)?)?;
+            let inputs = put_in_all(alloc, inputs.as_slice(), regions, types)?;
+            Ok(Ty::Function(inputs, returned))
         }
     }
 }

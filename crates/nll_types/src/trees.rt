@@ -5,7 +5,6 @@ ghost use Rattle.nll_types.specs.Rows.{filled, all_filled};
 ghost use Rattle.nll_types.specs.Table.{AreBelow, all_at, shape_in, shapes_in};
 ghost use Rattle.nll_types.specs.Views.{tree, trees};
 
-use crate::copies::{function, named, reference, tuple};
 use crate::node::Node;
 use crate::shapes::Shapes;
 use crate::ty::Ty;
@@ -59,17 +58,22 @@ pub(crate) fn tree_of(
         Node::Int => Ok(Ty::Int),
         Node::Parameter(number) => Ok(Ty::Parameter(*number)),
         Node::Reference(mutable, target) => {
-            let target = tree_of(alloc, shapes, *target, regions, at);
-            reference(alloc, take_region(regions, at), *mutable, target)
+            let target = Box::new(alloc, tree_of(alloc, shapes, *target, regions, at)?)?;
+            Ok(Ty::Reference(take_region(regions, at), *mutable, target))
         }
-        Node::Tuple(parts) => tuple(trees_of(alloc, shapes, parts.as_slice(), regions, at)),
+        Node::Tuple(parts) => {
+            let parts = trees_of(alloc, shapes, parts.as_slice(), regions, at)?;
+            Ok(Ty::Tuple(parts))
+        }
         Node::Named(number, count, parts) => {
-            let types = trees_of(alloc, shapes, parts.as_slice(), regions, at);
-            named(alloc, *number, take_regions(regions, *count, at), types)
+            let types = trees_of(alloc, shapes, parts.as_slice(), regions, at)?;
+            let own = Vec::from_slice(alloc, take_regions(regions, *count, at))?;
+            Ok(Ty::Named(*number, own, types))
         }
         Node::Function(inputs, output) => {
-            let inputs = trees_of(alloc, shapes, inputs.as_slice(), regions, at);
-            function(alloc, inputs, tree_of(alloc, shapes, *output, regions, at))
+            let inputs = trees_of(alloc, shapes, inputs.as_slice(), regions, at)?;
+            let output = Box::new(alloc, tree_of(alloc, shapes, *output, regions, at)?)?;
+            Ok(Ty::Function(inputs, output))
         }
     }
 }

@@ -1,6 +1,6 @@
 //! The shapes of types, with the shapes of arguments substituted.
 
-ghost use Rattle.std.specs.Prelude.{◌≡◌, ◌<◌, ◌≤◌, length, slice_index, IfOk, IfSome, IfNone};
+ghost use Rattle.std.specs.Prelude.{◌≡◌, ◌<◌, length, IfOk};
 ghost use Rattle.nll_types.specs.Shapes.{shape_of, shapes_of, argument_shape};
 ghost use Rattle.nll_types.specs.Shapes.{put_in_shape, put_in_shapes};
 ghost use Rattle.nll_types.specs.Table.{Extends, AreBelow, shape_in, shapes_in, all_at};
@@ -12,25 +12,6 @@ use crate::ty::Ty;
 use nll_sets::Memory;
 use std::alloc::Global;
 
-// The number of the argument for a type parameter, if there is one that the table has.
-fn argument_number(shapes: &Shapes, arguments: &[usize], number: usize) -> Option<usize>
-    ensures within { IfSome result (λ i. i < length shapes.now) }
-    ensures found { IfSome result (λ i. (number < length arguments.now)
-        × (i ≡ slice_index arguments.now number)) }
-    ensures none { IfNone result
-        (AreBelow (length shapes.now) arguments.now → length arguments.now ≤ number) }
-{
-    if number >= arguments.len() {
-        return None;
-    }
-    let shape = arguments[number];
-    if shape < shapes.len() {
-        Some(shape)
-    } else {
-        None
-    }
-}
-
 // The shape of the argument for a type parameter.
 fn argument(shapes: &mut Shapes, arguments: &[usize], number: usize) -> Result<usize, Memory>
     ensures extends { Extends shapes.old shapes.new }
@@ -39,10 +20,13 @@ fn argument(shapes: &mut Shapes, arguments: &[usize], number: usize) -> Result<u
         → shape_in shapes.new i
         ≡ argument_shape (all_at (shapes_in shapes.old) arguments.now) number) }
 {
-    match argument_number(shapes, arguments, number) {
-        Some(shape) => Ok(shape),
-        None => shapes.add(Node::Int),
+    if number < arguments.len() {
+        let shape = arguments[number];
+        if shape < shapes.len() {
+            return Ok(shape);
+        }
     }
+    shapes.add(Node::Int)
 }
 
 /// The number of the shape of a field's type, with the shapes of the type arguments substituted for

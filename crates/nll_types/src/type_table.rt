@@ -6,17 +6,15 @@ ghost use Rattle.nll_types.specs.Declarations.{declared, structs_of};
 ghost use Rattle.nll_types.specs.Shapes.{shape_of, put_in_shape, behind_shape};
 ghost use Rattle.nll_types.specs.Places.{behind_all, part_count, small_behind};
 ghost use Rattle.nll_types.specs.Structs.{HasGoodFields};
-ghost use Rattle.nll_types.specs.Table.{IsOver, AreBelow, all_at};
-ghost use Rattle.nll_types.specs.Table.{shape_in, shape_over, shapes_in};
+ghost use Rattle.nll_types.specs.Table.{IsOver, AreBelow, all_at, shape_in, shape_over, shapes_in};
 ghost use Rattle.nll_types.specs.Tables.{AddsShapes};
 ghost use Rattle.nll_types.specs.Types.{TypeTree};
 ghost use Rattle.nll_types.specs.Views.{tree};
 ghost use Rattle.nll_types.specs.declared.place.Projection.TheVariants.{Field as field};
 
-use crate::memo::{FieldUse, part_once};
 use crate::node::Node;
 use crate::place::Projection;
-use crate::projections::target;
+use crate::projections::part;
 use crate::shapes::Shapes;
 use crate::structs::{Declaration, Structs};
 use crate::ty::Ty;
@@ -25,6 +23,13 @@ use indexmap::IndexMap;
 use nll_sets::Memory;
 use std::alloc::Global;
 use std::marker::Model;
+
+/// A field of a shape, by which the number of its own shape is remembered.
+#[derive(Clone, Copy, PartialEq, Eq, Hash)]
+pub(crate) struct FieldUse {
+    pub(crate) shape: usize,
+    pub(crate) place: usize,
+}
 
 /// The structs that are declared and the shapes of types. The shape of a field of a struct is made
 /// once for each list of arguments, however often it is requested.
@@ -141,15 +146,23 @@ impl TypeTable {
             ≡ behind_shape (structs_of self.old.structs) (field place)
             (shape_in self.old.shapes number)) }
     {
-        let structs = &self.structs;
-        part_once(
-            alloc,
-            structs,
-            &mut self.shapes,
-            &mut self.fields,
-            number,
+        let Node::Named(_, _, _) = self.shapes.node(number) else {
+            return part(alloc, &self.structs, &mut self.shapes, number, place);
+        };
+        let sought = FieldUse {
+            shape: number,
             place,
-        )
+        };
+        if let Some(made) = self.fields.get(&sought).copied() {
+            return Ok(Some(made));
+        }
+        match part(alloc, &self.structs, &mut self.shapes, number, place)? {
+            Some(made) => {
+                self.fields.insert(sought, made)?;
+                Ok(Some(made))
+            }
+            None => Ok(None),
+        }
     }
 
     /// The shape behind one projection, where there is one.
@@ -170,7 +183,10 @@ impl TypeTable {
             (shape_in self.old.shapes number)) }
     {
         match projection {
-            Projection::Deref => Ok(target(self.shapes(), number)),
+            Projection::Deref => match self.shapes.node(number) {
+                Node::Reference(_, target) => Ok(Some(*target)),
+                _ => Ok(None),
+            },
             Projection::Field(place) => self.part(alloc, number, place as usize),
         }
     }

@@ -1,5 +1,7 @@
 //! Problems as constants, and the problem that such a one is.
 
+ghost use Rattle.std.specs.Prelude.{◌≡◌, ◌+◌, IfOk, OnOk};
+
 use nll_problem::{At, BuildError, Constraint, Problem, ProblemBuilder, RegionId};
 use std::alloc::Global;
 
@@ -16,7 +18,9 @@ pub struct Written {
 }
 
 // Gives a region all points.
-fn fill(builder: &mut ProblemBuilder, region: u32, points: u32) -> Result<(), BuildError> {
+fn fill(builder: &mut ProblemBuilder, region: u32, points: u32) -> Result<(), BuildError>
+    ensures { builder.new ≡ record builder.old { bases = builder.new.bases } }
+{
     for point in 0..points {
         builder.base(RegionId(region), point)?;
     }
@@ -24,7 +28,11 @@ fn fill(builder: &mut ProblemBuilder, region: u32, points: u32) -> Result<(), Bu
 }
 
 // Puts the facts of a written problem into a builder.
-fn enter(builder: &mut ProblemBuilder, written: Written) -> Result<(), BuildError> {
+fn enter(builder: &mut ProblemBuilder, written: Written) -> Result<(), BuildError>
+    ensures points { builder.new.graph.points ≡ builder.old.graph.points }
+    ensures universals { builder.new.graph.universals ≡ builder.old.graph.universals }
+    ensures regions { OnOk result (builder.new.regions ≡ builder.old.regions + written.variables) }
+{
     for _ in 0..written.variables {
         builder.region()?;
     }
@@ -49,7 +57,11 @@ fn enter(builder: &mut ProblemBuilder, written: Written) -> Result<(), BuildErro
 }
 
 /// The problem that is written.
-pub fn worked_problem(alloc: Global, written: Written) -> Result<Problem, BuildError> {
+pub fn worked_problem(alloc: Global, written: Written) -> Result<Problem, BuildError>
+    ensures points { IfOk result (λ q. q.graph.points ≡ written.points) }
+    ensures universals { IfOk result (λ q. q.graph.universals ≡ 1) }
+    ensures regions { IfOk result (λ q. q.regions ≡ 1 + written.variables) }
+{
     let mut builder = ProblemBuilder::new(alloc, written.points, 1)?;
     let entered = enter(&mut builder, written);
     entered.and(builder.finish())

@@ -1,5 +1,5 @@
 -- Tables are made row by row.
-use Rattle.std.proofs.Common.{◌≡◌, ◌+◌, ◌<◌, ℕ, List, [], ◌∷◌, ◌++◌, length, slice_set, slice_get, Some, refl, ap, sym, ◌∙◌, subst, ◌⊎◌, ⊎_elim, arith}
+use Rattle.std.proofs.Common.{◌≡◌, ◌+◌, ◌<◌, ℕ, List, [], ◌∷◌, ◌++◌, length, slice_set, slice_get, Some, ap, sym, ◌∙◌, subst, ◌⊎◌, ⊎_elim, arith}
 use Rattle.run.specs.Table.{list_at, IsTable, IsPartRow}
 use Rattle.run.proofs.PlaceLemmas.{push_low, push_last, push_size, list_low, list_last, set_here, set_there, set_size}
 

@@ -26,6 +26,13 @@ module _ {A F G : Type 0} (rules : Rules A F G) where
       let few = filter_le (λ (g : G). rules.reads o.system j (rules.fact g)) o.log in
       omega (arith, few, sound.few)
 
+  -- what was counted of each part is what isn't given of all
+  pub all_counted : (o : State A G) (n w : ℕ) → n ≡ rules.parts o.system
+      → sum_to n (λ j. given_to o j) + w ≡ sum_to n (λ j. length (part_for rules o j))
+      → given_of rules o + w ≡ due_of rules o
+  all_counted o n w all count =
+      subst (λ k. sum_to k (λ j. given_to o j) + w ≡ sum_to k (λ j. length (part_for rules o j))) all count
+
   -- all parts together have fewer than 2 ^ 43
   pub due_small : (o : State A G) → IsSound rules o → (rules.parts o.system) ≤ 64 → due_of rules o < 2 ^ 43
   due_small o sound few =

@@ -11,7 +11,7 @@ use Rattle.worker.specs.declared.tally.Tally.{Tally}
 use Rattle.fixpoint.specs.Sums.{sum_to}
 use Rattle.worker.specs.Hearing.{IsGivenUp}
 use Rattle.worker.specs.Tallies.{HasGrown, IsCounted, due_of, given_of}
-use Rattle.worker.specs.Turning.{IsWorking, HasTaken, IsAtRest, HasTakenAll, ComesTo}
+use Rattle.worker.specs.Turning.{IsWorking, HasTaken, IsAtRest, HasTakenAll, ComesTo, GoesOn}
 use Rattle.fixpoint.specs.Finishing.{HasStray}
 use Rattle.worker.specs.Mailboxes.{AreAllEmpty}
 use Rattle.fixpoint.proofs.SumLemmas.{sum_same, sum_le, sum_zero}
@@ -267,6 +267,14 @@ module _ {A F G : Type 0} (rules : Rules A F G) where
     comes_given owed cleared t t' sound counted same Stray came =
         (subst (λ (o : State A G). HasStray rules o.system o.me (log_of taken)) (sym others) came.0, taken_given came.1)
     comes_given owed cleared t t' sound counted same Memory came = taken_given came
+
+  -- what is counted where the worker needn't end
+  pub counted_still : (o : State A G) (taken : List (List G)) (owed cleared : ℕ) (t : Tally) (heard : Heard)
+      → GoesOn heard → ComesTo rules o taken owed cleared t heard → IsCounted rules o t
+  counted_still o taken owed cleared t Nothing goes came = came.counted
+  counted_still o taken owed cleared t Growths goes came = came.counted
+  counted_still o taken owed cleared t Stray goes came = absurd goes
+  counted_still o taken owed cleared t Memory goes came = absurd goes
 
   pub rests_open : (o : State A G) (taken : List (List G)) (owed cleared owed' cleared' : ℕ)
       (t : Tally) → owed' ≡ owed

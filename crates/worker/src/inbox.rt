@@ -6,7 +6,7 @@ ghost use Rattle.mail.specs.Limits.{most_posts};
 ghost use Rattle.fixpoint.specs.Logs.{log_of};
 ghost use Rattle.fixpoint.specs.State.{IsSound, Passes};
 ghost use Rattle.worker.specs.Mailboxes.{Alike, Both, Keeps, through};
-ghost use Rattle.worker.specs.Hearing.{HandsIn, LooksInto};
+ghost use Rattle.worker.specs.Hearing.{LooksInto};
 
 use crate::gate::Gate;
 use crate::pace::Pace;
@@ -74,22 +74,6 @@ fn take_batch<A: Analysis, M: Mail<A::Growth>>(
     true
 }
 
-// Hands growths that can be their sender's to the part.
-fn hand_in<A: Analysis>(part: &mut A::Part, from: u16, growths: &[A::Growth]) -> Heard
-    requires sound { IsSound A.rules (A.state part.old) }
-    requires whole { (A.state part.old).broken ≡ false }
-    requires loaded { (A.state part.old).loaded ≡ true }
-    requires some { 0 < length growths.now }
-    requires passes { let o = A.state part.old in (g : A.Growth)
-        → Contains growths.now g → Passes A.rules o.system o.me from g }
-    ensures { HandsIn A.rules from (A.state part.old) (A.state part.new) growths.now result }
-{
-    match A::receive_all(part, from, growths) {
-        Ok(()) => Heard::Growths,
-        Err(_) => Heard::Memory,
-    }
-}
-
 // Takes growths out of a mailbox, at most as many as a turn may receive, enters the gate, and hands
 // the growths to the part. The list then has what was taken. Room for them is made before, so that
 // none is lost if memory is refused.
@@ -125,35 +109,9 @@ fn hear<A: Analysis, M: Mail<A::Growth>, G: Gate>(
         return Heard::Nothing;
     }
     pace.gate.enter(A::me(part) as usize, turn);
-    hand_in::<A>(part, from, batch)
-}
-
-// Like `hear`, if there is a mailbox.
-fn hear_if<A: Analysis, M: Mail<A::Growth>, G: Gate>(
-    pace: &Pace<'_, G>,
-    turn: u64,
-    part: &mut A::Part,
-    receiver: &mut Option<M::R>,
-    from: u16,
-    batch: &mut Vec<A::Growth>,
-) -> Heard
-    requires sound { IsSound A.rules (A.state part.old) }
-    requires whole { (A.state part.old).broken ≡ false }
-    requires loaded { (A.state part.old).loaded ≡ true }
-    ensures hears { LooksInto A.rules from (A.state part.old) (A.state part.new)
-        (through M.received receiver.old) (through M.received receiver.new) batch.new.items
-        result }
-    ensures most { length batch.new.items ≤ pace.now.taken }
-    ensures few { length (through M.received receiver.old) ≤ most_posts
-        → length (through M.received receiver.new) ≤ most_posts }
-    ensures keeps { Both (Keeps M.Mail) receiver.old receiver.new }
-{
-    match receiver {
-        Some(receiver) => hear::<A, M, G>(pace, turn, part, receiver, from, batch),
-        None => {
-            batch.clear();
-            Heard::Nothing
-        }
+    match A::receive_all(part, from, batch) {
+        Ok(()) => Heard::Growths,
+        Err(_) => Heard::Memory,
     }
 }
 
@@ -184,12 +142,12 @@ pub fn hear_from<A: Analysis, M: Mail<A::Growth>, G: Gate>(
     ensures keeps { Alike (Both (Keeps M.Mail)) inbox.old.receivers.items
         inbox.new.receivers.items }
 {
-    hear_if::<A, M, G>(
-        pace,
-        turn,
-        part,
-        &mut inbox.receivers[from as usize],
-        from,
-        &mut inbox.batch,
-    )
+    let batch = &mut inbox.batch;
+    match &mut inbox.receivers[from as usize] {
+        Some(receiver) => hear::<A, M, G>(pace, turn, part, receiver, from, batch),
+        None => {
+            batch.clear();
+            Heard::Nothing
+        }
+    }
 }

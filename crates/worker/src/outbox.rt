@@ -13,16 +13,6 @@ pub struct Outbox<A: Analysis, M: Mail<A::Growth>> {
     pub senders: Vec<Option<M::S>>,
 }
 
-// Closes an end, if there is one.
-fn shut<A: Analysis, M: Mail<A::Growth>>(sender: Option<M::S>) -> Option<M::Closed>
-    ensures { Both (Shuts M.Mail) sender result }
-{
-    match sender {
-        Some(sender) => Some(M::close(sender)),
-        None => None,
-    }
-}
-
 impl<A: Analysis, M: Mail<A::Growth>> Drop for Outbox<A, M> {
     fn drop(self) {
         let Outbox { mut senders } = self;
@@ -46,7 +36,10 @@ impl<A: Analysis, M: Mail<A::Growth>> Outbox<A, M> {
         let mut senders = VecDeque::from(senders);
         let mut closed = room;
         while let Some(sender) = senders.pop_front() {
-            closed.push_reserved(shut::<A, M>(sender));
+            closed.push_reserved(match sender {
+                Some(sender) => Some(M::close(sender)),
+                None => None,
+            });
         }
         senders.destroy_empty();
         closed

@@ -1,6 +1,6 @@
 //! How much a worker does at once.
 
-ghost use Rattle.std.specs.Prelude.{◌<◌};
+ghost use Rattle.std.specs.Prelude.{◌≡◌, ◌<◌, ◌≤◌, ◌-◌, ◌^◌};
 
 use crate::gate::Gate;
 
@@ -30,7 +30,12 @@ pub struct Pace<'x, G: Gate> {
 
 impl<'x, G: Gate> Pace<'x, G> {
     /// How much a worker does at once with this gate.
-    pub fn behind(gate: &'x G) -> Pace<'x, G> {
+    pub fn behind(gate: &'x G) -> Pace<'x, G>
+        ensures gate { result.gate.now ≡ gate.now }
+        ensures single { result.taken ≤ 1 → (result.posted ≡ 2 ^ 64 - 1) × (result.patience ≡ 1) }
+        ensures many { 1 < result.taken → (result.taken ≤ 4096) × (result.posted ≡ 4096)
+            × (result.patience ≡ 16) }
+    {
         let most = gate.most_growths();
         if most <= 1 {
             Pace {

@@ -1,12 +1,11 @@
 //! What a worker posts: at most a given number to each owner at once. The rest, and what a full
 //! mailbox refuses, is tried again later.
 
-ghost use Rattle.std.specs.Prelude.{◌≡◌, ◌≢◌, ◌+◌, ◌<◌, ◌≤◌, ℕ, List, length, map, take, min};
-ghost use Rattle.std.specs.Prelude.{IfOk, OnOk, false, slice_set, vec_len, None};
-ghost use Rattle.fixpoint.specs.Logs.{log_of};
+ghost use Rattle.std.specs.Prelude.{◌≡◌, ◌≢◌, ◌+◌, ◌<◌, ℕ, List, map, take};
+ghost use Rattle.std.specs.Prelude.{IfOk, OnOk, false, None};
 ghost use Rattle.fixpoint.specs.State.{IsSound, part_for, given_to};
 ghost use Rattle.worker.specs.Mailboxes.{Alike, Both, HasEnds, Stays, through};
-ghost use Rattle.worker.specs.Tallies.{IsCounted, given_of};
+ghost use Rattle.worker.specs.Tallies.{given_of};
 ghost use Rattle.worker.specs.Turning.{HasPosted, HasGivenOn, HasGivenMore, GoesOn, ComesTo};
 
 use crate::inbox::Heard;
@@ -55,39 +54,7 @@ fn post_part<A: Analysis, M: Mail<A::Growth>>(
     Ok(posted)
 }
 
-// Like `post_part`, if there is a mailbox: there is none from the owner to itself.
-fn post_if<A: Analysis, M: Mail<A::Growth>>(
-    part: &mut A::Part,
-    sender: &mut Option<M::S>,
-    to: u16,
-    most: u64,
-) -> Result<u64, PostError<A::Growth>>
-    requires sound { IsSound A.rules (A.state part.old) }
-    requires whole { (A.state part.old).broken ≡ false }
-    requires to { to < A.rules.parts (A.state part.old).system }
-    requires end { sender.old ≡ None → to ≡ (A.state part.old).me }
-    requires sent { through M.sent sender.old
-        ≡ take (given_to (A.state part.old) to) (part_for A.rules (A.state part.old) to) }
-    ensures sent { through M.sent sender.new
-        ≡ take (given_to (A.state part.new) to) (part_for A.rules (A.state part.old) to) }
-    ensures many { M.is_bounded ≡ false → OnOk result
-        (HasGivenOn A.rules most to (A.state part.old) (A.state part.new)) }
-    ensures count { IfOk result (λ posted. given_to (A.state part.new) to
-        ≡ given_to (A.state part.old) to + posted) }
-    ensures others { A.state part.new
-        ≡ record (A.state part.old) { given = (A.state part.new).given } }
-    ensures other_given { (j : ℕ) → j ≢ to
-        → given_to (A.state part.new) j ≡ given_to (A.state part.old) j }
-    ensures pair { Both (Stays M.Mail) sender.old sender.new }
-    ensures sound { IsSound A.rules (A.state part.new) }
-{
-    match sender {
-        Some(sender) => post_part::<A, M>(part, sender, to, most),
-        None => Ok(0),
-    }
-}
-
-// Like `post_if`, for the sender that leads to this owner.
+// Like `post_part`, for the sender that leads to this owner: there is none from an owner to itself.
 fn post_to<A: Analysis, M: Mail<A::Growth>>(
     part: &mut A::Part,
     senders: &mut Vec<Option<M::S>>,
@@ -111,7 +78,10 @@ fn post_to<A: Analysis, M: Mail<A::Growth>>(
     ensures pairs { Alike (Both (Stays M.Mail)) senders.old.items senders.new.items }
     ensures sound { IsSound A.rules (A.state part.new) }
 {
-    post_if::<A, M>(part, &mut senders[to as usize], to, most)
+    match &mut senders[to as usize] {
+        Some(sender) => post_part::<A, M>(part, sender, to, most),
+        None => Ok(0),
+    }
 }
 
 // Posts what isn't given yet, to all owners that read it and whose mailboxes aren't full: to each
@@ -144,39 +114,8 @@ fn post_all<A: Analysis, M: Mail<A::Growth>>(
     Ok(count)
 }
 
-// Posts what waits, if something does, and counts it as given.
-fn post_waiting<A: Analysis, M: Mail<A::Growth>>(
-    part: &mut A::Part,
-    senders: &mut Vec<Option<M::S>>,
-    tally: &mut Tally,
-    most: u64,
-) -> Result<(), PostError<A::Growth>>
-    requires sound { IsSound A.rules (A.state part.old) }
-    requires whole { (A.state part.old).broken ≡ false }
-    requires ends { HasEnds (A.state part.old).me senders.old.items }
-    requires posts { HasPosted A.rules (A.state part.old) (map (through M.sent) senders.old.items) }
-    requires counted { IsCounted A.rules (A.state part.old) tally.old }
-    ensures posts { HasPosted A.rules (A.state part.new) (map (through M.sent) senders.new.items) }
-    ensures counted { OnOk result (IsCounted A.rules (A.state part.new) tally.new) }
-    ensures same { (tally.new.turns ≡ tally.old.turns)
-        × (tally.new.cleared ≡ tally.old.cleared) }
-    ensures many { M.is_bounded ≡ false
-        → OnOk result (HasGivenMore A.rules most (A.rules.parts (A.state part.old).system)
-        (A.state part.old) (A.state part.new)) }
-    ensures others { A.state part.new
-        ≡ record (A.state part.old) { given = (A.state part.new).given } }
-    ensures pairs { Alike (Both (Stays M.Mail)) senders.old.items senders.new.items }
-    ensures sound { IsSound A.rules (A.state part.new) }
-{
-    if tally.waiting == 0 {
-        return Ok(());
-    }
-    let posted = post_all::<A, M>(part, senders, most)?;
-    tally.waiting -= posted;
-    Ok(())
-}
-
-/// Posts what waits, unless the worker has to end: returns what it heard, or why it has to end now.
+/// Posts what waits and counts it as given, unless the worker has to end: returns what it heard, or
+/// why it has to end now.
 pub fn share_out<A: Analysis, M: Mail<A::Growth>>(
     heard: Heard,
     part: &mut A::Part,
@@ -207,8 +146,14 @@ pub fn share_out<A: Analysis, M: Mail<A::Growth>>(
         Heard::Growths => {}
         Heard::Nothing => {}
     }
-    match post_waiting::<A, M>(part, senders, tally, most) {
-        Ok(()) => heard,
+    if tally.waiting == 0 {
+        return heard;
+    }
+    match post_all::<A, M>(part, senders, most) {
+        Ok(posted) => {
+            tally.waiting -= posted;
+            heard
+        }
         Err(_) => Heard::Memory,
     }
 }

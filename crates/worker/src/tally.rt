@@ -1,8 +1,8 @@
 //! What a worker counts of its part's log.
 
-ghost use Rattle.std.specs.Prelude.{◌≡◌, ◌+◌, ◌*◌, ◌^◌, ◌≤◌, false};
+ghost use Rattle.std.specs.Prelude.{◌≡◌, ◌+◌, false};
 ghost use Rattle.fixpoint.specs.State.{State};
-ghost use Rattle.worker.specs.Tallies.{IsCounted, HasGrown, due_of, given_of, none_counted};
+ghost use Rattle.worker.specs.Tallies.{IsCounted, HasGrown, due_of, none_counted};
 
 use fixpoint::Analysis;
 
@@ -33,19 +33,6 @@ impl Tally {
     }
 }
 
-// How many growths of the log aren't given yet, over all owners that read them.
-fn unsent_count<A: Analysis>(part: &A::Part) -> u64
-    requires whole { (A.state part.now).broken ≡ false }
-    ensures count { given_of A.rules (A.state part.now) + result
-        ≡ due_of A.rules (A.state part.now) }
-{
-    let mut count = 0;
-    for to in 0..A::owners(part) {
-        count += A::unsent(part, to);
-    }
-    count
-}
-
 /// Counts again if the log has grown: returns how many more growths there are to owe for.
 pub fn count_new<A: Analysis>(part: &A::Part, tally: &mut Tally) -> u64
     requires whole { (A.state part.now).broken ≡ false }
@@ -62,7 +49,11 @@ pub fn count_new<A: Analysis>(part: &A::Part, tally: &mut Tally) -> u64
     if grown == tally.grown {
         return 0;
     }
-    let waiting = unsent_count::<A>(part);
+    // How many growths of the log aren't given yet, over all owners that read them.
+    let mut waiting = 0;
+    for to in 0..A::owners(part) {
+        waiting += A::unsent(part, to);
+    }
     let new = waiting - tally.waiting;
     tally.grown = grown;
     tally.waiting = waiting;

@@ -54,25 +54,10 @@ pub fn run_jobs<S: Sync, J: Job<S>, P: Permit, R: Threads + Wait + Sync>(
         // The number of no job.
         unstarted: AtomicUsize::new(usize::MAX),
     };
-    let finished = run_together::<S, J, P, R>(&crew, permit, jobs, room);
-    Ok(finished.into_vec())
-}
-
-// Like `run_jobs`, into a list that has room.
-fn run_together<'x, S: Sync + 'x, J: Job<S> + 'x, P: Permit, R: Threads + Wait + Sync>(
-    crew: &'x Crew<'x, S, R>,
-    permit: &'x P,
-    jobs: VecDeque<J>,
-    room: VecDeque<J::Done>,
-) -> VecDeque<J::Done>
-    requires ready { AllOf (J.is_ready crew.now.site.now) jobs.items }
-    requires room { (room.items ≡ []) × (deque_len jobs ≤ deque_capacity room) }
-    ensures { AlikeFrom 0 (λ n j d. Becomes (J.comes crew.now.site.now j)
-        (P.permits permit.now n) d) jobs.items result.items }
-{
-    thread::scope(
+    let crew = &crew;
+    let finished = thread::scope(
         thread::scope_env(),
-        crew.rt,
+        rt,
         move |scope| -> VecDeque<J::Done>
             requires { AllOf (J.is_ready crew.now.site.now) jobs.items × (room.items ≡ [])
                 × (deque_len jobs ≤ deque_capacity room) }
@@ -80,7 +65,8 @@ fn run_together<'x, S: Sync + 'x, J: Job<S> + 'x, P: Permit, R: Threads + Wait +
                 (P.permits permit.entry.now n) d)
                 jobs.items result.items }
         { run_each::<S, J, P, R>(scope, crew, permit, 0, jobs, room) },
-    )
+    );
+    Ok(finished.into_vec())
 }
 
 // Starts a thread for each job that the permit allows, before any of them is joined. What the first
@@ -107,7 +93,7 @@ fn run_each<'s, 'x: 's, S: Sync + 'x, J: Job<S> + 'x, P: Permit, R: Threads + Wa
             room
         }
         Some(job) => {
-            let start = start_if_allowed::<S, J, P, R>(scope, crew, permit, number, job);
+            let start = start_one::<S, J, P, R>(scope, crew, permit, number, job);
             let mut finished = run_each::<S, J, P, R>(scope, crew, permit, number + 1, jobs, room);
             finished.push_front_reserved(join::<S, J, R>(crew, start));
             finished
@@ -115,8 +101,8 @@ fn run_each<'s, 'x: 's, S: Sync + 'x, J: Job<S> + 'x, P: Permit, R: Threads + Wa
     }
 }
 
-// Starts a thread for a job if the permit allows it; otherwise the job ends.
-fn start_if_allowed<'s, 'x: 's, S: Sync + 'x, J: Job<S> + 'x, P: Permit, R: Threads + Wait + Sync>(
+// Starts a thread for a job if the permit allows it; if it doesn't or that fails, the job ends.
+fn start_one<'s, 'x: 's, S: Sync + 'x, J: Job<S> + 'x, P: Permit, R: Threads + Wait + Sync>(
     scope: &'s Scope<'s, &'x ()>,
     crew: &'x Crew<'x, S, R>,
     permit: &'x P,
@@ -130,26 +116,9 @@ fn start_if_allowed<'s, 'x: 's, S: Sync + 'x, J: Job<S> + 'x, P: Permit, R: Thre
     ensures refused { IfErr result (λ d. Becomes (J.comes crew.now.site.now job)
         (P.permits permit.now number) d) }
 {
-    if permit.may_start(number) {
-        start_one::<S, J, R>(scope, crew, number, job)
-    } else {
-        Err(job.run(crew.rt, crew.site, Start::Refused))
+    if !permit.may_start(number) {
+        return Err(job.run(crew.rt, crew.site, Start::Refused));
     }
-}
-
-// Starts a thread for a job; if that fails, the job comes back, and ends.
-fn start_one<'s, 'x: 's, S: Sync + 'x, J: Job<S> + 'x, R: Threads + Wait + Sync>(
-    scope: &'s Scope<'s, &'x ()>,
-    crew: &'x Crew<'x, S, R>,
-    number: usize,
-    job: J,
-) -> Started<S, J>
-    requires { J.is_ready crew.now.site.now job }
-    ensures started { IfOk result (λ h. (h.promise.job.value ≡ job)
-        × (h.promise.site.value ≡ crew.now.site.now)) }
-    ensures refused { IfErr result (λ d. J.comes crew.now.site.now job Made d
-        ⊎ J.comes crew.now.site.now job Failed d) }
-{
     let given = Given {
         site: Snapshot::of(crew.site),
         job: Snapshot::of(&job),
@@ -160,26 +129,20 @@ fn start_one<'s, 'x: 's, S: Sync + 'x, J: Job<S> + 'x, R: Threads + Wait + Sync>
             requires { J.is_ready crew.now.site.now job }
             ensures { IfOk result (λ d. J.comes crew.entry.now.site.now job Made d)
                 × IfErr result (λ j. j ≡ job) }
-        { run_if_started::<S, J, R>(crew, number, job) },
+        {
+            // A job that is marked by its number comes back as it was.
+            if crew.unstarted.load(Ordering::SeqCst) == number {
+                Err(job)
+            } else {
+                Ok(job.run(crew.rt, crew.site, Start::Made))
+            }
+        },
     ) {
         Ok(handle) => Ok(handle),
         Err(refused) => {
             crew.unstarted.store(number, Ordering::SeqCst);
             Err(finish::<S, J, R>(crew, (refused.value)()))
         }
-    }
-}
-
-// Does a job that wasn't marked by its number; otherwise it comes back as it was.
-fn run_if_started<S, J: Job<S>, R: Wait>(crew: &Crew<'_, S, R>, number: usize, job: J) -> Back<S, J>
-    requires { J.is_ready crew.now.site.now job }
-    ensures done { IfOk result (λ d. J.comes crew.now.site.now job Made d) }
-    ensures back { IfErr result (λ j. j ≡ job) }
-{
-    if crew.unstarted.load(Ordering::SeqCst) == number {
-        Err(job)
-    } else {
-        Ok(job.run(crew.rt, crew.site, Start::Made))
     }
 }
 

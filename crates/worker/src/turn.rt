@@ -1,11 +1,10 @@
 //! A worker's turns.
 
-ghost use Rattle.std.specs.Prelude.{◌≡◌, ◌+◌, ◌<◌, ◌≤◌, ℕ, List, map};
-ghost use Rattle.fixpoint.specs.State.{State, IsSound, first_state};
+ghost use Rattle.std.specs.Prelude.{◌≡◌, ◌+◌, ◌<◌, ◌≤◌, List, map};
+ghost use Rattle.fixpoint.specs.State.{IsSound, first_state};
 ghost use Rattle.worker.specs.Mailboxes.{AreAllEmpty, through};
 ghost use Rattle.worker.specs.Finishing.{IsFresh, IsOpenStill};
 ghost use Rattle.worker.specs.Tallies.{HasGrown, none_counted};
-ghost use Rattle.worker.specs.declared.tally.Tally.{Tally as TheTally};
 ghost use Rattle.worker.specs.Turning.{IsAtRest, ComesTo, StaysAtWork};
 
 use crate::account::{Account, keep_book};
@@ -81,30 +80,9 @@ fn turn<A: Analysis, M: Mail<A::Growth>, L: Ledger, G: Gate>(
     }
 }
 
-// The owner whose mailbox is looked into first after this many turns: with each turn the next one.
-fn first_after(turns: u64, owners: u16) -> u16
-    requires { 0 < owners }
-    ensures { result < owners }
-{
-    (turns % owners as u64) as u16
-}
-
-// The owner that comes this many after the first; after the last comes owner 0.
-fn owner_behind(first: u16, step: u16, owners: u16) -> u16
-    requires first { first < owners }
-    requires step { step < owners }
-    ensures { result < owners }
-{
-    let rest = owners - first;
-    if step < rest {
-        first + step
-    } else {
-        step - rest
-    }
-}
-
-/// One look into each mailbox, or up to the first growth if a turn receives at most one. Returns
-/// whether the part received growths, or why the worker has to end.
+/// One look into each mailbox, or up to the first growth if a turn receives at most one. With each
+/// turn it begins at the next owner. Returns whether the part received growths, or why the worker
+/// has to end.
 pub fn round<A: Analysis, M: Mail<A::Growth>, L: Ledger, G: Gate>(
     pace: &Pace<'_, G>,
     account: &mut Account<'_, L>,
@@ -123,10 +101,10 @@ pub fn round<A: Analysis, M: Mail<A::Growth>, L: Ledger, G: Gate>(
         (L.owed a.share) (L.cleared a.share) a.tally result }
 {
     let owners = A::owners(part);
-    let first = first_after(account.tally.turns, owners);
+    let first = account.tally.turns % owners as u64;
     let mut any = false;
     for step in 0..owners {
-        let from = owner_behind(first, step, owners);
+        let from = ((first + step as u64) % owners as u64) as u16;
         let heard = turn::<A, M, L, G>(pace, account, part, inbox, from);
         match heard {
             Heard::Nothing => {}
@@ -143,27 +121,13 @@ pub fn round<A: Analysis, M: Mail<A::Growth>, L: Ledger, G: Gate>(
     if any { Heard::Growths } else { Heard::Nothing }
 }
 
-// The outcome of rounds of which the last one heard this, and those before it growths.
-fn behind_a_growth<A: Analysis>(heard: Heard) -> Heard
-    ensures { (o : State A A.Growth) (taken : List (List A.Growth)) (owed cleared : ℕ)
-        (t : TheTally)
-        → ComesTo A.rules o taken owed cleared t heard
-        → ComesTo A.rules o taken owed cleared t result }
-{
-    match heard {
-        Heard::Nothing => Heard::Growths,
-        _ => heard,
-    }
-}
-
-/// Looks into each mailbox, and again as long as growths are heard and fewer items were cleared
-/// than `until`. Returns whether the part received growths, or why the worker has to end.
+/// Looks into each mailbox, and again as long as growths are heard and it isn't time to try a full
+/// mailbox again. Returns whether the part received growths, or why the worker has to end.
 pub fn rounds<A: Analysis, M: Mail<A::Growth>, L: Ledger, G: Gate>(
     pace: &Pace<'_, G>,
     account: &mut Account<'_, L>,
     part: &mut A::Part,
     inbox: &mut Inbox<A, M>,
-    until: u64,
 ) -> Heard
     requires book { L.belongs account.old.book.now account.old.share }
     requires rests { let a = account.old in IsAtRest A.rules (A.state part.old)
@@ -176,6 +140,12 @@ pub fn rounds<A: Analysis, M: Mail<A::Growth>, L: Ledger, G: Gate>(
         (map (through M.received) inbox.new.receivers.items)
         (L.owed a.share) (L.cleared a.share) a.tally result }
 {
+    // So many items are cleared before a full mailbox is tried again: 0 if nothing waits.
+    let until = if account.tally.waiting > 0 {
+        account.tally.cleared.saturating_add(pace.patience)
+    } else {
+        0
+    };
     let mut heard = round::<A, M, L, G>(pace, account, part, inbox);
     for _ in 1..MOST_ROUNDS {
         match heard {
@@ -185,8 +155,10 @@ pub fn rounds<A: Analysis, M: Mail<A::Growth>, L: Ledger, G: Gate>(
         if account.tally.cleared >= until {
             return heard;
         }
-        let next = round::<A, M, L, G>(pace, account, part, inbox);
-        heard = behind_a_growth::<A>(next);
+        heard = match round::<A, M, L, G>(pace, account, part, inbox) {
+            Heard::Nothing => Heard::Growths,
+            other => other,
+        };
     }
     heard
 }

@@ -5,8 +5,7 @@ ghost use Rattle.ledger.specs.Leaving.{IfLeft, IfOpen, IfQuiet, IfStopped};
 ghost use Rattle.fixpoint.specs.Finishing.{Finishes};
 ghost use Rattle.fixpoint.specs.Logs.{log_of};
 ghost use Rattle.fixpoint.specs.State.{first_state};
-ghost use Rattle.worker.specs.Mailboxes.{Alike, AreAllEmpty, Both, HasEnds, Keeps, Stays};
-ghost use Rattle.worker.specs.Mailboxes.{through};
+ghost use Rattle.worker.specs.Mailboxes.{Alike, AreAllEmpty, Both, HasEnds, Keeps, Stays, through};
 ghost use Rattle.worker.specs.Finishing.{Leaves, IsFresh, WasStarted};
 ghost use Rattle.worker.specs.Tallies.{none_counted};
 
@@ -15,7 +14,6 @@ use crate::gate::Gate;
 use crate::inbox::{Heard, Inbox};
 use crate::pace::Pace;
 use crate::posts::share_out;
-use crate::tally::Tally;
 use crate::turn::{first_turn, rounds};
 use crossbeam_utils::Backoff;
 use fixpoint::{Analysis, Ending};
@@ -38,27 +36,6 @@ pub fn halt<L: Ledger>(book: &L::Book, share: L::Share) -> L::Left
     }
 }
 
-// Leaves if the stop flag is set; otherwise the share comes back.
-fn heed_stop<L: Ledger>(book: &L::Book, share: L::Share) -> Leave<L::Left, L::Share>
-    requires { L.belongs book.now share }
-    ensures left { IfLeft result (λ left. L.left_belongs book.now left
-        × (L.left_number left ≡ L.number share)
-        × (L.left_owed left ≡ L.owed share) × (L.left_cleared left ≡ L.cleared share)
-        × (L.left_called left ≡ L.called share)) }
-    ensures quiet { IfQuiet result (λ _. ⊥) }
-    ensures stopped { IfStopped result (λ left. L.left_quiet left ≡ false) }
-    ensures back { IfOpen result (λ back. L.belongs book.now back
-        × (L.number back ≡ L.number share)
-        × (L.owed back ≡ L.owed share) × (L.cleared back ≡ L.cleared share)
-        × (L.called back ≡ L.called share)) }
-{
-    let mut share = share;
-    if !L::stopped(book, &mut share) {
-        return Leave::Open(share);
-    }
-    L::leave(book, share)
-}
-
 // Asks to leave, once the worker has waited for a while with nothing left to post. If growths wait
 // for a place in a mailbox, it leaves only on a stop.
 fn ask_to_leave<L: Ledger>(
@@ -79,21 +56,17 @@ fn ask_to_leave<L: Ledger>(
         × (L.owed back ≡ L.owed share) × (L.cleared back ≡ L.cleared share)
         × (L.called back ≡ L.called share)) }
 {
+    let mut share = share;
     if waiting > 0 {
-        heed_stop::<L>(book, share)
+        if L::stopped(book, &mut share) {
+            L::leave(book, share)
+        } else {
+            Leave::Open(share)
+        }
     } else if backoff.is_completed() {
         L::leave(book, share)
     } else {
         Leave::Open(share)
-    }
-}
-
-// How many items are cleared before a full mailbox is tried again: 0 if nothing waits.
-fn next_try<G: Gate>(pace: &Pace<'_, G>, tally: &Tally) -> u64 {
-    if tally.waiting > 0 {
-        tally.cleared.saturating_add(pace.patience)
-    } else {
-        0
     }
 }
 
@@ -143,8 +116,7 @@ pub fn work_on<A: Analysis, M: Mail<A::Growth>, L: Ledger, G: Gate, R: Wait>(
             Leave::Stopped(left) => return (left, Ending::Stopped),
             Leave::Open(share) => account = Account { book, share, tally },
         }
-        let until = next_try::<G>(pace, &account.tally);
-        heard = rounds::<A, M, L, G>(pace, &mut account, part, inbox, until);
+        heard = rounds::<A, M, L, G>(pace, &mut account, part, inbox);
     }
     unreachable!()
 }

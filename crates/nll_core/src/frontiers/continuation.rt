@@ -6,7 +6,7 @@ ghost use Rattle.nll_problem.specs.At.{IsAmong};
 ghost use Rattle.nll_problem.specs.Graph.{element_count, IsNext, IsReturn};
 ghost use Rattle.nll_problem.specs.Walks.{Reaches};
 ghost use Rattle.nll_problem.specs.declared.at.At.{At as places};
-ghost use Rattle.nll_sets.specs.Runs.{Fills, IsWithin};
+ghost use Rattle.nll_sets.specs.Runs.{IsWithin};
 ghost use Rattle.nll_core.specs.Lines.{IsJump};
 ghost use Rattle.nll_core.specs.Search.{IsIn};
 ghost use Rattle.nll_core.specs.Walking.{AreIn, Grows, IsLedTo};
@@ -48,7 +48,9 @@ pub fn resume(
     ensures found { OnOk result (ListsNew reached.old reached.new [] found.new.items) }
 {
     if starts.has_all() {
-        return take(run, reached, found);
+        reached.gaps(run, found)?;
+        reached.insert_run(run)?;
+        return Ok(());
     }
     let points = starts.points();
     resume_walks(steps, seen, &points, run, reached, found)
@@ -64,19 +66,6 @@ pub fn is_idle(starts: &Places, run: Run, reached: &RunSet) -> bool
     }
     let points = starts.points();
     begins_nothing(&points, run, reached)
-}
-
-// Inserts a run into a set, and fills an empty list with the runs of the part that is new.
-fn take(run: Run, reached: &mut RunSet, found: &mut Vec<Run>) -> Result<(), Memory>
-    requires proper { run.first ≤ run.last }
-    requires below { run.last < length reached.old }
-    requires none { found.old.items ≡ [] }
-    ensures fills { OnOk result (Fills reached.old reached.new run) }
-    ensures found { OnOk result (ListsNew reached.old reached.new [] found.new.items) }
-{
-    reached.gaps(run, found)?;
-    reached.insert_run(run)?;
-    Ok(())
 }
 
 // Goes on with walks from some points, from a run of the set in which they go, and fills an empty
@@ -107,7 +96,9 @@ fn resume_walks(
     }
     let points = steps.lines.points();
     let ended = resume_points(steps, seen, starts, run, reached, found)?;
-    if !is_ended(steps, run, reached, ended) {
+    // Else the ends in the set are reached: a return point is newly reached, or one was reached
+    // before and the run may have an end.
+    if !ended && (run.last < points || !has_return(&steps.lines, &steps.landings, reached)) {
         return Ok(());
     }
     fill_from(seen, reached, found, points)?;
@@ -267,23 +258,13 @@ fn enter_starts(
     let mut next = part.first;
     while let Some(start) = starts.next_in(next, part.last) {
         enter_point(lines, seen, reached, found, start)?;
-        // No start up to this number enters anything.
-        next = reached_to(reached, start, part.last) + 1;
+        let Some(entered) = reached.run_from(start) else {
+            unreachable!();
+        };
+        // No start in the run enters anything.
+        next = entered.last.min(part.last) + 1;
     }
     Ok(())
-}
-
-// A number up to which, from a reached point on, all numbers are reached, at most a limit.
-fn reached_to(reached: &RunSet, point: u32, limit: u32) -> u32
-    requires reached { IsIn reached.now point }
-    requires limit { point ≤ limit }
-    ensures bounds { (point ≤ result) × (result ≤ limit) }
-    ensures all { (x : ℕ) → point ≤ x → x ≤ result → IsIn reached.now x }
-{
-    match reached.run_from(point) {
-        Some(run) => run.last.min(limit),
-        None => unreachable!(),
-    }
 }
 
 // Enters the points of a run to which jumps lead from what is reached.
@@ -339,24 +320,6 @@ fn enter_point(
     Ok(())
 }
 
-// Whether the ends in the set are reached: a return point is newly reached, or one was reached
-// before and the run may have an end.
-fn is_ended(steps: &Steps, run: Run, reached: &RunSet, ended: bool) -> bool
-    requires width { steps.now.points ≤ length reached.now }
-    requires ended { ended ≡ true → (x : ℕ) × IsIn reached.now x × IsReturn steps.now x }
-    ensures some { result ≡ true → (x : ℕ) × IsIn reached.now x × IsReturn steps.now x }
-    ensures none { result ≡ false → (ended ≡ false)
-        × ((x : ℕ) → IsIn reached.now x → IsReturn steps.now x → run.last < steps.now.points) }
-{
-    if ended {
-        return true;
-    }
-    if run.last < steps.lines.points() {
-        return false;
-    }
-    has_return(&steps.lines, &steps.landings, reached)
-}
-
 // Whether a return point is reached. It looks at the return points or at the reached runs,
 // whichever are fewer.
 fn has_return(lines: &Lines, landings: &Landings, reached: &RunSet) -> bool
@@ -369,11 +332,16 @@ fn has_return(lines: &Lines, landings: &Landings, reached: &RunSet) -> bool
         first: points,
         last: points,
     };
-    if landings.landing_in(ends).len() > reached.runs() {
-        has_return_within(landings, reached)
-    } else {
-        is_one_reached(lines, landings, reached)
+    let returns = landings.landing_in(ends);
+    if returns.len() > reached.runs() {
+        return has_return_within(landings, reached);
     }
+    for landing in returns {
+        if reached.has(Element(landing.from)) {
+            return true;
+        }
+    }
+    false
 }
 
 // Like `has_return`, by looking at the reached runs.
@@ -382,25 +350,6 @@ fn has_return_within(landings: &Landings, reached: &RunSet) -> bool
 {
     for run in reached.as_runs() {
         if landings.has_return_in(*run) {
-            return true;
-        }
-    }
-    false
-}
-
-// Like `has_return`, by looking at the return points.
-fn is_one_reached(lines: &Lines, landings: &Landings, reached: &RunSet) -> bool
-    requires landings { landings.now ≡ lines.now }
-    requires width { lines.now.points ≤ length reached.now }
-    ensures { (result ≡ true) ↔ ((x : ℕ) × IsIn reached.now x × IsReturn lines.now x) }
-{
-    let points = lines.points();
-    let ends = Run {
-        first: points,
-        last: points,
-    };
-    for landing in landings.landing_in(ends) {
-        if reached.has(Element(landing.from)) {
             return true;
         }
     }

@@ -1,14 +1,11 @@
 //! How a frontier goes on once one more element is in the set inside which its constraints ask.
 
-ghost use Rattle.std.specs.Prelude.{◌≡◌, ◌⊎◌, ◌↔◌, ℕ, ◌≤◌, ◌<◌, ◌∷◌, ◌++◌, true, false, []};
-ghost use Rattle.std.specs.Prelude.{List, Contains, length, slice_set, IfOk, OnOk, OnErr};
-ghost use Rattle.nll_sets.specs.ElementSet.{flag};
+ghost use Rattle.std.specs.Prelude.{◌≡◌, ◌⊎◌, ◌↔◌, ℕ, ◌≤◌, ◌<◌, true, false, length, OnOk, OnErr};
 ghost use Rattle.nll_problem.specs.Graph.{element_count, IsNext, IsReturn, IsStep};
 ghost use Rattle.nll_core.specs.Search.{IsIn, IsStepInside};
 ghost use Rattle.nll_core.specs.Frontiers.{AppendsNew, IsAskedFrom, IsWithout, StepsOn};
 
 use crate::frontiers::places::Places;
-use crate::frontiers::points::Points;
 use crate::reachability::Inside;
 use crate::search::Search;
 use nll_problem::Graph;
@@ -40,40 +37,15 @@ pub fn go_on<S: ElementSet>(
     ensures none { OnErr result (out.new.items ≡ out.old.items) }
 {
     if starts.has_all() {
-        return take(element, reached, out);
+        reached.insert(element)?;
+        out.push(element)?;
+        return Ok(());
     }
-    if !is_asked(graph, &starts.points(), element, reached) {
+    let begins = starts.points().next_in(element.0, element.0).is_some();
+    if !begins && !is_next(graph, element, reached) {
         return Ok(());
     }
     walk_on(graph, seen, element, reached, out)
-}
-
-// Inserts a new element into a set, and appends it to a list.
-fn take(element: Element, reached: &mut RunSet, out: &mut Vec<Element>) -> Result<(), Memory>
-    requires below { element < length reached.old }
-    ensures puts { OnOk result (reached.new ≡ slice_set reached.old element true) }
-    ensures out { OnOk result (out.new.items ≡ out.old.items ++ element ∷ []) }
-    ensures none { OnErr result (out.new.items ≡ out.old.items) }
-{
-    reached.insert(element)?;
-    out.push(element)?;
-    Ok(())
-}
-
-// Whether a walk begins at an element, or a step leads there from what is reached.
-fn is_asked(graph: &Graph, starts: &Points<'_>, element: Element, reached: &RunSet) -> bool
-    requires element { element < element_count graph.now }
-    requires room { element_count graph.now ≤ length reached.now }
-    ensures yes { result ≡ true
-        → Contains starts.now element
-        ⊎ ((x : ℕ) × IsIn reached.now x × IsStep graph.now x element) }
-    ensures start { Contains starts.now element → result ≡ true }
-    ensures step { (x : ℕ) → IsIn reached.now x → IsStep graph.now x element → result ≡ true }
-{
-    match starts.next_in(element.0, element.0) {
-        Some(_) => true,
-        None => is_next(graph, element, reached),
-    }
 }
 
 // Whether a step leads to an element from what is reached. Most steps lead to the next point, so
@@ -160,32 +132,11 @@ fn walk_on<S: ElementSet>(
 {
     let alloc = *out.allocator();
     let taken = mem::replace(reached, RunSet::new(alloc));
-    let (set, list) = search_on(graph, seen, element, Search::over(alloc, taken))?.into_parts();
+    let mut search = Search::over(alloc, taken);
+    search.visit(element)?;
+    search.spread::<Inside<S>>(&Inside { graph, set: seen }, 0)?;
+    let (set, list) = search.into_parts();
     *reached = set;
     out.extend_from_slice(&list)?;
     Ok(())
-}
-
-// The search that goes on from a new element.
-fn search_on<S: ElementSet>(
-    graph: &Graph,
-    seen: &S,
-    element: Element,
-    begun: Search<RunSet>,
-) -> Result<Search<RunSet>, Memory>
-    requires width { length (S.flags seen.now) ≡ element_count graph.now }
-    requires room { element_count graph.now ≤ length begun.reached }
-    requires element { element < element_count graph.now }
-    requires none { begun.list ≡ [] }
-    requires closed { (x y : ℕ) → IsIn begun.reached x
-        → IsStepInside graph.now (S.flags seen.now) x y → IsIn begun.reached y ⊎ (y ≡ element) }
-    ensures steps { IfOk result (λ s. StepsOn (IsStepInside graph.now (S.flags seen.now)) element
-        begun.reached s.reached) }
-    ensures found { IfOk result (λ s. (before : List ℕ)
-        → AppendsNew begun.reached s.reached before (before ++ s.list)) }
-{
-    let mut search = begun;
-    search.visit(element)?;
-    search.spread::<Inside<S>>(&Inside { graph, set: seen }, 0)?;
-    Ok(search)
 }

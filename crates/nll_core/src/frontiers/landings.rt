@@ -1,14 +1,12 @@
 //! The jumps of a graph by where they land.
 
 ghost use Rattle.std.specs.Prelude.{◌≡◌, ◌↔◌, ◌≤◌, ◌<◌, ℕ, Contains, AllPairs, length, OnOk, IfOk};
-ghost use Rattle.std.specs.Prelude.{◌⊎◌, ◌+◌, ◌^◌, nat_lt, slice_index, slice_index_or};
-ghost use Rattle.std.specs.Prelude.{slice_range, true};
+ghost use Rattle.std.specs.Prelude.{◌⊎◌, ◌+◌, ◌^◌, slice_index, slice_index_or, true};
 ghost use Rattle.nll_problem.specs.Graph.{IsReturn};
 ghost use Rattle.nll_sets.specs.Runs.{IsWithin};
-ghost use Rattle.nll_core.specs.Lines.{IsJump, IsLandingStart};
+ghost use Rattle.nll_core.specs.Lines.{AreReturns, IsJump, IsLandingStart};
 ghost use Rattle.nll_core.specs.declared.frontiers.landings.Landing.{Landing};
 
-use crate::frontiers::returns::Returns;
 use crate::lines::Lines;
 use nll_problem::Graph;
 use nll_sets::{Memory, Run};
@@ -34,20 +32,22 @@ pub struct Landings {
     list: Vec<Landing>,
     // The indices at which those that land at each number start, and where all end.
     starts: Vec<usize>,
-    returns: Returns,
+    // The return points, ascending.
+    returns: Vec<u32>,
 }
 
 impl Model for Landings {
     ghost use Rattle.std.specs.Prelude.{◌≡◌};
     ghost use Rattle.nll_problem.specs.Graph as spec;
-    ghost use Rattle.nll_core.specs.Lines.{AreLandings};
+    ghost use Rattle.nll_core.specs.Lines.{AreLandings, AreReturns};
 
     ghost Value = { spec.Graph };
 
     ghost view = { λ landings. landings.graph.value };
 
     ghost invariant = { λ landings. AreLandings landings.graph.value
-        landings.list.items landings.starts.items × (landings.returns ≡ landings.graph.value) };
+        landings.list.items landings.starts.items
+        × AreReturns landings.graph.value landings.returns.items };
 }
 
 impl Landings {
@@ -61,7 +61,7 @@ impl Landings {
     {
         let list = sorted_landings(alloc, lines)?;
         let starts = starts_of(alloc, list.as_slice(), lines.points())?;
-        let returns = Returns::of(alloc, graph)?;
+        let returns = return_points(alloc, graph)?;
         Ok(Landings {
             graph: Snapshot::of(graph),
             list,
@@ -74,7 +74,8 @@ impl Landings {
     pub fn has_return_in(&self, run: Run) -> bool
         ensures { (result ≡ true) ↔ ((x : ℕ) × IsWithin run x × IsReturn self.now x) }
     {
-        self.returns.has_one_in(run)
+        let at = self.returns.partition_point(|point| *point < run.first);
+        at < self.returns.len() && self.returns[at] <= run.last
     }
 
     /// The jumps that land at a number of a run.
@@ -86,17 +87,21 @@ impl Landings {
     {
         let from = self.starts[run.first as usize];
         let to = self.starts[run.last as usize + 1];
-        part(self.list.as_slice(), from, to)
+        &self.list[from..to]
     }
 }
 
-// The landings from one place to another.
-fn part(list: &[Landing], from: usize, to: usize) -> &[Landing]
-    requires order { from ≤ to }
-    requires within { to ≤ length list.now }
-    ensures { result.now ≡ slice_range list.now from to }
+// The return points, ascending.
+fn return_points(alloc: Global, graph: &Graph) -> Result<Vec<u32>, Memory>
+    ensures { IfOk result (λ points. AreReturns graph.now points.items) }
 {
-    &list[from..to]
+    let mut points = Vec::new(alloc);
+    for point in 0..graph.points() {
+        if graph.is_return(point) {
+            points.push(point)?;
+        }
+    }
+    Ok(points)
 }
 
 // The indices at which the landings at each number start, up to one past a number of points.
@@ -125,17 +130,10 @@ fn start_from(list: &[Landing], from: usize, number: u32) -> usize
     ensures { IsLandingStart list.now number result }
 {
     let mut place = from;
-    while place < list.len() && leads_below(&list[place], number) {
+    while place < list.len() && list[place].to < number {
         place += 1;
     }
     place
-}
-
-// Whether a landing leads below a number.
-fn leads_below(landing: &Landing, number: u32) -> bool
-    ensures { result ≡ nat_lt landing.now.to number }
-{
-    landing.to < number
 }
 
 // The jumps, ascending by where they land.
@@ -145,20 +143,11 @@ fn sorted_landings(alloc: Global, lines: &Lines) -> Result<Vec<Landing>, Memory>
     ensures ascending { IfOk result (λ list.
         AllPairs (λ (l m : Landing). l.to ≤ m.to) list.items) }
 {
-    let mut list = all_landings(alloc, lines)?;
-    list.sort_unstable_by_key(|landing| landing.to);
-    Ok(list)
-}
-
-// The jumps of all points.
-fn all_landings(alloc: Global, lines: &Lines) -> Result<Vec<Landing>, Memory>
-    ensures { IfOk result (λ list. (l : Landing)
-        → Contains list.items l ↔ IsJump lines.now l.from l.to) }
-{
     let mut list = Vec::new(alloc);
     for point in 0..lines.points() {
         push_landings(lines, point, &mut list)?;
     }
+    list.sort_unstable_by_key(|landing| landing.to);
     Ok(list)
 }
 

@@ -1,6 +1,6 @@
 //! What owners use beside the solver: frontiers, which go on from what was found before.
 //!
-//! Reading order: `points`, `starts`, `returns`, `landings`, `steps`, `places`, `continuation`;
+//! Reading order: `points`, `landings`, `steps`, `places`, `continuation`;
 //! `element_growth`, `frontier`.
 
 mod continuation;
@@ -9,8 +9,6 @@ mod frontier;
 mod landings;
 mod places;
 mod points;
-mod returns;
-mod starts;
 mod steps;
 
 pub use frontier::Frontier;

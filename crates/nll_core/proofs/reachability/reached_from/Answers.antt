@@ -23,8 +23,10 @@ returns g c =
           let reaches =
           leads_inside c.args.graph.now (g.S.ElementSet.flags c.args.set.now) c.args.at x
           (sym c.has.ensures ∙ c.if-not-has.false) in (
-            λ h. reaches.0 ((found.list x).0 (subst (λ (xs : List ℕ). Contains xs x) c.into_list.ensures h)),
-            λ h. subst (λ (xs : List ℕ). Contains xs x) (sym c.into_list.ensures) ((found.list x).1 (reaches.1 h)),
+            λ h. reaches.0 ((found.list x).0
+                (subst (λ (xs : List ℕ). Contains xs x) c.into_parts-reached.ensures.list h)),
+            λ h. subst (λ (xs : List ℕ). Contains xs x) (sym c.into_parts-reached.ensures.list)
+                ((found.list x).1 (reaches.1 h)),
           );
-      once = subst (λ (xs : List ℕ). AllPairs (λ x y. x ≢ y) xs) (sym c.into_list.ensures) found.once;
+      once = subst (λ (xs : List ℕ). AllPairs (λ x y. x ≢ y) xs) (sym c.into_parts-reached.ensures.list) found.once;
     }

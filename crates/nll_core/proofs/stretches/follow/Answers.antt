@@ -4,7 +4,7 @@ use Rattle.nll_core.proofs.SearchLemmas.{contains_from, covers_contained}
 use Rattle.nll_core.specs.Search.{IsIn}
 use Rattle.nll_core.proofs.WalkingLemmas.{grows_none, following_more, following_end, jump_to_ends}
 use Rattle.nll_core.proofs.stretches.follow.Goals as goal
-use Rattle.nll_core.proofs.stretches.follow.Goals.{then-target-points, else-target-points+then-not-has+in_ok-known, else-target-points+else-not-has}
+use Rattle.nll_core.proofs.stretches.follow.Goals.{then-target-points, else-target-points+then-target-known+in_ok-known, else-target-points+else-target-known+else-known-target}
 
 pub go_to-requires-clause-widths : goal.go_to-requires-clause-widths
 go_to-requires-clause-widths c = omega (arith, c.loop-target.invariant.0.grows.width, c.requires.widths)
@@ -17,7 +17,7 @@ loop-target-preserved c = elim c.if-target-points.branch [
         c.loop-target.invariant.0,
     c.loop-target.invariant.1,
   ))))
-  | else-target-points+then-not-has+in_ok-known w ↦ rw w.reached-is (rw w.todo-is (rw w.ends-is (rw w.known-is (
+  | else-target-points+then-target-known+in_ok-known w ↦ rw w.reached-is (rw w.todo-is (rw w.ends-is (rw w.known-is (
     following_more _ _ c.args.run c.jumps-target-items.result.now _ _ _ _ _ _ _ c.loop-target.target-index _ refl
         c.loop-target-test.true (omega (arith, w.if-target-points.false, c.points-points.ensures.value))
         (λ x h. (c.jumps-target-items.ensures x).0 h)
@@ -25,17 +25,18 @@ loop-target-preserved c = elim c.if-target-points.branch [
         w.in_ok-known.ensures.grows w.in_ok-known.ensures.covers,
     w.in_ok-known.ensures.known,
   ))))
-  | else-target-points+else-not-has w ↦ rw w.reached-is (rw w.todo-is (rw w.ends-is (rw w.known-is (
-    following_more _ _ c.args.run c.jumps-target-items.result.now _ _ _ _ _ _ _ c.loop-target.target-index _ refl
-        c.loop-target-test.true (omega (arith, w.if-target-points.false, c.points-points.ensures.value))
-        (λ x h. (c.jumps-target-items.ensures x).0 h)
-        (contains_from _ _ c.loop-target.target-index c.loop-target-test.true refl) c.loop-target.invariant.0
-        (grows_none _ _ (Reaches c.args.lines.now (IsIn c.args.sub.now)
-        (get_or c.jumps-target-items.result.now c.loop-target.target-index 0)) c.loop-target.reached
-        c.loop-target.todo.items)
-        (λ _. c.loop-target.invariant.1 _ (w.has.ensures.0 w.if-not-has.false)),
-    c.loop-target.invariant.1,
-  ))))
+  | else-target-points+else-target-known+else-known-target w ↦
+      rw w.reached-is (rw w.todo-is (rw w.ends-is (rw w.known-is (
+        following_more _ _ c.args.run c.jumps-target-items.result.now _ _ _ _ _ _ _ c.loop-target.target-index _ refl
+            c.loop-target-test.true (omega (arith, w.if-target-points.false, c.points-points.ensures.value))
+            (λ x h. (c.jumps-target-items.ensures x).0 h)
+            (contains_from _ _ c.loop-target.target-index c.loop-target-test.true refl) c.loop-target.invariant.0
+            (grows_none _ _ (Reaches c.args.lines.now (IsIn c.args.sub.now)
+            (get_or c.jumps-target-items.result.now c.loop-target.target-index 0)) c.loop-target.reached
+            c.loop-target.todo.items)
+            (λ _. c.loop-target.invariant.1 _ (w.if-target-known.false, w.if-known-target.false)),
+        c.loop-target.invariant.1,
+      ))))
 ]
 
 pub returns-clause-covers : goal.returns-clause-covers

@@ -1,4 +1,4 @@
-use Rattle.std.proofs.Common.{◌≡◌, length, map, Contains, sym, subst, ◌∙◌, arith}
+use Rattle.std.proofs.Common.{◌≡◌, ◌↔◌, ◌≤◌, ℕ, List, length, map, Contains, sym, subst, ◌∙◌, arith}
 use Rattle.std.specs.Prelude.{slice_index}
 use Rattle.std.proofs.lemmas.List.{length-map}
 use Rattle.std.proofs.lemmas.List.Elements.{Contains-get_or}
@@ -6,11 +6,13 @@ use Rattle.nll_problem.specs.Rows.{row_at}
 use Rattle.nll_body.specs.Bodies.{GoesOn}
 use Rattle.nll_live.specs.Chains.{AreStarts}
 use Rattle.nll_live.specs.Lows.{AreDefinitions}
+use Rattle.nll_live.specs.Marks.{IsCovered}
+use Rattle.nll_live.proofs.MarkLemmas.{contains_moved, covered_moved}
 use Rattle.nll_live.proofs.SetLemmas.{if_ok}
 use Rattle.nll_live.proofs.VectorLemmas.{row_here}
 use Rattle.nll_live.proofs.WalkLemmas.{live_within}
 use Rattle.nll_live.proofs.live_points.find_set.Goals as goal
-use Rattle.nll_live.proofs.live_points.find_set.Goals.{After-as_slice-definitions}
+use Rattle.nll_live.proofs.live_points.find_set.Goals.{After-as_slice-definitions, After-as_slice-2}
 
 -- the definitions are those of the variable
 definitions_are : (c : After-as_slice-definitions)
@@ -44,16 +46,40 @@ pub search_back-requires-clause-ends : goal.search_back-requires-clause-ends
 search_back-requires-clause-ends c =
     λ k low. c.requires.points (slice_index c.args.list.now k) (Contains-get_or c.args.list.now k 0 low)
 
-pub set_found-requires-clause-within : goal.set_found-requires-clause-within
-set_found-requires-clause-within c = λ p h.
+-- the sorted points cover what the room's do
+covered : (c : After-as_slice-2) (p : ℕ)
+    → IsCovered c.as_slice.result.now c.as_slice-2.result.now p
+    ↔ IsCovered c.search_back.new.room.heights.items c.search_back.new.room.lows.items p
+covered c p =
+    let heights = c.search_back.new.room.heights.items in
+    let lows = c.search_back.new.room.lows.items in
+    subst (λ (hs : List ℕ). IsCovered hs c.as_slice-2.result.now p ↔ IsCovered heights lows p)
+    (sym c.as_slice.ensures.value)
+    (subst (λ (xs : List ℕ). IsCovered heights xs p ↔ IsCovered heights lows p) (sym c.as_slice-2.ensures.value)
+    (covered_moved heights lows c.sort_unstable.new.self.items c.sort_unstable.ensures.permutation p))
+
+pub set_of-requires-clause-proper : goal.set_of-requires-clause-proper
+set_of-requires-clause-proper c = λ low h.
+    let has =
+    (contains_moved c.search_back.new.room.lows.items c.sort_unstable.new.self.items
+    c.sort_unstable.ensures.permutation
+    low).0 (subst (λ (xs : List ℕ). Contains xs low) c.as_slice-2.ensures.value h) in
+    subst (λ (hs : List ℕ). low ≤ slice_index hs low) (sym c.as_slice.ensures.value)
+    (c.in_ok-search_back.ensures.proper low has)
+
+pub set_of-requires-clause-within : goal.set_of-requires-clause-within
+set_of-requires-clause-within c =
+    let d = (goal.at.set_of-requires-clause-within c).After-as_slice-2 in
+    λ p h.
     let below =
     live_within c.args.ways.now.body.now (Contains c.args.list.now) c.args.variable c.requires.points p
-    ((c.in_ok-search_back.ensures.each p).0 h) in
+    ((c.in_ok-search_back.ensures.each p).0 ((covered d p).0 h)) in
     omega (arith, below, c.points-points.ensures.value)
 
 pub returns-clause-each : goal.returns-clause-each
 returns-clause-each c =
-    if_ok c.set_found.result _ _
-    (λ set each p. let live = c.in_ok-search_back.ensures.each p in
-    (λ h. live.0 ((each p).0 h), λ h. (each p).1 (live.1 h)))
-    c.set_found.ensures.each
+    let d = (goal.at.returns-clause-each c).After-as_slice-2 in
+    if_ok c.set_of.result _ _
+    (λ set each p. let live = c.in_ok-search_back.ensures.each p in let same = covered d p in
+    (λ h. live.0 (same.0 ((each p).0 h)), λ h. (each p).1 (same.1 (live.1 h))))
+    c.set_of.ensures.each

@@ -1,6 +1,7 @@
-use Rattle.std.proofs.Common.{length, arith}
+use Rattle.std.proofs.Common.{◌≡◌, ◌+◌, ◌<◌, length, map, sym, arith}
 use Rattle.nll_live.specs.Live.{DefinesAt}
-use Rattle.nll_live.proofs.GatheringLemmas.{listed_first, listed_step, ascend_first, definitions_listed}
+use Rattle.nll_live.proofs.GatheringLemmas.{ascend_first, ascend_later, definition_is, definitions_listed, listed_first}
+use Rattle.nll_live.proofs.GatheringLemmas.{listed_step, lists_as, lists_none, no_definition}
 use Rattle.nll_live.proofs.points_by_variable.list_definitions.Goals as goal
 
 pub loop-point-init : goal.loop-point-init
@@ -10,14 +11,37 @@ loop-point-init c =
       ascending = ascend_first (length c.args.body.now.variables);
     })
 
+pub loop-point-preserved-in_default : goal.loop-point-preserved-in_default
+loop-point-preserved-in_default c =
+    let within : c.loop-point.point < length c.args.body.now.points =
+    omega (arith, c.loop-point-test.true, c.points-point-end.ensures.value) in
+    record {
+      listed =
+          listed_step (length c.args.body.now.variables)
+          (DefinesAt c.args.body.now) c.loop-point.point _ _ c.loop-point.invariant.listed
+          (lists_none (λ x. DefinesAt c.args.body.now x c.loop-point.point) c.loop-point.point _
+          (λ x h. no_definition c.args.body.now c.loop-point.point within c.in_default.ensures x));
+      ascending =
+          ascend_later c.loop-point.point (c.loop-point.point + 1) (map (λ list. list.items) c.loop-point.lists.items)
+          (omega arith) c.loop-point.invariant.ascending;
+    }
+
 pub loop-point-preserved : goal.loop-point-preserved
-loop-point-preserved c = record {
-  listed =
-      listed_step (length c.args.body.now.variables)
-      (DefinesAt c.args.body.now) c.loop-point.point _ _ c.loop-point.invariant.listed
-      c.in_ok-list_definition_of.ensures.lists;
-  ascending = c.in_ok-list_definition_of.ensures.ascending c.loop-point.invariant.ascending;
-}
+loop-point-preserved c =
+    let within : c.loop-point.point < length c.args.body.now.points =
+    omega (arith, c.loop-point-test.true, c.points-point-end.ensures.value) in
+    record {
+      listed =
+          listed_step (length c.args.body.now.variables)
+          (DefinesAt c.args.body.now) c.loop-point.point _ _ c.loop-point.invariant.listed
+          (lists_as (λ x. x ≡ c.in-Some.variable) (λ x. DefinesAt c.args.body.now x c.loop-point.point)
+          c.loop-point.point _ _
+          (λ x.
+          let is = definition_is c.args.body.now c.loop-point.point within c.in-Some.variable c.in-Some.ensures x in
+          (λ h. is.0 (sym h), λ h. sym (is.1 h)))
+          c.in_ok-list_at.ensures.lists);
+      ascending = c.in_ok-list_at.ensures.ascending c.loop-point.invariant.ascending;
+    }
 
 pub returns : goal.returns
 returns c =

@@ -16,10 +16,9 @@ returns-in-Arguments c =
     (last_is _ _ _ _ _ c.as_slice.ensures c.len.ensures.value c.requires c.in-Arguments.is) h)
     c.end-in-Arguments.ensures
 
-pub returns-in-Inputs : goal.returns-in-Inputs
-returns-in-Inputs c =
+pub returns-in_ok-push-in-Inputs : goal.returns-in_ok-push-in-Inputs
+returns-in_ok-push-in-Inputs c =
     let left = c.truncate.ensures.items
     ∙ ap (λ n. take (n - 1) c.args.opened.now.items) c.len-in-Inputs.ensures.value in
-    IfOk-weaker _ _ _ (λ s h. closed_inputs _ _ _ _ s
-    (last_is _ _ _ _ _ c.as_slice.ensures c.len.ensures.value c.requires refl) c.in-Inputs.is
-    (h.0, h.1 ∙ ap (λ (os : List Open). os ++ opens.Output ∷ []) left)) c.put_open.ensures
+    closed_inputs _ _ _ _ _ (last_is _ _ _ _ _ c.as_slice.ensures c.len.ensures.value c.requires refl) c.in-Inputs.is
+    (refl, c.in_ok-push-in-Inputs.ensures.ok ∙ ap (λ (os : List Open). os ++ opens.Output ∷ []) left)

@@ -1,4 +1,4 @@
-use Rattle.std.proofs.Common.{sym, ◌∙◌, arith}
+use Rattle.std.proofs.Common.{sym, ap, ◌∙◌, arith}
 use Rattle.std.specs.Prelude.{not}
 use Rattle.nll_mir_grammar.specs.Functions.{has_function}
 use Rattle.nll_mir_grammar.specs.TypeTexts.{written}
@@ -9,13 +9,13 @@ pub loop-argument-preserved : goal.loop-argument-preserved
 loop-argument-preserved c =
     all_more (λ a. written a.1) (λ t. not (has_function t)) c.args.arguments.now c.loop-argument.argument-index
     c.argument-item.result _ c.loop-argument-test.true c.argument-item.is
-    (sym c.is_first_type.ensures ∙ c.if-not-is_first_type.false) c.loop-argument.invariant
+    (ap (λ b. not b) (sym c.has_function.ensures ∙ c.if-has_function.false)) c.loop-argument.invariant
 
-pub returns-then-not-is_first_type : goal.returns-then-not-is_first_type
-returns-then-not-is_first_type c =
+pub returns-then-has_function : goal.returns-then-has_function
+returns-then-has_function c =
     not_all (λ a. written a.1) (λ t. not (has_function t)) c.args.arguments.now c.loop-argument.argument-index
     c.argument-item.result _ c.loop-argument-test.true c.argument-item.is
-    (sym c.is_first_type.ensures ∙ c.if-not-is_first_type.true) c.loop-argument.invariant
+    (ap (λ b. not b) (sym c.has_function.ensures ∙ c.if-has_function.true)) c.loop-argument.invariant
 
 pub returns : goal.returns
 returns c =

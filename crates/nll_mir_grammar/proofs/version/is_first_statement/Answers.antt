@@ -9,7 +9,7 @@ use Rattle.nll_mir_grammar.proofs.version.is_first_statement.Goals as goal
 
 pub returns-in-Make : goal.returns-in-Make
 returns-in-Make c =
-    rw c.in-Make.is ((rw c.deref.ensures at c.is_first_type.ensures) ∙ sym (and_true _))
+    rw c.in-Make.is (ap (λ b. not b) (rw c.deref.ensures at c.has_function.ensures) ∙ sym (and_true _))
 
 pub returns-then-not-are_first_arguments : goal.returns-then-not-are_first_arguments
 returns-then-not-are_first_arguments c =
@@ -29,7 +29,7 @@ returns-else-not-are_first_arguments c =
     let told =
     sym (rw c.deref-in-Call.ensures at (rw c.as_slice.ensures.value at c.are_first_arguments.ensures))
     ∙ c.if-not-are_first_arguments.false in
-    rw c.in-Call.is ((rw c.deref-in-Call-2.ensures at c.is_first_type-in-Call.ensures)
+    rw c.in-Call.is (ap (λ b. not b) (rw c.deref-in-Call-2.ensures at c.has_function-in-Call.ensures)
     ∙ sym (ap (λ ts. list_all plain (ts ++ written call.result ∷ [])) (call_types call.arguments.items)
     ∙ (all_push plain (map (λ a. written a.1) call.arguments.items) (written call.result)
     ∙ ap (λ b. b && plain (written call.result)) told)))

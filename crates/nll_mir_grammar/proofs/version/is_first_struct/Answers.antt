@@ -15,6 +15,7 @@ returns-then-not-are_first_parameters c =
 pub returns : goal.returns
 returns c =
     let fields = not (have_function (parts (written c.args.text.now.fields))) in
-    c.is_first_type.ensures ∙ (ap (λ t. not t) (rw c.as_type.ensures.value (fields_alike _ c.as_type.ensures.tuple))
+    ap (λ t. not t) c.has_function.ensures
+    ∙ (ap (λ t. not t) (rw c.as_type.ensures.value (fields_alike _ c.as_type.ensures.tuple))
     ∙ ap (λ z. z && fields) (sym (sym (rw c.as_slice.ensures.value at c.are_first_parameters.ensures)
     ∙ c.if-not-are_first_parameters.false)))

@@ -1,4 +1,5 @@
-use Rattle.std.proofs.Common.{ap, sym, refl, append-nil, ◌∙◌, arith}
+use Rattle.std.proofs.Common.{◌≡◌, ℕ, Bool, true, false, ap, sym, refl, append-nil, ◌∙◌, arith}
+use Rattle.std.specs.Prelude.{◌&&◌}
 use Rattle.std.specs.Cmp.Derive.{both_true}
 use Rattle.std.specs.List.{list_all}
 use Rattle.std.proofs.lemmas.List.{take_all, length-map}
@@ -17,25 +18,42 @@ loop-bound-init c = record {
   made = sym (append-nil _);
 }
 
-pub returns-in_err-add_pair-in-Some-clause-grows : goal.returns-in_err-add_pair-in-Some-clause-grows
-returns-in_err-add_pair-in-Some-clause-grows c =
-    grows_further _ _ _ c.loop-bound.invariant.grows c.in_err-add_pair-in-Some.ensures.grows
+pub returns-in_err-add_pair-clause-grows : goal.returns-in_err-add_pair-clause-grows
+returns-in_err-add_pair-clause-grows c =
+    grows_further _ _ _ c.loop-bound.invariant.grows c.in_err-add_pair.ensures.grows
 
-pub returns-in-None-clause-made : goal.returns-in-None-clause-made
-returns-in-None-clause-made c =
+-- one of the names isn't among them
+not_first : (a b : Bool) → a ≡ false → (a && b) ≡ false
+not_first a b e = rw e refl
+
+not_second : (a b : Bool) → a ≡ true → b ≡ false → (a && b) ≡ false
+not_second a b e f = rw (e, f) refl
+
+pub returns-in_default-clause-made : goal.returns-in_default-clause-made
+returns-in_default-clause-made c =
     list_all_at (is_bound c.args.names.now) c.args.bounds.now c.loop-bound.bound-index _ c.loop-bound-test.true
-    c.in-None.ensures
+    (not_first _ _ (rw c.in_default.is at c.resolve_region.ensures))
+
+pub returns-in_default-resolve_region-clause-made : goal.returns-in_default-resolve_region-clause-made
+returns-in_default-resolve_region-clause-made c =
+    list_all_at (is_bound c.args.names.now) c.args.bounds.now c.loop-bound.bound-index _ c.loop-bound-test.true
+    (not_second _ _ c.in-Some.ensures.0 (rw c.in_default-resolve_region.is at c.resolve_region-in-loop-bound.ensures))
+
+same_pair : (a b m n : ℕ) → a ≡ m → b ≡ n → ◌≡◌ {A = ℕ × ℕ} (a, b) (m, n)
+same_pair a b m n d e = rw (d, e) refl
 
 pub loop-bound-preserved : goal.loop-bound-preserved
 loop-bound-preserved c =
     let l = c.loop-bound in
-    let e = c.in_ok-add_pair-in-Some.ensures in
+    let e = c.in_ok-add_pair.ensures in
+    let longer = c.in-Some.ensures in
+    let shorter = c.in-Some-resolve_region.ensures in
     record {
       grows = grows_further _ _ _ l.invariant.grows e.grows;
       known = list_all_more (is_bound c.args.names.now) c.args.bounds.now l.bound-index _ c.loop-bound-test.true
-          ∙ both_true l.invariant.known c.in-Some.ensures.0;
+          ∙ both_true l.invariant.known (both_true longer.0 shorter.0);
       made = behind_more (bound_numbers c.args.names.now) _ _ _ _ c.args.bounds.now l.bound-index _
-          c.loop-bound-test.true e.added c.in-Some.ensures.1 l.invariant.made;
+          c.loop-bound-test.true e.added (same_pair _ _ _ _ longer.1 shorter.1) l.invariant.made;
     }
 
 pub returns-clause-made : goal.returns-clause-made

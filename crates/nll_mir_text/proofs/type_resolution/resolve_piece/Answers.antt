@@ -1,19 +1,6 @@
 use Rattle.nll_mir_text.specs.Resolution.{scope_of}
 use Rattle.nll_mir_text.proofs.type_resolution.resolve_piece.Goals as goal
 
-pub returns-in_ok-put_int-in-Int-clause-made : goal.returns-in_ok-put_int-in-Int-clause-made
-returns-in_ok-put_int-in-Int-clause-made c =
-    rw c.in-Int.is (c.in_ok-put_int-in-Int.ensures.made (scope_of c.args.scope.now))
-
-pub returns-in_ok-put_row-in-Row-clause-made : goal.returns-in_ok-put_row-in-Row-clause-made
-returns-in_ok-put_row-in-Row-clause-made c =
-    rw c.in-Row.is (c.in_ok-put_row-in-Row.ensures.made (scope_of c.args.scope.now))
-
-pub returns-in_ok-put_part-in-Part-clause-made : goal.returns-in_ok-put_part-in-Part-clause-made
-returns-in_ok-put_part-in-Part-clause-made c =
-    rw c.in-Part.is
-    (c.in_ok-put_part-in-Part.ensures.made (scope_of c.args.scope.now) c.args.types.now c.requires.below)
-
 pub returns-in_ok-put_tuple-in-Tuple-clause-made : goal.returns-in_ok-put_tuple-in-Tuple-clause-made
 returns-in_ok-put_tuple-in-Tuple-clause-made c =
     rw c.in-Tuple.is (c.in_ok-put_tuple-in-Tuple.ensures.made (scope_of c.args.scope.now))

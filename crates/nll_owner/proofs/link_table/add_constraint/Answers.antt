@@ -1,5 +1,5 @@
-use Rattle.std.proofs.Common.{◌-◌, ◌<◌, length, refl, sym, arith}
-use Rattle.nll_owner.proofs.LinkingLemmas.{adds_point, fills_at}
+use Rattle.std.proofs.Common.{◌-◌, ◌<◌, length, false, refl, sym, arith}
+use Rattle.nll_owner.proofs.LinkingLemmas.{adds_link, adds_point, fills_at}
 use Rattle.nll_owner.proofs.link_table.add_constraint.Goals as goal
 
 pub add-requires : goal.add-requires
@@ -21,3 +21,9 @@ returns-in_ok-add c =
     adds_point c.args.k c.args.row.now.items (c.len-count.result - 1) c.index_mut.result.now
     (record { sup = c.index_mut.result.now.sup; frontier = c.add.new.self; rests = c.index_mut.result.now.rests })
     within (sym c.index_mut.ensures.value) fills refl c.in_ok-add.ensures
+
+pub returns-in_ok-reserve : goal.returns-in_ok-reserve
+returns-in_ok-reserve c =
+    rw (c.push_reserved.ensures.items, c.in_ok-reserve.ensures.items)
+    (adds_link c.args.k c.args.row.now.items
+    (record { sup = c.args.k.sup; rests = false; frontier = c.new.result }) refl c.new.ensures)

@@ -1,4 +1,4 @@
-use Rattle.std.proofs.Common.{◌∙◌, arith}
+use Rattle.std.proofs.Common.{◌∙◌}
 use Rattle.std.proofs.lemmas.Result.{on_ok_weaker}
 use Rattle.nll_core.specs.Search.{IsIn}
 use Rattle.nll_core.specs.Frontiers.{IsBeside, IsFrontierIn}

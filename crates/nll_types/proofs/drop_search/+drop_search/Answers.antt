@@ -7,16 +7,17 @@ use Rattle.nll_types.specs.Views.{tree, trees}
 use Rattle.nll_types.specs.Declarations.{structs_of}
 use Rattle.nll_types.proofs.ViewLemmas.{type_at_item, type_within, tree_int, tree_parameter, tree_reference, tree_tuple, tree_named, tree_function}
 use Rattle.nll_types.proofs.WellFormedLemmas.{well_formed_at}
-use Rattle.nll_types.proofs.DropLemmas.{adds_nothing, below_none, below_more, below_all, wanted_int, wanted_reference, wanted_tuple, wanted_named, wanted_function, wanted_flags}
+use Rattle.nll_types.proofs.DropLemmas.{adds_nothing, adds_then, below_none, below_more, below_all, wanted_int, wanted_reference, wanted_tuple, wanted_named, wanted_function, wanted_flags, written_flag}
 use Rattle.nll_types.proofs.drop_search.+drop_search.Goals as goal
 
 pub collect-returns-in-Int : goal.collect-returns-in-Int
 collect-returns-in-Int t c =
     λ later n p. rw (ap tree c.in-Int.is ∙ tree_int) (λ w. adds_nothing _ _ _ (wanted_int _ _ _))
 
-pub collect-returns-in-Parameter : goal.collect-returns-in-Parameter
-collect-returns-in-Parameter t c = OnOk-map c.collect_parameter.result _ _ (λ e. λ later n p.
-    rw (ap tree c.in-Parameter.is ∙ tree_parameter _) (λ w. e _)) c.collect_parameter.ensures
+pub collect-returns-in_ok-add_where-in-Parameter : goal.collect-returns-in_ok-add_where-in-Parameter
+collect-returns-in_ok-add_where-in-Parameter t c = OnOk-map c.add_where-in-Parameter.result _ _ (λ e. λ later n p.
+    rw (ap tree c.in-Parameter.is ∙ tree_parameter _)
+    (λ w. adds_then _ _ _ _ _ _ (c.in_ok-add_where-in-Parameter.ensures _) (e _))) c.add_where-in-Parameter.ensures
 
 pub collect-returns-in_ok-add_where-in-Reference : goal.collect-returns-in_ok-add_where-in-Reference
 collect-returns-in_ok-add_where-in-Reference t c =
@@ -31,17 +32,18 @@ collect-returns-in-Tuple t c =
     OnOk-map c.collect_parts.result _ _ (λ e. λ later n p.
     rw (ap tree c.in-Tuple.is ∙ tree_tuple _) (λ w. wanted_tuple _ _ _ _ _ _ (e later n p w))) inner
 
-pub collect-returns-in_ok-collect_use-in-Named : goal.collect-returns-in_ok-collect_use-in-Named
-collect-returns-in_ok-collect_use-in-Named t c =
-    let first =
-    rw (c.as_slice-in-Named.ensures.keys, c.as_slice-in-Named-2.ensures.value) at
-    c.in_ok-collect_use-in-Named.ensures in
-    let third = rw c.as_slice-in-Named-3.ensures.value at c.collect_arguments.ensures in
+pub collect-returns-in_ok-collect_sources-in-Named : goal.collect-returns-in_ok-collect_sources-in-Named
+collect-returns-in_ok-collect_sources-in-Named t c =
+    let first = rw c.as_slice-in-Named.ensures.value at c.in_ok-collect_regions-in-Named.ensures in
+    let second =
+    rw (c.as_slice-in-Named-2.ensures.keys, c.as_slice-in-Named-3.ensures.value) at
+    c.in_ok-collect_sources-in-Named.ensures in
+    let third = rw c.as_slice-in-Named-4.ensures.value at c.collect_arguments.ensures in
     OnOk-map c.collect_arguments.result _ _ (λ e. λ later n p.
     rw (ap tree c.in-Named.is ∙ tree_named _ _ _) (λ w.
     wanted_named (structs_of c.args.structs.now) later c.in-Named.number c.in-Named.regions.items
     (trees c.in-Named.types.items) c.in-Some.sources.now.keys c.args.written c.args.dropped
-    c.in-Some.ensures w.1 _ _ _ (first _) (e later n p w.4))) third
+    c.in-Some.ensures w.1 _ _ _ (adds_then _ _ _ _ _ _ (first _) (second _)) (e later n p w.4))) third
 
 pub collect-returns-in_ok-collect_parts-in-Function : goal.collect-returns-in_ok-collect_parts-in-Function
 collect-returns-in_ok-collect_parts-in-Function t c =
@@ -55,13 +57,6 @@ pub collect-returns-in_err-collect_parts-in-Function : goal.collect-returns-in_e
 collect-returns-in_err-collect_parts-in-Function t c =
     failed c.from_residual-in_err-collect_parts-in-Function.result _ _
     c.from_residual-in_err-collect_parts-in-Function.ensures.1
-
-pub collect-returns-in_err-add_where-in-Reference : goal.collect-returns-in_err-add_where-in-Reference
-collect-returns-in_err-add_where-in-Reference t c = failed c.from_residual.result _ _ c.from_residual.ensures.1
-
-pub collect-returns-in_err-collect_use-in-Named : goal.collect-returns-in_err-collect_use-in-Named
-collect-returns-in_err-collect_use-in-Named t c =
-    failed c.from_residual-in_err-collect_use-in-Named.result _ _ c.from_residual-in_err-collect_use-in-Named.ensures.1
 
 pub collect_parts-returns-in_err-collect : goal.collect_parts-returns-in_err-collect
 collect_parts-returns-in_err-collect t c = failed c.from_residual.result _ _ c.from_residual.ensures.1
@@ -98,7 +93,7 @@ collect_arguments-loop-place-preserved t c = λ later n p w.
     (slice_get_read c.args.arguments.now _ c.loop-place.place _ refl within c.index-arguments-place.is) in
     below_more _ (type_at (trees c.args.arguments.now)) _ c.loop-place.place _ _ _ _ item
     (c.loop-place.invariant later n p w)
-    (wanted_flags _ _ _ _ _ _ _ _ c.wants_written-written.ensures c.wants-dropped.ensures
+    (wanted_flags _ _ _ _ _ _ _ _ (written_flag _ _ _ _ c.wants.ensures) c.wants-dropped.ensures
     (c.in_ok-collect.ensures later n p (well_formed_at _ n p _ c.loop-place.place _ w item)))
 
 pub collect_arguments-returns : goal.collect_arguments-returns

@@ -1,13 +1,12 @@
-use Rattle.std.proofs.Common.{◌∙◌, ap, sym, length, arith}
+use Rattle.std.proofs.Common.{◌∙◌, ap, sym, length, arith, Some}
 use Rattle.std.specs.Prelude.{option_map}
 use Rattle.std.proofs.lemmas.Option.{slice_get-get_or, slice_get_past}
-use Rattle.std.proofs.lemmas.Result.{IfOk-weaker}
-use Rattle.nll_types.specs.Shapes.{behind_shape}
+use Rattle.nll_types.specs.Shapes.{behind_shape, shape_of}
+use Rattle.nll_types.specs.Structs.{struct_at}
 use Rattle.nll_types.specs.Table.{at, shapes_in, shape_over, parts_of, AreBelow}
 use Rattle.nll_types.specs.Declarations.{structs_of}
 use Rattle.nll_types.specs.declared.place.Projection.TheVariants.{Field}
-use Rattle.nll_types.proofs.FailLemmas.{failed}
-use Rattle.nll_types.proofs.ShapingLemmas.{extends_same}
+use Rattle.nll_types.proofs.ShapeLemmas.{shape_at_of}
 use Rattle.nll_types.proofs.ProjectLemmas.{shape_at_all}
 use Rattle.nll_types.proofs.projections.part.Goals as goal
 
@@ -30,38 +29,21 @@ returns-else-place-parts-clause-at c =
     ∙ ap (behind_shape (structs_of c.args.structs.now) (Field c.args.place))
     (sym (c.node.ensures.at ∙ ap (shape_over known) c.in-Tuple.is))
 
-pub returns-in_ok-arguments-in-Named-clause-extends : goal.returns-in_ok-arguments-in-Named-clause-extends
-returns-in_ok-arguments-in-Named-clause-extends c = c.field_with.ensures.extends
-
-pub returns-in_ok-arguments-in-Named-clause-within : goal.returns-in_ok-arguments-in-Named-clause-within
-returns-in_ok-arguments-in-Named-clause-within c = c.field_with.ensures.within
-
-pub returns-in_ok-arguments-in-Named-clause-at : goal.returns-in_ok-arguments-in-Named-clause-at
-returns-in_ok-arguments-in-Named-clause-at c =
+pub returns-in_ok-made-in-Some-clause-at : goal.returns-in_ok-made-in-Some-clause-at
+returns-in_ok-made-in-Some-clause-at c =
     let known = shapes_in c.args.shapes.now in
     let over = rw (ap parts_of c.in-Named.is) at c.node.ensures.over in
     let below : AreBelow (length c.args.shapes.now) c.in-Named.arguments.items =
     λ k l. (let x = over k l in omega arith) in
-    let taken = c.in_ok-arguments-in-Named.ensures.items ∙ c.as_slice.ensures.value in
-    IfOk-weaker c.field_with.result _ _ (λ o made.
-    (rw taken at made) below ∙ ap (behind_shape (structs_of c.args.structs.now) (Field c.args.place))
-    (sym (c.node.ensures.at ∙ ap (shape_over known) c.in-Named.is)))
-    c.field_with.ensures.at
+    let taken = c.as_slice-in-Some.ensures.value ∙ c.in_ok-arguments-in-Some.ensures.items ∙ c.as_slice.ensures.value in
+    let made = (rw taken at c.in_ok-made-in-Some.ensures.at) below in
+    let fields = (struct_at (structs_of c.args.structs.now) c.in-Named.named).fields in
+    let e = sym (shape_at_of fields c.args.place) ∙ ap (option_map shape_of) c.in-Some.ensures in
+    rw (c.node.ensures.at ∙ ap (shape_over known) c.in-Named.is, e) (ap Some made)
 
-pub returns-in_err-arguments-in-Named-clause-within : goal.returns-in_err-arguments-in-Named-clause-within
-returns-in_err-arguments-in-Named-clause-within c = failed c.from_residual.result _ _ c.from_residual.ensures.1
-
-pub returns-in_err-arguments-in-Named-clause-at : goal.returns-in_err-arguments-in-Named-clause-at
-returns-in_err-arguments-in-Named-clause-at c = failed c.from_residual.result _ _ c.from_residual.ensures.1
-
-pub returns-then-place-parts-clause-extends : goal.returns-then-place-parts-clause-extends
-returns-then-place-parts-clause-extends c = extends_same _
-
-pub returns-else-place-parts-clause-extends : goal.returns-else-place-parts-clause-extends
-returns-else-place-parts-clause-extends c = extends_same _
-
-pub returns-in_err-arguments-in-Named-clause-extends : goal.returns-in_err-arguments-in-Named-clause-extends
-returns-in_err-arguments-in-Named-clause-extends c = extends_same _
-
-pub returns-else-place-parts-clause-within : goal.returns-else-place-parts-clause-within
-returns-else-place-parts-clause-within c = tt
+pub returns-in-None-clause-at : goal.returns-in-None-clause-at
+returns-in-None-clause-at c =
+    let known = shapes_in c.args.shapes.now in
+    let fields = (struct_at (structs_of c.args.structs.now) c.in-Named.named).fields in
+    let e = sym (shape_at_of fields c.args.place) ∙ ap (option_map shape_of) c.in-None.ensures in
+    rw (c.node.ensures.at ∙ ap (shape_over known) c.in-Named.is, e)

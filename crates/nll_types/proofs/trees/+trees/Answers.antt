@@ -4,8 +4,8 @@ use Rattle.nll_types.specs.Table.{all_at, at, shape_in, shape_over, shapes_in}
 use Rattle.nll_types.proofs.FillLemmas.{filled_more, part_nodes}
 use Rattle.nll_types.proofs.trees.+trees.Goals as goal
 
-pub tree_of-trees_of-inputs-requires : goal.tree_of-trees_of-inputs-requires
-tree_of-trees_of-inputs-requires t c =
+pub tree_of-trees_of-requires-in-Function : goal.tree_of-trees_of-requires-in-Function
+tree_of-trees_of-requires-in-Function t c =
     let known = shapes_in c.args.shapes.now in
     let f = c.in-Function in
     let whole : shape_nodes (shape_in c.args.shapes.now c.args.shape)

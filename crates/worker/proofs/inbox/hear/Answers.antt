@@ -1,5 +1,4 @@
-use Rattle.std.proofs.Common.{◌≡◌, ◌++◌, ℕ, List, [], ◌∷◌, length, Contains, append-nil}
-use Rattle.std.proofs.Common.{refl, sym, ap, ◌∙◌, subst, arith, rules}
+use Rattle.std.proofs.Common.{◌≡◌, ◌++◌, ℕ, List, [], ◌∷◌, length, Contains, append-nil, refl, sym, ap, ◌∙◌, subst, arith, rules}
 use Rattle.fixpoint.specs.State.{State}
 use Rattle.fixpoint.proofs.ReceivingLemmas.{with_none}
 use Rattle.worker.specs.declared.inbox.Heard.{Heard}
@@ -45,17 +44,3 @@ looks_in rules j old new before after gs Nothing e h = absurd h
 looks_in rules j old new before after gs Growths e h = (e, h)
 looks_in rules j old new before after gs Stray e h = (e, h)
 looks_in rules j old new before after gs Memory e h = (e, h)
-
-pub hand_in-requires-clause-passes : goal.hand_in-requires-clause-passes
-hand_in-requires-clause-passes g c = λ h at.
-    c.take_batch.ensures.passes c.if-not-take_batch.false h
-    (subst (λ (xs : List _). Contains xs h) c.deref.ensures.value at)
-
-pub returns-clause-hears : goal.returns-clause-hears
-returns-clause-hears g c =
-    looks_in g.A.Rules.rules c.args.from (g.A.Analysis.state c.args.part.now)
-    (g.A.Analysis.state c.hand_in.new.part) _ _ c.take_batch.new.batch.items c.hand_in.result
-    c.take_batch.ensures.taken
-    (subst (λ (gs : List _). HandsIn g.A.Rules.rules c.args.from (g.A.Analysis.state c.args.part.now)
-    (g.A.Analysis.state c.hand_in.new.part) gs c.hand_in.result)
-    c.deref.ensures.value c.hand_in.ensures)

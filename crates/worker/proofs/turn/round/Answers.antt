@@ -1,4 +1,4 @@
-use Rattle.std.proofs.Common.{map, ap, arith}
+use Rattle.std.proofs.Common.{map}
 use Rattle.worker.specs.Mailboxes.{through}
 use Rattle.worker.specs.Turning.{IsAtRest}
 use Rattle.worker.proofs.AccountLemmas.{stays_none, stays_on}
@@ -11,16 +11,6 @@ loop-step-init g c = record {
       c.requires.rests.working.sound c.requires.book;
   rests = c.requires.rests;
 }
-
-pub turn-heard-requires-clause-from : goal.turn-heard-requires-clause-from
-turn-heard-requires-clause-from g c =
-    let same = ap g.A.Rules.rules.parts c.loop-step.invariant.stays.grows.system in
-    omega (arith, same, c.owner_behind-from.ensures, c.owners-owners.ensures.value)
-
-pub first_after-first-requires : goal.first_after-first-requires
-first_after-first-requires g c =
-    let lawful = g.met.A.Rules.lawful in
-    omega (arith, c.owners-owners.ensures.value, (lawful.few _ c.owners-owners.ensures.sound.valid).0)
 
 pub returns-then-pace-eq1-clause-stays : goal.returns-then-pace-eq1-clause-stays
 returns-then-pace-eq1-clause-stays g c =

@@ -1,13 +1,11 @@
 use Rattle.std.proofs.Common.{Contains, length, length-append, map, subst, sym, ap, ◌∙◌, arith}
 use Rattle.std.proofs.lemmas.List.Elements.{Contains-append_right}
 use Rattle.fixpoint.specs.Logs.{log_of}
-use Rattle.fixpoint.specs.State.{State}
+use Rattle.fixpoint.specs.State.{State, IsSound}
 use Rattle.worker.specs.Mailboxes.{through}
-use Rattle.fixpoint.specs.State.{IsSound}
 use Rattle.worker.proofs.AccountLemmas.{still_refl}
 use Rattle.worker.proofs.TallyLemmas.{grown_self}
-use Rattle.worker.proofs.TurnLemmas.{cleared_small, taken_same, taken_lost, grown_some, grown_lost}
-use Rattle.worker.proofs.TurnLemmas.{some_works, some_take, rests_same, stray_same}
+use Rattle.worker.proofs.TurnLemmas.{cleared_small, taken_same, taken_lost, grown_some, grown_lost, some_works, some_take, rests_same, stray_same}
 use Rattle.worker.proofs.turn.turn.Goals as goal
 
 pub overflow_add-turn : goal.overflow_add-turn

@@ -1,4 +1,6 @@
-use Rattle.std.proofs.Common.{[]}
+use Rattle.std.proofs.Common.{◌∙◌, [], sym, subst, arith}
+use Rattle.std.proofs.lemmas.Bool.{false≢true, not-true, not-false, lt-ltb}
+use Rattle.nll_problem.specs.Graph.{Graph, IsReturn}
 use Rattle.nll_core.proofs.ResumeLemmas.{
   walks_had,
   walks_idle,
@@ -9,8 +11,7 @@ use Rattle.nll_core.proofs.ResumeLemmas.{
 }
 use Rattle.nll_core.proofs.ListingLemmas.{lists_none}
 use Rattle.nll_core.proofs.frontiers.continuation.resume_walks.Goals as goal
-use Rattle.nll_core.proofs.frontiers.continuation.resume_walks.Goals.{then-begins_nothing-via-then-begins_nothing}
-use Rattle.nll_core.proofs.frontiers.continuation.resume_walks.Goals.{then-begins_nothing-via-else-begins_nothing+then-has_whole}
+use Rattle.nll_core.proofs.frontiers.continuation.resume_walks.Goals.{then-begins_nothing-via-then-begins_nothing, then-begins_nothing-via-else-begins_nothing+then-has_whole, then-run-points, else-run-points, else-not-ended-via-else-not-ended, else-not-ended-via-then-not-ended+else-not-has_return}
 
 pub returns-then-begins_nothing-clause-after : goal.returns-then-begins_nothing-clause-after
 returns-then-begins_nothing-clause-after c = elim c.then-begins_nothing.branch [
@@ -25,17 +26,23 @@ returns-then-begins_nothing-clause-after c = elim c.then-begins_nothing.branch [
 pub returns-then-begins_nothing-clause-found : goal.returns-then-begins_nothing-clause-found
 returns-then-begins_nothing-clause-found c = rw c.requires.none (lists_none c.args.reached.now [])
 
-pub returns-then-not-is_ended-clause-after : goal.returns-then-not-is_ended-clause-after
-returns-then-not-is_ended-clause-after c =
-    let none = c.is_ended.ensures.none c.if-not-is_ended.true in
+pub returns-then-not-has_return-clause-after : goal.returns-then-not-has_return-clause-after
+returns-then-not-has_return-clause-after c =
     resumed c.args.steps.now c.args.seen.now c.args.starts.now c.args.run c.args.reached.now c.requires.before
     (rw c.steps.view_is at c.points-points.ensures.sound) c.requires.starts c.resume_points.new.reached
     c.args.found.now.items
     c.resume_points.new.found.items c.in_ok-ended.ended c.in_ok-ended.ensures
-    none.0 none.1
+    c.if-not-ended.true
+    (elim c.if-run-points.branch [
+      | then-run-points w ↦ λ _ _ _.
+          omega (arith, w.if-run-points.true, rw c.steps.view_is at c.points-points.ensures.value)
+      | else-run-points w ↦ λ x h back. absurd (false≢true
+          (sym (not-true _ (sym w.value-is ∙ c.if-not-has_return.true))
+          ∙ w.has_return.ensures.1 (x, h, subst (λ (g : Graph). IsReturn g x) (sym c.steps.view_is) back)))
+    ])
 
-pub returns-then-not-is_ended-clause-found : goal.returns-then-not-is_ended-clause-found
-returns-then-not-is_ended-clause-found c =
+pub returns-then-not-has_return-clause-found : goal.returns-then-not-has_return-clause-found
+returns-then-not-has_return-clause-found c =
     lists_resumed c.args.steps.now c.args.seen.now c.args.starts.now c.args.run c.args.reached.now c.requires.before
     (rw c.steps.view_is at c.points-points.ensures.sound) c.requires.starts c.resume_points.new.reached
     c.args.found.now.items
@@ -50,7 +57,17 @@ returns-clause-after c =
     c.resume_points.new.found.items c.in_ok-ended.ended c.in_ok-ended.ensures
     c.fill_from.new.reached c.points-points.result (rw c.steps.view_is at c.points-points.ensures.value)
     c.requires.seen_width
-    (c.is_ended.ensures.some c.if-not-is_ended.false) c.in_ok-fill_from.ensures.fills
+    (elim c.else-not-ended.branch [
+      | else-not-ended-via-else-not-ended w ↦ c.in_ok-ended.ensures.ends_from w.if-not-ended.false
+      | else-not-ended-via-then-not-ended+else-not-has_return w ↦ elim w.if-run-points.branch [
+        | then-run-points v ↦ absurd (false≢true
+            (sym w.if-not-has_return.false ∙ (v.value-is ∙ lt-ltb _ _ v.if-run-points.true)))
+        | else-run-points v ↦
+            let found = v.has_return.ensures.0 (not-false _ (sym v.value-is ∙ w.if-not-has_return.false)) in
+            (found.0, found.1, subst (λ (g : Graph). IsReturn g found.0) c.steps.view_is found.2)
+      ]
+    ])
+    c.in_ok-fill_from.ensures.fills
 
 pub returns-clause-found : goal.returns-clause-found
 returns-clause-found c =

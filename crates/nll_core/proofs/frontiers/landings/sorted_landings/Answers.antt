@@ -1,14 +1,29 @@
-use Rattle.std.proofs.Common.{rules, arith}
+use Rattle.std.proofs.Common.{List, subst, sym, rules, arith}
 use Rattle.std.proofs.lemmas.List.Sorted.{Contains-permutation, IsPermutation-sym, IsNonDecreasingBy-from_sort_by_key}
 use Rattle.nll_core.specs.declared.frontiers.landings.Landing.{Landing}
+use Rattle.nll_core.proofs.LandingLemmas.{AreLandingsTo, landings_none, landings_more, landings_all}
 use Rattle.nll_core.proofs.frontiers.landings.sorted_landings.Goals as goal
 
+pub loop-point-init : goal.loop-point-init
+loop-point-init c =
+    subst (λ (items : List Landing). AreLandingsTo c.args.lines.now 0 items) (sym c.new-list.ensures.items)
+    (landings_none c.args.lines.now)
+
+pub loop-point-preserved : goal.loop-point-preserved
+loop-point-preserved c =
+    landings_more c.args.lines.now c.loop-point.point c.loop-point.list.items c.push_landings.new.list.items
+    c.loop-point.invariant c.in_ok-push_landings.ensures
+
 pub returns-clause-each : goal.returns-clause-each
-returns-clause-each c = λ l. (
-  λ h. (c.in_ok-list.ensures l).0 (Contains-permutation _ _ l
-      (IsPermutation-sym _ _ c.sort_unstable_by_key.ensures.permutation) h),
-  λ h. Contains-permutation _ _ l c.sort_unstable_by_key.ensures.permutation ((c.in_ok-list.ensures l).1 h),
-)
+returns-clause-each c = λ l.
+    let all =
+    landings_all c.args.lines.now c.points-point-end.ensures.sound c.loop-point.point c.loop-point.list.items
+    (omega (arith, c.loop-point-test.false, c.loop-point.auto.point-end, c.points-point-end.ensures.value))
+    c.loop-point.invariant l in (
+      λ h. all.0 (Contains-permutation _ _ l
+          (IsPermutation-sym _ _ c.sort_unstable_by_key.ensures.permutation) h),
+      λ h. Contains-permutation _ _ l c.sort_unstable_by_key.ensures.permutation (all.1 h),
+    )
 
 pub returns-clause-ascending : goal.returns-clause-ascending
 returns-clause-ascending c =

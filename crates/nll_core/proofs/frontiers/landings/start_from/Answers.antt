@@ -1,4 +1,3 @@
-use Rattle.std.proofs.Common.{◌∙◌, sym, ltb-true, ltb-false}
 use Rattle.nll_core.proofs.LandingLemmas.{next_within, below_next, start_behind, start_here}
 use Rattle.nll_core.proofs.frontiers.landings.start_from.Goals as goal
 
@@ -11,14 +10,14 @@ loop-place-preserved c =
     record {
       within = next_within now.place _ c.loop-place-test.true;
       below = below_next c.args.list.now c.args.number now.place _ now.invariant.below c.loop-place-test.true
-          (ltb-true _ c.args.number (sym c.leads_below.ensures ∙ c.if-leads_below.true));
+          c.if-list-place.true;
     }
 
-pub returns-else-leads_below : goal.returns-else-leads_below
-returns-else-leads_below c =
+pub returns-else-list-place : goal.returns-else-list-place
+returns-else-list-place c =
     start_here c.args.list.now c.args.number c.loop-place.place _ c.requires.ascending c.loop-place.invariant.below
     c.loop-place-test.true
-    (ltb-false _ c.args.number (sym c.leads_below.ensures ∙ c.if-leads_below.false))
+    c.if-list-place.false
 
 pub returns-after-loop-place : goal.returns-after-loop-place
 returns-after-loop-place c =

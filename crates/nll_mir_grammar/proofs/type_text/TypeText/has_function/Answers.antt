@@ -6,10 +6,10 @@ use Rattle.std.proofs.lemmas.List.Folds.{list_any_at}
 use Rattle.nll_mir_grammar.proofs.PieceLemmas.{any_function}
 use Rattle.nll_mir_grammar.proofs.type_text.TypeText.has_function.Goals as goal
 
-pub returns-then-is_function : goal.returns-then-is_function
-returns-then-is_function c =
+pub returns-in-Function : goal.returns-in-Function
+returns-in-Function c =
     sym (list_any_at functions.is_function _ c.loop-piece.piece-index _ c.loop-piece-test.true
-    (sym c.is_function.ensures ∙ c.if-is_function.true))
+    (ap functions.is_function c.in-Function.is))
     ∙ ap (list_any functions.is_function) c.pieces-piece-items.ensures.value
     ∙ any_function c.args.self.now c.pieces-piece-items.ensures.sound
 

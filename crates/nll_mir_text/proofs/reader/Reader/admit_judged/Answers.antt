@@ -6,8 +6,7 @@ use Rattle.nll_body.specs.Flat.{statements_in}
 use Rattle.nll_body.specs.Typed.{meant as meant_with}
 use Rattle.nll_mir_text.specs.declared.reader.Reader.{Reader}
 use Rattle.nll_mir_text.specs.MirReading.{said_by, scope_in}
-use Rattle.nll_mir_text.proofs.PointLemmas.{undeclared, out_of_range, unfit, too_large, too_many_points}
-use Rattle.nll_mir_text.proofs.PointLemmas.{too_many_edges, no_fault, edges_meant, targets_are, edges_resolved, ends_resolved}
+use Rattle.nll_mir_text.proofs.PointLemmas.{undeclared, out_of_range, unfit, too_large, too_many_points, too_many_edges, no_fault, edges_meant, targets_are, edges_resolved, ends_resolved}
 use Rattle.nll_mir_text.proofs.reader.Reader.admit_judged.Goals as goal
 
 -- as many points are said as there are statements
@@ -17,57 +16,57 @@ counted r = length-map (statements_in r.points.statements) (meant_with r.variabl
 same_count : (r : Reader) → edge_count (said_by r).points ≡ edge_count (statements_in r.points.statements)
 same_count r = edges_meant r.variables.types (statements_in r.points.statements)
 
-pub returns-then-not-judged-clause-refused : goal.returns-then-not-judged-clause-refused
-returns-then-not-judged-clause-refused c = λ i fits placed told.
+pub returns-then-not-judgement-clause-refused : goal.returns-then-not-judgement-clause-refused
+returns-then-not-judgement-clause-refused c = λ i fits placed told.
     let s = said_by c.args.self.now in
-    inr (undeclared s i placed.order (sym told.known ∙ (not-true _ c.if-not-judged.true)))
+    inr (undeclared s i placed.order (sym told.known ∙ (not-true _ c.if-not-judgement.true)))
 
 pub returns-then-not-targets_are_blocks-clause-refused : goal.returns-then-not-targets_are_blocks-clause-refused
 returns-then-not-targets_are_blocks-clause-refused c = λ i fits placed told.
     let s = said_by c.args.self.now in
-    let known = sym told.known ∙ (not-false _ c.if-not-judged.false) in
+    let known = sym told.known ∙ (not-false _ c.if-not-judgement.false) in
     let blocks = sym (targets_are s i _ _ placed.of.of _ c.targets_are_blocks.ensures)
     ∙ c.if-not-targets_are_blocks.true in
     inr (out_of_range s i placed.order known blocks)
 
-pub returns-then-not-judged-2-clause-refused : goal.returns-then-not-judged-2-clause-refused
-returns-then-not-judged-2-clause-refused c = λ i fits placed told.
+pub returns-then-not-judgement-2-clause-refused : goal.returns-then-not-judgement-2-clause-refused
+returns-then-not-judgement-2-clause-refused c = λ i fits placed told.
     let s = said_by c.args.self.now in
-    let known = sym told.known ∙ (not-false _ c.if-not-judged.false) in
+    let known = sym told.known ∙ (not-false _ c.if-not-judgement.false) in
     let blocks = sym (targets_are s i _ _ placed.of.of _ c.targets_are_blocks.ensures)
     ∙ c.if-not-targets_are_blocks.false in
-    inr (unfit s i placed.order known blocks (sym told.fits ∙ (not-true _ c.if-not-judged-2.true)))
+    inr (unfit s i placed.order known blocks (sym told.fits ∙ (not-true _ c.if-not-judgement-2.true)))
 
-pub returns-then-not-judged-3-clause-refused : goal.returns-then-not-judged-3-clause-refused
-returns-then-not-judged-3-clause-refused c = λ i fits placed told.
+pub returns-then-not-judgement-3-clause-refused : goal.returns-then-not-judgement-3-clause-refused
+returns-then-not-judgement-3-clause-refused c = λ i fits placed told.
     let s = said_by c.args.self.now in
-    let known = sym told.known ∙ (not-false _ c.if-not-judged.false) in
+    let known = sym told.known ∙ (not-false _ c.if-not-judgement.false) in
     let blocks = sym (targets_are s i _ _ placed.of.of _ c.targets_are_blocks.ensures)
     ∙ c.if-not-targets_are_blocks.false in
-    inr (too_large s i placed.order known blocks (sym told.fits ∙ (not-false _ c.if-not-judged-2.false))
-    (sym (told.fits_small (not-false _ c.if-not-judged-2.false)) ∙ (not-true _ c.if-not-judged-3.true)))
+    inr (too_large s i placed.order known blocks (sym told.fits ∙ (not-false _ c.if-not-judgement-2.false))
+    (sym (told.fits_small (not-false _ c.if-not-judgement-2.false)) ∙ (not-true _ c.if-not-judgement-3.true)))
 
 pub returns-then-len-clause-refused : goal.returns-then-len-clause-refused
 returns-then-len-clause-refused c = λ i fits placed told.
     let s = said_by c.args.self.now in
-    let known = sym told.known ∙ (not-false _ c.if-not-judged.false) in
+    let known = sym told.known ∙ (not-false _ c.if-not-judgement.false) in
     let blocks = sym (targets_are s i _ _ placed.of.of _ c.targets_are_blocks.ensures)
     ∙ c.if-not-targets_are_blocks.false in
-    inr (too_many_points s i placed.order known blocks (sym told.fits ∙ (not-false _ c.if-not-judged-2.false))
-    (sym (told.fits_small (not-false _ c.if-not-judged-2.false)) ∙ (not-false _ c.if-not-judged-3.false))
+    inr (too_many_points s i placed.order known blocks (sym told.fits ∙ (not-false _ c.if-not-judgement-2.false))
+    (sym (told.fits_small (not-false _ c.if-not-judgement-2.false)) ∙ (not-false _ c.if-not-judgement-3.false))
     (omega (arith, counted c.args.self.now, c.len.ensures, c.if-len.true)))
 
 pub returns-then-edges-gt-MAX_EDGES-clause-refused : goal.returns-then-edges-gt-MAX_EDGES-clause-refused
 returns-then-edges-gt-MAX_EDGES-clause-refused c = λ i fits placed told.
     let s = said_by c.args.self.now in
-    let known = sym told.known ∙ (not-false _ c.if-not-judged.false) in
+    let known = sym told.known ∙ (not-false _ c.if-not-judgement.false) in
     let blocks = sym (targets_are s i _ _ placed.of.of _ c.targets_are_blocks.ensures)
     ∙ c.if-not-targets_are_blocks.false in
     let edges =
     edges_resolved (scope_in c.args.self.now.regions c.args.self.now.structs) i _
     _ placed.of.of in
-    inr (too_many_edges s i placed.order known blocks (sym told.fits ∙ (not-false _ c.if-not-judged-2.false))
-    (sym (told.fits_small (not-false _ c.if-not-judged-2.false)) ∙ (not-false _ c.if-not-judged-3.false))
+    inr (too_many_edges s i placed.order known blocks (sym told.fits ∙ (not-false _ c.if-not-judgement-2.false))
+    (sym (told.fits_small (not-false _ c.if-not-judgement-2.false)) ∙ (not-false _ c.if-not-judgement-3.false))
     (omega (arith, counted c.args.self.now, c.len.ensures, c.if-len.false))
     (omega (
       arith,
@@ -81,15 +80,15 @@ returns-then-edges-gt-MAX_EDGES-clause-refused c = λ i fits placed told.
 pub returns-clause-admitted : goal.returns-clause-admitted
 returns-clause-admitted c = λ i fits placed told.
     let s = said_by c.args.self.now in
-    let known = sym told.known ∙ (not-false _ c.if-not-judged.false) in
+    let known = sym told.known ∙ (not-false _ c.if-not-judgement.false) in
     let blocks = sym (targets_are s i _ _ placed.of.of _ c.targets_are_blocks.ensures)
     ∙ c.if-not-targets_are_blocks.false in
     let edges =
     edges_resolved (scope_in c.args.self.now.regions c.args.self.now.structs) i _
     _ placed.of.of in
     record {
-      fine = no_fault s i placed.order known blocks (sym told.fits ∙ (not-false _ c.if-not-judged-2.false))
-          (sym (told.fits_small (not-false _ c.if-not-judged-2.false)) ∙ (not-false _ c.if-not-judged-3.false))
+      fine = no_fault s i placed.order known blocks (sym told.fits ∙ (not-false _ c.if-not-judgement-2.false))
+          (sym (told.fits_small (not-false _ c.if-not-judgement-2.false)) ∙ (not-false _ c.if-not-judgement-3.false))
           (omega (
             arith,
             counted c.args.self.now,

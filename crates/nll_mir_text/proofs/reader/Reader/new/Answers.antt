@@ -10,15 +10,12 @@ returns-clause-said c = rw (
   c.new-4.ensures.items,
   c.new-5.ensures.structs,
   c.new-6.ensures.items,
-  c.no_points.ensures.blocks,
-  c.no_points.ensures.starts,
-  c.no_points.ensures.statements,
-  c.no_points.ensures.owes,
+  c.new-7.ensures.items,
+  c.new-8.ensures,
 ) refl
 
 pub returns-clause-ready : goal.returns-clause-ready
 returns-clause-ready c =
-    let p = c.no_points.ensures in
     record {
       static = omega arith;
       universals = omega (arith, ap length c.in_ok-names.ensures);
@@ -33,12 +30,12 @@ returns-clause-ready c =
       few_variables = omega (arith, ap length c.new-6.ensures.items);
       rows = record {
         variables = rw c.new-6.ensures.items (λ k d l. absurd (omega (arith, l)));
-        points = rw p.statements (λ k d l. absurd (omega (arith, l)));
+        points = rw c.new-8.ensures (λ k d l. absurd (omega (arith, l)));
       };
-      few_blocks = omega (arith, p.blocks);
-      no_start = λ h. ap length p.starts;
-      starts = omega (arith, ap length p.starts);
-      few_points = omega (arith, ap length p.statements);
-      edges = rw (p.edges, p.statements) refl;
-      few_edges = omega (arith, p.edges);
+      few_blocks = omega arith;
+      no_start = λ h. ap length c.new-7.ensures.items;
+      starts = omega (arith, ap length c.new-7.ensures.items);
+      few_points = omega (arith, ap length c.new-8.ensures);
+      edges = rw c.new-8.ensures refl;
+      few_edges = omega arith;
     }

@@ -8,11 +8,11 @@ add_pairs-requires-clause-pairs c x =
     let k = c.args.self.now in
     let l = c.zip.ensures.learns in
     let stay = asks_stay k c.zip.new.self c.args.meeting x l c.requires.one c.requires.other in
-    let is = listed _ _ (rw (c.in-Ok.is, c.new-pairs.ensures.items) at c.zip.ensures.asked) x in
+    let is = listed _ _ (rw (c.new-pairs.ensures.items) at c.in_ok-zip.ensures.asked) x in
     (λ h. stay.1 (is.0 h), λ h. is.1 (stay.0 h))
 
-pub returns-in-Ok-clause-asked : goal.returns-in-Ok-clause-asked
-returns-in-Ok-clause-asked c = on_ok_weaker c.add_pairs.result
+pub returns-clause-asked : goal.returns-clause-asked
+returns-clause-asked c = on_ok_weaker c.add_pairs.result
     (λ adds. adds_same _ _ _ _ (λ x. asks_stay c.args.self.now c.zip.new.self c.args.meeting x c.zip.ensures.learns
     c.requires.one c.requires.other) adds)
     c.add_pairs.ensures.asked

@@ -9,7 +9,7 @@ use Rattle.nll_rules.proofs.known.Known.field_shape.Goals as goal
 pub invariant_of-self : goal.invariant_of-self
 invariant_of-self c =
     let structs = structs_of c.self.inside.body.types.now.table.structs in
-    let x = c.part_once-made.ensures.extends in
+    let x = c.part.ensures.extends in
     let made = c.self.inside.lists.made.items in
     let kept = kept_later structs _ _ _ made made _ _ x ([], sym (append-nil made)) c.self.invariant.5
     c.self.invariant.6 in (

@@ -1,15 +1,5 @@
 use Rattle.nll_types.proofs.FailLemmas.{failed}
-use Rattle.nll_types.proofs.ShapingLemmas.{extends_same}
 use Rattle.nll_types.proofs.shapes.Shapes.add_int.Goals as goal
-
-pub returns-then-has_int-clause-extends : goal.returns-then-has_int-clause-extends
-returns-then-has_int-clause-extends c = extends_same _
-
-pub returns-then-has_int-clause-within : goal.returns-then-has_int-clause-within
-returns-then-has_int-clause-within c = c.has_int.ensures.within c.if-has_int.true
-
-pub returns-then-has_int-clause-at : goal.returns-then-has_int-clause-at
-returns-then-has_int-clause-at c = c.has_int.ensures.at c.if-has_int.true
 
 pub returns-in_err-number-clause-extends : goal.returns-in_err-number-clause-extends
 returns-in_err-number-clause-extends c = c.put.ensures.extends

@@ -1,15 +1,13 @@
 use Rattle.std.proofs.lemmas.List.{map_push}
-use Rattle.nll_types.proofs.FailLemmas.{either_way}
 use Rattle.nll_types.proofs.DeclareLemmas.{kept_push}
 use Rattle.nll_types.proofs.structs.Structs.declare.Goals as goal
 
-pub invariant_of-self : goal.invariant_of-self
-invariant_of-self c =
+pub invariant_of-self-in-Ok : goal.invariant_of-self-in-Ok
+invariant_of-self-in-Ok c =
     let fields = rw (← c.self.view_is) at c.requires.fields in
     let right = rw (← c.self.view_is) at c.in-Ok.ensures in
-    either_way c.push_entry.result _ _ _ c.push_entry.ensures.ok c.push_entry.ensures.err
-    (λ e. rw (e, map_push, map_push) (kept_push _ _ c.args.declaration _ c.self.invariant fields right))
-    (λ e. rw e c.self.invariant)
+    rw (c.in_ok-push-in-Ok.ensures.items, map_push, map_push)
+    (kept_push _ _ c.args.declaration _ c.self.invariant fields right)
 
 pub returns-in-Err-clause-ok : goal.returns-in-Err-clause-ok
 returns-in-Err-clause-ok c = tt

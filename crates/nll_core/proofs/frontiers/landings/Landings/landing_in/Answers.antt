@@ -31,9 +31,9 @@ last_is : (c : After-index-to) → IsLandingStart c.self.inside.list.items (c.ar
     (get_or c.self.inside.starts.items (c.args.run.last + 1) 0)
 last_is c = c.self.invariant.0.start (c.args.run.last + 1) (omega (arith, c.requires.within, points_is c))
 
-pub part-requires-clause-order : goal.part-requires-clause-order
-part-requires-clause-order c =
-    let d = (goal.at.part-requires-clause-order c).After-index-to in
+pub slice_bounds-result-count : goal.slice_bounds-result-count
+slice_bounds-result-count c =
+    let d = (goal.at.slice_bounds-result-count c).After-index-to in
     omega (
       arith,
       first_is d,
@@ -42,16 +42,24 @@ part-requires-clause-order c =
           (last_is d),
     )
 
+pub slice_bounds-result-start : goal.slice_bounds-result-start
+slice_bounds-result-start c =
+    let d = (goal.at.slice_bounds-result-start c).After-index-to in
+    let rises = part_rises c.self.inside.list.items c.args.run.first c.args.run.last _ _ c.requires.proper (start_is d)
+    (last_is d) in
+    omega (arith, rises, first_is d, end_is d, (last_is d).bound, c.deref.ensures.len)
+
 pub returns : goal.returns
 returns c = λ l.
     let d = (goal.at.returns c).After-index-to in
     let has =
     part_has c.self.inside.list.items c.args.run.first c.args.run.last _ _ c.requires.proper (start_is d)
     (last_is d) l in
-    let same : c.part.result.now ≡ slice_range c.self.inside.list.items
+    let now = slice_range c.deref.result.now c.index-from.result.now c.index-to.result.now in
+    let same : now ≡ slice_range c.self.inside.list.items
     (get_or c.self.inside.starts.items c.args.run.first 0)
     (get_or c.self.inside.starts.items (c.args.run.last + 1) 0) =
-    rw (first_is d, end_is d, c.as_slice.ensures.value) at c.part.ensures in
+    λ i. slice_range (c.deref.ensures.value i) (first_is d i) (end_is d i) in
     let jump : Contains c.self.inside.list.items l ↔ IsJump c.args.self.now l.from l.to =
     subst (λ (g : Graph). Contains c.self.inside.list.items l ↔ IsJump g l.from l.to) c.self.view_is
     (c.self.invariant.0.each l) in (

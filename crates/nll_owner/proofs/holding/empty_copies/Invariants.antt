@@ -1,5 +1,0 @@
-use Rattle.nll_owner.proofs.HoldingLemmas.{KeepsOwn}
-use Rattle.nll_owner.proofs.holding.empty_copies.Given as goal
-
-abbrev pub invariant-loop-slot : goal.invariant-loop-slot
-invariant-loop-slot l = KeepsOwn l.cut l.me l.slots l.fn.values l.values

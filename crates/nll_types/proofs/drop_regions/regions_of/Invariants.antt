@@ -1,6 +1,0 @@
-use Rattle.std.proofs.Common.{◌≡◌, take}
-use Rattle.nll_types.specs.Collecting.{regions_among}
-use Rattle.nll_types.proofs.drop_regions.regions_of.Given as goal
-
-abbrev pub invariant-loop-source : goal.invariant-loop-source
-invariant-loop-source l = l.found.items ≡ regions_among (take l.source-index l.sources)
