@@ -73,7 +73,7 @@ class Resting(unittest.TestCase):
 
     def test_a_method_and_a_law(self):
         self.assertIn("IsFrontierIn", rests_on("nll_core", "Frontier::grow"))
-        self.assertIn("IsFault", rests_on("nll_facts", "facts_one_fault"))
+        self.assertIn("IsFaultOfText", rests_on("nll_facts", "facts_one_fault"))
 
     def test_names_that_a_file_hands_on(self):
         """`IsEarlier` is of another file than that from which a contract has it."""

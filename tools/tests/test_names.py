@@ -12,15 +12,7 @@ import definitions  # noqa: E402
 # Names that stand in two crates or more. A reader who looks one up finds several definitions; so none may come to this list, and
 # one that is mended leaves it.
 KNOWN = """
-Adds AddsRun Advances Answers AreBelow AreDelivered AreEnds AreKept AreOfPoints AreRead AreRegions AreSound AreStarts
-Asks AsksFor Begins ComesNext Fills Form Gains GoesOn GotBeginning Grows HasForm HasFormIn HasNone HasTexts Holds
-IsAsked IsBegun IsBehind IsClosed IsCovered IsCut IsDue IsFault IsFollowed IsFound IsFree IsHeader IsIn IsKept IsLawful
-IsLine IsListed IsNext IsOfVersion IsOutcome IsPrinted IsReached IsReady IsRefused IsSmall IsSound IsStep IsTaken IsText
-IsTold IsWanted IsWellFormed LeadsTo Made Means Name Pushes Reads Said Says State Tables Touches Turns Yields after
-arguments begun behind below declared edges_from first_fault further_in group has_fault held is_among is_in_order
-is_of_first is_of_version is_region is_universal joined log_of meant most_owners names_said
-nothing number_of numbers numbers_of older outlives_in parts parts_of reached region_in row_of rules run said
-said_by signs state_of steps top top_row universal_in universals_said version_codes view with_growth with_growths
+with_growth
 """
 
 

@@ -3,8 +3,8 @@
 use Rattle.std.specs.Prelude.{ℕ}
 
 -- the most owners
-abbrev pub most_owners : ℕ
-most_owners = 64
+abbrev pub most_parts : ℕ
+most_parts = 64
 
 -- the number that all growths of all owners together stay below: 2^37
 abbrev pub most_growths : ℕ

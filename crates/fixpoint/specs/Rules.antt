@@ -3,7 +3,7 @@
 -- in Tarski, "A lattice-theoretical fixpoint theorem and its applications" (1955).
 use Rattle.std.specs.Prelude.{◌≡◌, ◌≢◌, ◌⊎◌, ◌↔◌, ℕ, ◌<◌, ◌≤◌, Bool, true, IsTrue, List, length}
 use Rattle.std.specs.Prelude.{Contains, AllPairs}
-use Rattle.fixpoint.specs.Limits.{most_owners, most_growths}
+use Rattle.fixpoint.specs.Limits.{most_parts, most_growths}
 
 -- The rules of an analysis. A value of A is what is analysed, a value of F a fact about it, and a
 -- value of G a growth: a fact that came to hold, at a rank. They say which values are valid; how
@@ -48,7 +48,7 @@ module _ {A F G : Type 0} (rules : Rules A F G) where
         (a : A) → rules.valid a → (i : ℕ) (f : F) → rules.reads a i f ≡ true
         → (rules.owner a f < rules.parts a) × (rules.owner a f ≢ i)
     -- there is at least one owner, and there are not too many
-    pub few : (a : A) → rules.valid a → (0 < rules.parts a) × (rules.parts a ≤ most_owners)
+    pub few : (a : A) → rules.valid a → (0 < rules.parts a) × (rules.parts a ≤ most_parts)
     -- there are not too many different facts, so each list of them is short
     pub few_facts :
         (a : A) → rules.valid a → (facts : List F) → AreDifferent a facts

@@ -8,9 +8,9 @@ use Rattle.fixpoint.specs.State.{State, IsSound, IsDone, IsNoted, list_in, recei
 use Rattle.keeper.specs.Engine.{IsFound}
 
 -- the part that is made of these
-abbrev pub state_of : {A G : Type 0} → A → ℕ → List G → List (List G) → List ℕ → Bool
+abbrev pub kept_state : {A G : Type 0} → A → ℕ → List G → List (List G) → List ℕ → Bool
     → Bool → State A G
-state_of a i list got gave is_loaded is_broken = record {
+kept_state a i list got gave is_loaded is_broken = record {
   system = a;
   me = i;
   log = list;
@@ -70,7 +70,7 @@ module _ {A F G : Type 0} (rules : Rules A F G) where
     pub left : (j : ℕ) → below ≤ j → slice_index_or new j [] ≡ slice_index_or old j []
 
 -- The log got some more growths, and nothing else changed.
-pub record Grows {A G : Type 0} (old new : State A G) : Type 0 where
+pub record LogGrows {A G : Type 0} (old new : State A G) : Type 0 where
   pub begins : IsPrefix old.log new.log
   pub others : new ≡ record old { log = new.log }
 

@@ -35,14 +35,14 @@ pub struct Book<'q, E: Engine> {
 impl<'q, E: Engine> Model for Book<'q, E> {
     ghost use Rattle.std.specs.Prelude.{map};
     ghost use Rattle.fixpoint.specs.State.{State};
-    ghost use Rattle.keeper.specs.Keeping.{IsKept, state_of};
+    ghost use Rattle.keeper.specs.Keeping.{IsKept, kept_state};
 
     ghost Value = { State E E.Growth };
 
-    ghost view = { λ o. state_of o.system.now o.me o.log.items
+    ghost view = { λ o. kept_state o.system.now o.me o.log.items
         (map (λ list. list.items) o.received.items) o.given.items o.loaded o.broken };
 
-    ghost invariant = { λ o. IsKept E.rules (state_of o.system.now o.me o.log.items
+    ghost invariant = { λ o. IsKept E.rules (kept_state o.system.now o.me o.log.items
         (map (λ list. list.items) o.received.items) o.given.items o.loaded o.broken) o.clock };
 }
 

@@ -1,6 +1,6 @@
 //! Growths of other owners.
 
-ghost use Rattle.std.specs.Prelude.{◌≡◌, ◌∷◌, [], OnOk, Contains};
+ghost use Rattle.std.specs.Prelude.{◌≡◌, OnOk, Contains};
 ghost use Rattle.fixpoint.specs.State.{IsSound, Passes, with_growths, GotBeginning};
 ghost use Rattle.keeper.specs.Keeping.{IsDue, has};
 
@@ -33,40 +33,13 @@ pub fn hear_all<E: Engine>(
     ensures sound { IsSound E.rules book.new }
 {
     for growth in growths {
-        hear::<E>(book, store, due, from, *growth)?;
+        let fact = E::fact(growth);
+        let known = book.system().knows(store, &fact);
+        book.receive(from, *growth)?;
+        if !known {
+            let engine = book.system();
+            engine.enter(book.me(), store, fact, due)?;
+        }
     }
     Ok(())
-}
-
-// Enters a growth of another owner, and finds what is due because of it.
-fn hear<E: Engine>(
-    book: &mut Book<'_, E>,
-    store: &mut E::Store,
-    due: &mut Vec<E::Fact>,
-    from: u16,
-    growth: E::Growth,
-) -> Result<(), Memory>
-    requires sound { IsSound E.rules book.old }
-    requires store { (f : E.Fact) → E.has store.old f ≡ has E.rules book.old f }
-    requires due { IsDue E.rules book.old.system book.old.me
-        (has E.rules book.old) due.old.items }
-    requires passes { Passes E.rules book.old.system book.old.me from growth }
-    ensures others { book.new ≡ record book.old { received = book.new.received } }
-    ensures received { OnOk result
-        (book.new.received ≡ with_growths book.old.received from (growth ∷ [])) }
-    ensures perhaps { GotBeginning book.old.received from (growth ∷ []) book.new.received }
-    ensures store { OnOk result ((f : E.Fact)
-        → E.has store.new f ≡ has E.rules book.new f) }
-    ensures due { OnOk result (IsDue E.rules book.new.system book.new.me
-        (has E.rules book.new) due.new.items) }
-    ensures sound { IsSound E.rules book.new }
-{
-    let fact = E::fact(&growth);
-    let known = book.system().knows(store, &fact);
-    book.receive(from, growth)?;
-    if known {
-        return Ok(());
-    }
-    let engine = book.system();
-    engine.enter(book.me(), store, fact, due)
 }

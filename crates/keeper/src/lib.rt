@@ -1,6 +1,6 @@
 //! Keepers: parts for every engine that says of a new fact which facts follow.
 //!
-//! Reading order: `engine`, `own`, `book`, `outboxes`, `settle`, `keeper`, `keepers`, `alone`.
+//! Reading order: `engine`, `own`, `book`, `outboxes`, `settle`, `keepers`, `alone`.
 //! The definitions are in specs/: `Engine` first.
 #![tactic(auto)]
 
@@ -8,7 +8,6 @@ mod alone;
 mod book;
 mod engine;
 mod hear;
-mod keeper;
 mod keepers;
 mod outboxes;
 mod own;
@@ -17,6 +16,5 @@ mod settle;
 
 pub use alone::solve;
 pub use engine::{Engine, Owners, ThreadEngine};
-pub use keeper::Keeper;
-pub use keepers::Keepers;
+pub use keepers::{Keeper, Keepers};
 pub use own::push_own;

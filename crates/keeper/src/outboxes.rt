@@ -1,7 +1,7 @@
 //! What a keeper has for the other owners.
 
 ghost use Rattle.std.specs.Prelude.{◌≡◌, ◌≤◌, [], length, take, map, replicate, IfOk, OnOk};
-ghost use Rattle.fixpoint.specs.Limits.{most_owners};
+ghost use Rattle.fixpoint.specs.Limits.{most_parts};
 ghost use Rattle.keeper.specs.Keeping.{AreDealt, AreParts};
 
 use crate::book::empty_lists;
@@ -35,7 +35,7 @@ pub fn take_up<E: Engine>(
     log: &[E::Growth],
 ) -> Result<(), Memory>
     requires within { boxes.old.place ≤ length log.now }
-    requires few { length boxes.old.lists.items ≤ most_owners }
+    requires few { length boxes.old.lists.items ≤ most_parts }
     requires parts { AreParts E.rules engine.now (take boxes.old.place log.now)
         (map (λ list. list.items) boxes.old.lists.items) }
     ensures place { OnOk result (boxes.new.place ≡ length log.now) }
@@ -55,7 +55,7 @@ fn deal<E: Engine>(
     lists: &mut Vec<Vec<E::Growth>>,
     growth: E::Growth,
 ) -> Result<(), Memory>
-    requires few { length lists.old.items ≤ most_owners }
+    requires few { length lists.old.items ≤ most_parts }
     ensures { OnOk result (AreDealt E.rules engine.now growth (length lists.old.items)
         (map (λ list. list.items) lists.old.items) (map (λ list. list.items) lists.new.items)) }
 {

@@ -3,7 +3,7 @@
 ghost use Rattle.std.specs.Prelude.{◌≡◌, false, OnOk, Contains, map};
 ghost use Rattle.fixpoint.specs.State.{IsSound, IsDone, Passes, with_growths, GotBeginning};
 ghost use Rattle.nll_sets.specs.Prefix.{IsPrefix};
-ghost use Rattle.keeper.specs.Keeping.{Grows, IsQuiet, has};
+ghost use Rattle.keeper.specs.Keeping.{LogGrows, IsQuiet, has};
 
 use crate::book::Book;
 use crate::engine::Engine;
@@ -23,7 +23,7 @@ pub fn load_all<E: Engine>(
     requires quiet { IsQuiet E.rules book.old (λ f. E.has store.old f) due.old.items
         boxes.old.place (map (λ list. list.items) boxes.old.lists.items) }
     requires fresh { (f : E.Fact) → has E.rules book.old f ≡ false }
-    ensures grows { Grows book.old book.new }
+    ensures grows { LogGrows book.old book.new }
     ensures quiet { OnOk result (IsQuiet E.rules book.new (λ f. E.has store.new f)
         due.new.items boxes.new.place (map (λ list. list.items) boxes.new.lists.items)) }
     ensures done { OnOk result (IsDone E.rules book.new) }

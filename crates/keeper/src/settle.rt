@@ -1,8 +1,8 @@
 //! Facts that are due.
 
-ghost use Rattle.std.specs.Prelude.{◌≡◌, ◌⊎◌, ◌++◌, ◌∷◌, ◌<◌, [], OnOk, length};
+ghost use Rattle.std.specs.Prelude.{◌≡◌, [], OnOk};
 ghost use Rattle.fixpoint.specs.State.{IsSound, IsDone};
-ghost use Rattle.keeper.specs.Keeping.{Grows, IsDue, has};
+ghost use Rattle.keeper.specs.Keeping.{LogGrows, IsDue, has};
 
 use crate::book::Book;
 use crate::engine::Engine;
@@ -18,7 +18,7 @@ pub fn settle<E: Engine>(
     requires store { (f : E.Fact) → E.has store.old f ≡ has E.rules book.old f }
     requires due { IsDue E.rules book.old.system book.old.me
         (has E.rules book.old) due.old.items }
-    ensures grows { Grows book.old book.new }
+    ensures grows { LogGrows book.old book.new }
     ensures store { OnOk result ((f : E.Fact)
         → E.has store.new f ≡ has E.rules book.new f) }
     ensures none { OnOk result (due.new.items ≡ []) }
@@ -26,35 +26,11 @@ pub fn settle<E: Engine>(
     ensures sound { IsSound E.rules book.new }
 {
     while let Some(fact) = due.pop() {
-        enter::<E>(book, store, due, fact)?;
+        if !book.system().knows(store, &fact) {
+            book.grow(fact)?;
+            let engine = book.system();
+            engine.enter(book.me(), store, fact, due)?;
+        }
     }
     Ok(())
-}
-
-// Enters a fact that is due, unless it's known.
-fn enter<E: Engine>(
-    book: &mut Book<'_, E>,
-    store: &mut E::Store,
-    due: &mut Vec<E::Fact>,
-    fact: E::Fact,
-) -> Result<(), Memory>
-    requires sound { IsSound E.rules book.old }
-    requires store { (f : E.Fact) → E.has store.old f ≡ has E.rules book.old f }
-    requires due { IsDue E.rules book.old.system book.old.me
-        (has E.rules book.old) (due.old.items ++ fact ∷ []) }
-    ensures grows { Grows book.old book.new }
-    ensures store { OnOk result ((f : E.Fact)
-        → E.has store.new f ≡ has E.rules book.new f) }
-    ensures due { OnOk result (IsDue E.rules book.new.system book.new.me
-        (has E.rules book.new) due.new.items) }
-    ensures less { OnOk result ((length book.old.log < length book.new.log)
-        ⊎ ((book.new ≡ book.old) × (due.new.items ≡ due.old.items))) }
-    ensures sound { IsSound E.rules book.new }
-{
-    if book.system().knows(store, &fact) {
-        return Ok(());
-    }
-    book.grow(fact)?;
-    let engine = book.system();
-    engine.enter(book.me(), store, fact, due)
 }

@@ -4,7 +4,7 @@ use mathlib.Core.Option.{some, some-injective, some-ne-none}
 use lib.ListN.{get_elem?}
 use Rattle.ledger.specs.declared.figures.Figures.{Figures}
 use Rattle.ledger.specs.Amounts.{total_bound}
-use Rattle.ledger.specs.Figures.{figures, owing, clearing, quieting, setting, finding, fewer, fresh, together, total, IsSound, AreSound, AreBalanced}
+use Rattle.ledger.specs.Figures.{figures, owing, clearing, quieting, setting, finding, fewer, fresh, together, total, IsSoundFigure, AreSound, AreBalanced}
 
 -- the total after a change of one view
 total_set : (f : Figures → ℕ) (views : List Figures) (id : ℕ) (v w : Figures) → get_elem? views id ≡ some v
@@ -13,12 +13,14 @@ total_set f [] id v w e = absurd (some-ne-none v (sym e))
 total_set f (x ∷ xs) zero v w e = let p : f x ≡ f v = ap f (some-injective x v e) in omega arith
 total_set f (x ∷ xs) (suc id) v w e = let r = total_set f xs id v w e in omega arith
 
-sound_at : (views : List Figures) (id : ℕ) (v : Figures) → AreSound views → get_elem? views id ≡ some v → IsSound v
+sound_at : (views : List Figures) (id : ℕ) (v : Figures) → AreSound views → get_elem? views id ≡ some v
+    → IsSoundFigure v
 sound_at [] id v s e = absurd (some-ne-none v (sym e))
-sound_at (x ∷ xs) zero v s e = subst IsSound (some-injective x v e) s.0
+sound_at (x ∷ xs) zero v s e = subst IsSoundFigure (some-injective x v e) s.0
 sound_at (x ∷ xs) (suc id) v s e = sound_at xs id v s.1 e
 
-sound_set : (views : List Figures) (id : ℕ) (w : Figures) → AreSound views → IsSound w → AreSound (slice_set views id w)
+sound_set : (views : List Figures) (id : ℕ) (w : Figures) → AreSound views → IsSoundFigure w
+    → AreSound (slice_set views id w)
 sound_set [] id w s t = tt
 sound_set (x ∷ xs) zero w s t = (t, s.1)
 sound_set (x ∷ xs) (suc id) w s t = (s.0, sound_set xs id w s.1 t)
@@ -53,7 +55,7 @@ set_own (x ∷ xs) zero v e = ap (λ y. y ∷ xs) (sym (some-injective x v e))
 set_own (x ∷ xs) (suc id) v e = ap (λ l. x ∷ l) (set_own xs id v e)
 
 -- the seat that stands for all shares, all of them quiet, knows that owed and cleared are equal
-alone : (f : Figures → ℕ) → ((v : Figures) → IsSound v → v.parts ≡ 0 → f v ≡ 0)
+alone : (f : Figures → ℕ) → ((v : Figures) → IsSoundFigure v → v.parts ≡ 0 → f v ≡ 0)
     → (views : List Figures) (id : ℕ) (v : Figures) → AreSound views → get_elem? views id ≡ some v
     → total (λ u. u.parts) views ≡ v.parts → total f views ≡ f v
 alone f idle [] id v s at e = absurd (some-ne-none v (sym at))
@@ -62,7 +64,7 @@ alone f idle (x ∷ xs) zero v s at e =
     let b : f x ≡ f v = ap f p in
     let z = none f idle xs s.1 (omega arith) in omega arith
   where
-    none : (f : Figures → ℕ) → ((v : Figures) → IsSound v → v.parts ≡ 0 → f v ≡ 0) → (views : List Figures)
+    none : (f : Figures → ℕ) → ((v : Figures) → IsSoundFigure v → v.parts ≡ 0 → f v ≡ 0) → (views : List Figures)
         → AreSound views → total (λ u. u.parts) views ≡ 0 → total f views ≡ 0
     none f idle [] s e = refl
     none f idle (y ∷ ys) s e = let a = idle y s.0 (omega arith) in let b = none f idle ys s.1 (omega arith) in
@@ -82,7 +84,7 @@ total_snoc : (f : Figures → ℕ) (views : List Figures) (w : Figures) → tota
 total_snoc f [] w = omega arith
 total_snoc f (x ∷ xs) w = let r = total_snoc f xs w in omega arith
 
-sound_snoc : (views : List Figures) (w : Figures) → AreSound views → IsSound w → AreSound (views ++ w ∷ [])
+sound_snoc : (views : List Figures) (w : Figures) → AreSound views → IsSoundFigure w → AreSound (views ++ w ∷ [])
 sound_snoc [] w s t = (t, tt)
 sound_snoc (x ∷ xs) w s t = (s.0, sound_snoc xs w s.1 t)
 
@@ -103,7 +105,7 @@ at_least (y ∷ ys) (suc id) v at = let r = at_least ys id v at in omega arith
 
 module _ (a : ℕ) (b : Bool) (id : ℕ) (v : Figures) (views : List Figures) (kept : AreBalanced a b views)
     (at : get_elem? views id ≡ some v) where
-  old : IsSound v
+  old : IsSoundFigure v
   old = sound_at views id v kept.sound at
 
   -- what one share owes more, the balance has more

@@ -6,9 +6,9 @@ use Rattle.std.proofs.lemmas.List.Sums.{sum_by-cons}
 use Rattle.std.proofs.lemmas.Option.{slice_get_within}
 use Rattle.ledger.specs.Amounts.{total_bound}
 use Rattle.ledger.specs.Figures.{bit, together}
-use Rattle.ledger.specs.Shares.{Kind, parts_of, Adding}
+use Rattle.ledger.specs.Shares.{Kind, parts_of_share, Adding}
 use Rattle.ledger.specs.declared.figures.Figures.{Figures}
-use Rattle.fixpoint.specs.Limits.{most_owners}
+use Rattle.fixpoint.specs.Limits.{most_parts}
 
 -- ---- lists
 
@@ -53,29 +53,30 @@ each_pushed {X} P xs ys x pushed before here k y at = ⊎_elim
 
 -- ---- parts
 
-parts_one : (owners number : ℕ) → number + 1 < owners → parts_of owners number ≡ 1
+parts_one : (owners number : ℕ) → number + 1 < owners → parts_of_share owners number ≡ 1
 parts_one owners number less = go (number + 1 == owners) refl
   where
-    go : (t : Bool) → (number + 1 == owners) ≡ t → cond t (most_owners + 1 - owners) 1 ≡ 1
+    go : (t : Bool) → (number + 1 == owners) ≡ t → cond t (most_parts + 1 - owners) 1 ≡ 1
     go true is = absurd (omega (arith, eqb-true (number + 1) owners is, less))
     go false is = refl
 
-pub parts_last : (owners number : ℕ) → number + 1 ≡ owners → parts_of owners number ≡ most_owners + 1 - owners
-parts_last owners number last = ap (λ t. cond t (most_owners + 1 - owners) 1) (eq-eqb (number + 1) owners last)
+pub parts_last : (owners number : ℕ) → number + 1 ≡ owners → parts_of_share owners number ≡ most_parts + 1 - owners
+parts_last owners number last = ap (λ t. cond t (most_parts + 1 - owners) 1) (eq-eqb (number + 1) owners last)
 
 -- the parts of the share of this number, where there are so many owners
-pub next_part : (owners number parts : ℕ) → parts ≡ parts_of owners number → number + 1 < owners → parts ≡ 1
+pub next_part : (owners number parts : ℕ) → parts ≡ parts_of_share owners number → number + 1 < owners → parts ≡ 1
 next_part owners number parts is less = is ∙ parts_one owners number less
 
-pub last_parts : (owners number parts : ℕ) → parts ≡ parts_of owners number → number + 1 ≡ owners → owners ≤ most_owners
-    → parts + number ≡ most_owners
+pub last_parts : (owners number parts : ℕ) → parts ≡ parts_of_share owners number → number + 1 ≡ owners
+    → owners ≤ most_parts
+    → parts + number ≡ most_parts
 last_parts owners number parts is last few = let p = is ∙ parts_last owners number last in omega (arith, p, last, few)
 
 -- ---- shares that have left are added up
 
 module _ {L : Type 0} (kind : Kind L) where
   pub adding_first : (last : L) (rest lefts : List L) → lefts ≡ rest ++ last ∷ []
-      → (kind.view last).parts + length rest ≡ most_owners → Adding kind (kind.view last) rest lefts
+      → (kind.view last).parts + length rest ≡ most_parts → Adding kind (kind.view last) rest lefts
   adding_first last rest lefts all parts = record {
     parts = parts;
     owed = (let v = ap (λ (y : Figures). y.owed) (kind.knows last) in let a = ap (sum_by kind.owed) all in
@@ -130,7 +131,7 @@ module _ {L : Type 0} (kind : Kind L) where
       (let a = cleared_small xs in let b = (kind.few x).1 in omega (arith, a, b, sum_by-cons kind.cleared x xs))
 
   pub adding_fits : (so_far : Figures) (l : L) (coming lefts : List L) → Adding kind so_far (coming ++ l ∷ []) lefts
-      → length lefts ≤ most_owners
+      → length lefts ≤ most_parts
       → (so_far.owed + kind.owed l < 2 ^ 64) × (so_far.cleared + kind.cleared l < 2 ^ 64)
   adding_fits so_far l coming lefts h few = (
     omega (arith, h.owed, sum_push kind.owed coming l, owed_small lefts, few),

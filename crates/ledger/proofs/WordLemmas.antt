@@ -12,7 +12,7 @@ use Rattle.ledger.specs.Figures.{figures, none, owing, clearing, quieting, setti
 use Rattle.ledger.specs.Words.{is_set, leaving, looking, AreWords}
 use Rattle.ledger.specs.declared.figures.Figures.{Figures}
 use Rattle.ledger.proofs.FigureLemmas.{bounds, figures_owe, figures_clear, figures_quiet, figures_stop, figures_find, figures_kept, figures_fork, figures_merge, settled, called}
-use Rattle.fixpoint.specs.Limits.{most_owners}
+use Rattle.fixpoint.specs.Limits.{most_parts}
 
 set_some : (w : ℕ) → is_set w ≡ true → 0 < w
 set_some zero set = absurd (let p = set in cc)
@@ -202,7 +202,7 @@ joins id v other w s kept at apart there = record {
 }
 
 -- the words of a new book
-pub opens : (owners balance : ℕ) → owners ≤ most_owners → balance ≡ 2 ^ 62 + owners
+pub opens : (owners balance : ℕ) → owners ≤ most_parts → balance ≡ 2 ^ 62 + owners
     → AreWords (opening (balance ∷ 0 ∷ []) [] (figures 64 owners 0 0 0 0))
 opens owners balance few is = record {
   balance = balance;

@@ -4,7 +4,7 @@ use Rattle.std.specs.Prelude.{◌≡◌, ℕ, ◌+◌, ◌-◌, ◌*◌, ◌^◌
 use Rattle.std.specs.Prelude.{List, [], ◌∷◌}
 use Rattle.ledger.specs.Amounts.{total_bound}
 use Rattle.ledger.specs.declared.figures.Figures.{Figures}
-use Rattle.fixpoint.specs.Limits.{most_owners}
+use Rattle.fixpoint.specs.Limits.{most_parts}
 
 -- 1 for true, 0 for false
 abbrev pub bit : Bool → ℕ
@@ -66,7 +66,7 @@ total f [] = 0
 total f (v ∷ vs) = f v + total f vs
 
 -- each figure is within what the parts allow
-pub record IsSound (v : Figures) : Type 0 where
+pub record IsSoundFigure (v : Figures) : Type 0 where
   pub owed : v.owed ≤ v.parts * total_bound
   pub cleared : v.cleared ≤ v.parts * total_bound
   pub quiets : v.quiets ≤ v.parts
@@ -76,13 +76,13 @@ pub record IsSound (v : Figures) : Type 0 where
 -- all of a list are
 abbrev pub AreSound : List Figures → Type 0
 AreSound [] = ⊤
-AreSound (v ∷ vs) = IsSound v × AreSound vs
+AreSound (v ∷ vs) = IsSoundFigure v × AreSound vs
 
 -- the balance, kept 2^62 higher, is what all owed less what they cleared, and is 0 where all parts
 -- left on quiet; the flag is set just where a share set it, and where a share knows that it is set
 pub record AreBalanced (balance : ℕ) (flag : Bool) (all : List Figures) : Type 0 where
   pub sums : balance + total (λ v. v.cleared) all ≡ 2 ^ 62 + total (λ v. v.owed) all
-  pub parts : total (λ v. v.parts) all ≡ most_owners
+  pub parts : total (λ v. v.parts) all ≡ most_parts
   pub sound : AreSound all
   pub quiet : total (λ v. v.quiets) all ≡ total (λ v. v.parts) all → balance ≡ 2 ^ 62
   pub set_by : flag ≡ true → 0 < total (λ v. v.calls) all

@@ -3,14 +3,14 @@
 -- is what the trait says in its own words.
 use Rattle.std.specs.Prelude.{◌≡◌, ℕ, Bool, false}
 use Rattle.crossbeam_queue.specs.Passes.{view, IsPassOf}
-use Rattle.ledger.specs.Shares.{Kind, parts_of}
+use Rattle.ledger.specs.Shares.{Kind, parts_of_share}
 use Rattle.ledger.specs.declared.lock_book.LockBook.{LockBook}
 use Rattle.ledger.specs.declared.lock_book.LockLeft.{LockLeft}
 use Rattle.ledger.specs.declared.lock_book.LockShare.{LockShare}
 
 -- the number of the owner that left
-abbrev pub number_of : LockLeft → ℕ
-number_of left = left.account.number
+abbrev pub number_left : LockLeft → ℕ
+number_left left = left.account.number
 
 -- what it owed in all
 abbrev pub owed_by : LockLeft → ℕ
@@ -48,12 +48,12 @@ module _ {R : Type 0} where
   -- the share is of the book
   abbrev pub IsOf : LockBook R → LockShare → Type 0
   IsOf book share = IsPassOf book.lock share.pass
-      × ((view share.pass).figures.parts ≡ parts_of book.owners share.account.number)
+      × ((view share.pass).figures.parts ≡ parts_of_share book.owners share.account.number)
 
   -- what is left of a share is of the book
   abbrev pub IsLeftOf : LockBook R → LockLeft → Type 0
   IsLeftOf book left = IsPassOf book.lock left.pass
-      × ((view left.pass).figures.parts ≡ parts_of book.owners left.account.number)
+      × ((view left.pass).figures.parts ≡ parts_of_share book.owners left.account.number)
 
   -- the share of this number of the book, which has done nothing yet
   abbrev pub IsNew : LockBook R → ℕ → LockShare → Type 0

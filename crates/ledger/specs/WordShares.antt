@@ -2,7 +2,7 @@
 -- Source: project's choice. Contracts of `WordLedger` alone cite this file; what they say in public
 -- is what the trait says in its own words.
 use Rattle.std.specs.Prelude.{◌≡◌, ℕ, false}
-use Rattle.ledger.specs.Shares.{Kind, parts_of}
+use Rattle.ledger.specs.Shares.{Kind, parts_of_share}
 use Rattle.ledger.specs.declared.word_book.WordBook.{WordBook}
 use Rattle.ledger.specs.declared.word_book.WordLeft.{WordLeft}
 use Rattle.ledger.specs.declared.word_book.WordShare.{WordShare}
@@ -22,12 +22,12 @@ word_kind = record {
 -- the share is of the book
 abbrev pub IsWordShare : WordBook → WordShare → Type 0
 IsWordShare book share = (share.seat.table_id ≡ book.table.shared.table_id)
-    × (share.seat.me.0.parts ≡ parts_of book.owners share.account.number)
+    × (share.seat.me.0.parts ≡ parts_of_share book.owners share.account.number)
 
 -- what is left of a share is of the book
 abbrev pub IsWordLeft : WordBook → WordLeft → Type 0
 IsWordLeft book left = (left.seat.table_id ≡ book.table.shared.table_id)
-    × (left.seat.me.0.parts ≡ parts_of book.owners left.account.number)
+    × (left.seat.me.0.parts ≡ parts_of_share book.owners left.account.number)
 
 -- the share of this number of the book, which has done nothing yet
 abbrev pub IsNewShare : WordBook → ℕ → WordShare → Type 0

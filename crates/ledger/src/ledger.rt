@@ -4,7 +4,7 @@ ghost use Rattle.std.specs.Prelude.{◌≡◌, ◌+◌, ◌<◌, ◌≤◌, ℕ,
 ghost use Rattle.std.specs.Prelude.{IfOk, Some, slice_get, sum_by, vec_len};
 ghost use Rattle.ledger.specs.Amounts.{amount_bound, total_bound};
 ghost use Rattle.ledger.specs.Leaving.{IfQuiet, IfStopped, IfLeft, IfOpen};
-ghost use Rattle.fixpoint.specs.Limits.{most_owners};
+ghost use Rattle.fixpoint.specs.Limits.{most_parts};
 
 use nll_sets::Memory;
 use std::alloc::Global;
@@ -79,7 +79,7 @@ pub trait Ledger {
     /// # Errors
     /// - `Memory`.
     fn open(&self, alloc: Global, owners: u16) -> Result<(Self::Book, Vec<Self::Share>), Memory>
-        requires { (0 < owners) × (owners ≤ most_owners) }
+        requires { (0 < owners) × (owners ≤ most_parts) }
         ensures owners { IfOk result (λ opened. owner_count opened.0 ≡ owners) }
         ensures count { IfOk result (λ opened. vec_len opened.1 ≡ owners) }
         ensures shares { IfOk result (λ opened. (place : ℕ) (share : Self.Share)

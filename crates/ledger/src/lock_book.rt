@@ -4,7 +4,7 @@ ghost use Rattle.std.specs.Prelude.{◌≡◌, ◌<◌, ◌≤◌, false, cond, 
 ghost use Rattle.crossbeam_queue.specs.Passes.{view};
 ghost use Rattle.ledger.specs.Amounts.{total_bound};
 ghost use Rattle.ledger.specs.Figures.{bit, figures};
-ghost use Rattle.fixpoint.specs.Limits.{most_owners};
+ghost use Rattle.fixpoint.specs.Limits.{most_parts};
 
 use crate::figures::Account;
 use crate::lock_rule::{Lock, LockPass};
@@ -15,7 +15,7 @@ pub struct LockBook<R> {
     pub(crate) rt: R,
     pub(crate) lock: Lock,
     pub(crate) owners: u16,
-    ghost few: { (0 < owners) × (owners ≤ most_owners) },
+    ghost few: { (0 < owners) × (owners ≤ most_parts) },
 }
 
 /// A share: its account, whether it knows that the flag is set, and its pass of the lock, which

@@ -10,7 +10,7 @@ ghost use Rattle.std.specs.List.{sum_by};
 ghost use Rattle.crossbeam_queue.specs.Passes.{IsPassOf, view};
 ghost use Rattle.ledger.specs.Figures.{figures};
 ghost use Rattle.ledger.specs.LockShares.{IsLeftOf, IsNew, cleared_by, has_called, is_quiet};
-ghost use Rattle.ledger.specs.LockShares.{number_of, owed_by};
+ghost use Rattle.ledger.specs.LockShares.{number_left, owed_by};
 ghost use Rattle.ledger.specs.declared.lock_book.LockLeft.{LockLeft};
 ghost use Rattle.ledger.specs.declared.lock_book.LockShare.{LockShare};
 
@@ -93,7 +93,7 @@ impl<R: Wait + Copy + Send + Sync> Ledger for LockLedger<R> {
     ghost use Rattle.std.specs.Prelude.{◌≡◌, ℕ, Some, false, slice_get, true, vec_len};
     ghost use Rattle.std.specs.List.{sum_by};
     ghost use Rattle.ledger.specs.LockShares.{IsLeftOf, IsOf, cleared_by, has_called, is_quiet};
-    ghost use Rattle.ledger.specs.LockShares.{number_of, owed_by, owners_of};
+    ghost use Rattle.ledger.specs.LockShares.{number_left, owed_by, owners_of};
     ghost use Rattle.ledger.specs.declared.lock_book.LockLeft.{LockLeft};
 
     type Book = LockBook<R>;
@@ -118,7 +118,7 @@ impl<R: Wait + Copy + Send + Sync> Ledger for LockLedger<R> {
 
     ghost left_belongs = { IsLeftOf };
 
-    ghost left_number = { number_of };
+    ghost left_number = { number_left };
 
     ghost left_owed = { owed_by };
 
@@ -202,7 +202,7 @@ impl<R: Wait + Copy + Send + Sync> Ledger for LockLedger<R> {
     fn gather(book: LockBook<R>, lefts: Vec<LockLeft>) -> Totals
         requires count { vec_len lefts ≡ owners_of book }
         requires each { (place : ℕ) (left : LockLeft) → slice_get lefts.items place ≡ Some left
-            → IsLeftOf book left × (number_of left ≡ place) }
+            → IsLeftOf book left × (number_left left ≡ place) }
         ensures owed { result.owed ≡ sum_by owed_by lefts.items }
         ensures cleared { result.cleared ≡ sum_by cleared_by lefts.items }
         ensures quiet { ((place : ℕ) (left : LockLeft)

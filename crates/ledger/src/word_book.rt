@@ -3,7 +3,7 @@
 ghost use Rattle.std.specs.Prelude.{◌≡◌, ◌<◌, ◌≤◌, [], cond, not};
 ghost use Rattle.ledger.specs.Amounts.{total_bound};
 ghost use Rattle.ledger.specs.Figures.{bit, figures};
-ghost use Rattle.fixpoint.specs.Limits.{most_owners};
+ghost use Rattle.fixpoint.specs.Limits.{most_parts};
 
 use crate::figures::Account;
 use crate::word_rule::{WordSeat, Words};
@@ -14,7 +14,7 @@ pub struct WordBook {
     pub(crate) table: Words,
     pub(crate) owners: u16,
     ghost two: { (table.shared.table_id.words ≡ 2) × (table.shared.table_id.slots ≡ 0) },
-    ghost few: { (0 < owners) × (owners ≤ most_owners) },
+    ghost few: { (0 < owners) × (owners ≤ most_parts) },
 }
 
 /// A share: its account, whether it knows that the flag is set, and its seat of the words, which

@@ -4,9 +4,9 @@ use Rattle.std.specs.Prelude.{codes}
 use Rattle.nll_problem.specs.Problem.{Problem, SameProblem}
 use Rattle.nll_problem.proofs.SameLemmas.{same_set_back, same_set_chain}
 use Rattle.nll_format.specs.Labels.{Labels}
-use Rattle.nll_format.specs.Text.{IsHeader}
+use Rattle.nll_format.specs.Text.{IsFormatHeader}
 use Rattle.nll_format.specs.declared.error.TextKind.{TextKind}
-use Rattle.nll_facts.specs.FactsText.{facts, Means as IsFactsOf}
+use Rattle.nll_facts.specs.FactsText.{facts, MeansFacts as IsFactsOf}
 use Rattle.nll_facts.specs.declared.version.Version.{Version}
 use Rattle.nll_facts.proofs.LawLemmas as facts_laws
 use Rattle.nll_body.specs.Bodies.{BodyText}
@@ -22,7 +22,7 @@ use Rattle.nll_answer.proofs.MeaningLemmas.{same_head, header_of}
 -- ---- a text is of one format
 
 -- no line is the header of both formats
-two_headers : (version : Version) (line : List ℕ) → IsHeader (facts version) line → IsMirHeader line → ⊥
+two_headers : (version : Version) (line : List ℕ) → IsFormatHeader (facts version) line → IsMirHeader line → ⊥
 two_headers version line f m =
     let kinds : codes "nll-facts" ≡ codes "nll-mir" =
     same_head (codes "nll-facts") (codes "nll-mir") _ _ (sym f ∙ m.1) in

@@ -7,13 +7,14 @@ use Rattle.std.proofs.lemmas.List.{append-nil, append_assoc, drop_more, flat_map
 use Rattle.std.proofs.lemmas.List.Elements.{Contains-append_cases, Contains-append_right, Contains-get_or, Contains-push_cases}
 use Rattle.std.proofs.lemmas.List.Kept.{AllPairs-cons}
 use Rattle.nll_sets.specs.ElementSet.{flag, elements, elements_from}
-use Rattle.nll_sets.specs.Runs.{no_run, numbers, numbers_of}
+use Rattle.nll_sets.specs.Runs.{no_run, numbers_in, numbers_of}
 use Rattle.nll_sets.specs.declared.run.Run.{Run}
 use Rattle.nll_core.specs.Values.{set_of, IsHeld}
 use Rattle.nll_problem.specs.Problem.{Problem, IsSound, end_of}
 use Rattle.nll_problem.specs.Faults.{AreFaults}
+use Rattle.nll_problem.specs.Solution.{Least}
 use Rattle.nll_format.specs.Labels.{Labels}
-use Rattle.nll_answer.specs.Report.{IsListed, IsValuesReport, value_lines}
+use Rattle.nll_answer.specs.Report.{IsElementList, IsValuesReport, value_lines}
 
 cons_cases : (x : ℕ) (xs : List ℕ) (y : ℕ) → Contains (x ∷ xs) y → (x ≡ y) ⊎ Contains xs y
 cons_cases x xs y h = ⊎_elim
@@ -62,7 +63,8 @@ element_is_held flags e h =
     subst (λ i. flag flags i ≡ true) at w.2
 
 -- the elements of a region's set list what the region holds
-pub elements_are_listed : (values : List (List Bool)) (r : ℕ) → IsListed (IsHeld values r) (elements (set_of values r))
+pub elements_are_listed : (values : List (List Bool)) (r : ℕ)
+    → IsElementList (IsHeld values r) (elements (set_of values r))
 elements_are_listed values r = record {
   each = λ e. (element_is_held (set_of values r) e, λ held. set_is_listed 0 (set_of values r) e e held (omega arith));
   ascending = ascend 0 (set_of values r);
@@ -109,13 +111,13 @@ run_more print first number old now new low printed more =
 
 -- what is printed of runs, with one run more
 pub runs_more : (print : ℕ → List ℕ) (runs : List Run) (k : ℕ) (old now new : List ℕ) → k < length runs
-    → now ≡ old ++ flat_map print (numbers (take k runs))
+    → now ≡ old ++ flat_map print (numbers_in (take k runs))
     → new ≡ now ++ flat_map print (numbers_of (get_or runs k no_run))
-    → new ≡ old ++ flat_map print (numbers (take (k + 1) runs))
+    → new ≡ old ++ flat_map print (numbers_in (take (k + 1) runs))
 runs_more print runs k old now new within printed more =
     let run = get_or runs k no_run in
-    let front = numbers (take k runs) in
-    let all : numbers (take (k + 1) runs) ≡ front ++ numbers_of run = ap numbers (take_more runs k no_run within)
+    let front = numbers_in (take k runs) in
+    let all : numbers_in (take (k + 1) runs) ≡ front ++ numbers_of run = ap numbers_in (take_more runs k no_run within)
     ∙ flat_map-append numbers_of (take k runs) (run ∷ [])
     ∙ ap (λ (xs : List ℕ). front ++ xs) (append-nil (numbers_of run)) in
     more ∙ ap (λ (xs : List ℕ). xs ++ flat_map print (numbers_of run)) printed
@@ -169,6 +171,12 @@ faults_within q sound values faults are k d lt =
     let fault = get_or faults k d in
     let f = (are.each fault.0 fault.1).0 (Contains-get_or faults k d lt) in
     (omega (arith, f.0, sound.universals_are_regions), omega (arith, f.1, sound.universals_are_regions))
+
+-- so they have names
+pub faults_named : (q : Problem) (names : ℕ) (faults : List (ℕ × ℕ)) → q.regions ≡ names → IsSound q
+    → AreFaults q (Least q) faults → All (λ fault. (fault.0 < names) × (fault.1 < names)) faults
+faults_named q names faults named sound are =
+    subst (λ n. All (λ fault. (fault.0 < n) × (fault.1 < n)) faults) named (faults_within q sound _ faults are)
 
 -- the lines of the values that are handed in are their report
 pub lines_report : (q : Problem) (labels : Labels) (values : List (List Bool)) (points regions : ℕ)

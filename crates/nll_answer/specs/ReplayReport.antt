@@ -37,7 +37,8 @@ balance_line balance = codes "balance " ++ decimal balance ++ 10 ∷ []
 
 -- The text is the report of these answers, this balance and these values: the lines of the events,
 -- the line of the balance, and the report of the values.
-pub record IsPrinted (q : Problem) (labels : Labels) (answers : List (Option Step)) (balance : ℕ)
+pub record IsReplayPrinted (q : Problem) (labels : Labels) (answers : List (Option Step))
+    (balance : ℕ)
     (values : List (List Bool)) (text : List ℕ) : Type 0 where
   pub lines : List ℕ
   pub told : IsValuesReport q labels (IsHeld values) lines
@@ -50,4 +51,4 @@ pub record IsReplayReport (q : Problem) (labels : Labels) (c : Cut) (events : Li
   pub balance : ℕ
   pub values : List (List Bool)
   pub replay : IsReplay q c events answers balance values
-  pub printed : IsPrinted q labels answers balance values text
+  pub printed : IsReplayPrinted q labels answers balance values text

@@ -35,7 +35,7 @@ value_line labels points r elements =
     ++ flat_map (λ e. 32 ∷ element_text labels points e) elements ++ 10 ∷ []
 
 -- The list has exactly the elements of the value, each once and ascending.
-pub record IsListed (value : ℕ → Type 0) (elements : List ℕ) : Type 0 where
+pub record IsElementList (value : ℕ → Type 0) (elements : List ℕ) : Type 0 where
   pub each : (e : ℕ) → Contains elements e ↔ value e
   pub ascending : AllPairs (λ d e. d < e) elements
 
@@ -48,7 +48,7 @@ value_lines points regions labels elements =
 pub record IsValuesReport (q : Problem) (labels : Labels) (values : ℕ → ℕ → Type 0) (text : List ℕ)
     : Type 0 where
   pub elements : ℕ → List ℕ
-  pub listed : (r : ℕ) → r < q.regions → IsListed (values r) (elements r)
+  pub listed : (r : ℕ) → r < q.regions → IsElementList (values r) (elements r)
   pub printed : text ≡ value_lines q.graph.points q.regions labels elements
 
 -- the line of a fault

@@ -10,7 +10,7 @@ use Rattle.nll_format.specs.Labels.{Labels}
 use Rattle.nll_format.specs.declared.error.TextError.{TextError}
 use Rattle.nll_format.specs.declared.error.TextKind.{TextKind}
 use Rattle.nll_format.specs.declared.error.TextKind.TheVariants as kind
-use Rattle.nll_facts.specs.FactsText.{IsFactsFault, Means as IsFactsOf}
+use Rattle.nll_facts.specs.FactsText.{IsFactsFault, MeansFacts as IsFactsOf}
 use Rattle.nll_body.specs.Bodies.{BodyText, labels_of}
 use Rattle.nll_mir_text.specs.MirText.{IsMirHeader, IsMirFault, Means as IsBodyOf}
 use Rattle.nll_rules.specs.BodyProblem.{IsProblemOf, HasTooMany}

@@ -1,11 +1,11 @@
 //! The answer to a text: read, solve, and print.
 
-ghost use Rattle.std.specs.Prelude.{◌≡◌, ◌<◌, ◌≤◌, All, IfErr, IfOk, length};
+ghost use Rattle.std.specs.Prelude.{◌≡◌, ◌<◌, ◌≤◌, ◌↔◌, ℕ, All, IfErr, IfOk, length};
 ghost use Rattle.nll_problem.specs.Faults.{AreFaults};
 ghost use Rattle.nll_problem.specs.Problem.{IsSound};
 ghost use Rattle.nll_problem.specs.Solution.{Least};
-ghost use Rattle.nll_answer.specs.Answer.{IsAnswer, IsCheckReport};
-ghost use Rattle.nll_answer.specs.Answer.{IsProblemAnswer, status_of_faults};
+ghost use Rattle.nll_core.specs.Values.{IsHeld, IsShaped};
+ghost use Rattle.nll_answer.specs.Answer.{IsAnswer, IsProblemAnswer, status_of_faults};
 ghost use Rattle.nll_answer.specs.Report.{IsValuesReport, faults_report};
 ghost use Rattle.nll_answer.specs.Texts.{IsAnswerError};
 
@@ -13,7 +13,7 @@ use crate::error::AnswerError;
 use crate::faults_report::faults_text;
 use crate::meant_problem::{meaning, read_meaning};
 use crate::values_report::region_lines;
-use nll_core::{Memory, Problem, RegionId, faults, solve};
+use nll_core::{Memory, Problem, RegionId, Values, faults, solve};
 use nll_facts::Facts;
 use nll_format::Labels;
 use std::alloc::Global;
@@ -93,7 +93,12 @@ fn asked(
             let report = values_of(alloc, problem, labels)?;
             Ok((report, 0))
         }
-        Command::Check => check_of(alloc, problem, labels),
+        Command::Check => {
+            let faults = faults_of(alloc, &problem);
+            drop(problem);
+            let faults = faults?;
+            told_faults(alloc, labels, faults)
+        }
     }
 }
 
@@ -114,18 +119,6 @@ fn values_of(alloc: Global, problem: Problem, labels: &Labels) -> Result<Vec<u8>
     report
 }
 
-// The report of the faults of the least values, and the status.
-fn check_of(alloc: Global, problem: Problem, labels: &Labels) -> Result<(Vec<u8>, u8), Memory>
-    requires { length labels.now.names ≡ problem.regions }
-    ensures ok { IfOk result (λ r. IsCheckReport problem labels.now r.0.items r.1) }
-    ensures status { IfOk result (λ r. r.1 ≤ 1) }
-{
-    let faults = faults_of(alloc, &problem);
-    drop(problem);
-    let faults = faults?;
-    told_faults(alloc, labels, faults)
-}
-
 /// The report of faults, and the status that says whether there are any.
 pub(crate) fn told_faults(
     alloc: Global,
@@ -139,7 +132,7 @@ pub(crate) fn told_faults(
     ensures status { IfOk result (λ r. r.1 ≤ 1) }
 {
     let report = faults_text(alloc, labels, faults.as_slice());
-    let status = status_of_faults(faults.as_slice());
+    let status = if faults.is_empty() { 0 } else { 1 };
     drop(faults);
     Ok((report?, status))
 }
@@ -148,20 +141,28 @@ pub(crate) fn told_faults(
 fn faults_of(alloc: Global, problem: &Problem) -> Result<Vec<(RegionId, RegionId)>, Memory>
     ensures exact { IfOk result (λ found.
         AreFaults problem.now (Least problem.now) found.items) }
-    ensures sound { IsSound problem.now }
+    ensures sound { IfOk result (λ _. IsSound problem.now) }
+{
+    let values = solve(alloc, problem)?;
+    found_faults(alloc, problem, values)
+}
+
+/// The faults of values that are the least.
+pub(crate) fn found_faults(
+    alloc: Global,
+    problem: &Problem,
+    values: Values,
+) -> Result<Vec<(RegionId, RegionId)>, Memory>
+    requires shaped { IsShaped problem.now values }
+    requires least { (r e : ℕ) → IsHeld values r e ↔ Least problem.now r e }
+    ensures exact { IfOk result (λ found.
+        AreFaults problem.now (Least problem.now) found.items) }
+    ensures sound { IfOk result (λ _. IsSound problem.now) }
 {
     // Clause call: the problem is sound.
     let _ = problem.universals();
-    let values = solve(alloc, problem)?;
     let found = faults(alloc, problem, &values);
     // Early drop.
     drop(values);
     found
-}
-
-// 1 where there is a fault.
-fn status_of_faults(faults: &[(RegionId, RegionId)]) -> u8
-    ensures { result ≡ status_of_faults faults.now }
-{
-    if faults.is_empty() { 0 } else { 1 }
 }

@@ -1,7 +1,6 @@
 //! The problem that a text means.
 
 ghost use Rattle.std.specs.Prelude.{◌≡◌, ◌↔◌, length, Err, IfErr, IfOk, IsOkAnd, IsTrue, Ok};
-ghost use Rattle.nll_facts.specs.FactsText.{IsFactsFault, Means as IsFactsOf};
 ghost use Rattle.nll_body.specs.Bodies.{labels_of};
 ghost use Rattle.nll_mir_text.specs.MirText.{IsMirFault, Means as IsBodyOf};
 ghost use Rattle.nll_answer.specs.Texts.{HasProblem, IsAnswerError, IsBodyError, IsErrorOf};
@@ -29,7 +28,8 @@ pub fn meaning(alloc: Global, text: &[u8]) -> Result<Facts, AnswerError>
     ensures err { IfErr result (IsAnswerError text.now) }
 {
     if is_mir(text) {
-        mir_meaning(alloc, text)
+        let body = body_of(alloc, text)?;
+        facts_of_body(alloc, body)
     } else {
         facts_meaning(alloc, text)
     }
@@ -46,7 +46,8 @@ pub fn read_meaning(alloc: Global, text: Vec<u8>) -> Result<Facts, AnswerError>
     ensures err { IfErr result (IsAnswerError text.items) }
 {
     if is_mir(text.as_slice()) {
-        read_mir_meaning(alloc, text)
+        let body = read_body(alloc, text)?;
+        facts_of_body(alloc, body)
     } else {
         let facts = facts_meaning(alloc, text.as_slice());
         // Early drop.
@@ -61,28 +62,6 @@ fn is_mir(text: &[u8]) -> bool
 {
     let (header, _) = next_line(text);
     is_mir_header(header)
-}
-
-// The problem that a MIR text means.
-fn mir_meaning(alloc: Global, text: &[u8]) -> Result<Facts, AnswerError>
-    requires { IsMir text.now }
-    ensures ok { IfOk result (λ facts. IsMeaning text.now facts.problem facts.labels) }
-    ensures named { IfOk result (λ facts. length facts.labels.names ≡ facts.problem.regions) }
-    ensures err { IfErr result (IsAnswerError text.now) }
-{
-    let body = body_of(alloc, text)?;
-    facts_of_body(alloc, body)
-}
-
-// Like `mir_meaning`, but frees the text before the problem of its body is made.
-fn read_mir_meaning(alloc: Global, text: Vec<u8>) -> Result<Facts, AnswerError>
-    requires { IsMir text.items }
-    ensures ok { IfOk result (λ facts. IsMeaning text.items facts.problem facts.labels) }
-    ensures named { IfOk result (λ facts. length facts.labels.names ≡ facts.problem.regions) }
-    ensures err { IfErr result (IsAnswerError text.items) }
-{
-    let body = read_body(alloc, text)?;
-    facts_of_body(alloc, body)
 }
 
 // The body of a MIR text that is freed once it is read.
@@ -102,15 +81,6 @@ fn facts_meaning(alloc: Global, text: &[u8]) -> Result<Facts, AnswerError>
     ensures ok { IfOk result (λ facts. IsMeaning text.now facts.problem facts.labels) }
     ensures named { IfOk result (λ facts. length facts.labels.names ≡ facts.problem.regions) }
     ensures err { IfErr result (IsAnswerError text.now) }
-{
-    facts_of(alloc, text)
-}
-
-// The facts of a facts text.
-fn facts_of(alloc: Global, text: &[u8]) -> Result<Facts, AnswerError>
-    ensures ok { IfOk result (λ facts. IsFactsOf text.now facts.problem facts.labels) }
-    ensures named { IfOk result (λ facts. length facts.labels.names ≡ facts.problem.regions) }
-    ensures err { IfErr result (IsErrorOf (IsFactsFault text.now)) }
 {
     told(read_facts(alloc, text))
 }

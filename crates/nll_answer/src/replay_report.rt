@@ -5,9 +5,8 @@ ghost use Rattle.nll_core.specs.Values.{IsHeld, IsShaped};
 ghost use Rattle.nll_model.specs.declared.error.ModelError.TheVariants.{Owner};
 ghost use Rattle.fixpoint.specs.declared.error.PartError.TheVariants.{Memory as memory};
 ghost use Rattle.nll_answer.specs.Report.{IsValuesReport};
-ghost use Rattle.nll_answer.specs.ReplayReport.{IsPrinted, IsReplayReport};
-ghost use Rattle.nll_answer.specs.ReplayReport.{answer_line, answer_lines, answer_text};
-ghost use Rattle.nll_answer.specs.ReplayReport.{balance_line};
+ghost use Rattle.nll_answer.specs.ReplayReport.{IsReplayPrinted, IsReplayReport, answer_line};
+ghost use Rattle.nll_answer.specs.ReplayReport.{answer_lines, answer_text};
 
 use crate::values_report::values_text;
 use itoa::Buffer;
@@ -45,25 +44,10 @@ pub fn replay_text(
     ensures memory { IfErr result (λ error. error ≡ Owner memory) }
 {
     let replayed = replay(alloc, problem, cut, events)?;
-    Ok(report_of(alloc, problem, labels, replayed)?)
-}
-
-// The report of the outcome of a schedule.
-fn report_of(
-    alloc: Global,
-    problem: &Problem,
-    labels: &Labels,
-    replayed: Replay,
-) -> Result<Vec<u8>, Memory>
-    requires shaped { IsShaped problem.now replayed.values }
-    requires named { length labels.now.names ≡ problem.now.regions }
-    ensures { IfOk result (λ text. IsPrinted problem.now labels.now
-        replayed.answers.items replayed.balance replayed.values text.items) }
-{
     let text = lines_of(alloc, problem, labels, &replayed);
     // Early drop.
     drop(replayed);
-    text
+    Ok(text?)
 }
 
 // The lines of the outcome of a schedule.
@@ -75,12 +59,15 @@ fn lines_of(
 ) -> Result<Vec<u8>, Memory>
     requires shaped { IsShaped problem.now replayed.now.values }
     requires named { length labels.now.names ≡ problem.now.regions }
-    ensures { IfOk result (λ text. IsPrinted problem.now labels.now
+    ensures { IfOk result (λ text. IsReplayPrinted problem.now labels.now
         replayed.now.answers.items replayed.now.balance replayed.now.values text.items) }
 {
     let mut out = Vec::new(alloc);
     push_answers(&mut out, replayed.answers.as_slice())?;
-    push_balance(&mut out, replayed.balance)?;
+    let mut digits = Buffer::new();
+    out.extend_from_slice(b"balance ")?;
+    out.extend_from_slice(digits.format(replayed.balance).as_bytes())?;
+    out.extend_from_slice(b"\n")?;
     let lines = values_text(alloc, problem, labels, &replayed.values)?;
     out.extend_from_slice(lines.as_slice())?;
     Ok(out)
@@ -118,15 +105,4 @@ fn words_of(answer: Option<Step>) -> &'static str
         Some(Step::Open) => "open",
         None => "not now",
     }
-}
-
-// Appends the line of the balance.
-fn push_balance(out: &mut Vec<u8>, balance: u64) -> Result<(), Memory>
-    ensures { OnOk result (out.new.items ≡ out.old.items ++ balance_line balance) }
-{
-    let mut digits = Buffer::new();
-    out.extend_from_slice(b"balance ")?;
-    out.extend_from_slice(digits.format(balance).as_bytes())?;
-    out.extend_from_slice(b"\n")?;
-    Ok(())
 }

@@ -1,24 +1,21 @@
 //! The answer to a problem by owners at work in threads.
 
 ghost use Rattle.std.specs.Prelude.{◌≡◌, ◌≤◌, ◌↔◌, ℕ, IfErr, IfOk, length};
-ghost use Rattle.nll_problem.specs.Faults.{AreFaults};
-ghost use Rattle.nll_problem.specs.Problem.{IsSound};
 ghost use Rattle.nll_problem.specs.Solution.{Least};
 ghost use Rattle.nll_core.specs.Values.{IsHeld, IsShaped};
-ghost use Rattle.nll_answer.specs.Answer.{IsCheckReport, IsProblemAnswer};
-ghost use Rattle.nll_answer.specs.Report.{IsValuesReport};
+ghost use Rattle.nll_answer.specs.Answer.{IsProblemAnswer};
 ghost use Rattle.nll_answer.specs.Running.{IsRunError};
 
-use crate::answers::{Command, told_faults};
+use crate::answers::{Command, found_faults, told_faults};
 use crate::error::AnswerError;
 use crate::values_report::values_text;
-use nll_core::{Memory, Problem, RegionId, Values, faults};
+use nll_core::{Memory, Problem, Values};
 use nll_cut::Cut;
 use nll_facts::Facts;
 use nll_format::Labels;
 use nll_ledger::ThreadLedger;
 use nll_mail::{Growth, ThreadMail};
-use nll_run::{Outcome, RunError, ThreadGate, run};
+use nll_run::{Outcome, ThreadGate, run};
 use std::alloc::Global;
 use std::sync::Wait;
 use std::thread::Threads;
@@ -46,27 +43,7 @@ pub fn answer_run<M: ThreadMail<Growth>, L: ThreadLedger, G: ThreadGate, R: Thre
     ensures status { IfOk result (λ r. r.1 ≤ 1) }
     ensures err { IfErr result IsRunError }
 {
-    match run_values::<M, L, G, R>(rt, alloc, &facts.problem, cut, mail, ledger, gate) {
-        Ok(values) => Ok(told(alloc, command, &facts.problem, &facts.labels, values)?),
-        Err(error) => Err(AnswerError::from(error)),
-    }
-}
-
-// The values that the owners find.
-fn run_values<M: ThreadMail<Growth>, L: ThreadLedger, G: ThreadGate, R: Threads + Wait + Sync>(
-    rt: &R,
-    alloc: Global,
-    problem: &Problem,
-    cut: &Cut,
-    mail: &M,
-    ledger: &L,
-    gate: &G,
-) -> Result<Values, RunError>
-    requires { length cut.now.list ≡ problem.now.regions }
-    ensures shaped { IfOk result (IsShaped problem.now) }
-    ensures least { IfOk result (λ values. (r e : ℕ) → IsHeld values r e ↔ Least problem.now r e) }
-{
-    match run::<M, L, G, R>(rt, alloc, problem, cut, mail, ledger, gate) {
+    match run::<M, L, G, R>(rt, alloc, &facts.problem, cut, mail, ledger, gate) {
         Ok(outcome) => {
             let Outcome {
                 values,
@@ -75,9 +52,9 @@ fn run_values<M: ThreadMail<Growth>, L: ThreadLedger, G: ThreadGate, R: Threads 
             } = outcome;
             drop(grown);
             drop(posts);
-            Ok(values)
+            Ok(told(alloc, command, &facts.problem, &facts.labels, values)?)
         }
-        Err(error) => Err(error),
+        Err(error) => Err(AnswerError::from(error)),
     }
 }
 
@@ -97,64 +74,14 @@ fn told(
     ensures status { IfOk result (λ r. r.1 ≤ 1) }
 {
     match command {
-        Command::Values => told_values(alloc, problem, labels, values),
-        Command::Check => told_check(alloc, problem, labels, values),
+        Command::Values => {
+            let report = values_text(alloc, problem, labels, &values);
+            drop(values);
+            Ok((report?, 0))
+        }
+        Command::Check => {
+            let found = found_faults(alloc, problem, values)?;
+            told_faults(alloc, labels, found)
+        }
     }
-}
-
-// The report of the least values, and the status.
-fn told_values(
-    alloc: Global,
-    problem: &Problem,
-    labels: &Labels,
-    values: Values,
-) -> Result<(Vec<u8>, u8), Memory>
-    requires shaped { IsShaped problem.now values }
-    requires least { (r e : ℕ) → IsHeld values r e ↔ Least problem.now r e }
-    requires named { length labels.now.names ≡ problem.now.regions }
-    ensures ok { IfOk result (λ r.
-        IsValuesReport problem.now labels.now (Least problem.now) r.0.items × (r.1 ≡ 0)) }
-    ensures status { IfOk result (λ r. r.1 ≤ 1) }
-{
-    let report = values_text(alloc, problem, labels, &values);
-    drop(values);
-    let report = report?;
-    Ok((report, 0))
-}
-
-// The report of the faults of the least values, and the status.
-fn told_check(
-    alloc: Global,
-    problem: &Problem,
-    labels: &Labels,
-    values: Values,
-) -> Result<(Vec<u8>, u8), Memory>
-    requires shaped { IsShaped problem.now values }
-    requires least { (r e : ℕ) → IsHeld values r e ↔ Least problem.now r e }
-    requires named { length labels.now.names ≡ problem.now.regions }
-    ensures ok { IfOk result (λ r. IsCheckReport problem.now labels.now r.0.items r.1) }
-    ensures status { IfOk result (λ r. r.1 ≤ 1) }
-{
-    let found = found_faults(alloc, problem, values)?;
-    told_faults(alloc, labels, found)
-}
-
-// The faults of the least values.
-fn found_faults(
-    alloc: Global,
-    problem: &Problem,
-    values: Values,
-) -> Result<Vec<(RegionId, RegionId)>, Memory>
-    requires shaped { IsShaped problem.now values }
-    requires least { (r e : ℕ) → IsHeld values r e ↔ Least problem.now r e }
-    ensures exact { IfOk result (λ found.
-        AreFaults problem.now (Least problem.now) found.items) }
-    ensures sound { IsSound problem.now }
-{
-    // Clause call: the problem is sound.
-    let _ = problem.universals();
-    let found = faults(alloc, problem, &values);
-    // Early drop.
-    drop(values);
-    found
 }

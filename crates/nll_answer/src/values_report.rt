@@ -4,10 +4,10 @@ ghost use Rattle.std.specs.Prelude.{◌≡◌, ℕ, ◌<◌, ◌≤◌, ◌++◌
 ghost use Rattle.std.specs.Fmt.{decimal};
 ghost use Rattle.std.specs.List.{flat_map};
 ghost use Rattle.nll_sets.specs.ElementSet.{elements};
-ghost use Rattle.nll_sets.specs.Runs.{first_of, last_of, numbers, numbers_of};
+ghost use Rattle.nll_sets.specs.Runs.{first_of, last_of, numbers_in, numbers_of};
 ghost use Rattle.nll_core.specs.Values.{IsHeld, IsShaped, set_of};
 ghost use Rattle.nll_answer.specs.Report.{IsValuesReport, element_text, point_text, value_line};
-ghost use Rattle.nll_answer.specs.Report.{end_text, value_lines};
+ghost use Rattle.nll_answer.specs.Report.{value_lines};
 
 use itoa::write_digits;
 use nll_core::{Element, Memory, Problem, RegionId, Run, Values};
@@ -83,7 +83,7 @@ fn push_runs(out: &mut Vec<u8>, labels: &Labels, points: u32, runs: &[Run]) -> R
         × (last_of runs.now k < points + length labels.now.names) }
     requires room { (k : ℕ) → k < length runs.now → last_of runs.now k + 1 < 4294967296 }
     ensures { OnOk result (out.new.items ≡ out.old.items
-        ++ flat_map (λ e. 32 ∷ element_text labels.now points e) (numbers runs.now)) }
+        ++ flat_map (λ e. 32 ∷ element_text labels.now points e) (numbers_in runs.now)) }
 {
     for run in runs {
         push_run(out, labels, points, *run)?;
@@ -119,19 +119,11 @@ fn push_element(
     if element.0 < points {
         push_point(out, labels.point(element.0))
     } else {
-        push_end(out, labels, RegionId(element.0 - points))
+        out.extend_from_slice(b" end('")?;
+        out.extend_from_slice(labels.region(RegionId(element.0 - points)).as_bytes())?;
+        out.extend_from_slice(b")")?;
+        Ok(())
     }
-}
-
-// Appends a space and the end of a universal region.
-fn push_end(out: &mut Vec<u8>, labels: &Labels, region: RegionId) -> Result<(), Memory>
-    requires { region < length labels.now.names }
-    ensures { OnOk result (out.new.items ≡ out.old.items ++ 32 ∷ end_text labels.now region) }
-{
-    out.extend_from_slice(b" end('")?;
-    out.extend_from_slice(labels.region(region).as_bytes())?;
-    out.extend_from_slice(b")")?;
-    Ok(())
 }
 
 // Appends a space and a point.

@@ -12,7 +12,7 @@ use Rattle.nll_types.specs.declared.place.Projection.{Projection}
 use Rattle.nll_types.specs.declared.typed.Typed.{Typed}
 use Rattle.nll_body.specs.Statements.{Statement, make, nop, switch}
 use Rattle.nll_body.specs.Flat.{StatementLists, argument_in, call_in, first_part, listed, make_in, operand_in, statement_in, statements_in, switch_in}
-use Rattle.nll_body.specs.Within.{AddsArguments, AddsPlaces, AreFlatOperands, AreWithin, GoesOn, Grows, IsCallIn, IsFlatStatement, IsFlatOperand, IsListed, IsMakeIn, IsNumberOf, IsOperandIn, IsStatementIn, IsSwitchIn}
+use Rattle.nll_body.specs.Within.{AddsArguments, AddsPlaces, AreFlatOperands, AreWithin, ListsGoOn, ListsGrow, IsCallIn, IsFlatStatement, IsFlatOperand, IsListedSlice, IsMakeIn, IsNumberOf, IsOperandIn, IsStatementIn, IsSwitchIn}
 use Rattle.nll_body.specs.declared.flat.Slice.{Slice}
 use Rattle.nll_body.specs.declared.flat.PartPlace.{PartPlace}
 use Rattle.nll_body.specs.declared.flat.FlatOperand.{FlatOperand}
@@ -29,7 +29,7 @@ module _ {X : Type 0} where
 
   -- a slice at the end of a list
   pub listed_behind : (xs ys : List X) (s : Slice) → s.first ≡ length xs → s.count ≡ length ys
-      → IsListed (xs ++ ys) ys s
+      → IsListedSlice (xs ++ ys) ys s
   listed_behind xs ys s first count = (
     rw (first, count, length-append) (omega arith),
     rw (first, count) (ap (take (length ys)) (drop_at xs ys (length xs) refl) ∙ take_all (length ys) ys (omega arith)),
@@ -84,53 +84,53 @@ is_part l p more n path last first count variable projections = (
 abbrev pub with_operand : StatementLists → FlatOperand → StatementLists
 with_operand l o = record l { operands = l.operands ++ o ∷ [] }
 
-pub on_operand : (l : StatementLists) (o : FlatOperand) → GoesOn l (with_operand l o)
+pub on_operand : (l : StatementLists) (o : FlatOperand) → ListsGoOn l (with_operand l o)
 on_operand l o = search (rules, prefix_same, prefix_more)
 
 abbrev pub with_argument : StatementLists → FlatOperand × Typed → StatementLists
 with_argument l a = record l { arguments = l.arguments ++ a ∷ [] }
 
-pub on_argument : (l : StatementLists) (a : FlatOperand × Typed) → GoesOn l (with_argument l a)
+pub on_argument : (l : StatementLists) (a : FlatOperand × Typed) → ListsGoOn l (with_argument l a)
 on_argument l a = search (rules, prefix_same, prefix_more)
 
 abbrev pub with_make : StatementLists → FlatMake → StatementLists
 with_make l m = record l { makes = l.makes ++ m ∷ [] }
 
-pub on_make : (l : StatementLists) (m : FlatMake) → GoesOn l (with_make l m)
+pub on_make : (l : StatementLists) (m : FlatMake) → ListsGoOn l (with_make l m)
 on_make l m = search (rules, prefix_same, prefix_more)
 
 abbrev pub with_call : StatementLists → FlatCall → StatementLists
 with_call l c = record l { calls = l.calls ++ c ∷ [] }
 
-pub on_call : (l : StatementLists) (c : FlatCall) → GoesOn l (with_call l c)
+pub on_call : (l : StatementLists) (c : FlatCall) → ListsGoOn l (with_call l c)
 on_call l c = search (rules, prefix_same, prefix_more)
 
 abbrev pub with_switch : StatementLists → FlatSwitch → StatementLists
 with_switch l s = record l { switches = l.switches ++ s ∷ [] }
 
-pub on_switch : (l : StatementLists) (s : FlatSwitch) → GoesOn l (with_switch l s)
+pub on_switch : (l : StatementLists) (s : FlatSwitch) → ListsGoOn l (with_switch l s)
 on_switch l s = search (rules, prefix_same, prefix_more)
 
 abbrev pub with_point : StatementLists → Stmt → StatementLists
 with_point l s = record l { points = l.points ++ s ∷ [] }
 
-pub on_point : (l : StatementLists) (s : Stmt) → GoesOn l (with_point l s)
+pub on_point : (l : StatementLists) (s : Stmt) → ListsGoOn l (with_point l s)
 on_point l s = search (rules, prefix_same)
 
-pub grows_operand : (l : StatementLists) (o : FlatOperand) → Grows l (with_operand l o)
+pub grows_operand : (l : StatementLists) (o : FlatOperand) → ListsGrow l (with_operand l o)
 grows_operand l o = record { points = refl; lists = on_operand l o }
 
-pub grows_argument : (l m : StatementLists) (a : FlatOperand × Typed) → AddsPlaces l m → Grows l (with_argument m a)
+pub grows_argument : (l m : StatementLists) (a : FlatOperand × Typed) → AddsPlaces l m → ListsGrow l (with_argument m a)
 grows_argument l m a places =
     grows_further l m _ (places_grow l m places) (record { points = refl; lists = on_argument m a })
 
-pub grows_call : (l : StatementLists) (c : FlatCall) → Grows l (with_call l c)
+pub grows_call : (l : StatementLists) (c : FlatCall) → ListsGrow l (with_call l c)
 grows_call l c = record { points = refl; lists = on_call l c }
 
-pub grows_pairs : (l : StatementLists) (more : List (ℕ × ℕ)) → Grows l (record l { pairs = l.pairs ++ more })
+pub grows_pairs : (l : StatementLists) (more : List (ℕ × ℕ)) → ListsGrow l (record l { pairs = l.pairs ++ more })
 grows_pairs l more = record { points = refl; lists = search (rules, prefix_same, prefix_more) }
 
-pub grows_blocks : (l : StatementLists) (more : List ℕ) → Grows l (record l { blocks = l.blocks ++ more })
+pub grows_blocks : (l : StatementLists) (more : List ℕ) → ListsGrow l (record l { blocks = l.blocks ++ more })
 grows_blocks l more = record { points = refl; lists = search (rules, prefix_same, prefix_more) }
 
 -- ---- the operands of a tuple or struct, or of a call, with one more
@@ -140,7 +140,7 @@ pub operand_added : (l m : StatementLists) (op : FlatOperand) (o : Operand) (fir
     → map (operand_in (with_operand m op)) (drop first (m.operands ++ op ∷ [])) ≡ ys ++ o ∷ []
 operand_added l m op o first ys w v a is inside are =
     let new = with_operand m op in
-    let on : GoesOn l new = on_further l m new (places_grow l m a).lists (on_operand m op) in
+    let on : ListsGoOn l new = on_further l m new (places_grow l m a).lists (on_operand m op) in
     let same : m.operands ≡ l.operands = ap (λ n. n.operands) a.others in
     ap (λ xs. map (operand_in new) (drop first (xs ++ op ∷ []))) same
     ∙ (items_more (IsOperandIn l) (operand_in l) (operand_in new) (operand_same l new w on) l.operands op first ys
@@ -151,7 +151,7 @@ pub argument_added : (l m : StatementLists) (a : FlatOperand × Typed) (o : Oper
     → AddsPlaces l m → IsFlatOperand m o a.0 → AddsArguments l (with_argument m a) ((o, a.1) ∷ [])
 argument_added l m a o w v adds is =
     let new = with_argument m a in
-    let on : GoesOn l new = on_further l m new (places_grow l m adds).lists (on_argument m a) in
+    let on : ListsGoOn l new = on_further l m new (places_grow l m adds).lists (on_argument m a) in
     let same : m.arguments ≡ l.arguments = ap (λ n. n.arguments) adds.others in
     ap (λ xs. map (argument_in new) (xs ++ a ∷ [])) same
     ∙ (items_more (λ b. IsOperandIn l b.0) (argument_in l) (argument_in new) (argument_same l new w on) l.arguments a
@@ -258,7 +258,7 @@ is_make l m n p os w last place operands =
     rw last (rw length_push (omega arith), listed_last (make_in new) l.makes m ∙ cc)
 
 pub is_switch : (l : StatementLists) (s : FlatSwitch) (n : ℕ) (o : Operand) (bs : List ℕ) → AreWithin l
-    → n ≡ length l.switches → IsFlatOperand l o s.operand → IsListed l.blocks bs s.blocks
+    → n ≡ length l.switches → IsFlatOperand l o s.operand → IsListedSlice l.blocks bs s.blocks
     → IsFlatStatement (with_switch l s) (switch o bs) (flat.Switch n)
 is_switch l s n o bs w last operand blocks =
     let new = with_switch l s in

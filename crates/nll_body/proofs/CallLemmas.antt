@@ -8,7 +8,7 @@ use Rattle.nll_types.specs.Structs.{Struct}
 use Rattle.nll_types.specs.Places.{PlacePath, type_of, small_prefixes}
 use Rattle.nll_types.specs.Operands.{Operand, operand_type, place_in}
 use Rattle.nll_types.specs.Tables.{HaveShapes}
-use Rattle.nll_types.specs.Rows.{numbers_of}
+use Rattle.nll_types.specs.Rows.{shape_numbers}
 use Rattle.nll_types.specs.Shapes.{is_small, shape_of}
 use Rattle.nll_types.specs.Table.{AreBelow, shape_in}
 use Rattle.nll_types.specs.declared.node.Node.{Node}
@@ -19,21 +19,21 @@ use Rattle.nll_body.proofs.JudgedLemmas.{call_order, last_agrees}
 
 -- the types of the operands, and that of the result
 pub call_below : {W : Type 0} (n : ℕ) (xs : List (W × Typed)) (v : Typed)
-    → AreBelow n (numbers_of (map (λ a. a.1) xs ++ v ∷ []))
-    → AreBelow n (numbers_of (map (λ a. a.1) xs)) × (v.shape < n)
+    → AreBelow n (shape_numbers (map (λ a. a.1) xs ++ v ∷ []))
+    → AreBelow n (shape_numbers (map (λ a. a.1) xs)) × (v.shape < n)
 call_below n [] v b = (λ k l. absurd (omega arith), b 0 (omega arith))
 call_below n (x ∷ xs) v b =
     (let rest = call_below n xs v (λ k l. b (suc k) (omega arith)) in
     (below_first (b 0 (omega arith)) rest.0, rest.1))
   where
-    below_first : x.1.shape < n → AreBelow n (numbers_of (map (λ a. a.1) xs))
-        → AreBelow n (x.1.shape ∷ numbers_of (map (λ a. a.1) xs))
+    below_first : x.1.shape < n → AreBelow n (shape_numbers (map (λ a. a.1) xs))
+        → AreBelow n (x.1.shape ∷ shape_numbers (map (λ a. a.1) xs))
     below_first h rest zero l = h
     below_first h rest (suc k) l = rest k (omega arith)
 
 pub call_shapes : {W : Type 0} (ns : List Node) (h : Typed → TypeTree) (xs : List (W × Typed)) (v : Typed)
-    → HaveShapes ns (numbers_of (map (λ a. a.1) xs ++ v ∷ [])) (map h (map (λ a. a.1) xs ++ v ∷ []))
-    → HaveShapes ns (numbers_of (map (λ a. a.1) xs)) (map (λ a. h a.1) xs) × (shape_in ns v.shape ≡ shape_of (h v))
+    → HaveShapes ns (shape_numbers (map (λ a. a.1) xs ++ v ∷ [])) (map h (map (λ a. a.1) xs ++ v ∷ []))
+    → HaveShapes ns (shape_numbers (map (λ a. a.1) xs)) (map (λ a. h a.1) xs) × (shape_in ns v.shape ≡ shape_of (h v))
 call_shapes ns h [] v e = (refl, cc)
 call_shapes ns h (x ∷ xs) v e =
     let here : shape_in ns x.1.shape ≡ shape_of (h x.1) = cc in

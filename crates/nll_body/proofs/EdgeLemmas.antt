@@ -13,7 +13,7 @@ use Rattle.nll_problem.specs.Limits.{most_edges}
 use Rattle.nll_problem.specs.Graph.{Graph, IsNext}
 use Rattle.nll_problem.specs.GraphBuilding.{same_pair}
 use Rattle.nll_problem.proofs.FactLemmas.{adds_number, number_found, pair_found}
-use Rattle.nll_body.specs.Edges.{LeadsTo}
+use Rattle.nll_body.specs.Edges.{LeadsToBlock}
 use Rattle.nll_body.specs.Making.{AddsTargets}
 
 -- blocks, each once
@@ -148,7 +148,7 @@ item_in xs k within = (k, within, get_or_default xs k (get_or xs k 0) 0 within)
 
 -- a loop over the blocks: the first point of the next one
 pub next_led : (starts blocks : List ℕ) (k : ℕ) → k < length blocks → get_or blocks k 0 < length starts
-    → LeadsTo starts blocks (get_or starts (get_or blocks k 0) 0)
+    → LeadsToBlock starts blocks (get_or starts (get_or blocks k 0) 0)
 next_led starts blocks k within start =
     (get_or blocks k 0, item_in blocks k within, slice_get-get_or starts (get_or blocks k 0) 0 start)
 

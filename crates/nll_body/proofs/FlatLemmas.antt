@@ -12,7 +12,7 @@ use Rattle.nll_types.specs.Places.{PlacePath}
 use Rattle.nll_types.specs.declared.typed.Typed.{Typed}
 use Rattle.nll_body.specs.Statements.{Statement, make, read, nop}
 use Rattle.nll_body.specs.Flat.{StatementLists, argument_in, call_in, first_part, listed, make_in, operand_in, part_in, path_in, sliced, statement_in, statements_in, switch_in, whole}
-use Rattle.nll_body.specs.Within.{AddsPlaces, AreFlatOperands, AreWithin, GoesOn, Grows, IsCallIn, IsFlatOperand, IsListed, IsNumberOf, IsMakeIn, IsOperandIn, IsPlaceIn, IsSlice, IsStatementIn, IsSwitchIn}
+use Rattle.nll_body.specs.Within.{AddsPlaces, AreFlatOperands, AreWithin, ListsGoOn, ListsGrow, IsCallIn, IsFlatOperand, IsListedSlice, IsNumberOf, IsMakeIn, IsOperandIn, IsPlaceIn, IsSlice, IsStatementIn, IsSwitchIn}
 use Rattle.nll_body.specs.declared.flat.Slice.{Slice}
 use Rattle.nll_body.specs.declared.flat.PartPlace.{PartPlace}
 use Rattle.nll_body.specs.declared.flat.FlatOperand.{FlatOperand}
@@ -37,7 +37,7 @@ module _ {X : Type 0} where
       ∙ (ap (take s.count) (drop-append-le s.first xs p.0 (omega arith))
       ∙ take-append-le s.count (drop s.first xs) p.0 (rw length-drop (omega arith)))
 
-  pub listed_kept : (xs ys zs : List X) (s : Slice) → IsPrefix xs ys → IsListed xs zs s → IsListed ys zs s
+  pub listed_kept : (xs ys zs : List X) (s : Slice) → IsPrefix xs ys → IsListedSlice xs zs s → IsListedSlice ys zs s
   listed_kept xs ys zs s p is = (slice_kept xs ys s p is.0, slice_same xs ys s p is.0 ∙ is.1)
 
   item_before : (xs rest : List X) (n : ℕ) → n < length xs → slice_get (xs ++ rest) n ≡ slice_get xs n
@@ -71,7 +71,7 @@ module _ {X : Type 0} where
       go (Some x) is = same x (item_of P xs n x all is)
 
 -- ---- what goes on from step to step
-pub on_further : (l m n : StatementLists) → GoesOn l m → GoesOn m n → GoesOn l n
+pub on_further : (l m n : StatementLists) → ListsGoOn l m → ListsGoOn m n → ListsGoOn l n
 on_further l m n g h = record {
   parts = prefix_further _ _ _ g.parts h.parts;
   projections = prefix_further _ _ _ g.projections h.projections;
@@ -84,14 +84,14 @@ on_further l m n g h = record {
   switches = prefix_further _ _ _ g.switches h.switches;
 }
 
-pub grows_further : (l m n : StatementLists) → Grows l m → Grows m n → Grows l n
+pub grows_further : (l m n : StatementLists) → ListsGrow l m → ListsGrow m n → ListsGrow l n
 grows_further l m n g h = record {
   points = h.points ∙ g.points;
   lists = on_further l m n g.lists h.lists;
 }
 
 -- places that are added
-pub places_grow : (l m : StatementLists) → AddsPlaces l m → Grows l m
+pub places_grow : (l m : StatementLists) → AddsPlaces l m → ListsGrow l m
 places_grow l m a = rw a.others record {
   points = refl;
   lists = record {
@@ -108,7 +108,7 @@ places_grow l m a = rw a.others record {
 }
 
 -- ---- what is within the lists stays as it is
-module _ (old new : StatementLists) (w : AreWithin old) (g : GoesOn old new) where
+module _ (old new : StatementLists) (w : AreWithin old) (g : ListsGoOn old new) where
   place_kept : (n : ℕ) → IsPlaceIn old n → IsPlaceIn new n
   place_kept n within = let l = longer _ _ g.parts in omega arith
 

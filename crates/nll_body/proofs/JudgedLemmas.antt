@@ -5,7 +5,7 @@ use Rattle.std.proofs.lemmas.List.Folds.{list_all-append}
 use Rattle.nll_types.specs.Types.{TypeTree}
 use Rattle.nll_types.specs.Structs.{Struct}
 use Rattle.nll_types.specs.Places.{small_behind, small_prefixes}
-use Rattle.nll_types.specs.Rows.{numbers_of}
+use Rattle.nll_types.specs.Rows.{shape_numbers}
 use Rattle.nll_types.specs.Shapes.{is_small_shape}
 use Rattle.nll_types.specs.Table.{shape_in}
 use Rattle.nll_types.specs.Tables.{HaveShapes}
@@ -40,7 +40,7 @@ both_judged f s g t one other j a b e d = record {
 
 -- the type of the return place
 pub return_small : (structs : List Struct) (ns : List Node) (vs : List Typed) (ts : List TypeTree)
-    → HaveShapes ns (numbers_of vs) ts → 0 < length vs
+    → HaveShapes ns (shape_numbers vs) ts → 0 < length vs
     → is_small_shape (shape_in ns (get_or vs 0 no_variable).shape)
     ≡ small_prefixes structs ts (record { variable = 0; projections = [] })
 return_small structs ns vs ts h l =

@@ -15,8 +15,8 @@ use Rattle.nll_body.specs.Statements.{Statement}
 use Rattle.nll_body.specs.declared.flat.Stmt.{Stmt}
 use Rattle.nll_body.specs.Bodies.{BodyText, HasType, StandsAt}
 use Rattle.nll_body.specs.Kept.{kept_body}
-use Rattle.nll_body.specs.Sound.{IsSound}
-use Rattle.nll_body.specs.Typed.{meant, trees_at}
+use Rattle.nll_body.specs.Sound.{IsSoundBody}
+use Rattle.nll_body.specs.Typed.{meant_statement, trees_at}
 use Rattle.nll_body.proofs.MeantLemmas.{mapped_at}
 
 module _ (outlives asserts : List (ℕ × ℕ)) (types : BodyTypes) (variables : List Typed)
@@ -31,7 +31,7 @@ module _ (outlives asserts : List (ℕ × ℕ)) (types : BodyTypes) (variables :
     structs = structs_of types.table.structs;
     variables = trees_at types variables;
     starts = starts;
-    points = map (meant types) (statements_in points);
+    points = map (meant_statement types) (statements_in points);
   }
 
   module _ (labels : Labels) (graph : Graph) (body : BodyText)
@@ -51,16 +51,16 @@ module _ (outlives asserts : List (ℕ × ℕ)) (types : BodyTypes) (variables :
 
     -- and a statement is that of its point
     pub stands : (p : ℕ) (s : Stmt) → slice_get points.points p ≡ Some s
-        → StandsAt body p (meant types (statement_in points s))
+        → StandsAt body p (meant_statement types (statement_in points s))
     stands p s at =
-        subst (λ b. StandsAt b p (meant types (statement_in points s))) is
-        (mapped_at (meant types) (statements_in points) p (statement_in points s)
+        subst (λ b. StandsAt b p (meant_statement types (statement_in points s))) is
+        (mapped_at (meant_statement types) (statements_in points) p (statement_in points s)
         (mapped_at (statement_in points) points.points p s at))
 
     pub meant_there : (p : ℕ) (s : Stmt) → slice_get points.points p ≡ Some s
-        → (i : Statement ℕ TypeTree) → StandsAt body p i → meant types (statement_in points s) ≡ i
+        → (i : Statement ℕ TypeTree) → StandsAt body p i → meant_statement types (statement_in points s) ≡ i
     meant_there p s at i there =
-        same_Some (meant types (statement_in points s)) i (sym (stands p s at) ∙ there)
+        same_Some (meant_statement types (statement_in points s)) i (sym (stands p s at) ∙ there)
 
 -- ---- types of variables
 
@@ -69,7 +69,7 @@ pub one_type : (body : BodyText) (x : ℕ) (t u : TypeTree) → HasType body x t
 one_type body x t u h k = same_Some t u (sym h ∙ k)
 
 -- it keeps to what is declared
-pub good_type : (body : BodyText) → IsSound body → (x : ℕ) (t : TypeTree) → HasType body x t
+pub good_type : (body : BodyText) → IsSoundBody body → (x : ℕ) (t : TypeTree) → HasType body x t
     → IsWellFormed body.structs (length body.names) 0 t
 good_type body sound x t h =
     subst (IsWellFormed body.structs (length body.names) 0) (get_or_from_slice_get body.variables x t t h)

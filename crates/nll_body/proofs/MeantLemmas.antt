@@ -7,8 +7,8 @@ use Rattle.std.proofs.lemmas.Option.{none-some, same_Some, slice_get-map}
 use Rattle.nll_problem.specs.Graph.{Graph}
 use Rattle.nll_body.specs.Statements.{Statement, map_statement, return}
 use Rattle.nll_body.proofs.MapLemmas.{same_terminator, same_targets, same_edges, same_return}
-use Rattle.nll_body.specs.Edges.{LeadsTo, LeavesTo, edges_from, edge_count}
-use Rattle.nll_body.specs.Making.{AreBlocks, AreEnds, HasPoints}
+use Rattle.nll_body.specs.Edges.{LeadsToBlock, LeavesTo, edges_from, edge_count}
+use Rattle.nll_body.specs.Making.{AreBlocks, AreEdgeEnds, HasPoints}
 
 -- what stands at a place of a mapped list comes from there
 mapped_from : {X Y : Type 0} (f : X → Y) (xs : List X) (p : ℕ) (y : Y) → slice_get (map f xs) p ≡ Some y
@@ -28,13 +28,13 @@ module _ {R S T U : Type 0} (f : R → S) (g : T → U) where
       → LeavesTo starts p (map_statement f g i) q
   leaves_on starts p i q = ⊎_elim
       (λ behind. inl (same_terminator f g i ∙ behind.0, behind.1))
-      (λ led. inr (subst (λ bs. LeadsTo starts bs q) (sym (same_targets f g i)) led))
+      (λ led. inr (subst (λ bs. LeadsToBlock starts bs q) (sym (same_targets f g i)) led))
 
   leaves_back : (starts : List ℕ) (p : ℕ) (i : Statement R T) (q : ℕ) → LeavesTo starts p (map_statement f g i) q
       → LeavesTo starts p i q
   leaves_back starts p i q = ⊎_elim
       (λ behind. inl (sym (same_terminator f g i) ∙ behind.0, behind.1))
-      (λ led. inr (subst (λ bs. LeadsTo starts bs q) (same_targets f g i) led))
+      (λ led. inr (subst (λ bs. LeadsToBlock starts bs q) (same_targets f g i) led))
 
   counted_same : (stand : List (Statement R T)) → edge_count (map (map_statement f g) stand) ≡ edge_count stand
   counted_same [] = refl
@@ -53,7 +53,7 @@ module _ {R S T U : Type 0} (f : R → S) (g : T → U) where
         h p b (map_statement f g i) (mapped_at (map_statement f g) stand p i at)
         (subst (λ bs. Contains bs b) (sym (same_targets f g i)) c)
 
-    pub are_ends : (starts : List ℕ) → AreEnds starts (map (map_statement f g) stand) → AreEnds starts stand
+    pub are_ends : (starts : List ℕ) → AreEdgeEnds starts (map (map_statement f g) stand) → AreEdgeEnds starts stand
     are_ends starts h p q i at leaves =
         subst (λ n. q < n) (length-map stand (map_statement f g))
         (h p q (map_statement f g i) (mapped_at (map_statement f g) stand p i at) (leaves_on starts p i q leaves))

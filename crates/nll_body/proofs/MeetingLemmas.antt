@@ -10,7 +10,7 @@ use Rattle.nll_types.specs.Places.{PlacePath, type_of, behind_all, small_behind,
 use Rattle.nll_types.specs.Shapes.{Shape, shape_of, same_shape, is_small, is_small_shape, reference_shape}
 use Rattle.nll_types.specs.Table.{Extends, shape_in}
 use Rattle.nll_body.specs.Judging.{agree, IsJudged}
-use Rattle.nll_body.specs.Found.{IsFound}
+use Rattle.nll_body.specs.Found.{IsShapeFound}
 use Rattle.nll_types.specs.declared.node.Node.{Node}
 use Rattle.nll_body.specs.declared.judgement.Judgement.{Judgement}
 use Rattle.nll_body.specs.declared.found.TypedShape.{TypedShape}
@@ -20,7 +20,7 @@ use Rattle.nll_types.proofs.SameShapeLemmas.{same_shape_decides}
 -- ---- what is found
 
 pub found_later : (old new : List Node) (o : Option TypedShape) (t : Option TypeTree) (small : Bool)
-    → Extends old new → IfSome o (λ f. f.shape < length old) → IsFound old o t small → IsFound new o t small
+    → Extends old new → IfSome o (λ f. f.shape < length old) → IsShapeFound old o t small → IsShapeFound new o t small
 found_later old new None t small e b h = record { shape = h.shape; small = h.small }
 found_later old new (Some f) t small e b h = record { shape = ap Some (e.kept f.shape b) ∙ h.shape; small = h.small }
 
@@ -28,7 +28,7 @@ pub place_is : (structs : List Struct) (ns : List Node) (ts : List TypeTree) (p 
     (o : Option TypedShape) → slice_get ts p.variable ≡ Some t
     → option_map (λ (f : TypedShape). shape_in ns f.shape) o ≡ option_map shape_of (behind_all structs p.projections t)
     → IfSome o (λ f. f.small ≡ small_behind structs p.projections t)
-    → IsFound ns o (type_of structs ts p) (small_prefixes structs ts p)
+    → IsShapeFound ns o (type_of structs ts p) (small_prefixes structs ts p)
 place_is structs ns ts p t o e same small = record {
   shape = same ∙ ap (λ (o : Option TypeTree).
       option_map shape_of (option_and_then (behind_all structs p.projections) o)) (sym e);
@@ -36,15 +36,15 @@ place_is structs ns ts p t o e same small = record {
       IfSome o (λ f. f.small ≡ unwrap_or (option_map (small_behind structs p.projections) z) true)) (sym e) small;
 }
 
-pub no_reference : (ns : List Node) (t : Option TypeTree) (small m : Bool) (r : ℕ) → IsFound ns None t small
-    → IsFound ns None (reference_to r m t) small
+pub no_reference : (ns : List Node) (t : Option TypeTree) (small m : Bool) (r : ℕ) → IsShapeFound ns None t small
+    → IsShapeFound ns None (reference_to r m t) small
 no_reference ns None small m r h = record { shape = refl; small = tt }
 no_reference ns (Some t) small m r h = absurd (let z = h.shape in cc)
 
 pub small_agrees : (t : TypeTree) (s : Shape) → s ≡ shape_of t → is_small_shape s ≡ is_small t
 small_agrees t s e = ap is_small_shape e ∙ sym (ap (λ (n : ℕ). nat_le n most_nodes) (same_nodes t))
 
-pub is_none : (ns : List Node) (t : Option TypeTree) (small : Bool) → IsFound ns None t small → is_some t ≡ false
+pub is_none : (ns : List Node) (t : Option TypeTree) (small : Bool) → IsShapeFound ns None t small → is_some t ≡ false
 is_none ns None small h = refl
 is_none ns (Some t) small h = absurd (let z = h.shape in cc)
 
@@ -70,7 +70,7 @@ shapes_agree t u s r same a b w =
     (λ h. w.1 (a ∙ (same_shape_decides t u).0 h ∙ sym b))
 
 pub agree_found : (ns : List Node) (a b : TypedShape) (t u : Option TypeTree) (p q same : Bool)
-    → IsFound ns (Some a) t p → IsFound ns (Some b) u q
+    → IsShapeFound ns (Some a) t p → IsShapeFound ns (Some b) u q
     → IsTrue same ↔ (shape_in ns a.shape ≡ shape_in ns b.shape) → (j : Judgement) → j.fits ≡ same
     → j.small ≡ (same && (a.small && b.small)) → IsJudged (agree t u) (p && q) j
 agree_found ns a b None u p q same x y w j e d = absurd (let z = x.shape in cc)
@@ -85,18 +85,18 @@ agree_found ns a b (Some t) (Some u) p q same x y w j e d =
           ∙ rw (x.small, y.small) refl;
     }
 
-pub unfit_left : (ns : List Node) (t u : Option TypeTree) (p : Bool) → IsFound ns None t p → agree t u ≡ false
+pub unfit_left : (ns : List Node) (t u : Option TypeTree) (p : Bool) → IsShapeFound ns None t p → agree t u ≡ false
 unfit_left ns None u p x = refl
 unfit_left ns (Some t) u p x = absurd (let z = x.shape in cc)
 
-pub unfit_right : (ns : List Node) (t u : Option TypeTree) (q : Bool) → IsFound ns None u q → agree t u ≡ false
+pub unfit_right : (ns : List Node) (t u : Option TypeTree) (q : Bool) → IsShapeFound ns None u q → agree t u ≡ false
 unfit_right ns None u q y = refl
 unfit_right ns (Some t) None q y = refl
 unfit_right ns (Some t) (Some u) q y = absurd (let z = y.shape in cc)
 
 -- a type against a reference to another
 pub reference_found : (ns : List Node) (a b : TypedShape) (t u : Option TypeTree) (r : ℕ) (m p q fits : Bool)
-    → IsFound ns (Some a) t p → IsFound ns (Some b) u q
+    → IsShapeFound ns (Some a) t p → IsShapeFound ns (Some b) u q
     → IsTrue fits ↔ (reference_shape m (shape_in ns a.shape) ≡ shape_in ns b.shape) → (j : Judgement)
     → j.fits ≡ fits → j.small ≡ (fits && (a.small && b.small))
     → IsJudged (agree (reference_to r m t) u) (p && q) j

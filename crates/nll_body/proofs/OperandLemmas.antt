@@ -12,7 +12,7 @@ use Rattle.nll_types.specs.Places.{PlacePath, behind, part_count, small_prefixes
 use Rattle.nll_types.specs.Tables.{HaveShapes}
 use Rattle.nll_body.specs.Judging.{IsJudged, have_variables}
 use Rattle.nll_types.specs.Operands.{Operand, operand_type, place_in}
-use Rattle.nll_types.specs.Rows.{numbers_of}
+use Rattle.nll_types.specs.Rows.{shape_numbers}
 use Rattle.nll_types.specs.Shapes.{is_small, shape_of, behind_shape}
 use Rattle.nll_types.specs.Table.{AreBelow, shape_in}
 use Rattle.nll_body.specs.declared.judgement.Judgement.{Judgement}
@@ -265,7 +265,7 @@ module _ {X : Type 0} (structs : List Struct) (types : List TypeTree) (op : X �
 
 -- the type that is written beside an operand
 pub argument_below : {W : Type 0} (n : ℕ) (xs : List (W × Typed)) (k : ℕ) (x : W × Typed) → k < length xs
-    → x ≡ get_or xs k x → AreBelow n (numbers_of (map (λ a. a.1) xs)) → x.1.shape < n
+    → x ≡ get_or xs k x → AreBelow n (shape_numbers (map (λ a. a.1) xs)) → x.1.shape < n
 argument_below n [] k x l is b = absurd (omega arith)
 argument_below n (y ∷ xs) zero x l is b = rw is (b 0 (omega arith))
 argument_below n (y ∷ xs) (suc k) x l is b =
@@ -273,11 +273,11 @@ argument_below n (y ∷ xs) (suc k) x l is b =
 
 pub argument_shape : {W : Type 0} (ns : List Node) (h : Typed → TypeTree) (xs : List (W × Typed)) (k : ℕ)
     (x : W × Typed) → k < length xs → x ≡ get_or xs k x
-    → HaveShapes ns (numbers_of (map (λ a. a.1) xs)) (map (λ a. h a.1) xs) → shape_in ns x.1.shape ≡ shape_of (h x.1)
+    → HaveShapes ns (shape_numbers (map (λ a. a.1) xs)) (map (λ a. h a.1) xs) → shape_in ns x.1.shape ≡ shape_of (h x.1)
 argument_shape ns h [] k x l is e = absurd (omega arith)
 argument_shape ns h (y ∷ xs) zero x l is e = rw is (let z : shape_in ns y.1.shape ≡ shape_of (h y.1) = cc in z)
 argument_shape ns h (y ∷ xs) (suc k) x l is e =
-    let rest : HaveShapes ns (numbers_of (map (λ a. a.1) xs)) (map (λ a. h a.1) xs) = cc in
+    let rest : HaveShapes ns (shape_numbers (map (λ a. a.1) xs)) (map (λ a. h a.1) xs) = cc in
     argument_shape ns h xs k x (omega arith) is rest
 
 module _ {X : Type 0} (structs : List Struct) (types : List TypeTree) (op : X → Operand) (h : X → TypeTree) where

@@ -5,7 +5,7 @@ use Rattle.nll_problem.specs.Answers.{AddsFact}
 use Rattle.nll_problem.specs.Graph.{Graph}
 use Rattle.nll_body.specs.Statements.{Statement, is_terminator, return, assign, borrow, make, read, live, dead, nop, goto, switch, drop, call, stop}
 use Rattle.nll_body.specs.Effects.{targets}
-use Rattle.nll_body.specs.Edges.{LeadsTo}
+use Rattle.nll_body.specs.Edges.{LeadsToBlock}
 use Rattle.nll_body.specs.Making.{AddsTargets, AddsEdges, AddsPoint}
 use Rattle.nll_body.proofs.EdgeLemmas.{one_more, pair, pair_left, pair_right}
 
@@ -25,7 +25,7 @@ no_targets (call p args t wheres b unwind) h = absurd (false≢true (sym h))
 no_targets return h = refl
 no_targets stop h = refl
 
-nowhere : (starts : List ℕ) (q : ℕ) → LeadsTo starts [] q → ⊥
+nowhere : (starts : List ℕ) (q : ℕ) → LeadsToBlock starts [] q → ⊥
 nowhere starts q led = none_there led.1
   where
     none_there : Contains [] led.0 → ⊥
@@ -42,7 +42,7 @@ statement_edge starts p i old new plain adds same = record {
         ((adds.each (r, q)).0 h),
     λ h. (adds.each (r, q)).1 (⊎_elim inl (λ leaves. inr (⊎_elim
         (λ behind. pair p (p + 1) r q (sym leaves.0) (sym behind.1))
-        (λ led. absurd (nowhere starts q (subst (λ bs. LeadsTo starts bs q) (no_targets i plain) led)))
+        (λ led. absurd (nowhere starts q (subst (λ bs. LeadsToBlock starts bs q) (no_targets i plain) led)))
         leaves.1)) h),
   );
   counted = rw plain (one_more old.edges new.edges (p, p + 1) adds);

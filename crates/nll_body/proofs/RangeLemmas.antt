@@ -6,7 +6,7 @@ use Rattle.std.proofs.lemmas.List.Elements.{All-contains, All-nil, All-cons}
 use Rattle.nll_types.specs.Types.{TypeTree, TypeTrees, int, parameter, reference, tuple, named, function, none, more, HasRegion, AnyHasRegion}
 use Rattle.nll_types.specs.Structs.{Struct, IsWellFormed, AreWellFormed, AreInOrder}
 use Rattle.nll_types.specs.Places.{behind, behind_all}
-use Rattle.nll_types.specs.DropRegions.{Drops, LeadsTo, IsDropRegion}
+use Rattle.nll_types.specs.DropRegions.{Drops, LeadsToType, IsDropRegion}
 use Rattle.nll_types.specs.declared.place.Projection.TheVariants.{Field}
 use Rattle.nll_types.proofs.WellFormedLemmas.{well_formed_at, place_good}
 
@@ -46,7 +46,7 @@ module _ (structs : List Struct) (order : AreInOrder structs) (n : ℕ) (some : 
   drops_good (named s rs ts) u w h = part_good (named s rs ts) u h.0 w h.1
 
   leads_good : (t : TypeTree) (way : List TypeTree) (u : TypeTree) → IsWellFormed structs n 0 t
-      → LeadsTo structs t way u → IsWellFormed structs n 0 u
+      → LeadsToType structs t way u → IsWellFormed structs n 0 u
   leads_good t [] u w h = subst (IsWellFormed structs n 0) h w
   leads_good t (next ∷ way) u w h = leads_good next way u (drops_good t next w h.0) h.1
 

@@ -32,8 +32,8 @@ StandsAt body p i = slice_get body.points p ≡ Some i
 
 -- q is a successor of p: the next point after a statement, or the first point of a block to which a
 -- terminator goes on
-abbrev pub GoesOn : BodyText → ℕ → ℕ → Type 0
-GoesOn body p q =
+abbrev pub IsFollowedBy : BodyText → ℕ → ℕ → Type 0
+IsFollowedBy body p q =
     (i : Statement ℕ TypeTree) × StandsAt body p i
     × (((is_terminator i ≡ false) × (q ≡ p + 1))
     ⊎ ((b : ℕ) × Contains (targets i) b × (slice_get body.starts b ≡ Some q)))
@@ -42,7 +42,7 @@ GoesOn body p q =
 pub record IsGraphOf (body : BodyText) (graph : Graph) : Type 0 where
   pub points : graph.points ≡ length body.points
   pub universals : graph.universals ≡ body.universals
-  pub next : (p q : ℕ) → IsNext graph p q ↔ GoesOn body p q
+  pub next : (p q : ℕ) → IsNext graph p q ↔ IsFollowedBy body p q
   pub returns : (p : ℕ) → IsReturn graph p ↔ StandsAt body p return
 
 -- the body's labels: the names of its regions, and points by their blocks

@@ -8,7 +8,7 @@ use Rattle.nll_types.specs.declared.node.Node.{Node}
 use Rattle.nll_body.specs.declared.found.TypedShape.{TypedShape}
 
 -- What is found is the shape of the type, where there is a type, and whether it is small.
-pub record IsFound (ns : List Node) (found : Option TypedShape) (t : Option TypeTree)
+pub record IsShapeFound (ns : List Node) (found : Option TypedShape) (t : Option TypeTree)
     (is_small : Bool) : Type 0 where
   pub shape : option_map (λ f. shape_in ns f.shape) found ≡ option_map shape_of t
   pub small : IfSome found (λ f. f.small ≡ is_small)

@@ -7,8 +7,8 @@ use Rattle.nll_types.specs.declared.body_types.BodyTypes.{BodyTypes}
 use Rattle.nll_types.specs.declared.typed.Typed.{Typed}
 use Rattle.nll_body.specs.Flat.{StatementLists, statements_in}
 use Rattle.nll_body.specs.Bodies.{BodyText, IsGraphOf, labels_of}
-use Rattle.nll_body.specs.Sound.{IsSound}
-use Rattle.nll_body.specs.Typed.{meant, trees_at}
+use Rattle.nll_body.specs.Sound.{IsSoundBody}
+use Rattle.nll_body.specs.Typed.{meant_statement, trees_at}
 
 -- the first points of the blocks by which points are named
 abbrev pub starts_of : Points → List ℕ
@@ -26,11 +26,11 @@ kept_body labels outlives asserts types variables points graph = record {
   structs = structs_of types.table.structs;
   variables = trees_at types variables;
   starts = starts_of labels.points;
-  points = map (meant types) (statements_in points);
+  points = map (meant_statement types) (statements_in points);
 }
 
 -- The labels and the graph are the body's, and the body is sound.
-pub record IsKept (body : BodyText) (labels : Labels) (graph : Graph) : Type 0 where
+pub record IsBodyKept (body : BodyText) (labels : Labels) (graph : Graph) : Type 0 where
   pub named : labels ≡ labels_of body
   pub shown : IsGraphOf body graph
-  pub sound : IsSound body
+  pub sound : IsSoundBody body

@@ -6,12 +6,13 @@ use Rattle.indexmap.specs.IndexSet.{insert_all}
 use Rattle.nll_problem.specs.Graph.{Graph, IsNext, IsReturn}
 use Rattle.nll_body.specs.Statements.{Statement, return}
 use Rattle.nll_body.specs.Effects.{targets}
-use Rattle.nll_body.specs.Edges.{LeadsTo, LeavesTo, edges_from, edge_count}
+use Rattle.nll_body.specs.Edges.{LeadsToBlock, LeavesTo, edges_from, edge_count}
 
 -- The graph got the edges from p to the first points of these blocks.
 pub record AddsTargets (starts : List ℕ) (p : ℕ) (blocks : List ℕ) (old new : Graph) : Type 0 where
   pub others : new ≡ record old { edges = new.edges }
-  pub next : (r q : ℕ) → IsNext new r q ↔ (IsNext old r q ⊎ ((r ≡ p) × LeadsTo starts blocks q))
+  pub next : (r q : ℕ) → IsNext new r q ↔ (IsNext old r q ⊎ ((r ≡ p)
+      × LeadsToBlock starts blocks q))
   pub counted :
       length new.edges ≤ length old.edges + length (insert_all (λ b c. b == c) [] blocks)
 
@@ -38,8 +39,8 @@ AreBlocks {R} {T} count stand = (p b : ℕ) (i : Statement R T) → slice_get st
     → Contains (targets i) b → b < count
 
 -- each edge leads to one of the points where these are
-abbrev pub AreEnds : {R T : Type 0} → List ℕ → List (Statement R T) → Type 0
-AreEnds {R} {T} starts stand = (p q : ℕ) (i : Statement R T) → slice_get stand p ≡ Some i
+abbrev pub AreEdgeEnds : {R T : Type 0} → List ℕ → List (Statement R T) → Type 0
+AreEdgeEnds {R} {T} starts stand = (p q : ℕ) (i : Statement R T) → slice_get stand p ≡ Some i
     → LeavesTo starts p i q → q < length stand
 
 -- The graph has what the first n points say, where these are, and this many universal regions.

@@ -4,7 +4,7 @@ use Rattle.std.specs.Prelude.{map}
 use Rattle.nll_types.specs.Declarations.{structs_of}
 use Rattle.nll_body.specs.Flat.{statements_in}
 use Rattle.nll_body.specs.Bodies.{BodyText}
-use Rattle.nll_body.specs.Typed.{HaveRows, meant, trees_at}
+use Rattle.nll_body.specs.Typed.{HaveRows, meant_statement, trees_at}
 use Rattle.nll_body.specs.declared.parts.BodyParts.{BodyParts}
 
 -- the body of these parts
@@ -17,7 +17,7 @@ body_of p = record {
   structs = structs_of p.types.table.structs;
   variables = trees_at p.types p.variables.items;
   starts = p.starts.items;
-  points = map (meant p.types) (statements_in p.points);
+  points = map (meant_statement p.types) (statements_in p.points);
 }
 
 -- each type of a variable, and each that is written in a statement, has its row

@@ -9,7 +9,7 @@ use Rattle.nll_types.specs.Structs.{AreInOrder, IsWellFormed}
 use Rattle.nll_body.specs.Statements.{Statement, types_written}
 use Rattle.nll_body.specs.Effects.{targets}
 use Rattle.nll_body.specs.Written.{regions_written}
-use Rattle.nll_body.specs.Bodies.{BodyText, StandsAt, GoesOn}
+use Rattle.nll_body.specs.Bodies.{BodyText, StandsAt, IsFollowedBy}
 use Rattle.nll_body.specs.Edges.{edge_count}
 use Rattle.nll_body.specs.WellTyped.{IsWellTyped}
 
@@ -17,7 +17,7 @@ use Rattle.nll_body.specs.WellTyped.{IsWellTyped}
 -- target is one of the blocks, the outlives pairs are of universal regions, the asserted pairs are
 -- of declared ones, the regions that are written at the points are declared, the types that are
 -- written there and those of the variables keep to what is declared, and the body is well typed.
-pub record IsSound (body : BodyText) : Type 0 where
+pub record IsSoundBody (body : BodyText) : Type 0 where
   pub some_point : 0 < length body.points
   pub point_limit : length body.points ≤ most_points
   pub edge_limit : edge_count body.points ≤ most_edges
@@ -31,7 +31,7 @@ pub record IsSound (body : BodyText) : Type 0 where
   pub known_asserts : (a b : ℕ) → Contains body.asserts (a, b)
       → (a < length body.names) × (b < length body.names)
   pub first_points : AreFirstPoints body.starts
-  pub in_range : (p q : ℕ) → GoesOn body p q → q < length body.points
+  pub in_range : (p q : ℕ) → IsFollowedBy body p q → q < length body.points
   pub blocks : (p b : ℕ) (i : Statement ℕ TypeTree) → StandsAt body p i → Contains (targets i) b
       → b < length body.starts
   pub in_order : AreInOrder body.structs

@@ -14,12 +14,12 @@ use Rattle.nll_body.specs.declared.typed.StatementAt.{StatementAt}
 use Rattle.nll_body.specs.declared.typed.TypedBody.{TypedBody}
 
 -- what a statement means, with these types
-abbrev pub meant : BodyTypes → Statement ℕ Typed → Statement ℕ TypeTree
-meant types i = meant_by types.table.shapes types.regions.items i
+abbrev pub meant_statement : BodyTypes → Statement ℕ Typed → Statement ℕ TypeTree
+meant_statement types i = meant_by types.table.shapes types.regions.items i
 
 -- what a statement means that comes with its lists and its types
 abbrev pub meant_at : StatementAt → Statement ℕ TypeTree
-meant_at l = meant l.types.now (statement_in l.statements.now l.statement.now)
+meant_at l = meant_statement l.types.now (statement_in l.statements.now l.statement.now)
 
 -- what the types mean
 abbrev pub trees_at : BodyTypes → List Typed → List TypeTree
@@ -35,5 +35,5 @@ pub record HaveRows (types : BodyTypes) (vs : List Typed) (is : List (Statement 
 pub record IsTypedBody (body : BodyText) (t : TypedBody) : Type 0 where
   pub structs : structs_of t.types.now.table.structs ≡ body.structs
   pub variables : trees_at t.types.now t.variables.now ≡ body.variables
-  pub points : map (meant t.types.now) (statements_in t.points.now) ≡ body.points
+  pub points : map (meant_statement t.types.now) (statements_in t.points.now) ≡ body.points
   pub rows : HaveRows t.types.now t.variables.now (statements_in t.points.now)

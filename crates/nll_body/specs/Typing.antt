@@ -7,7 +7,7 @@ use Rattle.std.specs.List.{list_all}
 use Rattle.nll_types.specs.Types.{TypeTree, TypeTrees, none, more}
 use Rattle.nll_types.specs.Structs.{Struct}
 use Rattle.nll_types.specs.Places.{type_of, small_prefixes}
-use Rattle.nll_types.specs.Rows.{numbers_of}
+use Rattle.nll_types.specs.Rows.{shape_numbers}
 use Rattle.nll_types.specs.Shapes.{is_small}
 use Rattle.nll_types.specs.Table.{AreBelow}
 use Rattle.nll_types.specs.Tables.{HaveShapes}
@@ -71,13 +71,13 @@ are_declared ps i = list_all (λ x. nat_lt x (length ps.variables.now)) (variabl
 
 -- The shapes of the types that are written in the statement are in the table.
 abbrev pub HasShapes : List Node → Statement ℕ Typed → Type 0
-HasShapes ns i = AreBelow (length ns) (numbers_of (types_written i))
+HasShapes ns i = AreBelow (length ns) (shape_numbers (types_written i))
 
 -- Where the variables and the types that are written in the statement have these shapes, it says
 -- whether the types in it agree and, where they do, whether none is too large.
 abbrev pub IsJudgedIn : List Struct → List Node → Places → Statement ℕ Typed → Judgement → Type 0
 IsJudgedIn structs ns ps i j = (types : List TypeTree) (f : ℕ → ℕ) (g : Typed → TypeTree)
-    → HaveShapes ns (numbers_of ps.variables.now) types
-    → HaveShapes ns (numbers_of (types_written i)) (map g (types_written i))
+    → HaveShapes ns (shape_numbers ps.variables.now) types
+    → HaveShapes ns (shape_numbers (types_written i)) (map g (types_written i))
     → IsJudged (types_agree structs types (map_statement f g i))
     (types_are_small structs types (map_statement f g i)) j

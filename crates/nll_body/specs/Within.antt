@@ -65,7 +65,7 @@ pub record AreWithin (l : StatementLists) : Type 0 where
   pub points : All (IsStatementIn l) l.points
 
 -- Each list but that of the points goes on from what it was.
-pub record GoesOn (old new : StatementLists) : Type 0 where
+pub record ListsGoOn (old new : StatementLists) : Type 0 where
   pub parts : IsPrefix old.parts new.parts
   pub projections : IsPrefix old.projections new.projections
   pub operands : IsPrefix old.operands new.operands
@@ -77,9 +77,9 @@ pub record GoesOn (old new : StatementLists) : Type 0 where
   pub switches : IsPrefix old.switches new.switches
 
 -- The points stay, and each other list goes on from what it was.
-pub record Grows (old new : StatementLists) : Type 0 where
+pub record ListsGrow (old new : StatementLists) : Type 0 where
   pub points : new.points ≡ old.points
-  pub lists : GoesOn old new
+  pub lists : ListsGoOn old new
 
 -- Places are added: the lists of what projections take of variables go on.
 pub record AddsPlaces (old new : StatementLists) : Type 0 where
@@ -96,8 +96,8 @@ abbrev pub IsFlatOperand : StatementLists → Operand → FlatOperand → Type 0
 IsFlatOperand l o op = IsOperandIn l op × (operand_in l op ≡ o)
 
 -- the slice of the list is this
-abbrev pub IsListed : {X : Type 0} → List X → List X → Slice → Type 0
-IsListed xs ys s = IsSlice xs s × (sliced xs s ≡ ys)
+abbrev pub IsListedSlice : {X : Type 0} → List X → List X → Slice → Type 0
+IsListedSlice xs ys s = IsSlice xs s × (sliced xs s ≡ ys)
 
 -- the slice of the operands stands for these
 abbrev pub AreFlatOperands : StatementLists → List Operand → Slice → Type 0

@@ -5,7 +5,8 @@ ghost use Rattle.nll_types.specs.Operands.{operand_of};
 ghost use Rattle.nll_types.specs.Places.{path_of};
 ghost use Rattle.nll_body.specs.Flat.{call_in, statement_in, statements_in};
 ghost use Rattle.nll_body.specs.Within.{AddsArguments, AddsPlaces, AreFlatOperands, AreWithin};
-ghost use Rattle.nll_body.specs.Within.{Grows, IsCallIn, IsFlatOperand, IsFlatStatement, IsListed};
+ghost use Rattle.nll_body.specs.Within.{ListsGrow, IsCallIn, IsFlatOperand, IsFlatStatement};
+ghost use Rattle.nll_body.specs.Within.{IsListedSlice};
 ghost use Rattle.nll_body.specs.Within.{IsNumberOf, IsStatementIn};
 ghost use Rattle.nll_body.specs.Statements.{assign, borrow, make, switch};
 
@@ -77,7 +78,7 @@ impl Statements {
 
     // Adds the operands of which a tuple or struct is made.
     fn add_operands(&mut self, operands: &[Operand]) -> Result<Slice, Memory>
-        ensures grows { Grows self.old self.new }
+        ensures grows { ListsGrow self.old self.new }
         ensures operands { IfOk result (AreFlatOperands self.new (map operand_of operands.now)) }
     {
         let slice = Slice::of(self.operands.len(), operands.len())?;
@@ -100,7 +101,7 @@ impl Statements {
 
     /// Adds an argument of a call: an operand, for a parameter of this type.
     pub fn add_argument(&mut self, operand: &Operand, ty: Typed) -> Result<(), Memory>
-        ensures grows { Grows self.old self.new }
+        ensures grows { ListsGrow self.old self.new }
         ensures added { OnOk result
             (AddsArguments self.old self.new ((operand_of operand.now, ty) ∷ [])) }
     {
@@ -113,7 +114,7 @@ impl Statements {
 
     /// Adds a pair of a call.
     pub fn add_pair(&mut self, pair: (RegionId, RegionId)) -> Result<(), Memory>
-        ensures grows { Grows self.old self.new }
+        ensures grows { ListsGrow self.old self.new }
         ensures added { OnOk result (self.new.pairs ≡ self.old.pairs ++ pair ∷ []) }
     {
         self.pairs.push(pair)?;
@@ -122,8 +123,8 @@ impl Statements {
 
     // Adds the blocks of a switch.
     fn add_blocks(&mut self, blocks: &[u32]) -> Result<Slice, Memory>
-        ensures grows { Grows self.old self.new }
-        ensures blocks { IfOk result (IsListed self.new.blocks blocks.now) }
+        ensures grows { ListsGrow self.old self.new }
+        ensures blocks { IfOk result (IsListedSlice self.new.blocks blocks.now) }
     {
         let slice = Slice::of(self.blocks.len(), blocks.len())?;
         self.blocks.extend_from_slice(blocks)?;
@@ -137,7 +138,7 @@ impl Statements {
         ty: Typed,
         operands: &[Operand],
     ) -> Result<Stmt, Memory>
-        ensures grows { Grows self.old self.new }
+        ensures grows { ListsGrow self.old self.new }
         ensures flat { IfOk result (IsFlatStatement self.new
             (make (path_of place.now) ty (map operand_of operands.now))) }
     {
@@ -155,7 +156,7 @@ impl Statements {
     /// Adds a call whose arguments and pairs are there.
     pub fn add_call(&mut self, call: FlatCall) -> Result<Stmt, Memory>
         requires { IsCallIn self.old call }
-        ensures grows { Grows self.old self.new }
+        ensures grows { ListsGrow self.old self.new }
         ensures flat { IfOk result (IsFlatStatement self.new (call_in self.old call)) }
     {
         let number = next_number(self.calls.len())?;
@@ -165,7 +166,7 @@ impl Statements {
 
     /// Adds a switch.
     pub fn add_switch(&mut self, operand: &Operand, blocks: &[u32]) -> Result<Stmt, Memory>
-        ensures grows { Grows self.old self.new }
+        ensures grows { ListsGrow self.old self.new }
         ensures flat { IfOk result
             (IsFlatStatement self.new (switch (operand_of operand.now) blocks.now)) }
     {
@@ -184,7 +185,7 @@ impl Statements {
         mutable: bool,
         source: &Place,
     ) -> Result<Stmt, Memory>
-        ensures grows { Grows self.old self.new }
+        ensures grows { ListsGrow self.old self.new }
         ensures flat { IfOk result
             (IsFlatStatement self.new
             (borrow (path_of target.now) region mutable (path_of source.now))) }
@@ -196,7 +197,7 @@ impl Statements {
 
     /// Adds an assignment.
     pub fn add_assign(&mut self, target: &Place, operand: &Operand) -> Result<Stmt, Memory>
-        ensures grows { Grows self.old self.new }
+        ensures grows { ListsGrow self.old self.new }
         ensures flat { IfOk result
             (IsFlatStatement self.new (assign (path_of target.now) (operand_of operand.now))) }
     {

@@ -14,7 +14,7 @@ ghost use Rattle.nll_body.specs.Statements.{Statement as standing};
 ghost use Rattle.nll_body.specs.Typed.{IsTypedBody, meant_at};
 ghost use Rattle.nll_body.specs.Bodies.{HasType, IsGraphOf, StandsAt, labels_of};
 ghost use Rattle.nll_body.specs.Parts.{AreTyped, body_of};
-ghost use Rattle.nll_body.specs.Sound.{IsSound};
+ghost use Rattle.nll_body.specs.Sound.{IsSoundBody};
 
 use crate::edges::graph_of;
 use crate::parts::BodyParts;
@@ -58,7 +58,7 @@ impl Model for Body {
     ghost use Rattle.nll_types.specs.TypeCodes.{Step, tree_code, trees_code};
     ghost use Rattle.nll_body.specs.Flat.{statements_in};
     ghost use Rattle.nll_body.specs.Bodies.{BodyText};
-    ghost use Rattle.nll_body.specs.Kept.{kept_body, IsKept};
+    ghost use Rattle.nll_body.specs.Kept.{kept_body, IsBodyKept};
     ghost use Rattle.nll_body.specs.Typed.{HaveRows};
 
     ghost Value = { BodyText };
@@ -70,7 +70,7 @@ impl Model for Body {
         kept_body b.labels b.outlives.items b.asserts.items b.types b.variables.items
         b.points b.graph };
 
-    ghost invariant = { λ b. IsKept
+    ghost invariant = { λ b. IsBodyKept
         (kept_body b.labels b.outlives.items b.asserts.items b.types b.variables.items
         b.points b.graph)
         b.labels b.graph
@@ -79,7 +79,7 @@ impl Model for Body {
 
 // The body of these parts, whose graph this is.
 fn assembled(parts: BodyParts, graph: Graph) -> Body
-    requires sound { IsSound (body_of parts) }
+    requires sound { IsSoundBody (body_of parts) }
     requires typed { AreTyped parts }
     requires graph { IsGraphOf (body_of parts) graph }
     ensures { result ≡ body_of parts }
@@ -101,7 +101,7 @@ impl Body {
     /// # Errors
     /// `Memory` alone.
     pub fn new(alloc: Global, parts: BodyParts) -> Result<Body, BuildError>
-        requires sound { IsSound (body_of parts) }
+        requires sound { IsSoundBody (body_of parts) }
         requires typed { AreTyped parts }
         ensures ok { IfOk result (λ body. body ≡ body_of parts) }
         ensures err { IfErr result (λ e. e ≡ BuildError.Memory) }
@@ -150,7 +150,7 @@ impl Body {
     /// How many points there are; they are numbered from 0.
     pub fn points(&self) -> u32
         ensures value { result ≡ length self.now.points }
-        ensures sound { IsSound self.now }
+        ensures sound { IsSoundBody self.now }
     {
         self.graph.points()
     }
@@ -172,7 +172,7 @@ impl Body {
     /// How many variables there are; they are numbered from 0.
     pub fn variables(&self) -> usize
         ensures value { result ≡ length self.now.variables }
-        ensures sound { IsSound self.now }
+        ensures sound { IsSoundBody self.now }
     {
         self.variables.len()
     }

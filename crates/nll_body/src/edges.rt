@@ -10,9 +10,8 @@ ghost use Rattle.nll_problem.specs.Limits.{most_points, most_edges, most_univers
 ghost use Rattle.nll_body.specs.Effects.{targets};
 ghost use Rattle.nll_body.specs.Flat.{StatementLists, statement_in, statements_in};
 ghost use Rattle.nll_body.specs.Statements.{is_terminator, return};
-ghost use Rattle.nll_body.specs.Edges.{LeadsTo, LeavesTo, edges_from, edge_count};
-ghost use Rattle.nll_body.specs.Making.{AddsTargets, AddsEdges, AddsPoint};
-ghost use Rattle.nll_body.specs.Making.{AreBlocks, AreEnds, HasPoints};
+ghost use Rattle.nll_body.specs.Edges.{LeadsToBlock, LeavesTo, edges_from, edge_count};
+ghost use Rattle.nll_body.specs.Making.{AddsTargets, AddsPoint, AreBlocks, AreEdgeEnds, HasPoints};
 
 use crate::flat::Stmt;
 use crate::statements::Statements;
@@ -40,7 +39,7 @@ fn add_targets(
 ) -> Result<(), BuildError>
     requires point { point < graph.old.points }
     requires blocks { (b : ℕ) → Contains blocks.now b → b < length starts.now }
-    requires starts { (q : ℕ) → LeadsTo starts.now blocks.now q → q < graph.old.points }
+    requires starts { (q : ℕ) → LeadsToBlock starts.now blocks.now q → q < graph.old.points }
     requires room { length graph.old.edges + length (insert_all (λ b c. b == c) [] blocks.now)
         ≤ most_edges }
     ensures ok { OnOk result (AddsTargets starts.now point blocks.now graph.old graph.new) }
@@ -108,7 +107,7 @@ fn add_points(
         ≡ bare_graph (length (statements_in points.now)) graph.old.universals }
     requires few { length (statements_in points.now) ≤ most_points }
     requires blocks { AreBlocks (length starts.now) (statements_in points.now) }
-    requires ends { AreEnds starts.now (statements_in points.now) }
+    requires ends { AreEdgeEnds starts.now (statements_in points.now) }
     requires room { edge_count (statements_in points.now) ≤ most_edges }
     ensures ok { OnOk result (HasPoints starts.now graph.old.universals
         (statements_in points.now) (length (statements_in points.now)) graph.new) }
@@ -137,7 +136,7 @@ pub(crate) fn graph_of(
     requires some_universal { 0 < universals }
     requires few_universals { universals ≤ most_universals }
     requires blocks { AreBlocks (length starts.now) (statements_in points.now) }
-    requires ends { AreEnds starts.now (statements_in points.now) }
+    requires ends { AreEdgeEnds starts.now (statements_in points.now) }
     requires room { edge_count (statements_in points.now) ≤ most_edges }
     ensures ok { IfOk result (λ g. HasPoints starts.now universals
         (statements_in points.now) (length (statements_in points.now)) g) }

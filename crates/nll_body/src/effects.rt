@@ -57,13 +57,6 @@ impl Statements {
         }
     }
 
-    // Whether a place is a part of a variable, or what is behind it.
-    fn is_projected(&self, place: u32) -> bool
-        ensures { result ≡ spec.is_projected (path_in self.now place) }
-    {
-        !self.projections(place).is_empty()
-    }
-
     /// The variable that it defines: it writes the whole variable, or the variable's storage
     /// begins or ends.
     ///
@@ -75,7 +68,7 @@ impl Statements {
         match statement {
             Stmt::Live(variable) | Stmt::Dead(variable) => Some(*variable),
             _ => match self.target(statement) {
-                Some(place) if !self.is_projected(place) => Some(self.variable(place)),
+                Some(place) if self.projections(place).is_empty() => Some(self.variable(place)),
                 _ => None,
             },
         }
@@ -173,7 +166,9 @@ impl Statements {
     {
         self.reads(statement, used)?;
         match self.target(statement) {
-            Some(place) if self.is_projected(place) => push_number(self.variable(place), used),
+            Some(place) if !self.projections(place).is_empty() => {
+                push_number(self.variable(place), used)
+            }
             _ => Ok(()),
         }
     }

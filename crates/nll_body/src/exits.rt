@@ -92,21 +92,14 @@ fn distinct(alloc: Global, numbers: &[u32]) -> Result<usize, Memory>
         [] => Ok(0),
         [_] => Ok(1),
         [number, other] => Ok(exit_count(*number, Some(*other))),
-        _ => distinct_among(alloc, numbers),
+        _ => {
+            let mut known = IndexSet::new(alloc);
+            let count = insert_numbers(numbers, &mut known);
+            // Early drop.
+            drop(known);
+            count
+        }
     }
-}
-
-// How many different numbers these are, counted with a set.
-fn distinct_among(alloc: Global, numbers: &[u32]) -> Result<usize, Memory>
-    ensures distinct { IfOk result
-        (λ n. n ≡ length (insert_all (λ b c. b == c) [] numbers.now)) }
-    ensures few { IfOk result (λ n. n < 2 ^ 63) }
-{
-    let mut known = IndexSet::new(alloc);
-    let count = insert_numbers(numbers, &mut known);
-    // Early drop.
-    drop(known);
-    count
 }
 
 // Inserts numbers into an empty set, and answers how many it has then.

@@ -6,7 +6,7 @@ ghost use Rattle.nll_types.specs.Operands.{reference_to};
 ghost use Rattle.nll_types.specs.Shapes.{shape_of, is_small, reference_shape};
 ghost use Rattle.nll_types.specs.Table.{shape_in};
 ghost use Rattle.nll_types.specs.Types.{TypeTree};
-ghost use Rattle.nll_body.specs.Found.{IsFound};
+ghost use Rattle.nll_body.specs.Found.{IsShapeFound};
 ghost use Rattle.nll_body.specs.Judging as spec;
 ghost use Rattle.nll_body.specs.Judging.{IsJudged};
 
@@ -35,7 +35,7 @@ pub(crate) fn shape_found(shapes: &Shapes, shape: usize) -> Found
     ensures declared { result.declared ≡ true }
     ensures within { IfSome result.typed (λ f. f.shape < length shapes.now) }
     ensures found { (t : TypeTree) → shape_in shapes.now shape ≡ shape_of t
-        → IsFound shapes.now result.typed (Some t) (is_small t) }
+        → IsShapeFound shapes.now result.typed (Some t) (is_small t) }
 {
     let small = shapes.is_small(shape);
     Found {
@@ -49,8 +49,8 @@ pub(crate) fn agree(shapes: &Shapes, one: Found, other: Found) -> Judgement
     requires one { IfSome one.typed (λ f. f.shape < length shapes.now) }
     requires other { IfSome other.typed (λ f. f.shape < length shapes.now) }
     ensures declared { result.declared ≡ (one.declared && other.declared) }
-    ensures judged { (t u : Option TypeTree) (p q : Bool) → IsFound shapes.now one.typed t p
-        → IsFound shapes.now other.typed u q → IsJudged (spec.agree t u) (p && q) result }
+    ensures judged { (t u : Option TypeTree) (p q : Bool) → IsShapeFound shapes.now one.typed t p
+        → IsShapeFound shapes.now other.typed u q → IsJudged (spec.agree t u) (p && q) result }
 {
     let declared = one.declared & other.declared;
     match one.typed {
@@ -95,7 +95,7 @@ pub(crate) fn refers(shapes: &Shapes, mutable: bool, borrowed: Found, place: Fou
     requires place { IfSome place.typed (λ f. f.shape < length shapes.now) }
     ensures declared { result.declared ≡ (borrowed.declared && place.declared) }
     ensures judged { (t u : Option TypeTree) (r : ℕ) (p q : Bool)
-        → IsFound shapes.now borrowed.typed t p → IsFound shapes.now place.typed u q
+        → IsShapeFound shapes.now borrowed.typed t p → IsShapeFound shapes.now place.typed u q
         → IsJudged (spec.agree (reference_to r mutable t) u) (p && q) result }
 {
     let declared = borrowed.declared & place.declared;

@@ -1,11 +1,11 @@
 //! Types that meet: of what goes somewhere, and of where it goes.
 
-ghost use Rattle.std.specs.Prelude.{◌≡◌, ◌&&◌, ◌∷◌, [], ◌<◌, ℕ, List, Some, length, is_some, IfOk};
+ghost use Rattle.std.specs.Prelude.{◌≡◌, ◌&&◌, ◌∷◌, [], ◌<◌, List, Some, length, IfOk};
 ghost use Rattle.std.specs.List.{list_all};
 ghost use Rattle.nll_types.specs.Declarations.{structs_of};
-ghost use Rattle.nll_types.specs.Operands.{operand_type, place_in, reference_to};
+ghost use Rattle.nll_types.specs.Operands.{operand_type, place_in};
 ghost use Rattle.nll_types.specs.Places.{type_of, small_prefixes};
-ghost use Rattle.nll_types.specs.Rows.{numbers_of};
+ghost use Rattle.nll_types.specs.Rows.{shape_numbers};
 ghost use Rattle.nll_types.specs.Shapes.{shape_of, is_small};
 ghost use Rattle.nll_types.specs.Table.{AreBelow, shape_in};
 ghost use Rattle.nll_types.specs.Tables.{AddsShapes, HaveShapes};
@@ -14,73 +14,12 @@ ghost use Rattle.nll_body.specs.Judging as spec;
 ghost use Rattle.nll_body.specs.Judging.{IsJudged, have_variables, operand_at, path_at};
 
 use crate::flat::FlatOperand;
-use crate::found::{agree, refers, shape_found};
+use crate::found::{agree, shape_found};
 use crate::judgement::Judgement;
 use crate::places::{Places, find_operand, find_place};
 use nll_sets::Memory;
 use nll_types::TypeTable;
 use std::alloc::Global;
-
-/// Judges an operand that goes to a place.
-pub(crate) fn judge_assigned(
-    alloc: Global,
-    table: &mut TypeTable,
-    places: &Places<'_>,
-    operand: FlatOperand,
-    place: u32,
-) -> Result<Judgement, Memory>
-    requires { AreBelow (length table.old.shapes) (numbers_of places.now.variables.now) }
-    ensures grows { AddsShapes table.old table.new }
-    ensures declared { IfOk result (λ j. j.declared ≡ have_variables
-        (length places.now.variables.now) (path_at places.now place
-        ∷ place_in (operand_at places.now operand))) }
-    ensures judged { IfOk result (λ j. (types : List TypeTree)
-        → HaveShapes table.old.shapes (numbers_of places.now.variables.now) types
-        → IsJudged
-        (spec.agree
-        (operand_type (structs_of table.old.structs) types
-        (operand_at places.now operand))
-        (type_of (structs_of table.old.structs) types (path_at places.now place)))
-        (list_all (small_prefixes (structs_of table.old.structs) types)
-        (place_in (operand_at places.now operand))
-        && small_prefixes (structs_of table.old.structs) types
-        (path_at places.now place)) j) }
-{
-    let source = find_operand(alloc, table, places, operand)?;
-    let target = find_place(alloc, table, places, place)?;
-    Ok(agree(table.shapes(), source, target))
-}
-
-/// Judges a reference to the second place that goes to the first.
-pub(crate) fn judge_borrowed(
-    alloc: Global,
-    table: &mut TypeTable,
-    places: &Places<'_>,
-    place: u32,
-    mutable: bool,
-    borrowed: u32,
-) -> Result<Judgement, Memory>
-    requires { AreBelow (length table.old.shapes) (numbers_of places.now.variables.now) }
-    ensures grows { AddsShapes table.old table.new }
-    ensures declared { IfOk result (λ j. j.declared ≡ have_variables
-        (length places.now.variables.now) (path_at places.now place
-        ∷ path_at places.now borrowed ∷ [])) }
-    ensures judged { IfOk result (λ j. (types : List TypeTree) (r : ℕ)
-        → HaveShapes table.old.shapes (numbers_of places.now.variables.now) types
-        → IsJudged
-        (spec.agree
-        (reference_to r mutable
-        (type_of (structs_of table.old.structs) types (path_at places.now borrowed)))
-        (type_of (structs_of table.old.structs) types (path_at places.now place)))
-        (small_prefixes (structs_of table.old.structs) types
-        (path_at places.now borrowed)
-        && small_prefixes (structs_of table.old.structs) types
-        (path_at places.now place)) j) }
-{
-    let source = find_place(alloc, table, places, borrowed)?;
-    let target = find_place(alloc, table, places, place)?;
-    Ok(refers(table.shapes(), mutable, source, target))
-}
 
 /// Judges a value of a type of this shape that goes to a place.
 pub(crate) fn judge_given(
@@ -90,13 +29,14 @@ pub(crate) fn judge_given(
     shape: usize,
     place: u32,
 ) -> Result<Judgement, Memory>
-    requires variables { AreBelow (length table.old.shapes) (numbers_of places.now.variables.now) }
+    requires variables { AreBelow (length table.old.shapes)
+        (shape_numbers places.now.variables.now) }
     requires shape { shape < length table.old.shapes }
     ensures grows { AddsShapes table.old table.new }
     ensures declared { IfOk result (λ j. j.declared ≡ have_variables
         (length places.now.variables.now) (path_at places.now place ∷ [])) }
     ensures judged { IfOk result (λ j. (types : List TypeTree) (t : TypeTree)
-        → HaveShapes table.old.shapes (numbers_of places.now.variables.now) types
+        → HaveShapes table.old.shapes (shape_numbers places.now.variables.now) types
         → shape_in table.old.shapes shape ≡ shape_of t
         → IsJudged
         (spec.agree (Some t)
@@ -117,13 +57,14 @@ pub(crate) fn judge_operand(
     operand: FlatOperand,
     shape: usize,
 ) -> Result<Judgement, Memory>
-    requires variables { AreBelow (length table.old.shapes) (numbers_of places.now.variables.now) }
+    requires variables { AreBelow (length table.old.shapes)
+        (shape_numbers places.now.variables.now) }
     requires shape { shape < length table.old.shapes }
     ensures grows { AddsShapes table.old table.new }
     ensures declared { IfOk result (λ j. j.declared ≡ have_variables
         (length places.now.variables.now) (place_in (operand_at places.now operand))) }
     ensures judged { IfOk result (λ j. (types : List TypeTree) (t : TypeTree)
-        → HaveShapes table.old.shapes (numbers_of places.now.variables.now) types
+        → HaveShapes table.old.shapes (shape_numbers places.now.variables.now) types
         → shape_in table.old.shapes shape ≡ shape_of t
         → IsJudged
         (spec.agree
@@ -135,30 +76,4 @@ pub(crate) fn judge_operand(
     let found = find_operand(alloc, table, places, operand)?;
     let wanted = shape_found(table.shapes(), shape);
     Ok(agree(table.shapes(), found, wanted))
-}
-
-/// Judges a place that is read: it must have a type.
-pub(crate) fn judge_read(
-    alloc: Global,
-    table: &mut TypeTable,
-    places: &Places<'_>,
-    place: u32,
-) -> Result<Judgement, Memory>
-    requires { AreBelow (length table.old.shapes) (numbers_of places.now.variables.now) }
-    ensures grows { AddsShapes table.old table.new }
-    ensures declared { IfOk result (λ j. j.declared ≡ have_variables
-        (length places.now.variables.now) (path_at places.now place ∷ [])) }
-    ensures judged { IfOk result (λ j. (types : List TypeTree)
-        → HaveShapes table.old.shapes (numbers_of places.now.variables.now) types
-        → IsJudged
-        (is_some
-        (type_of (structs_of table.old.structs) types (path_at places.now place)))
-        (small_prefixes (structs_of table.old.structs) types
-        (path_at places.now place)) j) }
-{
-    let found = find_place(alloc, table, places, place)?;
-    match found.typed {
-        Some(typed) => Ok(Judgement::fitting(found.declared, typed.small)),
-        None => Ok(Judgement::unfit(found.declared)),
-    }
 }

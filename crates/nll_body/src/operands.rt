@@ -4,20 +4,19 @@ ghost use Rattle.std.specs.Prelude.{◌≡◌, ◌↔◌, ◌&&◌, ◌<◌, Lis
 ghost use Rattle.std.specs.List.{flat_map, list_all};
 ghost use Rattle.nll_types.specs.Declarations.{structs_of};
 ghost use Rattle.nll_types.specs.Operands.{operand_type, place_in};
-ghost use Rattle.nll_types.specs.Places.{behind, part_count, small_prefixes};
-ghost use Rattle.nll_types.specs.Rows.{numbers_of};
+ghost use Rattle.nll_types.specs.Places.{part_count, small_prefixes};
+ghost use Rattle.nll_types.specs.Rows.{shape_numbers};
 ghost use Rattle.nll_types.specs.Shapes.{shape_of, is_small};
 ghost use Rattle.nll_types.specs.Table.{AreBelow, shape_in};
 ghost use Rattle.nll_types.specs.Tables.{AddsShapes, HaveShapes};
 ghost use Rattle.nll_types.specs.Types.{TypeTree};
 ghost use Rattle.nll_types.specs.declared.typed.Typed.{Typed};
-ghost use Rattle.nll_types.specs.declared.place.Projection.TheVariants.{Field as field};
 ghost use Rattle.nll_body.specs.Judging.{IsJudged, have_variables, operand_at};
 ghost use Rattle.nll_body.specs.TypePairs.{beside_parts, operand_types, parts_of_type};
 ghost use Rattle.nll_body.specs.Typing as spec;
 ghost use Rattle.nll_body.specs.Typing.{pairs_agree, parts_are_small};
 
-use crate::declared::{are_operands_declared, is_operand_declared};
+use crate::declared::are_operands_declared;
 use crate::flat::FlatOperand;
 use crate::judgement::Judgement;
 use crate::meetings::judge_operand;
@@ -38,38 +37,6 @@ fn has_parts(table: &TypeTable, shape: usize, count: usize) -> bool
     }
 }
 
-// Judges an operand against the part at this place of a type of this shape.
-fn judge_part(
-    alloc: Global,
-    table: &mut TypeTable,
-    places: &Places<'_>,
-    operand: FlatOperand,
-    shape: usize,
-    place: usize,
-) -> Result<Judgement, Memory>
-    requires variables { AreBelow (length table.old.shapes) (numbers_of places.now.variables.now) }
-    requires shape { shape < length table.old.shapes }
-    ensures grows { AddsShapes table.old table.new }
-    ensures declared { IfOk result (λ j. j.declared
-        ≡ have_variables (length places.now.variables.now)
-        (place_in (operand_at places.now operand))) }
-    ensures judged { IfOk result (λ j. (types : List TypeTree) (t u : TypeTree)
-        → HaveShapes table.old.shapes (numbers_of places.now.variables.now) types
-        → shape_in table.old.shapes shape ≡ shape_of t
-        → behind (structs_of table.old.structs) (field place) t ≡ Some u
-        → IsJudged
-        (spec.agree
-        (operand_type (structs_of table.old.structs) types (operand_at places.now operand))
-        (Some u))
-        (list_all (small_prefixes (structs_of table.old.structs) types)
-        (place_in (operand_at places.now operand)) && is_small u) j) }
-{
-    match table.part(alloc, shape, place)? {
-        Some(part) => judge_operand(alloc, table, places, operand, part),
-        None => Ok(Judgement::unfit(is_operand_declared(places, operand))),
-    }
-}
-
 /// Judges the operands of which a tuple or struct of this shape is made.
 pub(crate) fn judge_parts(
     alloc: Global,
@@ -78,14 +45,15 @@ pub(crate) fn judge_parts(
     operands: &[FlatOperand],
     shape: usize,
 ) -> Result<Judgement, Memory>
-    requires variables { AreBelow (length table.old.shapes) (numbers_of places.now.variables.now) }
+    requires variables { AreBelow (length table.old.shapes)
+        (shape_numbers places.now.variables.now) }
     requires shape { shape < length table.old.shapes }
     ensures grows { AddsShapes table.old table.new }
     ensures declared { IfOk result (λ j. j.declared
         ≡ have_variables (length places.now.variables.now)
         (flat_map place_in (map (operand_at places.now) operands.now))) }
     ensures judged { IfOk result (λ j. (types : List TypeTree) (t : TypeTree)
-        → HaveShapes table.old.shapes (numbers_of places.now.variables.now) types
+        → HaveShapes table.old.shapes (shape_numbers places.now.variables.now) types
         → shape_in table.old.shapes shape ≡ shape_of t
         → IsJudged
         (pairs_agree (beside_parts
@@ -102,8 +70,11 @@ pub(crate) fn judge_parts(
     }
     let mut judged = Judgement::fitting(true, true);
     for place in 0..operands.len() {
-        let part = judge_part(alloc, table, places, operands[place], shape, place)?;
-        judged = judged.and(part);
+        let Some(part) = table.part(alloc, shape, place)? else {
+            return Ok(Judgement::unfit(are_operands_declared(places, operands)));
+        };
+        let one = judge_operand(alloc, table, places, operands[place], part)?;
+        judged = judged.and(one);
     }
     Ok(judged)
 }
@@ -115,16 +86,17 @@ pub(crate) fn judge_arguments(
     places: &Places<'_>,
     arguments: &[(FlatOperand, Typed)],
 ) -> Result<Judgement, Memory>
-    requires variables { AreBelow (length table.old.shapes) (numbers_of places.now.variables.now) }
+    requires variables { AreBelow (length table.old.shapes)
+        (shape_numbers places.now.variables.now) }
     requires written { AreBelow (length table.old.shapes)
-        (numbers_of (map (λ a. a.1) arguments.now)) }
+        (shape_numbers (map (λ a. a.1) arguments.now)) }
     ensures grows { AddsShapes table.old table.new }
     ensures declared { IfOk result (λ j. j.declared
         ≡ have_variables (length places.now.variables.now)
         (flat_map place_in (map (λ a. operand_at places.now a.0) arguments.now))) }
     ensures judged { IfOk result (λ j. (types : List TypeTree) (g : Typed → TypeTree)
-        → HaveShapes table.old.shapes (numbers_of places.now.variables.now) types
-        → HaveShapes table.old.shapes (numbers_of (map (λ a. a.1) arguments.now))
+        → HaveShapes table.old.shapes (shape_numbers places.now.variables.now) types
+        → HaveShapes table.old.shapes (shape_numbers (map (λ a. a.1) arguments.now))
         (map (λ a. g a.1) arguments.now)
         → IsJudged
         (list_all

@@ -5,11 +5,11 @@ ghost use Rattle.std.specs.List.{list_all};
 ghost use Rattle.nll_types.specs.Declarations.{structs_of};
 ghost use Rattle.nll_types.specs.Operands.{operand_type, place_in};
 ghost use Rattle.nll_types.specs.Places.{type_of, small_prefixes};
-ghost use Rattle.nll_types.specs.Rows.{numbers_of};
+ghost use Rattle.nll_types.specs.Rows.{shape_numbers};
 ghost use Rattle.nll_types.specs.Table.{AreBelow};
 ghost use Rattle.nll_types.specs.Tables.{AddsShapes, HaveShapes};
 ghost use Rattle.nll_types.specs.Types.{TypeTree};
-ghost use Rattle.nll_body.specs.Found.{IsFound};
+ghost use Rattle.nll_body.specs.Found.{IsShapeFound};
 ghost use Rattle.nll_body.specs.Judging.{have_variables, operand_at, path_at};
 
 use crate::flat::FlatOperand;
@@ -35,15 +35,15 @@ pub(crate) fn find_place(
     places: &Places<'_>,
     place: u32,
 ) -> Result<Found, Memory>
-    requires { AreBelow (length table.old.shapes) (numbers_of places.now.variables.now) }
+    requires { AreBelow (length table.old.shapes) (shape_numbers places.now.variables.now) }
     ensures grows { AddsShapes table.old table.new }
     ensures declared { IfOk result (λ f. f.declared
         ≡ nat_lt (path_at places.now place).variable
         (length places.now.variables.now)) }
     ensures within { IfOk result (λ f. IfSome f.typed (λ t. t.shape < length table.new.shapes)) }
     ensures found { IfOk result (λ f. (types : List TypeTree)
-        → HaveShapes table.old.shapes (numbers_of places.now.variables.now) types
-        → IsFound table.new.shapes f.typed
+        → HaveShapes table.old.shapes (shape_numbers places.now.variables.now) types
+        → IsShapeFound table.new.shapes f.typed
         (type_of (structs_of table.old.structs) types (path_at places.now place))
         (small_prefixes (structs_of table.old.structs) types
         (path_at places.now place))) }
@@ -71,14 +71,14 @@ pub(crate) fn find_operand(
     places: &Places<'_>,
     operand: FlatOperand,
 ) -> Result<Found, Memory>
-    requires { AreBelow (length table.old.shapes) (numbers_of places.now.variables.now) }
+    requires { AreBelow (length table.old.shapes) (shape_numbers places.now.variables.now) }
     ensures grows { AddsShapes table.old table.new }
     ensures declared { IfOk result (λ f. f.declared ≡ have_variables
         (length places.now.variables.now) (place_in (operand_at places.now operand))) }
     ensures within { IfOk result (λ f. IfSome f.typed (λ t. t.shape < length table.new.shapes)) }
     ensures found { IfOk result (λ f. (types : List TypeTree)
-        → HaveShapes table.old.shapes (numbers_of places.now.variables.now) types
-        → IsFound table.new.shapes f.typed
+        → HaveShapes table.old.shapes (shape_numbers places.now.variables.now) types
+        → IsShapeFound table.new.shapes f.typed
         (operand_type (structs_of table.old.structs) types
         (operand_at places.now operand))
         (list_all (small_prefixes (structs_of table.old.structs) types)

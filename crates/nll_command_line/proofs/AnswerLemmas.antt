@@ -5,50 +5,53 @@ use Rattle.nll_command_line.specs.declared.task.Line.{Line}
 use Rattle.nll_command_line.specs.declared.task.Task.{Task}
 use Rattle.nll_command_line.specs.declared.error.LineError.{LineError}
 use Rattle.nll_command_line.specs.declared.error.LineError.TheVariants.{Help, Usage, Memory}
-use Rattle.nll_command_line.specs.CommandLine.{IsLine, IsPlainLine}
+use Rattle.nll_command_line.specs.CommandLine.{IsTaskLine, IsPlainLine}
 use Rattle.nll_command_line.specs.Grammar.{AsksForHelpAlone, IsHelpFor, IsLineError, IsWordsError}
-use Rattle.nll_command_line.specs.Options.{AreRead, Said, Suits, said_by}
+use Rattle.nll_command_line.specs.Options.{AreOptionsRead, SaidOptions, Suits, options_said}
 use Rattle.nll_command_line.specs.Taking.{AreReadJust, AreUnreadable}
 
 abbrev Text : Type 0
 Text = List ℕ
 
 -- the line has what is asked and what the options give, which are those of its task
-abbrev pub IsLineOf : Said → Line → Asked → Type 0
+abbrev pub IsLineOf : SaidOptions → Line → Asked → Type 0
 IsLineOf said l a =
-    (l.task ≡ a.task) × (string_bytes l.file ≡ string_bytes a.file) × (said_by l ≡ said) × Suits a.task said
+    (l.task ≡ a.task) × (string_bytes l.file ≡ string_bytes a.file) × (options_said l ≡ said) × Suits a.task said
 
 -- why there is no line of what is asked: refused memory, or options of another task
-abbrev pub IsLost : Said → LineError → Asked → Type 0
+abbrev pub IsLost : SaidOptions → LineError → Asked → Type 0
 IsLost said e a = (e ≡ Memory) ⊎ ((e ≡ Usage) × (Suits a.task said → ⊥))
 
-module _ (said : Said) (words others : List Text) (read : AreRead words others said)
+module _ (said : SaidOptions) (words others : List Text) (read : AreOptionsRead words others said)
     (just : AreReadJust words others said) (r : Result Line LineError) (a : Result Asked LineError)
     (of : IfOk r (λ l. IsOkAnd a (IsLineOf said l)))
     (err : IfErr r (λ e. (a ≡ Err e) ⊎ IsOkAnd a (IsLost said e))) where
-  pub line_ok : IfOk a (λ x. IsLine x.task (string_bytes x.file) others)
-      → IfOk r (λ l. (os : List Text) × AreRead words os (said_by l) × IsLine l.task (string_bytes l.file) os
-      × Suits l.task (said_by l))
+  pub line_ok : IfOk a (λ x. IsTaskLine x.task (string_bytes x.file) others)
+      → IfOk r (λ l. (os : List Text) × AreOptionsRead words os (options_said l)
+      × IsTaskLine l.task (string_bytes l.file) os
+      × Suits l.task (options_said l))
   line_ok line = go r a of line
     where
       go : (r : Result Line LineError) (a : Result Asked LineError) → IfOk r (λ l. IsOkAnd a (IsLineOf said l))
-          → IfOk a (λ x. IsLine x.task (string_bytes x.file) others)
-          → IfOk r (λ l. (os : List Text) × AreRead words os (said_by l) × IsLine l.task (string_bytes l.file) os
-          × Suits l.task (said_by l))
+          → IfOk a (λ x. IsTaskLine x.task (string_bytes x.file) others)
+          → IfOk r (λ l. (os : List Text) × AreOptionsRead words os (options_said l)
+          × IsTaskLine l.task (string_bytes l.file) os
+          × Suits l.task (options_said l))
       go (Ok l) (Ok x) of line =
-          (others, subst (AreRead words others) (sym of.2) read, rw (of.0, of.1) line, rw (of.0, of.2) of.3)
+          (others, subst (AreOptionsRead words others) (sym of.2) read, rw (of.0, of.1) line, rw (of.0, of.2) of.3)
       go (Ok l) (Err e) of line = absurd of
       go (Err e) a of line = tt
 
-  pub line_plain : (task : Task) (file : Text) (os : List Text) (s : Said) → AreRead words os s → Suits task s
+  pub line_plain : (task : Task) (file : Text) (os : List Text) (s : SaidOptions) → AreOptionsRead words os s
+      → Suits task s
       → (os ≡ others → MatchResult a (λ l. (l.task ≡ task) × (string_bytes l.file ≡ file)) (λ e. e ≡ Memory))
-      → MatchResult r (λ l. (l.task ≡ task) × (string_bytes l.file ≡ file) × (said_by l ≡ s)) (λ e. e ≡ Memory)
+      → MatchResult r (λ l. (l.task ≡ task) × (string_bytes l.file ≡ file) × (options_said l ≡ s)) (λ e. e ≡ Memory)
   line_plain task file os s h suits m = let same = just os s h in go r a of err (m same.0) same.1
     where
       go : (r : Result Line LineError) (a : Result Asked LineError) → IfOk r (λ l. IsOkAnd a (IsLineOf said l))
           → IfErr r (λ e. (a ≡ Err e) ⊎ IsOkAnd a (IsLost said e))
           → MatchResult a (λ l. (l.task ≡ task) × (string_bytes l.file ≡ file)) (λ e. e ≡ Memory) → s ≡ said
-          → MatchResult r (λ l. (l.task ≡ task) × (string_bytes l.file ≡ file) × (said_by l ≡ s)) (λ e. e ≡ Memory)
+          → MatchResult r (λ l. (l.task ≡ task) × (string_bytes l.file ≡ file) × (options_said l ≡ s)) (λ e. e ≡ Memory)
       go (Ok l) (Ok x) of err m is = (of.0 ∙ m.0, of.1 ∙ m.1, of.2 ∙ sym is)
       go (Ok l) (Err e) of err m is = absurd of
       go (Err e) (Err x) of err m is = ⊎_elim
@@ -62,7 +65,7 @@ module _ (said : Said) (words others : List Text) (read : AreRead words others s
           (λ h. ⊎_elim (λ memory. memory) (λ unfit. absurd (unfit.1 (rw (m.0, ← is) suits))) h)
           err
 
-  pub line_help : (os : List Text) (s : Said) → AreRead words os s
+  pub line_help : (os : List Text) (s : SaidOptions) → AreOptionsRead words os s
       → (os ≡ others → MatchResult a (λ _. ⊥) (IsHelpFor os)) → MatchResult r (λ _. ⊥) (IsHelpFor os)
   line_help os s h m = go r a of err (m (just os s h).0)
     where

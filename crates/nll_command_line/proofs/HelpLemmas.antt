@@ -58,14 +58,12 @@ below task rest asks =
 long_second : (task : Task) (rest : List Text) → level (name_of task) (codes "--help" ∷ rest) ≡ DisplayHelp ∷ []
 unfolding clap_on_literals
 long_second Values rest = refl
-long_second Check rest = refl
-long_second Replay rest = refl
+long_second _ rest = refl
 
 short_second : (task : Task) (rest : List Text) → level (name_of task) (codes "-h" ∷ rest) ≡ DisplayHelp ∷ []
 unfolding clap_on_literals
 short_second Values rest = refl
-short_second Check rest = refl
-short_second Replay rest = refl
+short_second _ rest = refl
 
 second : (task : Task) (word : Text) (rest : List Text) → IsHelpWord word
     → level (name_of task) (word ∷ rest) ≡ DisplayHelp ∷ []
@@ -90,8 +88,7 @@ long_third : (task : Task) (file : Text) (rest : List Text) → begins_as_option
     → level (name_of task) (file ∷ codes "--help" ∷ rest) ≡ DisplayHelp ∷ []
 unfolding clap_on_literals
 long_third Values [] rest h = refl
-long_third Check [] rest h = refl
-long_third Replay [] rest h = refl
+long_third _ [] rest h = refl
 long_third task (b ∷ []) rest h = long_byte task b rest (nat_eq b 45) refl
 long_third Values (b ∷ c ∷ more) rest h = simp h
 long_third Check (b ∷ c ∷ more) rest h = simp h
@@ -111,8 +108,7 @@ short_third : (task : Task) (file : Text) (rest : List Text) → begins_as_optio
     → level (name_of task) (file ∷ codes "-h" ∷ rest) ≡ DisplayHelp ∷ []
 unfolding clap_on_literals
 short_third Values [] rest h = refl
-short_third Check [] rest h = refl
-short_third Replay [] rest h = refl
+short_third _ [] rest h = refl
 short_third task (b ∷ []) rest h = short_byte task b rest (nat_eq b 45) refl
 short_third Values (b ∷ c ∷ more) rest h = simp h
 short_third Check (b ∷ c ∷ more) rest h = simp h

@@ -8,7 +8,7 @@ use Rattle.nll_command_line.specs.declared.error.LineError.{LineError}
 use Rattle.nll_command_line.specs.declared.error.LineError.TheVariants.{Help, Usage, Memory}
 use Rattle.nll_command_line.specs.declared.task.Task.{Task}
 use Rattle.nll_command_line.specs.CommandLine.{IsNoPlainLine}
-use Rattle.nll_command_line.specs.Grammar.{IsLineError, IsTold, line_by_grammar, program}
+use Rattle.nll_command_line.specs.Grammar.{IsLineError, IsErrorTold, line_by_grammar, program}
 use Rattle.nll_command_line.proofs.PlainLineLemmas.{line_by_grammar-plain, takes-plain}
 
 -- words whose matches have no line are no plain line
@@ -53,7 +53,7 @@ only kind kinds is among = elim (subst (IsAmong kind) is among) [
 -- the error of words that have no matches
 pub words_without_matches : (words : List Text) (e : LineError) (kind : ErrorKind)
     → (kind ≡ OutOfMemory) ⊎ IsAmong kind (fault_of program words)
-    → (takes program words ≡ true → kind ≡ OutOfMemory) → IsTold words kind e → IsLineError words e
+    → (takes program words ≡ true → kind ≡ OutOfMemory) → IsErrorTold words kind e → IsLineError words e
 words_without_matches words (Help text) kind among passes told =
     let other : kind ≢ OutOfMemory = λ memory. help_is_no_memory (sym told.0 ∙ memory) in (
       subst (λ k. IsAmong k (fault_of program words)) told.0 (listed kind _ among other),
@@ -67,7 +67,7 @@ words_without_matches words Usage kind among passes told = (
 words_without_matches words Memory kind among passes told = tt
 
 -- of an error of refused memory that alone is told
-pub memory_told : (words : List Text) (e : LineError) → IsTold words OutOfMemory e → e ≡ Memory
+pub memory_told : (words : List Text) (e : LineError) → IsErrorTold words OutOfMemory e → e ≡ Memory
 memory_told words (Help text) told = absurd (help_is_no_memory (sym told.0))
 memory_told words Usage told = absurd (told.1 refl)
 memory_told words Memory told = refl

@@ -8,8 +8,8 @@ use Rattle.nll_command_line.specs.declared.options.Key.{Key}
 use Rattle.nll_command_line.specs.declared.options.Key.TheVariants as key
 use Rattle.nll_command_line.specs.CommandLine.{IsPlainLine, name_of, begins_as_option, AsksPlainlyForHelp, IsHelpWord, MayStandBeforeHelp}
 use Rattle.std.specs.Option.{option_to_list}
-use Rattle.nll_command_line.specs.Options.{ArePlaced, AreRead, Given, HasOptions, Said, Says, no_options, no_words, behind, unread, none, ends, other, EndsOptions, word_of}
-use Rattle.nll_command_line.specs.Taking.{AreReadJust, AreUnreadable, HasJust, HasNone}
+use Rattle.nll_command_line.specs.Options.{ArePlaced, AreOptionsRead, Given, HasOptions, SaidOptions, SaysOptions, no_options, no_words, behind, unread, none, ends, other, EndsOptions, word_of}
+use Rattle.nll_command_line.specs.Taking.{AreReadJust, AreUnreadable, HasJust, HasNoOption}
 use Rattle.nll_command_line.proofs.OptionLemmas.{same_said}
 use Rattle.nll_command_line.proofs.WordLemmas.{one_way}
 
@@ -46,24 +46,24 @@ placed_behind _ _ _ (behind given word others words p h) first rest e plain =
     (others, ap (λ (x : Text). x ∷ others) (head e), subst (λ (xs : List Text). HasOptions given others xs) (tail e) h)
 
 -- where all options are among those behind the first word, so is what they give
-just_said : (given : List Given) (said : Said) (words others : List Text) → Says given said
+just_said : (given : List Given) (said : SaidOptions) (words others : List Text) → SaysOptions given said
     → ((gs : List Given) (os : List Text) → ArePlaced gs os words → (gs ≡ given) × (os ≡ others))
     → AreReadJust words others said
 just_said given said words others says just os s r =
     let h = just r.given os r.placed in
-    (h.1, same_said given s said (subst (λ (gs : List Given). Says gs s) h.0 r.says) says)
+    (h.1, same_said given s said (subst (λ (gs : List Given). SaysOptions gs s) h.0 r.says) says)
 
 empty_list : {X : Type 0} (o : Option X) → option_to_list o ≡ [] → o ≡ None
 empty_list None e = refl
 empty_list (Some x) e = cc
 
-module _ (words : List Text) (said : Said) (says : Says [] said) where
+module _ (words : List Text) (said : SaidOptions) (says : SaysOptions [] said) where
   nothing_cut : (said.deal ≡ None) ⊎ (said.cut ≡ None)
   nothing_cut = inl (empty_list said.deal (sym says.deal))
 
   -- ---- no words
 
-  pub none_read : words ≡ [] → AreRead words [] said
+  pub none_read : words ≡ [] → AreOptionsRead words [] said
   none_read e = record { given = []; placed = rw e no_words; says = says; one_cut = nothing_cut }
 
   pub none_read_just : words ≡ [] → AreReadJust words [] said
@@ -72,7 +72,7 @@ module _ (words : List Text) (said : Said) (says : Says [] said) where
   -- ---- a first word that begins as an option
 
   module _ (first : Text) (rest : List Text) (e : words ≡ first ∷ rest) (begins : begins_as_option first ≡ true) where
-    pub unread_read : AreRead words words said
+    pub unread_read : AreOptionsRead words words said
     unread_read = record { given = []; placed = rw e (unread first rest begins); says = says; one_cut = nothing_cut }
 
     pub unread_read_just : AreReadJust words words said
@@ -84,9 +84,9 @@ module _ (words : List Text) (said : Said) (says : Says [] said) where
 
 module _ (words : List Text) (first : Text) (rest : List Text) (e : words ≡ first ∷ rest)
     (plain : begins_as_option first ≡ false) where
-  module _ (given : List Given) (others : List Text) (said : Said) (says : Says given said) where
+  module _ (given : List Given) (others : List Text) (said : SaidOptions) (says : SaysOptions given said) where
     pub behind_read : HasOptions given others rest → (said.deal ≡ None) ⊎ (said.cut ≡ None)
-        → AreRead words (first ∷ others) said
+        → AreOptionsRead words (first ∷ others) said
     behind_read h one =
         record { given = given; placed = rw e (behind given first others rest plain h); says = says; one_cut = one }
 
@@ -99,20 +99,20 @@ module _ (words : List Text) (first : Text) (rest : List Text) (e : words ≡ fi
     pub behind_two_cuts : HasJust given others rest → said.deal ≢ None → said.cut ≢ None → AreUnreadable words
     behind_two_cuts just dealt cut os s r =
         let same : s ≡ said = (behind_read_just just os s r).1 in
-        ⊎_elim (λ h. dealt (sym (ap (λ (x : Said). x.deal) same) ∙ h))
-        (λ h. cut (sym (ap (λ (x : Said). x.cut) same) ∙ h)) r.one_cut
+        ⊎_elim (λ h. dealt (sym (ap (λ (x : SaidOptions). x.deal) same) ∙ h))
+        (λ h. cut (sym (ap (λ (x : SaidOptions). x.cut) same) ∙ h)) r.one_cut
 
-  pub behind_none : HasNone rest → AreUnreadable words
+  pub behind_none : HasNoOption rest → AreUnreadable words
   behind_none nothing os s r = let t = placed_behind r.given os words r.placed first rest e plain in
       nothing r.given t.0 s t.2 r.says
 
 -- ---- there is one reading
 
-pub read_in_one_way : (words others : List Text) (said : Said) → AreRead words others said
+pub read_in_one_way : (words others : List Text) (said : SaidOptions) → AreOptionsRead words others said
     → AreReadJust words others said
 read_in_one_way words others said read = at read.given others words read.placed read.says
   where
-    at : (gs : List Given) (os ws : List Text) → ArePlaced gs os ws → Says gs said → AreReadJust ws os said
+    at : (gs : List Given) (os ws : List Text) → ArePlaced gs os ws → SaysOptions gs said → AreReadJust ws os said
     at _ _ _ no_words says = none_read_just [] said says refl
     at _ _ _ (unread first rest begins) says = unread_read_just (first ∷ rest) said says first rest refl begins
     at _ _ _ (behind given first others rest plain h) says =
@@ -125,22 +125,15 @@ differ a b e same = true≢false (sym ((bytes_eq-Decides a b).1 same) ∙ e)
 
 named : (task : Task) → begins_as_option (name_of task) ≡ false
 named Values = refl
-named Check = refl
-named Replay = refl
+named _ = refl
 
 no_key : (k : Key) → codes "--" ≡ word_of k → ⊥
 no_key key.Owners e = cc
-no_key key.Deal e = cc
-no_key key.Cut e = cc
-no_key key.Mail e = cc
-no_key key.Schedule e = cc
+no_key _ e = cc
 
 no_joined : (k : Key) (v : Text) → codes "--" ≡ word_of k ++ 61 ∷ v → ⊥
 no_joined key.Owners v e = cc
-no_joined key.Deal v e = cc
-no_joined key.Cut v e = cc
-no_joined key.Mail v e = cc
-no_joined key.Schedule v e = cc
+no_joined _ v e = cc
 
 dashes : EndsOptions (codes "--")
 dashes = record { begins = refl; alone = no_key; joined = no_joined }
@@ -193,13 +186,13 @@ by_front (name ∷ file ∷ more ∷ others) w rest before h = absurd before
 help_placed : (words : List Text) → AsksPlainlyForHelp words → ArePlaced [] words words
 help_placed words h = rw h.are (by_front h.front h.word h.rest h.before h.asks)
 
-nothing_said : Says [] no_options
+nothing_said : SaysOptions [] no_options
 nothing_said = record { owners = refl; deal = refl; cut = refl; mail = refl; schedule = refl }
 
 pub plain_read : (task : Task) (file : Text) (words : List Text) → IsPlainLine task file words
-    → AreRead words words no_options
+    → AreOptionsRead words words no_options
 plain_read task file words h =
     record { given = []; placed = plain_placed task file words h; says = nothing_said; one_cut = inl refl }
 
-pub help_read : (words : List Text) → AsksPlainlyForHelp words → AreRead words words no_options
+pub help_read : (words : List Text) → AsksPlainlyForHelp words → AreOptionsRead words words no_options
 help_read words h = record { given = []; placed = help_placed words h; says = nothing_said; one_cut = inl refl }

@@ -22,8 +22,7 @@ takes-alone : (task : Task) (file : Text) → begins_as_option file ≡ false
     → takes program (name_of task ∷ file ∷ []) ≡ true
 unfolding clap_on_literals
 takes-alone Values [] h = refl
-takes-alone Check [] h = refl
-takes-alone Replay [] h = refl
+takes-alone _ [] h = refl
 takes-alone task (b ∷ []) h = takes-byte task b (nat_eq b 45) refl
 takes-alone Values (b ∷ c ∷ rest) h = simp h
 takes-alone Check (b ∷ c ∷ rest) h = simp h
@@ -44,8 +43,7 @@ takes-before : (task : Task) (file : Text) → begins_as_option file ≡ false
     → takes program (name_of task ∷ file ∷ codes "--" ∷ []) ≡ true
 unfolding clap_on_literals
 takes-before Values [] h = refl
-takes-before Check [] h = refl
-takes-before Replay [] h = refl
+takes-before _ [] h = refl
 takes-before task (b ∷ []) h = takes-before-byte task b (nat_eq b 45) refl
 takes-before Values (b ∷ c ∷ rest) h = simp h
 takes-before Check (b ∷ c ∷ rest) h = simp h
@@ -55,8 +53,7 @@ takes-before Replay (b ∷ c ∷ rest) h = simp h
 takes-after : (task : Task) (file : Text) → takes program (name_of task ∷ codes "--" ∷ file ∷ []) ≡ true
 unfolding clap_on_literals
 takes-after Values file = refl
-takes-after Check file = refl
-takes-after Replay file = refl
+takes-after _ file = refl
 
 line-byte : (task : Task) (b : ℕ) (x : Bool) → nat_eq b 45 ≡ x
     → line_by_grammar (name_of task ∷ (b ∷ []) ∷ []) ≡ Some (task, b ∷ [])
@@ -72,8 +69,7 @@ line-alone : (task : Task) (file : Text) → begins_as_option file ≡ false
     → line_by_grammar (name_of task ∷ file ∷ []) ≡ Some (task, file)
 unfolding clap_on_literals
 line-alone Values [] h = refl
-line-alone Check [] h = refl
-line-alone Replay [] h = refl
+line-alone _ [] h = refl
 line-alone task (b ∷ []) h = line-byte task b (nat_eq b 45) refl
 line-alone Values (b ∷ c ∷ rest) h = simp h
 line-alone Check (b ∷ c ∷ rest) h = simp h
@@ -93,8 +89,7 @@ line-before : (task : Task) (file : Text) → begins_as_option file ≡ false
     → line_by_grammar (name_of task ∷ file ∷ codes "--" ∷ []) ≡ Some (task, file)
 unfolding clap_on_literals
 line-before Values [] h = refl
-line-before Check [] h = refl
-line-before Replay [] h = refl
+line-before _ [] h = refl
 line-before task (b ∷ []) h = line-before-byte task b (nat_eq b 45) refl
 line-before Values (b ∷ c ∷ rest) h = simp h
 line-before Check (b ∷ c ∷ rest) h = simp h
@@ -103,8 +98,7 @@ line-before Replay (b ∷ c ∷ rest) h = simp h
 line-after : (task : Task) (file : Text) → line_by_grammar (name_of task ∷ codes "--" ∷ file ∷ []) ≡ Some (task, file)
 unfolding clap_on_literals
 line-after Values file = refl
-line-after Check file = refl
-line-after Replay file = refl
+line-after _ file = refl
 
 pub takes-plain : (task : Task) (file : Text) (words : List Text) → IsPlainLine task file words
     → takes program words ≡ true

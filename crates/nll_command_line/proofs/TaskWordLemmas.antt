@@ -136,8 +136,7 @@ stops Replay rest = ap (λ (w : Walk). w.stopped) (sym (walk_stopped top.rules n
 enters : (task : Task) (rest : List Text)
     → entered (built program) (Some (name_of task, rest)) ≡ Some (name_of task, rows_after rules_for [] rest)
 enters Values rest = refl
-enters Check rest = refl
-enters Replay rest = refl
+enters _ rest = refl
 
 pub subcommand_of-named : (task : Task) (rest : List Text)
     → subcommand_of program (name_of task ∷ rest) ≡ Some (name_of task, rows_after rules_for [] rest)

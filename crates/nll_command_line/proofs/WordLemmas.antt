@@ -2,8 +2,8 @@
 use Rattle.std.proofs.Common.{◌≡◌, inl, inr, ◌∙◌, ℕ, true, false, ◌==◌, if◌then◌else◌, List, [], ◌∷◌, ◌++◌, length, arith, refl, sym, ap, subst, append_assoc, true≢false}
 use Rattle.std.proofs.lemmas.List.{append-nil, append_cancel_left, length-append}
 use Rattle.nll_command_line.specs.CommandLine.{begins_as_option}
-use Rattle.nll_command_line.specs.Options.{Given, EndsOptions, HasOptions, none, ends, other, option, IsLawful, IsWritten, Says, key_of, value_of, word_of}
-use Rattle.nll_command_line.specs.Taking.{HasJust, HasNone, IsUnfit, IsUnfitBefore}
+use Rattle.nll_command_line.specs.Options.{Given, EndsOptions, HasOptions, none, ends, other, option, IsLawfulOption, IsWritten, SaysOptions, key_of, value_of, word_of}
+use Rattle.nll_command_line.specs.Taking.{HasJust, HasNoOption, IsUnfit, IsUnfitBefore}
 use Rattle.nll_command_line.specs.declared.options.Key.{Key}
 use Rattle.nll_command_line.specs.declared.options.Key.TheVariants as key
 use Rattle.nll_command_line.proofs.OptionLemmas.{same_option}
@@ -25,17 +25,11 @@ no_words (x ∷ xs) h = absurd (omega (arith, h))
 
 begins_alone : (k : Key) → begins_as_option (word_of k) ≡ true
 begins_alone key.Owners = refl
-begins_alone key.Deal = refl
-begins_alone key.Cut = refl
-begins_alone key.Mail = refl
-begins_alone key.Schedule = refl
+begins_alone _ = refl
 
 begins_joined : (k : Key) (value : Text) → begins_as_option (word_of k ++ 61 ∷ value) ≡ true
 begins_joined key.Owners value = refl
-begins_joined key.Deal value = refl
-begins_joined key.Cut value = refl
-begins_joined key.Mail value = refl
-begins_joined key.Schedule value = refl
+begins_joined _ value = refl
 
 abbrev third : Text → ℕ
 third [] = 0
@@ -51,17 +45,11 @@ key_at c =
 
 read_alone : (k : Key) → key_at (third (word_of k)) ≡ k
 read_alone key.Owners = refl
-read_alone key.Deal = refl
-read_alone key.Cut = refl
-read_alone key.Mail = refl
-read_alone key.Schedule = refl
+read_alone _ = refl
 
 read_joined : (k : Key) (value : Text) → key_at (third (word_of k ++ 61 ∷ value)) ≡ k
 read_joined key.Owners value = refl
-read_joined key.Deal value = refl
-read_joined key.Cut value = refl
-read_joined key.Mail value = refl
-read_joined key.Schedule value = refl
+read_joined _ value = refl
 
 key_alone : (w : Text) (k l : Key) → w ≡ word_of k → w ≡ word_of l → k ≡ l
 key_alone w k l a b = sym (read_alone k) ∙ (ap (λ (x : Text). key_at (third x)) (sym a ∙ b) ∙ read_alone l)
@@ -88,9 +76,10 @@ data First (gs : List Given) (os : List Text) (w : Text) (behind : List Text) : 
   at_other : (more : List Text) → begins_as_option w ≡ false → os ≡ w ∷ more → HasOptions gs more behind
       → First gs os w behind
   at_apart : (g : Given) (later : List Given) (rest : List Text) → w ≡ word_of (key_of g)
-      → begins_as_option (value_of g) ≡ false → behind ≡ value_of g ∷ rest → IsLawful g → gs ≡ g ∷ later
+      → begins_as_option (value_of g) ≡ false → behind ≡ value_of g ∷ rest → IsLawfulOption g → gs ≡ g ∷ later
       → HasOptions later os rest → First gs os w behind
-  at_joined : (g : Given) (later : List Given) → w ≡ word_of (key_of g) ++ 61 ∷ value_of g → IsLawful g → gs ≡ g ∷ later
+  at_joined : (g : Given) (later : List Given) → w ≡ word_of (key_of g) ++ 61 ∷ value_of g → IsLawfulOption g
+      → gs ≡ g ∷ later
       → HasOptions later os behind → First gs os w behind
 
 first_of : (gs : List Given) (os ws : List Text) → HasOptions gs os ws → (w : Text) (behind : List Text)
@@ -128,7 +117,7 @@ module _ (gs : List Given) (os : List Text) (w : Text) (behind : List Text) wher
 
   only_apart : (k : Key) → w ≡ word_of k → First gs os w behind
       → (g : Given) × (later : List Given) × (rest : List Text) × (key_of g ≡ k)
-      × (begins_as_option (value_of g) ≡ false) × (behind ≡ value_of g ∷ rest) × IsLawful g × (gs ≡ g ∷ later)
+      × (begins_as_option (value_of g) ≡ false) × (behind ≡ value_of g ∷ rest) × IsLawfulOption g × (gs ≡ g ∷ later)
       × HasOptions later os rest
   only_apart k here (at_end h nothing same) = absurd (h.alone k here)
   only_apart k here (at_other more p e h) =
@@ -138,7 +127,7 @@ module _ (gs : List Given) (os : List Text) (w : Text) (behind : List Text) wher
   only_apart k here (at_joined g later is lawful e h) = absurd (not_both w k (key_of g) (value_of g) here is)
 
   only_joined : (k : Key) (v : Text) → w ≡ word_of k ++ 61 ∷ v → First gs os w behind
-      → (g : Given) × (later : List Given) × (key_of g ≡ k) × (value_of g ≡ v) × IsLawful g × (gs ≡ g ∷ later)
+      → (g : Given) × (later : List Given) × (key_of g ≡ k) × (value_of g ≡ v) × IsLawfulOption g × (gs ≡ g ∷ later)
       × HasOptions later os behind
   only_joined k v here (at_end h nothing same) = absurd (h.joined k v here)
   only_joined k v here (at_other more p e h) =
@@ -247,7 +236,7 @@ module _ (given : List Given) (others left words : List Text) (so : IsReadTo giv
           (t.0, f.0, f.2, t.3, t.4 ∙ (ap (λ xs. others ++ xs) f.1 ∙ sym (append_assoc others (w ∷ []) f.0)));
     }
 
-    option_at : (g : Given) (front rest : List Text) → IsWritten g front → IsLawful g → left ≡ front ++ rest
+    option_at : (g : Given) (front rest : List Text) → IsWritten g front → IsLawfulOption g → left ≡ front ++ rest
         → (gs : List Given) (os : List Text) → HasOptions gs os rest
         → HasOptions ((given ++ g ∷ []) ++ gs) (others ++ os) words
     option_at g front rest written lawful is gs os h =
@@ -259,7 +248,7 @@ module _ (given : List Given) (others left words : List Text) (so : IsReadTo giv
     behind_it gs later g h rest a b c = a
         ∙ (ap (λ xs. given ++ xs) (b ∙ ap (λ x. x ∷ rest) c) ∙ sym (append_assoc given (g ∷ []) rest))
 
-    pub read_joined_with : (g : Given) → w ≡ word_of (key_of g) ++ 61 ∷ value_of g → IsLawful g
+    pub read_joined_with : (g : Given) → w ≡ word_of (key_of g) ++ 61 ∷ value_of g → IsLawfulOption g
         → IsReadTo (given ++ g ∷ []) others behind words
     read_joined_with g is lawful = record {
       leads = option_at g (w ∷ []) behind (inr (ap (λ (x : Text). x ∷ []) is)) lawful next;
@@ -270,7 +259,7 @@ module _ (given : List Given) (others left words : List Text) (so : IsReadTo giv
     }
 
     pub read_apart : (g : Given) (rest : List Text) → w ≡ word_of (key_of g) → begins_as_option (value_of g) ≡ false
-        → behind ≡ value_of g ∷ rest → IsLawful g → IsReadTo (given ++ g ∷ []) others rest words
+        → behind ≡ value_of g ∷ rest → IsLawfulOption g → IsReadTo (given ++ g ∷ []) others rest words
     read_apart g rest is plain value lawful = record {
       leads = option_at g (w ∷ value_of g ∷ []) rest (inl (ap (λ (x : Text). x ∷ value_of g ∷ []) is, plain)) lawful
           (next ∙ ap (λ (xs : List Text). w ∷ xs) value);
@@ -288,16 +277,16 @@ module _ (given : List Given) (others left words : List Text) (so : IsReadTo giv
 
     -- ---- an option that can't be
 
-    pub none_joined : (k : Key) (v : Text) → w ≡ word_of k ++ 61 ∷ v → IsUnfit given k v → HasNone words
+    pub none_joined : (k : Key) (v : Text) → w ≡ word_of k ++ 61 ∷ v → IsUnfit given k v → HasNoOption words
     none_joined k v is unfit gs os said h says =
         let t = so.follows gs os h in
         let f = only_joined t.0 t.1 w behind k v is (first t.0 t.1 t.2) in
-        unfit f.0 f.1 said f.2 f.3 f.4 (subst (λ (xs : List Given). Says xs said)
+        unfit f.0 f.1 said f.2 f.3 f.4 (subst (λ (xs : List Given). SaysOptions xs said)
         (t.3 ∙ ap (λ xs. given ++ xs) f.5) says)
 
-    pub none_apart : (k : Key) → w ≡ word_of k → IsUnfitBefore given k behind → HasNone words
+    pub none_apart : (k : Key) → w ≡ word_of k → IsUnfitBefore given k behind → HasNoOption words
     none_apart k is unfit gs os said h says =
         let t = so.follows gs os h in
         let f = only_apart t.0 t.1 w behind k is (first t.0 t.1 t.2) in
         unfit f.0 f.1 said f.2 f.3 f.5 f.4 f.6
-        (subst (λ (xs : List Given). Says xs said) (t.3 ∙ ap (λ xs. given ++ xs) f.7) says)
+        (subst (λ (xs : List Given). SaysOptions xs said) (t.3 ∙ ap (λ xs. given ++ xs) f.7) says)

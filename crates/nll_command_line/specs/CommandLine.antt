@@ -25,8 +25,8 @@ begins_as_option (b ∷ []) = false
 begins_as_option (b ∷ c ∷ rest) = b == 45
 
 -- the arguments are the name of the task and those others
-abbrev pub AsksFor : Task → List (List ℕ) → List (List ℕ) → Type 0
-AsksFor task rest words = words ≡ name_of task ∷ rest
+abbrev pub AsksForTask : Task → List (List ℕ) → List (List ℕ) → Type 0
+AsksForTask task rest words = words ≡ name_of task ∷ rest
 
 -- the arguments after a command name the file: it is alone, or has `--` before or after it
 abbrev pub NamesFile : List ℕ → List (List ℕ) → Type 0
@@ -34,14 +34,15 @@ NamesFile file words = (words ≡ file ∷ [])
     ⊎ ((words ≡ codes "--" ∷ file ∷ []) ⊎ (words ≡ file ∷ codes "--" ∷ []))
 
 -- the arguments name the task and then the file
-abbrev pub IsLine : Task → List ℕ → List (List ℕ) → Type 0
-IsLine task file words = (rest : List (List ℕ)) × AsksFor task rest words × NamesFile file rest
+abbrev pub IsTaskLine : Task → List ℕ → List (List ℕ) → Type 0
+IsTaskLine task file words = (rest : List (List ℕ)) × AsksForTask task rest words
+    × NamesFile file rest
 
 -- like `IsLine`, but the file does not begin as an option unless `--` comes before it
 abbrev pub IsPlainLine : Task → List ℕ → List (List ℕ) → Type 0
-IsPlainLine task file words = (AsksFor task (file ∷ []) words × (begins_as_option file ≡ false))
-    ⊎ (AsksFor task (codes "--" ∷ file ∷ []) words
-    ⊎ (AsksFor task (file ∷ codes "--" ∷ []) words × (begins_as_option file ≡ false)))
+IsPlainLine task file words = (AsksForTask task (file ∷ []) words × (begins_as_option file ≡ false))
+    ⊎ (AsksForTask task (codes "--" ∷ file ∷ []) words
+    ⊎ (AsksForTask task (file ∷ codes "--" ∷ []) words × (begins_as_option file ≡ false)))
 
 -- no task and file make a plain line of the arguments
 abbrev pub IsNoPlainLine : List (List ℕ) → Type 0

@@ -14,7 +14,7 @@ use Rattle.nll_command_line.specs.declared.task.Task.{Task}
 use Rattle.nll_command_line.specs.declared.task.Task.TheVariants.{Values, Check, Replay}
 use Rattle.nll_command_line.specs.CommandLine.{IsNoPlainLine, name_of, task_named}
 use Rattle.nll_command_line.specs.Help.{help_for}
-use Rattle.nll_command_line.specs.Options.{AreRead, IsNoSuitedLine, Said}
+use Rattle.nll_command_line.specs.Options.{AreOptionsRead, IsNoSuitedLine, SaidOptions}
 
 -- the place of the file among the arguments of a command
 abbrev pub file_rule : Rule
@@ -76,9 +76,11 @@ IsLineError words Memory = Unit {0}
 -- of a task that the options suit, and the parser has more than help for them. A failed allocation
 -- says nothing.
 abbrev pub IsWordsError : List Text → LineError → Type 0
-IsWordsError words (Help text) = (others : List Text) × (said : Said) × AreRead words others said
+IsWordsError words (Help text) = (others : List Text) × (said : SaidOptions)
+    × AreOptionsRead words others said
     × IsLineError others (Help text)
-IsWordsError words Usage = (others : List Text) (said : Said) → AreRead words others said
+IsWordsError words Usage = (others : List Text) (said : SaidOptions)
+    → AreOptionsRead words others said
     → IsNoSuitedLine others said × (AsksForHelpAlone others → ⊥)
 IsWordsError words Memory = Unit {0}
 
@@ -90,7 +92,7 @@ IsHelpFor words Memory = Unit {0}
 
 -- the error is what is reported for an error of this kind: help, or a failed allocation for its
 -- text; a failed allocation; or that the arguments are refused
-abbrev pub IsTold : List Text → ErrorKind → LineError → Type 0
-IsTold words kind (Help text) = (kind ≡ DisplayHelp) × (string_bytes text ≡ help_for words)
-IsTold words kind Usage = (kind ≢ DisplayHelp) × (kind ≢ OutOfMemory)
-IsTold words kind Memory = (kind ≡ OutOfMemory) ⊎ (kind ≡ DisplayHelp)
+abbrev pub IsErrorTold : List Text → ErrorKind → LineError → Type 0
+IsErrorTold words kind (Help text) = (kind ≡ DisplayHelp) × (string_bytes text ≡ help_for words)
+IsErrorTold words kind Usage = (kind ≢ DisplayHelp) × (kind ≢ OutOfMemory)
+IsErrorTold words kind Memory = (kind ≡ OutOfMemory) ⊎ (kind ≡ DisplayHelp)

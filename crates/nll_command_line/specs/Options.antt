@@ -53,9 +53,9 @@ value_of (mail Ring) = codes "ring"
 value_of (schedule file) = file
 
 -- there are 1 to 64 owners; what other options give is always lawful
-abbrev pub IsLawful : Given → Type 0
-IsLawful (owners n) = (0 < n) × (n ≤ most_owners)
-IsLawful _ = Unit {0}
+abbrev pub IsLawfulOption : Given → Type 0
+IsLawfulOption (owners n) = (0 < n) × (n ≤ most_owners)
+IsLawfulOption _ = Unit {0}
 
 -- the arguments write an option: its name and then its value, or both as one argument with a `=`
 -- (61)
@@ -80,7 +80,7 @@ pub data HasOptions : List Given → List (List ℕ) → List (List ℕ) → Typ
       → begins_as_option word ≡ false → HasOptions given others words
       → HasOptions given (word ∷ others) (word ∷ words)
   option : (g : Given) (given : List Given) (front others words : List (List ℕ))
-      → IsWritten g front → IsLawful g → HasOptions given others words
+      → IsWritten g front → IsLawfulOption g → HasOptions given others words
       → HasOptions (g ∷ given) others (front ++ words)
 
 -- The arguments are those others, with the options among those after the first; where the first
@@ -121,7 +121,7 @@ schedule_in (schedule file) = Some file
 schedule_in _ = None
 
 -- What options give: of each option its value, where it is given.
-pub record Said : Type 0 where
+pub record SaidOptions : Type 0 where
   pub owners : Option ℕ
   pub deal : Option Deal
   pub cut : Option (List ℕ)
@@ -129,11 +129,11 @@ pub record Said : Type 0 where
   pub schedule : Option (List ℕ)
 
 -- no option is given
-abbrev pub no_options : Said
+abbrev pub no_options : SaidOptions
 no_options = record { owners = None; deal = None; cut = None; mail = None; schedule = None }
 
 -- No option is given twice, and this is what they give.
-pub record Says (given : List Given) (said : Said) : Type 0 where
+pub record SaysOptions (given : List Given) (said : SaidOptions) : Type 0 where
   pub owners : filter_map owners_in given ≡ option_to_list said.owners
   pub deal : filter_map deal_in given ≡ option_to_list said.deal
   pub cut : filter_map cut_in given ≡ option_to_list said.cut
@@ -142,15 +142,15 @@ pub record Says (given : List Given) (said : Said) : Type 0 where
 
 -- The arguments are those others, with options among them that give this. The regions are not both
 -- dealt and cut by a file.
-pub record AreRead (words others : List (List ℕ)) (said : Said) : Type 0 where
+pub record AreOptionsRead (words others : List (List ℕ)) (said : SaidOptions) : Type 0 where
   pub given : List Given
   pub placed : ArePlaced given others words
-  pub says : Says given said
+  pub says : SaysOptions given said
   pub one_cut : (said.deal ≡ None) ⊎ (said.cut ≡ None)
 
 -- what the options of a line give
-abbrev pub said_by : Line → Said
-said_by line = record {
+abbrev pub options_said : Line → SaidOptions
+options_said line = record {
   owners = line.owners;
   deal = line.deal;
   cut = option_map string_bytes line.cut;
@@ -161,11 +161,11 @@ said_by line = record {
 -- ---- which options suit a task
 
 -- a schedule is given only for a replay, which has no mailboxes
-abbrev pub Suits : Task → Said → Type 0
+abbrev pub Suits : Task → SaidOptions → Type 0
 Suits Replay said = (said.schedule ≢ None) × (said.mail ≡ None)
 Suits _ said = said.schedule ≡ None
 
 -- no task that the options suit, and no file, make a plain line of the arguments
-abbrev pub IsNoSuitedLine : List (List ℕ) → Said → Type 0
+abbrev pub IsNoSuitedLine : List (List ℕ) → SaidOptions → Type 0
 IsNoSuitedLine words said = (task : Task) (file : List ℕ) → IsPlainLine task file words
     → Suits task said → ⊥

@@ -2,8 +2,9 @@
 -- private contracts cite this file.
 use Rattle.std.specs.Prelude.{◌≡◌, ℕ, false, List, ◌∷◌, ◌++◌, option_map}
 use Rattle.nll_command_line.specs.CommandLine.{begins_as_option}
-use Rattle.nll_command_line.specs.Options.{AreRead, EndsOptions, Given, HasOptions, IsLawful}
-use Rattle.nll_command_line.specs.Options.{Said, Says, key_of, value_of, word_of}
+use Rattle.nll_command_line.specs.Options.{AreOptionsRead, EndsOptions, Given, HasOptions}
+use Rattle.nll_command_line.specs.Options.{IsLawfulOption}
+use Rattle.nll_command_line.specs.Options.{SaidOptions, SaysOptions, key_of, value_of, word_of}
 use Rattle.nll_command_line.specs.declared.options.Key.{Key}
 use Rattle.nll_command_line.specs.declared.options.Kind.{Kind}
 use Rattle.nll_command_line.specs.declared.options.Kind.TheVariants as kind
@@ -17,7 +18,7 @@ IsKind word kind.Plain = begins_as_option word ≡ false
 IsKind word kind.Last = EndsOptions word
 
 -- what the options that are held give
-abbrev pub said_of : Options → Said
+abbrev pub said_of : Options → SaidOptions
 said_of o = record {
   owners = o.owners;
   deal = o.deal;
@@ -28,18 +29,19 @@ said_of o = record {
 
 -- what the options that are held give is what those give
 abbrev pub SaysBy : List Given → Options → Type 0
-SaysBy given o = Says given (said_of o)
+SaysBy given o = SaysOptions given (said_of o)
 
 -- no option of this name and value, followed by others, can come after those
 abbrev pub IsUnfit : List Given → Key → List ℕ → Type 0
-IsUnfit given key value = (g : Given) (later : List Given) (said : Said) → key_of g ≡ key
-    → value_of g ≡ value → IsLawful g → Says (given ++ g ∷ later) said → ⊥
+IsUnfit given key value = (g : Given) (later : List Given) (said : SaidOptions) → key_of g ≡ key
+    → value_of g ≡ value → IsLawfulOption g → SaysOptions (given ++ g ∷ later) said → ⊥
 
 -- like `IsUnfit`, but the option's value is the first of these arguments
 abbrev pub IsUnfitBefore : List Given → Key → List (List ℕ) → Type 0
-IsUnfitBefore given key words = (g : Given) (later : List Given) (said : Said)
+IsUnfitBefore given key words = (g : Given) (later : List Given) (said : SaidOptions)
     (rest : List (List ℕ)) → key_of g ≡ key → words ≡ value_of g ∷ rest
-    → begins_as_option (value_of g) ≡ false → IsLawful g → Says (given ++ g ∷ later) said → ⊥
+    → begins_as_option (value_of g) ≡ false → IsLawfulOption g
+    → SaysOptions (given ++ g ∷ later) said → ⊥
 
 -- the arguments have no options among them but those, after those others
 abbrev pub HasJust : List Given → List (List ℕ) → List (List ℕ) → Type 0
@@ -47,15 +49,16 @@ HasJust given others words = (gs : List Given) (os : List (List ℕ)) → HasOpt
     → (gs ≡ given) × (os ≡ others)
 
 -- the arguments have no options among them that give something
-abbrev pub HasNone : List (List ℕ) → Type 0
-HasNone words = (gs : List Given) (os : List (List ℕ)) (said : Said) → HasOptions gs os words
-    → Says gs said → ⊥
+abbrev pub HasNoOption : List (List ℕ) → Type 0
+HasNoOption words = (gs : List Given) (os : List (List ℕ)) (said : SaidOptions)
+    → HasOptions gs os words
+    → SaysOptions gs said → ⊥
 
 -- the arguments can be read only in this way
-abbrev pub AreReadJust : List (List ℕ) → List (List ℕ) → Said → Type 0
-AreReadJust words others said = (os : List (List ℕ)) (s : Said) → AreRead words os s
+abbrev pub AreReadJust : List (List ℕ) → List (List ℕ) → SaidOptions → Type 0
+AreReadJust words others said = (os : List (List ℕ)) (s : SaidOptions) → AreOptionsRead words os s
     → (os ≡ others) × (s ≡ said)
 
 -- the arguments can't be read
 abbrev pub AreUnreadable : List (List ℕ) → Type 0
-AreUnreadable words = (os : List (List ℕ)) (s : Said) → AreRead words os s → ⊥
+AreUnreadable words = (os : List (List ℕ)) (s : SaidOptions) → AreOptionsRead words os s → ⊥

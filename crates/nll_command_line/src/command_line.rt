@@ -1,17 +1,14 @@
 //! What the arguments of the command line ask for.
-ghost use Rattle.std.specs.Prelude.{◌≡◌, ◌≢◌, ◌⊎◌, ℕ, List, None, Some, false, map, string_bytes};
-ghost use Rattle.std.specs.Prelude.{Err, IfErr, IfOk, IsOk, IsOkAnd, MatchResult};
-ghost use Rattle.std.specs.Prelude.{option_map};
-ghost use Rattle.nll_command_line.specs.Options.{AreRead, Said, Suits, said_by};
+ghost use Rattle.std.specs.Prelude.{◌≡◌, ◌≢◌, ◌⊎◌, ℕ, List, None, Some, map, string_bytes};
+ghost use Rattle.std.specs.Prelude.{Err, IfErr, IfOk, IsOk, IsOkAnd, MatchResult, option_map};
+ghost use Rattle.nll_command_line.specs.Options.{AreOptionsRead, SaidOptions, Suits, options_said};
 ghost use Rattle.nll_command_line.specs.declared.task.Task.{Task};
 ghost use Rattle.nll_command_line.specs.Taking.{said_of};
-ghost use Rattle.nll_command_line.specs.CommandLine.{AsksPlainlyForHelp, IsLine, IsPlainLine};
-ghost use Rattle.clap.specs.Words.{app_of, found_of, rows_of};
-ghost use Rattle.clap.specs.Words.{new_app, subcommand_rows_of, with_rule, with_subcommand};
-ghost use Rattle.clap.specs.declared.builder.Command.TheViews.{out-Command};
+ghost use Rattle.nll_command_line.specs.CommandLine.{AsksPlainlyForHelp, IsTaskLine, IsPlainLine};
+ghost use Rattle.clap.specs.Words.{app_of, found_of, new_app, rows_of, subcommand_rows_of};
+ghost use Rattle.clap.specs.Words.{with_rule, with_subcommand};
 ghost use Rattle.nll_command_line.specs.Grammar.{AsksForHelpAlone, IsHelpFor, IsLineError};
-ghost use Rattle.nll_command_line.specs.Grammar.{IsTold, IsWordsError};
-ghost use Rattle.nll_command_line.specs.Grammar.{file_rule, program};
+ghost use Rattle.nll_command_line.specs.Grammar.{IsErrorTold, IsWordsError, file_rule, program};
 ghost use Rattle.nll_command_line.specs.Grammar.{line_of_found, line_of_matches};
 
 use crate::error::LineError;
@@ -33,18 +30,24 @@ const FILE: &str = "FILE";
 /// - `Memory`: an allocation was refused.
 pub fn line(alloc: Global, words: &[String]) -> Result<Line, LineError>
     ensures ok { IfOk result (λ l. (others : List (List ℕ))
-        × AreRead (map string_bytes words.now) others (said_by l)
-        × IsLine l.task (string_bytes l.file) others × Suits l.task (said_by l)) }
-    ensures plain { (task : Task) (file : List ℕ) (others : List (List ℕ)) (said : Said)
-        → AreRead (map string_bytes words.now) others said → IsPlainLine task file others
+        × AreOptionsRead (map string_bytes words.now) others (options_said l)
+        × IsTaskLine l.task (string_bytes l.file) others × Suits l.task (options_said l)) }
+    ensures plain { (task : Task) (file : List ℕ) (others : List (List ℕ)) (said : SaidOptions)
+        → AreOptionsRead (map string_bytes words.now) others said → IsPlainLine task file others
         → Suits task said → MatchResult result (λ l. (l.task ≡ task) × (string_bytes l.file ≡ file)
-        × (said_by l ≡ said)) (λ e. e ≡ LineError.Memory) }
-    ensures help { (others : List (List ℕ)) (said : Said)
-        → AreRead (map string_bytes words.now) others said → AsksPlainlyForHelp others
+        × (options_said l ≡ said)) (λ e. e ≡ LineError.Memory) }
+    ensures help { (others : List (List ℕ)) (said : SaidOptions)
+        → AreOptionsRead (map string_bytes words.now) others said → AsksPlainlyForHelp others
         → MatchResult result (λ _. ⊥) (IsHelpFor others) }
     ensures err { IfErr result (IsWordsError (map string_bytes words.now)) }
 {
-    let mut options = Options::none();
+    let mut options = Options {
+        owners: None,
+        deal: None,
+        cut: None,
+        mail: None,
+        schedule: None,
+    };
     let mut others = Vec::new(alloc);
     if let Err(error) = part_words(words, &mut options, &mut others) {
         drop(others);
@@ -62,7 +65,7 @@ fn with_options(
     options: Options<'_>,
 ) -> Result<Line, LineError>
     ensures ok { IfOk result (λ l. IsOkAnd asked (λ a. (l.task ≡ a.task)
-        × (string_bytes l.file ≡ string_bytes a.file) × (said_by l ≡ said_of options.entry)
+        × (string_bytes l.file ≡ string_bytes a.file) × (options_said l ≡ said_of options.entry)
         × Suits a.task (said_of options.entry))) }
     ensures err { IfErr result (λ e. (asked ≡ Err e) ⊎ IsOkAnd asked (λ a.
         (e ≡ LineError.Memory)
@@ -99,7 +102,7 @@ fn copy_of(alloc: Global, file: Option<&str>) -> Result<Option<String>, AllocErr
 // What arguments without options ask for.
 fn asked(alloc: Global, words: &[&str]) -> Result<Asked, LineError>
     ensures ok { IfOk result (λ l.
-        IsLine l.task (string_bytes l.file) (map (λ word. word.now) words.now)) }
+        IsTaskLine l.task (string_bytes l.file) (map (λ word. word.now) words.now)) }
     ensures plain { (task : Task) (file : List ℕ)
         → IsPlainLine task file (map (λ word. word.now) words.now)
         → MatchResult result (λ l. (l.task ≡ task) × (string_bytes l.file ≡ file))
@@ -138,7 +141,7 @@ fn grammar<'a>(alloc: Global) -> Result<Command<'a>, AllocError>
     with_command(alloc, with_check, REPLAY)
 }
 
-// The program with one more command.
+// The program with one more command, which takes a file.
 fn with_command<'a>(
     alloc: Global,
     program: Command<'a>,
@@ -147,22 +150,14 @@ fn with_command<'a>(
     ensures { IfOk result (λ c. app_of c
         ≡ with_subcommand (app_of program.entry) (with_rule (new_app name.now) file_rule).top) }
 {
-    match command(alloc, name) {
+    let file = Arg::new(alloc, FILE).action(ArgAction::Set).required(true);
+    match Command::new(alloc, name).arg(file) {
         Ok(command) => program.subcommand(command),
         Err(refused) => {
             drop(program);
             Err(refused)
         }
     }
-}
-
-// A command, with its file.
-fn command<'a>(alloc: Global, name: &'a str) -> Result<Command<'a>, AllocError>
-    ensures shape { IfOk result (λ c. app_of c ≡ with_rule (new_app name.entry.now) file_rule) }
-    ensures local { IfOk result (λ c. (out-Command c).has_globals ≡ false) }
-{
-    let file = Arg::new(alloc, FILE).action(ArgAction::Set).required(true);
-    Command::new(alloc, name).arg(file)
 }
 
 // The command line that the arguments make.
@@ -201,7 +196,7 @@ fn line_of_command(alloc: Global, name: &str, found: &ArgMatches<'_>) -> Result<
 
 // What the program answers to arguments for which the parser has an error of this kind.
 fn refusal(alloc: Global, words: &[&str], kind: ErrorKind) -> LineError
-    ensures { IsTold (map (λ word. word.now) words.now) kind result }
+    ensures { IsErrorTold (map (λ word. word.now) words.now) kind result }
 {
     match kind {
         ErrorKind::OutOfMemory => LineError::Memory,

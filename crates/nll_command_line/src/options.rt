@@ -1,13 +1,14 @@
 //! The options among the arguments after a command.
 ghost use Rattle.std.specs.Prelude.{◌≡◌, ◌≢◌, ◌⊎◌, ◌++◌, ◌∷◌, [], ℕ, List, map, string_bytes};
-ghost use Rattle.std.specs.Prelude.{◌<◌, ◌≤◌, MatchOption, OnOk, IfOk, IfErr, None, true, false};
+ghost use Rattle.std.specs.Prelude.{◌<◌, ◌≤◌, MatchOption, OnOk, IfOk, IfErr, None, Some, true, false};
 ghost use Rattle.std.specs.Fmt.{decimal};
 ghost use Rattle.nll_problem.specs.Limits.{most_owners};
 ghost use Rattle.nll_command_line.specs.CommandLine as lines;
 ghost use Rattle.nll_command_line.specs.CommandLine.{begins_as_option};
-ghost use Rattle.nll_command_line.specs.Options.{AreRead, Given, HasOptions, IsLawful, key_of};
-ghost use Rattle.nll_command_line.specs.Options.{Suits, value_of, word_of};
-ghost use Rattle.nll_command_line.specs.Taking.{AreReadJust, AreUnreadable, HasJust, HasNone};
+ghost use Rattle.nll_command_line.specs.Options.{AreOptionsRead, Given, HasOptions, IsLawfulOption};
+ghost use Rattle.nll_command_line.specs.Options.{key_of};
+ghost use Rattle.nll_command_line.specs.Options.{Suits, deal, mail, value_of, word_of};
+ghost use Rattle.nll_command_line.specs.Taking.{AreReadJust, AreUnreadable, HasJust, HasNoOption};
 ghost use Rattle.nll_command_line.specs.Taking.{IsKind, IsUnfit, IsUnfitBefore, SaysBy, said_of};
 
 use crate::error::LineError;
@@ -65,122 +66,21 @@ pub(crate) enum Kind<'a> {
 }
 
 impl<'a> Options<'a> {
-    /// No option.
-    pub(crate) fn none() -> Options<'a>
-        ensures { SaysBy [] result }
-    {
-        Options {
-            owners: None,
-            deal: None,
-            cut: None,
-            mail: None,
-            schedule: None,
-        }
-    }
-
     // Takes an option and its value in.
     fn give(&mut self, key: Key, value: &'a str) -> Result<(), LineError>
         ensures ok { OnOk result ((given : List Given) → SaysBy given self.old
-            → (g : Given) × (key_of g ≡ key) × (value_of g ≡ value.now) × IsLawful g
+            → (g : Given) × (key_of g ≡ key) × (value_of g ≡ value.now) × IsLawfulOption g
             × SaysBy (given ++ g ∷ []) self.new) }
         ensures err { IfErr result (λ e. (e ≡ LineError.Usage)
             × ((given : List Given) → SaysBy given self.old → IsUnfit given key value.now)) }
     {
         match key {
-            Key::Owners => self.give_owners(value),
-            Key::Deal => self.give_deal(value),
-            Key::Cut => self.give_cut(value),
-            Key::Mail => self.give_mail(value),
-            Key::Schedule => self.give_schedule(value),
+            Key::Owners => fill(&mut self.owners, owners_of(value)),
+            Key::Deal => fill(&mut self.deal, deal_of(value)),
+            Key::Cut => fill(&mut self.cut, Some(value)),
+            Key::Mail => fill(&mut self.mail, mail_of(value)),
+            Key::Schedule => fill(&mut self.schedule, Some(value)),
         }
-    }
-
-    fn give_owners(&mut self, value: &str) -> Result<(), LineError>
-        ensures ok { OnOk result ((given : List Given) → SaysBy given self.old
-            → (g : Given) × (key_of g ≡ Key.Owners) × (value_of g ≡ value.now) × IsLawful g
-            × SaysBy (given ++ g ∷ []) self.new) }
-        ensures err { IfErr result (λ e. (e ≡ LineError.Usage)
-            × ((given : List Given) → SaysBy given self.old
-            → IsUnfit given Key.Owners value.now)) }
-    {
-        let Some(owners) = owners_of(value) else {
-            return Err(LineError::Usage);
-        };
-        if self.owners.is_some() {
-            return Err(LineError::Usage);
-        }
-        self.owners = Some(owners);
-        Ok(())
-    }
-
-    fn give_deal(&mut self, value: &str) -> Result<(), LineError>
-        ensures ok { OnOk result ((given : List Given) → SaysBy given self.old
-            → (g : Given) × (key_of g ≡ Key.Deal) × (value_of g ≡ value.now) × IsLawful g
-            × SaysBy (given ++ g ∷ []) self.new) }
-        ensures err { IfErr result (λ e. (e ≡ LineError.Usage)
-            × ((given : List Given) → SaysBy given self.old
-            → IsUnfit given Key.Deal value.now)) }
-    {
-        let deal = match value {
-            "round" => Deal::Round,
-            "blocks" => Deal::Blocks,
-            _ => return Err(LineError::Usage),
-        };
-        if self.deal.is_some() {
-            return Err(LineError::Usage);
-        }
-        self.deal = Some(deal);
-        Ok(())
-    }
-
-    fn give_cut(&mut self, value: &'a str) -> Result<(), LineError>
-        ensures ok { OnOk result ((given : List Given) → SaysBy given self.old
-            → (g : Given) × (key_of g ≡ Key.Cut) × (value_of g ≡ value.now) × IsLawful g
-            × SaysBy (given ++ g ∷ []) self.new) }
-        ensures err { IfErr result (λ e. (e ≡ LineError.Usage)
-            × ((given : List Given) → SaysBy given self.old
-            → IsUnfit given Key.Cut value.now)) }
-    {
-        if self.cut.is_some() {
-            return Err(LineError::Usage);
-        }
-        self.cut = Some(value);
-        Ok(())
-    }
-
-    fn give_mail(&mut self, value: &str) -> Result<(), LineError>
-        ensures ok { OnOk result ((given : List Given) → SaysBy given self.old
-            → (g : Given) × (key_of g ≡ Key.Mail) × (value_of g ≡ value.now) × IsLawful g
-            × SaysBy (given ++ g ∷ []) self.new) }
-        ensures err { IfErr result (λ e. (e ≡ LineError.Usage)
-            × ((given : List Given) → SaysBy given self.old
-            → IsUnfit given Key.Mail value.now)) }
-    {
-        let mail = match value {
-            "queue" => MailKind::Queue,
-            "ring" => MailKind::Ring,
-            _ => return Err(LineError::Usage),
-        };
-        if self.mail.is_some() {
-            return Err(LineError::Usage);
-        }
-        self.mail = Some(mail);
-        Ok(())
-    }
-
-    fn give_schedule(&mut self, value: &'a str) -> Result<(), LineError>
-        ensures ok { OnOk result ((given : List Given) → SaysBy given self.old
-            → (g : Given) × (key_of g ≡ Key.Schedule) × (value_of g ≡ value.now) × IsLawful g
-            × SaysBy (given ++ g ∷ []) self.new) }
-        ensures err { IfErr result (λ e. (e ≡ LineError.Usage)
-            × ((given : List Given) → SaysBy given self.old
-            → IsUnfit given Key.Schedule value.now)) }
-    {
-        if self.schedule.is_some() {
-            return Err(LineError::Usage);
-        }
-        self.schedule = Some(value);
-        Ok(())
     }
 
     /// Whether the options are those of the task.
@@ -195,9 +95,48 @@ impl<'a> Options<'a> {
     }
 }
 
+// Puts what is given in its place, where something is given and nothing is there yet.
+fn fill<T: Copy>(place: &mut Option<T>, given: Option<T>) -> Result<(), LineError>
+    ensures ok { OnOk result ((place.old ≡ None)
+        × (x : T) × (given ≡ Some x) × (place.new ≡ Some x)) }
+    ensures err { IfErr result (λ e. (e ≡ LineError.Usage)
+        × ((x : T) → given ≡ Some x → (y : T) × (place.old ≡ Some y))) }
+{
+    if place.is_some() || given.is_none() {
+        return Err(LineError::Usage);
+    }
+    *place = given;
+    Ok(())
+}
+
+// How the value says that regions are assigned.
+fn deal_of(value: &str) -> Option<Deal>
+    ensures { MatchOption result ((how : Deal) → value.now ≢ value_of (deal how))
+        (λ how. value.now ≡ value_of (deal how)) }
+{
+    match value {
+        "round" => Some(Deal::Round),
+        "blocks" => Some(Deal::Blocks),
+        _ => None,
+    }
+}
+
+// Which mailboxes the value says.
+fn mail_of(value: &str) -> Option<MailKind>
+    ensures { MatchOption result ((kind : MailKind) → value.now ≢ value_of (mail kind))
+        (λ kind. value.now ≡ value_of (mail kind)) }
+{
+    match value {
+        "queue" => Some(MailKind::Queue),
+        "ring" => Some(MailKind::Ring),
+        _ => None,
+    }
+}
+
 // How many owners the value says, from 1 to 64, where it is that number as it is printed.
 fn owners_of(value: &str) -> Option<u16>
-    ensures { MatchOption result ((n : ℕ) → 0 < n → n ≤ most_owners → value.now ≢ decimal n)
+    ensures { MatchOption result
+        ((n : ℕ) → (0 < n) × (n ≤ most_owners) × (value.now ≡ decimal n) → ⊥)
         (λ n. (0 < n) × (n ≤ most_owners) × (value.now ≡ decimal n)) }
 {
     // `parse` takes a `+` and leading zeros as well.
@@ -259,7 +198,7 @@ pub(crate) fn part_words<'a>(
 ) -> Result<(), LineError>
     requires none { SaysBy [] options.old }
     requires empty { others.old.items ≡ [] }
-    ensures ok { OnOk result (AreRead (map string_bytes words.now)
+    ensures ok { OnOk result (AreOptionsRead (map string_bytes words.now)
         (map (λ word. word.now) others.new.items) (said_of options.new)) }
     ensures just { OnOk result (AreReadJust (map string_bytes words.now)
         (map (λ word. word.now) others.new.items) (said_of options.new)) }
@@ -293,7 +232,7 @@ fn take_options<'a>(
         × (map (λ word. word.now) others.new.items
         ≡ map (λ word. word.now) others.old.items ++ more)) }
     ensures err { IfErr result (λ e. (e ≡ LineError.Memory)
-        ⊎ ((e ≡ LineError.Usage) × HasNone (map string_bytes words.now))) }
+        ⊎ ((e ≡ LineError.Usage) × HasNoOption (map string_bytes words.now))) }
 {
     let mut left = words;
     while let Some((word, behind)) = left.split_first() {
@@ -320,7 +259,8 @@ fn give_next<'a>(
     options: &mut Options<'a>,
 ) -> Result<&'a [String], LineError>
     ensures ok { IfOk result (λ behind. (given : List Given) → SaysBy given options.old
-        → (g : Given) × (key_of g ≡ key) × (begins_as_option (value_of g) ≡ false) × IsLawful g
+        → (g : Given) × (key_of g ≡ key) × (begins_as_option (value_of g) ≡ false)
+        × IsLawfulOption g
         × (map string_bytes words.entry.now ≡ value_of g ∷ map string_bytes behind.now)
         × SaysBy (given ++ g ∷ []) options.new) }
     ensures err { IfErr result (λ e. (e ≡ LineError.Usage)

@@ -9,7 +9,7 @@ use Rattle.nll_problem.specs.declared.at.At.{At}
 use Rattle.nll_problem.specs.declared.at.At.TheVariants.{All, Point}
 use Rattle.nll_problem.proofs.AskLemmas.{asked_inside, asked_more, asked_weaker}
 use Rattle.nll_problem.proofs.WalkLemmas.{reaches_first, reaches_starts, reaches_carries}
-use Rattle.nll_core.specs.Search.{Search, Adds, Visits, Spreads, IsPending, IsIn, IsStepInside, LeadsTo}
+use Rattle.nll_core.specs.Search.{Search, AddsOfKind, Visits, Spreads, IsPending, IsIn, IsStepInside, LeadsTo}
 use Rattle.nll_core.specs.Frontiers.{AppendsNew, IsAskedFrom, IsWithout, StepsOn}
 use Rattle.nll_core.proofs.SearchLemmas.{adds_append, adds_weaker, contains_at, contains_from, leads_carries, leads_first}
 
@@ -18,21 +18,7 @@ use Rattle.nll_core.proofs.SearchLemmas.{adds_append, adds_weaker, contains_at, 
 -- one that got a new element
 pub appends_one : (flags : List Bool) (e : ℕ) → e < length flags → flag flags e ≡ false → (before : List ℕ)
     → AppendsNew flags (set flags e true) before (before ++ e ∷ [])
-appends_one flags e within new before = record {
-  rest = e ∷ [];
-  appended = refl;
-  listed = λ x. (
-    λ h. let is : e ≡ x = only x h in (
-      subst (IsIn (set flags e true)) is (get_or-set_same flags e true false within),
-      subst (λ y. flag flags y ≡ false) is new,
-    ),
-    λ h. ⊎_elim
-        (λ same. (0, omega arith, sym same))
-        (λ other. absurd (false≢true (sym h.1 ∙ (sym (get_or-set_other flags e x true false other) ∙ h.0))))
-        (cases_eq x e),
-  );
-  once = λ i j d earlier small. absurd (omega (arith, earlier, small));
-}
+appends_one flags e within new before = grind (arith, only, get_or-set_same, false≢true, get_or-set_other, cases_eq)
   where
     only : (x : ℕ) → Contains (e ∷ []) x → e ≡ x
     only x h = ap (λ k. get_or (e ∷ []) k x) (sym (zero_place h.0 h.1)) ∙ h.2
@@ -41,25 +27,10 @@ appends_one flags e within new before = record {
         zero_place k small = omega (arith, small)
 
 -- one that got what a search listed
-pub appends_found : (kind : ℕ → Type 0) (old new : Search) → old.list ≡ [] → Adds kind old new → (before : List ℕ)
+pub appends_found : (kind : ℕ → Type 0) (old new : Search) → old.list ≡ [] → AddsOfKind kind old new → (before : List ℕ)
     → AppendsNew old.reached new.reached before (before ++ new.list)
-appends_found kind old new none a before = record {
-  rest = new.list;
-  appended = refl;
-  listed = λ x. (
-    λ h. let at : get_or new.list h.0 0 ≡ x = contains_at new.list x h in (
-      subst (IsIn new.reached) at (a.inside h.0 (start h.0) h.1),
-      subst (λ y. flag old.reached y ≡ false) at (a.fresh h.0 (start h.0) h.1),
-    ),
-    λ h. ⊎_elim
-        (λ early. absurd (false≢true (sym h.1 ∙ early)))
-        (λ w. contains_from new.list x w.0 w.2 w.3)
-        (a.only x h.0),
-  );
-  once = λ i j d earlier within same. a.once i (start i) j (omega (arith, earlier)) within
-      (get_or_default new.list i 0 d (omega (arith, earlier, within))
-      ∙ (same ∙ get_or_default new.list j d 0 within));
-}
+appends_found kind old new none a before =
+    grind (arith, get_or, contains_at, start, false≢true, contains_from, get_or_default)
   where
     start : (k : ℕ) → length old.list ≤ k
     start k = omega (arith, ap length none)
@@ -67,15 +38,7 @@ appends_found kind old new none a before = record {
 -- what is new to a set with more room is new to the set
 pub appends_widened : (old wide new : List Bool) (before after : List ℕ) → ((x : ℕ) → flag wide x ≡ flag old x)
     → AppendsNew wide new before after → AppendsNew old new before after
-appends_widened old wide new before after same a = record {
-  rest = a.rest;
-  appended = a.appended;
-  listed = λ x. (
-    λ h. let w = (a.listed x).0 h in (w.0, sym (same x) ∙ w.1),
-    λ w. (a.listed x).1 (w.0, same x ∙ w.1),
-  );
-  once = a.once;
-}
+appends_widened old wide new before after same a = grind arith
 
 -- ---- a search goes on from a new element
 
@@ -84,21 +47,11 @@ module _ (step : ℕ → ℕ → Type 0) (e : ℕ) (old first : Search) (none : 
     (a : Visits (λ x. x ≡ e) old first) where
   -- it alone is to be expanded
   pub pending_first : IsPending step first 0
-  pending_first = record {
-    within = omega arith;
-    listed = λ k l h. a.adds.inside k (omega (arith, ap length none)) h;
-    others = λ x h. ⊎_elim
-        (λ early. inr (λ y s. ⊎_elim (a.adds.kept y) (a.all y) (closed x y early s)))
-        (λ w. inl (w.0, omega arith, w.2, w.3))
-        (a.adds.only x h);
-  }
+  pending_first = grind arith
 
   module _ (new : Search) (s : Spreads step first new) where
     first_cause : (x : ℕ) → IsIn first.reached x → IsIn old.reached x ⊎ (x ≡ e)
-    first_cause x h = ⊎_elim
-        inl
-        (λ w. inr (subst (λ v. v ≡ e) w.3 (a.adds.cause w.0 w.1 w.2)))
-        (a.adds.only x h)
+    first_cause x h = grind arith
 
     pub steps_on : StepsOn step e old.reached new.reached
     steps_on = record {
@@ -149,18 +102,7 @@ module _ (g : Graph) (seen : List Bool) (e : ℕ) (here : IsIn seen e) (starts :
   -- at all points the element comes, and nothing else
   pub taken_all : e < length old → Contains starts All → (x : ℕ)
       → IsIn (set old e true) x ↔ IsAskedFrom g (IsIn seen) starts x
-  taken_all within every x = (
-    λ h. ⊎_elim
-        (λ same. (All, every, subst (IsIn seen) (sym same) here))
-        (λ other. old_asked x (sym (get_or-set_other old e x true false other) ∙ h))
-        (cases_eq x e),
-    λ w. ⊎_elim
-        (λ same. subst (IsIn (set old e true)) (sym same)
-        (get_or-set_same old e true false within))
-        (λ other. get_or-set_other old e x true false other
-        ∙ (exact x).1 (All, every, (asked_inside g (IsIn seen) w.0 x w.2, other)))
-        (cases_eq x e),
-  )
+  taken_all within every x = grind (arith, old_asked, get_or-set_other, cases_eq, get_or-set_same, asked_inside)
 
   module _ (nowhere : Contains starts All → ⊥) where
     -- where nothing leads to the element, all stays as it is
@@ -215,9 +157,4 @@ module _ (g : Graph) (seen : List Bool) (e : ℕ) (here : IsIn seen e) (starts :
 -- what was there is what is there without it
 pub without_put : (old : List Bool) (e : ℕ) (new : List Bool) → new ≡ set old e true → true ≡ not (flag old e) → (x : ℕ)
     → IsIn old x ↔ IsWithout new e x
-without_put old e new is put x = (
-  λ h.
-      let other : x ≢ e = λ same. true≢false (put ∙ ap not (subst (λ y. flag old y ≡ true) same h)) in
-      (subst (λ flags. IsIn flags x) (sym is) (get_or-set_other old e x true false other ∙ h), other),
-  λ h. sym (get_or-set_other old e x true false h.1) ∙ subst (λ flags. IsIn flags x) is h.0,
-)
+without_put old e new is put x = grind (arith, true≢false, get_or-set_other)

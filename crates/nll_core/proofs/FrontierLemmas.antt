@@ -1,5 +1,5 @@
 -- A frontier goes on from a run, and is again what walks reach.
-use Rattle.std.proofs.Common.{◌≡◌, ◌⊎◌, ◌↔◌, ℕ, ◌<◌, ◌≤◌, Bool, true, false, List, [], Contains, length, replicate, refl, sym, ◌∙◌, subst, inl, inr, ⊎_elim}
+use Rattle.std.proofs.Common.{◌≡◌, ◌⊎◌, ◌↔◌, ℕ, ◌<◌, ◌≤◌, Bool, true, false, List, [], Contains, length, replicate, refl, sym, ◌∙◌, subst, inl, inr, ⊎_elim, arith}
 use Rattle.std.proofs.lemmas.Bool.{false≢true}
 use Rattle.nll_sets.specs.ElementSet.{flag}
 use Rattle.nll_sets.specs.Runs.{IsWithin, Fills}
@@ -12,7 +12,7 @@ use Rattle.nll_problem.specs.declared.at.At.TheVariants.{All, Point}
 use Rattle.nll_problem.proofs.AskLemmas.{asked_inside, asked_more, asked_weaker}
 use Rattle.nll_problem.proofs.WalkLemmas.{reaches_first, reaches_starts, reaches_more, reaches_carries}
 use Rattle.nll_core.specs.Search.{IsIn}
-use Rattle.nll_core.specs.Frontiers.{Frontier, ReachesFrom, WalksOn, IsAskedFrom, IsFrontierIn, IsBeside, HasOnlyAsked, IsThere, LacksOnlyDue, GrowsByRun, GoesOn, ListsNew, as_places}
+use Rattle.nll_core.specs.Frontiers.{Frontier, ReachesFrom, WalksOn, IsAskedFrom, IsFrontierIn, IsBeside, HasOnlyAsked, IsThere, LacksOnlyDue, GrowsByRun, FrontierGoesOn, ListsNew, as_places}
 use Rattle.nll_core.proofs.SearchLemmas.{none_in_empty}
 use Rattle.nll_core.proofs.PlaceLemmas.{point_in, no_all}
 use Rattle.nll_core.proofs.ResumeLemmas.{outside, within_or}
@@ -30,7 +30,7 @@ module _ (g : Graph) (set : List Bool) (points : List ℕ) where
 
 -- walks went on from the points
 pub goes_by_walks : (g : Graph) (set : List Bool) (run : Run) (points : List ℕ) (old new : List Bool)
-    → WalksOn g set run points old new → GoesOn g set run (as_places points) old new
+    → WalksOn g set run points old new → FrontierGoesOn g set run (as_places points) old new
 goes_by_walks g set run points old new w = record {
   kept = w.kept;
   sound = λ x h. walks_asked g set points x (w.sound x h);
@@ -48,18 +48,9 @@ points_among n points among p h = among (Point p) ((point_in points p).1 h)
 module _ (g : Graph) (set : List Bool) (run : Run) (starts : List At) where
   -- the run came as it is
   pub goes_whole : (old new : List Bool) → Contains starts All → ((x : ℕ) → IsWithin run x → IsIn set x)
-      → ((x : ℕ) → IsIn old x → IsAskedFrom g (IsIn set) starts x) → Fills old new run → GoesOn g set run starts old new
-  goes_whole old new every inside sound f = record {
-    kept = f.kept;
-    sound = λ x h. ⊎_elim (sound x) (λ own. (All, every, inside x own)) (f.cause x h);
-    whole = λ _ x own. f.filled x own.0 own.1;
-    alone = λ _ x h. f.cause x h;
-    begun = λ p _ own. f.filled p own.0 own.1;
-    closed = λ x y h step in_set. ⊎_elim
-        (λ own. inl (f.filled y own.0 own.1))
-        (λ out. inr (inr every, outside run y out))
-        (within_or run y);
-  }
+      → ((x : ℕ) → IsIn old x → IsAskedFrom g (IsIn set) starts x) → Fills old new run
+      → FrontierGoesOn g set run starts old new
+  goes_whole old new every inside sound f = grind (arith, outside, within_or)
 
 -- ---- a frontier that lacked what a run has
 
@@ -75,15 +66,7 @@ Nothing x = false ≡ true
 -- one that lacks nothing has just what is asked for
 pub lacks_nothing : (g : Graph) (inside : ℕ → Type 0) (f : Frontier) → HasOnlyAsked g inside f
     → LacksOnlyDue g inside Nothing f → IsFrontierIn g inside f
-lacks_nothing g inside f sound w x = (
-  sound x,
-  λ asks. w.asked x (
-    asks.0,
-    asks.1,
-    asked_weaker g inside asks.0 (IsThere inside Nothing f.reached)
-        (λ y t. (t, λ never. absurd (false≢true never))) x asks.2,
-  ),
-)
+lacks_nothing g inside f sound w x = grind (arith, asked_weaker, false≢true)
 
 module _ (g : Graph) (set : List Bool) (run : Run) (old : Frontier)
     (exact : IsFrontierIn g (IsBeside set run) old) where
@@ -113,7 +96,7 @@ module _ (g : Graph) (set : List Bool) (run : Run) (old : Frontier)
 
 -- once it went on from the run, a frontier that lacked only what is due and the run lacks only what is due
 module _ (g : Graph) (set : List Bool) (run : Run) (old new : Frontier) (same : new.starts ≡ old.starts)
-    (sound : HasOnlyAsked g (IsIn set) old) (goes : GoesOn g set run old.starts old.reached new.reached)
+    (sound : HasOnlyAsked g (IsIn set) old) (goes : FrontierGoesOn g set run old.starts old.reached new.reached)
     (due : ℕ → Bool) (before : LacksOnlyDue g (IsIn set) (λ x. (due x ≡ true) ⊎ IsWithin run x) old) where
   abbrev there : ℕ → Type 0
   there = IsThere (IsIn set) (λ x. due x ≡ true) new.reached
@@ -123,13 +106,7 @@ module _ (g : Graph) (set : List Bool) (run : Run) (old new : Frontier) (same : 
 
   -- what neither is due nor in the run was there
   was_there : (x : ℕ) → IsIn set x → due x ≡ false → (IsWithin run x → ⊥) → there_before x
-  was_there x inside free out = (
-    inside,
-    λ d. ⊎_elim
-        (λ is. absurd (false≢true (sym free ∙ is)))
-        (λ own. absurd (out own))
-        d,
-  )
+  was_there x inside free out = grind (arith, false≢true)
 
   -- what is there and due is reached; else something is to be shown
   unless_due : (x : ℕ) → there x → (due x ≡ false → IsIn new.reached x) → IsIn new.reached x
@@ -144,22 +121,13 @@ module _ (g : Graph) (set : List Bool) (run : Run) (old new : Frontier) (same : 
       (reaches_first g there_before x (reached_inside g (IsIn set) old sound x h, λ _. h)) step t))
 
   step_on : (x y : ℕ) → IsIn new.reached x → IsStep g x y → there y → IsIn new.reached y
-  step_on x y h step t = unless_due y t (λ free. ⊎_elim
-      (λ i. i)
-      (λ o. let early = was_there y t.0 free o.1 in ⊎_elim
-      (λ had. one_step x y had step early)
-      (λ every. goes.kept y (before.asked y (All, every, early)))
-      o.0)
-      (goes.closed x y h step t.0))
+  step_on x y h step t = grind (arith, unless_due, was_there, one_step)
 
   -- what is in the run or was there at first is reached
   begun_on : (place : At) → Contains old.starts place → (x : ℕ)
       → ((inside : ℕ → Type 0) → inside x → IsAskedIn g inside place x) → (IsWithin run x → IsIn new.reached x)
       → there x → IsIn new.reached x
-  begun_on place start x asks own t = unless_due x t (λ free. ⊎_elim
-      own
-      (λ out. goes.kept x (before.asked x (place, start, asks there_before (was_there x t.0 free (outside run x out)))))
-      (within_or run x))
+  begun_on place start x asks own t = grind (arith, unless_due, was_there, outside, within_or)
 
   asked_on : (x : ℕ) → IsAskedFrom g there old.starts x → IsIn new.reached x
   asked_on x (All, every, t) = begun_on All every x (λ inside t. t) (goes.whole every x) t
@@ -174,7 +142,7 @@ module _ (g : Graph) (set : List Bool) (run : Run) (old new : Frontier) (same : 
   }
 
 module _ (g : Graph) (set : List Bool) (run : Run) (old new : Frontier) (same : new.starts ≡ old.starts)
-    (sound : HasOnlyAsked g (IsIn set) old) (goes : GoesOn g set run old.starts old.reached new.reached) where
+    (sound : HasOnlyAsked g (IsIn set) old) (goes : FrontierGoesOn g set run old.starts old.reached new.reached) where
   pub goes_on_sound : HasOnlyAsked g (IsIn set) new
   goes_on_sound x h = subst (λ starts. IsAskedFrom g (IsIn set) starts x) (sym same) (goes.sound x h)
 
@@ -186,39 +154,21 @@ module _ (g : Graph) (set : List Bool) (run : Run) (old new : Frontier) (same : 
 
 -- with more room it goes on as without
 pub goes_on_widened : (g : Graph) (set : List Bool) (run : Run) (starts : List At) (old wide new : List Bool)
-    → ((x : ℕ) → flag wide x ≡ flag old x) → GoesOn g set run starts wide new → GoesOn g set run starts old new
-goes_on_widened g set run starts old wide new same w = record {
-  kept = λ x h. w.kept x (same x ∙ h);
-  sound = w.sound;
-  whole = w.whole;
-  alone = λ every x h. ⊎_elim (λ o. inl (sym (same x) ∙ o)) inr (w.alone every x h);
-  begun = w.begun;
-  closed = λ x y h step inside. ⊎_elim
-      inl
-      (λ o. inr (⊎_elim (λ early. inl (sym (same x) ∙ early)) inr o.0, o.1))
-      (w.closed x y h step inside);
-}
+    → ((x : ℕ) → flag wide x ≡ flag old x) → FrontierGoesOn g set run starts wide new
+    → FrontierGoesOn g set run starts old new
+goes_on_widened g set run starts old wide new same w = grind arith
 
 -- and lists the same
 pub lists_widened : (old wide new : List Bool) (before after : List Run) → ((x : ℕ) → flag wide x ≡ flag old x)
     → ListsNew wide new before after → ListsNew old new before after
-lists_widened old wide new before after same l = record {
-  longer = l.longer;
-  front = l.front;
-  proper = l.proper;
-  listed = λ x. (
-    λ h. let w = (l.listed x).0 h in (w.0, sym (same x) ∙ w.1),
-    λ w. (l.listed x).1 (w.0, same x ∙ w.1),
-  );
-  apart = l.apart;
-}
+lists_widened old wide new before after same l = grind arith
 
 -- so a frontier that was given room grew by the run
 pub grown_by_run : (g : Graph) (set : List Bool) (run : Run) (old : Frontier) (wide new : List Bool) (refused : Bool)
     (found : List Run)
     → old.refused ≡ false → refused ≡ false → HasOnlyAsked g (IsIn set) old
     → ((x : ℕ) → flag wide x ≡ flag old.reached x) → length new ≤ element_count g
-    → GoesOn g set run old.starts wide new → ListsNew wide new [] found
+    → FrontierGoesOn g set run old.starts wide new → ListsNew wide new [] found
     → GrowsByRun g set run old (record { starts = old.starts; reached = new; refused = refused }) found
 grown_by_run g set run old wide new refused found was is sound same fits goes lists =
     let goes_on = goes_on_widened g set run old.starts old.reached wide new same goes in
@@ -239,23 +189,14 @@ grown_by_run g set run old wide new refused found was is sound same fits goes li
 -- a frontier inside one set is one inside any that has the same elements
 pub frontier_alike : (g : Graph) (inside other : ℕ → Type 0) (f : Frontier) → ((x : ℕ) → inside x ↔ other x)
     → IsFrontierIn g inside f → IsFrontierIn g other f
-frontier_alike g inside other f same is x = (
-  λ h. let w = (is x).0 h in (w.0, w.1, asked_weaker g inside w.0 other (λ y t. (same y).0 t) x w.2),
-  λ w. (is x).1 (w.0, w.1, asked_weaker g other w.0 inside (λ y t. (same y).1 t) x w.2),
-)
+frontier_alike g inside other f same is x = grind (arith, asked_weaker)
 
 -- what a set had before a run of others came is what it has beside the run
 pub beside_filled : (old new : List Bool) (run : Run) → Fills old new run
     → ((x : ℕ) → IsWithin run x → flag old x ≡ false) → (x : ℕ) → IsIn old x ↔ IsBeside new run x
-beside_filled old new run f lacks x = (
-  λ h. (f.kept x h, λ own. false≢true (sym (lacks x own) ∙ h)),
-  λ h. ⊎_elim (λ early. early) (λ own. absurd (h.1 own)) (f.cause x h.0),
-)
+beside_filled old new run f lacks x = grind (arith, false≢true)
 
 -- a frontier that has reached nothing is one inside the empty set
 pub frontier_none : (g : Graph) (n : ℕ) (starts : List At) → (x : ℕ)
     → IsIn [] x ↔ IsAskedFrom g (IsIn (replicate n false)) starts x
-frontier_none g n starts x = (
-  λ h. absurd (false≢true h),
-  λ w. absurd (none_in_empty n x (asked_inside g (IsIn (replicate n false)) w.0 x w.2)),
-)
+frontier_none g n starts x = grind (arith, false≢true, none_in_empty, asked_inside)

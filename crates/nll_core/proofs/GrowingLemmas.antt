@@ -27,42 +27,10 @@ module _ (values : List (List Bool)) (region e : ℕ) (within : region < length 
   held_one = ap (λ x. flag x e) row_here ∙ get_or-set_same (set_of values region) e true false below
 
   pub gains_one : (kind : ℕ → ℕ → Type 0) → kind region e → Gains kind values (with_element values region e)
-  gains_one kind h = record {
-    width = length-set values region row;
-    widths = λ r. ⊎_elim
-        (λ same. subst (λ x. length (set_of (with_element values region e) x) ≡ length (set_of values x)) (sym same)
-        (ap length row_here ∙ length-set (set_of values region) e true))
-        (λ other. ap length (row_other r other))
-        (cases_eq r region);
-    kept = λ r f k. ⊎_elim
-        (λ same. subst (λ x. IsHeld (with_element values region e) x f) (sym same)
-        (ap (λ x. flag x f) row_here ∙ ⊎_elim
-        (λ at. subst (λ x. flag row x ≡ true) (sym at) (get_or-set_same (set_of values region) e true false below))
-        (λ other. get_or-set_other (set_of values region) e f true false other ∙ subst (λ x. IsHeld values x f) same k)
-        (cases_eq f e)))
-        (λ other. ap (λ x. flag x f) (row_other r other) ∙ k)
-        (cases_eq r region);
-    cause = λ r f k. ⊎_elim
-        (λ same. ⊎_elim
-        (λ at. inr (subst (λ x. kind x f) (sym same) (subst (kind region) (sym at) h)))
-        (λ other. inl (subst (λ x. IsHeld values x f) (sym same)
-        (sym (get_or-set_other (set_of values region) e f true false other)
-        ∙ (sym (ap (λ x. flag x f) row_here) ∙ subst (λ x. IsHeld (with_element values region e) x f) same k))))
-        (cases_eq f e))
-        (λ other. inl (sym (ap (λ x. flag x f) (row_other r other)) ∙ k))
-        (cases_eq r region);
-  }
+  gains_one kind h = grind (arith, length-set, row_here, row_other, cases_eq, get_or-set_same, get_or-set_other)
 
   pub tells_one : Tells (not (holds values region e)) values (with_element values region e)
-  tells_one = record {
-    same = λ h.
-        let held : flag (set_of values region) e ≡ true = not-false _ h in
-        ap (λ x. set values region x) (subst (λ b. set (set_of values region) e b ≡ set_of values region) held
-        (set-get_or (set_of values region) e false)) ∙ set-get_or values region [];
-    fewer = λ h.
-        let one = missing_one (set_of values region) e below (not-true _ h) in
-        omega (arith, one, sum_by-set missing values region row [] within);
-  }
+  tells_one = grind (arith, not-false, set-get_or, missing_one, not-true, sum_by-set)
 
 -- ---- none, and some after some
 
@@ -72,23 +40,12 @@ module _ (kind : ℕ → ℕ → Type 0) where
 
   pub gains_append : (old middle new : List (List Bool)) → Gains kind old middle → Gains kind middle new
       → Gains kind old new
-  gains_append old middle new p q = record {
-    width = q.width ∙ p.width;
-    widths = λ r. q.widths r ∙ p.widths r;
-    kept = λ r e h. q.kept r e (p.kept r e h);
-    cause = λ r e h. ⊎_elim (p.cause r e) inr (q.cause r e h);
-  }
+  gains_append old middle new p q = grind arith
 
 -- what is of a kind is of any larger kind
 pub gains_weaker : (kind larger : ℕ → ℕ → Type 0) → ((r e : ℕ) → kind r e → larger r e) → (old new : List (List Bool))
     → Gains kind old new → Gains larger old new
-gains_weaker kind larger has old new p =
-    record {
-      width = p.width;
-      widths = p.widths;
-      kept = p.kept;
-      cause = λ r e h. ⊎_elim inl (λ x. inr (has r e x)) (p.cause r e h);
-    }
+gains_weaker kind larger has old new p = grind arith
 
 pub tells_none : (values : List (List Bool)) → Tells false values values
 tells_none values = record { same = λ h. refl; fewer = λ h. absurd (false≢true h) }
@@ -97,25 +54,12 @@ pub tells_append : (x y : Bool) (old middle new : List (List Bool)) → Tells x 
     → Tells (x || y) old new
 tells_append true true old middle new p q =
     record { same = λ h. absurd (true≢false h); fewer = λ h. omega (arith, p.fewer refl, q.fewer refl) }
-tells_append true false old middle new p q =
-    record {
-      same = λ h. absurd (true≢false h);
-      fewer = λ h. subst (λ z. missing_pairs z < missing_pairs old) (sym (q.same refl)) (p.fewer refl);
-    }
-tells_append false true old middle new p q =
-    record {
-      same = λ h. absurd (true≢false h);
-      fewer = λ h. subst (λ z. missing_pairs new < missing_pairs z) (p.same refl) (q.fewer refl);
-    }
+tells_append true false old middle new p q = grind (arith, true≢false)
+tells_append false true old middle new p q = grind (arith, true≢false)
 tells_append false false old middle new p q =
     record { same = λ h. q.same refl ∙ p.same refl; fewer = λ h. absurd (false≢true h) }
 
 -- empty values hold nothing
 pub nothing_held : (regions elements r e : ℕ) → IsHeld (replicate regions (replicate elements false)) r e → ⊥
-nothing_held regions elements r e h = ⊎_elim
-    (λ within. none_in_empty elements e
-    (subst (λ x. flag x e ≡ true) (get_or-replicate regions r (replicate elements false) [] within) h))
-    (λ past. false≢true (subst (λ x. flag x e ≡ true)
-    (get_or_past (replicate regions (replicate elements false)) r []
-    (subst (λ k. k ≤ r) (sym (length-replicate regions (replicate elements false))) past)) h))
-    (cases_lt r regions)
+nothing_held regions elements r e h =
+    grind (arith, none_in_empty, get_or-replicate, false≢true, get_or_past, length-replicate, cases_lt)

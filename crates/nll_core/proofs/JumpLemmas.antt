@@ -9,20 +9,12 @@ use Rattle.nll_core.specs.Lines.{IsJump, StandsIn, AreJumps, Pushes}
 
 -- nothing
 pub pushes_none : (kind : ℕ → Type 0) (list : List ℕ) → ((t : ℕ) → kind t → ⊥) → Pushes kind list list
-pushes_none kind list none = record {
-  longer = omega arith;
-  front = λ k h. refl;
-  each = λ t. (λ h. absurd (none t h), λ (k, l, m, is). absurd (omega (arith, l, m)));
-}
+pushes_none kind list none = grind arith
 
 -- the same by another name
 pub pushes_same : (kind other : ℕ → Type 0) (old new : List ℕ) → ((t : ℕ) → other t ↔ kind t) → Pushes kind old new
     → Pushes other old new
-pushes_same kind other old new same p = record {
-  longer = p.longer;
-  front = p.front;
-  each = λ t. (λ h. (p.each t).0 ((same t).0 h), λ s. (same t).1 ((p.each t).1 s));
-}
+pushes_same kind other old new same p = grind arith
 
 -- one more
 pub pushes_more : (kind larger : ℕ → Type 0) (old now : List ℕ) (x : ℕ) → ((t : ℕ) → larger t ↔ (kind t ⊎ (t ≡ x)))
@@ -75,11 +67,7 @@ among_first_skip list skipped count here t = (
 
 pub among_all : (list : List ℕ) (skipped count : ℕ) → length list ≤ count → count ≤ length list → (t : ℕ)
     → (Contains list t × (t ≢ skipped)) ↔ AmongFirst list skipped count t
-among_all list skipped count all within t = (
-  λ (h, other). ((h.0, omega (arith, h.1, all), get_or_default list h.0 0 t h.1 ∙ h.2), other),
-  λ ((k, l, is), other). let below : k < length list = omega (arith, l, within) in
-      ((k, below, get_or_default list k t 0 below ∙ is), other),
-)
+among_all list skipped count all within t = grind (arith, get_or_default)
 
 -- whether a number is among the first `count` of the list
 abbrev pub IsAmongFirst : List ℕ → ℕ → ℕ → Type 0
@@ -87,11 +75,7 @@ IsAmongFirst list count t = (k : ℕ) × (k < count) × (get_or list k 0 ≡ t)
 
 pub is_among_all : (list : List ℕ) (count t : ℕ) → length list ≤ count → count ≤ length list
     → IsAmongFirst list count t ↔ Contains list t
-is_among_all list count t all within = (
-  λ (k, l, is). let below : k < length list = omega (arith, l, within) in
-      (k, below, get_or_default list k t 0 below ∙ is),
-  λ h. (h.0, omega (arith, h.1, all), get_or_default list h.0 0 t h.1 ∙ h.2),
-)
+is_among_all list count t all within = grind (arith, get_or_default)
 
 pub is_among_here : (list : List ℕ) (count t : ℕ) → get_or list count 0 ≡ t
     → (true ≡ true) ↔ IsAmongFirst list (count + 1) t
@@ -99,21 +83,12 @@ is_among_here list count t is = (λ h. (count, omega arith, is), λ h. refl)
 
 pub is_among_other : (list : List ℕ) (count t : ℕ) (some : Bool) → get_or list count 0 ≢ t
     → (some ≡ true) ↔ IsAmongFirst list count t → (some ≡ true) ↔ IsAmongFirst list (count + 1) t
-is_among_other list count t some apart before = (
-  λ h. let w = before.0 h in (w.0, omega (arith, w.1), w.2),
-  λ (k, l, is). ⊎_elim (λ here. absurd (apart (sym (ap (λ i. get_or list i 0) here) ∙ is)))
-      (λ other. before.1 (k, omega (arith, l, other), is)) (cases_eq k count),
-)
+is_among_other list count t some apart before = grind (arith, get_or, cases_eq)
 
 -- ---- the jumps of points, one point after another
 
 pub jumps_first : (g : Graph) → AreJumps g 0 (0 ∷ []) []
-jumps_first g = record {
-  sized = refl;
-  ordered = λ i j h k. let a : i ≡ j = omega (arith, h, k) in omega (arith, ap (λ x. get_or {A = ℕ} (0 ∷ []) x 0) a);
-  last = refl;
-  each = λ x t h. absurd (omega (arith, h));
-}
+jumps_first g = grind (arith, get_or)
 
 module _ (g : Graph) (count : ℕ) (starts targets more : List ℕ) (j : AreJumps g count starts targets)
     (p : Pushes (IsJump g count) targets more) where
@@ -131,39 +106,16 @@ module _ (g : Graph) (count : ℕ) (starts targets more : List ℕ) (j : AreJump
 
   -- what stands in the part before stays
   stays : (from to t : ℕ) → to ≤ length targets → StandsIn targets from to t ↔ StandsIn more from to t
-  stays from to t within = (
-    λ (k, l, m, is). (k, l, m, p.front k (omega (arith, m, within)) ∙ is),
-    λ (k, l, m, is). (k, l, m, sym (p.front k (omega (arith, m, within))) ∙ is),
-  )
+  stays from to t within = grind arith
 
   moved : (x t a b : ℕ) → a ≡ get_or ends x 0 → b ≡ get_or ends (x + 1) 0
       → StandsIn more a b t ↔ StandsIn more (get_or ends x 0) (get_or ends (x + 1) 0) t
-  moved x t a b e f = (
-    λ (k, l, m, is). (k, omega (arith, l, e), omega (arith, m, f), is),
-    λ (k, l, m, is). (k, omega (arith, l, e), omega (arith, m, f), is),
-  )
+  moved x t a b e f = grind arith
 
   pub jumps_more : AreJumps g (count + 1) ends more
   jumps_more = record {
     sized = omega (arith, length-append starts (length more ∷ []), j.sized);
-    ordered = λ a b h k. ⊎_elim
-        (λ last. ⊎_elim
-        (λ both. omega (arith, at_end a both, at_end b last))
-        (λ front. omega (
-          arith,
-          at_end b last,
-          before a (omega (arith, h, last, front)),
-          start_below a (omega (arith, h, last, front)),
-          p.longer,
-        ))
-        (cases_eq a (count + 1)))
-        (λ front. omega (
-          arith,
-          before a (omega (arith, h, k, front)),
-          before b (omega (arith, k, front)),
-          j.ordered a b h (omega (arith, k, front)),
-        ))
-        (cases_eq b (count + 1));
+    ordered = grind (arith, at_end, before, start_below, cases_eq);
     last = at_end (count + 1) refl;
     each = λ x t h. ⊎_elim
         (λ own.

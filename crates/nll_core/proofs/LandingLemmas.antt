@@ -142,15 +142,7 @@ module _ (list : List Landing) (a b from to : ℕ) (proper : a ≤ b) (start : I
       (start.others k d low (omega (arith, high, end.bound)), (let below = end.below k d high in omega (arith, below)))
 
   pub part_has : (l : Landing) → Contains (slice_range list from to) l ↔ (Contains list l × (a ≤ l.to) × (l.to ≤ b))
-  part_has l = (
-    λ h.
-        let lt : h.0 < to - from = omega (arith, h.1, length_part) in
-        let is = sym (at_part h.0 l lt) ∙ h.2 in
-        let own = between (from + h.0) l (omega arith) (omega (arith, lt)) in
-        let read = ap (λ (m : Landing). m.to) is in
-        ((from + h.0, omega (arith, lt, end.bound), is), omega (arith, own.0, read), omega (arith, own.1, read)),
-    λ h. there h.0.0 h.0.1 h.0.2 h.1 h.2,
-  )
+  part_has l = grind (arith, length_part, at_part, between, there)
     where
       there : (k : ℕ) → k < length list → get_or list k l ≡ l → a ≤ l.to → l.to ≤ b
           → Contains (slice_range list from to) l
@@ -184,21 +176,13 @@ pub below_next : (list : List Landing) (number place : ℕ) (e : Landing)
     → ((k : ℕ) (d : Landing) → k < place → (get_or list k d).to < number)
     → place < length list → (get_or list place e).to < number
     → (k : ℕ) (d : Landing) → k < place + 1 → (get_or list k d).to < number
-below_next list number place e below within low k d less = ⊎_elim
-    (λ same. subst (λ (n : ℕ). (get_or list n d).to < number) (sym same)
-    (subst (λ (l : Landing). l.to < number) (get_or_default list place e d within) low))
-    (λ other. below k d (omega (arith, less, other)))
-    (cases_eq k place)
+below_next list number place e below within low k d less = grind (arith, get_or, get_or_default, cases_eq)
 
 -- where all landings lead below a number, those at it start behind them
 pub start_behind : (list : List Landing) (number place : ℕ)
     → ((k : ℕ) (d : Landing) → k < place → (get_or list k d).to < number)
     → place ≤ length list → length list ≤ place → IsLandingStart list number place
-start_behind list number place below within end = record {
-  bound = within;
-  below = below;
-  others = λ k d low inside. absurd (omega (arith, low, inside, end));
-}
+start_behind list number place below within end = grind arith
 
 -- one number more
 pub starts_more : (list : List Landing) (starts : List ℕ) (number place : ℕ) → length starts ≡ number

@@ -8,7 +8,7 @@ use Rattle.nll_problem.specs.Walks.{Reaches}
 use Rattle.nll_core.specs.Search.{IsIn}
 use Rattle.nll_sets.specs.Runs.{IsInRuns}
 use Rattle.nll_core.specs.Lines.{IsJump}
-use Rattle.nll_core.specs.Walking.{IsLineClosed, Grows, IsLedTo, IsSpread, FillsFrom, constraint_at, no_constraint, PointsAscend, IsLedFrom, AreLedFrom, NoneInside, point_of, AreAskedOf, AreAtPoints, IsPointOf}
+use Rattle.nll_core.specs.Walking.{IsLineClosed, GrowsByRuns, IsLedTo, IsSpread, FillsFrom, constraint_at, no_constraint, PointsAscend, IsLedFrom, AreLedFrom, NoneInside, point_of, AreAskedOf, AreAtPoints, IsPointOf}
 use Rattle.nll_sets.specs.declared.run.Run.{Run}
 use Rattle.nll_problem.specs.declared.constraint.Constraint.{Constraint}
 use Rattle.nll_problem.specs.At.{IsAmong, at_rank}
@@ -60,7 +60,7 @@ module _ (g : Graph) (sub : List Bool) where
   -- The points of the constraints before `place` are settled.
   pub record Entering (pair : List Constraint) (old now : List Bool) (before after : List Run)
       (place : ℕ) : Type 0 where
-    pub grows : Grows g sub (IsLedFrom g sub pair) old now before after
+    pub grows : GrowsByRuns g sub (IsLedFrom g sub pair) old now before after
     pub closed : IsLineClosed g sub now
     pub covers : (k : ℕ) → k < place → IsIn sub (point_of (constraint_at pair k))
         → IsIn now (point_of (constraint_at pair k))
@@ -69,7 +69,7 @@ module _ (g : Graph) (sub : List Bool) where
   pub entering_more : (pair : List Constraint) (old now new : List Bool) (before then next : List Run)
       (place point least place' : ℕ) → PointsAscend pair → point ≡ point_of (constraint_at pair place)
       → place < length pair
-      → Entering pair old now before then place → Grows g sub (Reaches g (IsIn sub) point) now new then next
+      → Entering pair old now before then place → GrowsByRuns g sub (Reaches g (IsIn sub) point) now new then next
       → ((x : ℕ) → point ≤ x → x < least → IsIn sub x → IsIn new x) → (IsIn sub point → IsIn new point)
       → place' ≤ length pair → ((k : ℕ) → place + 1 ≤ k → k < place' → point_of (constraint_at pair k) < least)
       → Entering pair old new before next place'
@@ -100,20 +100,13 @@ module _ (g : Graph) (sub : List Bool) where
   pub entering_skip : (pair : List Constraint) (old now : List Bool) (before then : List Run) (place at : ℕ)
       → at ≤ length pair → NoneInside sub pair place at → Entering pair old now before then place
       → Entering pair old now before then at
-  entering_skip pair old now before then place at bound none e = record {
-    grows = e.grows;
-    closed = e.closed;
-    covers =
-        λ k h s. ⊎_elim (λ front. e.covers k front s) (λ past. absurd (false≢true (sym (none k past h) ∙ s)))
-        (cases_lt k place);
-    within = bound;
-  }
+  entering_skip pair old now before then place at bound none e = grind (arith, false≢true, cases_lt)
 
   -- ---- the whole
 
   module _ (sound : IsSound g) (pair : List Constraint) (old middle new : List Bool) (list : List Run)
       (all_runs : List Run) (ends : Bool) (nothing : (x : ℕ) → flag old x ≡ false)
-      (p : Grows g sub (IsLedFrom g sub pair) old middle [] list)
+      (p : GrowsByRuns g sub (IsLedFrom g sub pair) old middle [] list)
       (covers : (c : Constraint) → Contains pair c → IsIn sub (point_of c) → IsIn middle (point_of c))
       (s : IsSpread g sub middle new list all_runs ends) where
     entered : (x : ℕ) → IsIn middle x → IsLedFrom g sub pair x
@@ -126,14 +119,7 @@ module _ (g : Graph) (sub : List Bool) where
         (s.grows.cause x h)
 
     all_listed : (x : ℕ) → IsIn new x → IsInRuns all_runs x
-    all_listed x h = ⊎_elim
-        (λ early. ⊎_elim
-        (λ o. absurd (false≢true (sym (nothing x) ∙ o)))
-        (λ (k, from, l, a, b). let at = s.grows.front k l in
-        (k, omega (arith, l, s.grows.longer), omega (arith, a, at.0), omega (arith, b, at.1)))
-        (p.pending x early))
-        (λ (k, from, l, a, b). (k, l, a, b))
-        (s.grows.pending x h)
+    all_listed x h = grind (arith, false≢true)
 
     closed : IsLineClosed g sub new
     closed =
@@ -180,12 +166,9 @@ module _ (g : Graph) (sub : List Bool) where
     )
 
   module _ (pair : List Constraint) (old middle : List Bool) (list : List Run) (nothing : (x : ℕ) → flag old x ≡ false)
-      (p : Grows g sub (IsLedFrom g sub pair) old middle [] list) where
+      (p : GrowsByRuns g sub (IsLedFrom g sub pair) old middle [] list) where
     pub start_listed : (x : ℕ) → IsInRuns list x ↔ IsIn middle x
-    start_listed x = (
-      λ (k, l, a, b). (p.listed x (k, omega arith, l, a, b)).0,
-      λ h. ⊎_elim (λ o. absurd (false≢true (sym (nothing x) ∙ o))) (λ (k, from, l, a, b). (k, l, a, b)) (p.pending x h),
-    )
+    start_listed x = grind (arith, false≢true)
 
     pub start_inside : (x : ℕ) → IsIn middle x → IsIn sub x
     start_inside x h =
@@ -228,10 +211,7 @@ led_asks g sub pair reached points led x = (
 -- a constraint at all points asks for the whole set, and no other asks for more
 pub whole_asked : (g : Graph) (sub : List Bool) (pair : List Constraint)
     → (c : Constraint) × Contains pair c × (c.at ≡ All) → AreAskedOf g sub pair sub
-whole_asked g sub pair every x = (
-  λ h. (every.0, every.1, subst (λ place. IsAskedIn g (IsIn sub) place x) (sym every.2) h),
-  λ w. asked_inside g (IsIn sub) w.0.at x w.2,
-)
+whole_asked g sub pair every x = grind (arith, asked_inside)
 
 -- the first constraint holds at all points where any does
 rank_of : (place : At) → at_rank place ≤ 0 → place ≡ All

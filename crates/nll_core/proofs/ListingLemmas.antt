@@ -6,43 +6,22 @@ use Rattle.nll_sets.specs.Runs.{IsInRunsFrom, ListsGaps, Fills}
 use Rattle.nll_sets.specs.declared.run.Run.{Run}
 use Rattle.nll_problem.specs.Graph.{Graph}
 use Rattle.nll_core.specs.Search.{IsIn}
-use Rattle.nll_core.specs.Walking.{Grows}
+use Rattle.nll_core.specs.Walking.{GrowsByRuns}
 use Rattle.nll_core.specs.Frontiers.{ListsNew}
 
 -- nothing is new
 pub lists_none : (flags : List Bool) (runs : List Run) → ListsNew flags flags runs runs
-lists_none flags runs = record {
-  longer = omega arith;
-  front = λ k l. (refl, refl);
-  proper = λ k from l. absurd (omega (arith, from, l));
-  listed = λ x. (λ (k, from, l, a, b). absurd (omega (arith, from, l)), λ h. absurd (false≢true (sym h.1 ∙ h.0)));
-  apart = λ j k x from less l a b. omega (arith, from, less, l);
-}
+lists_none flags runs = grind (arith, false≢true)
 
 -- the gaps of a run are what is new once the run is put in
 pub lists_gaps : (old new : List Bool) (run : Run) (before after : List Run) → ListsGaps old run before after
     → Fills old new run → ListsNew old new before after
-lists_gaps old new run before after l f = record {
-  longer = l.longer;
-  front = l.front;
-  proper = l.proper;
-  listed = λ x. (
-    λ h. let own = (l.listed x).0 h in (f.filled x own.0.0 own.0.1, own.1),
-    λ h. (l.listed x).1 (⊎_elim (λ o. absurd (false≢true (sym h.1 ∙ o))) (λ w. w) (f.cause x h.0), h.1),
-  );
-  apart = l.apart;
-}
+lists_gaps old new run before after l f = grind (arith, false≢true)
 
 -- what a walk lists in an empty list is what is new
 pub lists_grown : (g : Graph) (sub : List Bool) (kind : ℕ → Type 0) (old new : List Bool) (after : List Run)
-    → Grows g sub kind old new [] after → ListsNew old new [] after
-lists_grown g sub kind old new after p = record {
-  longer = p.longer;
-  front = p.front;
-  proper = λ k from l. (p.fit (λ i h. absurd (omega (arith, h))) k l).0;
-  listed = λ x. (p.listed x, λ h. ⊎_elim (λ o. absurd (false≢true (sym h.1 ∙ o))) (λ i. i) (p.pending x h.0));
-  apart = p.apart;
-}
+    → GrowsByRuns g sub kind old new [] after → ListsNew old new [] after
+lists_grown g sub kind old new after p = grind (arith, false≢true)
 
 -- what came first and what came then is what is new
 module _ (old middle new : List Bool) (xs ys zs : List Run) (first : (x : ℕ) → IsIn old x → IsIn middle x)
@@ -55,11 +34,7 @@ module _ (old middle new : List Bool) (xs ys zs : List Run) (first : (x : ℕ) �
       by true is = absurd (false≢true (sym h ∙ first x is))
 
   each : (x : ℕ) → IsInRunsFrom (length xs) zs x → IsIn new x × (flag old x ≡ false)
-  each x (k, from, l, a, b) = ⊎_elim
-      (λ mid. let at = q.front k mid in let o = (p.listed x).0
-      (k, from, mid, omega (arith, a, at.0), omega (arith, b, at.1)) in (then x o.0, o.1))
-      (λ past. let o = (q.listed x).0 (k, past, l, a, b) in (o.0, not_before x o.1))
-      (cases_lt k (length ys))
+  each x (k, from, l, a, b) = grind (arith, not_before, cases_lt)
 
   back : (x : ℕ) → IsIn new x → flag old x ≡ false → IsInRunsFrom (length xs) zs x
   back x h fresh = by (flag middle x) refl
@@ -74,10 +49,7 @@ module _ (old middle new : List Bool) (xs ys zs : List Run) (first : (x : ℕ) �
   lists_append = record {
     longer = omega (arith, p.longer, q.longer);
     front = λ k l. let a = p.front k l in let b = q.front k (omega (arith, l, p.longer)) in (b.0 ∙ a.0, b.1 ∙ a.1);
-    proper = λ k from l. ⊎_elim
-        (λ mid. let at = q.front k mid in omega (arith, at.0, at.1, p.proper k from mid))
-        (λ past. q.proper k past l)
-        (cases_lt k (length ys));
+    proper = grind (arith, cases_lt);
     listed = λ x. (each x, λ h. back x h.0 h.1);
     apart = λ j k x from less l a b. ⊎_elim
         (λ mid. let at = q.front j mid in ⊎_elim

@@ -3,7 +3,7 @@ use Rattle.std.proofs.Common.{◌≡◌, ◌↔◌, ℕ, ◌<◌, List, [], ◌�
 use Rattle.nll_problem.specs.At.{at_rank}
 use Rattle.nll_problem.specs.declared.at.At.{At}
 use Rattle.nll_problem.specs.declared.at.At.TheVariants.{All, Point}
-use Rattle.nll_core.specs.Frontiers.{as_places, behind, Ascend, IsAscending}
+use Rattle.nll_core.specs.Frontiers.{as_places, behind_place, Ascend, IsAscending}
 use Rattle.nll_core.proofs.StartLemmas.{ascending_push}
 
 -- a place is one of the points just where its number is
@@ -31,21 +31,23 @@ no_all (q ∷ points) (zero, within, is) = omega (arith, ap at_rank is)
 no_all (q ∷ points) (suc k, within, is) = no_all points (k, omega (arith, within), is)
 
 -- they are among places where they are the first one
-pub all_first : (place : At) (points : List ℕ) → place ≡ All → Contains (behind place points) All
+pub all_first : (place : At) (points : List ℕ) → place ≡ All → Contains (behind_place place points) All
 all_first place points is = (0, omega arith, is)
 
 -- and aren't where that is a point
-pub all_nowhere : (place : At) (points : List ℕ) (p : ℕ) → place ≡ Point p → Contains (behind place points) All → ⊥
-all_nowhere place points p is h = no_all (p ∷ points) (subst (λ (x : At). Contains (behind x points) All) is h)
+pub all_nowhere : (place : At) (points : List ℕ) (p : ℕ) → place ≡ Point p → Contains (behind_place place points) All
+    → ⊥
+all_nowhere place points p is h = no_all (p ∷ points) (subst (λ (x : At). Contains (behind_place x points) All) is h)
 
 -- all points come behind no place
-pub none_before_all : (place : At) (points : List ℕ) → ((x : At) → Contains (behind place points) x → at_rank x < 0) → ⊥
+pub none_before_all : (place : At) (points : List ℕ) → ((x : At) → Contains (behind_place place points) x
+    → at_rank x < 0) → ⊥
 none_before_all place points before = let less = before place (0, omega arith, refl) in omega (arith, less)
 
 pub ascend_pushed : (place : At) (old new : List ℕ) (p : ℕ) → new ≡ old ++ p ∷ [] → Ascend place old
-    → ((x : At) → Contains (behind place old) x → at_rank x < at_rank (Point p)) → Ascend place new
+    → ((x : At) → Contains (behind_place place old) x → at_rank x < at_rank (Point p)) → Ascend place new
 ascend_pushed place old new p is up before = λ f first. subst (λ xs. IsAscending (f ∷ xs)) (sym is)
     (ascending_push p (f ∷ old) (up f first)
     (λ x h. let less = before (Point x)
-    (subst (λ (y : At). Contains (behind y old) (Point x)) (sym first) (to_places (f ∷ old) x h)) in
+    (subst (λ (y : At). Contains (behind_place y old) (Point x)) (sym first) (to_places (f ∷ old) x h)) in
     omega (arith, less)))

@@ -10,7 +10,7 @@ use Rattle.nll_problem.specs.Walks.{Reaches}
 use Rattle.nll_problem.proofs.WalkLemmas.{reaches_first, reaches_inside, reaches_more}
 use Rattle.nll_core.specs.Search.{IsIn}
 use Rattle.nll_core.specs.Lines.{IsJump}
-use Rattle.nll_core.specs.Walking.{Grows, IsLedTo, IsSpread, AreOfPoints, FillsFrom}
+use Rattle.nll_core.specs.Walking.{GrowsByRuns, IsLedTo, IsSpread, AreRunsOfPoints, FillsFrom}
 use Rattle.nll_core.specs.Frontiers.{ReachesFrom, WalksOn, ResumesPoints, ListsNew}
 use Rattle.nll_core.specs.declared.frontiers.landings.Landing.{Landing}
 use Rattle.nll_core.proofs.SearchLemmas.{flag_within}
@@ -21,10 +21,7 @@ use Rattle.nll_core.proofs.ListingLemmas.{lists_grown, lists_append}
 
 -- a number is in a run, or below it, or above it
 pub within_or : (run : Run) (x : ℕ) → IsWithin run x ⊎ ((x < run.first) ⊎ (run.last < x))
-within_or run x = ⊎_elim
-    (λ low. inr (inl low))
-    (λ from. ⊎_elim (λ high. inr (inr high)) (λ to. inl (omega (arith, from), omega (arith, to))) (cases_lt run.last x))
-    (cases_lt x run.first)
+within_or run x = grind (arith, cases_lt)
 
 pub outside : (run : Run) (x : ℕ) → (x < run.first) ⊎ (run.last < x) → IsWithin run x → ⊥
 outside run x (inl low) w = omega (arith, low, w.0)
@@ -56,18 +53,7 @@ module _ (g : Graph) (set : List Bool) (starts : List ℕ) where
   -- nor where the run is reached
   pub walks_had : (run : Run) (old : List Bool) → ((x : ℕ) → IsIn old x → ReachesFrom g (IsIn set) starts x)
       → ((x : ℕ) → IsWithin run x → IsIn old x) → WalksOn g set run starts old old
-  walks_had run old sound had = record {
-    kept = λ x h. h;
-    sound = sound;
-    begun = λ p there own. had p own;
-    closed = λ x y h step inside. ⊎_elim
-        (λ before. inr (h, λ own. (let low = own.0 in omega (arith, before, low))))
-        (λ from. ⊎_elim
-        (λ past. inr (h, λ own. (let high = own.1 in omega (arith, past, high))))
-        (λ to. inl (had y (from, to)))
-        (cases_lt run.last y))
-        (cases_lt y run.first);
-  }
+  walks_had run old sound had = grind (arith, cases_lt)
 
   -- what is led to from what is reached is reached
   pub led_from : (reached : List Bool) → ((x : ℕ) → IsIn reached x → ReachesFrom g (IsIn set) starts x) → (x : ℕ)
@@ -77,7 +63,7 @@ module _ (g : Graph) (set : List Bool) (starts : List ℕ) where
 
   pub sound_more : (old new : List Bool) (before after : List Run)
       → ((x : ℕ) → IsIn old x → ReachesFrom g (IsIn set) starts x)
-      → Grows g set (ReachesFrom g (IsIn set) starts) old new before after → (x : ℕ) → IsIn new x
+      → GrowsByRuns g set (ReachesFrom g (IsIn set) starts) old new before after → (x : ℕ) → IsIn new x
       → ReachesFrom g (IsIn set) starts x
   sound_more old new before after sound p x h = ⊎_elim (sound x) (λ k. k) (p.cause x h)
 
@@ -107,9 +93,9 @@ module _ (g : Graph) (set : List Bool) (starts : List ℕ) where
       -- else its points are entered from which walks go on
       module _ (part : Run) (first : part.first ≡ run.first)
           (last : (x : ℕ) → x ≤ run.last → x < g.points → x ≤ part.last) (es : List Run) (none : es ≡ [])
-          (one two : List Bool) (fs gs : List Run) (a : Grows g set (IsLedTo g set old) old one es fs)
+          (one two : List Bool) (fs gs : List Run) (a : GrowsByRuns g set (IsLedTo g set old) old one es fs)
           (near : (x : ℕ) → IsIn old x → IsNext g x (x + 1) → IsWithin part (x + 1) → IsIn one (x + 1))
-          (b : Grows g set (ReachesFrom g (IsIn set) starts) one two fs gs) where
+          (b : GrowsByRuns g set (ReachesFrom g (IsIn set) starts) one two fs gs) where
         one_sound : (x : ℕ) → IsIn one x → ReachesFrom g (IsIn set) starts x
         one_sound x h = ⊎_elim (old_sound x) (led_from old old_sound x) (a.cause x h)
 
@@ -125,9 +111,9 @@ module _ (g : Graph) (set : List Bool) (starts : List ℕ) where
 
         module _ (begin : (p : ℕ) → Contains starts p → IsWithin part p → IsIn two p) (three : List Bool)
             (hs : List Run)
-            (c : Grows g set (IsLedTo g set two) two three gs hs)
+            (c : GrowsByRuns g set (IsLedTo g set two) two three gs hs)
             (land : (x t : ℕ) → IsIn two x → IsJump g x t → IsWithin part t → IsIn three t) where
-          entered : Grows g set (ReachesFrom g (IsIn set) starts) old three es hs
+          entered : GrowsByRuns g set (ReachesFrom g (IsIn set) starts) old three es hs
           entered = grows_append g set (ReachesFrom g (IsIn set) starts) _ _ _ _ _ _
               (grows_append g set (ReachesFrom g (IsIn set) starts) _ _ _ _ _ _
               (grows_weaker g set (IsLedTo g set old) (ReachesFrom g (IsIn set) starts)
@@ -144,12 +130,12 @@ module _ (g : Graph) (set : List Bool) (starts : List ℕ) where
           pub three_listed : (x : ℕ) → IsInRuns hs x → IsIn three x
           three_listed x (k, l, low, high) = (entered.listed x (k, omega (arith, ap length none), l, low, high)).0
 
-          pub three_fit : AreOfPoints g hs
+          pub three_fit : AreRunsOfPoints g hs
           three_fit = entered.fit (λ k h. absurd (omega (arith, ap length none, h)))
 
           -- and the walks go on
           module _ (four : List Bool) (ks : List Run) (ended : Bool) (s : IsSpread g set three four hs ks ended) where
-            whole : Grows g set (ReachesFrom g (IsIn set) starts) old four es ks
+            whole : GrowsByRuns g set (ReachesFrom g (IsIn set) starts) old four es ks
             whole = grows_append g set (ReachesFrom g (IsIn set) starts) _ _ _ _ _ _ entered
                 (grows_weaker g set (IsLedTo g set three) (ReachesFrom g (IsIn set) starts)
                 (led_from three three_sound) _ _ _ _ s.grows)
@@ -207,10 +193,7 @@ module _ (g : Graph) (set : List Bool) (starts : List ℕ) where
             go_on : (y z : ℕ) → IsIn points_reached y → IsStep g y z → IsIn set z
                 → IsIn points_reached z ⊎ (IsIn old y × (IsWithin run z → ⊥))
             go_on y z h (inl next) inside = p.closed y z h next inside
-            go_on y z h (inr back) inside = ⊎_elim
-                (λ e. absurd (false≢true (sym none ∙ e)))
-                (λ o. inr (o, λ w. absurd (let low = never y h back.0 in omega (arith, low, w.1, back.1.0))))
-                (p.ends y h back.0)
+            go_on y z h (inr back) inside = grind (arith, false≢true)
 
         -- else all ends in the set come to it
         pub resumed_ends : (all : List Bool) (n : ℕ) → n ≡ g.points → length set ≡ element_count g
@@ -242,7 +225,7 @@ module _ (g : Graph) (set : List Bool) (starts : List ℕ) where
         pub lists_resumed : es ≡ [] → ListsNew old points_reached [] list
         lists_resumed none =
             lists_grown g set (ReachesFrom g (IsIn set) starts) old points_reached list
-            (subst (λ xs. Grows g set (ReachesFrom g (IsIn set) starts) old points_reached xs list) none p.grows)
+            (subst (λ xs. GrowsByRuns g set (ReachesFrom g (IsIn set) starts) old points_reached xs list) none p.grows)
 
         pub lists_resumed_ends : es ≡ [] → (all : List Bool) (n : ℕ) (whole : List Run)
             → FillsFrom n set points_reached all → ListsNew points_reached all list whole → ListsNew old all [] whole
@@ -255,14 +238,14 @@ module _ (g : Graph) (set : List Bool) (starts : List ℕ) where
 -- followed.
 pub record NextOn (g : Graph) (set : List Bool) (part : Run) (old now : List Bool) (before after : List Run)
     (from : ℕ) : Type 0 where
-  pub grows : Grows g set (IsLedTo g set old) old now before after
+  pub grows : GrowsByRuns g set (IsLedTo g set old) old now before after
   pub low : part.first ≤ from + 1
   pub covers : (x : ℕ) → IsIn old x → IsNext g x (x + 1) → IsWithin part (x + 1) → x < from → IsIn now (x + 1)
 
 module _ (g : Graph) (set : List Bool) (part : Run) (old : List Bool) (before : List Run) where
   -- what is led to from what is reached now was led to from what was reached at first
   led_on : (now : List Bool) (after : List Run) → ((x : ℕ) → IsIn old x → IsIn set x)
-      → Grows g set (IsLedTo g set old) old now before after → (x : ℕ) → IsLedTo g set now x → IsLedTo g set old x
+      → GrowsByRuns g set (IsLedTo g set old) old now before after → (x : ℕ) → IsLedTo g set now x → IsLedTo g set old x
   led_on now after inside p x w =
       let source : IsLedTo g set old w.0 =
       ⊎_elim (λ o. (w.0, o, reaches_first g (IsIn set) w.0 (inside w.0 o))) (λ led. led) (p.cause w.0 w.1) in
@@ -276,7 +259,7 @@ module _ (g : Graph) (set : List Bool) (part : Run) (old : List Bool) (before : 
 
   pub next_more : (now new : List Bool) (then after : List Run) (from last : ℕ) → ((x : ℕ) → IsIn old x → IsIn set x)
       → from ≤ last → ((x : ℕ) → from ≤ x → x < last → IsIn now x → IsIn now (x + 1))
-      → NextOn g set part old now before then from → Grows g set (IsLedTo g set now) now new then after
+      → NextOn g set part old now before then from → GrowsByRuns g set (IsLedTo g set now) now new then after
       → (IsNext g last (last + 1) → IsIn new (last + 1)) → NextOn g set part old new before after (last + 1)
   next_more now new then after from last inside past on s p here = record {
     grows = grows_append g set (IsLedTo g set old) _ _ _ _ _ _ s.grows
@@ -295,17 +278,14 @@ module _ (g : Graph) (set : List Bool) (part : Run) (old : List Bool) (before : 
       → ((x : ℕ) → from ≤ x → x < part.last → IsIn now x → IsIn now (x + 1))
       → NextOn g set part old now before after from
       → (x : ℕ) → IsIn old x → IsNext g x (x + 1) → IsWithin part (x + 1) → IsIn now (x + 1)
-  next_end now after from on s x h next w = ⊎_elim
-      (s.covers x h next w)
-      (λ late. on x late (omega (arith, w.1)) (s.grows.kept x h))
-      (cases_lt x from)
+  next_end now after from on s x h next w = grind (arith, cases_lt)
 
 -- ---- the points from which walks begin
 
 -- The points of the list from the first number of the run up to `next` are entered.
 pub record Beginning (g : Graph) (set : List Bool) (starts : List ℕ) (first : ℕ) (old now : List Bool)
     (before after : List Run) (next : ℕ) : Type 0 where
-  pub grows : Grows g set (ReachesFrom g (IsIn set) starts) old now before after
+  pub grows : GrowsByRuns g set (ReachesFrom g (IsIn set) starts) old now before after
   pub low : first ≤ next
   pub covers : (p : ℕ) → Contains starts p → first ≤ p → p < next → IsIn now p
 
@@ -313,7 +293,7 @@ module _ (g : Graph) (set : List Bool) (starts : List ℕ) (first : ℕ) where
   pub beginning_more : (old now new : List Bool) (before then after : List Run) (next start end : ℕ)
       → Contains starts start → next ≤ start → ((x : ℕ) → Contains starts x → next ≤ x → start ≤ x)
       → Beginning g set starts first old now before then next
-      → Grows g set (Reaches g (IsIn set) start) now new then after → start ≤ end
+      → GrowsByRuns g set (Reaches g (IsIn set) start) now new then after → start ≤ end
       → ((x : ℕ) → start ≤ x → x ≤ end → IsIn new x)
       → Beginning g set starts first old new before after (end + 1)
   beginning_more old now new before then after next start end at past least b p order here = record {
@@ -350,7 +330,7 @@ jump_from g sound x t (inr back) = sound.returns_in_range x back.0
 -- The first `count` landings of the list are gone through.
 pub record LandingOn (g : Graph) (set : List Bool) (list : List Landing) (old now : List Bool) (before after : List Run)
     (count : ℕ) : Type 0 where
-  pub grows : Grows g set (IsLedTo g set old) old now before after
+  pub grows : GrowsByRuns g set (IsLedTo g set old) old now before after
   pub covers : (k : ℕ) (d : Landing) → k < count → k < length list → IsIn old (get_or list k d).from
       → IsIn now (get_or list k d).to
 
@@ -372,7 +352,8 @@ module _ (g : Graph) (set : List Bool) (list : List Landing) (old : List Bool) (
       → (now new : List Bool) (then after : List Run) (count : ℕ) (l : Landing)
       → ((d : Landing) → get_or list count d ≡ l) → IsJump g l.from l.to → l.to < g.points → IsIn set l.to
       → IsIn now l.from
-      → LandingOn g set list old now before then count → Grows g set (Reaches g (IsIn set) l.to) now new then after
+      → LandingOn g set list old now before then count → GrowsByRuns g set (Reaches g
+      (IsIn set) l.to) now new then after
       → IsIn new l.to → LandingOn g set list old new before after (count + 1)
   landing_more inside now new then after count l is jump point here from p q there = record {
     grows = grows_append g set (IsLedTo g set old) _ _ _ _ _ _ p.grows

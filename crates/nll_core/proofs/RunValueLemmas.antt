@@ -16,16 +16,7 @@ tells_row : (values : List (List Bool)) (region : ℕ) (old row : List Bool) (ru
     → region < length values → old ≡ get_or values region [] → Fills old row run
     → (changed ≡ false → row ≡ old) → (changed ≡ true → (x : ℕ) × IsWithin run x × (flag old x ≡ false))
     → Tells changed values (set values region row)
-tells_row values region old row run changed within is f same fresh = record {
-  same = λ e. ap (set values region) (same e ∙ is) ∙ set-get_or values region [];
-  fewer = λ e. let w = fresh e in
-      omega (
-        arith,
-        missing_less old row w.0 f.width f.kept w.2 (f.filled w.0 w.1.0 w.1.1),
-        sum_by-set missing values region row [] within,
-        ap missing is,
-      );
-}
+tells_row values region old row run changed within is f same fresh = grind (arith, set-get_or, missing_less, sum_by-set)
 
 pub tells_filled : (values : List (List Bool)) (region : ℕ) (old row : List Bool) (run : Run) {E : Type 0}
     (r : Result Bool E) → region < length values → old ≡ get_or values region [] → OnOk r (Fills old row run)
@@ -61,31 +52,7 @@ fewer_filled values region old row run (Err e) within proper is f = f
 gains_row : (values : List (List Bool)) (region : ℕ) (old row : List Bool) (run : Run) → region < length values
     → old ≡ get_or values region [] → Fills old row run
     → Gains (λ r e. (r ≡ region) × IsWithin run e) values (set values region row)
-gains_row values region old row run within is f =
-    let now : List (List Bool) = set values region row in
-    let here : set_of now region ≡ row = get_or-set_same values region row [] within in
-    let there : (r : ℕ) → r ≢ region → set_of now r ≡ set_of values r =
-    λ r other. get_or-set_other values region r row [] other in
-    record {
-      width = length-set values region row;
-      widths = λ r. ⊎_elim
-          (λ same. subst (λ x. length (set_of now x) ≡ length (set_of values x)) (sym same)
-          (ap length here ∙ f.width ∙ ap length is))
-          (λ other. ap length (there r other))
-          (cases_eq r region);
-      kept = λ r e h. ⊎_elim
-          (λ same. subst (λ x. IsHeld now x e) (sym same) (ap (λ x. flag x e) here
-          ∙ f.kept e (ap (λ x. flag x e) is ∙ subst (λ x. IsHeld values x e) same h)))
-          (λ other. ap (λ x. flag x e) (there r other) ∙ h)
-          (cases_eq r region);
-      cause = λ r e h. ⊎_elim
-          (λ same. ⊎_elim
-          (λ o. inl (subst (λ x. IsHeld values x e) (sym same) (sym (ap (λ x. flag x e) is) ∙ o)))
-          (λ w. inr (same, w))
-          (f.cause e (sym (ap (λ x. flag x e) here) ∙ subst (λ x. IsHeld now x e) same h)))
-          (λ other. inl (sym (ap (λ x. flag x e) (there r other)) ∙ h))
-          (cases_eq r region);
-    }
+gains_row values region old row run within is f = grind (arith, get_or-set_same, get_or-set_other, length-set, cases_eq)
 
 pub gains_filled : (values : List (List Bool)) (region : ℕ) (old row : List Bool) (run : Run) {E : Type 0}
     (r : Result Bool E) → region < length values → old ≡ get_or values region [] → OnOk r (Fills old row run)
@@ -119,33 +86,12 @@ module _ (values : List (List Bool)) (sub sup : ℕ) (within : sup < length valu
   covers_copied e h = ap (λ x. flag x e) copied_here ∙ h
 
   pub gains_copied : Gains (λ r e. (r ≡ sup) × IsHeld values sub e) values copied
-  gains_copied = record {
-    width = length-set values sup (set_of values sub);
-    widths = λ r. ⊎_elim
-        (λ same. subst (λ x. length (set_of copied x) ≡ length (set_of values x)) (sym same)
-        (ap length copied_here ∙ widths))
-        (λ other. ap length (copied_other r other))
-        (cases_eq r sup);
-    kept = λ r e h. ⊎_elim
-        (λ same. absurd (nothing e (subst (λ x. IsHeld values x e) same h)))
-        (λ other. ap (λ x. flag x e) (copied_other r other) ∙ h)
-        (cases_eq r sup);
-    cause = λ r e h. ⊎_elim
-        (λ same. inr (same, sym (ap (λ x. flag x e) copied_here) ∙ subst (λ x. IsHeld copied x e) same h))
-        (λ other. inl (sym (ap (λ x. flag x e) (copied_other r other)) ∙ h))
-        (cases_eq r sup);
-  }
+  gains_copied = grind (arith, length-set, copied_here, copied_other, cases_eq)
 
   pub tells_copied : (new : Bool) → (new ≡ false → (e : ℕ) → IsHeld values sub e → ⊥)
       → (new ≡ true → (e : ℕ) × IsHeld values sub e) → Tells new values copied
   tells_copied new none some = record {
     same = λ h. ap (set values sup) (same_flags (set_of values sub) (set_of values sup) widths
         (λ x. false_from_ne_true _ (none h x) ∙ sym (false_from_ne_true _ (nothing x)))) ∙ set-get_or values sup [];
-    fewer = λ h. let w = some h in
-        omega (
-          arith,
-          missing_less (set_of values sup) (set_of values sub) w.0 widths (λ x e. absurd (nothing x e))
-              (false_from_ne_true _ (nothing w.0)) w.1,
-          sum_by-set missing values sup (set_of values sub) [] within,
-        );
+    fewer = grind (arith, missing_less, false_from_ne_true, sum_by-set);
   }

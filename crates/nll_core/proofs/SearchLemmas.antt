@@ -7,7 +7,7 @@ use Rattle.std.proofs.lemmas.List.Sums.{sum_by-set}
 use Rattle.nll_sets.specs.ElementSet.{flag}
 use Rattle.nll_problem.specs.Graph.{Graph, element_count, IsNext, IsReturn, IsStep, IsSound}
 use Rattle.nll_problem.specs.Walks.{IsWalk, Reaches}
-use Rattle.nll_core.specs.Search.{Search, LeadsTo, IsIn, Within, IsStepInside, missing, Adds, Visits, IsPending, Spreads, IsFound, IsCovered, IsLedTo}
+use Rattle.nll_core.specs.Search.{Search, LeadsTo, IsIn, Within, IsStepInside, missing, AddsOfKind, Visits, IsPending, Spreads, IsFound, IsCovered, IsLedTo}
 use Rattle.nll_problem.proofs.WalkLemmas.{walk_first, walk_more, walk_carries, walk_other}
 
 -- ---- flags and lists
@@ -47,107 +47,42 @@ one_if_not b = cond (not b) 1 0
 -- one element more in a set is one less that is missing
 pub missing_one : (flags : List Bool) (e : ℕ) → e < length flags → flag flags e ≡ false
     → missing (set flags e true) + 1 ≡ missing flags
-missing_one flags e within new =
-    let one = sum_by-set one_if_not flags e true false within in
-    let zero = ap (λ b. one_if_not b) new in
-    omega (arith, one, zero)
+missing_one flags e within new = grind (arith, sum_by-set)
 
 -- ---- what is added
 
 module _ (kind : ℕ → Type 0) where
   -- nothing
-  pub adds_none : (s : Search) → Adds kind s s
-  adds_none s = record {
-    width = refl;
-    kept = λ x h. h;
-    longer = omega arith;
-    front = λ k h. refl;
-    fresh = λ k l h. absurd (omega arith);
-    inside = λ k l h. absurd (omega arith);
-    cause = λ k l h. absurd (omega arith);
-    once = λ j l k m h. absurd (omega arith);
-    only = λ x h. inl h;
-    count = refl;
-  }
+  pub adds_none : (s : Search) → AddsOfKind kind s s
+  adds_none s = grind arith
 
   -- some, and then some more
-  pub adds_append : (old middle new : Search) → Adds kind old middle → Adds kind middle new → Adds kind old new
-  adds_append old middle new p q = record {
-    width = q.width ∙ p.width;
-    kept = λ x h. q.kept x (p.kept x h);
-    longer = omega (arith, p.longer, q.longer);
-    front = λ k h. q.front k (omega (arith, p.longer)) ∙ p.front k h;
-    fresh = λ k l h. ⊎_elim (λ m. rw (q.front k m) (p.fresh k l m))
-        (λ m. false_from_ne_true _ (λ e. false≢true (sym (q.fresh k m h) ∙ p.kept _ e)))
-        (cases_lt k (length middle.list));
-    inside =
-        λ k l h. ⊎_elim (λ m. q.kept (get_or new.list k 0)
-        (subst (λ v. flag middle.reached v ≡ true) (sym (q.front k m)) (p.inside k l m))) (λ m. q.inside k m h)
-        (cases_lt k (length middle.list));
-    cause = λ k l h. ⊎_elim (λ m. rw (q.front k m) (p.cause k l m)) (λ m. q.cause k m h)
-        (cases_lt k (length middle.list));
-    once = λ j l k m h. ⊎_elim
-        (λ below. λ e. p.once j l k m below (sym (q.front j (omega arith)) ∙ (e ∙ q.front k below)))
-        (λ above. ⊎_elim
-        (λ low. λ e. false≢true (sym (q.fresh k above h)
-        ∙ (ap (flag middle.reached) (sym e)
-        ∙ subst (λ v. flag middle.reached v ≡ true) (sym (q.front j low)) (p.inside j l low))))
-        (λ high. q.once j high k m h)
-        (cases_lt j (length middle.list)))
-        (cases_lt k (length middle.list));
-    only = λ x h. ⊎_elim
-        (λ before. ⊎_elim inl (λ w. inr (w.0, w.1, omega (arith, w.2, q.longer), q.front w.0 w.2 ∙ w.3))
-        (p.only x before))
-        (λ w. inr (w.0, omega (arith, w.1, p.longer), w.2, w.3))
-        (q.only x h);
-    count = omega (arith, p.count, q.count);
-  }
+  pub adds_append : (old middle new : Search) → AddsOfKind kind old middle → AddsOfKind kind middle new
+      → AddsOfKind kind old new
+  adds_append old middle new p q = grind (arith, false_from_ne_true, false≢true, cases_lt, get_or)
 
   -- one element that isn't in the set yet
   pub adds_one : (s : Search) (e : ℕ) → e < length s.reached → flag s.reached e ≡ false → kind e
-      → Adds kind s (record { reached = set s.reached e true; list = s.list ++ e ∷ [] })
+      → AddsOfKind kind s (record { reached = set s.reached e true; list = s.list ++ e ∷ [] })
   adds_one s e within new h =
-      let len : length (s.list ++ e ∷ []) ≡ length s.list + 1 = length-append s.list (e ∷ []) in
-      let at : (k : ℕ) → length s.list ≤ k → k < length (s.list ++ e ∷ [])
-      → get_or (s.list ++ e ∷ []) k 0 ≡ e = λ k l m. get_or_at s.list e [] 0 k (omega arith) in
-      record {
-        width = length-set s.reached e true;
-        kept = λ x k. ⊎_elim (λ same. rw same (get_or-set_same s.reached e true false within))
-            (λ other. get_or-set_other s.reached e x true false other ∙ k) (cases_eq x e);
-        longer = omega arith;
-        front = λ k l. get_or_append_left s.list (e ∷ []) 0 k l;
-        fresh = λ k l m. rw (at k l m) new;
-        inside = λ k l m. rw (at k l m) (get_or-set_same s.reached e true false within);
-        cause = λ k l m. rw (at k l m) h;
-        once = λ j l k m n. absurd (omega arith);
-        only = λ x k. ⊎_elim
-            (λ same. inr (
-              length s.list,
-              omega arith,
-              omega (arith, len),
-              get_or_at s.list e [] 0 (length s.list) refl
-                  ∙ sym same,
-            ))
-            (λ other. inl (sym (get_or-set_other s.reached e x true false other) ∙ k))
-            (cases_eq x e);
-        count = omega (arith, len, missing_one s.reached e within new);
-      }
+      grind (
+        arith,
+        length-append,
+        get_or,
+        get_or_at,
+        length-set,
+        get_or-set_same,
+        get_or-set_other,
+        cases_eq,
+        get_or_append_left,
+        missing_one,
+      )
 
 -- what is of a kind is of any larger kind
-pub adds_weaker : (kind larger : ℕ → Type 0) → ((x : ℕ) → kind x → larger x) → (old new : Search) → Adds kind old new
-    → Adds larger old new
-adds_weaker kind larger has old new p = record {
-  width = p.width;
-  kept = p.kept;
-  longer = p.longer;
-  front = p.front;
-  fresh = p.fresh;
-  inside = p.inside;
-  cause = λ k l h. has _ (p.cause k l h);
-  once = p.once;
-  only = p.only;
-  count = p.count;
-}
+pub adds_weaker : (kind larger : ℕ → Type 0) → ((x : ℕ) → kind x → larger x) → (old new : Search)
+    → AddsOfKind kind old new
+    → AddsOfKind larger old new
+adds_weaker kind larger has old new p = grind arith
 
 -- what was new was visited
 pub visits_one : (s : Search) (e : ℕ) → e < length s.reached → flag s.reached e ≡ false
@@ -183,10 +118,7 @@ module _ (step : ℕ → ℕ → Type 0) where
 -- from an element of the set, walks inside it and walks by the steps that lead into it reach the same
 pub leads_inside : (g : Graph) (set : List Bool) (x y : ℕ) → IsIn set x
     → LeadsTo (IsStepInside g set) x y ↔ Reaches g (IsIn set) x y
-leads_inside g set x y here = (
-  λ h. (h.0, walk_other (IsStepInside g set) (IsStep g) (λ _. ⊤) (IsIn set) (λ a b s. s) x h.0 y here h.1),
-  λ h. (h.0, walk_into x h.0 y h.1),
-)
+leads_inside g set x y here = grind (arith, walk_other, walk_into)
   where
     walk_into : (x : ℕ) (way : List ℕ) (y : ℕ) → IsWalk (IsStep g) (IsIn set) x way y
         → IsWalk (IsStepInside g set) (λ _. ⊤) x way y
@@ -211,7 +143,8 @@ module _ (g : Graph) (set : List Bool) (e : ℕ) where
   }
 
   module _ (next : List ℕ) (each : (q : ℕ) → Contains next q ↔ IsNext g e q) where
-    next_adds : (old new : Search) → Adds (Within set (Contains next)) old new → Adds (IsStepInside g set e) old new
+    next_adds : (old new : Search) → AddsOfKind (Within set (Contains next)) old new
+        → AddsOfKind (IsStepInside g set e) old new
     next_adds old new a = adds_weaker _ _ (λ x h. (inl ((each x).0 h.0), h.1)) old new a
 
     -- where it is no return point, its successors are visited
@@ -239,24 +172,20 @@ module _ (g : Graph) (set : List Bool) (e : ℕ) where
 
 -- What was added is led to, and the elements of the list from `at` on are still to be expanded.
 pub record Spreading (step : ℕ → ℕ → Type 0) (old new : Search) (at : ℕ) : Type 0 where
-  pub adds : Adds (IsLedTo step old.reached) old new
+  pub adds : AddsOfKind (IsLedTo step old.reached) old new
   pub sound : (x : ℕ) → IsIn new.reached x → IsLedTo step old.reached x
   pub pending : IsPending step new at
 
 module _ (step : ℕ → ℕ → Type 0) (old : Search) where
   pub spreading_first : (from : ℕ) → IsPending step old from → Spreading step old old from
-  spreading_first from pending = record {
-    adds = adds_none (IsLedTo step old.reached) old;
-    sound = λ x h. (x, h, leads_first step x);
-    pending = pending;
-  }
+  spreading_first from pending = grind (arith, adds_none, leads_first)
 
   pub spreading_more : (middle new : Search) (at e : ℕ) → at < length middle.list → get_or middle.list at 0 ≡ e
       → Spreading step old middle at → Visits (step e) middle new → Spreading step old new (at + 1)
   spreading_more middle new at e within is s v =
       let led : IsLedTo step old.reached e =
       subst (IsLedTo step old.reached) is (s.sound _ (s.pending.listed at (omega arith) within)) in
-      let b : Adds (IsLedTo step old.reached) middle new =
+      let b : AddsOfKind (IsLedTo step old.reached) middle new =
       adds_weaker _ _ (λ x h. (led.0, led.1, leads_more step led.0 e x led.2 h)) middle new v.adds in
       record {
         adds = adds_append (IsLedTo step old.reached) old middle new s.adds b;
@@ -284,28 +213,18 @@ module _ (step : ℕ → ℕ → Type 0) (old : Search) where
 
   -- where the list is at its end all is covered
   pub spreading_done : (new : Search) (at : ℕ) → length new.list ≤ at → Spreading step old new at → Spreads step old new
-  spreading_done new at done s = record {
-    adds = s.adds;
-    closed = λ x h. ⊎_elim (λ w. absurd (omega (arith, w.1, w.2))) (λ covered. covered) (s.pending.others x h);
-  }
+  spreading_done new at done s = grind arith
 
 -- What the first visit puts into an empty search is all still to be expanded.
 module _ (step : ℕ → ℕ → Type 0) (at width : ℕ) (first : Search)
     (a : Visits (λ x. x ≡ at) (record { reached = replicate width false; list = [] }) first) where
   pub begun : IsPending step first 0
-  begun = record {
-    within = omega arith;
-    listed = λ k l h. a.adds.inside k l h;
-    others = λ x h. ⊎_elim (λ e. absurd (none_in_empty width x e)) inl (a.adds.only x h);
-  }
+  begun = grind (arith, none_in_empty)
 
   -- Then it spreads.
   module _ (new : Search) (s : Spreads step first new) where
     is_start : (x : ℕ) → IsIn first.reached x → x ≡ at
-    is_start x h = ⊎_elim
-        (λ e. absurd (none_in_empty width x e))
-        (λ w. subst (λ v. v ≡ at) w.3 (a.adds.cause w.0 w.1 w.2))
-        (a.adds.only x h)
+    is_start x h = grind (arith, none_in_empty)
 
     -- the set is what walks reach
     set_exact : (x : ℕ) → IsIn new.reached x ↔ LeadsTo step at x
@@ -335,7 +254,7 @@ module _ (step : ℕ → ℕ → Type 0) (at width : ℕ) (first : Search)
           (s.adds.only x ((set_exact x).1 h)),
     )
 
-    all : Adds (λ _. ⊤) (record { reached = replicate width false; list = [] }) new
+    all : AddsOfKind (λ _. ⊤) (record { reached = replicate width false; list = [] }) new
     all = adds_append (λ _. ⊤) _ first new (adds_weaker _ (λ _. ⊤) (λ x h. tt) _ first a.adds)
         (adds_weaker _ (λ _. ⊤) (λ x h. tt) first new s.adds)
 

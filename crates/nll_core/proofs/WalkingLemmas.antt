@@ -9,7 +9,7 @@ use Rattle.nll_core.specs.Search.{missing, IsIn}
 use Rattle.nll_sets.specs.Runs.{first_of, last_of, IsInRuns, IsInRunsFrom, IsWithin, IsRunFrom, Fills}
 use Rattle.nll_sets.proofs.GapLemmas.{front_of, last_there}
 use Rattle.nll_core.specs.Lines.{IsJump, IsLineEnd}
-use Rattle.nll_core.specs.Walking.{IsLineClosed, IsStretch, IsFreeTo, Grows, IsJumpedTo, IsFollowed, IsLedTo, IsSpread, FillsFrom}
+use Rattle.nll_core.specs.Walking.{IsLineClosed, IsStretch, IsFreeTo, GrowsByRuns, IsJumpedTo, IsFollowed, IsLedTo, IsSpread, FillsFrom}
 use Rattle.nll_sets.specs.declared.run.Run.{Run}
 use Rattle.nll_problem.proofs.WalkLemmas.{reaches_first, reaches_more, reaches_starts, reaches_carries}
 
@@ -100,45 +100,17 @@ module _ (sub : List Bool) where
     pub above : from ≤ to
 
   pub filling_none : (from : ℕ) (old : List Bool) → Filling from old old from
-  filling_none from old =
-      record {
-        width = refl;
-        kept = λ x h. h;
-        cause = λ x h. inl h;
-        filled = λ x a b. absurd (omega (arith, a, b));
-        above = omega arith;
-      }
+  filling_none from old = grind arith
 
   pub filling_more : (from : ℕ) (old now new : List Bool) (to first last : ℕ) (run : Run) → Filling from old now to
       → run.first ≡ first → run.last ≡ last → to ≤ first → first ≤ last
       → ((x : ℕ) → first ≤ x → x ≤ last → IsIn sub x) → ((x : ℕ) → to ≤ x → x < first → flag sub x ≡ false)
       → Fills now new run → Filling from old new (last + 1)
-  filling_more from old now new to first last run f a b past proper all none p = record {
-    width = p.width ∙ f.width;
-    kept = λ x h. p.kept x (f.kept x h);
-    cause = λ x h. ⊎_elim (f.cause x) (λ own.
-        inr (omega (arith, own.0, a, past, f.above), all x (omega (arith, own.0, a)) (omega (arith, own.1, b))))
-        (p.cause x h);
-    filled = λ x h k s. ⊎_elim
-        (λ before. p.kept x (f.filled x h before s))
-        (λ other. ⊎_elim
-        (λ gap. absurd (false≢true (sym (none x (omega (arith, other)) gap) ∙ s)))
-        (λ in_run. p.filled x (omega (arith, in_run, a)) (omega (arith, k, b)))
-        (cases_lt x first))
-        (cases_lt x to);
-    above = omega (arith, f.above, past, proper);
-  }
+  filling_more from old now new to first last run f a b past proper all none p = grind (arith, false≢true, cases_lt)
 
   pub filling_end : (from : ℕ) (old now : List Bool) (to : ℕ) → Filling from old now to
       → ((x : ℕ) → to ≤ x → flag sub x ≡ false) → FillsFrom from sub old now
-  filling_end from old now to f none = record {
-    width = f.width;
-    kept = f.kept;
-    cause = f.cause;
-    filled =
-        λ x a s. ⊎_elim (λ before. f.filled x a before s) (λ past. absurd (false≢true (sym (none x past) ∙ s)))
-        (cases_lt x to);
-  }
+  filling_end from old now to f none = grind (arith, false≢true, cases_lt)
 
 -- ---- what is added
 
@@ -160,30 +132,11 @@ module _ (g : Graph) (sub : List Bool) where
       → IsRunFrom sub point inside → inside.first ≤ point → IsFreeTo reached point limit
       → last ≡ min e inside.last → run.first ≡ point → run.last ≡ min last (limit - 1) → g.points < 4294967295
       → IsStretch g sub reached point run
-  stretch_of reached point e limit last inside run line from before free last_is first_is end_is few = record {
-    first = first_is;
-    proper = omega (arith, end_is, last_is, free.above, line.above, from.reach);
-    points = omega (arith, end_is, last_is, line.point);
-    inside = λ x a b. from.all x (omega (arith, a, before)) (omega (arith, b, end_is, last_is));
-    line = λ x a b. line.line x a (omega (arith, b, end_is, last_is));
-    new = λ x a b. free.new x a (omega (arith, b, end_is, free.above));
-    closing = λ next in_sub. ⊎_elim
-        (λ early. ⊎_elim
-        (λ more. let here : limit ≡ run.last + 1 = omega (arith, early, end_is, free.above) in
-        subst (IsIn reached) here more)
-        (λ most. absurd (omega (arith, most, early, last_is, line.point, few)))
-        free.closing)
-        (λ late. ⊎_elim
-        (λ low. let ends : run.last ≡ e = omega (arith, low, late, end_is, last_is) in
-        absurd (line.last (subst (λ y. IsNext g y (y + 1)) ends next)))
-        (λ high. let ends : run.last ≡ inside.last = omega (arith, high, late, end_is, last_is) in
-        absurd (false≢true (sym from.end ∙ subst (λ y. IsIn sub (y + 1)) ends in_sub)))
-        (cases_lt e inside.last))
-        (cases_lt (limit - 1) last);
-  }
+  stretch_of reached point e limit last inside run line from before free last_is first_is end_is few =
+      grind (arith, false≢true, cases_lt)
 
   pub grows_stretch : (old new : List Bool) (before : List Run) (point : ℕ) (run : Run) → IsStretch g sub old point run
-      → Fills old new run → Grows g sub (Reaches g (IsIn sub) point) old new before (before ++ run ∷ [])
+      → Fills old new run → GrowsByRuns g sub (Reaches g (IsIn sub) point) old new before (before ++ run ∷ [])
   grows_stretch old new before point run s f =
       let len = length-append before (run ∷ []) in
       let there = last_there before run (length before) refl in
@@ -195,62 +148,22 @@ module _ (g : Graph) (sub : List Bool) where
             line_reaches point (x - point) (λ y a b. s.inside y a (omega (arith, b, own.0, own.1, s.first)))
             (λ y a b. s.line y a (omega (arith, b, own.0, own.1, s.first))) in
             inr (subst (Reaches g (IsIn sub) point) (omega (arith, own.0, s.first)) way)) (f.cause x h);
-        closed = λ x h next in_sub. ⊎_elim
-            inr
-            (λ own. ⊎_elim
-            (λ here. inl (f.kept (x + 1) (subst (λ y. IsNext g y (y + 1) → IsIn sub (y + 1) → IsIn old (y + 1))
-            (sym here) s.closing next in_sub)))
-            (λ other. inl (f.filled (x + 1) (omega (arith, own.0)) (omega (arith, own.1, other))))
-            (cases_eq x run.last))
-            (f.cause x h);
+        closed = grind (arith, cases_eq);
         longer = omega (arith, len);
         front = λ k l. front_of before run k l;
-        listed = λ x (k, from, l, a, b).
-            let at = last_there before run k (omega (arith, from, l, len)) in (
-              f.filled x (omega (arith, a, at.0)) (omega (arith, b, at.1)),
-              s.new x (omega (arith, a, at.0, s.first)) (omega (arith, b, at.1)),
-            );
-        pending =
-            λ x h. ⊎_elim inl (λ own. inr (
-              length before,
-              omega arith,
-              omega (arith, len),
-              omega (arith, own.0, there.0),
-              omega (arith, own.1, there.1),
-            )) (f.cause x h);
+        listed = grind (arith, last_there);
+        pending = grind arith;
         apart = λ j k x from less l a b. omega (arith, from, less, l, len);
-        fit = λ all k l. ⊎_elim
-            (λ front. let o = all k front in let at = front_of before run k front in
-            (omega (arith, o.0, at.0, at.1), omega (arith, o.1, at.1)))
-            (λ other. let at = last_there before run k (omega (arith, l, other, len)) in
-            (omega (arith, s.first, s.proper, at.0, at.1), omega (arith, s.points, at.1)))
-            (cases_lt k (length before));
-        count = omega (
-          arith,
-          len,
-          missing_less old new point f.width f.kept (s.new point (omega arith) s.proper)
-              (f.filled point (omega (arith, s.first)) s.proper),
-        );
+        fit = grind (arith, front_of, last_there, cases_lt);
+        count = grind (arith, missing_less);
       }
 
   module _ (kind : ℕ → Type 0) where
-    pub grows_none : (flags : List Bool) (runs : List Run) → Grows g sub kind flags flags runs runs
-    grows_none flags runs = record {
-      width = refl;
-      kept = λ x h. h;
-      cause = λ x h. inl h;
-      closed = λ x h next in_sub. inr h;
-      longer = omega arith;
-      front = λ k l. (refl, refl);
-      listed = λ x (k, from, l, a, b). absurd (omega (arith, from, l));
-      pending = λ x h. inl h;
-      apart = λ j k x from less l a b. omega (arith, from, less, l);
-      fit = λ h. h;
-      count = omega arith;
-    }
+    pub grows_none : (flags : List Bool) (runs : List Run) → GrowsByRuns g sub kind flags flags runs runs
+    grows_none flags runs = grind arith
 
-    pub grows_append : (old middle new : List Bool) (xs ys zs : List Run) → Grows g sub kind old middle xs ys
-        → Grows g sub kind middle new ys zs → Grows g sub kind old new xs zs
+    pub grows_append : (old middle new : List Bool) (xs ys zs : List Run) → GrowsByRuns g sub kind old middle xs ys
+        → GrowsByRuns g sub kind middle new ys zs → GrowsByRuns g sub kind old new xs zs
     grows_append old middle new xs ys zs p q = record {
       width = q.width ∙ p.width;
       kept = λ x h. q.kept x (p.kept x h);
@@ -294,34 +207,22 @@ module _ (g : Graph) (sub : List Bool) where
             by true is = absurd (false≢true (sym h ∙ p.kept x is))
 
   -- what was closed along lines stays so
-  pub line_closed : (kind : ℕ → Type 0) (old new : List Bool) (xs ys : List Run) → Grows g sub kind old new xs ys
+  pub line_closed : (kind : ℕ → Type 0) (old new : List Bool) (xs ys : List Run) → GrowsByRuns g sub kind old new xs ys
       → IsLineClosed g sub old → IsLineClosed g sub new
   line_closed kind old new xs ys p all x h next in_sub =
       ⊎_elim (λ i. i) (λ o. p.kept (x + 1) (all x o next in_sub)) (p.closed x h next in_sub)
 
   pub grows_weaker : (kind larger : ℕ → Type 0) → ((x : ℕ) → kind x → larger x)
-      → (old new : List Bool) (xs ys : List Run) → Grows g sub kind old new xs ys → Grows g sub larger old new xs ys
-  grows_weaker kind larger has old new xs ys p =
-      record {
-        width = p.width;
-        kept = p.kept;
-        cause = λ x h. ⊎_elim inl (λ k. inr (has x k)) (p.cause x h);
-        closed = p.closed;
-        longer = p.longer;
-        front = p.front;
-        listed = p.listed;
-        pending = p.pending;
-        apart = p.apart;
-        fit = p.fit;
-        count = p.count;
-      }
+      → (old new : List Bool) (xs ys : List Run) → GrowsByRuns g sub kind old new xs ys
+      → GrowsByRuns g sub larger old new xs ys
+  grows_weaker kind larger has old new xs ys p = grind arith
 
   -- ---- the targets of a run's jumps, one after another
 
   -- The first `count` targets of the list have been gone through.
   pub record Following (run : Run) (targets : List ℕ) (old new : List Bool) (before after : List Run) (ends : Bool)
       (count : ℕ) : Type 0 where
-    pub grows : Grows g sub (IsJumpedTo g sub run) old new before after
+    pub grows : GrowsByRuns g sub (IsJumpedTo g sub run) old new before after
     pub covers : (k : ℕ) → k < count → get_or targets k 0 < g.points → IsIn sub (get_or targets k 0)
         → IsIn new (get_or targets k 0)
     pub ends_found : ends ≡ true → (k : ℕ) × (k < count) × (k < length targets) × (g.points ≤ get_or targets k 0)
@@ -331,7 +232,8 @@ module _ (g : Graph) (sub : List Bool) where
       (ends : Bool) (count t : ℕ) → t ≡ get_or targets count 0 → count < length targets → t < g.points
       → ((x : ℕ) → Contains targets x → (y : ℕ) × IsWithin run y × IsJump g y x)
       → Contains targets t
-      → Following run targets old now before then ends count → Grows g sub (Reaches g (IsIn sub) t) now new then after
+      → Following run targets old now before then ends count
+      → GrowsByRuns g sub (Reaches g (IsIn sub) t) now new then after
       → (IsIn sub t → IsIn new t) → Following run targets old new before after ends (count + 1)
   following_more run targets old now new before then after ends count t is within point each listed f p covers =
       let from = each t listed in
@@ -354,15 +256,7 @@ module _ (g : Graph) (sub : List Bool) where
       (count t : ℕ) → t ≡ get_or targets count 0 → count < length targets → g.points ≤ t
       → Following run targets old now before then ends count
       → Following run targets old now before then true (count + 1)
-  following_end run targets old now before then ends count t is within past f = record {
-    grows = f.grows;
-    covers = λ k h q s. ⊎_elim
-        (λ here. absurd (omega (arith, ap (λ i. get_or targets i 0) here, is, past, q)))
-        (λ other. f.covers k (omega (arith, h, other)) q s)
-        (cases_eq k count);
-    ends_found = λ h. (count, omega arith, within, omega (arith, is, past));
-    ends_seen = λ k h q. refl;
-  }
+  following_end run targets old now before then ends count t is within past f = grind (arith, get_or, cases_eq)
 
   -- a target that is no point stands for the ends
   pub jump_to_ends : IsSound g → (x t : ℕ) → g.points ≤ t → IsJump g x t → IsJump g x g.points
@@ -378,7 +272,7 @@ module _ (g : Graph) (sub : List Bool) where
   -- ---- the list, run by run
 
   pub record Spreading (start now : List Bool) (listed todo : List Run) (place : ℕ) (ends : Bool) : Type 0 where
-    pub grows : Grows g sub (IsLedTo g sub start) start now listed todo
+    pub grows : GrowsByRuns g sub (IsLedTo g sub start) start now listed todo
     pub ends_from : ends ≡ true → (x : ℕ) × IsIn now x × IsJump g x g.points
     pub pending : (x : ℕ) → IsInRuns todo x
         → IsInRunsFrom place todo x ⊎ (IsFollowed g sub now x × (IsJump g x g.points → ends ≡ true))
@@ -386,20 +280,12 @@ module _ (g : Graph) (sub : List Bool) where
 
   -- each number of the list is reached
   pub listed_in : (kind : ℕ → Type 0) (start now : List Bool) (listed todo : List Run)
-      → Grows g sub kind start now listed todo → ((x : ℕ) → IsInRuns listed x → IsIn start x) → (x : ℕ)
+      → GrowsByRuns g sub kind start now listed todo → ((x : ℕ) → IsInRuns listed x → IsIn start x) → (x : ℕ)
       → IsInRuns todo x → IsIn now x
-  listed_in kind start now listed todo p all x (k, l, a, b) = ⊎_elim
-      (λ front. let at = p.front k front in p.kept x (all x (k, front, omega (arith, a, at.0), omega (arith, b, at.1))))
-      (λ past. (p.listed x (k, past, l, a, b)).0)
-      (cases_lt k (length listed))
+  listed_in kind start now listed todo p all x (k, l, a, b) = grind (arith, cases_lt)
 
   pub spreading_first : (start : List Bool) (listed : List Run) → Spreading start start listed listed 0 false
-  spreading_first start listed = record {
-    grows = grows_none (IsLedTo g sub start) start listed;
-    ends_from = λ h. absurd (false≢true h);
-    pending = λ x (k, l, a, b). inl (k, omega arith, l, a, b);
-    within = omega arith;
-  }
+  spreading_first start listed = grind (arith, grows_none, false≢true)
 
   or_left : (a b : Bool) → a ≡ true → (a || b) ≡ true
   or_left true b h = refl
@@ -417,7 +303,7 @@ module _ (g : Graph) (sub : List Bool) where
       (ends found : Bool)
       → run.first ≡ first_of todo place → run.last ≡ last_of todo place → place < length todo
       → ((x : ℕ) → IsInRuns listed x → IsIn start x)
-      → Spreading start now listed todo place ends → Grows g sub (IsJumpedTo g sub run) now new todo after
+      → Spreading start now listed todo place ends → GrowsByRuns g sub (IsJumpedTo g sub run) now new todo after
       → ((x : ℕ) → IsWithin run x → IsFollowed g sub new x)
       → ((found ≡ true → (x : ℕ) × IsWithin run x × IsJump g x g.points)
       × (((x : ℕ) × IsWithin run x × IsJump g x g.points) → found ≡ true))

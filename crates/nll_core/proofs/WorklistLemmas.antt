@@ -44,38 +44,18 @@ same_bool false false f g = refl
 
 set_flag : (flags : List Bool) (i x : ℕ) (b : Bool) → flag flags x ≡ true → (x ≡ i → b ≡ true)
     → flag (set flags i b) x ≡ true
-set_flag flags i x b h own = ⊎_elim
-    (λ same. subst (λ y. flag (set flags i b) y ≡ true) (sym same)
-    (get_or-set_same flags i b false (⊎_elim (λ l. l)
-    (λ past. absurd (false≢true (sym (get_or_past flags x false (omega (arith, past, same))) ∙ h)))
-    (cases_lt i (length flags))) ∙ own same))
-    (λ other. get_or-set_other flags i x b false other ∙ h)
-    (cases_eq x i)
+set_flag flags i x b h own =
+    grind (arith, get_or-set_same, false≢true, get_or_past, cases_lt, get_or-set_other, cases_eq)
 
 module _ (q : Problem) where
   pub advances_append : (old middle new : List (List Bool)) (x y : Bool) → Advances q old middle x
       → Advances q middle new y → Advances q old new (x || y)
-  advances_append old middle new x y p r =
-      record {
-        shaped = r.shaped;
-        kept = λ s e h. r.kept s e (p.kept s e h);
-        below = λ a sat under. r.below a sat (p.below a sat under);
-        tells =
-            tells_append x y old middle new p.tells r.tells;
-      }
+  advances_append old middle new x y p r = grind (arith, tells_append)
 
   module _ (sub : ℕ) where
     pub visits_append : (old middle new : List (List Bool)) (a b c : List Bool) (x y : Bool)
         → Visits q sub old middle a b x → Visits q sub middle new b c y → Visits q sub old new a c (x || y)
-    visits_append old middle new a b c x y p r = record {
-      advances = advances_append old middle new x y p.advances r.advances;
-      width = r.width ∙ p.width;
-      own = r.own ∙ p.own;
-      marks = λ s. ⊎_elim (λ same. ⊎_elim (λ before. inl (same ∙ before)) (λ marks. inr (r.stays s marks)) (p.marks s))
-          inr (r.marks s);
-      stays = λ s h. r.stays s (p.stays s h);
-      quiet = λ h. let both = neither x y h in r.quiet both.1 ∙ p.quiet both.0;
-    }
+    visits_append old middle new a b c x y p r = grind (arith, advances_append, neither)
 
     -- a constraint of the region that is met stays so
     pub met_stays : (c : Constraint) (old new : List (List Bool)) → set_of new c.sub ≡ set_of old c.sub
@@ -112,23 +92,22 @@ module _ (q : Problem) where
           (g.cause r e h)
 
       pub visits_pair : Visits q sub old new before after changed
-      visits_pair = record {
-        advances = record { shaped = shaped_gains q _ old new s g; kept = g.kept; below = below_pair; tells = t };
-        width = length-set before sup (flag before sup || changed);
-        own = other_set sub (λ e. apart (sym e));
-        marks = λ r. ⊎_elim
-            (λ same. ⊎_elim
-            (λ yes. inr (subst (λ x. flag after x ≡ true) (sym same)
-            (get_or-set_same before sup _ false within ∙ or_true (flag before sup) changed yes)))
-            (λ not_so. inl (ap (λ v. set_of v r) (t.same not_so)))
-            (cases_Bool changed))
-            (λ other. inl (other_set r other))
-            (cases_eq r sup);
-        stays = λ r h. set_flag before sup r _ h
-            (λ same. or_left (flag before sup) changed (subst (λ x. flag before x ≡ true) same h));
-        quiet = λ not_so. ap (λ b. set before sup b) (or_false (flag before sup) changed not_so)
-            ∙ set-get_or before sup false;
-      }
+      visits_pair =
+          grind (
+            arith,
+            shaped_gains,
+            below_pair,
+            length-set,
+            other_set,
+            get_or-set_same,
+            or_true,
+            cases_Bool,
+            cases_eq,
+            set_flag,
+            or_left,
+            or_false,
+            set-get_or,
+          )
 
       pub met_pair : (c : Constraint) → Contains pair c → IsMet q new c
       met_pair c listed =
@@ -185,31 +164,16 @@ module _ (q : Problem) where
   pub tracked_turn : (sub : ℕ) (old new : List (List Bool)) (marks after : List Bool) (changed : Bool)
       → IsTracked q old marks → Visits q sub old new (set marks sub false) after changed
       → ((c : Constraint) → Contains q.constraints c → c.sub ≡ sub → IsMet q new c) → IsTracked q new after
-  tracked_turn sub old new marks after changed t v met = λ c h. ⊎_elim
-      (λ own. inr (met c h own))
-      (λ other. ⊎_elim
-      (λ d. inl (v.stays c.sub (get_or-set_other marks sub c.sub false false other ∙ d)))
-      (λ m. ⊎_elim (λ same. inr (met_stays sub c old new same v.advances.kept m)) inl (v.marks c.sub))
-      (t c h))
-      (cases_eq c.sub sub)
+  tracked_turn sub old new marks after changed t v met = grind (arith, get_or-set_other, met_stays, cases_eq)
 
   pub turns_visit : (sub : ℕ) (old new : List (List Bool)) (marks after : List Bool) (changed : Bool)
       → length marks ≡ q.regions → IsTracked q old marks → Visits q sub old new (set marks sub false) after changed
       → ((c : Constraint) → Contains q.constraints c → c.sub ≡ sub → IsMet q new c) → Turns q old new after changed
-  turns_visit sub old new marks after changed w t v met = record {
-    advances = v.advances;
-    width = v.width ∙ (length-set marks sub false ∙ w);
-    tracked = tracked_turn sub old new marks after changed t v met;
-  }
+  turns_visit sub old new marks after changed w t v met = grind (arith, length-set, tracked_turn)
 
   pub turns_append : (old middle new : List (List Bool)) (b c : List Bool) (x y : Bool) → Turns q old middle b x
       → Turns q middle new c y → Turns q old new c (x || y)
-  turns_append old middle new b c x y p r =
-      record {
-        advances = advances_append old middle new x y p.advances r.advances;
-        width = r.width;
-        tracked = r.tracked;
-      }
+  turns_append old middle new b c x y p r = grind (arith, advances_append)
 
   -- ---- a sweep
 
@@ -221,13 +185,7 @@ module _ (q : Problem) where
   pub sweeping_more : (first now next : List (List Bool)) (marks after : List Bool) (x y : Bool) (count : ℕ)
       → Sweeping first now marks x count → Turns q now next after y
       → (y ≡ false → IsCleared marks after count) → Sweeping first next after (x || y) (count + 1)
-  sweeping_more first now next marks after x y count s p clean = record {
-    turns = turns_append first now next marks after x y s.turns p;
-    clean = λ e r h. let both = neither x y e in ⊎_elim
-        (λ here. subst (λ k. flag after k ≡ false) (sym here) (clean both.1).0)
-        (λ other. (clean both.1).1 r other ∙ s.clean both.0 r (omega (arith, h, other)))
-        (cases_eq r count);
-  }
+  sweeping_more first now next marks after x y count s p clean = grind (arith, turns_append, neither, cases_eq)
 
   -- where no region is marked, each constraint is met
   pub closed_clean : IsSound q → (values : List (List Bool)) (marks : List Bool) → IsTracked q values marks
@@ -286,17 +244,7 @@ module _ (constraints : List Constraint) (place end : ℕ) (low : place < end) (
   part_at k d h = get_or-take (end - place) (drop place constraints) k d h ∙ get_or-drop place constraints k d
 
   pub part_ascends : SupsAscend constraints → AreOfOneSup constraints place end → PointsAscend part
-  part_ascends s one j k le within =
-      let a : k < end - place = omega (arith, within, part_length) in
-      let b : j < end - place = omega (arith, a, le) in
-      let same : (constraint_at constraints (place + j)).sup ≡ (constraint_at constraints (place + k)).sup =
-      one (place + j) (omega arith) (omega (arith, b)) ∙ sym (one (place + k) (omega arith) (omega (arith, a))) in
-      omega (
-        arith,
-        ap (λ (c : Constraint). at_rank c.at) (part_at j no_constraint b),
-        ap (λ (c : Constraint). at_rank c.at) (part_at k no_constraint a),
-        s.points (place + j) (place + k) (omega (arith, le)) (omega (arith, a, high)) same,
-      )
+  part_ascends s one j k le within = grind (arith, part_length, part_at)
 
   -- each constraint of the part stands in the list, between the two places
   pub part_of : AreOfOneSup constraints place end → (c : Constraint) → Contains part c
@@ -335,16 +283,5 @@ pub filling_more : (region : ℕ) (runs : List Run) (old now next : List (List B
     → FillingAll region runs old now x count → Gains (λ r e. (r ≡ region) × IsWithin run e) now next
     → ((e : ℕ) → IsWithin run e → IsHeld next region e) → Tells y now next
     → FillingAll region runs old next (x || y) (count + 1)
-filling_more region runs old now next x y count run first last within f g covers tells = record {
-  gains = gains_append _ _ _ _ f.gains
-      (gains_weaker _ _ (λ r e h. (h.0, (count, within, omega (arith, h.1.0, first), omega (arith, h.1.1, last)))) _ _
-      g);
-  covers = λ k e h a b. ⊎_elim
-      (λ here. covers e (
-        omega (arith, a, first, ap (first_of runs) here),
-        omega (arith, b, last, ap (last_of runs) here),
-      ))
-      (λ other. g.kept region e (f.covers k e (omega (arith, h, other)) a b))
-      (cases_eq k count);
-  tells = tells_append x y _ _ _ f.tells tells;
-}
+filling_more region runs old now next x y count run first last within f g covers tells =
+    grind (arith, gains_append, gains_weaker, cases_eq, tells_append)

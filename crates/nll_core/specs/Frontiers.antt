@@ -16,7 +16,7 @@ use Rattle.nll_problem.specs.Walks.{Reaches}
 use Rattle.nll_problem.specs.declared.at.At.{At}
 use Rattle.nll_problem.specs.declared.at.At.TheVariants.{All, Point}
 use Rattle.nll_core.specs.Search.{IsIn, LeadsTo}
-use Rattle.nll_core.specs.Walking.{Grows}
+use Rattle.nll_core.specs.Walking.{GrowsByRuns}
 
 -- A frontier: where its constraints hold, what they asked for so far, and whether one of its calls
 -- was refused memory.
@@ -124,7 +124,8 @@ first_frontier places = record { starts = places; reached = []; refused = false 
 -- A frontier went on from a run of elements of a set. Where a constraint holds at all points,
 -- exactly the run was added. Otherwise walks went on: what is newly reached is followed to its end;
 -- from what was reached before, only the steps into the run are followed.
-pub record GoesOn (g : Graph) (set : List Bool) (run : Run) (starts : List At) (old new : List Bool)
+pub record FrontierGoesOn (g : Graph) (set : List Bool) (run : Run) (starts : List At)
+    (old new : List Bool)
     : Type 0 where
   pub kept : (x : ℕ) → IsIn old x → IsIn new x
   pub sound : (x : ℕ) → IsIn new x → IsAskedFrom g (IsIn set) starts x
@@ -143,8 +144,8 @@ abbrev pub as_places : List ℕ → List At
 as_places points = map (λ p. Point p) points
 
 -- a place, and then these points
-abbrev pub behind : At → List ℕ → List At
-behind place points = place ∷ as_places points
+abbrev pub behind_place : At → List ℕ → List At
+behind_place place points = place ∷ as_places points
 
 -- where the place is a point, the points after it ascend with it
 abbrev pub Ascend : At → List ℕ → Type 0
@@ -168,7 +169,7 @@ pub record WalksOn (g : Graph) (set : List Bool) (run : Run) (starts : List ℕ)
 -- to the list. `ended` says whether they newly reached a return point.
 pub record ResumesPoints (g : Graph) (set : List Bool) (run : Run) (starts : List ℕ)
     (old new : List Bool) (before after : List Run) (ended : Bool) : Type 0 where
-  pub grows : Grows g set (ReachesFrom g (IsIn set) starts) old new before after
+  pub grows : GrowsByRuns g set (ReachesFrom g (IsIn set) starts) old new before after
   pub begun : (p : ℕ) → Contains starts p → IsWithin run p → IsIn new p
   pub closed : (x y : ℕ) → IsIn new x → IsNext g x y → IsIn set y
       → IsIn new y ⊎ (IsIn old x × (IsWithin run y → ⊥))

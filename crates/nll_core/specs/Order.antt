@@ -5,8 +5,8 @@ use Rattle.nll_problem.specs.declared.constraint.Constraint.{Constraint}
 use Rattle.nll_core.specs.declared.order.Descent.{Descent}
 
 -- each number of the list is below the count
-abbrev pub AreBelow : ℕ → List ℕ → Type 0
-AreBelow count xs = (x : ℕ) → Contains xs x → x < count
+abbrev pub AreBelowCount : ℕ → List ℕ → Type 0
+AreBelowCount count xs = (x : ℕ) → Contains xs x → x < count
 
 -- the constraints are of regions below the count
 abbrev pub AreOfRegions : ℕ → List Constraint → Type 0
@@ -17,5 +17,5 @@ AreOfRegions count constraints =
 pub record IsDescent (count : ℕ) (d : Descent) : Type 0 where
   pub next_sized : length d.next.items ≡ count + 1
   pub seen_sized : length d.seen.items ≡ count
-  pub path_within : AreBelow count d.path.items
-  pub left_within : AreBelow count d.left.items
+  pub path_within : AreBelowCount count d.path.items
+  pub left_within : AreBelowCount count d.left.items

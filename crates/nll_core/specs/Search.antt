@@ -68,7 +68,7 @@ HoldsFrom place list kind = (k : ℕ) → place ≤ k → k < length list → ki
 
 -- Exactly the elements of this kind that the set lacked were added to the set and appended to the
 -- list, each once.
-pub record Adds (kind : ℕ → Type 0) (old new : Search) : Type 0 where
+pub record AddsOfKind (kind : ℕ → Type 0) (old new : Search) : Type 0 where
   pub width : length new.reached ≡ length old.reached
   pub kept : HasAll (IsIn old.reached) new.reached
   pub longer : length old.list ≤ length new.list
@@ -83,7 +83,7 @@ pub record Adds (kind : ℕ → Type 0) (old new : Search) : Type 0 where
 
 -- The elements of this kind were visited: those that were new are added, and the set has all.
 pub record Visits (kind : ℕ → Type 0) (old new : Search) : Type 0 where
-  pub adds : Adds kind old new
+  pub adds : AddsOfKind kind old new
   pub all : HasAll kind new.reached
 
 -- the elements of this kind that are in the set were visited
@@ -99,7 +99,7 @@ pub record IsPending (step : ℕ → ℕ → Type 0) (s : Search) (place : ℕ) 
 
 -- What walks lead to from the set was added, until each step from the set leads into it.
 pub record Spreads (step : ℕ → ℕ → Type 0) (old new : Search) : Type 0 where
-  pub adds : Adds (IsLedTo step old.reached) old new
+  pub adds : AddsOfKind (IsLedTo step old.reached) old new
   pub closed : (x : ℕ) → IsIn new.reached x → IsCovered step new.reached x
 
 -- Both the set and the list are of what walks lead to from `at`; the list has each element once.

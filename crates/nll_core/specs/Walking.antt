@@ -46,8 +46,8 @@ pub record IsFreeTo (reached : List Bool) (point limit : ℕ) : Type 0 where
   pub closing : IsIn reached limit ⊎ (limit ≡ no_limit)
 
 -- the runs of the list are of points
-abbrev pub AreOfPoints : Graph → List Run → Type 0
-AreOfPoints g runs =
+abbrev pub AreRunsOfPoints : Graph → List Run → Type 0
+AreRunsOfPoints g runs =
     (k : ℕ) → k < length runs → (first_of runs k ≤ last_of runs k) × (last_of runs k < g.points)
 
 -- the set has each number of the run
@@ -56,7 +56,7 @@ AreIn flags run = (x : ℕ) → IsWithin run x → IsIn flags x
 
 -- Elements of this kind were added to the set, and their runs appended to the list, each element
 -- once.
-pub record Grows (g : Graph) (sub : List Bool) (kind : ℕ → Type 0)
+pub record GrowsByRuns (g : Graph) (sub : List Bool) (kind : ℕ → Type 0)
     (old new : List Bool) (before after : List Run) : Type 0 where
   pub width : length new ≡ length old
   pub kept : (x : ℕ) → IsIn old x → IsIn new x
@@ -70,7 +70,7 @@ pub record Grows (g : Graph) (sub : List Bool) (kind : ℕ → Type 0)
       → IsIn new x × (flag old x ≡ false)
   pub pending : (x : ℕ) → IsIn new x → IsIn old x ⊎ IsInRunsFrom (length before) after x
   pub apart : AreApartFrom (length before) after
-  pub fit : AreOfPoints g before → AreOfPoints g after
+  pub fit : AreRunsOfPoints g before → AreRunsOfPoints g after
   pub count : missing new + length after ≤ missing old + length before
 
 -- ---- jumps
@@ -92,7 +92,7 @@ IsLedTo g sub start x = (y : ℕ) × IsIn start y × Reaches g (IsIn sub) y x
 -- run of the list was followed; `ends` says whether one of them has a return point.
 pub record IsSpread (g : Graph) (sub start new : List Bool) (listed all : List Run) (ends : Bool)
     : Type 0 where
-  pub grows : Grows g sub (IsLedTo g sub start) start new listed all
+  pub grows : GrowsByRuns g sub (IsLedTo g sub start) start new listed all
   pub ends_from : ends ≡ true → (x : ℕ) × IsIn new x × IsJump g x g.points
   pub followed :
       (x : ℕ) → IsInRuns all x

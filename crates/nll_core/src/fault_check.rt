@@ -1,15 +1,15 @@
 //! Universal region errors: which universal regions must outlive another and aren't known to.
 
-ghost use Rattle.std.specs.Prelude.{◌≡◌, ◌+◌, false, length, IfOk, OnOk};
+ghost use Rattle.std.specs.Prelude.{◌≡◌, ◌+◌, false, IfOk, OnOk};
 ghost use Rattle.nll_problem.specs.Problem.{IsUniversal};
 ghost use Rattle.nll_core.specs.Values.{IsHeld, IsShaped};
 ghost use Rattle.nll_problem.specs.Faults.{AreFaults};
-ghost use Rattle.nll_core.specs.Outliving.{AreOutlived, HasNoForeignEnd, FindsUpTo};
+ghost use Rattle.nll_core.specs.Outliving.{HasNoForeignEnd, FindsUpTo};
 
 use crate::known_outlives::outlived_by;
 use crate::values::Values;
 use nll_problem::{Problem, RegionId};
-use nll_sets::{BitSet, Element, ElementSet, Memory};
+use nll_sets::{Element, ElementSet, Memory};
 use std::alloc::Global;
 
 /// Finds the universal region errors of the values, which may be any: the pairs of universal
@@ -70,27 +70,6 @@ fn add_faults(
     ensures { OnOk result (FindsUpTo problem.now values.now faults.new.items (longer + 1) 0) }
 {
     let outlived = outlived_by(alloc, problem, longer)?;
-    let told = add_unknown(problem, values, &outlived, longer, faults);
-    drop(outlived);
-    told
-}
-
-// Adds the faults of one universal region, which is known to outlive exactly the regions of the
-// set.
-fn add_unknown(
-    problem: &Problem,
-    values: &Values,
-    outlived: &BitSet,
-    longer: RegionId,
-    faults: &mut Vec<(RegionId, RegionId)>,
-) -> Result<(), Memory>
-    requires shaped { IsShaped problem.now values.now }
-    requires universal { IsUniversal problem.now longer }
-    requires width { length outlived.now ≡ problem.now.graph.universals }
-    requires known { AreOutlived problem.now longer outlived.now }
-    requires before { FindsUpTo problem.now values.now faults.old.items longer 0 }
-    ensures { OnOk result (FindsUpTo problem.now values.now faults.new.items (longer + 1) 0) }
-{
     for shorter in 0..problem.universals() {
         let end = Element(problem.points() + shorter);
         if values.has(longer, end) && !outlived.has(Element(shorter)) {

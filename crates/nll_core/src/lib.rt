@@ -1,8 +1,8 @@
 //! The least solution of a problem of location-aware regions, and its faults.
 //! The problem is that of `nll_problem`, the sets are those of `nll_sets`; both are found here too.
 //!
-//! Reading order: `values`, `bases`, `lines` (with `jumps`), `stretches`, `tail_copy`,
-//! `walk`, `pairs`, `inclusion`, `order`, `indexed`, `satisfaction`, `solver`; `known_outlives`,
+//! Reading order: `values`, `bases`, `lines`, `stretches`,
+//! `walk`, `inclusion`, `order`, `indexed`, `satisfaction`, `solver`; `known_outlives`,
 //! `fault_check`. What owners use beside the solver is in `frontiers`. The definitions are in
 //! specs/.
 #![tactic(auto)]
@@ -12,18 +12,15 @@ mod fault_check;
 mod frontiers;
 mod inclusion;
 mod indexed;
-mod jumps;
 mod known_outlives;
 mod lines;
 mod order;
-mod pairs;
 mod reachability;
 mod region_elements;
 mod satisfaction;
 mod search;
 mod solver;
 mod stretches;
-mod tail_copy;
 mod values;
 mod walk;
 

@@ -86,35 +86,18 @@ fn descend(
         let Some(region) = descent.path.pop() else {
             return Ok(());
         };
-        step(constraints, starts, descent, regions, region)?;
+        let at = region as usize;
+        let place = descent.next[at];
+        if place >= starts[at + 1] || place >= constraints.len() {
+            descent.left.push(region)?;
+            continue;
+        }
+        descent.next[at] = place + 1;
+        descent.path.push(region)?;
+        let sup = constraints[place].sup;
+        enter(descent, regions, sup.0)?;
     }
     Ok(())
-}
-
-// Follows the next constraint that reads a region or, if there is none, leaves the region.
-fn step(
-    constraints: &[Constraint],
-    starts: &[usize],
-    descent: &mut Descent,
-    regions: u32,
-    region: u32,
-) -> Result<(), Memory>
-    requires region { region < regions }
-    requires starts { length starts.now ≡ regions + 1 }
-    requires constraints { AreOfRegions regions constraints.now }
-    requires descent { IsDescent regions descent.old }
-    ensures { OnOk result (IsDescent regions descent.new) }
-{
-    let at = region as usize;
-    let place = descent.next[at];
-    if place >= starts[at + 1] || place >= constraints.len() {
-        descent.left.push(region)?;
-        return Ok(());
-    }
-    descent.next[at] = place + 1;
-    descent.path.push(region)?;
-    let sup = constraints[place].sup;
-    enter(descent, regions, sup.0)
 }
 
 // Goes on to a region, if it wasn't seen.

@@ -1,22 +1,72 @@
 //! How the constraints of a pair of regions are met.
 
 ghost use Rattle.std.specs.Prelude.{◌≡◌, ℕ, ◌≤◌, ◌<◌, true, false, Contains, length, IfOk, OnOk};
+ghost use Rattle.std.specs.Prelude.{◌≢◌};
 ghost use Rattle.nll_sets.specs.Runs.{first_of, last_of, IsInRuns};
 ghost use Rattle.nll_problem.specs.Graph.{element_count};
-ghost use Rattle.nll_problem.specs.declared.constraint.Constraint as spec;
 ghost use Rattle.nll_core.specs.Values.{set_of, IsHeld, IsShaped};
 ghost use Rattle.nll_core.specs.Growing.{Gains, Tells, IsMet};
 ghost use Rattle.nll_core.specs.Search.{IsIn};
 ghost use Rattle.nll_core.specs.Walking.{PointsAscend, IsAskedOf};
-ghost use Rattle.nll_core.specs.Worklist.{AreOfPair, Visits};
+ghost use Rattle.nll_core.specs.Worklist.{AreOfPair, Visits, AreOfOneSup, SupsAscend};
+ghost use Rattle.nll_problem.specs.declared.constraint.Constraint as spec;
+ghost use Rattle.nll_problem.specs.declared.at.At.TheVariants as ats;
 
 use crate::inclusion::is_seen_within;
 use crate::indexed::Indexed;
-use crate::pairs::{Pair, is_everywhere};
 use crate::values::Values;
 use crate::walk::Walk;
-use nll_problem::RegionId;
+use nll_problem::{At, Constraint, RegionId};
 use nll_sets::{Memory, Run, RunSet};
+
+/// Constraints of a list that all read the region `sub` and fill the region `sup`.
+#[derive(Drop)]
+pub struct Pair<'c> {
+    pub sub: RegionId,
+    pub sup: RegionId,
+    pub constraints: &'c [Constraint],
+}
+
+/// The index up to which, from one on, the constraints fill the same region.
+pub fn pair_end(constraints: &[Constraint], place: usize) -> usize
+    requires place { place < length constraints.now }
+    requires ascending { SupsAscend constraints.now }
+    ensures more { place < result }
+    ensures bound { result ≤ length constraints.now }
+    ensures same { AreOfOneSup constraints.now place result }
+{
+    let sup = constraints[place].sup;
+    // Most pairs have one constraint.
+    if place + 1 == constraints.len() || constraints[place + 1].sup != sup {
+        return place + 1;
+    }
+    let mut low = place + 1;
+    let mut high = constraints.len();
+    while low < high {
+        let middle = low + (high - low) / 2;
+        if constraints[middle].sup == sup {
+            low = middle + 1;
+        } else {
+            high = middle;
+        }
+    }
+    low
+}
+
+/// Whether one of the constraints of a pair holds at all points. The first one does then.
+pub fn is_everywhere(pair: &[Constraint]) -> bool
+    requires ascending { PointsAscend pair.now }
+    ensures some { result ≡ true → (c : spec.Constraint) × Contains pair.now c × (c.at ≡ ats.All) }
+    ensures none { result ≡ false → (c : spec.Constraint) → Contains pair.now c → c.at ≢ ats.All }
+{
+    if pair.is_empty() {
+        return false;
+    }
+    match pair[0].at {
+        At::All => true,
+        At::Point(_) => false,
+    }
+}
 
 /// Meets the constraints of a pair of regions, and marks the one that they fill if it gets
 /// something. Returns whether it does.

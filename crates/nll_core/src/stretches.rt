@@ -3,14 +3,16 @@
 //! A walk keeps the points that it has reached as a set, and the stretches that it has entered and
 //! not yet followed as a list.
 
-ghost use Rattle.std.specs.Prelude.{◌≡◌, ◌⊎◌, ◌↔◌, ℕ, ◌≤◌, ◌<◌, true, Contains, length, []};
-ghost use Rattle.std.specs.Prelude.{List, Bool, IfOk, IfErr, OnOk};
+ghost use Rattle.std.specs.Prelude.{◌≡◌, ◌⊎◌, ◌↔◌, ℕ, ◌≤◌, ◌<◌, true, Contains, length, [], List};
+ghost use Rattle.std.specs.Prelude.{Bool, IfOk, IfErr, OnOk};
 ghost use Rattle.nll_problem.specs.Walks.{Reaches};
 ghost use Rattle.nll_sets.specs.Runs.{IsInRuns, IsRunFrom, IsWithin};
 ghost use Rattle.nll_core.specs.Lines.{IsJump};
 ghost use Rattle.nll_core.specs.Search.{IsIn};
-ghost use Rattle.nll_core.specs.Walking.{IsFreeTo, Grows, IsJumpedTo, IsFollowed, AreOfPoints};
-ghost use Rattle.nll_core.specs.Walking.{AreIn, IsLineClosed, IsSpread, no_limit};
+ghost use Rattle.nll_core.specs.Walking.{IsFreeTo, GrowsByRuns, IsJumpedTo, IsFollowed};
+ghost use Rattle.nll_core.specs.Walking.{AreRunsOfPoints};
+ghost use Rattle.nll_core.specs.Walking.{AreIn, IsLineClosed, IsSpread, no_limit, FillsFrom};
+ghost use Rattle.nll_core.specs.Frontiers.{ListsNew};
 
 use crate::lines::Lines;
 use nll_sets::{Memory, Run, RunSet};
@@ -48,7 +50,7 @@ fn enter_run(
     requires inside { IsWithin inside point }
     requires free { IsFreeTo reached.old point limit }
     ensures grows { OnOk result ((sub : List Bool) → IsRunFrom sub point inside
-        → Grows lines.now sub (Reaches lines.now (IsIn sub) point)
+        → GrowsByRuns lines.now sub (Reaches lines.now (IsIn sub) point)
         reached.old reached.new todo.old.items todo.new.items) }
     ensures settled { IfOk result (λ next. (sub : List Bool) → IsRunFrom sub point inside
         → IsLineClosed lines.now sub reached.old
@@ -79,7 +81,7 @@ pub fn enter(
     requires widths { lines.now.points ≤ length reached.old }
     requires inside { IsWithin inside point }
     ensures grows { OnOk result ((sub : List Bool) → IsRunFrom sub point inside
-        → Grows lines.now sub (Reaches lines.now (IsIn sub) point)
+        → GrowsByRuns lines.now sub (Reaches lines.now (IsIn sub) point)
         reached.old reached.new todo.old.items todo.new.items) }
     ensures settled { IfOk result (λ next. (sub : List Bool) → IsRunFrom sub point inside
         → IsLineClosed lines.now sub reached.old
@@ -108,7 +110,8 @@ fn go_to(
     requires point { point < lines.now.points }
     requires widths { lines.now.points ≤ length reached.old }
     requires known { AreIn reached.old known }
-    ensures grows { OnOk result (Grows lines.now sub.now (Reaches lines.now (IsIn sub.now) point)
+    ensures grows { OnOk result (GrowsByRuns lines.now sub.now (Reaches lines.now
+        (IsIn sub.now) point)
         reached.old reached.new todo.old.items todo.new.items) }
     ensures known { IfOk result (AreIn reached.new) }
     ensures covers { OnOk result (IsIn sub.now point → IsIn reached.new point) }
@@ -143,7 +146,7 @@ fn follow(
     requires points { run.last < lines.now.points }
     requires widths { lines.now.points ≤ length reached.old }
     requires run { AreIn reached.old run }
-    ensures grows { OnOk result (Grows lines.now sub.now (IsJumpedTo lines.now sub.now run)
+    ensures grows { OnOk result (GrowsByRuns lines.now sub.now (IsJumpedTo lines.now sub.now run)
         reached.old reached.new todo.old.items todo.new.items) }
     ensures covers { OnOk result
         ((x : ℕ) → IsWithin run x → IsFollowed lines.now sub.now reached.new x) }
@@ -173,7 +176,7 @@ pub fn spread(
     list: &mut Vec<Run>,
 ) -> Result<bool, Memory>
     requires widths { lines.now.points ≤ length reached.old }
-    requires fit { AreOfPoints lines.now list.old.items }
+    requires fit { AreRunsOfPoints lines.now list.old.items }
     requires listed { (x : ℕ) → IsInRuns list.old.items x → IsIn reached.old x }
     requires inside { (x : ℕ) → IsIn reached.old x → IsIn sub.now x }
     ensures { IfOk result (IsSpread lines.now sub.now reached.old reached.new
@@ -188,4 +191,30 @@ pub fn spread(
         ended |= follow(lines, sub, &mut near, reached, list, run)?;
     }
     Ok(ended)
+}
+
+/// Inserts the elements of `sub` from a number on into a set, and appends the runs of those that
+/// are new to a list.
+pub fn fill_from(
+    sub: &RunSet,
+    reached: &mut RunSet,
+    list: &mut Vec<Run>,
+    from: u32,
+) -> Result<(), Memory>
+    requires width { length reached.old ≡ length sub.now }
+    requires short { length sub.now < 4294967296 }
+    ensures fills { OnOk result (FillsFrom from sub.now reached.old reached.new) }
+    ensures lists { OnOk result (ListsNew reached.old reached.new list.old.items list.new.items) }
+{
+    let mut next = from;
+    while let Some(run) = sub.run_from(next) {
+        let rest = Run {
+            first: run.first.max(next),
+            last: run.last,
+        };
+        reached.gaps(rest, list)?;
+        reached.insert_run(rest)?;
+        next = run.last + 1;
+    }
+    Ok(())
 }

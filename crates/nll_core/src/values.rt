@@ -3,7 +3,7 @@
 ghost use Rattle.std.specs.Prelude.{◌≡◌, ℕ, ◌+◌, ◌-◌, ◌≤◌, ◌<◌, not, length, IfOk, OnOk};
 ghost use Rattle.std.specs.Prelude.{OnErr, false, replicate, slice_set, []};
 ghost use Rattle.nll_sets.specs.ElementSet.{elements};
-ghost use Rattle.nll_sets.specs.Runs.{first_of, last_of, numbers, IsWithin};
+ghost use Rattle.nll_sets.specs.Runs.{first_of, last_of, numbers_in, IsWithin};
 ghost use Rattle.nll_core.specs.Growing.{Gains, Tells, missing_pairs};
 ghost use Rattle.nll_core.specs.Values.{set_of, holds, with_element, empty_values, IsHeld};
 
@@ -123,7 +123,7 @@ impl Values {
     /// The runs of elements of the value of a region, ascending.
     pub fn runs(&self, region: RegionId) -> &[Run]
         requires { region < length self.now }
-        ensures listed { numbers result.now ≡ elements (set_of self.now region) }
+        ensures listed { numbers_in result.now ≡ elements (set_of self.now region) }
         ensures fit { (k : ℕ) → k < length result.now
             → (first_of result.now k ≤ last_of result.now k)
             × (last_of result.now k < length (set_of self.now region)) }

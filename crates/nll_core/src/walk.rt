@@ -4,14 +4,13 @@ ghost use Rattle.std.specs.Prelude.{◌≡◌, ℕ, ◌≤◌, ◌<◌, Contains
 ghost use Rattle.nll_problem.specs.Graph.{element_count};
 ghost use Rattle.nll_problem.specs.declared.constraint.Constraint as spec;
 ghost use Rattle.nll_core.specs.Search.{IsIn};
-ghost use Rattle.nll_core.specs.Walking.{Grows, IsLineClosed, PointsAscend, AreAskedOf};
+ghost use Rattle.nll_core.specs.Walking.{GrowsByRuns, IsLineClosed, PointsAscend, AreAskedOf};
 ghost use Rattle.nll_core.specs.Walking.{AreAtPoints, IsLedFrom, NoneEverywhere, NoneInside};
 ghost use Rattle.nll_core.specs.Walking.{constraint_at, point_of};
 ghost use Rattle.nll_sets.specs.Runs.{first_of, last_of, IsRunFrom, IsWithin, MakeUp};
 
 use crate::lines::Lines;
-use crate::stretches::{enter, spread};
-use crate::tail_copy::fill_from;
+use crate::stretches::{enter, fill_from, spread};
 use nll_problem::{At, Constraint};
 use nll_sets::{ElementSet, Memory, Run, RunSet};
 use std::alloc::Global;
@@ -98,7 +97,8 @@ fn enter_all(
     requires ascending { PointsAscend pair.now }
     requires widths { lines.now.points ≤ length reached.old }
     requires closed { IsLineClosed lines.now sub.now reached.old }
-    ensures grows { OnOk result (Grows lines.now sub.now (IsLedFrom lines.now sub.now pair.now)
+    ensures grows { OnOk result (GrowsByRuns lines.now sub.now
+        (IsLedFrom lines.now sub.now pair.now)
         reached.old reached.new todo.old.items todo.new.items) }
     ensures covers { OnOk result ((c : spec.Constraint)
         → Contains pair.now c → IsIn sub.now (point_of c) → IsIn reached.new (point_of c)) }

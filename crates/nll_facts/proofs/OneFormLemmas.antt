@@ -15,7 +15,7 @@ use Rattle.nll_problem.specs.declared.at.At.TheVariants.{All, Point}
 use Rattle.nll_format.specs.Parts.{Name, IsSmall, token_of}
 use Rattle.nll_format.proofs.PartLemmas as lemmas
 use Rattle.nll_format.proofs.PartLemmas.{printed}
-use Rattle.nll_facts.specs.FactsForms.{Form, points, universal, outlives, further, next, return, base, constraint, end, HasForm, parts}
+use Rattle.nll_facts.specs.FactsForms.{FactsForm, points, universal, outlives, further, next, return, base, constraint, end, HasFactsForm, facts_parts}
 
 -- ---- a line has one form
 
@@ -51,7 +51,7 @@ number_apart p small = ⊎_elim
     (cases_Bool (bytes_eq (decimal p) (codes "all")))
 
 -- the form that tokens spell
-unspelled : List Token → Form
+unspelled : List Token → FactsForm
 unspelled (word w ∷ ts) =
     cond (bytes_eq w (codes "points")) (points (number_in ts))
     (cond (bytes_eq w (codes "universal")) (universal (name_in ts))
@@ -65,7 +65,8 @@ unspelled (word w ∷ ts) =
     end)))))))
 unspelled _ = end
 
-unspelled_spelled : (f : Form) → AllByRecursion IsSmall (parts f) → unspelled (map token_of (parts f)) ≡ f
+unspelled_spelled : (f : FactsForm) → AllByRecursion IsSmall (facts_parts f)
+    → unspelled (map token_of (facts_parts f)) ≡ f
 unfolding unspelled number_in name_in place_in behind
 unspelled_spelled (points n) small = ap points (printed n small.1.0)
 unspelled_spelled (universal a) small = refl
@@ -81,8 +82,9 @@ unspelled_spelled (constraint a b (Point p)) small =
     ∙ ap (λ (n : ℕ). constraint a b (Point n)) (printed p small.1.1.1.0)
 unspelled_spelled end small = refl
 
-pub one_form : (line : List ℕ) (f g : Form) → HasForm line f → HasForm line g → f ≡ g
-one_form = lemmas.one_form Form parts unspelled unspelled_spelled
+pub one_form : (line : List ℕ) (f g : FactsForm) → HasFactsForm line f → HasFactsForm line g → f ≡ g
+one_form = lemmas.one_form FactsForm facts_parts unspelled unspelled_spelled
 
-pub form_or_none : (line : List ℕ) → ((f : Form) × HasForm line f) ⊎ ((f : Form) → HasForm line f → ⊥)
-form_or_none = lemmas.form_or_none Form parts unspelled unspelled_spelled
+pub form_or_none : (line : List ℕ) → ((f : FactsForm) × HasFactsForm line f) ⊎ ((f : FactsForm) → HasFactsForm line f
+    → ⊥)
+form_or_none = lemmas.form_or_none FactsForm facts_parts unspelled unspelled_spelled

@@ -15,9 +15,9 @@ use Rattle.nll_problem.proofs.SameLemmas.{same_problem}
 use Rattle.nll_problem.proofs.FactLemmas.{pair_found, constraint_found, adds_pair, adds_constraint}
 use Rattle.nll_format.specs.Names.{number_of}
 use Rattle.nll_format.specs.Parts.{Name}
-use Rattle.nll_facts.specs.FactsForms.{Form, points, universal, outlives, further, next, return, base, constraint, end}
-use Rattle.nll_facts.specs.FactsSaid.{Said, said, is_universal, first_fault, is_in_order, group, reached, points_in, universal_in, further_in, outlives_in, edge_in, return_in, base_in, constraint_in, first_or_zero, universals_said, names_said, problem_said}
-use Rattle.nll_facts.specs.FactsReading.{bare, Adds, SameSaid}
+use Rattle.nll_facts.specs.FactsForms.{FactsForm, points, universal, outlives, further, next, return, base, constraint, end}
+use Rattle.nll_facts.specs.FactsSaid.{SaidFacts, facts_said, is_universal_name, first_facts_fault, is_fact_in_order, facts_group, last_fact_group, points_in, universal_fact_in, further_fact_in, outlives_fact_in, edge_in, return_in, base_in, constraint_in, first_or_zero, facts_universals_said, facts_names_said, problem_said}
+use Rattle.nll_facts.specs.FactsReading.{bare, AddsFacts, SameSaid}
 use Rattle.nll_format.specs.declared.error.TextKind.{TextKind}
 use Rattle.nll_format.specs.declared.error.TextKind.TheVariants.{Syntax, Unknown}
 
@@ -38,7 +38,7 @@ constraints_test s t same c = same_from_decides _ _
     (λ h. (same c).1 ((constraint_found t.constraints c).0 h), λ h. (constraint_found t.constraints c).1 ((same c).0 h))
 
 -- where the same is said, a line has the same fault
-pub same_fault : (s t : Said) → SameSaid s t → (f : Form) → first_fault s f ≡ first_fault t f
+pub same_fault : (s t : SaidFacts) → SameSaid s t → (f : FactsForm) → first_facts_fault s f ≡ first_facts_fault t f
 same_fault s t h (points n) = rw h.reached refl
 same_fault s t h (universal a) = rw (h.reached, h.names, h.problem.universals) refl
 same_fault s t h (outlives a b) = rw (h.reached, h.names, h.problem.universals) refl
@@ -104,54 +104,56 @@ constraint_known ks c = ⊎_elim
 -- ---- one more line
 
 -- a line that adds nothing
-kept_by : {X : Type 0} (g : Form → Option X) (forms : List Form) (f : Form) → g f ≡ None
+kept_by : {X : Type 0} (g : FactsForm → Option X) (forms : List FactsForm) (f : FactsForm) → g f ≡ None
     → filter_map g (forms ++ f ∷ []) ≡ filter_map g forms
 kept_by g forms f none = filter_map-append g forms (f ∷ []) ∙ rw none (append-nil (filter_map g forms))
 
 -- a line that adds one
-added_by : {X : Type 0} (g : Form → Option X) (forms : List Form) (f : Form) (x : X) → g f ≡ Some x
+added_by : {X : Type 0} (g : FactsForm → Option X) (forms : List FactsForm) (f : FactsForm) (x : X) → g f ≡ Some x
     → filter_map g (forms ++ f ∷ []) ≡ filter_map g forms ++ x ∷ []
 added_by g forms f x some = filter_map-append g forms (f ∷ []) ∙ rw some refl
 
-reached_push : (forms : List Form) (f : Form) → reached (forms ++ f ∷ []) ≡ max (reached forms) (group f)
+reached_push : (forms : List FactsForm) (f : FactsForm)
+    → last_fact_group (forms ++ f ∷ []) ≡ max (last_fact_group forms) (facts_group f)
 reached_push [] f = omega arith
 reached_push (x ∷ forms) f = omega (arith, reached_push forms f)
 
 -- nothing is said by lines of later groups
-none_before : {X : Type 0} (g : Form → Option X) (n : ℕ) → ((f : Form) → group f ≤ n → g f ≡ None) → (forms : List Form)
-    → reached forms ≤ n → filter_map g forms ≡ []
+none_before : {X : Type 0} (g : FactsForm → Option X) (n : ℕ) → ((f : FactsForm) → facts_group f ≤ n → g f ≡ None)
+    → (forms : List FactsForm)
+    → last_fact_group forms ≤ n → filter_map g forms ≡ []
 none_before g n early [] h = refl
 none_before g n early (f ∷ forms) h = rw (early f (omega arith)) (none_before g n early forms (omega arith))
 
-outlives_early : (names : List Name) (f : Form) → group f ≤ 2 → outlives_in names f ≡ None
+outlives_early : (names : List Name) (f : FactsForm) → facts_group f ≤ 2 → outlives_fact_in names f ≡ None
 outlives_early names (outlives a b) h = absurd (omega arith)
 outlives_early names _ h = refl
 
-further_early : (f : Form) → group f ≤ 3 → further_in f ≡ None
+further_early : (f : FactsForm) → facts_group f ≤ 3 → further_fact_in f ≡ None
 further_early (further x) h = absurd (omega arith)
 further_early _ h = refl
 
-edge_early : (f : Form) → group f ≤ 4 → edge_in f ≡ None
+edge_early : (f : FactsForm) → facts_group f ≤ 4 → edge_in f ≡ None
 edge_early (next p q) h = absurd (omega arith)
 edge_early _ h = refl
 
-return_early : (f : Form) → group f ≤ 4 → return_in f ≡ None
+return_early : (f : FactsForm) → facts_group f ≤ 4 → return_in f ≡ None
 return_early (return p) h = absurd (omega arith)
 return_early _ h = refl
 
-base_early : (names : List Name) (f : Form) → group f ≤ 4 → base_in names f ≡ None
+base_early : (names : List Name) (f : FactsForm) → facts_group f ≤ 4 → base_in names f ≡ None
 base_early names (base x p) h = absurd (omega arith)
 base_early names _ h = refl
 
-constraint_early : (names : List Name) (f : Form) → group f ≤ 4 → constraint_in names f ≡ None
+constraint_early : (names : List Name) (f : FactsForm) → facts_group f ≤ 4 → constraint_in names f ≡ None
 constraint_early names (constraint a b p) h = absurd (omega arith)
 constraint_early names _ h = refl
 
-none_yet : (forms : List Form) → reached forms ≡ 0 → forms ≡ []
+none_yet : (forms : List FactsForm) → last_fact_group forms ≡ 0 → forms ≡ []
 none_yet [] e = refl
 none_yet (f ∷ forms) e = absurd (no_group f (omega arith))
   where
-    no_group : (f : Form) → group f ≡ 0 → ⊥
+    no_group : (f : FactsForm) → facts_group f ≡ 0 → ⊥
     no_group end h = omega arith
     no_group _ h = omega arith
 
@@ -166,7 +168,7 @@ not_false true e = refl
 not_false false e = absurd cc
 
 -- a line without a fault stands in order
-pub in_order : (s : Said) (f : Form) → first_fault s f ≡ None → is_in_order s f ≡ true
+pub in_order : (s : SaidFacts) (f : FactsForm) → first_facts_fault s f ≡ None → is_fact_in_order s f ≡ true
 in_order s end e = not_false _ (guard _ _ _ e)
 in_order s _ e = not_false _ (guard _ _ _ e)
 
@@ -178,31 +180,34 @@ first_points r e = grind (arith, nat_tests)
 
 -- ---- what is said by the universal regions alone
 
-universals_alone : (forms : List Form) → reached forms ≤ 2 → names_said forms ≡ universals_said forms
+universals_alone : (forms : List FactsForm) → last_fact_group forms ≤ 2
+    → facts_names_said forms ≡ facts_universals_said forms
 universals_alone forms h =
-    ap (λ xs. universals_said forms ++ xs) (none_before further_in 3 further_early forms (omega arith))
-    ∙ append-nil (universals_said forms)
+    ap (λ xs. facts_universals_said forms ++ xs) (none_before further_fact_in 3 further_early forms (omega arith))
+    ∙ append-nil (facts_universals_said forms)
 
-abbrev points_said : List Form → ℕ
+abbrev points_said : List FactsForm → ℕ
 points_said forms = first_or_zero (filter_map points_in forms)
 
-bare_said : (forms : List Form) → reached forms ≤ 2
-    → problem_said forms ≡ bare (points_said forms) (length (universals_said forms))
+bare_said : (forms : List FactsForm) → last_fact_group forms ≤ 2
+    → problem_said forms ≡ bare (points_said forms) (length (facts_universals_said forms))
 bare_said forms h =
     rw (
       none_before edge_in 4 edge_early forms (omega arith),
       none_before return_in 4 return_early forms (omega arith),
-      none_before (base_in (names_said forms)) 4 (base_early (names_said forms)) forms (omega arith),
-      none_before (constraint_in (names_said forms)) 4 (constraint_early (names_said forms)) forms (omega arith),
-      none_before (outlives_in (universals_said forms)) 2 (outlives_early (universals_said forms)) forms h,
-      none_before further_in 3 further_early forms (omega arith),
-      append-nil (filter_map universal_in forms),
+      none_before (base_in (facts_names_said forms)) 4 (base_early (facts_names_said forms)) forms (omega arith),
+      none_before (constraint_in (facts_names_said forms)) 4 (constraint_early (facts_names_said forms)) forms
+          (omega arith),
+      none_before (outlives_fact_in (facts_universals_said forms)) 2 (outlives_early
+          (facts_universals_said forms)) forms h,
+      none_before further_fact_in 3 further_early forms (omega arith),
+      append-nil (filter_map universal_fact_in forms),
     )
     refl
 
 -- where the problem is the very one that is said
-exact : (forms : List Form) (t : Said) → t.reached ≡ reached forms → t.names ≡ names_said forms
-    → t.problem ≡ problem_said forms → SameSaid (said forms) t
+exact : (forms : List FactsForm) (t : SaidFacts) → t.reached ≡ last_fact_group forms → t.names ≡ facts_names_said forms
+    → t.problem ≡ problem_said forms → SameSaid (facts_said forms) t
 exact forms t r n q = record {
   reached = sym r;
   names = sym n;
@@ -212,34 +217,37 @@ exact forms t r n q = record {
 }
 
 -- the names stay where a line declares none
-names_kept : (forms : List Form) (f : Form) → universal_in f ≡ None → further_in f ≡ None
-    → names_said (forms ++ f ∷ []) ≡ names_said forms
-names_kept forms f u x = rw (kept_by universal_in forms f u, kept_by further_in forms f x) refl
+names_kept : (forms : List FactsForm) (f : FactsForm) → universal_fact_in f ≡ None → further_fact_in f ≡ None
+    → facts_names_said (forms ++ f ∷ []) ≡ facts_names_said forms
+names_kept forms f u x = rw (kept_by universal_fact_in forms f u, kept_by further_fact_in forms f x) refl
 
 -- ---- one more line, by its form
 
-kept_set : {X : Type 0} (g : Form → Option X) (forms : List Form) (f : Form) (ys zs : List X) → g f ≡ None
+kept_set : {X : Type 0} (g : FactsForm → Option X) (forms : List FactsForm) (f : FactsForm) (ys zs : List X)
+    → g f ≡ None
     → SameSet (filter_map g forms) ys → zs ≡ ys → SameSet (filter_map g (forms ++ f ∷ [])) zs
 kept_set g forms f ys zs none same e =
     subst (λ xs. SameSet xs zs) (sym (kept_by g forms f none)) (subst (SameSet (filter_map g forms)) (sym e) same)
 
-added_set : {X : Type 0} (g : Form → Option X) (forms : List Form) (f : Form) (x : X) (ys ys' : List X) → g f ≡ Some x
+added_set : {X : Type 0} (g : FactsForm → Option X) (forms : List FactsForm) (f : FactsForm) (x : X)
+    (ys ys' : List X) → g f ≡ Some x
     → SameSet (filter_map g forms) ys → AddsFact ys ys' x → SameSet (filter_map g (forms ++ f ∷ [])) ys'
 added_set g forms f x ys ys' some same adds =
     subst (λ xs. SameSet xs ys') (sym (added_by g forms f x some)) (same_added (filter_map g forms) ys x ys' same adds)
 
 -- the edges and the constraints that are said
-abbrev edges_said : List Form → List (ℕ × ℕ)
+abbrev edges_said : List FactsForm → List (ℕ × ℕ)
 edges_said forms = insert_all same_pair [] (filter_map edge_in forms)
 
-abbrev constraints_said : List Name → List Form → List Constraint
+abbrev constraints_said : List Name → List FactsForm → List Constraint
 constraints_said names forms = insert_all same_constraint [] (filter_map (constraint_in names) forms)
 
 -- the edges and constraints stay where a line has none
-kept_edges : (forms : List Form) (f : Form) → edge_in f ≡ None → edges_said (forms ++ f ∷ []) ≡ edges_said forms
+kept_edges : (forms : List FactsForm) (f : FactsForm) → edge_in f ≡ None
+    → edges_said (forms ++ f ∷ []) ≡ edges_said forms
 kept_edges forms f none = ap (insert_all same_pair []) (kept_by edge_in forms f none)
 
-kept_constraints : (names : List Name) (forms : List Form) (f : Form) → constraint_in names f ≡ None
+kept_constraints : (names : List Name) (forms : List FactsForm) (f : FactsForm) → constraint_in names f ≡ None
     → constraints_said names (forms ++ f ∷ []) ≡ constraints_said names forms
 kept_constraints names forms f none = ap (insert_all same_constraint []) (kept_by (constraint_in names) forms f none)
 
@@ -251,48 +259,49 @@ abbrev SameFacts : {X : Type 0} → List X → List X → Type 0
 SameFacts xs ys = SameSet xs ys × (length xs ≡ length ys)
 
 -- Where s says what the lines say, and one more line declares no name, its facts are what is left to look at.
-module _ (forms : List Form) (f : Form) (s : Said) (h : SameSaid (said forms) s) where
+module _ (forms : List FactsForm) (f : FactsForm) (s : SaidFacts) (h : SameSaid (facts_said forms) s) where
   edges_kept : edge_in f ≡ None → SameFacts (edges_said (forms ++ f ∷ [])) s.problem.graph.edges
   edges_kept none =
       let e = kept_edges forms f none in (both _ _ _ _ e refl h.problem.edges, ap length e ∙ h.edge_count)
 
-  constraints_kept : constraint_in (names_said forms) f ≡ None
-      → SameFacts (constraints_said (names_said forms) (forms ++ f ∷ [])) s.problem.constraints
+  constraints_kept : constraint_in (facts_names_said forms) f ≡ None
+      → SameFacts (constraints_said (facts_names_said forms) (forms ++ f ∷ [])) s.problem.constraints
   constraints_kept none =
-      let e = kept_constraints (names_said forms) forms f none in
+      let e = kept_constraints (facts_names_said forms) forms f none in
       (both _ _ _ _ e refl h.problem.constraints, ap length e ∙ h.constraint_count)
 
   returns_kept : return_in f ≡ None → SameSet (filter_map return_in (forms ++ f ∷ [])) s.problem.graph.returns
   returns_kept none = kept_set return_in forms f _ _ none h.problem.returns refl
 
-  bases_kept : base_in (names_said forms) f ≡ None
-      → SameSet (filter_map (base_in (names_said forms)) (forms ++ f ∷ [])) s.problem.bases
-  bases_kept none = kept_set (base_in (names_said forms)) forms f _ _ none h.problem.bases refl
+  bases_kept : base_in (facts_names_said forms) f ≡ None
+      → SameSet (filter_map (base_in (facts_names_said forms)) (forms ++ f ∷ [])) s.problem.bases
+  bases_kept none = kept_set (base_in (facts_names_said forms)) forms f _ _ none h.problem.bases refl
 
-  outlives_kept : outlives_in (universals_said forms) f ≡ None
-      → SameSet (filter_map (outlives_in (universals_said forms)) (forms ++ f ∷ [])) s.problem.outlives
-  outlives_kept none = kept_set (outlives_in (universals_said forms)) forms f _ _ none h.problem.outlives refl
+  outlives_kept : outlives_fact_in (facts_universals_said forms) f ≡ None
+      → SameSet (filter_map (outlives_fact_in (facts_universals_said forms)) (forms ++ f ∷ [])) s.problem.outlives
+  outlives_kept none = kept_set (outlives_fact_in (facts_universals_said forms)) forms f _ _ none h.problem.outlives
+      refl
 
-  same_after : (t : Said) (r : Problem) → t.problem ≡ r → universal_in f ≡ None → further_in f ≡ None
-      → points_in f ≡ None → t.reached ≡ reached (forms ++ f ∷ []) → t.names ≡ s.names
+  same_after : (t : SaidFacts) (r : Problem) → t.problem ≡ r → universal_fact_in f ≡ None → further_fact_in f ≡ None
+      → points_in f ≡ None → t.reached ≡ last_fact_group (forms ++ f ∷ []) → t.names ≡ s.names
       → r.graph.points ≡ s.problem.graph.points
       → r.graph.universals ≡ s.problem.graph.universals → r.regions ≡ s.problem.regions
       → SameFacts (edges_said (forms ++ f ∷ [])) r.graph.edges
       → SameSet (filter_map return_in (forms ++ f ∷ [])) r.graph.returns
-      → SameSet (filter_map (base_in (names_said forms)) (forms ++ f ∷ [])) r.bases
-      → SameFacts (constraints_said (names_said forms) (forms ++ f ∷ [])) r.constraints
-      → SameSet (filter_map (outlives_in (universals_said forms)) (forms ++ f ∷ [])) r.outlives
-      → SameSaid (said (forms ++ f ∷ [])) t
+      → SameSet (filter_map (base_in (facts_names_said forms)) (forms ++ f ∷ [])) r.bases
+      → SameFacts (constraints_said (facts_names_said forms) (forms ++ f ∷ [])) r.constraints
+      → SameSet (filter_map (outlives_fact_in (facts_universals_said forms)) (forms ++ f ∷ [])) r.outlives
+      → SameSaid (facts_said (forms ++ f ∷ [])) t
   same_after t r q u x p reach names count universals regions edges returns bases constraints longer =
-      let named : names_said (forms ++ f ∷ []) ≡ names_said forms = names_kept forms f u x in
-      let all : universals_said (forms ++ f ∷ []) ≡ universals_said forms =
-      ap (λ xs. codes "static" ∷ xs) (kept_by universal_in forms f u) in
+      let named : facts_names_said (forms ++ f ∷ []) ≡ facts_names_said forms = names_kept forms f u x in
+      let all : facts_universals_said (forms ++ f ∷ []) ≡ facts_universals_said forms =
+      ap (λ xs. codes "static" ∷ xs) (kept_by universal_fact_in forms f u) in
       let of_names = subst (λ ns. SameFacts (constraints_said ns (forms ++ f ∷ [])) r.constraints) (sym named)
       constraints in
       record {
         reached = sym reach;
         names = named ∙ (h.names ∙ sym names);
-        problem = subst (SameProblem (said (forms ++ f ∷ [])).problem) (sym q) (record {
+        problem = subst (SameProblem (facts_said (forms ++ f ∷ [])).problem) (sym q) (record {
           points = ap first_or_zero (kept_by points_in forms f p) ∙ (h.problem.points ∙ sym count);
           universals = ap length all ∙ (h.problem.universals ∙ sym universals);
           regions = ap length named ∙ (h.problem.regions ∙ sym regions);
@@ -300,7 +309,8 @@ module _ (forms : List Form) (f : Form) (s : Said) (h : SameSaid (said forms) s)
           returns = returns;
           bases = subst (λ ns. SameSet (filter_map (base_in ns) (forms ++ f ∷ [])) r.bases) (sym named) bases;
           constraints = of_names.0;
-          outlives = subst (λ us. SameSet (filter_map (outlives_in us) (forms ++ f ∷ [])) r.outlives) (sym all) longer;
+          outlives = subst (λ us. SameSet (filter_map (outlives_fact_in us) (forms ++ f
+              ∷ [])) r.outlives) (sym all) longer;
         });
         edge_count = edges.1 ∙ sym (ap (λ (z : Problem). length z.graph.edges) q);
         constraint_count = of_names.1 ∙ sym (ap (λ (z : Problem). length z.constraints) q);
@@ -327,44 +337,46 @@ both_universal true true false o e = absurd cc
 both_universal true false v o e = absurd cc
 
 -- One more line without a fault is said.
-pub adds_said : (forms : List Form) (s t : Said) (f : Form) → SameSaid (said forms) s → first_fault s f ≡ None
-    → Adds s f t → SameSaid (said (forms ++ f ∷ [])) t
+pub adds_said : (forms : List FactsForm) (s t : SaidFacts) (f : FactsForm) → SameSaid (facts_said forms) s
+    → first_facts_fault s f ≡ None
+    → AddsFacts s f t → SameSaid (facts_said (forms ++ f ∷ [])) t
 adds_said forms s t (points n) h fine a =
     let none : forms ≡ [] = none_yet forms (h.reached ∙ first_points s.reached (in_order s (points n) fine)) in
-    let named : s.names ≡ codes "static" ∷ [] = sym h.names ∙ ap names_said none in
-    subst (λ fs. SameSaid (said (fs ++ points n ∷ [])) t) (sym none)
+    let named : s.names ≡ codes "static" ∷ [] = sym h.names ∙ ap facts_names_said none in
+    subst (λ fs. SameSaid (facts_said (fs ++ points n ∷ [])) t) (sym none)
     (exact (points n ∷ []) t a.group (a.takes.0 ∙ named)
     (a.takes.1 ∙ ap (λ (ns : List Name). bare n (length ns)) named))
 adds_said forms s t (universal x) h fine a =
-    let before : reached forms ≤ 2 =
+    let before : last_fact_group forms ≤ 2 =
     omega (arith, ordered s.reached 2 true (in_order s (universal x) fine), h.reached) in
-    let late : reached (forms ++ universal x ∷ []) ≡ 2 = omega (arith, reached_push forms (universal x)) in
-    let one : universals_said (forms ++ universal x ∷ []) ≡ universals_said forms ++ x ∷ [] =
-    ap (λ xs. codes "static" ∷ xs) (added_by universal_in forms (universal x) x refl) in
-    let named : s.names ≡ universals_said forms = sym h.names ∙ universals_alone forms before in
+    let late : last_fact_group (forms ++ universal x ∷ []) ≡ 2 = omega (arith, reached_push forms (universal x)) in
+    let one : facts_universals_said (forms ++ universal x ∷ []) ≡ facts_universals_said forms ++ x ∷ [] =
+    ap (λ xs. codes "static" ∷ xs) (added_by universal_fact_in forms (universal x) x refl) in
+    let named : s.names ≡ facts_universals_said forms = sym h.names ∙ universals_alone forms before in
     exact (forms ++ universal x ∷ []) t (a.group ∙ sym late)
     (a.takes.0 ∙ (ap (λ ns. ns ++ x ∷ []) named
     ∙ (sym one ∙ sym (universals_alone (forms ++ universal x ∷ []) (omega arith)))))
     (a.takes.1 ∙ (same_bare _ _ _ _
     (sym h.problem.points ∙ sym (ap first_or_zero (kept_by points_in forms (universal x) refl)))
-    (omega (arith, ap length named, ap length one, length-append (universals_said forms) (x ∷ [])))
+    (omega (arith, ap length named, ap length one, length-append (facts_universals_said forms) (x ∷ [])))
     ∙ sym (bare_said (forms ++ universal x ∷ []) (omega arith))))
   where
     same_bare : (p u q v : ℕ) → p ≡ q → u ≡ v → bare p u ≡ bare q v
     same_bare p u q v e k = cc
 adds_said forms s t (outlives x y) h fine a =
-    let before : reached forms ≤ 3 =
+    let before : last_fact_group forms ≤ 3 =
     omega (arith, ordered s.reached 3 true (in_order s (outlives x y) fine), h.reached) in
-    let regions = both_universal (is_in_order s (outlives x y)) (is_universal s x) (is_universal s y) None fine in
+    let regions = both_universal (is_fact_in_order s (outlives x y)) (is_universal_name s x)
+    (is_universal_name s y) None fine in
     let number : (z : Name) → nat_lt (number_of s.names z) s.problem.graph.universals ≡ true
-    → number_of s.names z ≡ number_of (universals_said forms) z = λ z is.
-    subst (λ ns. number_of ns z ≡ number_of (universals_said forms) z) h.names
-    (number_front (universals_said forms) (filter_map further_in forms) z
-    (subst (λ ns. number_of ns z < length (universals_said forms)) (sym h.names)
+    → number_of s.names z ≡ number_of (facts_universals_said forms) z = λ z is.
+    subst (λ ns. number_of ns z ≡ number_of (facts_universals_said forms) z) h.names
+    (number_front (facts_universals_said forms) (filter_map further_fact_in forms) z
+    (subst (λ ns. number_of ns z < length (facts_universals_said forms)) (sym h.names)
     (subst (λ k. number_of s.names z < k) (sym h.problem.universals) (ltb-true _ _ is)))) in
     let adds : AddsFact s.problem.outlives t.problem.outlives
-    (number_of (universals_said forms) x, number_of (universals_said forms) y) =
-    subst (λ (k : ℕ). AddsFact s.problem.outlives t.problem.outlives (k, number_of (universals_said forms) y))
+    (number_of (facts_universals_said forms) x, number_of (facts_universals_said forms) y) =
+    subst (λ (k : ℕ). AddsFact s.problem.outlives t.problem.outlives (k, number_of (facts_universals_said forms) y))
     (number x regions.0)
     (subst (λ (k : ℕ). AddsFact s.problem.outlives t.problem.outlives (number_of s.names x, k))
     (number y regions.1) a.takes.2) in
@@ -372,19 +384,24 @@ adds_said forms s t (outlives x y) h fine a =
     (a.group ∙ omega (arith, reached_push forms (outlives x y))) a.takes.0 refl refl refl
     (edges_kept forms (outlives x y) s h refl) (returns_kept forms (outlives x y) s h refl)
     (bases_kept forms (outlives x y) s h refl) (constraints_kept forms (outlives x y) s h refl)
-    (added_set (outlives_in (universals_said forms)) forms (outlives x y) _ _ _ refl h.problem.outlives adds)
+    (added_set (outlives_fact_in (facts_universals_said forms)) forms (outlives x y) _ _ _ refl h.problem.outlives adds)
 adds_said forms s t (further x) h fine a =
-    let before : reached forms ≤ 4 = omega (arith, ordered s.reached 4 true (in_order s (further x) fine), h.reached) in
-    let after : reached (forms ++ further x ∷ []) ≤ 4 = omega (arith, reached_push forms (further x)) in
-    let all : universals_said (forms ++ further x ∷ []) ≡ universals_said forms =
-    ap (λ xs. codes "static" ∷ xs) (kept_by universal_in forms (further x) refl) in
-    let others = added_by further_in forms (further x) x refl in
-    let named : names_said (forms ++ further x ∷ []) ≡ names_said forms ++ x ∷ [] =
-    ap (λ us. us ++ filter_map further_in (forms ++ further x ∷ [])) all
-    ∙ (ap (λ xs. universals_said forms ++ xs) others
-    ∙ sym (append_assoc (universals_said forms) (filter_map further_in forms) (x ∷ []))) in
-    let old : List Name = names_said forms in
-    let new : List Name = names_said (forms ++ further x ∷ []) in
+    let before : last_fact_group forms ≤ 4 = omega (
+      arith,
+      ordered s.reached 4 true (in_order s
+          (further x) fine),
+      h.reached,
+    ) in
+    let after : last_fact_group (forms ++ further x ∷ []) ≤ 4 = omega (arith, reached_push forms (further x)) in
+    let all : facts_universals_said (forms ++ further x ∷ []) ≡ facts_universals_said forms =
+    ap (λ xs. codes "static" ∷ xs) (kept_by universal_fact_in forms (further x) refl) in
+    let others = added_by further_fact_in forms (further x) x refl in
+    let named : facts_names_said (forms ++ further x ∷ []) ≡ facts_names_said forms ++ x ∷ [] =
+    ap (λ us. us ++ filter_map further_fact_in (forms ++ further x ∷ [])) all
+    ∙ (ap (λ xs. facts_universals_said forms ++ xs) others
+    ∙ sym (append_assoc (facts_universals_said forms) (filter_map further_fact_in forms) (x ∷ []))) in
+    let old : List Name = facts_names_said forms in
+    let new : List Name = facts_names_said (forms ++ further x ∷ []) in
     let bases : filter_map (base_in new) (forms ++ further x ∷ []) ≡ filter_map (base_in old) forms =
     none_before (base_in new) 4 (base_early new) (forms ++ further x ∷ []) after
     ∙ sym (none_before (base_in old) 4 (base_early old) forms before) in
@@ -396,7 +413,7 @@ adds_said forms s t (further x) h fine a =
     record {
       reached = omega (arith, a.group, reached_push forms (further x));
       names = named ∙ (ap (λ ns. ns ++ x ∷ []) h.names ∙ sym a.takes.0);
-      problem = subst (SameProblem (said (forms ++ further x ∷ [])).problem) (sym a.takes.1) (record {
+      problem = subst (SameProblem (facts_said (forms ++ further x ∷ [])).problem) (sym a.takes.1) (record {
         points = ap first_or_zero (kept_by points_in forms (further x) refl) ∙ h.problem.points;
         universals = ap length all ∙ h.problem.universals;
         regions = omega (arith, ap length named, length-append old (x ∷ []), h.problem.regions);
@@ -405,7 +422,8 @@ adds_said forms s t (further x) h fine a =
         bases = both _ _ _ _ bases refl h.problem.bases;
         constraints = both _ _ _ _ constraints refl h.problem.constraints;
         outlives =
-            subst (λ us. SameSet (filter_map (outlives_in us) (forms ++ further x ∷ [])) s.problem.outlives) (sym all)
+            subst (λ us. SameSet (filter_map (outlives_fact_in us) (forms ++ further x
+            ∷ [])) s.problem.outlives) (sym all)
             (outlives_kept forms (further x) s h refl);
       });
       edge_count = edges.1 ∙ sym (ap (λ (z : Problem). length z.graph.edges) a.takes.1);
@@ -413,7 +431,12 @@ adds_said forms s t (further x) h fine a =
           ap length constraints ∙ (h.constraint_count ∙ sym (ap (λ (z : Problem). length z.constraints) a.takes.1));
     }
 adds_said forms s t (next p q) h fine a =
-    let before : reached forms ≤ 5 = omega (arith, ordered s.reached 5 true (in_order s (next p q) fine), h.reached) in
+    let before : last_fact_group forms ≤ 5 = omega (
+      arith,
+      ordered s.reached 5 true (in_order s
+          (next p q) fine),
+      h.reached,
+    ) in
     let more : edges_said (forms ++ next p q ∷ []) ≡ insert_key same_pair (edges_said forms) (p, q) =
     ap (insert_all same_pair []) (added_by edge_in forms (next p q) (p, q) refl)
     ∙ insert_all_push same_pair [] (filter_map edge_in forms) (p, q) in
@@ -427,7 +450,12 @@ adds_said forms s t (next p q) h fine a =
     (returns_kept forms (next p q) s h refl) (bases_kept forms (next p q) s h refl)
     (constraints_kept forms (next p q) s h refl) (outlives_kept forms (next p q) s h refl)
 adds_said forms s t (return p) h fine a =
-    let before : reached forms ≤ 5 = omega (arith, ordered s.reached 5 true (in_order s (return p) fine), h.reached) in
+    let before : last_fact_group forms ≤ 5 = omega (
+      arith,
+      ordered s.reached 5 true (in_order s
+          (return p) fine),
+      h.reached,
+    ) in
     same_after forms (return p) s h t _ a.takes.1 refl refl refl
     (a.group ∙ omega (arith, reached_push forms (return p))) a.takes.0 refl refl refl
     (edges_kept forms (return p) s h refl)
@@ -435,22 +463,29 @@ adds_said forms s t (return p) h fine a =
     (bases_kept forms (return p) s h refl) (constraints_kept forms (return p) s h refl)
     (outlives_kept forms (return p) s h refl)
 adds_said forms s t (base x p) h fine a =
-    let before : reached forms ≤ 5 = omega (arith, ordered s.reached 5 true (in_order s (base x p) fine), h.reached) in
+    let before : last_fact_group forms ≤ 5 = omega (
+      arith,
+      ordered s.reached 5 true (in_order s
+          (base x p) fine),
+      h.reached,
+    ) in
     same_after forms (base x p) s h t _ a.takes.1 refl refl refl
     (a.group ∙ omega (arith, reached_push forms (base x p))) a.takes.0 refl refl refl
     (edges_kept forms (base x p) s h refl) (returns_kept forms (base x p) s h refl)
-    (added_set (base_in (names_said forms)) forms (base x p) _ _ _ refl h.problem.bases
+    (added_set (base_in (facts_names_said forms)) forms (base x p) _ _ _ refl h.problem.bases
     (subst (λ ns. AddsFact s.problem.bases t.problem.bases (number_of ns x, p)) (sym h.names) a.takes.2))
     (constraints_kept forms (base x p) s h refl) (outlives_kept forms (base x p) s h refl)
 adds_said forms s t (constraint x y p) h fine a =
-    let before : reached forms ≤ 5 =
+    let before : last_fact_group forms ≤ 5 =
     omega (arith, ordered s.reached 5 true (in_order s (constraint x y p) fine), h.reached) in
     let c : Constraint =
-    record { sup = number_of (names_said forms) x; sub = number_of (names_said forms) y; at = p } in
-    let old : List Constraint = constraints_said (names_said forms) forms in
-    let more : constraints_said (names_said forms) (forms ++ constraint x y p ∷ []) ≡ insert_key same_constraint old c =
-    ap (insert_all same_constraint []) (added_by (constraint_in (names_said forms)) forms (constraint x y p) c refl)
-    ∙ insert_all_push same_constraint [] (filter_map (constraint_in (names_said forms)) forms) c in
+    record { sup = number_of (facts_names_said forms) x; sub = number_of (facts_names_said forms) y; at = p } in
+    let old : List Constraint = constraints_said (facts_names_said forms) forms in
+    let more : constraints_said (facts_names_said forms) (forms ++ constraint x y p
+    ∷ []) ≡ insert_key same_constraint old c =
+    ap (insert_all same_constraint []) (added_by (constraint_in (facts_names_said forms)) forms
+    (constraint x y p) c refl)
+    ∙ insert_all_push same_constraint [] (filter_map (constraint_in (facts_names_said forms)) forms) c in
     let adds : AddsFact s.problem.constraints t.problem.constraints c =
     subst (λ ns. AddsFact s.problem.constraints t.problem.constraints
     (record { sup = number_of ns x; sub = number_of ns y; at = p })) (sym h.names) a.takes.2 in
@@ -465,7 +500,12 @@ adds_said forms s t (constraint x y p) h fine a =
     )
     (outlives_kept forms (constraint x y p) s h refl)
 adds_said forms s t (end) h fine a =
-    let before : reached forms ≤ 6 = omega (arith, ordered s.reached 6 false (in_order s (end) fine), h.reached) in
+    let before : last_fact_group forms ≤ 6 = omega (
+      arith,
+      ordered s.reached 6 false (in_order s
+          (end) fine),
+      h.reached,
+    ) in
     same_after forms (end) s h t _ a.takes.1 refl refl refl
     (a.group ∙ omega (arith, reached_push forms (end))) a.takes.0 refl refl refl (edges_kept forms (end) s h refl)
     (returns_kept forms (end) s h refl)

@@ -5,38 +5,39 @@ use Rattle.std.specs.Str.{IsUtf8}
 use Rattle.std.proofs.lemmas.Bool.{false≢true}
 use Rattle.nll_problem.specs.Limits.{most_bytes}
 use Rattle.nll_problem.specs.declared.error.Kind.TheVariants.{Text}
-use Rattle.nll_format.specs.Text.{IsHeaded, IsHeader, IsCut, IsFault, IsFaulty, IsRefusal, IsUncut, no_form}
+use Rattle.nll_format.specs.Text.{IsHeaded, IsFormatHeader, IsCut, IsFaultOfText, IsFaulty, IsRefusal, IsUncut, no_form}
 use Rattle.nll_format.specs.Text as texts
 use Rattle.nll_text.specs.Lines.{is_skipped}
 use Rattle.nll_format.specs.declared.error.TextError.{TextError}
 use Rattle.nll_format.specs.declared.error.TextKind.{TextKind}
 use Rattle.nll_format.specs.declared.error.TextKind.TheVariants.{NotUtf8, Header, Limit, Syntax}
-use Rattle.nll_facts.specs.FactsForms.{Form, HasForm}
-use Rattle.nll_facts.specs.FactsVersions.{HasFormIn, is_of_version}
+use Rattle.nll_facts.specs.FactsForms.{FactsForm, HasFactsForm}
+use Rattle.nll_facts.specs.FactsVersions.{HasFactsFormIn, is_fact_of_version}
 use Rattle.nll_facts.specs.declared.version.Version.{Version}
 use Rattle.nll_facts.specs.declared.version.Version.TheVariants.{First, Second}
-use Rattle.nll_facts.specs.FactsSaid.{Said}
-use Rattle.nll_facts.specs.FactsText.{facts, IsOfVersion, IsFactsFault}
+use Rattle.nll_facts.specs.FactsSaid.{SaidFacts}
+use Rattle.nll_facts.specs.FactsText.{facts, IsFactsVersion, IsFactsFault}
 use Rattle.nll_facts.proofs.OneFormLemmas.{one_form}
 
 -- ---- a line has one form
 
-pub one_form_in : (version : Version) (line : List ℕ) (f g : Form) → HasFormIn version line f → HasFormIn version line g
+pub one_form_in : (version : Version) (line : List ℕ) (f g : FactsForm) → HasFactsFormIn version line f
+    → HasFactsFormIn version line g
     → f ≡ g
 one_form_in version line f g h k = one_form line f g h.0 k.0
 
 -- a line of a form that isn't of the version has no form in it
-pub other_version : (version : Version) (s : Said) (line : List ℕ) (f : Form) (kind : TextKind) → IsUtf8 line
-    → is_skipped line ≡ false → HasForm line f
-    → kind ≡ Syntax → is_of_version version f ≡ false → IsFaulty (facts version) s line kind
+pub other_version : (version : Version) (s : SaidFacts) (line : List ℕ) (f : FactsForm) (kind : TextKind) → IsUtf8 line
+    → is_skipped line ≡ false → HasFactsForm line f
+    → kind ≡ Syntax → is_fact_of_version version f ≡ false → IsFaulty (facts version) s line kind
 other_version version s line f kind utf8 kept form e other =
     subst (λ k. IsFaulty (facts version) s line k) (sym e)
     (no_form utf8 kept (λ g h. false≢true
-    (sym other ∙ subst (λ z. is_of_version version z ≡ true) (one_form line g f h.0 form) h.1)))
+    (sym other ∙ subst (λ z. is_fact_of_version version z ≡ true) (one_form line g f h.0 form) h.1)))
 
 -- ---- a text has one version
 
-headers_apart : (line : List ℕ) → IsHeader (facts First) line → IsHeader (facts Second) line → ⊥
+headers_apart : (line : List ℕ) → IsFormatHeader (facts First) line → IsFormatHeader (facts Second) line → ⊥
 headers_apart line f s =
     let e : codes "1" ≡ codes "2" = (let h = sym f ∙ s in cc) in
     let n : 49 ≡ 50 = ap (λ (l : List ℕ). get_or l 0 0) e in
@@ -49,23 +50,23 @@ first_line text one other b c h k = (let e = sym h.cut ∙ k.cut in cc)
 pub not_second : (text : List ℕ) (b c : List (List ℕ)) → IsHeaded (facts First) text b → IsHeaded (facts Second) text c
     → ⊥
 not_second text b c h k =
-    headers_apart k.header (subst (λ l. IsHeader (facts First) l)
+    headers_apart k.header (subst (λ l. IsFormatHeader (facts First) l)
     (first_line text h.header k.header b c h.cut k.cut) h.is_header) k.is_header
 
 pub of_headed : (version : Version) (text : List ℕ) (body : List (List ℕ)) → IsHeaded (facts version) text body
-    → IsOfVersion text version
+    → IsFactsVersion text version
 of_headed First text body h = λ c k. not_second text body c h k
 of_headed Second text body h = (body, h)
 
-pub one_version : (text : List ℕ) (v w : Version) → IsOfVersion text v → IsOfVersion text w → v ≡ w
+pub one_version : (text : List ℕ) (v w : Version) → IsFactsVersion text v → IsFactsVersion text w → v ≡ w
 one_version text First First h k = refl
 one_version text First Second h k = absurd (h k.0 k.1)
 one_version text Second First h k = absurd (k h.0 h.1)
 one_version text Second Second h k = refl
 
 -- where the line is the header of neither, it is that of none
-pub no_version : (line : List ℕ) → (IsHeader (facts First) line → ⊥) → (IsHeader (facts Second) line → ⊥)
-    → (v : Version) → IsHeader (facts v) line → ⊥
+pub no_version : (line : List ℕ) → (IsFormatHeader (facts First) line → ⊥) → (IsFormatHeader (facts Second) line → ⊥)
+    → (v : Version) → IsFormatHeader (facts v) line → ⊥
 no_version line a b First h = a h
 no_version line a b Second h = b h
 
@@ -75,7 +76,7 @@ pub too_long : (text : List ℕ) → most_bytes < length text → IsFactsFault t
 too_long text long = (First, (λ body k. absurd (omega (arith, k.cut.short, long))), texts.too_long long)
 
 pub refused_in : (version : Version) (text : List ℕ) (body : List (List ℕ)) (error : TextError)
-    → IsHeaded (facts version) text body → IsRefusal (IsFault (facts version) text) error
+    → IsHeaded (facts version) text body → IsRefusal (IsFaultOfText (facts version) text) error
     → IsRefusal (IsFactsFault text) error
 refused_in version text body error headed refused =
     ⊎_elim inl (λ f. inr (version, of_headed version text body headed, f)) refused
@@ -97,9 +98,10 @@ refused_uncut text error wrong = ⊎_elim
 
 -- the first line is the header of no version
 pub refused_at_header : (text header : List ℕ) (body : List (List ℕ)) → IsCut text header body → IsUtf8 header
-    → ((v : Version) → IsHeader (facts v) header → ⊥) → IsFactsFault text 1 Header
+    → ((v : Version) → IsFormatHeader (facts v) header → ⊥) → IsFactsFault text 1 Header
 refused_at_header text header body cut utf8 none = (
   First,
-  (λ b k. none Second (subst (IsHeader (facts Second)) (first_line text k.header header b body k.cut cut) k.is_header)),
+  (λ b k. none Second (subst (IsFormatHeader (facts Second))
+      (first_line text k.header header b body k.cut cut) k.is_header)),
   texts.no_header header body cut utf8 (none First),
 )

@@ -6,16 +6,16 @@ use Rattle.nll_problem.specs.declared.at.At.TheVariants.{All, Point}
 use Rattle.nll_format.specs.Parts.{Name, Part, keyword, number, region, Spells}
 
 -- A line that isn't skipped, by its form.
-pub data Form : Type 0 where
-  points : ℕ → Form
-  universal : Name → Form
-  outlives : Name → Name → Form
-  further : Name → Form
-  next : ℕ → ℕ → Form
-  return : ℕ → Form
-  base : Name → ℕ → Form
-  constraint : Name → Name → At → Form
-  end : Form
+pub data FactsForm : Type 0 where
+  points : ℕ → FactsForm
+  universal : Name → FactsForm
+  outlives : Name → Name → FactsForm
+  further : Name → FactsForm
+  next : ℕ → ℕ → FactsForm
+  return : ℕ → FactsForm
+  base : Name → ℕ → FactsForm
+  constraint : Name → Name → At → FactsForm
+  end : FactsForm
 
 -- where a constraint holds, as a part: `all`, or the number of a point
 abbrev pub place_part : At → Part
@@ -35,17 +35,17 @@ abbrev pub two_regions_place : Name × Name × At → List Part
 two_regions_place n = region n.0 ∷ region_place (n.1, n.2)
 
 -- the parts of a line of the form
-abbrev pub parts : Form → List Part
-parts (points n) = keyword (codes "points") ∷ number n ∷ []
-parts (universal a) = keyword (codes "universal") ∷ region a ∷ []
-parts (outlives a b) = keyword (codes "outlives") ∷ region a ∷ region b ∷ []
-parts (further x) = keyword (codes "region") ∷ region x ∷ []
-parts (next p q) = keyword (codes "next") ∷ number p ∷ number q ∷ []
-parts (return p) = keyword (codes "return") ∷ number p ∷ []
-parts (base x p) = keyword (codes "base") ∷ region x ∷ number p ∷ []
-parts (constraint a b place) = keyword (codes "constraint") ∷ two_regions_place (a, b, place)
-parts end = keyword (codes "end") ∷ []
+abbrev pub facts_parts : FactsForm → List Part
+facts_parts (points n) = keyword (codes "points") ∷ number n ∷ []
+facts_parts (universal a) = keyword (codes "universal") ∷ region a ∷ []
+facts_parts (outlives a b) = keyword (codes "outlives") ∷ region a ∷ region b ∷ []
+facts_parts (further x) = keyword (codes "region") ∷ region x ∷ []
+facts_parts (next p q) = keyword (codes "next") ∷ number p ∷ number q ∷ []
+facts_parts (return p) = keyword (codes "return") ∷ number p ∷ []
+facts_parts (base x p) = keyword (codes "base") ∷ region x ∷ number p ∷ []
+facts_parts (constraint a b place) = keyword (codes "constraint") ∷ two_regions_place (a, b, place)
+facts_parts end = keyword (codes "end") ∷ []
 
 -- the line has the form: it is made of the form's parts
-abbrev pub HasForm : List ℕ → Form → Type 0
-HasForm line f = Spells line (parts f)
+abbrev pub HasFactsForm : List ℕ → FactsForm → Type 0
+HasFactsForm line f = Spells line (facts_parts f)

@@ -13,9 +13,10 @@ use Rattle.nll_format.specs.Names.{number_of}
 use Rattle.nll_format.specs.Parts.{Part, keyword, number, region}
 use Rattle.nll_format.specs.declared.error.TextKind.{TextKind}
 use Rattle.nll_format.specs.declared.error.TextKind.TheVariants.{Memory}
-use Rattle.nll_facts.specs.FactsForms.{Form, points, universal, outlives, further, next, return}
-use Rattle.nll_facts.specs.FactsForms.{base, constraint, end, parts}
-use Rattle.nll_facts.specs.FactsSaid.{Said, group, is_in_order, first_fault}
+use Rattle.nll_facts.specs.FactsForms.{FactsForm, points, universal, outlives, further, next}
+use Rattle.nll_facts.specs.FactsForms.{return}
+use Rattle.nll_facts.specs.FactsForms.{base, constraint, end, facts_parts}
+use Rattle.nll_facts.specs.FactsSaid.{SaidFacts, facts_group, is_fact_in_order, first_facts_fault}
 use Rattle.nll_facts.specs.declared.reader.Reader.{Reader}
 
 -- ---- what a reader holds
@@ -25,8 +26,8 @@ abbrev pub bare : ℕ → ℕ → Problem
 bare count universals = bare_problem (bare_graph count universals)
 
 -- what the reader's lines say
-abbrev pub said_by : Reader → Said
-said_by r = record {
+abbrev pub facts_said_by : Reader → SaidFacts
+facts_said_by r = record {
   reached = r.reached;
   names = r.names;
   problem = unwrap_or r.builder (bare r.points (length r.names));
@@ -35,19 +36,19 @@ said_by r = record {
 -- The reader's tables agree, ready for lines of the group n: there is a region for each name, there
 -- are numbers for a builder that is still to be made, and the builder is there exactly after the
 -- lines of the universal regions.
-pub record IsKept (n : ℕ) (r : Reader) : Type 0 where
+pub record IsTableKept (n : ℕ) (r : Reader) : Type 0 where
   pub some_name : 0 < length r.names
   pub few : length r.names ≤ most_regions
-  pub regions : (said_by r).problem.regions ≡ length r.names
-  pub universals : (said_by r).problem.graph.universals ≤ length r.names
+  pub regions : (facts_said_by r).problem.regions ≡ length r.names
+  pub universals : (facts_said_by r).problem.graph.universals ≤ length r.names
   pub waiting : r.builder ≡ None → length r.names ≤ most_universals
   pub numbered : r.builder ≡ None → 0 < r.reached → (0 < r.points) × (r.points ≤ most_points)
   pub early : n ≤ 2 → r.builder ≡ None
   pub late : 2 < n → IsSome r.builder
 
 -- the tables agree, as after lines that reached the reader's group
-abbrev pub IsReady : Reader → Type 0
-IsReady r = IsKept r.reached r
+abbrev pub IsFactsReady : Reader → Type 0
+IsFactsReady r = IsTableKept r.reached r
 
 -- ---- one line
 
@@ -60,7 +61,7 @@ abbrev pub with_returns : Graph → Graph → Graph
 with_returns g h = record g { returns = h.returns }
 
 -- t is what is said after a line of the form, except for the group that is reached
-abbrev pub Takes : Said → Form → Said → Type 0
+abbrev pub Takes : SaidFacts → FactsForm → SaidFacts → Type 0
 Takes s (points n) t = (t.names ≡ s.names) × (t.problem ≡ bare n (length s.names))
 Takes s (universal a) t =
     (t.names ≡ s.names ++ a ∷ [])
@@ -92,43 +93,43 @@ Takes s (constraint a b place) t =
 Takes s end t = (t.names ≡ s.names) × (t.problem ≡ s.problem)
 
 -- t is what is said after a line of the form
-pub record Adds (s : Said) (f : Form) (t : Said) : Type 0 where
-  pub group : t.reached ≡ group f
+pub record AddsFacts (s : SaidFacts) (f : FactsForm) (t : SaidFacts) : Type 0 where
+  pub group : t.reached ≡ facts_group f
   pub takes : Takes s f t
 
 -- the part is UTF-8, where it is a name
-abbrev pub IsText : Part → Type 0
-IsText (keyword w) = Unit {0}
-IsText (number n) = Unit {0}
-IsText (region x) = IsUtf8 x
+abbrev pub IsTextPart : Part → Type 0
+IsTextPart (keyword w) = Unit {0}
+IsTextPart (number n) = Unit {0}
+IsTextPart (region x) = IsUtf8 x
 
 -- the names in a line of the form are UTF-8
-abbrev pub HasTexts : Form → Type 0
-HasTexts f = AllByRecursion IsText (parts f)
+abbrev pub HasFactsTexts : FactsForm → Type 0
+HasFactsTexts f = AllByRecursion IsTextPart (facts_parts f)
 
 -- The reader is prepared for a line of the form: it is in order, its names are texts, and the
 -- tables agree for its group.
-pub record IsDue (r : Reader) (f : Form) : Type 0 where
-  pub kept : IsKept (group f) r
-  pub order : is_in_order (said_by r) f ≡ true
-  pub texts : HasTexts f
+pub record IsDueFact (r : Reader) (f : FactsForm) : Type 0 where
+  pub kept : IsTableKept (facts_group f) r
+  pub order : is_fact_in_order (facts_said_by r) f ≡ true
+  pub texts : HasFactsTexts f
 
 -- A line of the form is taken after lines that say s: it had no fault, what it says came, and the
 -- tables are ready.
-pub record IsTaken (s : Said) (f : Form) (r : Reader) : Type 0 where
-  pub fine : first_fault s f ≡ None
-  pub adds : Adds s f (said_by r)
-  pub ready : IsReady r
+pub record IsFactTaken (s : SaidFacts) (f : FactsForm) (r : Reader) : Type 0 where
+  pub fine : first_facts_fault s f ≡ None
+  pub adds : AddsFacts s f (facts_said_by r)
+  pub ready : IsFactsReady r
 
 -- a line of the form is refused after lines that say s: for a failed allocation, or with its first
 -- kind of fault
-abbrev pub IsRefused : Said → Form → TextKind → Type 0
-IsRefused s f kind = (kind ≡ Memory) ⊎ (first_fault s f ≡ Some kind)
+abbrev pub IsFactRefused : SaidFacts → FactsForm → TextKind → Type 0
+IsFactRefused s f kind = (kind ≡ Memory) ⊎ (first_facts_fault s f ≡ Some kind)
 
 -- ---- all lines
 
 -- The two say the same: the facts as sets, and as many edges and constraints.
-pub record SameSaid (s t : Said) : Type 0 where
+pub record SameSaid (s t : SaidFacts) : Type 0 where
   pub reached : s.reached ≡ t.reached
   pub names : s.names ≡ t.names
   pub problem : SameProblem s.problem t.problem

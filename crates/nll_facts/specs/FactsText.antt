@@ -3,11 +3,12 @@
 use Rattle.std.specs.Prelude.{◌≡◌, ℕ, List, codes, Contains}
 use Rattle.nll_problem.specs.Problem.{Problem, SameProblem}
 use Rattle.nll_format.specs.Labels.{Labels, numbers}
-use Rattle.nll_format.specs.Text.{Format, IsText, IsHeaded, IsFault}
+use Rattle.nll_format.specs.Text.{Format, IsText, IsHeaded, IsFaultOfText}
 use Rattle.nll_format.specs.declared.error.TextKind.{TextKind}
-use Rattle.nll_facts.specs.FactsForms.{Form, end}
-use Rattle.nll_facts.specs.FactsVersions.{HasFormIn, version_codes}
-use Rattle.nll_facts.specs.FactsSaid.{Said, said, first_fault, names_said, problem_said}
+use Rattle.nll_facts.specs.FactsForms.{FactsForm, end}
+use Rattle.nll_facts.specs.FactsVersions.{HasFactsFormIn, facts_version_codes}
+use Rattle.nll_facts.specs.FactsSaid.{SaidFacts, facts_said, first_facts_fault, facts_names_said}
+use Rattle.nll_facts.specs.FactsSaid.{problem_said}
 use Rattle.nll_facts.specs.declared.version.Version.{Version}
 use Rattle.nll_facts.specs.declared.version.Version.TheVariants.{First, Second}
 
@@ -16,31 +17,31 @@ use Rattle.nll_facts.specs.declared.version.Version.TheVariants.{First, Second}
 abbrev pub facts : Version → Format
 facts version = record {
   kind = codes "nll-facts";
-  version = version_codes version;
-  Form = Form;
-  HasForm = HasFormIn version;
-  Said = Said;
-  said = said;
-  first_fault = first_fault;
+  version = facts_version_codes version;
+  Form = FactsForm;
+  HasForm = HasFactsFormIn version;
+  Said = SaidFacts;
+  said = facts_said;
+  first_fault = first_facts_fault;
   HasEnded = λ forms. Contains forms end;
 }
 
 -- The text fits in one of the versions and means this problem, with these labels: its regions'
 -- names, and points by their numbers.
-pub record Means (text : List ℕ) (problem : Problem) (labels : Labels) : Type 0 where
+pub record MeansFacts (text : List ℕ) (problem : Problem) (labels : Labels) : Type 0 where
   pub version : Version
-  pub forms : List Form
+  pub forms : List FactsForm
   pub fits : IsText (facts version) text forms
   pub same_problem : SameProblem (problem_said forms) problem
-  pub same_labels : labels ≡ record { names = names_said forms; points = numbers }
+  pub same_labels : labels ≡ record { names = facts_names_said forms; points = numbers }
 
 -- The version of a text: the second where its first line is the header of version 2, and else the
 -- first.
-abbrev pub IsOfVersion : List ℕ → Version → Type 0
-IsOfVersion text First = (body : List (List ℕ)) → IsHeaded (facts Second) text body → ⊥
-IsOfVersion text Second = (body : List (List ℕ)) × IsHeaded (facts Second) text body
+abbrev pub IsFactsVersion : List ℕ → Version → Type 0
+IsFactsVersion text First = (body : List (List ℕ)) → IsHeaded (facts Second) text body → ⊥
+IsFactsVersion text Second = (body : List (List ℕ)) × IsHeaded (facts Second) text body
 
 -- The text's fault, by the line, counted from 1, and its kind: that of a text of its version.
 abbrev pub IsFactsFault : List ℕ → ℕ → TextKind → Type 0
 IsFactsFault text line kind =
-    (version : Version) × IsOfVersion text version × IsFault (facts version) text line kind
+    (version : Version) × IsFactsVersion text version × IsFaultOfText (facts version) text line kind

@@ -4,7 +4,7 @@ ghost use Rattle.std.specs.Prelude.{◌≡◌, ◌⊎◌, ℕ, List};
 ghost use Rattle.nll_problem.specs.Problem.{Problem, SameProblem};
 ghost use Rattle.nll_format.specs.Labels.{Labels};
 ghost use Rattle.nll_facts.specs.declared.version.Version.{Version};
-ghost use Rattle.nll_facts.specs.FactsText.{facts, IsFactsFault, Means};
+ghost use Rattle.nll_facts.specs.FactsText.{facts, IsFactsFault, MeansFacts};
 ghost use Rattle.nll_format.specs.declared.error.TextKind.{TextKind};
 
 /// States that a text has at most one fault.
@@ -17,13 +17,13 @@ pub fn facts_one_fault()
 /// States that a text that means a problem has no fault.
 pub fn facts_not_both()
     ensures { (text : List ℕ) (problem : Problem) (labels : Labels) (line : ℕ) (kind : TextKind)
-        → Means text problem labels → IsFactsFault text line kind → ⊥ }
+        → MeansFacts text problem labels → IsFactsFault text line kind → ⊥ }
 {}
 
 /// States that a text means at most one problem, with one set of labels.
 pub fn facts_one_meaning()
     ensures { (text : List ℕ) (problem other : Problem) (labels other_labels : Labels)
-        → Means text problem labels → Means text other other_labels
+        → MeansFacts text problem labels → MeansFacts text other other_labels
         → SameProblem problem other × (labels ≡ other_labels) }
 {}
 
@@ -31,6 +31,6 @@ pub fn facts_one_meaning()
 /// them.
 pub fn facts_some_meaning_or_fault()
     ensures { (text : List ℕ)
-        → ((problem : Problem) × (labels : Labels) × Means text problem labels)
+        → ((problem : Problem) × (labels : Labels) × MeansFacts text problem labels)
         ⊎ ((line : ℕ) × (kind : TextKind) × IsFactsFault text line kind) }
 {}

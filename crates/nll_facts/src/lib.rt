@@ -1,9 +1,8 @@
 //! The reader of facts texts, which list a problem line by line.
-//! Read `line`, `version`, `header`, `reader`, `facts`, then `laws`; the definitions are in specs/.
+//! Read `line`, `version`, `reader`, `facts`, then `laws`; the definitions are in specs/.
 #![tactic(auto)]
 
 mod facts;
-mod header;
 mod laws;
 mod line;
 mod reader;

@@ -1,14 +1,13 @@
 //! The lines of a facts text.
 
-ghost use Rattle.std.specs.Prelude.{ℕ, codes};
+ghost use Rattle.std.specs.Prelude.{codes};
 ghost use Rattle.nll_text.specs.Tokens as lex;
 ghost use Rattle.nll_text.specs.LineTokens.{tokens_in};
 ghost use Rattle.nll_text.specs.Grammars.{IsNotNext};
 ghost use Rattle.nll_facts.specs.FactsForms as forms;
-ghost use Rattle.nll_facts.specs.FactsForms.{parts};
-ghost use Rattle.nll_facts.specs.FactsLines.{view};
-ghost use Rattle.nll_format.specs.Parts as shapes;
-ghost use Rattle.nll_format.specs.Parts.{Reads, Spells};
+ghost use Rattle.nll_facts.specs.FactsForms.{facts_parts};
+ghost use Rattle.nll_facts.specs.FactsLines.{facts_view};
+ghost use Rattle.nll_format.specs.Parts.{ReadsParts};
 
 use nll_format::{nothing, number, region, region_number, two_numbers, two_regions};
 use nll_problem::At;
@@ -28,47 +27,23 @@ pub enum Line<'a> {
     End,
 }
 
-// Where a constraint holds: `all`, where no number is there.
-fn all_points(rest: &[u8]) -> Option<At>
-    requires { (p : ℕ) → Spells rest.now (shapes.one_number p) → ⊥ }
-    ensures { Reads forms.one_place (λ place. place) rest.now result }
-{
-    let rest = after_word(rest, b"all")?;
-    nothing(rest)?;
-    Some(At::All)
-}
-
-// Where a constraint holds: the number of a point, or `all`.
-fn place(rest: &[u8]) -> Option<At>
-    ensures { Reads forms.one_place (λ place. place) rest.now result }
-{
-    match number(rest) {
-        Some(point) => Some(At::Point(point)),
-        None => all_points(rest),
-    }
-}
-
-// A region's name, and where a constraint holds.
-fn region_place(rest: &[u8]) -> Option<(&[u8], At)>
-    ensures { Reads forms.region_place (λ n. (n.0.now, n.1)) rest.now result }
-{
-    let (name, rest) = region_at(rest)?;
-    let at = place(rest)?;
-    Some((name, at))
-}
-
-// Two regions' names, and where a constraint holds.
+// Two regions' names, and where a constraint holds: the number of a point, or `all`.
 fn two_regions_place(rest: &[u8]) -> Option<(&[u8], &[u8], At)>
-    ensures { Reads forms.two_regions_place (λ n. (n.0.now, n.1.now, n.2)) rest.now result }
+    ensures { ReadsParts forms.two_regions_place (λ n. (n.0.now, n.1.now, n.2)) rest.now result }
 {
     let (first, rest) = region_at(rest)?;
-    let (second, at) = region_place(rest)?;
-    Some((first, second, at))
+    let (second, rest) = region_at(rest)?;
+    if let Some(point) = number(rest) {
+        return Some((first, second, At::Point(point)));
+    }
+    let rest = after_word(rest, b"all")?;
+    nothing(rest)?;
+    Some((first, second, At::All))
 }
 
 /// Reads a line as one of the forms.
 pub fn line_of(line: &[u8]) -> Option<Line<'_>>
-    ensures { Reads parts view line.now result }
+    ensures { ReadsParts facts_parts facts_view line.now result }
 {
     if let Some(rest) = after_word(line, b"base") {
         let (name, point) = region_number(rest)?;
@@ -95,7 +70,7 @@ fn rare_line_of(line: &[u8]) -> Option<Line<'_>>
     requires next { IsNotNext (lex.word (codes "next")) (tokens_in line.now) }
     requires constraint { IsNotNext (lex.word (codes "constraint")) (tokens_in line.now) }
     requires returning { IsNotNext (lex.word (codes "return")) (tokens_in line.now) }
-    ensures { Reads parts view line.now result }
+    ensures { ReadsParts facts_parts facts_view line.now result }
 {
     if let Some(rest) = after_word(line, b"region") {
         return Some(Line::Region(region(rest)?));

@@ -8,11 +8,13 @@ ghost use Rattle.std.specs.Prelude.{IfOk, IfErr, OnOk, OnErr};
 ghost use Rattle.nll_problem.specs.Limits.{most_regions};
 ghost use Rattle.nll_problem.specs.Problem.{SameProblem};
 ghost use Rattle.nll_facts.specs.FactsForms as forms;
-ghost use Rattle.nll_facts.specs.FactsLines.{view};
+ghost use Rattle.nll_facts.specs.FactsLines.{facts_view};
 ghost use Rattle.nll_facts.specs.FactsSaid as specs;
-ghost use Rattle.nll_facts.specs.FactsSaid.{first_fault, is_declared, is_in_order, said};
-ghost use Rattle.nll_facts.specs.FactsReading.{said_by, IsKept, IsReady, HasTexts, SameSaid};
-ghost use Rattle.nll_facts.specs.FactsReading.{IsDue, IsTaken, IsRefused};
+ghost use Rattle.nll_facts.specs.FactsSaid.{first_facts_fault, is_declared, is_fact_in_order};
+ghost use Rattle.nll_facts.specs.FactsSaid.{facts_said};
+ghost use Rattle.nll_facts.specs.FactsReading.{facts_said_by, IsTableKept, IsFactsReady};
+ghost use Rattle.nll_facts.specs.FactsReading.{HasFactsTexts, SameSaid};
+ghost use Rattle.nll_facts.specs.FactsReading.{IsDueFact, IsFactTaken, IsFactRefused};
 ghost use Rattle.nll_facts.specs.FactsText.{facts};
 ghost use Rattle.nll_format.specs.Names.{number_of};
 
@@ -38,7 +40,7 @@ pub struct Reader {
 
 // The group of a line.
 fn group(line: &Line<'_>) -> u8
-    ensures { result ≡ specs.group (view line.now) }
+    ensures { result ≡ specs.facts_group (facts_view line.now) }
 {
     match line {
         Line::Points(_) => 1,
@@ -53,8 +55,8 @@ fn group(line: &Line<'_>) -> u8
 impl Reader {
     /// No line is read yet, and `'static` is declared.
     pub fn new(alloc: Global) -> Result<Reader, TextKind>
-        ensures said { IfOk result (λ r. said_by r ≡ said []) }
-        ensures ready { IfOk result IsReady }
+        ensures said { IfOk result (λ r. facts_said_by r ≡ facts_said []) }
+        ensures ready { IfOk result IsFactsReady }
         ensures err { IfErr result (λ kind. kind ≡ TextKind.Memory) }
     {
         Ok(Reader {
@@ -69,7 +71,7 @@ impl Reader {
 
     // Whether a line is in order.
     fn may_follow(&self, line: &Line<'_>) -> bool
-        ensures { result ≡ is_in_order (said_by self.now) (view line.now) }
+        ensures { result ≡ is_fact_in_order (facts_said_by self.now) (facts_view line.now) }
     {
         let group = group(line);
         let is_repeated = group != 1 && group != 6;
@@ -79,10 +81,11 @@ impl Reader {
 
     // Makes the builder, where the line needs one and there is none yet.
     fn start(&mut self, line: &Line<'_>) -> Result<(), TextKind>
-        requires ready { IsReady self.old }
-        requires order { is_in_order (said_by self.old) (view line.now) ≡ true }
-        ensures said { OnOk result (said_by self.new ≡ said_by self.old) }
-        ensures kept { OnOk result (IsKept (specs.group (view line.now)) self.new) }
+        requires ready { IsFactsReady self.old }
+        requires order { is_fact_in_order (facts_said_by self.old) (facts_view line.now) ≡ true }
+        ensures said { OnOk result (facts_said_by self.new ≡ facts_said_by self.old) }
+        ensures kept { OnOk result (IsTableKept (specs.facts_group
+            (facts_view line.now)) self.new) }
         ensures err { IfErr result (λ kind. kind ≡ TextKind.Memory) }
     {
         if group(line) > 2 && self.builder.is_none() {
@@ -95,8 +98,8 @@ impl Reader {
     fn region(&self, name: &[u8]) -> Result<RegionId, TextKind>
         requires { length self.now.names ≤ most_regions }
         ensures ok { IfOk result (λ r. r ≡ number_of self.now.names name.now) }
-        ensures declared { OnOk result (is_declared (said_by self.now) name.now ≡ true) }
-        ensures unknown { OnErr result (is_declared (said_by self.now) name.now ≡ false) }
+        ensures declared { OnOk result (is_declared (facts_said_by self.now) name.now ≡ true) }
+        ensures unknown { OnErr result (is_declared (facts_said_by self.now) name.now ≡ false) }
         ensures err { IfErr result (λ kind. kind ≡ TextKind.Unknown) }
     {
         if self.names.is_at(self.recent, name) {
@@ -111,11 +114,11 @@ impl Reader {
     // Makes the builder. It is a function of its own, so that a line which finds one doesn't pay
     // for the stack space that making one takes.
     fn begin(&mut self) -> Result<(), BuildError>
-        requires ready { IsReady self.old }
+        requires ready { IsFactsReady self.old }
         requires begun { 0 < self.old.reached }
         requires early { self.old.reached ≤ 2 }
-        ensures said { OnOk result (said_by self.new ≡ said_by self.old) }
-        ensures kept { OnOk result ((n : ℕ) → 2 < n → IsKept n self.new) }
+        ensures said { OnOk result (facts_said_by self.new ≡ facts_said_by self.old) }
+        ensures kept { OnOk result ((n : ℕ) → 2 < n → IsTableKept n self.new) }
         ensures err { IfErr result (λ error. error ≡ BuildError.Memory) }
     {
         let universals = self.names.len() as u32;
@@ -124,30 +127,13 @@ impl Reader {
         Ok(())
     }
 
-    // Sets the number of points.
-    fn set_points(&mut self, count: u32) -> Result<(), TextKind>
-        requires { IsDue self.old (forms.points count) }
-        ensures taken { OnOk result (IsTaken (said_by self.old) (forms.points count) self.new) }
-        ensures refused { IfErr result
-            (λ kind. first_fault (said_by self.old) (forms.points count) ≡ Some kind) }
-    {
-        if count == 0 {
-            return Err(TextKind::Range);
-        }
-        if count > MAX_POINTS {
-            return Err(TextKind::Limit(Kind::Points));
-        }
-        self.points = count;
-        self.reached = 1;
-        Ok(())
-    }
-
     // Adds a universal region.
     fn add_universal(&mut self, name: &[u8]) -> Result<(), TextKind>
-        requires { IsDue self.old (forms.universal name.now) }
+        requires { IsDueFact self.old (forms.universal name.now) }
         ensures taken { OnOk result
-            (IsTaken (said_by self.old) (forms.universal name.now) self.new) }
-        ensures refused { IfErr result (IsRefused (said_by self.old) (forms.universal name.now)) }
+            (IsFactTaken (facts_said_by self.old) (forms.universal name.now) self.new) }
+        ensures refused { IfErr result (IsFactRefused (facts_said_by self.old)
+            (forms.universal name.now)) }
     {
         if self.names.number_of(name).is_some() {
             return Err(TextKind::Duplicate);
@@ -162,9 +148,11 @@ impl Reader {
 
     // Adds a further region.
     fn add_region(&mut self, name: &[u8]) -> Result<(), TextKind>
-        requires { IsDue self.old (forms.further name.now) }
-        ensures taken { OnOk result (IsTaken (said_by self.old) (forms.further name.now) self.new) }
-        ensures refused { IfErr result (IsRefused (said_by self.old) (forms.further name.now)) }
+        requires { IsDueFact self.old (forms.further name.now) }
+        ensures taken { OnOk result (IsFactTaken (facts_said_by self.old)
+            (forms.further name.now) self.new) }
+        ensures refused { IfErr result (IsFactRefused (facts_said_by self.old)
+            (forms.further name.now)) }
     {
         if self.names.number_of(name).is_some() {
             return Err(TextKind::Duplicate);
@@ -180,9 +168,11 @@ impl Reader {
 
     // Adds an edge.
     fn add_next(&mut self, from: u32, to: u32) -> Result<(), TextKind>
-        requires { IsDue self.old (forms.next from to) }
-        ensures taken { OnOk result (IsTaken (said_by self.old) (forms.next from to) self.new) }
-        ensures refused { IfErr result (IsRefused (said_by self.old) (forms.next from to)) }
+        requires { IsDueFact self.old (forms.next from to) }
+        ensures taken { OnOk result (IsFactTaken (facts_said_by self.old)
+            (forms.next from to) self.new) }
+        ensures refused { IfErr result (IsFactRefused (facts_said_by self.old)
+            (forms.next from to)) }
     {
         let Some(builder) = &mut self.builder else {
             unreachable!();
@@ -194,9 +184,11 @@ impl Reader {
 
     // Adds a return point.
     fn add_return(&mut self, point: u32) -> Result<(), TextKind>
-        requires { IsDue self.old (forms.return point) }
-        ensures taken { OnOk result (IsTaken (said_by self.old) (forms.return point) self.new) }
-        ensures refused { IfErr result (IsRefused (said_by self.old) (forms.return point)) }
+        requires { IsDueFact self.old (forms.return point) }
+        ensures taken { OnOk result (IsFactTaken (facts_said_by self.old)
+            (forms.return point) self.new) }
+        ensures refused { IfErr result (IsFactRefused (facts_said_by self.old)
+            (forms.return point)) }
     {
         let Some(builder) = &mut self.builder else {
             unreachable!();
@@ -208,11 +200,12 @@ impl Reader {
 
     // Adds an outlives fact.
     fn add_outlives(&mut self, longer: &[u8], shorter: &[u8]) -> Result<(), TextKind>
-        requires { IsDue self.old (forms.outlives longer.now shorter.now) }
+        requires { IsDueFact self.old (forms.outlives longer.now shorter.now) }
         ensures taken { OnOk result
-            (IsTaken (said_by self.old) (forms.outlives longer.now shorter.now) self.new) }
+            (IsFactTaken (facts_said_by self.old)
+            (forms.outlives longer.now shorter.now) self.new) }
         ensures refused { IfErr result
-            (IsRefused (said_by self.old) (forms.outlives longer.now shorter.now)) }
+            (IsFactRefused (facts_said_by self.old) (forms.outlives longer.now shorter.now)) }
     {
         let longer = self.region(longer)?;
         let shorter = self.region(shorter)?;
@@ -226,10 +219,11 @@ impl Reader {
 
     // Adds a base fact.
     fn add_base(&mut self, name: &[u8], point: u32) -> Result<(), TextKind>
-        requires { IsDue self.old (forms.base name.now point) }
+        requires { IsDueFact self.old (forms.base name.now point) }
         ensures taken { OnOk result
-            (IsTaken (said_by self.old) (forms.base name.now point) self.new) }
-        ensures refused { IfErr result (IsRefused (said_by self.old) (forms.base name.now point)) }
+            (IsFactTaken (facts_said_by self.old) (forms.base name.now point) self.new) }
+        ensures refused { IfErr result (IsFactRefused (facts_said_by self.old)
+            (forms.base name.now point)) }
     {
         let region = self.region(name)?;
         let Some(builder) = &mut self.builder else {
@@ -243,11 +237,11 @@ impl Reader {
 
     // Adds a constraint.
     fn add_constraint(&mut self, sup: &[u8], sub: &[u8], at: At) -> Result<(), TextKind>
-        requires { IsDue self.old (forms.constraint sup.now sub.now at) }
+        requires { IsDueFact self.old (forms.constraint sup.now sub.now at) }
         ensures taken { OnOk result
-            (IsTaken (said_by self.old) (forms.constraint sup.now sub.now at) self.new) }
+            (IsFactTaken (facts_said_by self.old) (forms.constraint sup.now sub.now at) self.new) }
         ensures refused { IfErr result
-            (IsRefused (said_by self.old) (forms.constraint sup.now sub.now at)) }
+            (IsFactRefused (facts_said_by self.old) (forms.constraint sup.now sub.now at)) }
     {
         let sup = self.region(sup)?;
         let sub = self.region(sub)?;
@@ -262,17 +256,25 @@ impl Reader {
 
     // Takes in a line of a form, unless something is wrong with it.
     fn accept(&mut self, line: &Line<'_>) -> Result<(), TextKind>
-        requires ready { IsReady self.old }
-        requires texts { HasTexts (view line.now) }
-        ensures taken { OnOk result (IsTaken (said_by self.old) (view line.now) self.new) }
-        ensures refused { IfErr result (IsRefused (said_by self.old) (view line.now)) }
+        requires ready { IsFactsReady self.old }
+        requires texts { HasFactsTexts (facts_view line.now) }
+        ensures taken { OnOk result (IsFactTaken (facts_said_by self.old)
+            (facts_view line.now) self.new) }
+        ensures refused { IfErr result (IsFactRefused (facts_said_by self.old)
+            (facts_view line.now)) }
     {
         if !self.may_follow(line) {
             return Err(TextKind::Syntax);
         }
         self.start(line)?;
         match *line {
-            Line::Points(count) => self.set_points(count),
+            Line::Points(0) => Err(TextKind::Range),
+            Line::Points(count) if count > MAX_POINTS => Err(TextKind::Limit(Kind::Points)),
+            Line::Points(count) => {
+                self.points = count;
+                self.reached = 1;
+                Ok(())
+            }
             Line::Universal(name) => self.add_universal(name),
             Line::Outlives(longer, shorter) => self.add_outlives(longer, shorter),
             Line::Region(name) => self.add_region(name),
@@ -289,25 +291,28 @@ impl Reader {
 
     /// The problem and the names that the lines say. Allocates nothing.
     pub fn finish(self) -> (Problem, Names)
-        requires ready { IsReady self }
+        requires ready { IsFactsReady self }
         requires ended { self.reached ≡ 6 }
-        ensures problem { SameProblem (said_by self).problem result.0 }
-        ensures names { result.1 ≡ (said_by self).names }
+        ensures problem { SameProblem (facts_said_by self).problem result.0 }
+        ensures names { result.1 ≡ (facts_said_by self).names }
     {
         let Reader { names, builder, .. } = self;
         let Some(builder) = builder else {
             unreachable!();
         };
-        (finished(builder), names)
+        let Ok(problem) = builder.finish() else {
+            unreachable!();
+        };
+        (problem, names)
     }
 }
 
 impl<'a> LineReader<'a, Version> for Reader {
     ghost format_of = { facts };
 
-    ghost holds = { λ _ forms reader. SameSaid (said forms) (said_by reader) };
+    ghost holds = { λ _ forms reader. SameSaid (facts_said forms) (facts_said_by reader) };
 
-    ghost ready = { IsReady };
+    ghost ready = { IsFactsReady };
 
     fn read_line(&mut self, version: &Version, line: &'a [u8]) -> Result<(), TextKind> {
         let Some(form) = line_of(line) else {
@@ -322,15 +327,5 @@ impl<'a> LineReader<'a, Version> for Reader {
 
     fn has_ended(&self, _version: &Version) -> bool {
         self.reached == 6
-    }
-}
-
-// The problem of a builder.
-fn finished(builder: ProblemBuilder) -> Problem
-    ensures { SameProblem builder result }
-{
-    match builder.finish() {
-        Ok(problem) => problem,
-        Err(_) => unreachable!(),
     }
 }

@@ -1,7 +1,7 @@
 //! The versions of facts texts, and which lines each has.
 
 ghost use Rattle.std.specs.Prelude.{◌≡◌};
-ghost use Rattle.nll_facts.specs.FactsLines.{view};
+ghost use Rattle.nll_facts.specs.FactsLines.{facts_view};
 ghost use Rattle.nll_facts.specs.FactsVersions as spec;
 
 use crate::line::Line;
@@ -15,32 +15,15 @@ pub enum Version {
     Second,
 }
 
-// Whether it is a point.
-fn is_one_point(at: At) -> bool
-    ensures { result ≡ spec.is_one_point at }
-{
-    match at {
-        At::All => false,
-        At::Point(_) => true,
-    }
-}
-
-// Whether a line may be in a text of version 1.
-fn is_of_first(line: &Line<'_>) -> bool
-    ensures { result ≡ spec.is_of_first (view line.now) }
-{
-    match line {
-        Line::Constraint(_, _, at) => is_one_point(*at),
-        _ => true,
-    }
-}
-
 /// Whether a line may be in a text of the version.
 pub fn is_of_version(version: Version, line: &Line<'_>) -> bool
-    ensures { result ≡ spec.is_of_version version (view line.now) }
+    ensures { result ≡ spec.is_fact_of_version version (facts_view line.now) }
 {
     match version {
-        Version::First => is_of_first(line),
+        Version::First => match line {
+            Line::Constraint(_, _, At::All) => false,
+            _ => true,
+        },
         Version::Second => true,
     }
 }

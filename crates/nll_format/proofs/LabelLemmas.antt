@@ -5,7 +5,7 @@ use Rattle.std.proofs.lemmas.Bool.{cases_eq, le-leb, leb-true}
 use Rattle.std.proofs.lemmas.List.Kept.{AllPairs-from_increasing}
 use Rattle.std.proofs.lemmas.List.{get_or-take}
 use Rattle.std.proofs.lemmas.List.Elements.{filter_passes}
-use Rattle.nll_format.specs.Labels.{begun, AreFirstPoints}
+use Rattle.nll_format.specs.Labels.{begun_blocks, AreFirstPoints}
 
 -- of a list whose front passes and whose rest doesn't, the front is what passes
 pub filter_front : (p : ℕ → Bool) (xs : List ℕ) (i : ℕ) → i ≤ length xs
@@ -37,20 +37,21 @@ at_least xs rise (suc k) within =
     omega (arith, at_least xs rise k (omega arith), AllPairs-from_increasing xs rise k (suc k) 0 (omega arith) within)
 
 -- the first block begins at each point or before it
-pub some_begun : (starts : List ℕ) (p : ℕ) → AreFirstPoints starts → 0 < length (begun starts p)
+pub some_begun : (starts : List ℕ) (p : ℕ) → AreFirstPoints starts → 0 < length (begun_blocks starts p)
 some_begun starts p h = by starts h.at_zero
   where
-    by : (xs : List ℕ) → slice_get xs 0 ≡ Some 0 → 0 < length (begun xs p)
+    by : (xs : List ℕ) → slice_get xs 0 ≡ Some 0 → 0 < length (begun_blocks xs p)
     by [] e = absurd cc
     by (x ∷ xs) e = let zero_first : x ≡ 0 = cc in rw zero_first (rw (le-leb 0 p (omega arith)) (omega arith))
 
 -- the last of the blocks in front begins at the point or before it
-pub last_begun : (starts : List ℕ) (p n : ℕ) → 1 ≤ n → n ≡ length (begun starts p) → begun starts p ≡ take n starts
+pub last_begun : (starts : List ℕ) (p n : ℕ) → 1 ≤ n → n ≡ length (begun_blocks starts p)
+    → begun_blocks starts p ≡ take n starts
     → slice_index_or starts (n - 1) 0 ≤ p
 last_begun starts p n some count front =
-    let passes : leb (slice_index_or (begun starts p) (n - 1) 0) p ≡ true =
+    let passes : leb (slice_index_or (begun_blocks starts p) (n - 1) 0) p ≡ true =
     filter_passes (λ start. leb start p) starts (n - 1) 0 (omega (arith, some, count)) in
-    let same : slice_index_or (begun starts p) (n - 1) 0 ≡ slice_index_or starts (n - 1) 0 =
+    let same : slice_index_or (begun_blocks starts p) (n - 1) 0 ≡ slice_index_or starts (n - 1) 0 =
     ap (λ (xs : List ℕ). slice_index_or xs (n - 1) 0) front
     ∙ get_or-take n starts (n - 1) 0 (omega (arith, some)) in
     leb-true _ _ (rw (sym same) passes)

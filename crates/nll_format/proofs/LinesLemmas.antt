@@ -4,8 +4,8 @@ use Rattle.std.specs.List.{AllByRecursion, slice_split, onto_first}
 use Rattle.std.proofs.lemmas.List.{append-nil}
 use Rattle.nll_problem.specs.Limits.{most_bytes}
 use Rattle.nll_text.specs.Lines.{lines_of}
-use Rattle.nll_format.specs.Text.{Format, IsFaulty, Says, HasFault, IsCut, IsFault, no_end}
-use Rattle.nll_format.specs.Lines.{AreShort, TakesIn, TurnsDown, IsAmidWith, Advances, RefusesLeft}
+use Rattle.nll_format.specs.Text.{Format, IsFaulty, Says, HasFault, IsCut, IsFaultOfText, no_end}
+use Rattle.nll_format.specs.Lines.{AreShort, TakesIn, TurnsDown, IsAmidWith, LeavesLines, RefusesLeft}
 use Rattle.nll_format.specs.Reading.{ReadsLine, skips, reads}
 use Rattle.nll_format.specs.declared.error.TextError.{TextError}
 use Rattle.nll_format.specs.declared.error.TextKind.{TextKind}
@@ -68,7 +68,7 @@ module _ (format : Format) where
   -- one more line is read
   pub amid_more : (Old New : List format.Form → Type 0) (these : List (List ℕ)) (line : List ℕ) (after : List (List ℕ))
       (number : ℕ) → these ≡ line ∷ after → TakesIn format Old New line
-      → Advances format Old New these after number (number + 1)
+      → LeavesLines format Old New these after number (number + 1)
   amid_more Old New these line after number step takes all amid =
       let a = amid.1 in
       let more = takes amid.0 amid.2 in (
@@ -116,7 +116,7 @@ module _ (format : Format) where
   amid_end Held number none all amid text headed =
       let done = amid_all Held all number amid in
       let last : length (lines_of text) ≡ number = omega (arith, ap length headed.cut.cut, done.3) in
-      inr (subst (λ n. IsFault format text n End) last
+      inr (subst (λ n. IsFaultOfText format text n End) last
       (no_end all done.0 headed done.1 (none done.0 done.2)))
 
 -- ---- a reader that holds the same as what the lines say

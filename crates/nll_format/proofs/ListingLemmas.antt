@@ -1,7 +1,7 @@
 -- A line of a listing, taken in behind others, and what holds of its texts.
 use Rattle.std.proofs.Common.{◌≡◌, ⊎_elim, ◌⊎◌, ℕ, List, [], ◌∷◌, ◌++◌, None, Some, refl, sym, ap, ◌∙◌}
 use Rattle.nll_format.specs.Parts.{Part, Spells}
-use Rattle.nll_format.specs.Text.{Format, Fits, skipped, of_form, IsFaulty, not_utf8, no_form, at_form, IsPassedOver, IsFormless, IsFault, too_long, header_not_utf8, no_header, at_line, no_end}
+use Rattle.nll_format.specs.Text.{Format, Fits, skipped, of_form, IsFaulty, not_utf8, no_form, at_form, IsPassedOver, IsFormless, IsFaultOfText, too_long, header_not_utf8, no_header, at_line, no_end}
 use Rattle.nll_format.specs.Reading.{ReadsLine, reads}
 use Rattle.nll_format.specs.Listing.{Listing, format_of, AddsEntry}
 use Rattle.nll_format.specs.declared.error.TextKind.{TextKind}
@@ -56,7 +56,7 @@ module _ (listing : Listing) where
 
   -- a text has no fault at its end, where no entry has that fault
   pub no_end_fault : ((entry : listing.Entry) → listing.fault entry ≡ Some End → ⊥)
-      → (text : List ℕ) (line : ℕ) (kind : TextKind) → IsFault (format_of listing) text line kind → kind ≡ End → ⊥
+      → (text : List ℕ) (line : ℕ) (kind : TextKind) → IsFaultOfText (format_of listing) text line kind → kind ≡ End → ⊥
   no_end_fault never text line kind (too_long h) e = cc
   no_end_fault never text line kind (header_not_utf8 a b c bad) e = cc
   no_end_fault never text line kind (no_header a b c u bad) e = cc

@@ -1,6 +1,6 @@
 -- The lines of a text of a format, read one after another, and how a text is refused.
 use Rattle.std.proofs.Common.{◌≡◌, ℕ, ◌+◌, ◌-◌, ◌≤◌, ⊎_elim, List, [], ◌∷◌, ◌++◌, inl, inr, sym, ap, ◌∙◌, subst, append_assoc, arith, None}
-use Rattle.nll_format.specs.Text.{Format, Fits, skipped, of_form, IsFaulty, not_utf8, no_form, at_form, Says, HasFault, IsHeaded, IsFault, too_long, header_not_utf8, no_header, at_line, IsRefusal, IsUncut, IsUnopened}
+use Rattle.nll_format.specs.Text.{Format, Fits, skipped, of_form, IsFaulty, not_utf8, no_form, at_form, Says, HasFault, IsHeaded, IsFaultOfText, too_long, header_not_utf8, no_header, at_line, IsRefusal, IsUncut, IsUnopened}
 use Rattle.nll_format.specs.declared.error.TextError.{TextError}
 use Rattle.nll_format.specs.declared.error.TextKind.{TextKind}
 
@@ -51,15 +51,16 @@ module _ (format : Format) (Same : format.Said → format.Said → Type 0) (same
 
 -- what is wrong with a later line is wrong with the text
 pub body_refused : (format : Format) (text : List ℕ) (body : List (List ℕ)) (e : TextError) → IsHeaded format text body
-    → IsRefusal (λ line kind. (2 ≤ line) × HasFault format body (line - 2) kind) e → IsRefusal (IsFault format text) e
+    → IsRefusal (λ line kind. (2 ≤ line) × HasFault format body (line - 2) kind) e
+    → IsRefusal (IsFaultOfText format text) e
 body_refused format text body e headed wrong = ⊎_elim inl
     (λ h. let place : e.line - 2 + 2 ≡ e.line = omega (arith, h.0) in
-    inr (subst (λ n. IsFault format text n e.kind) place (at_line body (e.line - 2) e.kind headed h.1)))
+    inr (subst (λ n. IsFaultOfText format text n e.kind) place (at_line body (e.line - 2) e.kind headed h.1)))
     wrong
 
 -- a text whose first line isn't cut off is refused
 pub uncut_refused : (format : Format) (text : List ℕ) (e : TextError) → IsUncut text e
-    → IsRefusal (IsFault format text) e
+    → IsRefusal (IsFaultOfText format text) e
 uncut_refused format text e wrong = ⊎_elim
     (λ h. rw h.0 (inr (too_long h.1)))
     (λ h. rw h.0 (inr (header_not_utf8 h.1 h.2 h.3 h.4)))
@@ -67,7 +68,7 @@ uncut_refused format text e wrong = ⊎_elim
 
 -- a text that isn't opened is refused
 pub unopened_refused : (format : Format) (text : List ℕ) (e : TextError) → IsUnopened format.kind format.version text e
-    → IsRefusal (IsFault format text) e
+    → IsRefusal (IsFaultOfText format text) e
 unopened_refused format text e wrong = ⊎_elim
     (uncut_refused format text e)
     (λ h. rw h.0 (inr (no_header h.1 h.2 h.3 h.4 h.5)))

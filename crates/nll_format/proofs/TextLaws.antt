@@ -11,7 +11,7 @@ use Rattle.nll_text.specs.Header.{runs}
 use Rattle.nll_text.proofs.DecisionLemmas.{holds_or_not, same_first, same_rest, utf8_or_not}
 use Rattle.nll_problem.specs.Limits.{most_bytes}
 use Rattle.nll_problem.specs.declared.error.Kind.TheVariants.{Text}
-use Rattle.nll_format.specs.Text.{Format, IsHeader, Fits, skipped, of_form, IsFaulty, not_utf8, no_form, at_form, Says, HasFault, IsCut, IsHeaded, IsText, IsFault, too_long, header_not_utf8, no_header, at_line, no_end}
+use Rattle.nll_format.specs.Text.{Format, IsFormatHeader, Fits, skipped, of_form, IsFaulty, not_utf8, no_form, at_form, Says, HasFault, IsCut, IsHeaded, IsText, IsFaultOfText, too_long, header_not_utf8, no_header, at_line, no_end}
 use Rattle.nll_format.specs.declared.error.TextKind.{TextKind}
 use Rattle.nll_format.specs.declared.error.TextKind.TheVariants.{NotUtf8, Header, Syntax, Limit, End}
 
@@ -168,16 +168,17 @@ module _ (format : Format) (one_form : HasOneForm format) where
   utf8_too text header body rest h c = subst IsUtf8 (same_header text h.header header rest body h.cut c) h.utf8
 
   header_too : (text header : List ℕ) (body rest : List (List ℕ)) → IsHeaded format text rest → IsCut text header body
-      → IsHeader format header
+      → IsFormatHeader format header
   header_too text header body rest h c =
-      subst (IsHeader format) (same_header text h.header header rest body h.cut c) h.is_header
+      subst (IsFormatHeader format) (same_header text h.header header rest body h.cut c) h.is_header
 
   -- the faults of a header shut each other out
   no_header_is_utf8 : (text header other : List ℕ) (body rest : List (List ℕ)) → IsCut text header body
       → IsCut text other rest → IsUtf8 header → IsUtf8 other
   no_header_is_utf8 text header other body rest c d u = subst IsUtf8 (same_header text header other body rest c d) u
 
-  pub one_fault_lem : (text : List ℕ) (l m : ℕ) (j k : TextKind) → IsFault format text l j → IsFault format text m k
+  pub one_fault_lem : (text : List ℕ) (l m : ℕ) (j k : TextKind) → IsFaultOfText format text l j
+      → IsFaultOfText format text m k
       → (l ≡ m) × (j ≡ k)
   one_fault_lem text l m j k (too_long h) (too_long g) = (refl, refl)
   one_fault_lem text l m j k (too_long h) (header_not_utf8 a b c bad) = absurd (omega (arith, h, c.short))
@@ -230,7 +231,7 @@ module _ (format : Format) (one_form : HasOneForm format) where
 
   -- a text that fits has no fault
   pub not_both_lem : (text : List ℕ) (forms : List format.Form) (l : ℕ) (k : TextKind) → IsText format text forms
-      → IsFault format text l k → ⊥
+      → IsFaultOfText format text l k → ⊥
   not_both_lem text forms l k m (too_long h) = omega (arith, h, m.headed.cut.short)
   not_both_lem text forms l k m (header_not_utf8 a b c bad) = bad (utf8_too text a b m.body m.headed c)
   not_both_lem text forms l k m (no_header a b c u bad) = bad (header_too text a b m.body m.headed c)
@@ -245,7 +246,7 @@ module _ (format : Format) (one_form : HasOneForm format) where
 
 -- ---- each text fits or has a fault
 
-header_or_not : (format : Format) (line : List ℕ) → IsHeader format line ⊎ (IsHeader format line → ⊥)
+header_or_not : (format : Format) (line : List ℕ) → IsFormatHeader format line ⊎ (IsFormatHeader format line → ⊥)
 header_or_not format line =
     let two : List (List ℕ) = format.kind ∷ format.version ∷ [] in
     holds_or_not (pointwise bytes_eq (runs line) two) (slice_eq-Decides bytes_eq-Decides (runs line) two _ refl)
@@ -317,7 +318,7 @@ module _ (format : Format) (form_or_none : HasFormOrNone format) (ended_or_not :
   abbrev IsTextOrFaulty : List ℕ → Type 0
   IsTextOrFaulty text =
       ((forms : List format.Form) × IsText format text forms)
-      ⊎ ((line : ℕ) × (kind : TextKind) × IsFault format text line kind)
+      ⊎ ((line : ℕ) × (kind : TextKind) × IsFaultOfText format text line kind)
 
   by_end : (text : List ℕ) (body : List (List ℕ)) (forms : List format.Form) → IsHeaded format text body
       → Says format [] body forms → IsTextOrFaulty text

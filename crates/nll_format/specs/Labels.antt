@@ -25,18 +25,18 @@ pub record AreFirstPoints (starts : List ℕ) : Type 0 where
   pub at_zero : slice_get starts 0 ≡ Some 0
 
 -- the blocks that begin at the point or before it, each as its first point
-abbrev pub begun : List ℕ → ℕ → List ℕ
-begun starts p = filter (λ start. nat_le start p) starts
+abbrev pub begun_blocks : List ℕ → ℕ → List ℕ
+begun_blocks starts p = filter (λ start. nat_le start p) starts
 
 -- the block of a point is the last that begins at it or before it
 abbrev pub block_of : List ℕ → ℕ → ℕ
-block_of starts p = length (begun starts p) - 1
+block_of starts p = length (begun_blocks starts p) - 1
 
 -- The name of a point: its number, or its block and its place in the block, counted from 0.
 abbrev pub point_name : Points → ℕ → PointName
 point_name numbers p = Number p
 point_name (blocks starts) p =
-    Block (block_of starts p) (p - slice_index (begun starts p) (block_of starts p))
+    Block (block_of starts p) (p - slice_index (begun_blocks starts p) (block_of starts p))
 
 -- ---- what the code keeps
 
@@ -46,6 +46,6 @@ points_of kept.Numbers = numbers
 points_of (kept.Blocks starts) = blocks starts.items
 
 -- first points that are kept are first points of blocks
-abbrev pub AreKept : Kept → Type 0
-AreKept kept.Numbers = Unit {0}
-AreKept (kept.Blocks starts) = AreFirstPoints starts.items
+abbrev pub AreStartsKept : Kept → Type 0
+AreStartsKept kept.Numbers = Unit {0}
+AreStartsKept (kept.Blocks starts) = AreFirstPoints starts.items

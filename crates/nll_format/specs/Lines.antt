@@ -3,7 +3,7 @@
 use Rattle.std.specs.Prelude.{◌≡◌, ◌⊎◌, ℕ, ◌+◌, ◌≤◌, List, [], ◌++◌, length}
 use Rattle.std.specs.List.{AllByRecursion}
 use Rattle.nll_problem.specs.Limits.{most_bytes}
-use Rattle.nll_format.specs.Text.{Format, Fits, IsFaulty, Says, IsHeaded, IsFault, IsRefusal}
+use Rattle.nll_format.specs.Text.{Format, Fits, IsFaulty, Says, IsHeaded, IsFaultOfText, IsRefusal}
 use Rattle.nll_format.specs.declared.error.TextError.{TextError}
 use Rattle.nll_format.specs.declared.error.TextKind.{TextKind}
 use Rattle.nll_format.specs.declared.error.TextKind.TheVariants.{Memory}
@@ -48,16 +48,16 @@ IsAmidWith format Held all left number =
     (forms : List format.Form) × IsAmid format all left forms number × Held forms
 
 -- of all lines these were left, and now only those are
-abbrev pub Advances : (format : Format) → (List format.Form → Type 0)
+abbrev pub LeavesLines : (format : Format) → (List format.Form → Type 0)
     → (List format.Form → Type 0) → List (List ℕ) → List (List ℕ) → ℕ → ℕ → Type 0
-Advances format Old New these those before number =
+LeavesLines format Old New these those before number =
     (all : List (List ℕ)) → IsAmidWith format Old all these before
     → IsAmidWith format New all those number
 
 -- the error refuses each text of the format that has these lines after its header
 abbrev pub RefusesBody : Format → List (List ℕ) → TextError → Type 0
 RefusesBody format body error =
-    (text : List ℕ) → IsHeaded format text body → IsRefusal (IsFault format text) error
+    (text : List ℕ) → IsHeaded format text body → IsRefusal (IsFaultOfText format text) error
 
 -- like `RefusesBody`, but for all lines of which these are left
 abbrev pub RefusesLeft : (format : Format) → (List format.Form → Type 0) → List (List ℕ) → ℕ

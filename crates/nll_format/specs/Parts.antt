@@ -37,9 +37,9 @@ pub record Spells (line : List ℕ) (these : List Part) : Type 0 where
 
 -- The answer is what the bytes spell, by the parts of a value; there is none only where the bytes
 -- spell no value. `meant` gives the value that an answer stands for.
-abbrev pub Reads : {A B : Type 0} → (B → List Part) → (A → B) → List ℕ → Option A → Type 0
-Reads {A} {B} parts meant bytes None = (b : B) → Spells bytes (parts b) → ⊥
-Reads {A} {B} parts meant bytes (Some a) = Spells bytes (parts (meant a))
+abbrev pub ReadsParts : {A B : Type 0} → (B → List Part) → (A → B) → List ℕ → Option A → Type 0
+ReadsParts {A} {B} parts meant bytes None = (b : B) → Spells bytes (parts b) → ⊥
+ReadsParts {A} {B} parts meant bytes (Some a) = Spells bytes (parts (meant a))
 
 -- nothing
 abbrev pub nothing : Unit {0} → List Part

@@ -30,8 +30,8 @@ pub record Format : Type 1 where
   pub HasEnded : List Form → Type 0
 
 -- the line is the header of a text of the format
-abbrev pub IsHeader : Format → List ℕ → Type 0
-IsHeader format line = headers.IsHeader format.kind format.version line
+abbrev pub IsFormatHeader : Format → List ℕ → Type 0
+IsFormatHeader format line = headers.IsHeader format.kind format.version line
 
 -- ---- one line
 
@@ -97,17 +97,17 @@ pub record IsText (format : Format) (text : List ℕ) (forms : List format.Form)
   pub ended : format.HasEnded forms
 
 -- The text's fault: the line, counted from 1, and its kind.
-pub data IsFault (format : Format) (text : List ℕ) : ℕ → TextKind → Type 0 where
-  too_long : most_bytes < length text → IsFault format text 1 (Limit Text)
+pub data IsFaultOfText (format : Format) (text : List ℕ) : ℕ → TextKind → Type 0 where
+  too_long : most_bytes < length text → IsFaultOfText format text 1 (Limit Text)
   header_not_utf8 : (header : List ℕ) (body : List (List ℕ)) → IsCut text header body
-      → (IsUtf8 header → ⊥) → IsFault format text 1 NotUtf8
+      → (IsUtf8 header → ⊥) → IsFaultOfText format text 1 NotUtf8
   no_header : (header : List ℕ) (body : List (List ℕ)) → IsCut text header body
-      → IsUtf8 header → (IsHeader format header → ⊥) → IsFault format text 1 Header
+      → IsUtf8 header → (IsFormatHeader format header → ⊥) → IsFaultOfText format text 1 Header
   at_line : (body : List (List ℕ)) (n : ℕ) (kind : TextKind) → IsHeaded format text body
-      → HasFault format body n kind → IsFault format text (n + 2) kind
+      → HasFault format body n kind → IsFaultOfText format text (n + 2) kind
   no_end : (body : List (List ℕ)) (forms : List format.Form) → IsHeaded format text body
       → Says format [] body forms → (format.HasEnded forms → ⊥)
-      → IsFault format text (length (lines_of text)) End
+      → IsFaultOfText format text (length (lines_of text)) End
 
 -- ---- how a reader refuses a text
 

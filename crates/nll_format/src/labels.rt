@@ -1,7 +1,8 @@
 //! The names that reports print.
 
 ghost use Rattle.std.specs.Prelude.{◌≡◌, ◌<◌, ◌≤◌, [], length, slice_index_or, take};
-ghost use Rattle.nll_format.specs.Labels.{AreFirstPoints, begun, blocks, numbers, point_name};
+ghost use Rattle.nll_format.specs.Labels.{AreFirstPoints, begun_blocks, blocks, numbers};
+ghost use Rattle.nll_format.specs.Labels.{point_name};
 
 use crate::names::Names;
 use nll_problem::RegionId;
@@ -44,13 +45,13 @@ impl Drop for Labels {
 
 impl Model for Labels {
     ghost use Rattle.nll_format.specs.Labels as spec;
-    ghost use Rattle.nll_format.specs.Labels.{points_of, AreKept};
+    ghost use Rattle.nll_format.specs.Labels.{points_of, AreStartsKept};
 
     ghost Value = { spec.Labels };
 
     ghost view = { λ labels. record { names = labels.names; points = points_of labels.points } };
 
-    ghost invariant = { λ labels. AreKept labels.points };
+    ghost invariant = { λ labels. AreStartsKept labels.points };
 }
 
 impl Labels {
@@ -117,9 +118,9 @@ fn name_in_block(starts: &[u32], point: u32) -> PointName
 // How many blocks begin at a point or before it.
 fn blocks_begun(starts: &[u32], point: u32) -> usize
     requires { AreFirstPoints starts.now }
-    ensures count { result ≡ length (begun starts.now point) }
+    ensures count { result ≡ length (begun_blocks starts.now point) }
     ensures within { result ≤ length starts.now }
-    ensures front { begun starts.now point ≡ take result starts.now }
+    ensures front { begun_blocks starts.now point ≡ take result starts.now }
 {
     starts.partition_point(|start| *start <= point)
 }

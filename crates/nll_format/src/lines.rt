@@ -3,7 +3,7 @@
 ghost use Rattle.std.specs.Prelude.{◌≡◌, ◌+◌, ◌<◌, ◌≤◌, ◌^◌, [], List, length, OnOk, IfOk, IfErr};
 ghost use Rattle.nll_text.specs.Lines.{lines_left, lines_of};
 ghost use Rattle.nll_format.specs.Text.{Says};
-ghost use Rattle.nll_format.specs.Lines.{Advances, AreShort, RefusesBody, RefusesLeft};
+ghost use Rattle.nll_format.specs.Lines.{LeavesLines, AreShort, RefusesBody, RefusesLeft};
 
 use crate::error::{TextError, TextKind};
 use crate::line_reader::LineReader;
@@ -52,7 +52,7 @@ fn read_next<'a, F, R: LineReader<'a, F>>(
     ensures one { IfOk result (λ rest.
         length (lines_of text.now) ≡ length (lines_left rest) + 1) }
     ensures counted { OnOk result (number.new ≡ number.old + 1) }
-    ensures read { IfOk result (λ rest. Advances (R.format_of format.now)
+    ensures read { IfOk result (λ rest. LeavesLines (R.format_of format.now)
         (λ forms. R.holds format.now forms reader.old)
         (λ forms. R.holds format.now forms reader.new)
         (lines_of text.now) (lines_left rest) number.old number.new) }

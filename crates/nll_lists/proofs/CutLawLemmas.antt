@@ -6,14 +6,14 @@ use Rattle.std.specs.Str.Parse.{digits_value}
 use Rattle.std.proofs.lemmas.Bool.{lt-ltb, le-ltb}
 use Rattle.nll_text.specs.Tokens.{Token, word}
 use Rattle.nll_format.specs.Parts.{IsSmall, Spells, one_number, token_of}
-use Rattle.nll_format.specs.Text.{IsFault}
+use Rattle.nll_format.specs.Text.{IsFaultOfText}
 use Rattle.nll_format.specs.declared.error.TextKind.{TextKind}
 use Rattle.nll_format.specs.declared.error.TextKind.TheVariants.{Range, End}
 use Rattle.nll_format.proofs.ListingLemmas as listing
 use Rattle.nll_format.proofs.PartLemmas as parts
 use Rattle.nll_format.proofs.PartLemmas.{printed}
 use Rattle.nll_format.proofs.TextLaws as laws
-use Rattle.nll_lists.specs.CutText.{cut, owners, owner_fault, Means}
+use Rattle.nll_lists.specs.CutText.{cut, owners, owner_fault, MeansCut}
 
 -- a number above 65,535 has a fault, the others have none
 pub above : (n : ℕ) → 65535 < n → owner_fault n ≡ Some Range
@@ -37,18 +37,18 @@ one_form = parts.one_form ℕ one_number unspelled unspelled_spelled
 form_or_none : (line : List ℕ) → ((n : ℕ) × Spells line (one_number n)) ⊎ ((n : ℕ) → Spells line (one_number n) → ⊥)
 form_or_none = parts.form_or_none ℕ one_number unspelled unspelled_spelled
 
-pub one_fault_lem : (text : List ℕ) (l m : ℕ) (j k : TextKind) → IsFault cut text l j → IsFault cut text m k
+pub one_fault_lem : (text : List ℕ) (l m : ℕ) (j k : TextKind) → IsFaultOfText cut text l j → IsFaultOfText cut text m k
     → (l ≡ m) × (j ≡ k)
 one_fault_lem = laws.one_fault_lem cut one_form
 
-pub not_both_lem : (text list : List ℕ) (l : ℕ) (k : TextKind) → Means text list → IsFault cut text l k → ⊥
+pub not_both_lem : (text list : List ℕ) (l : ℕ) (k : TextKind) → MeansCut text list → IsFaultOfText cut text l k → ⊥
 not_both_lem = laws.not_both_lem cut one_form
 
-pub one_meaning_lem : (text list other : List ℕ) → Means text list → Means text other → list ≡ other
+pub one_meaning_lem : (text list other : List ℕ) → MeansCut text list → MeansCut text other → list ≡ other
 one_meaning_lem = laws.one_forms_lem cut one_form
 
 pub some_meaning_or_fault_lem : (text : List ℕ)
-    → ((list : List ℕ) × Means text list) ⊎ ((line : ℕ) × (kind : TextKind) × IsFault cut text line kind)
+    → ((list : List ℕ) × MeansCut text list) ⊎ ((line : ℕ) × (kind : TextKind) × IsFaultOfText cut text line kind)
 some_meaning_or_fault_lem = laws.text_or_fault_lem cut form_or_none (λ entries. inl tt)
 
 -- no number has a fault at the end
@@ -59,5 +59,5 @@ never_end n = go (nat_lt 65535 n)
     go true e = cc
     go false e = cc
 
-pub never_at_end_lem : (text : List ℕ) (line : ℕ) (kind : TextKind) → IsFault cut text line kind → kind ≢ End
+pub never_at_end_lem : (text : List ℕ) (line : ℕ) (kind : TextKind) → IsFaultOfText cut text line kind → kind ≢ End
 never_at_end_lem = listing.no_end_fault owners never_end

@@ -9,14 +9,14 @@ use Rattle.nll_model.specs.declared.event.Event.{Event}
 use Rattle.nll_model.specs.declared.event.Event.TheVariants.{Load, Take, Owe, Clear, Push, Leave}
 use Rattle.nll_text.specs.Tokens.{Token, word}
 use Rattle.nll_format.specs.Parts.{IsSmall, Spells, token_of}
-use Rattle.nll_format.specs.Text.{IsFault}
+use Rattle.nll_format.specs.Text.{IsFaultOfText}
 use Rattle.nll_format.specs.declared.error.TextKind.{TextKind}
 use Rattle.nll_format.specs.declared.error.TextKind.TheVariants.{Range, End}
 use Rattle.nll_format.proofs.ListingLemmas as listing
 use Rattle.nll_format.proofs.PartLemmas as lemmas
 use Rattle.nll_format.proofs.PartLemmas.{printed}
 use Rattle.nll_format.proofs.TextLaws as laws
-use Rattle.nll_lists.specs.ScheduleText.{schedule, events, event_fault, names_owners, parts, Means}
+use Rattle.nll_lists.specs.ScheduleText.{schedule, events, event_fault, names_owners, event_parts, MeansSchedule}
 
 -- the event of the word and one number
 abbrev one_of : List ℕ → ℕ → Event
@@ -34,7 +34,7 @@ unspelled (word w ∷ word n ∷ []) = one_of w (digits_value 10 n)
 unspelled (word w ∷ word n ∷ word m ∷ ts) = two_of w (digits_value 10 n) (digits_value 10 m)
 unspelled _ = Load 0
 
-unspelled_spelled : (e : Event) → AllByRecursion IsSmall (parts e) → unspelled (map token_of (parts e)) ≡ e
+unspelled_spelled : (e : Event) → AllByRecursion IsSmall (event_parts e) → unspelled (map token_of (event_parts e)) ≡ e
 unfolding unspelled
 unspelled_spelled (Load i) small = ap Load (printed i small.1.0)
 unspelled_spelled (Take i j) small = ap (λ n. Take n (digits_value 10 (decimal j))) (printed i small.1.0)
@@ -45,27 +45,29 @@ unspelled_spelled (Push i j) small = ap (λ n. Push n (digits_value 10 (decimal 
     ∙ ap (Push i) (printed j small.1.1.0)
 unspelled_spelled (Leave i) small = ap Leave (printed i small.1.0)
 
-one_form : (line : List ℕ) (d e : Event) → Spells line (parts d) → Spells line (parts e) → d ≡ e
-one_form = lemmas.one_form Event parts unspelled unspelled_spelled
+one_form : (line : List ℕ) (d e : Event) → Spells line (event_parts d) → Spells line (event_parts e) → d ≡ e
+one_form = lemmas.one_form Event event_parts unspelled unspelled_spelled
 
-form_or_none : (line : List ℕ) → ((e : Event) × Spells line (parts e)) ⊎ ((e : Event) → Spells line (parts e) → ⊥)
-form_or_none = lemmas.form_or_none Event parts unspelled unspelled_spelled
+form_or_none : (line : List ℕ) → ((e : Event) × Spells line (event_parts e)) ⊎ ((e : Event)
+    → Spells line (event_parts e) → ⊥)
+form_or_none = lemmas.form_or_none Event event_parts unspelled unspelled_spelled
 
-pub one_fault_lem : (owners : ℕ) (text : List ℕ) (l m : ℕ) (j k : TextKind) → IsFault (schedule owners) text l j
-    → IsFault (schedule owners) text m k → (l ≡ m) × (j ≡ k)
+pub one_fault_lem : (owners : ℕ) (text : List ℕ) (l m : ℕ) (j k : TextKind) → IsFaultOfText (schedule owners) text l j
+    → IsFaultOfText (schedule owners) text m k → (l ≡ m) × (j ≡ k)
 one_fault_lem owners = laws.one_fault_lem (schedule owners) one_form
 
-pub not_both_lem : (owners : ℕ) (text : List ℕ) (list : List Event) (l : ℕ) (k : TextKind) → Means owners text list
-    → IsFault (schedule owners) text l k → ⊥
+pub not_both_lem : (owners : ℕ) (text : List ℕ) (list : List Event) (l : ℕ) (k : TextKind)
+    → MeansSchedule owners text list
+    → IsFaultOfText (schedule owners) text l k → ⊥
 not_both_lem owners = laws.not_both_lem (schedule owners) one_form
 
-pub one_meaning_lem : (owners : ℕ) (text : List ℕ) (list other : List Event) → Means owners text list
-    → Means owners text other → list ≡ other
+pub one_meaning_lem : (owners : ℕ) (text : List ℕ) (list other : List Event) → MeansSchedule owners text list
+    → MeansSchedule owners text other → list ≡ other
 one_meaning_lem owners = laws.one_forms_lem (schedule owners) one_form
 
 pub some_meaning_or_fault_lem : (owners : ℕ) (text : List ℕ)
-    → ((list : List Event) × Means owners text list)
-    ⊎ ((line : ℕ) × (kind : TextKind) × IsFault (schedule owners) text line kind)
+    → ((list : List Event) × MeansSchedule owners text list)
+    ⊎ ((line : ℕ) × (kind : TextKind) × IsFaultOfText (schedule owners) text line kind)
 some_meaning_or_fault_lem owners = laws.text_or_fault_lem (schedule owners) form_or_none (λ entries. inl tt)
 
 -- no event has a fault at the end
@@ -77,5 +79,5 @@ never_end owners e = go (names_owners owners e)
     go false e = cc
 
 pub never_at_end_lem : (owners : ℕ) (text : List ℕ) (line : ℕ) (kind : TextKind)
-    → IsFault (schedule owners) text line kind → kind ≢ End
+    → IsFaultOfText (schedule owners) text line kind → kind ≢ End
 never_at_end_lem owners = listing.no_end_fault (events owners) (never_end owners)

@@ -26,5 +26,5 @@ abbrev pub cut : Format
 cut = format_of owners
 
 -- the text fits and lists these owners, in region order
-abbrev pub Means : List ℕ → List ℕ → Type 0
-Means text list = IsText cut text list
+abbrev pub MeansCut : List ℕ → List ℕ → Type 0
+MeansCut text list = IsText cut text list

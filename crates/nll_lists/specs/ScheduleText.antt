@@ -11,13 +11,13 @@ use Rattle.nll_format.specs.declared.error.TextKind.{TextKind}
 use Rattle.nll_format.specs.declared.error.TextKind.TheVariants.{Range}
 
 -- the parts of the line of an event
-abbrev pub parts : Event → List Part
-parts (Load i) = keyword (codes "load") ∷ number i ∷ []
-parts (Take i j) = keyword (codes "take") ∷ number i ∷ number j ∷ []
-parts (Owe i) = keyword (codes "owe") ∷ number i ∷ []
-parts (Clear i) = keyword (codes "clear") ∷ number i ∷ []
-parts (Push i j) = keyword (codes "push") ∷ number i ∷ number j ∷ []
-parts (Leave i) = keyword (codes "leave") ∷ number i ∷ []
+abbrev pub event_parts : Event → List Part
+event_parts (Load i) = keyword (codes "load") ∷ number i ∷ []
+event_parts (Take i j) = keyword (codes "take") ∷ number i ∷ number j ∷ []
+event_parts (Owe i) = keyword (codes "owe") ∷ number i ∷ []
+event_parts (Clear i) = keyword (codes "clear") ∷ number i ∷ []
+event_parts (Push i j) = keyword (codes "push") ∷ number i ∷ number j ∷ []
+event_parts (Leave i) = keyword (codes "leave") ∷ number i ∷ []
 
 -- the numbers of the event are owners', which are below the number of owners
 abbrev pub names_owners : ℕ → Event → Bool
@@ -38,7 +38,7 @@ events owners = record {
   kind = codes "nll-schedule";
   version = codes "1";
   Entry = Event;
-  parts = parts;
+  parts = event_parts;
   fault = event_fault owners;
 }
 
@@ -47,5 +47,5 @@ abbrev pub schedule : ℕ → Format
 schedule owners = format_of (events owners)
 
 -- the text fits and lists these events, in order
-abbrev pub Means : ℕ → List ℕ → List Event → Type 0
-Means owners text list = IsText (schedule owners) text list
+abbrev pub MeansSchedule : ℕ → List ℕ → List Event → Type 0
+MeansSchedule owners text list = IsText (schedule owners) text list

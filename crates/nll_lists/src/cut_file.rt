@@ -2,8 +2,8 @@
 
 ghost use Rattle.std.specs.Prelude.{IfOk, IfErr, [], codes, refl};
 ghost use Rattle.nll_format.specs.Parts.{number as number_part};
-ghost use Rattle.nll_format.specs.Text.{IsFault, IsRefusal};
-ghost use Rattle.nll_lists.specs.CutText.{cut, owners, Means};
+ghost use Rattle.nll_format.specs.Text.{IsFaultOfText, IsRefusal};
+ghost use Rattle.nll_lists.specs.CutText.{cut, owners, MeansCut};
 
 use crate::list::read_list;
 use crate::list_format::ListFormat;
@@ -19,8 +19,8 @@ use std::alloc::Global;
 /// # Cost
 /// Time linear in the text, and memory for what it lists; the text isn't copied (not proved).
 pub fn read_cut(alloc: Global, text: &[u8]) -> Result<Vec<u16>, TextError>
-    ensures ok { IfOk result (λ list. Means text.now list.items) }
-    ensures fault { IfErr result (IsRefusal (IsFault cut text.now)) }
+    ensures ok { IfOk result (λ list. MeansCut text.now list.items) }
+    ensures fault { IfErr result (IsRefusal (IsFaultOfText cut text.now)) }
 {
     read_list(alloc, &CutFile, text)
 }

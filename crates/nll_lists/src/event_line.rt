@@ -1,8 +1,8 @@
 //! The lines of a schedule.
 
-ghost use Rattle.nll_format.specs.Parts.{Reads};
-ghost use Rattle.nll_lists.specs.ScheduleLines.{view};
-ghost use Rattle.nll_lists.specs.ScheduleText.{parts};
+ghost use Rattle.nll_format.specs.Parts.{ReadsParts};
+ghost use Rattle.nll_lists.specs.ScheduleLines.{event_view};
+ghost use Rattle.nll_lists.specs.ScheduleText.{event_parts};
 
 use nll_format::{number, two_numbers};
 use nll_text::after_word;
@@ -20,7 +20,7 @@ pub(crate) enum Line {
 
 /// Reads a line as one of the forms.
 pub(crate) fn line_of(line: &[u8]) -> Option<Line>
-    ensures { Reads parts view line.now result }
+    ensures { ReadsParts event_parts event_view line.now result }
 {
     if let Some(rest) = after_word(line, b"take") {
         let (owner, from) = two_numbers(rest)?;

@@ -1,10 +1,8 @@
 //! Reading a whole text that lists items.
 
-ghost use Rattle.std.specs.Prelude.{◌≡◌, ◌<◌, ◌^◌, [], length, map, IfOk, IfErr};
-ghost use Rattle.nll_text.specs.Lines.{lines_left};
-ghost use Rattle.nll_format.specs.Lines.{AreShort, RefusesBody};
+ghost use Rattle.std.specs.Prelude.{◌≡◌, map, IfOk, IfErr};
 ghost use Rattle.nll_format.specs.Listing.{format_of};
-ghost use Rattle.nll_format.specs.Text.{IsFault, IsRefusal, IsText, Says};
+ghost use Rattle.nll_format.specs.Text.{IsFaultOfText, IsRefusal, IsText};
 
 use crate::list_format::ListFormat;
 use nll_format::{LineReader, TextError, TextKind, open_text, pass_over, read_lines};
@@ -26,25 +24,9 @@ pub fn read_list<F: ListFormat>(
     ensures ok { IfOk result (λ list. IsText (format_of (F.listing format.now)) text.now
         (map (F.entry format.now) list.items)) }
     ensures fault { IfErr result
-        (IsRefusal (IsFault (format_of (F.listing format.now)) text.now)) }
+        (IsRefusal (IsFaultOfText (format_of (F.listing format.now)) text.now)) }
 {
     let body = open_text(text, format.kind(), format.version())?;
-    read_body(alloc, format, body)
-}
-
-// Reads the lines after the header.
-fn read_body<F: ListFormat>(
-    alloc: Global,
-    format: &F,
-    body: Option<&[u8]>,
-) -> Result<Vec<F::Item>, TextError>
-    requires long { length (lines_left body) < 2 ^ 32 }
-    requires short { AreShort (lines_left body) }
-    ensures ok { IfOk result (λ list. Says (format_of (F.listing format.now)) []
-        (lines_left body.entry) (map (F.entry format.now) list.items)) }
-    ensures fault { IfErr result
-        (RefusesBody (format_of (F.listing format.now)) (lines_left body.entry)) }
-{
     let mut items = Items::<F> {
         list: Vec::new(alloc),
     };

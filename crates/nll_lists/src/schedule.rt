@@ -1,9 +1,9 @@
 //! Reading a whole schedule.
 
 ghost use Rattle.std.specs.Prelude.{◌≡◌, IfOk, IfErr, MatchResult, None, Some, true, false, nat_lt};
-ghost use Rattle.nll_format.specs.Text.{IsFault, IsRefusal};
-ghost use Rattle.nll_lists.specs.ScheduleLines.{first_part, view};
-ghost use Rattle.nll_lists.specs.ScheduleText.{event_fault, events, schedule, Means};
+ghost use Rattle.nll_format.specs.Text.{IsFaultOfText, IsRefusal};
+ghost use Rattle.nll_lists.specs.ScheduleLines.{first_part, event_view};
+ghost use Rattle.nll_lists.specs.ScheduleText.{event_fault, events, schedule, MeansSchedule};
 
 use crate::event_line::{Line, line_of};
 use crate::list::read_list;
@@ -21,8 +21,8 @@ use std::alloc::Global;
 /// # Cost
 /// Time linear in the text, and memory for what it lists; the text isn't copied (not proved).
 pub fn read_schedule(alloc: Global, text: &[u8], owners: u16) -> Result<Vec<Event>, TextError>
-    ensures ok { IfOk result (λ list. Means owners text.now list.items) }
-    ensures fault { IfErr result (IsRefusal (IsFault (schedule owners) text.now)) }
+    ensures ok { IfOk result (λ list. MeansSchedule owners text.now list.items) }
+    ensures fault { IfErr result (IsRefusal (IsFaultOfText (schedule owners) text.now)) }
 {
     read_list(alloc, &Schedule { owners }, text)
 }
@@ -61,8 +61,8 @@ impl ListFormat for Schedule {
 // The event of a line.
 fn event_of(line: Line, owners: u16) -> Result<Event, TextKind>
     ensures { MatchResult result
-        (λ event. (event ≡ view line) × (event_fault owners (view line) ≡ None))
-        (λ kind. event_fault owners (view line) ≡ Some kind) }
+        (λ event. (event ≡ event_view line) × (event_fault owners (event_view line) ≡ None))
+        (λ kind. event_fault owners (event_view line) ≡ Some kind) }
 {
     match line {
         Line::Load(owner) => Ok(Event::Load(owner_of(owner, owners)?)),

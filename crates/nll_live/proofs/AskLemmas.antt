@@ -5,7 +5,7 @@ use Rattle.std.proofs.lemmas.Bool.{cases_lt}
 use Rattle.std.proofs.lemmas.Option.{slice_get_cases, slice_get_within}
 use Rattle.nll_types.specs.Types.{TypeTree}
 use Rattle.nll_body.specs.Bodies.{BodyText, HasType}
-use Rattle.nll_body.specs.Sound.{IsSound}
+use Rattle.nll_body.specs.Sound.{IsSoundBody}
 use Rattle.nll_body.proofs.KeptLemmas.{good_type}
 use Rattle.nll_body.proofs.RangeLemmas.{region_within, drop_region_within}
 use Rattle.nll_live.proofs.WalkLemmas.{live_within}
@@ -14,7 +14,7 @@ use Rattle.nll_live.specs.Kinds.{AsksFor, KeepsAt}
 use Rattle.nll_live.specs.declared.kind.Kind.{Kind}
 use Rattle.nll_live.specs.declared.kind.Kind.TheVariants.{Use, Drop}
 use Rattle.nll_problem.specs.BaseRuns.{IsInBaseRuns}
-use Rattle.nll_live.specs.BaseRuns.{Gains}
+use Rattle.nll_live.specs.BaseRuns.{GainsRuns}
 use Rattle.nll_problem.specs.declared.base_run.BaseRun.{BaseRun}
 use Rattle.nll_live.proofs.BaseRunLemmas.{gains_none, gains_append, gains_as}
 use Rattle.nll_live.proofs.GatheringLemmas.{contains_none}
@@ -33,8 +33,8 @@ some_type body x within = by (slice_get_cases body.variables x).1
 pub asked_of : (body : BodyText) (x : ℕ) (regions : List ℕ) (wants : TypeTree → ℕ → Type 0) (walks live : ℕ → Type 0)
     (old new : List BaseRun) → x < length body.variables
     → ((t : TypeTree) → HasType body x t → (r : ℕ) → Contains regions r ↔ wants t r) → ((p : ℕ) → walks p ↔ live p)
-    → Gains (λ r p. Contains regions r × walks p) old new
-    → Gains (λ r p. (t : TypeTree) × HasType body x t × live p × wants t r) old new
+    → GainsRuns (λ r p. Contains regions r × walks p) old new
+    → GainsRuns (λ r p. (t : TypeTree) × HasType body x t × live p × wants t r) old new
 asked_of body x regions wants walks live old new within each same =
     gains_as (λ r p. Contains regions r × walks p)
     (λ r p. (t : TypeTree) × HasType body x t × live p × wants t r) old new (λ r p. (
@@ -45,7 +45,7 @@ asked_of body x regions wants walks live old new within each same =
 -- ---- ranges
 
 -- base elements are points, and of regions of the body
-pub base_within : (body : BodyText) → IsSound body → (r p : ℕ) → IsBaseOf body r p
+pub base_within : (body : BodyText) → IsSoundBody body → (r p : ℕ) → IsBaseOf body r p
     → (r < length body.names) × (p < length body.points)
 base_within body sound r p h = by h.0 h.1
   where
@@ -65,12 +65,9 @@ base_within body sound r p h = by h.0 h.1
 module _ (asks : ℕ → ℕ → ℕ → Type 0) (first : List BaseRun) where
   -- the runs got those that the first variables ask for
   abbrev pub AreAskedTo : ℕ → List BaseRun → Type 0
-  AreAskedTo n now = Gains (λ r p. (x : ℕ) × (x < n) × asks x r p) first now
+  AreAskedTo n now = GainsRuns (λ r p. (x : ℕ) × (x < n) × asks x r p) first now
 
-  pub asked_to_first : AreAskedTo 0 first
-  asked_to_first = gains_none (λ r p. (x : ℕ) × (x < 0) × asks x r p) first (λ r p h. omega (arith, h.1))
-
-  pub asked_to_step : (n : ℕ) (mid new : List BaseRun) → AreAskedTo n mid → Gains (asks n) mid new
+  pub asked_to_step : (n : ℕ) (mid new : List BaseRun) → AreAskedTo n mid → GainsRuns (asks n) mid new
       → AreAskedTo (n + 1) new
   asked_to_step n mid new before more =
       gains_as (λ r p. ((x : ℕ) × (x < n) × asks x r p) ⊎ asks n r p)
@@ -84,7 +81,7 @@ module _ (asks : ℕ → ℕ → ℕ → Type 0) (first : List BaseRun) where
       (gains_append (λ r p. (x : ℕ) × (x < n) × asks x r p) (asks n) first mid new before more)
 
   pub asked_to_last : (n : ℕ) (now : List BaseRun) → ((x r p : ℕ) → asks x r p → x < n) → AreAskedTo n now
-      → Gains (λ r p. (x : ℕ) × asks x r p) first now
+      → GainsRuns (λ r p. (x : ℕ) × asks x r p) first now
   asked_to_last n now all =
       gains_as (λ r p. (x : ℕ) × (x < n) × asks x r p) (λ r p. (x : ℕ) × asks x r p) first now (λ r p. (
         λ h. (h.0, h.2),
@@ -101,8 +98,9 @@ kept_within Use body x p h = slice_get_within body.points p h.0 h.1
 kept_within Drop body x p h = slice_get_within body.points p h.0 h.1
 
 -- what uses and drops ask for together are the base elements
-pub both_asked : (body : BodyText) (mid new : List BaseRun) → Gains (λ r p. (x : ℕ) × AsksFor Use body x r p) [] mid
-    → Gains (λ r p. (x : ℕ) × AsksFor Drop body x r p) mid new → (r p : ℕ) → IsInBaseRuns new r p ↔ IsBaseOf body r p
+pub both_asked : (body : BodyText) (mid new : List BaseRun) → GainsRuns (λ r p. (x : ℕ) × AsksFor Use body x r p) [] mid
+    → GainsRuns (λ r p. (x : ℕ) × AsksFor Drop body x r p) mid new → (r p : ℕ)
+    → IsInBaseRuns new r p ↔ IsBaseOf body r p
 both_asked body mid new uses drops r p = (
   λ h. ⊎_elim
       (λ before. ⊎_elim

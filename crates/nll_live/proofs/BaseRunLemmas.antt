@@ -10,16 +10,16 @@ use Rattle.std.proofs.lemmas.List.Sorted.{sorted_far, ranks_by, Contains-permuta
 use Rattle.nll_sets.specs.Runs.{first_of, last_of}
 use Rattle.nll_sets.specs.declared.run.Run.{Run}
 use Rattle.nll_problem.specs.BaseRuns.{IsInBaseRun, IsInBaseRuns}
-use Rattle.nll_live.specs.BaseRuns.{Gains, GetsBaseRun, ComesNext, base_run_cmp}
+use Rattle.nll_live.specs.BaseRuns.{GainsRuns, GetsBaseRun, ComesNext, base_run_cmp}
 use Rattle.nll_problem.specs.declared.base_run.BaseRun.{BaseRun}
 
 -- ---- what runs cover
 
-pub gains_none : (kind : ℕ → ℕ → Type 0) (old : List BaseRun) → ((r p : ℕ) → kind r p → ⊥) → Gains kind old old
+pub gains_none : (kind : ℕ → ℕ → Type 0) (old : List BaseRun) → ((r p : ℕ) → kind r p → ⊥) → GainsRuns kind old old
 gains_none kind old empty r p = (inl, ⊎_elim (λ h. h) (λ h. absurd (empty r p h)))
 
-pub gains_append : (a b : ℕ → ℕ → Type 0) (old mid new : List BaseRun) → Gains a old mid → Gains b mid new
-    → Gains (λ r p. a r p ⊎ b r p) old new
+pub gains_append : (a b : ℕ → ℕ → Type 0) (old mid new : List BaseRun) → GainsRuns a old mid → GainsRuns b mid new
+    → GainsRuns (λ r p. a r p ⊎ b r p) old new
 gains_append a b old mid new f g r p = (
   λ h. ⊎_elim (λ before. ⊎_elim inl (λ x. inr (inl x)) ((f r p).0 before)) (λ x. inr (inr x)) ((g r p).0 h),
   ⊎_elim
@@ -27,15 +27,15 @@ gains_append a b old mid new f g r p = (
       (⊎_elim (λ x. (g r p).1 (inl ((f r p).1 (inr x)))) (λ x. (g r p).1 (inr x))),
 )
 
-pub gains_as : (a b : ℕ → ℕ → Type 0) (old new : List BaseRun) → ((r p : ℕ) → a r p ↔ b r p) → Gains a old new
-    → Gains b old new
+pub gains_as : (a b : ℕ → ℕ → Type 0) (old new : List BaseRun) → ((r p : ℕ) → a r p ↔ b r p) → GainsRuns a old new
+    → GainsRuns b old new
 gains_as a b old new same f r p = (
   λ h. ⊎_elim inl (λ x. inr ((same r p).0 x)) ((f r p).0 h),
   λ h. (f r p).1 (⊎_elim inl (λ x. inr ((same r p).1 x)) h),
 )
 
 -- one run more
-pub gains_one : (s : BaseRun) (old : List BaseRun) → Gains (IsInBaseRun s) old (old ++ s ∷ [])
+pub gains_one : (s : BaseRun) (old : List BaseRun) → GainsRuns (IsInBaseRun s) old (old ++ s ∷ [])
 gains_one s old r p = (
   λ h. ⊎_elim
       (λ there. inl (h.0, there, h.2))
@@ -52,8 +52,9 @@ IsInFirst runs n p = (k : ℕ) × (k < n) × (first_of runs k ≤ p) × (p ≤ l
 
 -- the run of one run more
 pub runs_step : (region : ℕ) (runs : List Run) (n : ℕ) (old mid : List BaseRun) (s : BaseRun) → s.region ≡ region
-    → s.first ≡ first_of runs n → s.end ≡ last_of runs n + 1 → Gains (λ r p. (region ≡ r) × IsInFirst runs n p) old mid
-    → Gains (λ r p. (region ≡ r) × IsInFirst runs (n + 1) p) old (mid ++ s ∷ [])
+    → s.first ≡ first_of runs n → s.end ≡ last_of runs n + 1
+    → GainsRuns (λ r p. (region ≡ r) × IsInFirst runs n p) old mid
+    → GainsRuns (λ r p. (region ≡ r) × IsInFirst runs (n + 1) p) old (mid ++ s ∷ [])
 runs_step region runs n old mid s of begins ends f =
     gains_as (λ r p. ((region ≡ r) × IsInFirst runs n p) ⊎ IsInBaseRun s r p)
     (λ r p. (region ≡ r) × IsInFirst runs (n + 1) p) old (mid ++ s ∷ [])
@@ -73,8 +74,9 @@ runs_step region runs n old mid s of begins ends f =
     (gains_one s mid))
 
 pub regions_step : (regions : List ℕ) (kind : ℕ → Type 0) (n e : ℕ) (old mid new : List BaseRun) → n < length regions
-    → e ≡ get_or regions n e → Gains (λ r p. Contains (take n regions) r × kind p) old mid
-    → Gains (λ r p. (e ≡ r) × kind p) mid new → Gains (λ r p. Contains (take (n + 1) regions) r × kind p) old new
+    → e ≡ get_or regions n e → GainsRuns (λ r p. Contains (take n regions) r × kind p) old mid
+    → GainsRuns (λ r p. (e ≡ r) × kind p) mid new → GainsRuns (λ r p. Contains (take (n + 1) regions) r
+    × kind p) old new
 regions_step regions kind n e old mid new within is f g =
     let more : take (n + 1) regions ≡ take n regions ++ e ∷ [] = take_more regions n e within
     ∙ ap (λ x. take n regions ++ x ∷ []) (sym is) in

@@ -5,24 +5,17 @@ use Rattle.std.proofs.lemmas.Bool.{cases_lt}
 use Rattle.std.proofs.lemmas.List.{get_or_append_left, get_or_default, get_or_push}
 use Rattle.std.proofs.lemmas.List.Elements.{Contains-get_or}
 use Rattle.nll_problem.specs.Graph.{Graph, IsNext}
-use Rattle.nll_body.specs.Bodies.{BodyText, GoesOn, IsGraphOf}
+use Rattle.nll_body.specs.Bodies.{BodyText, IsFollowedBy, IsGraphOf}
 use Rattle.nll_live.specs.Live.{DefinesAt, IsLive}
-use Rattle.nll_live.specs.Chains.{FollowsAlone, IsChain, AreStarts}
+use Rattle.nll_live.specs.Chains.{FollowsAlone, IsChain, HaveStarts}
 use Rattle.nll_live.specs.Lows.{AreDefinitions, IsLow}
 use Rattle.nll_live.proofs.WalkLemmas.{live_before}
 
 -- ---- starts
 
 module _ (goes_on : ℕ → ℕ → Type 0) where
-  pub starts_first : AreStarts goes_on 0 []
-  starts_first = record {
-    counted = refl;
-    before = λ p h. absurd (omega (arith, h));
-    chain = λ p h. absurd (omega (arith, h));
-  }
-
-  pub starts_step : (n : ℕ) (starts : List ℕ) (start : ℕ) → AreStarts goes_on n starts → start ≤ n
-      → IsChain goes_on start n → AreStarts goes_on (n + 1) (starts ++ start ∷ [])
+  pub starts_step : (n : ℕ) (starts : List ℕ) (start : ℕ) → HaveStarts goes_on n starts → start ≤ n
+      → IsChain goes_on start n → HaveStarts goes_on (n + 1) (starts ++ start ∷ [])
   starts_step n starts start are low chain = record {
     counted = length-append starts (start ∷ []) ∙ ap (λ k. k + 1) are.counted;
     before = λ p h. ⊎_elim
@@ -41,10 +34,6 @@ module _ (goes_on : ℕ → ℕ → Type 0) where
 
       now : (p : ℕ) → p < n + 1 → n ≤ p → slice_index (starts ++ start ∷ []) p ≡ start
       now p h last = get_or_push starts start 0 p (omega (arith, h, last, are.counted))
-
-  -- a point alone is a chain
-  pub chain_alone : (p : ℕ) → IsChain goes_on p p
-  chain_alone p q above upto = absurd (omega (arith, above, upto))
 
   -- a chain goes on
   pub chain_step : (first n p : ℕ) → n + 1 ≡ p → IsChain goes_on first n → FollowsAlone goes_on p
@@ -69,7 +58,7 @@ alone_before goes_on points q each one some is p = (
 
 -- the starts of a graph are those of its body
 pub starts_of_body : (body : BodyText) (graph : Graph) (starts : List ℕ) → IsGraphOf body graph
-    → AreStarts (IsNext graph) (length body.points) starts → AreStarts (GoesOn body) (length body.points) starts
+    → HaveStarts (IsNext graph) (length body.points) starts → HaveStarts (IsFollowedBy body) (length body.points) starts
 starts_of_body body graph starts shown are = record {
   counted = are.counted;
   before = are.before;
@@ -82,14 +71,14 @@ starts_of_body body graph starts shown are = record {
 -- ---- liveness along a chain
 
 module _ (body : BodyText) (ends : ℕ → Type 0) (x : ℕ) (starts definitions : List ℕ)
-    (are : AreStarts (GoesOn body) (length body.points) starts) (defined : AreDefinitions body x definitions)
+    (are : HaveStarts (IsFollowedBy body) (length body.points) starts) (defined : AreDefinitions body x definitions)
     (p low : ℕ) (within : p < length body.points) (is : IsLow (slice_index starts p) definitions p low) where
   -- a point behind the low one follows the one before it alone
-  pub follows : (q : ℕ) → low < q → q ≤ p → FollowsAlone (GoesOn body) q
+  pub follows : (q : ℕ) → low < q → q ≤ p → FollowsAlone (IsFollowedBy body) q
   follows q above upto = are.chain p within q (omega (arith, is.above, above)) upto
 
   -- no point from the low one up to p defines the variable
-  pub none_defines : (q : ℕ) → low ≤ q → q < p → DefinesAt body x q → ⊥
+  none_defines : (q : ℕ) → low ≤ q → q < p → DefinesAt body x q → ⊥
   none_defines q from upto h = absurd (omega (arith, from, is.none q ((defined.each q).1 h) upto))
 
   -- where it is live at p, it is from the low one up to p

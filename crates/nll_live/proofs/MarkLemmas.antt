@@ -5,7 +5,7 @@ use Rattle.std.proofs.lemmas.Bool.{cases_lt}
 use Rattle.std.proofs.lemmas.List.{get_or_default, get_or_past}
 use Rattle.std.specs.List.Sorted.{IsPermutation}
 use Rattle.std.proofs.lemmas.List.Sorted.{Contains-permutation, IsPermutation-sym}
-use Rattle.nll_live.specs.Marks.{IsMarked, IsCovered, IsReached, ReachesMore}
+use Rattle.nll_live.specs.Marks.{IsMarked, IsUnderMark, IsUnderNewMark, ReachesMore}
 
 -- some points, and then some more
 pub reaches_append : (kind : ℕ → ℕ → Type 0) (turn : ℕ) (a f xs b g ys c h zs : List ℕ)
@@ -44,7 +44,7 @@ reaches_weaker kind other turn m h l n g k f p = record {
 
 -- what was reached stays so
 pub reached_kept : (kind : ℕ → ℕ → Type 0) (turn : ℕ) (m h l n g k : List ℕ) → ReachesMore kind turn m h l n g k
-    → (p : ℕ) → IsReached m h turn p → IsReached n g turn p
+    → (p : ℕ) → IsUnderNewMark m h turn p → IsUnderNewMark n g turn p
 reached_kept kind turn m h l n g k f p r = (r.0, f.kept r.0 r.1, r.2, omega (arith, r.3, f.higher r.0 r.1))
 
 -- a point that is marked is in range
@@ -68,7 +68,7 @@ contains_moved xs ys moved p =
 
 -- and it covers the same
 pub covered_moved : (heights xs ys : List ℕ) → IsPermutation xs ys → (p : ℕ)
-    → IsCovered heights ys p ↔ IsCovered heights xs p
+    → IsUnderMark heights ys p ↔ IsUnderMark heights xs p
 covered_moved heights xs ys moved p = (
   λ c. (c.0, (contains_moved xs ys moved c.0).0 c.1, c.2, c.3),
   λ c. (c.0, (contains_moved xs ys moved c.0).1 c.1, c.2, c.3),

@@ -31,15 +31,6 @@ pub record Pushing (region first end : ℕ) (old : List (ℕ × ℕ)) (point : �
   pub before : AllBefore new region point
 
 module _ (region first end : ℕ) (old : List (ℕ × ℕ)) where
-  pub pushing_first : AllPairs IsEarlier old → AllBefore old region first → Pushing region first end old first old
-  pushing_first ascending before = record {
-    begun = omega arith;
-    upto = inl refl;
-    each = λ r p. (inl, ⊎_elim (λ h. h) (λ h. absurd (omega (arith, h.1, h.2))));
-    ascending = ascending;
-    before = before;
-  }
-
   pub pushing_step : (point : ℕ) (new : List (ℕ × ℕ)) → point < end → Pushing region first end old point new
       → Pushing region first end old (point + 1) (new ++ (region, point) ∷ [])
   pushing_step point new within h = record {
@@ -128,16 +119,6 @@ module _ (pairs : List (ℕ × ℕ)) (ascending : AllPairs IsEarlier pairs) (reg
 
   pub last_small : AreSmall pairs → (d : ℕ × ℕ) → (at_end d).1 < 4294967295
   last_small small d = small (at_end d).0 (at_end d).1 (last_there d)
-
-  -- a point below that is no later than one of the pairs
-  pub last_reached : (d e : ℕ × ℕ) → (at_end d).0 ≡ region → (p : ℕ) → p < (at_end e).1 + 1
-      → (q : ℕ) × (p ≤ q) × Contains pairs (region, q)
-  last_reached d e same p low = (
-    (at_end e).1,
-    omega (arith, low),
-    subst (λ r. Contains pairs (r, (at_end e).1))
-        (ap (λ (x : ℕ × ℕ). x.0) (same_end e d) ∙ same) (last_there e),
-  )
 
 -- ---- one run
 

@@ -6,11 +6,11 @@ use Rattle.std.proofs.lemmas.Bool.{cases_lt}
 use Rattle.std.proofs.lemmas.List.Elements.{Contains-get_or}
 use Rattle.std.proofs.lemmas.Option.{slice_get_within}
 use Rattle.nll_problem.specs.Graph.{Graph, IsNext}
-use Rattle.nll_body.specs.Bodies.{BodyText, GoesOn, IsGraphOf}
+use Rattle.nll_body.specs.Bodies.{BodyText, IsFollowedBy, IsGraphOf}
 use Rattle.nll_live.specs.Live.{GoesOnUndefined, IsLive}
-use Rattle.nll_live.specs.Chains.{AreStarts, IsChain}
+use Rattle.nll_live.specs.Chains.{HaveStarts, IsChain}
 use Rattle.nll_live.specs.Lows.{AreDefinitions, IsLow}
-use Rattle.nll_live.specs.Marks.{IsMarked, IsCovered, IsReached, AreFound, ReachesMore}
+use Rattle.nll_live.specs.Marks.{IsMarked, IsUnderMark, IsUnderNewMark, AreFound, ReachesMore}
 use Rattle.nll_live.proofs.MarkLemmas.{reaches_append, reaches_weaker, reached_kept, at_each, contains_at}
 use Rattle.nll_live.proofs.ChainLemmas.{follows, live_along}
 use Rattle.nll_live.proofs.WalkLemmas.{live_end, live_before, live_inside, live_within}
@@ -18,7 +18,7 @@ use Rattle.nll_live.proofs.WalkLemmas.{live_end, live_before, live_inside, live_
 -- A stretch of points at which the variable is live, and of which each but the first follows the one before it alone.
 pub record IsLiveStretch (body : BodyText) (x : ℕ) (ends : List ℕ) (low height : ℕ) : Type 0 where
   pub proper : low ≤ height
-  pub chain : IsChain (GoesOn body) low height
+  pub chain : IsChain (IsFollowedBy body) low height
   pub live : (p : ℕ) → low ≤ p → p ≤ height → IsLive body (Contains ends) x p
 
 -- What is reached are such stretches; the ends are among it, and so is what goes on to the low points looked at.
@@ -27,13 +27,13 @@ pub record Searching (body : BodyText) (x turn : ℕ) (ends first tops marks hei
   pub more : ReachesMore (λ low p. IsLiveStretch body x ends low p) turn first tops [] marks heights lows
   pub found : AreFound marks heights turn lows
   pub within : place ≤ length lows
-  pub begun : (p : ℕ) → Contains ends p → IsReached marks heights turn p
+  pub begun : (p : ℕ) → Contains ends p → IsUnderNewMark marks heights turn p
   pub closed : (k : ℕ) → k < place → (q : ℕ) → GoesOnUndefined body x q (slice_index lows k)
-      → IsReached marks heights turn q
+      → IsUnderNewMark marks heights turn q
 
 module _ (body : BodyText) (x turn : ℕ) (ends first tops starts definitions : List ℕ)
     (all : (k : ℕ) → k < length ends → slice_index ends k < length body.points)
-    (fresh : (p : ℕ) → slice_index first p < turn) (are : AreStarts (GoesOn body) (length body.points) starts)
+    (fresh : (p : ℕ) → slice_index first p < turn) (are : HaveStarts (IsFollowedBy body) (length body.points) starts)
     (defined : AreDefinitions body x definitions) where
   ends_within : (p : ℕ) → Contains ends p → p < length body.points
   ends_within = at_each (λ p. p < length body.points) ends all
@@ -52,14 +52,14 @@ module _ (body : BodyText) (x turn : ℕ) (ends first tops starts definitions : 
   pub search_first : (marks heights lows : List ℕ)
       → ReachesMore (λ low p. Contains ends p × IsLow (slice_index starts p) definitions p low) turn first tops
       [] marks heights lows → AreFound marks heights turn lows
-      → ((k : ℕ) → k < length ends → IsReached marks heights turn (slice_index ends k))
+      → ((k : ℕ) → k < length ends → IsUnderNewMark marks heights turn (slice_index ends k))
       → Searching body x turn ends first tops marks heights lows 0
   search_first marks heights lows put found covers = record {
     more = reaches_weaker _ (λ low p. IsLiveStretch body x ends low p) turn first tops [] marks heights lows
         (λ low p c. stretch low p (live_end body (Contains ends) x p c.0) c.1) put;
     found = found;
     within = omega arith;
-    begun = at_each (IsReached marks heights turn) ends covers;
+    begun = at_each (IsUnderNewMark marks heights turn) ends covers;
     closed = λ k h. absurd (omega arith);
   }
 
@@ -77,7 +77,7 @@ module _ (body : BodyText) (x turn : ℕ) (ends first tops starts definitions : 
       → ReachesMore (λ low p. GoesOnUndefined body x p (slice_index lows place)
       × IsLow (slice_index starts p) definitions p low) turn marks heights lows next raised longer
       → AreFound next raised turn longer
-      → ((p : ℕ) → GoesOnUndefined body x p (slice_index lows place) → IsReached next raised turn p)
+      → ((p : ℕ) → GoesOnUndefined body x p (slice_index lows place) → IsUnderNewMark next raised turn p)
       → Searching body x turn ends first tops next raised longer (place + 1)
   search_step marks heights lows place next raised longer h s put found covers =
       let here = marked_stretch marks heights lows place s (slice_index lows place) (s.found.marked place h) in
@@ -91,7 +91,8 @@ module _ (body : BodyText) (x turn : ℕ) (ends first tops starts definitions : 
         within = omega (arith, put.longer);
         begun = λ p c. reached_kept _ turn marks heights lows next raised longer put p (s.begun p c);
         closed =
-            below_more (λ k. (q : ℕ) → GoesOnUndefined body x q (slice_index longer k) → IsReached next raised turn q)
+            below_more (λ k. (q : ℕ) → GoesOnUndefined body x q (slice_index longer k)
+            → IsUnderNewMark next raised turn q)
             place
             (λ k b q c. reached_kept _ turn marks heights lows next raised longer put q
             (s.closed k b q (subst (GoesOnUndefined body x q) (put.front k (omega arith)) c)))
@@ -105,8 +106,8 @@ module _ (body : BodyText) (x turn : ℕ) (ends first tops starts definitions : 
         marked_stretch marks heights lows place s low (at_each (IsMarked marks turn) lows s.found.marked low c)
 
     -- what goes on to a point that is reached, and doesn't define the variable, is reached
-    reached_before : (q r : ℕ) → IsReached marks heights turn r → GoesOnUndefined body x q r
-        → IsReached marks heights turn q
+    reached_before : (q r : ℕ) → IsUnderNewMark marks heights turn r → GoesOnUndefined body x q r
+        → IsUnderNewMark marks heights turn q
     reached_before q r m step = ⊎_elim
         (λ above.
         let next : q + 1 ≡ r = ((marked_stretch marks heights lows place s m.0 m.1).chain r above m.3 q).0 step.1 in
@@ -117,11 +118,12 @@ module _ (body : BodyText) (x turn : ℕ) (ends first tops starts definitions : 
         s.closed at.0 (omega (arith, at.1, done)) q (subst (GoesOnUndefined body x q) (sym (at.2 ∙ is)) step))
         (cases_lt m.0 r)
 
-    pub search_last : (p : ℕ) → IsCovered heights lows p ↔ IsLive body (Contains ends) x p
+    pub search_last : (p : ℕ) → IsUnderMark heights lows p ↔ IsLive body (Contains ends) x p
     search_last p = (
       λ c. (stretch_at c.0 c.1).live p c.2 c.3,
       λ live.
-          let r = live_inside body (Contains ends) x (IsReached marks heights turn) s.begun reached_before p live in
+          let r = live_inside body (Contains ends) x (IsUnderNewMark marks heights turn) s.begun reached_before p live
+          in
           (r.0, contains_at lows r.0 (s.found.listed r.0 r.1), r.2, r.3),
     )
 
@@ -133,7 +135,7 @@ module _ (body : BodyText) (x turn : ℕ) (ends first tops starts definitions : 
 module _ (body : BodyText) (graph : Graph) (shown : IsGraphOf body graph) (q : ℕ) (points : List ℕ)
     (each : (p : ℕ) → Contains points p ↔ IsNext graph p q) where
   -- they are those that go on to it
-  pub going_on : (p : ℕ) → Contains points p ↔ GoesOn body p q
+  pub going_on : (p : ℕ) → Contains points p ↔ IsFollowedBy body p q
   going_on p = (λ h. (shown.next p q).0 ((each p).0 h), λ h. (each p).1 ((shown.next p q).1 h))
 
   -- they are points

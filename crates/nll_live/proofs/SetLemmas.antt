@@ -10,8 +10,8 @@ use Rattle.nll_sets.specs.declared.run.Run.{Run}
 use Rattle.nll_body.specs.Bodies.{BodyText}
 use Rattle.nll_live.specs.Live.{IsLive}
 use Rattle.nll_live.specs.Gathering.{IsListed, AreListed}
-use Rattle.nll_live.specs.LiveSets.{IsIn, AreSetsOf}
-use Rattle.nll_live.specs.Marks.{IsCovered}
+use Rattle.nll_live.specs.LiveSets.{IsInSet, AreSetsOf}
+use Rattle.nll_live.specs.Marks.{IsUnderMark}
 use Rattle.nll_live.proofs.GatheringLemmas.{contains_none}
 use Rattle.nll_live.proofs.WalkLemmas.{live_same}
 
@@ -29,7 +29,7 @@ on_ok (Err e) P Q f h = tt
 -- The set has what the first n of the points cover.
 pub record Covers (heights lows : List ℕ) (n width : ℕ) (flags : List Bool) : Type 0 where
   pub wide : length flags ≡ width
-  pub each : (p : ℕ) → (flag flags p ≡ true) ↔ IsCovered heights (take n lows) p
+  pub each : (p : ℕ) → (flag flags p ≡ true) ↔ IsUnderMark heights (take n lows) p
 
 pub covers_first : (heights lows : List ℕ) (width : ℕ) → Covers heights lows 0 width (replicate width false)
 covers_first heights lows width = record {
@@ -81,7 +81,7 @@ covers_step heights lows n width old new run within first last h f =
 pub record AreSetsUpTo (width : ℕ) (holds : ℕ → ℕ → Type 0) (n : ℕ) (sets : List (List Bool)) : Type 0 where
   pub counted : length sets ≡ n
   pub wide : (x : ℕ) → x < n → length (slice_index_or sets x []) ≡ width
-  pub each : (x p : ℕ) → x < n → IsIn sets x p ↔ holds x p
+  pub each : (x p : ℕ) → x < n → IsInSet sets x p ↔ holds x p
 
 pub sets_step : (width : ℕ) (holds : ℕ → ℕ → Type 0) (n : ℕ) (sets : List (List Bool)) (new : List Bool)
     → AreSetsUpTo width holds n sets → length new ≡ width → ((p : ℕ) → (flag new p ≡ true) ↔ holds n p)

@@ -7,8 +7,8 @@ use Rattle.nll_problem.specs.BaseRuns.{IsInBaseRun, IsInBaseRuns}
 use Rattle.nll_problem.specs.declared.base_run.BaseRun.{BaseRun}
 
 -- the runs got exactly what this says
-abbrev pub Gains : (ℕ → ℕ → Type 0) → List BaseRun → List BaseRun → Type 0
-Gains kind old new = (r p : ℕ) → IsInBaseRuns new r p ↔ (IsInBaseRuns old r p ⊎ kind r p)
+abbrev pub GainsRuns : (ℕ → ℕ → Type 0) → List BaseRun → List BaseRun → Type 0
+GainsRuns kind old new = (r p : ℕ) → IsInBaseRuns new r p ↔ (IsInBaseRuns old r p ⊎ kind r p)
 
 -- how runs compare
 abbrev pub base_run_cmp : BaseRun → BaseRun → Ordering

@@ -11,7 +11,7 @@ abbrev pub IsChain : (ℕ → ℕ → Type 0) → ℕ → ℕ → Type 0
 IsChain goes_on first last = (q : ℕ) → first < q → q ≤ last → FollowsAlone goes_on q
 
 -- Each of the first n points has a start, not after it, from which a chain leads to it.
-pub record AreStarts (goes_on : ℕ → ℕ → Type 0) (n : ℕ) (starts : List ℕ) : Type 0 where
+pub record HaveStarts (goes_on : ℕ → ℕ → Type 0) (n : ℕ) (starts : List ℕ) : Type 0 where
   pub counted : length starts ≡ n
   pub before : (p : ℕ) → p < n → slice_index starts p ≤ p
   pub chain : (p : ℕ) → p < n → IsChain goes_on (slice_index starts p) p

@@ -14,12 +14,12 @@ KeepsAt Use body x p = UsesAt body x p
 KeepsAt Drop body x p = DropsAt body x p
 
 -- r occurs in the type, or is a drop region of it
-abbrev pub IsWanted : Kind → BodyText → TypeTree → ℕ → Type 0
-IsWanted Use body t r = HasRegion t r
-IsWanted Drop body t r = IsDropRegion body.structs t r
+abbrev pub IsWantedOfType : Kind → BodyText → TypeTree → ℕ → Type 0
+IsWantedOfType Use body t r = HasRegion t r
+IsWantedOfType Drop body t r = IsDropRegion body.structs t r
 
 -- x is live at p, by uses or by drops, and asks for r there
 abbrev pub AsksFor : Kind → BodyText → ℕ → ℕ → ℕ → Type 0
 AsksFor kind body x r p =
     (t : TypeTree) × HasType body x t × IsLive body (KeepsAt kind body x) x p
-    × IsWanted kind body t r
+    × IsWantedOfType kind body t r

@@ -7,7 +7,7 @@ use Rattle.nll_types.specs.Types.{TypeTree, HasRegion}
 use Rattle.nll_types.specs.DropRegions.{IsDropRegion}
 use Rattle.nll_body.specs.Statements.{Statement}
 use Rattle.nll_body.specs.Effects.{Uses, Defines, DropsVariable}
-use Rattle.nll_body.specs.Bodies.{BodyText, HasType, StandsAt, GoesOn}
+use Rattle.nll_body.specs.Bodies.{BodyText, HasType, StandsAt, IsFollowedBy}
 
 -- ---- what is at a point
 
@@ -27,7 +27,7 @@ DefinesAt body x p = (i : Statement ℕ TypeTree) × StandsAt body p i × Define
 
 -- q may come after p, and p doesn't define x
 abbrev pub GoesOnUndefined : BodyText → ℕ → ℕ → ℕ → Type 0
-GoesOnUndefined body x p q = (DefinesAt body x p → ⊥) × GoesOn body p q
+GoesOnUndefined body x p q = (DefinesAt body x p → ⊥) × IsFollowedBy body p q
 
 -- a walk of points leads from p to one of these points, and no point of it before the last defines
 -- x

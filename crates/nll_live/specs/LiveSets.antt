@@ -11,8 +11,8 @@ pub record LiveSets : Type 0 where
   pub drops : List (List Bool)
 
 -- the set of x has p
-abbrev pub IsIn : List (List Bool) → ℕ → ℕ → Type 0
-IsIn sets x p = flag (slice_index_or sets x []) p ≡ true
+abbrev pub IsInSet : List (List Bool) → ℕ → ℕ → Type 0
+IsInSet sets x p = flag (slice_index_or sets x []) p ≡ true
 
 -- There is a set for each variable, of as many points as there are, and it has the points of which
 -- this holds.
@@ -21,7 +21,7 @@ pub record AreSetsOf (body : BodyText) (holds : ℕ → ℕ → Type 0) (sets : 
     pub counted : length sets ≡ length body.variables
     pub width :
         (x : ℕ) → x < length sets → length (slice_index_or sets x []) ≡ length body.points
-    pub each : (x p : ℕ) → x < length sets → IsIn sets x p ↔ holds x p
+    pub each : (x p : ℕ) → x < length sets → IsInSet sets x p ↔ holds x p
 
 -- The sets are those of the body.
 pub record AreLiveSets (body : BodyText) (sets : LiveSets) : Type 0 where

@@ -2,9 +2,9 @@
 -- private contracts cite this file.
 use Rattle.std.specs.Prelude.{◌≡◌, ◌↔◌, ℕ, ◌<◌, ◌≤◌, List, length, AllPairs, Contains}
 use Rattle.nll_problem.specs.Rows.{row_at}
-use Rattle.nll_body.specs.Bodies.{BodyText, GoesOn}
+use Rattle.nll_body.specs.Bodies.{BodyText, IsFollowedBy}
 use Rattle.nll_live.specs.Live.{DefinesAt}
-use Rattle.nll_live.specs.Chains.{AreStarts}
+use Rattle.nll_live.specs.Chains.{HaveStarts}
 
 -- The list has exactly the points that define x, ascending.
 pub record AreDefinitions (body : BodyText) (x : ℕ) (definitions : List ℕ) : Type 0 where
@@ -18,7 +18,7 @@ pub record AreDefined (body : BodyText) (lists : List (List ℕ)) : Type 0 where
 
 -- The starts are of the points of the body, and the lists of what defines its variables.
 pub record AreWays (body : BodyText) (starts : List ℕ) (lists : List (List ℕ)) : Type 0 where
-  pub chains : AreStarts (GoesOn body) (length body.points) starts
+  pub chains : HaveStarts (IsFollowedBy body) (length body.points) starts
   pub defined : AreDefined body lists
 
 -- The number isn't before the start, nor after p, and no point from it up to p is a definition.

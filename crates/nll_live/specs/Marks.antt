@@ -12,13 +12,13 @@ abbrev pub unmarked : List ℕ → ℕ → ℕ
 unmarked marks turn = sum_by (λ m. if m == turn then 0 else 1) marks
 
 -- p lies between one of these points and its height
-abbrev pub IsCovered : List ℕ → List ℕ → ℕ → Type 0
-IsCovered heights lows p =
+abbrev pub IsUnderMark : List ℕ → List ℕ → ℕ → Type 0
+IsUnderMark heights lows p =
     (low : ℕ) × Contains lows low × (low ≤ p) × (p ≤ slice_index heights low)
 
 -- p lies between a point that was marked in this turn and its height
-abbrev pub IsReached : List ℕ → List ℕ → ℕ → ℕ → Type 0
-IsReached marks heights turn p =
+abbrev pub IsUnderNewMark : List ℕ → List ℕ → ℕ → ℕ → Type 0
+IsUnderNewMark marks heights turn p =
     (low : ℕ) × IsMarked marks turn low × (low ≤ p) × (p ≤ slice_index heights low)
 
 -- The list has the marked points and no others, and each point has a height.

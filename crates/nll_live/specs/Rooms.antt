@@ -1,11 +1,11 @@
 -- What a search has in its room. Source: project's choice. Only private contracts cite this file.
 use Rattle.std.specs.Prelude.{ℕ}
-use Rattle.nll_live.specs.Marks.{AreFound, IsReached, ReachesMore}
+use Rattle.nll_live.specs.Marks.{AreFound, IsUnderNewMark, ReachesMore}
 use Rattle.nll_live.specs.declared.search.Room.{Room}
 
 -- the search has reached p in this turn
 abbrev pub HasReached : Room → ℕ → ℕ → Type 0
-HasReached room turn p = IsReached room.marks.items room.heights.items turn p
+HasReached room turn p = IsUnderNewMark room.marks.items room.heights.items turn p
 
 -- the points of the room are those that were marked in this turn
 abbrev pub HasFound : Room → ℕ → Type 0

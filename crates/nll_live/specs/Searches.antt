@@ -1,7 +1,7 @@
 -- What searches backwards go by. Source: project's choice. Only private contracts cite this file.
 use Rattle.std.specs.Prelude.{ℕ, length, map, slice_index}
-use Rattle.nll_body.specs.Bodies.{GoesOn, IsGraphOf}
-use Rattle.nll_live.specs.Chains.{AreStarts}
+use Rattle.nll_body.specs.Bodies.{IsFollowedBy, IsGraphOf}
+use Rattle.nll_live.specs.Chains.{HaveStarts}
 use Rattle.nll_live.specs.Lows.{AreDefinitions, AreWays, IsLow}
 use Rattle.nll_live.specs.declared.search.Search.{Search}
 use Rattle.nll_live.specs.declared.ways.Ways.{Ways}
@@ -10,7 +10,7 @@ use Rattle.nll_live.specs.declared.ways.Ways.{Ways}
 -- of the variable.
 pub record IsSearch (s : Search) : Type 0 where
   pub shown : IsGraphOf s.body.now s.previous.now
-  pub starts : AreStarts (GoesOn s.body.now) (length s.body.now.points) s.starts.now
+  pub starts : HaveStarts (IsFollowedBy s.body.now) (length s.body.now.points) s.starts.now
   pub definitions : AreDefinitions s.body.now s.variable s.definitions.now
 
 -- The predecessors are those of the body, and so are the starts of chains and the definitions of

@@ -7,7 +7,7 @@ ghost use Rattle.std.specs.List.Sorted.{IsSorted};
 ghost use Rattle.nll_problem.specs.Problem.{IsEarlier};
 ghost use Rattle.nll_sets.specs.Runs.{IsInRuns, last_of};
 ghost use Rattle.nll_problem.specs.BaseRuns.{IsInBaseRuns};
-ghost use Rattle.nll_live.specs.BaseRuns.{AreSmall, Gains, GetsPoints, base_run_cmp};
+ghost use Rattle.nll_live.specs.BaseRuns.{AreSmall, GainsRuns, GetsPoints, base_run_cmp};
 
 use nll_problem::{BaseRun, RegionId};
 use nll_sets::{Memory, Run};
@@ -20,7 +20,7 @@ pub(crate) fn push_all(
     runs: &[Run],
 ) -> Result<(), Memory>
     requires { (k : ℕ) → k < length runs.now → last_of runs.now k < 2 ^ 32 - 1 }
-    ensures { OnOk result (Gains (λ r p. Contains regions.now r × IsInRuns runs.now p)
+    ensures { OnOk result (GainsRuns (λ r p. Contains regions.now r × IsInRuns runs.now p)
         base_runs.old.items base_runs.new.items) }
 {
     for region in regions {
@@ -32,7 +32,7 @@ pub(crate) fn push_all(
 // Like `push_all`, for one region.
 fn push_runs(base_runs: &mut Vec<BaseRun>, region: RegionId, runs: &[Run]) -> Result<(), Memory>
     requires { (k : ℕ) → k < length runs.now → last_of runs.now k < 2 ^ 32 - 1 }
-    ensures { OnOk result (Gains (λ r p. (region ≡ r) × IsInRuns runs.now p)
+    ensures { OnOk result (GainsRuns (λ r p. (region ≡ r) × IsInRuns runs.now p)
         base_runs.old.items base_runs.new.items) }
 {
     for run in runs {
@@ -56,13 +56,8 @@ pub(crate) fn pairs_of(
 {
     base_runs.sort_unstable();
     let mut pairs = Vec::new(alloc);
-    match push_pairs(&mut pairs, base_runs.as_slice()) {
-        Ok(()) => Ok(pairs),
-        Err(memory) => {
-            drop(pairs);
-            Err(memory)
-        }
-    }
+    push_pairs(&mut pairs, base_runs.as_slice())?;
+    Ok(pairs)
 }
 
 // Writes the pairs of runs, which are sorted, into an empty list.

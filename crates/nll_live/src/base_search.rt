@@ -4,13 +4,12 @@
 ghost use Rattle.std.specs.Prelude.{◌≡◌, ◌↔◌, ◌+◌, ◌^◌, ◌<◌, ◌≤◌, ℕ, [], length, map, slice_index};
 ghost use Rattle.std.specs.Prelude.{Contains, IfOk, OnOk};
 ghost use Rattle.nll_body.specs.Bodies.{IsGraphOf};
-ghost use Rattle.nll_body.specs.Sound.{IsSound};
 ghost use Rattle.nll_live.specs.Gathering.{AreListed};
 ghost use Rattle.nll_live.specs.Kinds.{AsksFor, KeepsAt};
 ghost use Rattle.nll_live.specs.Live.{IsBaseOf, IsLive};
 ghost use Rattle.nll_live.specs.Searches.{AreOfBody};
 ghost use Rattle.nll_problem.specs.BaseRuns.{IsInBaseRuns};
-ghost use Rattle.nll_live.specs.BaseRuns.{Gains};
+ghost use Rattle.nll_live.specs.BaseRuns.{GainsRuns};
 
 use crate::base_runs::push_all;
 use crate::kind::Kind;
@@ -49,33 +48,18 @@ pub fn live_runs(alloc: Global, body: &Body) -> Result<Vec<BaseRun>, Memory>
     ensures within { IfOk result (λ v. (r p : ℕ) → IsInBaseRuns v.items r p
         → (r < length body.now.names) × (p < length body.now.points)) }
 {
-    let mut runs = Vec::new(alloc);
-    match push_live(alloc, body, &mut runs) {
-        Ok(()) => Ok(runs),
-        Err(memory) => {
-            drop(runs);
-            Err(memory)
-        }
-    }
-}
-
-// Writes the runs of base elements that variables ask for into an empty list.
-fn push_live(alloc: Global, body: &Body, base_runs: &mut Vec<BaseRun>) -> Result<(), Memory>
-    requires nothing { base_runs.old.items ≡ [] }
-    ensures each { OnOk result
-        ((r p : ℕ) → IsInBaseRuns base_runs.new.items r p ↔ IsBaseOf body.now r p) }
-    ensures sound { OnOk result (IsSound body.now) }
-{
     // Clause call: the body is sound.
     let _ = body.points();
+    let mut runs = Vec::new(alloc);
     let previous = Predecessors::of(alloc, body.graph())?;
-    let told = push_over(alloc, body, &previous, base_runs);
+    let told = push_over(alloc, body, &previous, &mut runs);
     // Early drop.
     drop(previous);
-    told
+    told?;
+    Ok(runs)
 }
 
-// Ladder: like `push_live`, given the predecessors of the body's points.
+// Ladder: writes the runs into an empty list, given the predecessors of the body's points.
 fn push_over(
     alloc: Global,
     body: &Body,
@@ -94,7 +78,7 @@ fn push_over(
     told
 }
 
-// Ladder: like `push_live`, given what searches in the body go by.
+// Ladder: like `push_over`, given what searches in the body go by.
 fn push_both(alloc: Global, ways: &Ways<'_>, base_runs: &mut Vec<BaseRun>) -> Result<(), Memory>
     requires ways { AreOfBody ways.now }
     requires nothing { base_runs.old.items ≡ [] }
@@ -114,7 +98,7 @@ fn push_kind(
     base_runs: &mut Vec<BaseRun>,
 ) -> Result<(), Memory>
     requires ways { AreOfBody ways.now }
-    ensures { OnOk result (Gains (λ r p. (x : ℕ) × AsksFor kind ways.now.body.now x r p)
+    ensures { OnOk result (GainsRuns (λ r p. (x : ℕ) × AsksFor kind ways.now.body.now x r p)
         base_runs.old.items base_runs.new.items) }
 {
     let lists = kind.points_by_variable(alloc, ways.body)?;
@@ -136,7 +120,7 @@ fn push_each(
     requires listed { AreListed (length ways.now.body.now.variables)
         (KeepsAt kind ways.now.body.now) (length ways.now.body.now.points)
         (map (λ list. list.items) lists.now) }
-    ensures { OnOk result (Gains (λ r p. (x : ℕ) × AsksFor kind ways.now.body.now x r p)
+    ensures { OnOk result (GainsRuns (λ r p. (x : ℕ) × AsksFor kind ways.now.body.now x r p)
         base_runs.old.items base_runs.new.items) }
 {
     let mut room = Room::of(alloc, ways.body.points())?;
@@ -171,7 +155,7 @@ fn push_found(
     requires tall { length room.old.heights.items ≡ length ways.now.body.now.points }
     requires fresh { (p : ℕ) → slice_index room.old.marks.items p ≤ asking.now.variable }
     ensures gains { OnOk result
-        (Gains (λ r p. Contains asking.now.regions.now r
+        (GainsRuns (λ r p. Contains asking.now.regions.now r
         × IsLive ways.now.body.now (Contains asking.now.points.now) asking.now.variable p)
         base_runs.old.items base_runs.new.items) }
     ensures width { OnOk result (length room.new.marks.items ≡ length ways.now.body.now.points) }

@@ -3,7 +3,7 @@
 
 ghost use Rattle.std.specs.Prelude.{◌≡◌, ◌<◌, ◌≤◌, IfOk};
 ghost use Rattle.nll_problem.specs.Graph.{IsNext};
-ghost use Rattle.nll_live.specs.Chains.{AreStarts, IsChain};
+ghost use Rattle.nll_live.specs.Chains.{HaveStarts, IsChain};
 
 use nll_problem::Predecessors;
 use nll_sets::Memory;
@@ -19,7 +19,7 @@ pub(crate) fn chain_starts(
     points: u32,
 ) -> Result<Vec<u32>, Memory>
     requires { points ≡ previous.now.points }
-    ensures { IfOk result (λ starts. AreStarts (IsNext previous.now) points starts.items) }
+    ensures { IfOk result (λ starts. HaveStarts (IsNext previous.now) points starts.items) }
 {
     let mut starts = Vec::with_capacity(alloc, points as usize)?;
     for point in 0..points {
@@ -32,7 +32,7 @@ pub(crate) fn chain_starts(
 // The first point of the chain of a point. The starts are of the points before it.
 fn start_of(previous: &Predecessors<'_>, starts: &[u32], point: u32) -> u32
     requires point { point < previous.now.points }
-    requires starts { AreStarts (IsNext previous.now) point starts.now }
+    requires starts { HaveStarts (IsNext previous.now) point starts.now }
     ensures before { result ≤ point }
     ensures chain { IsChain (IsNext previous.now) result point }
 {

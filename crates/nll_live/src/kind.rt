@@ -4,7 +4,7 @@ ghost use Rattle.std.specs.Prelude.{◌↔◌, ◌<◌, ℕ, length, map, Contai
 ghost use Rattle.nll_types.specs.Types.{TypeTree};
 ghost use Rattle.nll_body.specs.Bodies.{HasType};
 ghost use Rattle.nll_live.specs.Gathering.{AreListed};
-ghost use Rattle.nll_live.specs.Kinds.{IsWanted, KeepsAt};
+ghost use Rattle.nll_live.specs.Kinds.{IsWantedOfType, KeepsAt};
 
 use crate::points_by_variable::{drops_by_variable, uses_by_variable};
 use nll_body::Body;
@@ -46,7 +46,7 @@ impl Kind {
     ) -> Result<Vec<RegionId>, Memory>
         requires { variable < length body.now.variables }
         ensures { IfOk result (λ v. (t : TypeTree) → HasType body.now variable t
-            → (r : ℕ) → Contains v.items r ↔ IsWanted self body.now t r) }
+            → (r : ℕ) → Contains v.items r ↔ IsWantedOfType self body.now t r) }
     {
         match self {
             Kind::Use => body.var_regions(alloc, variable),

@@ -1,6 +1,6 @@
 //! Where the variables of a body are live.
 
-ghost use Rattle.std.specs.Prelude.{◌≡◌, ◌↔◌, ◌+◌, ◌<◌, ◌≤◌, ℕ, [], length, map, slice_index, true};
+ghost use Rattle.std.specs.Prelude.{◌≡◌, ◌↔◌, ◌+◌, ◌<◌, ◌≤◌, ℕ, length, map, slice_index, true};
 ghost use Rattle.std.specs.Prelude.{Contains, IfOk, OnOk};
 ghost use Rattle.nll_body.specs.Bodies.{IsGraphOf};
 ghost use Rattle.nll_sets.specs.ElementSet.{flag};
@@ -8,7 +8,7 @@ ghost use Rattle.nll_live.specs.Gathering.{IsListed};
 ghost use Rattle.nll_live.specs.Kinds.{KeepsAt};
 ghost use Rattle.nll_live.specs.Live.{IsLive};
 ghost use Rattle.nll_live.specs.LiveSets.{AreLiveSets, AreSetsOf};
-ghost use Rattle.nll_live.specs.Marks.{IsCovered};
+ghost use Rattle.nll_live.specs.Marks.{IsUnderMark};
 ghost use Rattle.nll_live.specs.Searches.{AreOfBody};
 
 use crate::kind::Kind;
@@ -60,13 +60,8 @@ fn both_sets(alloc: Global, ways: &Ways<'_>) -> Result<LiveSets, Memory>
     ensures { IfOk result (AreLiveSets ways.now.body.now) }
 {
     let uses = sets_of(alloc, ways, Kind::Use)?;
-    match sets_of(alloc, ways, Kind::Drop) {
-        Ok(drops) => Ok(LiveSets::of(uses, drops)),
-        Err(memory) => {
-            drop(uses);
-            Err(memory)
-        }
-    }
+    let drops = sets_of(alloc, ways, Kind::Drop)?;
+    Ok(LiveSets { uses, drops })
 }
 
 // For each variable the points where this keeps it live.
@@ -94,44 +89,12 @@ fn live_sets(alloc: Global, ways: &Ways<'_>, lists: &[Vec<u32>]) -> Result<Vec<R
 {
     let mut room = Room::of(alloc, ways.body.points())?;
     let mut sets = Vec::new(alloc);
-    let told = find_sets(alloc, ways, lists, &mut room, &mut sets);
-    // Early drop.
-    drop(room);
-    match told {
-        Ok(()) => Ok(sets),
-        Err(memory) => {
-            drop(sets);
-            Err(memory)
-        }
-    }
-}
-
-// Writes the sets into an empty list. The room's marks are of no turn.
-fn find_sets(
-    alloc: Global,
-    ways: &Ways<'_>,
-    lists: &[Vec<u32>],
-    room: &mut Room,
-    sets: &mut Vec<RunSet>,
-) -> Result<(), Memory>
-    requires ways { AreOfBody ways.now }
-    requires counted { length lists.now ≡ length ways.now.body.now.variables }
-    requires points { (x p : ℕ) → IsListed (map (λ list. list.items) lists.now) x p
-        → p < length ways.now.body.now.points }
-    requires width { length room.old.marks.items ≡ length ways.now.body.now.points }
-    requires tall { length room.old.heights.items ≡ length ways.now.body.now.points }
-    requires fresh { (p : ℕ) → slice_index room.old.marks.items p ≤ 0 }
-    requires nothing { sets.old.items ≡ [] }
-    ensures { OnOk result (AreSetsOf ways.now.body.now
-        (λ x. IsLive ways.now.body.now (IsListed (map (λ list. list.items) lists.now) x) x)
-        sets.new.items) }
-{
     for variable in 0..ways.body.variables() {
         let list = lists[variable].as_slice();
-        let set = find_set(alloc, ways, variable as u32, list, room)?;
+        let set = find_set(alloc, ways, variable as u32, list, &mut room)?;
         sets.push(set)?;
     }
-    Ok(())
+    Ok(sets)
 }
 
 /// The points from which one of the list is reachable, for a variable. The room's marks are of
@@ -177,10 +140,10 @@ pub(crate) fn find_set(
 fn set_of(alloc: Global, points: u32, heights: &[u32], lows: &[u32]) -> Result<RunSet, Memory>
     requires tall { length heights.now ≡ points }
     requires proper { (low : ℕ) → Contains lows.now low → low ≤ slice_index heights.now low }
-    requires within { (p : ℕ) → IsCovered heights.now lows.now p → p < points }
+    requires within { (p : ℕ) → IsUnderMark heights.now lows.now p → p < points }
     ensures width { IfOk result (λ set. length set ≡ points) }
     ensures each { IfOk result (λ set. (p : ℕ)
-        → (flag set p ≡ true) ↔ IsCovered heights.now lows.now p) }
+        → (flag set p ≡ true) ↔ IsUnderMark heights.now lows.now p) }
 {
     let mut set = RunSet::empty(alloc, points)?;
     for low in lows {

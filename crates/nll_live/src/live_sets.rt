@@ -1,7 +1,7 @@
 //! Where each variable is live.
 
 ghost use Rattle.std.specs.Prelude.{◌≡◌, ◌↔◌, ◌<◌, [], length, slice_index_or, IsTrue};
-ghost use Rattle.nll_live.specs.LiveSets.{IsIn};
+ghost use Rattle.nll_live.specs.LiveSets.{IsInSet};
 
 use nll_sets::{Element, ElementSet, RunSet};
 use std::marker::Model;
@@ -12,8 +12,8 @@ use std::marker::Model;
 /// A set is kept as the runs of its points, eight bytes each (not proved).
 #[derive(Drop)]
 pub struct LiveSets {
-    uses: Vec<RunSet>,
-    drops: Vec<RunSet>,
+    pub(crate) uses: Vec<RunSet>,
+    pub(crate) drops: Vec<RunSet>,
 }
 
 impl Model for LiveSets {
@@ -25,19 +25,11 @@ impl Model for LiveSets {
 }
 
 impl LiveSets {
-    // The sets of use-live points, and of drop-live ones.
-    pub(crate) fn of(uses: Vec<RunSet>, drops: Vec<RunSet>) -> LiveSets
-        ensures uses { result.uses ≡ uses.items }
-        ensures drops { result.drops ≡ drops.items }
-    {
-        LiveSets { uses, drops }
-    }
-
     /// Whether a variable is use-live at a point.
     pub fn use_live(&self, variable: u32, point: u32) -> bool
         requires variable { variable < length self.now.uses }
         requires point { point < length (slice_index_or self.now.uses variable []) }
-        ensures { IsTrue result ↔ IsIn self.now.uses variable point }
+        ensures { IsTrue result ↔ IsInSet self.now.uses variable point }
     {
         self.uses[variable as usize].has(Element(point))
     }
@@ -46,7 +38,7 @@ impl LiveSets {
     pub fn drop_live(&self, variable: u32, point: u32) -> bool
         requires variable { variable < length self.now.drops }
         requires point { point < length (slice_index_or self.now.drops variable []) }
-        ensures { IsTrue result ↔ IsIn self.now.drops variable point }
+        ensures { IsTrue result ↔ IsInSet self.now.drops variable point }
     {
         self.drops[variable as usize].has(Element(point))
     }

@@ -16,16 +16,12 @@ pub(crate) fn uses_by_variable(alloc: Global, body: &Body) -> Result<Vec<Vec<u32
 {
     let mut lists = empty_lists(alloc, body.variables())?;
     let mut used = Vec::new(alloc);
-    let told = list_uses(&mut lists, body, &mut used);
-    // Early drop.
-    drop(used);
-    match told {
-        Ok(()) => Ok(lists),
-        Err(memory) => {
-            drop(lists);
-            Err(memory)
-        }
+    for point in 0..body.points() {
+        used.clear();
+        body.uses(point, &mut used)?;
+        list_at_all(&mut lists, used.as_slice(), point)?;
     }
+    Ok(lists)
 }
 
 /// For each variable the points that drop it.
@@ -34,13 +30,13 @@ pub(crate) fn drops_by_variable(alloc: Global, body: &Body) -> Result<Vec<Vec<u3
         (length body.now.points) (map (λ list. list.items) lists.items)) }
 {
     let mut lists = empty_lists(alloc, body.variables())?;
-    match list_drops(&mut lists, body) {
-        Ok(()) => Ok(lists),
-        Err(memory) => {
-            drop(lists);
-            Err(memory)
-        }
+    for point in 0..body.points() {
+        let Some(variable) = body.drops(point) else {
+            continue;
+        };
+        list_at(&mut lists, variable, point)?;
     }
+    Ok(lists)
 }
 
 /// For each variable the points that define it, ascending.
@@ -48,13 +44,13 @@ pub(crate) fn definitions_by_variable(alloc: Global, body: &Body) -> Result<Vec<
     ensures { IfOk result (λ lists. AreDefined body.now (map (λ list. list.items) lists.items)) }
 {
     let mut lists = empty_lists(alloc, body.variables())?;
-    match list_definitions(&mut lists, body) {
-        Ok(()) => Ok(lists),
-        Err(memory) => {
-            drop(lists);
-            Err(memory)
-        }
+    for point in 0..body.points() {
+        let Some(variable) = body.defines(point) else {
+            continue;
+        };
+        list_at(&mut lists, variable, point)?;
     }
+    Ok(lists)
 }
 
 // This many empty lists.
@@ -66,49 +62,6 @@ fn empty_lists(alloc: Global, count: usize) -> Result<Vec<Vec<u32>>, Memory>
         lists.push(Vec::new(alloc))?;
     }
     Ok(lists)
-}
-
-// Adds each point to the lists of the variables that it uses. The second list is scratch space.
-fn list_uses(lists: &mut Vec<Vec<u32>>, body: &Body, used: &mut Vec<u32>) -> Result<(), Memory>
-    requires { map (λ list. list.items) lists.old.items ≡ replicate (length body.now.variables) [] }
-    ensures { OnOk result (AreListed (length body.now.variables) (UsesAt body.now)
-        (length body.now.points) (map (λ list. list.items) lists.new.items)) }
-{
-    for point in 0..body.points() {
-        used.clear();
-        body.uses(point, used)?;
-        list_at_all(lists, used.as_slice(), point)?;
-    }
-    Ok(())
-}
-
-// Adds each point to the list of the variable that it drops.
-fn list_drops(lists: &mut Vec<Vec<u32>>, body: &Body) -> Result<(), Memory>
-    requires { map (λ list. list.items) lists.old.items ≡ replicate (length body.now.variables) [] }
-    ensures { OnOk result (AreListed (length body.now.variables) (DropsAt body.now)
-        (length body.now.points) (map (λ list. list.items) lists.new.items)) }
-{
-    for point in 0..body.points() {
-        let Some(variable) = body.drops(point) else {
-            continue;
-        };
-        list_at(lists, variable, point)?;
-    }
-    Ok(())
-}
-
-// Adds each point to the list of the variable that it defines.
-fn list_definitions(lists: &mut Vec<Vec<u32>>, body: &Body) -> Result<(), Memory>
-    requires { map (λ list. list.items) lists.old.items ≡ replicate (length body.now.variables) [] }
-    ensures { OnOk result (AreDefined body.now (map (λ list. list.items) lists.new.items)) }
-{
-    for point in 0..body.points() {
-        let Some(variable) = body.defines(point) else {
-            continue;
-        };
-        list_at(lists, variable, point)?;
-    }
-    Ok(())
 }
 
 // Adds a point to the lists of these variables.

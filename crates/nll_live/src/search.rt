@@ -9,7 +9,7 @@ ghost use Rattle.std.specs.Prelude.{◌≡◌, ◌↔◌, ◌<◌, ◌≤◌, �
 ghost use Rattle.std.specs.Prelude.{Contains, IfOk, IsTrue, OnOk, replicate};
 ghost use Rattle.nll_live.specs.Live.{DefinesAt, GoesOnUndefined, IsLive};
 ghost use Rattle.nll_live.specs.Searches.{IsLowIn, IsSearch};
-ghost use Rattle.nll_live.specs.Marks.{IsCovered};
+ghost use Rattle.nll_live.specs.Marks.{IsUnderMark};
 ghost use Rattle.nll_live.specs.Rooms.{GetsReached, HasFound, HasReached};
 
 use crate::lows::low_of;
@@ -79,7 +79,7 @@ pub(crate) fn search_back(
     ensures fresh { OnOk result ((p : ℕ) → slice_index room.new.marks.items p ≤ turn) }
     ensures proper { OnOk result ((low : ℕ) → Contains room.new.lows.items low
         → low ≤ slice_index room.new.heights.items low) }
-    ensures each { OnOk result ((p : ℕ) → IsCovered room.new.heights.items room.new.lows.items p
+    ensures each { OnOk result ((p : ℕ) → IsUnderMark room.new.heights.items room.new.lows.items p
         ↔ IsLive search.now.body.now (Contains ends.now) search.now.variable p) }
 {
     for point in ends {

@@ -33,17 +33,12 @@ impl<'b> Ways<'b> {
         ensures ways { IfOk result AreOfBody }
     {
         let starts = chain_starts(alloc, previous, body.points())?;
-        match definitions_by_variable(alloc, body) {
-            Ok(definitions) => Ok(Ways {
-                body,
-                previous,
-                starts,
-                definitions,
-            }),
-            Err(memory) => {
-                drop(starts);
-                Err(memory)
-            }
-        }
+        let definitions = definitions_by_variable(alloc, body)?;
+        Ok(Ways {
+            body,
+            previous,
+            starts,
+            definitions,
+        })
     }
 }

@@ -3,7 +3,7 @@ use Rattle.std.proofs.Common.{◌≡◌, ℕ, true, false, eqb, List, ◌∷◌,
 use Rattle.std.specs.Prelude.{codes}
 use Rattle.std.proofs.lemmas.Bool.{eq-eqb, false≢true}
 use Rattle.nll_text.specs.Tokens.{Token, word, region, sign}
-use Rattle.nll_mir_grammar.specs.WrittenTypes.{Name, WrittenType, int, reference, tuple, named, function, is_capital, spelled, HasNames}
+use Rattle.nll_mir_grammar.specs.WrittenTypes.{WrittenName, WrittenType, int, reference, tuple, named, function, is_capital, spelled, HasNames}
 
 -- the first byte of a word, or 0
 first_byte : Token → ℕ
@@ -50,6 +50,6 @@ no_closing (reference q m t) a rest e = apart 38 41 refl (let h : sign 38 ≡ si
 no_closing (tuple ts) a rest e = apart 40 41 refl (let h : sign 40 ≡ sign 41 = cc in h)
 no_closing _ a rest e = cc
 
-pub no_name_of : (t : WrittenType) (a rest : List Token) (q : Name) → spelled t ++ a ≡ region q ∷ rest → ⊥
+pub no_name_of : (t : WrittenType) (a rest : List Token) (q : WrittenName) → spelled t ++ a ≡ region q ∷ rest → ⊥
 no_name_of int a rest q e = cc
 no_name_of _ a rest q e = cc

@@ -5,9 +5,9 @@ use Rattle.std.specs.Borrow.{Bor}
 use Rattle.std.proofs.lemmas.List.{append-nil, length-append, map-append, reverse-append, take_more}
 use Rattle.std.proofs.Math.Seq.{take-length}
 use Rattle.nll_text.specs.Tokens.{Token, sign}
-use Rattle.nll_mir_grammar.specs.WrittenTypes.{Name, WrittenType, WrittenTypes, Arguments, int, reference, tuple, named, function, none, more, no_argument, type_argument}
-use Rattle.nll_mir_grammar.specs.TypeTexts.{Piece, plain, steps, part_steps, argument_steps, add_type, begin_reference, make_tuple, make_named, make_function, begin_row, joined_arguments}
-use Rattle.nll_mir_grammar.specs.OpenTypes.{Frame, behind, parts, arguments, inputs, output, joined, Steps, begun, complete, IsOpen, AreOpen, IsFitting, AreRead, ComesTo, GoesFurther, pending, Begins, IsBegun, IsCompleted, IsClosed, EndsWith}
+use Rattle.nll_mir_grammar.specs.WrittenTypes.{WrittenName, WrittenType, WrittenTypes, Arguments, int, reference, tuple, named, function, none, more, no_argument, type_argument}
+use Rattle.nll_mir_grammar.specs.TypeTexts.{Piece, plain, piece_steps, part_steps, argument_steps, add_type, begin_reference, make_tuple, make_named, make_function, begin_row, joined_arguments}
+use Rattle.nll_mir_grammar.specs.OpenTypes.{Frame, behind, parts, arguments, inputs, output, joined_types, Steps, begun, complete, IsOpen, AreOpen, IsFitting, AreRead, ComesTo, GoesFurther, pending, BeginsType, IsBegun, IsCompleted, IsInnermostClosed, EndsWith}
 use Rattle.nll_mir_grammar.specs.declared.opens.State.{State}
 use Rattle.nll_mir_grammar.specs.declared.opens.State.TheVariants.{Want, WantArgument, Have, Inside, WantArrow}
 use Rattle.nll_mir_grammar.specs.declared.fronts.Front.{Front}
@@ -28,20 +28,14 @@ one_less t ts rest e = (let l : length ts ≡ length (t ∷ rest) = ap length e 
 
 -- two less
 two_less : (t u : Token) (ts rest : List Token) → ts ≡ t ∷ u ∷ rest → length rest + 1 ≤ length ts
-two_less t u ts rest e =
-    let l = one_less t ts (u ∷ rest) e in
-    let k = one_less u (u ∷ rest) rest refl in
-    omega (arith, l, k)
+two_less t u ts rest e = grind (arith, one_less)
 
 -- three less
 three_less : (t u v : Token) (ts rest : List Token) → ts ≡ t ∷ u ∷ v ∷ rest → length rest + 1 ≤ length ts
-three_less t u v ts rest e =
-    let l = one_less t ts (u ∷ v ∷ rest) e in
-    let k = two_less u v (u ∷ v ∷ rest) rest refl in
-    omega (arith, l, k)
+three_less t u v ts rest e = grind (arith, one_less, two_less)
 
 -- A beginning of a type takes a token at least.
-begins_less : (front : Front) (ts rest : List Token) → Begins front ts rest → length rest + 1 ≤ length ts
+begins_less : (front : Front) (ts rest : List Token) → BeginsType front ts rest → length rest + 1 ≤ length ts
 begins_less fronts.Int ts rest b = one_less _ ts rest b
 begins_less fronts.Unit ts rest b = two_less _ _ ts rest b
 begins_less fronts.Tuple ts rest b = one_less _ ts rest b.0
@@ -83,12 +77,9 @@ length_more : (os os' : List Open) (o : Open) → os' ≡ os ++ o ∷ [] → len
 length_more os os' o e = ap length e ∙ length-append os (o ∷ [])
 
 -- a row has one type more
-row_more : (front row row' : List Piece) (t : WrittenType) → row' ≡ row ++ (steps t ++ add_type ∷ [])
-    → ((front ++ begin_row ∷ row) ++ steps t) ++ add_type ∷ [] ≡ (front ++ begin_row ∷ row') ++ []
-row_more front row row' t e =
-    append_assoc (front ++ begin_row ∷ row) (steps t) (add_type ∷ [])
-    ∙ append_assoc front (begin_row ∷ row) (steps t ++ add_type ∷ [])
-    ∙ ap (λ (ps : List Piece). front ++ begin_row ∷ ps) (sym e) ∙ sym (append-nil (front ++ begin_row ∷ row'))
+row_more : (front row row' : List Piece) (t : WrittenType) → row' ≡ row ++ (piece_steps t ++ add_type ∷ [])
+    → ((front ++ begin_row ∷ row) ++ piece_steps t) ++ add_type ∷ [] ≡ (front ++ begin_row ∷ row') ++ []
+row_more front row row' t e = grind (arith, append_assoc, append-nil)
 
 -- The code came to other frames and to another type: it appended pieces, and the same
 -- types come out.
@@ -97,24 +88,15 @@ pub comes_so : (s s' : State) (frames frames' : List Frame) (t t' : WrittenType)
     → (begun frames ++ complete s t) ++ map plain row ≡ begun frames' ++ complete s' t'
     → AreOpen (reverse os') frames' → IsFitting s' frames' → Steps s frames t ts s' frames' t' ts'
     → ComesTo s frames t ts s' ps' os' ts'
-comes_so s s' frames frames' t t' ts ts' ps ps' row os os' r put made are fits step = record {
-  frames' = frames';
-  t' = t';
-  same = step;
-  read = record {
-    pieces = ap (map plain) put ∙ map-append plain ps row ∙ ap (λ (qs : List Piece). qs ++ map plain row) r.pieces
-        ∙ made;
-    are_open = are;
-    fits = fits;
-  };
-}
+comes_so s s' frames frames' t t' ts ts' ps ps' row os os' r put made are fits step =
+    grind (arith, map-append)
 
 -- ---- the beginning of a type
 
 -- a type is complete
 begun_type : (front : Front) (frames : List Frame) (t u : WrittenType) (ps ps' row : List TypePiece) (os : List Open)
-    (s : State) → map plain row ≡ steps u
-    → ((ts rest : List Token) → Begins front ts rest → Steps Want frames t ts Have frames u rest)
+    (s : State) → map plain row ≡ piece_steps u
+    → ((ts rest : List Token) → BeginsType front ts rest → Steps Want frames t ts Have frames u rest)
     → (s ≡ Have) × (ps' ≡ ps ++ row) → AreRead Want frames t ps os → IsBegun front frames t os s ps' os
 begun_type front frames t u ps ps' row os s made step h r =
     subst (λ (z : State). IsBegun front frames t os z ps' os) (sym h.0) (record {
@@ -128,7 +110,7 @@ begun_type front frames t u ps ps' row os s made step h r =
 begun_frame : (front : Front) (f : Frame) (frames : List Frame) (t : WrittenType) (ps ps' row : List TypePiece)
     (os os' : List Open) (o : Open) (s s' : State) → IsOpen o f → begun (f ∷ frames) ≡ begun frames ++ map plain row
     → complete s' t ≡ [] → pending s' ≤ 1 → IsFitting s' (f ∷ frames)
-    → ((ts rest : List Token) → Begins front ts rest → Steps Want frames t ts s' (f ∷ frames) t rest)
+    → ((ts rest : List Token) → BeginsType front ts rest → Steps Want frames t ts s' (f ∷ frames) t rest)
     → (s ≡ s') × (ps' ≡ ps ++ row) × (os' ≡ os ++ o ∷ []) → AreRead Want frames t ps os
     → IsBegun front frames t os s ps' os'
 begun_frame front f frames t ps ps' row os os' o s s' is made none_made few fits step h r =
@@ -148,28 +130,28 @@ pub begun_int : (front : Front) (ps ps' : List TypePiece) (os : List Open) (s : 
     → IsBegun front frames t os s ps' os
 begun_int front ps ps' os s is h frames t r =
     begun_type front frames t int ps ps' (kept.Int ∷ []) os s refl
-    (λ ts rest b. front_int frames t ts rest (subst (λ z. Begins z ts rest) is b)) h r
+    (λ ts rest b. front_int frames t ts rest (subst (λ z. BeginsType z ts rest) is b)) h r
 
 pub begun_unit : (front : Front) (ps ps' : List TypePiece) (os : List Open) (s : State) → front ≡ fronts.Unit
     → (s ≡ Have) × (ps' ≡ ps ++ kept.Row ∷ kept.Tuple ∷ []) → (frames : List Frame) (t : WrittenType)
     → AreRead Want frames t ps os → IsBegun front frames t os s ps' os
 begun_unit front ps ps' os s is h frames t r =
     begun_type front frames t (tuple none) ps ps' (kept.Row ∷ kept.Tuple ∷ []) os s refl
-    (λ ts rest b. front_unit frames t ts rest (subst (λ z. Begins z ts rest) is b)) h r
+    (λ ts rest b. front_unit frames t ts rest (subst (λ z. BeginsType z ts rest) is b)) h r
 
 pub begun_name : (front : Front) (n : Bor (List ℕ)) (ps ps' : List TypePiece) (os : List Open) (s : State)
     → front ≡ fronts.Name n → (s ≡ Have) × (ps' ≡ ps ++ kept.Row ∷ kept.Named n ∷ []) → (frames : List Frame)
     (t : WrittenType) → AreRead Want frames t ps os → IsBegun front frames t os s ps' os
 begun_name front n ps ps' os s is h frames t r =
     begun_type front frames t (named n.now no_argument) ps ps' (kept.Row ∷ kept.Named n ∷ []) os s refl
-    (λ ts rest b. front_name n frames t ts rest (subst (λ z. Begins z ts rest) is b)) h r
+    (λ ts rest b. front_name n frames t ts rest (subst (λ z. BeginsType z ts rest) is b)) h r
 
 pub begun_tuple : (front : Front) (ps ps' : List TypePiece) (os os' : List Open) (s : State) → front ≡ fronts.Tuple
     → (s ≡ Want) × (ps' ≡ ps ++ kept.Row ∷ []) × (os' ≡ os ++ opens.Tuple ∷ []) → (frames : List Frame)
     (t : WrittenType) → AreRead Want frames t ps os → IsBegun front frames t os s ps' os'
 begun_tuple front ps ps' os os' s is h frames t r =
     begun_frame front (parts none) frames t ps ps' (kept.Row ∷ []) os os' opens.Tuple s Want (none, refl) refl refl
-    (omega arith) tt (λ ts rest b. front_tuple frames t t ts rest (subst (λ z. Begins z ts rest) is b)) h r
+    (omega arith) tt (λ ts rest b. front_tuple frames t t ts rest (subst (λ z. BeginsType z ts rest) is b)) h r
 
 pub begun_reference : (front : Front) (q : Bor (List ℕ)) (m : Bool) (ps ps' : List TypePiece) (os : List Open)
     (s : State) → front ≡ fronts.Reference q m → (s ≡ Want) × (ps' ≡ ps ++ kept.Reference m q ∷ [])
@@ -180,7 +162,7 @@ begun_reference front q m ps ps' os s is h frames t r =
           (kept.Reference m q ∷ []) os os r h.1
           (append_assoc (begun frames) [] (begin_reference m q.now ∷ [])
           ∙ sym (append-nil (begun frames ++ begin_reference m q.now ∷ [])))
-          r.are_open tt (front_reference q m frames t t ts rest (subst (λ z. Begins z ts rest) is b));
+          r.are_open tt (front_reference q m frames t t ts rest (subst (λ z. BeginsType z ts rest) is b));
       few = omega arith;
     })
 
@@ -191,48 +173,39 @@ pub begun_generic : (front : Front) (n : Bor (List ℕ)) (ps ps' : List TypePiec
 begun_generic front n ps ps' os os' s is h frames t r =
     begun_frame front (arguments n.now no_argument) frames t ps ps' (kept.Row ∷ []) os os' (opens.Arguments n) s
     WantArgument (no_argument, refl) refl refl (omega arith) tt
-    (λ ts rest b. front_generic n frames t t ts rest (subst (λ z. Begins z ts rest) is b)) h r
+    (λ ts rest b. front_generic n frames t t ts rest (subst (λ z. BeginsType z ts rest) is b)) h r
 
 pub begun_thunk : (front : Front) (ps ps' : List TypePiece) (os os' : List Open) (s : State) → front ≡ fronts.Thunk
     → (s ≡ WantArrow) × (ps' ≡ ps ++ kept.Row ∷ []) × (os' ≡ os ++ opens.Output ∷ []) → (frames : List Frame)
     (t : WrittenType) → AreRead Want frames t ps os → IsBegun front frames t os s ps' os'
 begun_thunk front ps ps' os os' s is h frames t r =
     begun_frame front (output none) frames t ps ps' (kept.Row ∷ []) os os' opens.Output s WantArrow (none, refl) refl
-    refl (omega arith) tt (λ ts rest b. front_thunk frames t t ts rest (subst (λ z. Begins z ts rest) is b)) h r
+    refl (omega arith) tt (λ ts rest b. front_thunk frames t t ts rest (subst (λ z. BeginsType z ts rest) is b)) h r
 
 pub begun_function : (front : Front) (ps ps' : List TypePiece) (os os' : List Open) (s : State)
     → front ≡ fronts.Function → (s ≡ Want) × (ps' ≡ ps ++ kept.Row ∷ []) × (os' ≡ os ++ opens.Inputs ∷ [])
     → (frames : List Frame) (t : WrittenType) → AreRead Want frames t ps os → IsBegun front frames t os s ps' os'
 begun_function front ps ps' os os' s is h frames t r =
     begun_frame front (inputs none) frames t ps ps' (kept.Row ∷ []) os os' opens.Inputs s Want (none, refl) refl refl
-    (omega arith) tt (λ ts rest b. front_function frames t t ts rest (subst (λ z. Begins z ts rest) is b)) h r
+    (omega arith) tt (λ ts rest b. front_function frames t t ts rest (subst (λ z. BeginsType z ts rest) is b)) h r
 
 -- the step of a beginning, with the tokens that it takes
 pub further_begin : (front : Front) (ts rest : List Token) (frames : List Frame) (t : WrittenType)
-    (os os' : List Open) (ps' : List TypePiece) (s' : State) → Begins front ts rest
+    (os os' : List Open) (ps' : List TypePiece) (s' : State) → BeginsType front ts rest
     → IsBegun front frames t os s' ps' os' → GoesFurther Want frames t os ts s' ps' os' rest
-further_begin front ts rest frames t os os' ps' s' b h =
-    let less = begins_less front ts rest b in
-    let few = h.few in
-    record { falls = omega (arith, less, few); comes = h.comes ts rest b }
+further_begin front ts rest frames t os os' ps' s' b h = grind (arith, begins_less)
 
 -- ---- what is innermost
 
 -- the last of what is open
 pub last_is : (xs os : List Open) (n : ℕ) (o p : Open) → xs ≡ os → n ≡ length os → 0 < length os
     → get_or xs (n - 1) p ≡ o → os ≡ take (length os - 1) os ++ o ∷ []
-last_is xs os n o p e f some is =
-    let l : length os - 1 < length os = omega arith in
-    let k : (length os - 1) + 1 ≡ length os = omega arith in
-    let same : get_or os (length os - 1) p ≡ o =
-    sym (ap (λ (i : ℕ). get_or os (i - 1) p) f) ∙ sym (ap (λ (z : List Open). get_or z (n - 1) p) e) ∙ is in
-    sym (take-length os) ∙ ap (λ (i : ℕ). take i os) (sym k) ∙ take_more os (length os - 1) p l
-    ∙ ap (λ (z : Open). take (length os - 1) os ++ z ∷ []) same
+last_is xs os n o p e f some is = grind (arith, get_or, f, take-length, take_more)
 
 -- What is so wherever the innermost frame is what is open last, and with each reference more, is so of all frames
 -- that are what is open.
 by_frame : (os outer : List Open) (o : Open) (P : List Frame → Type 0) → os ≡ outer ++ o ∷ []
-    → ((q : Name) (m : Bool) (frames : List Frame) → P frames → P (behind q m ∷ frames))
+    → ((q : WrittenName) (m : Bool) (frames : List Frame) → P frames → P (behind q m ∷ frames))
     → ((f : Frame) (frames : List Frame) → IsOpen o f → AreOpen (reverse outer) frames → P (f ∷ frames))
     → (frames : List Frame) → AreOpen (reverse os) frames → P frames
 by_frame os outer o P e waits each frames r = by frames (opened_less os outer o frames e r)
@@ -248,13 +221,9 @@ by_frame os outer o P e waits each frames r = by frames (opened_less os outer o 
 -- ---- a complete type
 
 -- A reference to the complete type is complete, too.
-pub read_behind : (q : Name) (m : Bool) (frames : List Frame) (t : WrittenType) (ps : List TypePiece)
+pub read_behind : (q : WrittenName) (m : Bool) (frames : List Frame) (t : WrittenType) (ps : List TypePiece)
     (os : List Open) → AreRead Have (behind q m ∷ frames) t ps os → AreRead Have frames (reference q m t) ps os
-read_behind q m frames t ps os r = record {
-  pieces = r.pieces ∙ append_assoc (begun frames) (begin_reference m q ∷ []) (steps t);
-  are_open = r.are_open;
-  fits = tt;
-}
+read_behind q m frames t ps os r = grind (arith, append_assoc)
 
 -- Each type that is complete in these frames becomes a part of the innermost thing that was open, or completes it.
 abbrev Completes : (ps ps' : List TypePiece) (os os' : List Open) (s : State) → List Frame → Type 0
@@ -262,7 +231,7 @@ Completes ps ps' os os' s frames =
     (t : WrittenType) → AreRead Have frames t ps os → IsCompleted frames t os s ps' os'
 
 -- what a reference points to
-completes_behind : (ps ps' : List TypePiece) (os os' : List Open) (s : State) (q : Name) (m : Bool)
+completes_behind : (ps ps' : List TypePiece) (os os' : List Open) (s : State) (q : WrittenName) (m : Bool)
     (frames : List Frame) → Completes ps ps' os os' s frames → Completes ps ps' os os' s (behind q m ∷ frames)
 completes_behind ps ps' os os' s q m frames each t r =
     let h = each (reference q m t) (read_behind q m frames t ps os r) in
@@ -291,8 +260,8 @@ completed_output ps ps' os os' s e h frames t r =
       comes = λ ts. comes_so Have Have (output is.0 ∷ frames) frames t (function is.0 t) ts ts ps ps'
           (kept.Function ∷ []) os os' r h.1
           (ap (λ (qs : List Piece). qs ++ make_function ∷ [])
-          (append_assoc (begun frames) (begin_row ∷ part_steps is.0) (steps t))
-          ∙ append_assoc (begun frames) (begin_row ∷ (part_steps is.0 ++ steps t)) (make_function ∷ []))
+          (append_assoc (begun frames) (begin_row ∷ part_steps is.0) (piece_steps t))
+          ∙ append_assoc (begun frames) (begin_row ∷ (part_steps is.0 ++ piece_steps t)) (make_function ∷ []))
           are tt (step_output frames is.0 t ts);
       few = (let l = length_more os' os opens.Output f in omega arith);
     })) frames r.are_open t r)
@@ -303,7 +272,7 @@ completed_output ps ps' os os' s e h frames t r =
 -- it goes to the end of the row of what is innermost
 more_in_row : (f g : Frame) (frames : List Frame) (t : WrittenType) (ps ps' : List TypePiece) (os outer : List Open)
     (o : Open) → os ≡ outer ++ o ∷ [] → IsOpen o g → AreOpen (reverse outer) frames
-    → (begun (f ∷ frames) ++ steps t) ++ add_type ∷ [] ≡ begun (g ∷ frames) ++ []
+    → (begun (f ∷ frames) ++ piece_steps t) ++ add_type ∷ [] ≡ begun (g ∷ frames) ++ []
     → IsFitting Inside (g ∷ frames)
     → ((ts : List Token) → Steps Have (f ∷ frames) t ts Inside (g ∷ frames) t ts) → ps' ≡ ps ++ kept.Part ∷ []
     → AreRead Have (f ∷ frames) t ps os → IsCompleted (f ∷ frames) t os Inside ps' os
@@ -336,7 +305,7 @@ completed_part ps ps' os o s e row h frames t r =
         → (done : WrittenTypes) × (g ≡ parts done) → Completes ps ps' os os Inside (g ∷ frames)
     a_part g frames are k is =
         subst (λ z. Completes ps ps' os os Inside (z ∷ frames)) (sym is.1)
-        (λ t. let done = joined is.0 (more t none) in
+        (λ t. let done = joined_types is.0 (more t none) in
         more_in_row (parts is.0) (parts done) frames t ps ps' os outer o e
         (subst (λ z. IsOpen z (parts done)) (sym k) (done, refl)) are
         (row_more (begun frames) (part_steps is.0) (part_steps done) t (part_steps_more is.0 t))
@@ -358,7 +327,7 @@ completed_part ps ps' os o s e row h frames t r =
         → (done : WrittenTypes) × (g ≡ inputs done) → Completes ps ps' os os Inside (g ∷ frames)
     an_input g frames are k is =
         subst (λ z. Completes ps ps' os os Inside (z ∷ frames)) (sym is.1)
-        (λ t. let done = joined is.0 (more t none) in
+        (λ t. let done = joined_types is.0 (more t none) in
         more_in_row (inputs is.0) (inputs done) frames t ps ps' os outer o e
         (subst (λ z. IsOpen z (inputs done)) (sym k) (done, refl)) are
         (row_more (begun frames) (part_steps is.0) (part_steps done) t (part_steps_more is.0 t))
@@ -377,9 +346,9 @@ pub closed_tuple : (ps ps' : List TypePiece) (os os' : List Open) (s : State)
     → os ≡ take (length os - 1) os ++ opens.Tuple ∷ []
     → (s ≡ Have) × (ps' ≡ ps ++ kept.Tuple ∷ []) × (os' ≡ take (length os - 1) os) → (frames : List Frame)
     (t : WrittenType) (c : ℕ) (next : State) → AreRead Inside frames t ps os → EndsWith frames c next
-    → IsClosed frames t c os s ps' os'
+    → IsInnermostClosed frames t c os s ps' os'
 closed_tuple ps ps' os os' s e h frames t c next r ends =
-    subst (λ (z : State). IsClosed frames t c os z ps' os') (sym h.0)
+    subst (λ (z : State). IsInnermostClosed frames t c os z ps' os') (sym h.0)
     (by_frame os os' opens.Tuple Closed f (λ q m frames closed r ends. absurd ends)
     (λ g frames is are. subst (λ z. Closed (z ∷ frames)) (sym is.1) (λ r ends. record {
       comes = λ ts. subst (λ z. ComesTo Inside (parts is.0 ∷ frames) t (sign z ∷ ts) Have ps' os' ts) (sym ends.0)
@@ -393,16 +362,16 @@ closed_tuple ps ps' os os' s e h frames t c next r ends =
     f = e ∙ ap (λ (z : List Open). z ++ opens.Tuple ∷ []) (sym h.2)
 
     Closed : List Frame → Type 0
-    Closed fs = AreRead Inside fs t ps os → EndsWith fs c next → IsClosed fs t c os Have ps' os'
+    Closed fs = AreRead Inside fs t ps os → EndsWith fs c next → IsInnermostClosed fs t c os Have ps' os'
 
 -- a name with its arguments is complete
 pub closed_name : (n : Bor (List ℕ)) (ps ps' : List TypePiece) (os os' : List Open) (s : State)
     → os ≡ take (length os - 1) os ++ opens.Arguments n ∷ []
     → (s ≡ Have) × (ps' ≡ ps ++ kept.Named n ∷ []) × (os' ≡ take (length os - 1) os) → (frames : List Frame)
     (t : WrittenType) (c : ℕ) (next : State) → AreRead Inside frames t ps os → EndsWith frames c next
-    → IsClosed frames t c os s ps' os'
+    → IsInnermostClosed frames t c os s ps' os'
 closed_name n ps ps' os os' s e h frames t c next r ends =
-    subst (λ (z : State). IsClosed frames t c os z ps' os') (sym h.0)
+    subst (λ (z : State). IsInnermostClosed frames t c os z ps' os') (sym h.0)
     (by_frame os os' (opens.Arguments n) Closed f (λ q m frames closed r ends. absurd ends)
     (λ g frames is are. subst (λ z. Closed (z ∷ frames)) (sym is.1) (λ r ends. record {
       comes = λ ts. subst (λ z. ComesTo Inside (arguments n.now is.0 ∷ frames) t (sign z ∷ ts) Have ps' os' ts)
@@ -417,7 +386,7 @@ closed_name n ps ps' os os' s e h frames t c next r ends =
     f = e ∙ ap (λ (z : List Open). z ++ opens.Arguments n ∷ []) (sym h.2)
 
     Closed : List Frame → Type 0
-    Closed fs = AreRead Inside fs t ps os → EndsWith fs c next → IsClosed fs t c os Have ps' os'
+    Closed fs = AreRead Inside fs t ps os → EndsWith fs c next → IsInnermostClosed fs t c os Have ps' os'
 
 -- What is no type when its row ends: a function, whose result comes next. A function's result has no row.
 abbrev pub IsNoType : Open → Type 0
@@ -428,9 +397,9 @@ pub closed_inputs : (ps : List TypePiece) (os os' : List Open) (o : Open) (s : S
     → os ≡ take (length os - 1) os ++ o ∷ [] → IsNoType o
     → (s ≡ WantArrow) × (os' ≡ take (length os - 1) os ++ opens.Output ∷ []) → (frames : List Frame)
     (t : WrittenType) (c : ℕ) (next : State) → AreRead Inside frames t ps os → EndsWith frames c next
-    → IsClosed frames t c os s ps os'
+    → IsInnermostClosed frames t c os s ps os'
 closed_inputs ps os os' o s e which h frames t c next r ends =
-    subst (λ (z : State). IsClosed frames t c os z ps os') (sym h.0)
+    subst (λ (z : State). IsInnermostClosed frames t c os z ps os') (sym h.0)
     (by_frame os outer o Closed e (λ q m frames closed r ends. absurd ends)
     (λ g frames is are. ⊎_elim (λ k. awaited g frames are (subst (λ z. IsOpen z g) k is))
     (λ k. let out : (done : WrittenTypes) × (g ≡ output done) = subst (λ z. IsOpen z g) k is in
@@ -441,7 +410,7 @@ closed_inputs ps os os' o s e which h frames t c next r ends =
     outer = take (length os - 1) os
 
     Closed : List Frame → Type 0
-    Closed fs = AreRead Inside fs t ps os → EndsWith fs c next → IsClosed fs t c os WantArrow ps os'
+    Closed fs = AreRead Inside fs t ps os → EndsWith fs c next → IsInnermostClosed fs t c os WantArrow ps os'
 
     awaited : (g : Frame) (frames : List Frame) → AreOpen (reverse outer) frames
         → (done : WrittenTypes) × (g ≡ inputs done) → Closed (g ∷ frames)
@@ -458,11 +427,5 @@ closed_inputs ps os os' o s e which h frames t c next r ends =
 -- the closing sign comes
 pub further_end : (ts rest : List Token) (frames : List Frame) (t : WrittenType) (c : ℕ) (ps' : List TypePiece)
     (os os' : List Open) (s' : State) → ts ≡ sign c ∷ rest
-    → IsClosed frames t c os s' ps' os' → GoesFurther Inside frames t os ts s' ps' os' rest
-further_end ts rest frames t c ps' os os' s' is h =
-    let less = one_less (sign c) ts rest is in
-    let few = h.few in
-    record {
-      falls = omega (arith, less, few);
-      comes = subst (λ z. ComesTo Inside frames t z s' ps' os' rest) (sym is) (h.comes rest);
-    }
+    → IsInnermostClosed frames t c os s' ps' os' → GoesFurther Inside frames t os ts s' ps' os' rest
+further_end ts rest frames t c ps' os os' s' is h = grind (arith, one_less)

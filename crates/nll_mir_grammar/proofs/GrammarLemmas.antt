@@ -7,7 +7,7 @@ use Rattle.std.proofs.lemmas.List.{length-append}
 use Rattle.std.proofs.lemmas.Grind.{flat_map-append}
 use Rattle.nll_text.specs.Tokens.{Token, sign}
 use Rattle.nll_text.specs.Grammars.{Grammar, Begins, HasNone, IsNotNext}
-use Rattle.nll_mir_grammar.specs.Grammars.{both, IsOne, behind, pair, many, by_kind}
+use Rattle.nll_mir_grammar.specs.Grammars.{both, IsOne, behind_token, pair, many, by_kind}
 
 -- ---- tokens
 
@@ -28,27 +28,23 @@ signs_differ a b xs ys n e = signs_apart a b n (head_same _ _ xs ys e)
 -- ---- a token, and then a value
 
 pub behind_found : {A : Type 0} (g : Grammar A) (t : Token) (ts rest : List Token) (a : A) (r : List Token)
-    → ts ≡ t ∷ rest → Begins g rest a r → Begins (behind t g) ts a r
+    → ts ≡ t ∷ rest → Begins g rest a r → Begins (behind_token t g) ts a r
 behind_found g t ts rest a r e b =
     record { joined = e ∙ ap (λ l. t ∷ l) b.joined; allowed = b.allowed; follows = b.follows }
 
 pub behind_back : {A : Type 0} (g : Grammar A) (t : Token) (ts rest : List Token) (a : A) (r : List Token)
-    → ts ≡ t ∷ rest → Begins (behind t g) ts a r → Begins g rest a r
-behind_back g t ts rest a r e b =
-    record {
-      joined = tail_same t t rest (g.spells a ++ r) (sym e ∙ b.joined);
-      allowed = b.allowed;
-      follows = b.follows;
-    }
+    → ts ≡ t ∷ rest → Begins (behind_token t g) ts a r → Begins g rest a r
+behind_back g t ts rest a r e b = grind (arith, tail_same)
 
 pub behind_none : {A : Type 0} (g : Grammar A) (t : Token) (ts rest : List Token) → ts ≡ t ∷ rest → HasNone g rest
-    → HasNone (behind t g) ts
+    → HasNone (behind_token t g) ts
 behind_none g t ts rest e none a r b = none a r (behind_back g t ts rest a r e b)
 
-pub behind_other : {A : Type 0} (g : Grammar A) (t : Token) (ts : List Token) → IsNotNext t ts → HasNone (behind t g) ts
+pub behind_other : {A : Type 0} (g : Grammar A) (t : Token) (ts : List Token) → IsNotNext t ts
+    → HasNone (behind_token t g) ts
 behind_other g t ts other a r b = other (g.spells a ++ r) b.joined
 
-pub behind_one : {A : Type 0} (g : Grammar A) (t : Token) → IsOne g → IsOne (behind t g)
+pub behind_one : {A : Type 0} (g : Grammar A) (t : Token) → IsOne g → IsOne (behind_token t g)
 behind_one g t one ts a b r s x y = one (g.spells a ++ r) a b r s
     (record { joined = refl; allowed = x.allowed; follows = x.follows })
     (record {
@@ -66,20 +62,12 @@ Joins {A} {B} g h = (a : A) (b : B) (r : List Token) → g.IsAllowed a → h.IsA
 
 pub pair_found : {A B : Type 0} (g : Grammar A) (h : Grammar B) (ts mid rest : List Token) (a : A) (b : B)
     → Begins g ts a mid → Begins h mid b rest → Begins (pair g h) ts (a, b) rest
-pair_found g h ts mid rest a b x y = record {
-  joined = x.joined ∙ (ap (λ l. g.spells a ++ l) y.joined ∙ sym (append_assoc (g.spells a) (h.spells b) rest));
-  allowed = (x.allowed, y.allowed);
-  follows = y.follows;
-}
+pair_found g h ts mid rest a b x y = grind (arith, append_assoc)
 
 -- the first value of a pair
 pub pair_front : {A B : Type 0} (g : Grammar A) (h : Grammar B) → Joins g h → (ts rest : List Token) (p : A × B)
     → Begins (pair g h) ts p rest → Begins g ts p.0 (h.spells p.1 ++ rest)
-pair_front g h joins ts rest p x = record {
-  joined = x.joined ∙ append_assoc (g.spells p.0) (h.spells p.1) rest;
-  allowed = x.allowed.0;
-  follows = joins p.0 p.1 rest x.allowed.0 x.allowed.1 x.follows;
-}
+pair_front g h joins ts rest p x = grind (arith, append_assoc)
 
 -- the second value of a pair
 pub pair_back : {A B : Type 0} (g : Grammar A) (h : Grammar B) (ts rest : List Token) (p : A × B)
@@ -132,13 +120,7 @@ flat_map_push f xs a = flat_map-append f xs (a ∷ []) ∙ ap (λ l. flat_map f 
 
 pub read_more : {A : Type 0} (g : Grammar A) (ts mid rest : List Token) (xs : List A) (a : A) → HasRead g ts xs mid
     → Begins g mid a rest → HasRead g ts (xs ++ a ∷ []) rest
-read_more g ts mid rest xs a h b = record {
-  joined =
-      h.joined ∙ (ap (λ l. flat_map g.spells xs ++ l) b.joined
-      ∙ (sym (append_assoc (flat_map g.spells xs) (g.spells a) rest)
-      ∙ ap (λ l. l ++ rest) (sym (flat_map_push g.spells xs a))));
-  allowed = all_push g.IsAllowed xs a h.allowed b.allowed;
-}
+read_more g ts mid rest xs a h b = grind (arith, append_assoc, flat_map_push, all_push)
 
 pub many_found : {A : Type 0} (g : Grammar A) (ts rest : List Token) (xs : List A) → HasRead g ts xs rest
     → HasNone g rest → Begins (many g) ts xs rest
@@ -160,12 +142,7 @@ IsLoose {A} g = (a : A) (r : List Token) → g.MayFollow a r
 -- the first of many values
 first_of : {A : Type 0} (g : Grammar A) → IsLoose g → (ts : List Token) (x : A) (xs : List A) (r : List Token)
     → Begins (many g) ts (x ∷ xs) r → Begins g ts x (flat_map g.spells xs ++ r)
-first_of g loose ts x xs r b =
-    record {
-      joined = b.joined ∙ append_assoc (g.spells x) (flat_map g.spells xs) r;
-      allowed = b.allowed.0;
-      follows = loose x _;
-    }
+first_of g loose ts x xs r b = grind (arith, append_assoc)
 
 -- the other values
 others_of : {A : Type 0} (g : Grammar A) (ts : List Token) (x : A) (xs : List A) (r : List Token)
@@ -221,7 +198,8 @@ kinds_one {K} P g one apart ts p q r s x y =
 pub read_behind : {A R E : Type 0} (g : Grammar A) (t : Token) (ts rest : List Token) (value : R → A)
     (after : R → List Token) (r : Result (Option R) E) → ts ≡ t ∷ rest
     → IfOk r (λ o. MatchOption o (HasNone g rest) (λ p. Begins g rest (value p) (after p)))
-    → IfOk r (λ o. MatchOption o (HasNone (behind t g) ts) (λ p. Begins (behind t g) ts (value p) (after p)))
+    → IfOk r (λ o. MatchOption o (HasNone (behind_token t g) ts) (λ p. Begins (behind_token t g) ts (value p)
+    (after p)))
 read_behind g t ts rest value after (Ok None) e h = behind_none g t ts rest e h
 read_behind g t ts rest value after (Ok (Some p)) e h = behind_found g t ts rest (value p) (after p) e h
 read_behind g t ts rest value after (Err x) e h = tt

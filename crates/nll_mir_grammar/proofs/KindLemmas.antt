@@ -8,7 +8,7 @@ use Rattle.nll_text.specs.Tokens.{Token, word, sign, arrow}
 use Rattle.nll_types.specs.Operands.{constant, copied, moved}
 use Rattle.nll_mir_grammar.specs.MirForms.{spelled_projection, block_word}
 use Rattle.nll_text.specs.Grammars.{Begins, HasNone, IsNotNext, any_words, regions}
-use Rattle.nll_mir_grammar.specs.Grammars.{IsOne, behind, pair, parentheses, MayFollowAll}
+use Rattle.nll_mir_grammar.specs.Grammars.{IsOne, behind_token, pair, parentheses, MayFollowAll}
 use Rattle.nll_mir_grammar.specs.Parts.{names, variables, places, operands, types, tuples, arguments, mutabilities, drop_marks, parameter_lists, bounds, bound_lists, block_lists, exits}
 use Rattle.nll_mir_grammar.specs.Kinds.{borrows, makes, results, signatures, structs, Right, value, borrowed, made, called, RightParts, right_sides, rights, tails, keyword_name, LineParts, line_grammars, lines}
 use Rattle.nll_mir_grammar.specs.declared.keyword.Keyword.{Keyword}
@@ -47,7 +47,7 @@ results_join t ([], e) r k l m others f = let g = exits_begin e r in
     let h : arrow ∷ g.0 ≡ sign 60 ∷ others = sym g.1 ∙ f in cc
 results_join t ((w ∷ ws), e) r k l m others f = let h : word (codes "where") ≡ sign 60 = head_same _ _ _ _ f in cc
 
-pub signatures_join : Joins (parentheses arguments) (behind (sign 58) results)
+pub signatures_join : Joins (parentheses arguments) (behind_token (sign 58) results)
 signatures_join xs e r k l m = tt
 
 pub drops_join : Joins drop_marks tuples
@@ -62,7 +62,7 @@ pub switch_join : Joins operands block_lists
 switch_join op [] r k l m = absurd (let h : 0 < 0 = l.0 in omega (arith, h))
 switch_join op (b ∷ bs) r k l m = operands_before (block_word b) (λ e. cc) op _ k
 
-pub rights_join : Joins places (behind (sign 61) rights)
+pub rights_join : Joins places (behind_token (sign 61) rights)
 rights_join p x r k l m = no_projection (sign 61) _ (signs_apart 46 61 refl)
 
 -- ---- right sides
@@ -82,7 +82,7 @@ results_one =
 
 pub signatures_one : IsOne signatures
 signatures_one =
-    pair_one (parentheses arguments) (behind (sign 58) results) signatures_join
+    pair_one (parentheses arguments) (behind_token (sign 58) results) signatures_join
     (parentheses_one arguments arguments_listable) (behind_one results (sign 58) results_one)
 
 pub right_sides_one : (k : Right) → IsOne (right_sides k)
@@ -200,7 +200,7 @@ tails_one words.Region = regions_one
 tails_one words.Assert = bounds_one
 tails_one words.Struct = structs_one
 tails_one words.Let =
-    pair_one variables (behind (sign 58) types) (variables_join (behind (sign 58) types)) variables_one
+    pair_one variables (behind_token (sign 58) types) (variables_join (behind_token (sign 58) types)) variables_one
     (behind_one types (sign 58) types_one)
 tails_one words.Blocks = prefixed_one []
 tails_one words.Block = blocks_one
@@ -217,20 +217,9 @@ tails_one words.End = empty_one
 
 line_grammars_one : (k : Option Keyword) → IsOne (line_grammars k)
 line_grammars_one None =
-    pair_one places (behind (sign 61) rights) rights_join places_one (behind_one rights (sign 61) rights_one)
+    pair_one places (behind_token (sign 61) rights) rights_join places_one (behind_one rights (sign 61) rights_one)
 line_grammars_one (Some k) = behind_one (tails k) (word (keyword_name k)) (tails_one k)
 
 pub lines_one : IsOne lines
 lines_one = kinds_one LineParts line_grammars line_grammars_one
     (λ k l p q r s a b e. sym (line_kind_of k p r) ∙ (ap line_kind e ∙ line_kind_of l q s))
-
--- ---- keywords
-
--- no keyword begins with `_`
-pub no_marked_keyword : (w digits : List ℕ) → w ≡ 95 ∷ digits → (k : Keyword) → w ≡ keyword_name k → ⊥
-unfolding line_kind keyword_in
-no_marked_keyword w digits marked k is =
-    let e : line_kind (word (95 ∷ digits) ∷ []) ≡ Some k = ap (λ l. line_kind (word l ∷ [])) (sym marked ∙ is)
-    ∙ line_kind_of_name k [] in
-    let f : None ≡ Some k = e in
-    cc

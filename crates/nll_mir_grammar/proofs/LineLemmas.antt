@@ -1,12 +1,12 @@
 -- Lines and their parts.
-use Rattle.std.proofs.Common.{◌≡◌, ℕ, Bool, true, false, List, [], ◌∷◌, map, refl, sym, ap, ◌∙◌, subst, Option, Some, None}
+use Rattle.std.proofs.Common.{◌≡◌, ℕ, Bool, true, false, List, [], ◌∷◌, map, refl, sym, ap, ◌∙◌, subst, Option, Some, None, arith}
 use Rattle.std.specs.List.{AllByRecursion}
 use Rattle.std.specs.Prelude.{codes, Result, Ok, Err, IfOk, MatchOption}
 use Rattle.std.proofs.lemmas.Bool.{false≢true}
 use Rattle.nll_text.specs.Tokens.{Token, word, sign}
 use Rattle.nll_types.specs.Places.{PlacePath}
 use Rattle.nll_types.specs.Operands.{Operand, constant, copied, moved, operand_of}
-use Rattle.nll_mir_grammar.specs.WrittenTypes.{Name, WrittenType, HasNames, IsFree}
+use Rattle.nll_mir_grammar.specs.WrittenTypes.{WrittenName, WrittenType, HasNames, IsFree}
 use Rattle.nll_types.specs.declared.operand.Operand.{Operand as Written}
 use Rattle.nll_mir_grammar.specs.TypeTexts.{written}
 use Rattle.nll_mir_grammar.specs.declared.type_text.TypePiece.{TypePiece}
@@ -17,9 +17,9 @@ use Rattle.nll_mir_grammar.specs.MirForms.{Form, universal, outlives, further, a
 use Rattle.nll_mir_grammar.specs.Versions.{is_of_version, IsSpelledIn}
 use Rattle.nll_mir_grammar.specs.declared.version.Version.{Version}
 use Rattle.nll_text.specs.Grammars.{Begins, HasNone, IsNotNext, any_words}
-use Rattle.nll_mir_grammar.specs.Grammars.{behind, pair}
+use Rattle.nll_mir_grammar.specs.Grammars.{behind_token, pair}
 use Rattle.nll_mir_grammar.specs.Parts.{places, operands, arguments, block_names, MayFollowOperand, MayFollowUnwind}
-use Rattle.nll_mir_grammar.specs.Kinds.{borrows, makes, signatures, value, borrowed, made, called, rights, tails, keyword_name, LineParts, line_grammars, lines, parts_of, IsLine, IsRightSide, IsBehind, HasNoKeyword}
+use Rattle.nll_mir_grammar.specs.Kinds.{borrows, makes, signatures, value, borrowed, made, called, rights, tails, keyword_name, LineParts, line_grammars, lines, parts_of_form, IsLine, IsRightSide, IsBehind, HasNoKeyword}
 use Rattle.nll_mir_grammar.specs.declared.keyword.Keyword.{Keyword}
 use Rattle.nll_mir_grammar.specs.declared.keyword.Keyword.TheVariants as words
 use Rattle.nll_mir_grammar.proofs.GrammarLemmas.{append_nil, behind_found, behind_none, pair_found, pair_none_behind}
@@ -28,7 +28,7 @@ use Rattle.nll_mir_grammar.proofs.KindLemmas.{rights_join, no_value, lines_one, 
 
 -- ---- right sides
 
-pub borrow_side : (ts rest : List Token) (p : PlacePath) (a : Name) (m : Bool) (q : PlacePath) (r : List Token)
+pub borrow_side : (ts rest : List Token) (p : PlacePath) (a : WrittenName) (m : Bool) (q : PlacePath) (r : List Token)
     → ts ≡ sign 38 ∷ rest → Begins borrows rest (a, (m, q)) r → IsRightSide ts p (at_point (borrow p a m q)) r
 borrow_side ts rest p a m q r e b = record {
   callee = [];
@@ -58,17 +58,14 @@ value_side ts p op r b = record {
 }
 
 pub call_side : (ts rest mid : List Token) (p : PlacePath) (f : List ℕ) (args : List (Operand × WrittenType))
-    (t : WrittenType) (wheres : List (Name × Name)) (b : ℕ) (unwind : Option ℕ) (r : List Token)
+    (t : WrittenType) (wheres : List (WrittenName × WrittenName)) (b : ℕ) (unwind : Option ℕ) (r : List Token)
     → ts ≡ word (codes "call") ∷ rest → Begins any_words rest f mid
     → Begins signatures mid (args, (t, (wheres, (b, unwind)))) r
     → IsRightSide ts p (at_point (call p args t wheres b unwind)) r
 call_side ts rest mid p f args t wheres b unwind r e w s = record {
   callee = f;
   right = (called, (f, (args, (t, (wheres, (b, unwind))))));
-  begins =
-      let x = pair_found any_words signatures rest mid r f (args, (t, (wheres, (b, unwind)))) w s in
-      let y = behind_found (pair any_words signatures) (word (codes "call")) ts rest _ r e x in
-      record { joined = y.joined; allowed = y.allowed; follows = y.follows };
+  begins = grind (arith, pair_found, behind_found);
   same = refl;
 }
 
@@ -87,7 +84,7 @@ assignment_line ts mid after p f r b e s = record {
   callee = s.callee;
   begins =
       let x = behind_found rights (sign 61) mid after s.right r e s.begins in
-      let y = pair_found places (behind (sign 61) rights) ts mid r p s.right b x in
+      let y = pair_found places (behind_token (sign 61) rights) ts mid r p s.right b x in
       let z : Begins lines ts (None, (p, s.right)) r =
       record { joined = y.joined; allowed = y.allowed; follows = y.follows } in
       subst (λ l. Begins lines ts l r) (sym s.same) z;
@@ -97,7 +94,7 @@ assignment_line ts mid after p f r b e s = record {
 pub read_assigned : {R E : Type 0} (ts after : List Token) (p : PlacePath) (form : R → Form) (rest : R → List Token)
     (r : Result (Option R) E) → ts ≡ sign 61 ∷ after
     → IfOk r (λ o. MatchOption o (HasNone rights after) (λ x. IsRightSide after p (form x) (rest x)))
-    → IfOk r (λ o. MatchOption o (HasNone (behind (sign 61) rights) ts)
+    → IfOk r (λ o. MatchOption o (HasNone (behind_token (sign 61) rights) ts)
     (λ x. (after : List Token) × (ts ≡ sign 61 ∷ after) × IsRightSide after p (form x) (rest x)))
 read_assigned ts after p form rest (Ok None) e h = behind_none rights (sign 61) ts after e h
 read_assigned ts after p form rest (Ok (Some x)) e h = (after, e, h)
@@ -106,11 +103,11 @@ read_assigned ts after p form rest (Err x) e h = tt
 -- what was read behind a place
 pub read_behind_place : {R E : Type 0} (ts mid : List Token) (p : PlacePath) (form : R → Form) (rest : R → List Token)
     (r : Result (Option R) E) → Begins places ts p mid
-    → IfOk r (λ o. MatchOption o (HasNone (behind (sign 61) rights) mid)
+    → IfOk r (λ o. MatchOption o (HasNone (behind_token (sign 61) rights) mid)
     (λ x. (after : List Token) × (mid ≡ sign 61 ∷ after) × IsRightSide after p (form x) (rest x)))
     → IfOk r (λ o. MatchOption o (HasNone (line_grammars None) ts) (λ x. IsLine ts (form x) (rest x)))
 read_behind_place ts mid p form rest (Ok None) b h =
-    pair_none_behind places (behind (sign 61) rights) places_one rights_join ts mid p b h
+    pair_none_behind places (behind_token (sign 61) rights) places_one rights_join ts mid p b h
 read_behind_place ts mid p form rest (Ok (Some x)) b h = assignment_line ts mid h.0 p (form x) (rest x) b h.1 h.2
 read_behind_place ts mid p form rest (Err x) b h = tt
 
@@ -127,7 +124,11 @@ read_side_behind ts after t p form rest (Err x) e h = tt
 
 pub keyword_line : (ts mid : List Token) (k : Keyword) (f : Form) (r : List Token) → ts ≡ word (keyword_name k) ∷ mid
     → IsBehind k mid f r → IsLine ts f r
-keyword_line ts mid k f r e b = record { callee = []; begins = subst (λ l. Begins lines l (parts_of [] f) r) (sym e) b }
+keyword_line ts mid k f r e b = record {
+  callee = [];
+  begins =
+      subst (λ l. Begins lines l (parts_of_form [] f) r) (sym e) b;
+}
 
 no_lines : (k : Option Keyword) (ts : List Token) → line_kind ts ≡ k → HasNone (line_grammars k) ts → HasNone lines ts
 no_lines k ts e none p r b =
@@ -192,12 +193,12 @@ form_from (Some words.Return, x) = at_point return
 form_from (Some words.Stop, x) = at_point stop
 form_from (Some words.End, x) = end
 
-from_parts : (c : List ℕ) (f : Form) → form_from (parts_of c f) ≡ f
+from_parts : (c : List ℕ) (f : Form) → form_from (parts_of_form c f) ≡ f
 unfolding form_from
 from_parts c (at_point (assign p op)) = refl
 from_parts c _ = refl
 
-spelled_parts : (c : List ℕ) (f : Form) → spelled_form c f ≡ lines.spells (parts_of c f)
+spelled_parts : (c : List ℕ) (f : Form) → spelled_form c f ≡ lines.spells (parts_of_form c f)
 spelled_parts c (at_point (assign p op)) = refl
 spelled_parts c _ = refl
 
@@ -212,7 +213,7 @@ arguments_all : (args : List (Operand × WrittenType)) → AllByRecursion argume
 arguments_all [] h = tt
 arguments_all (a ∷ args) h = ((h.0.0, h.0.1), arguments_all args h.1)
 
-allowed_parts : (c : List ℕ) (f : Form) → IsWritable f → lines.IsAllowed (parts_of c f)
+allowed_parts : (c : List ℕ) (f : Form) → IsWritable f → lines.IsAllowed (parts_of_form c f)
 allowed_parts c (outlives a b) h = (tt, tt)
 allowed_parts c (assert_line a b) h = (tt, tt)
 allowed_parts c (struct_line n ps d ts) h = (h.0, (h.1, (tt, h.2)))
@@ -223,7 +224,7 @@ allowed_parts c (at_point (switch op bs)) h = (h.0, (h.1, h.2))
 allowed_parts c (at_point (drop x b u)) h = (h.0, (h.1, h.2))
 allowed_parts c _ h = h
 
-writable_parts : (c : List ℕ) (f : Form) → lines.IsAllowed (parts_of c f) → IsWritable f
+writable_parts : (c : List ℕ) (f : Form) → lines.IsAllowed (parts_of_form c f) → IsWritable f
 writable_parts c (outlives a b) h = tt
 writable_parts c (assert_line a b) h = tt
 writable_parts c (struct_line n ps d ts) h = (h.0, h.1.0, h.1.1.1)
@@ -251,7 +252,7 @@ block_end : HasNone block_names []
 block_end b r x = let e = x.joined in cc
 
 -- each line may stand at the end
-ends : (c : List ℕ) (f : Form) → lines.MayFollow (parts_of c f) []
+ends : (c : List ℕ) (f : Form) → lines.MayFollow (parts_of_form c f) []
 ends c (struct_line n ps d ts) = free_end
 ends c (variable x t) = free_end
 ends c (at_point (assign p op)) = operand_end op
@@ -262,22 +263,14 @@ ends c (at_point (drop x b u)) = unwind_end u
 ends c (at_point (call p args t ws b u)) = unwind_end u
 ends c _ = tt
 
-pub to_line : (ts : List Token) (f : Form) → (s : IsSpelled ts f) → Begins lines ts (parts_of s.callee f) []
-to_line ts f s = record {
-  joined = s.same ∙ (spelled_parts s.callee f ∙ sym (append_nil (lines.spells (parts_of s.callee f))));
-  allowed = allowed_parts s.callee f s.writable;
-  follows = ends s.callee f;
-}
+pub to_line : (ts : List Token) (f : Form) → (s : IsSpelled ts f) → Begins lines ts (parts_of_form s.callee f) []
+to_line ts f s = grind (arith, spelled_parts, append_nil, allowed_parts, ends)
 
 pub from_line : (ts : List Token) (f : Form) → IsLine ts f [] → IsSpelled ts f
-from_line ts f h = record {
-  callee = h.callee;
-  same = h.begins.joined ∙ (append_nil (lines.spells (parts_of h.callee f)) ∙ sym (spelled_parts h.callee f));
-  writable = writable_parts h.callee f h.begins.allowed;
-}
+from_line ts f h = grind (arith, append_nil, spelled_parts, writable_parts)
 
 pub no_form : (ts : List Token) → HasNone lines ts → (f : Form) → IsSpelled ts f → ⊥
-no_form ts none f s = none (parts_of s.callee f) [] (to_line ts f s)
+no_form ts none f s = none (parts_of_form s.callee f) [] (to_line ts f s)
 
 -- a line that goes on isn't spelled whole
 pub no_form_before : (ts : List Token) (f : Form) (rest : List Token) → IsLine ts f rest → (rest ≡ [] → ⊥) → (g : Form)

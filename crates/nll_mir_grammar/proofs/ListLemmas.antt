@@ -6,7 +6,7 @@ use Rattle.std.proofs.lemmas.List.{map-append}
 use Rattle.nll_text.specs.Tokens.{Token, sign}
 use Rattle.nll_mir_grammar.specs.MirForms.{parted}
 use Rattle.nll_text.specs.Grammars.{Grammar, Begins, HasNone, IsNotNext}
-use Rattle.nll_mir_grammar.specs.Grammars.{Puts, IsOne, IsBefore, IsListable, behind, empty, pair, commas, parentheses, MayFollowLast}
+use Rattle.nll_mir_grammar.specs.Grammars.{Puts, IsOne, IsBefore, IsListable, behind_token, empty, pair, commas, parentheses, MayFollowLast}
 use Rattle.nll_mir_grammar.proofs.GrammarLemmas.{tail_same, head_same, behind_found, behind_none, behind_other, behind_one, Joins, pair_none, pair_none_behind, pair_one, all_push, append_nil, flat_map_push, fewer_left}
 
 -- ---- values parted by commas
@@ -20,7 +20,7 @@ record Continues {A : Type 0} (g : Grammar A) (a : A) (ts : List Token) (xs : Li
   joined : ts ≡ more_parted g xs ++ r
   allowed : AllByRecursion g.IsAllowed xs
   last : MayFollowLast g a xs r
-  none : HasNone (behind (sign 44) g) r
+  none : HasNone (behind_token (sign 44) g) r
 
 before_more : {A : Type 0} (g : Grammar A) → IsBefore (sign 44) g → (a : A) (xs : List A) (r : List Token)
     → g.IsAllowed a → MayFollowLast g a xs r → g.MayFollow a (more_parted g xs ++ r)
@@ -32,15 +32,9 @@ before_more g before a (b ∷ bs) r h last =
 -- the next value, behind its comma
 next_value : {A : Type 0} (g : Grammar A) → IsBefore (sign 44) g
     → (a : A) (ts : List Token) (b : A) (bs : List A) (r : List Token) → Continues g a ts (b ∷ bs) r
-    → Begins (behind (sign 44) g) ts b (more_parted g bs ++ r)
+    → Begins (behind_token (sign 44) g) ts b (more_parted g bs ++ r)
 unfolding more_parted
-next_value g before a ts b bs r c = record {
-  joined =
-      c.joined ∙ ap (λ l. sign 44 ∷ l) (append_assoc (g.spells b)
-      (flat_map (λ other. sign 44 ∷ other) (map g.spells bs)) r);
-  allowed = c.allowed.0;
-  follows = before_more g before b bs r c.allowed.0 c.last;
-}
+next_value g before a ts b bs r c = grind (arith, append_assoc, before_more)
 
 values_behind : {A : Type 0} (g : Grammar A) (a : A) (ts : List Token) (b : A) (bs : List A) (r : List Token)
     → Continues g a ts (b ∷ bs) r → Continues g b (more_parted g bs ++ r) bs r
@@ -52,10 +46,10 @@ continues_one : {A : Type 0} (g : Grammar A) → IsBefore (sign 44) g → IsOne 
 unfolding more_parted
 continues_one g before one a ts [] [] r s x y = (refl, sym x.joined ∙ y.joined)
 continues_one g before one a ts [] (b ∷ bs) r s x y =
-    absurd (x.none b _ (subst (λ l. Begins (behind (sign 44) g) l b (more_parted g bs ++ s)) x.joined
+    absurd (x.none b _ (subst (λ l. Begins (behind_token (sign 44) g) l b (more_parted g bs ++ s)) x.joined
     (next_value g before a ts b bs s y)))
 continues_one g before one a ts (b ∷ bs) [] r s x y =
-    absurd (y.none b _ (subst (λ l. Begins (behind (sign 44) g) l b (more_parted g bs ++ r)) y.joined
+    absurd (y.none b _ (subst (λ l. Begins (behind_token (sign 44) g) l b (more_parted g bs ++ r)) y.joined
     (next_value g before a ts b bs r x)))
 continues_one g before one a ts (b ∷ bs) (d ∷ ds) r s x y =
     let same =
@@ -73,11 +67,7 @@ commas_front : {A : Type 0} (g : Grammar A) → IsBefore (sign 44) g
     → (ts : List Token) (a : A) (xs : List A) (r : List Token) → Begins (commas g) ts (a ∷ xs) r
     → Begins g ts a (more_parted g xs ++ r)
 unfolding more_parted
-commas_front g before ts a xs r b = record {
-  joined = b.joined ∙ append_assoc (g.spells a) (flat_map (λ other. sign 44 ∷ other) (map g.spells xs)) r;
-  allowed = b.allowed.1.0;
-  follows = before_more g before a xs r b.allowed.1.0 b.follows.0;
-}
+commas_front g before ts a xs r b = grind (arith, append_assoc, before_more)
 
 -- and what stands behind it
 commas_back : {A : Type 0} (g : Grammar A) (ts : List Token) (a : A) (xs : List A) (r : List Token)
@@ -116,12 +106,7 @@ pub record HasListed {A : Type 0} (g : Grammar A) (ts : List Token) (xs : List A
 
 pub first_listed : {A : Type 0} (g : Grammar A) (ts rest : List Token) (a : A) → Begins g ts a rest
     → HasListed g ts (a ∷ []) rest
-first_listed g ts rest a b = record {
-  joined = b.joined ∙ ap (λ l. l ++ rest) (sym (append_nil (g.spells a)));
-  some = omega arith;
-  allowed = (b.allowed, tt);
-  last = b.follows;
-}
+first_listed g ts rest a b = grind (arith, append_nil)
 
 last_push : {A : Type 0} (g : Grammar A) (a : A) (xs : List A) (b : A) (r : List Token) → g.MayFollow b r
     → MayFollowLast g a (xs ++ b ∷ []) r
@@ -130,38 +115,26 @@ last_push g a (x ∷ xs) b r h = last_push g x xs b r h
 
 parted_push : {A : Type 0} (g : Grammar A) (a : A) (xs : List A) (b : A)
     → parted (map g.spells (a ∷ (xs ++ b ∷ []))) ≡ parted (map g.spells (a ∷ xs)) ++ (sign 44 ∷ g.spells b)
-parted_push g a xs b =
-    ap (λ l. g.spells a ++ flat_map (λ other. sign 44 ∷ other) l) (map-append g.spells xs (b ∷ []))
-    ∙ (ap (λ l. g.spells a ++ l) (flat_map_push (λ other. sign 44 ∷ other) (map g.spells xs) (g.spells b))
-    ∙ sym (append_assoc (g.spells a) (flat_map (λ other. sign 44 ∷ other) (map g.spells xs)) (sign 44 ∷ g.spells b)))
+parted_push g a xs b = grind (arith, map-append, flat_map_push, append_assoc)
 
 pub listed_more : {A : Type 0} (g : Grammar A) (ts mid rest : List Token) (xs : List A) (b : A) → HasListed g ts xs mid
-    → Begins (behind (sign 44) g) mid b rest → HasListed g ts (xs ++ b ∷ []) rest
+    → Begins (behind_token (sign 44) g) mid b rest → HasListed g ts (xs ++ b ∷ []) rest
 listed_more g ts mid rest [] b h x = absurd (let e : 0 < 0 = h.some in omega (arith, e))
-listed_more g ts mid rest (a ∷ xs) b h x = record {
-  joined =
-      h.joined ∙ (ap (λ l. parted (map g.spells (a ∷ xs)) ++ l) x.joined
-      ∙ (sym (append_assoc (parted (map g.spells (a ∷ xs))) (sign 44 ∷ g.spells b) rest)
-      ∙ ap (λ l. l ++ rest) (sym (parted_push g a xs b))));
-  some = omega arith;
-  allowed = all_push g.IsAllowed (a ∷ xs) b h.allowed x.allowed;
-  last = last_push g a xs b rest x.follows;
-}
+listed_more g ts mid rest (a ∷ xs) b h x = grind (arith, append_assoc, parted_push, all_push, last_push)
 
 pub commas_found : {A : Type 0} (g : Grammar A) (ts rest : List Token) (xs : List A) → HasListed g ts xs rest
-    → HasNone (behind (sign 44) g) rest → Begins (commas g) ts xs rest
+    → HasNone (behind_token (sign 44) g) rest → Begins (commas g) ts xs rest
 commas_found g ts rest [] h none = absurd (let e : 0 < 0 = h.some in omega (arith, e))
 commas_found g ts rest (a ∷ xs) h none =
     record { joined = h.joined; allowed = (h.some, h.allowed); follows = (h.last, none) }
 
 -- ---- values that are put into a list
 
-pub put_behind : {A V R E : Type 0} (g : Grammar A) (t : Token) (value : V → A) (after : R → List Token)
-    (ts rest : List Token) (old new : List V) (r : Result (Option R) E) → ts ≡ t ∷ rest
-    → IfOk r (λ o. Puts g value after rest old new o) → IfOk r (λ o. Puts (behind t g) value after ts old new o)
-put_behind g t value after ts rest old new (Ok None) e h = (behind_none g t ts rest e h.0, h.1)
-put_behind g t value after ts rest old new (Ok (Some p)) e h = (h.0, h.1, behind_found g t ts rest h.0 (after p) e h.2)
-put_behind g t value after ts rest old new (Err x) e h = tt
+pub put_behind : {A V R : Type 0} (g : Grammar A) (t : Token) (value : V → A) (after : R → List Token)
+    (ts rest : List Token) (old new : List V) (o : Option R) → ts ≡ t ∷ rest
+    → Puts g value after rest old new o → Puts (behind_token t g) value after ts old new o
+put_behind g t value after ts rest old new None e h = (behind_none g t ts rest e h.0, h.1)
+put_behind g t value after ts rest old new (Some p) e h = (h.0, h.1, behind_found g t ts rest h.0 (after p) e h.2)
 
 -- a value that was read, and appended
 pub put_found : {A V R : Type 0} (g : Grammar A) (value : V → A) (after : R → List Token) (ts : List Token)
@@ -180,20 +153,20 @@ put_first g value after ts old new r e p =
 -- The next one was appended.
 pub put_next : {A V R : Type 0} (g : Grammar A) (value : V → A) (after : R → List Token) (ts mid : List Token)
     (old new : List V) (r : R) → HasListed g ts (map value old) mid
-    → Puts (behind (sign 44) g) value after mid old new (Some r) → HasListed g ts (map value new) (after r)
+    → Puts (behind_token (sign 44) g) value after mid old new (Some r) → HasListed g ts (map value new) (after r)
 put_next g value after ts mid old new r h p =
     subst (λ xs. HasListed g ts xs (after r)) (sym p.1) (listed_more g ts mid (after r) (map value old) p.0 h p.2)
 
 -- Fewer tokens are left behind it.
 pub put_fewer : {A V R : Type 0} (g : Grammar A) (value : V → A) (after : R → List Token) (ts : List Token)
-    (old new : List V) (r : R) → Puts (behind (sign 44) g) value after ts old new (Some r)
+    (old new : List V) (r : R) → Puts (behind_token (sign 44) g) value after ts old new (Some r)
     → length (after r) < length ts
-put_fewer g value after ts old new r p = fewer_left (behind (sign 44) g) ts (after r) p.0 (omega arith) p.2
+put_fewer g value after ts old new r p = fewer_left (behind_token (sign 44) g) ts (after r) p.0 (omega arith) p.2
 
 -- No further one was there.
 pub put_last : {A V R : Type 0} (g : Grammar A) (value : V → A) (after : R → List Token) (ts mid : List Token)
     (old new : List V) → HasListed g ts (map value old) mid
-    → Puts {R = R} (behind (sign 44) g) value after mid old new None → Begins (commas g) ts (map value new) mid
+    → Puts {R = R} (behind_token (sign 44) g) value after mid old new None → Begins (commas g) ts (map value new) mid
 put_last g value after ts mid old new h p =
     subst (λ l. Begins (commas g) ts (map value l) mid) (sym p.1) (commas_found g ts mid (map value old) h p.0)
 
@@ -201,7 +174,7 @@ put_last g value after ts mid old new h p =
 
 -- values parted by commas, between two tokens
 abbrev pub enclosed : {A : Type 0} → Token → Token → Grammar A → Grammar (List A × Unit {0})
-enclosed o c g = behind o (pair (commas g) (behind c empty))
+enclosed o c g = behind_token o (pair (commas g) (behind_token c empty))
 
 pub empty_one : IsOne empty
 empty_one ts a b r s x y = (refl, sym x.joined ∙ y.joined)
@@ -217,34 +190,31 @@ all_before t g before other [] r h = tt
 all_before t g before other (x ∷ xs) r h =
     (last_before t g before x xs r h.1.0 h.1.1, λ a s b. other (head_same _ _ _ _ b.joined))
 
-pub enclosed_joins : {A : Type 0} (c : Token) (g : Grammar A) → IsListable g c → Joins (commas g) (behind c empty)
+pub enclosed_joins : {A : Type 0} (c : Token) (g : Grammar A) → IsListable g c → Joins (commas g) (behind_token c empty)
 enclosed_joins c g h xs u r k l m = all_before c g h.closing h.other xs r k
 
-pub inside_one : {A : Type 0} (c : Token) (g : Grammar A) → IsListable g c → IsOne (pair (commas g) (behind c empty))
+pub inside_one : {A : Type 0} (c : Token) (g : Grammar A) → IsListable g c
+    → IsOne (pair (commas g) (behind_token c empty))
 inside_one c g h =
-    pair_one (commas g) (behind c empty) (enclosed_joins c g h) (commas_one g h.comma h.one)
+    pair_one (commas g) (behind_token c empty) (enclosed_joins c g h) (commas_one g h.comma h.one)
     (behind_one empty c empty_one)
 
 pub inside_without : {A : Type 0} (c : Token) (g : Grammar A) → IsListable g c → (inner : List Token)
-    → HasNone (commas g) inner → HasNone (pair (commas g) (behind c empty)) inner
-inside_without c g h inner none = pair_none (commas g) (behind c empty) (enclosed_joins c g h) inner none
+    → HasNone (commas g) inner → HasNone (pair (commas g) (behind_token c empty)) inner
+inside_without c g h inner none = pair_none (commas g) (behind_token c empty) (enclosed_joins c g h) inner none
 
 pub inside_open : {A : Type 0} (c : Token) (g : Grammar A) → IsListable g c → (inner mid : List Token) (xs : List A)
-    → Begins (commas g) inner xs mid → IsNotNext c mid → HasNone (pair (commas g) (behind c empty)) inner
+    → Begins (commas g) inner xs mid → IsNotNext c mid → HasNone (pair (commas g) (behind_token c empty)) inner
 inside_open c g h inner mid xs b close =
-    pair_none_behind (commas g) (behind c empty) (commas_one g h.comma h.one) (enclosed_joins c g h) inner mid xs b
+    pair_none_behind (commas g) (behind_token c empty) (commas_one g h.comma h.one)
+    (enclosed_joins c g h) inner mid xs b
     (behind_other empty c mid close)
 
 -- the first value between the tokens
 pub first_inside : {A : Type 0} (o c : Token) (g : Grammar A) (ts : List Token) (a : A) (xs : List A) (u : Unit {0})
     (r : List Token) → Begins (enclosed o c g) ts (a ∷ xs, u) r
     → (others : List Token) × (ts ≡ o ∷ (g.spells a ++ others))
-first_inside o c g ts a xs u r b =
-    let m = flat_map (λ other. sign 44 ∷ other) (map g.spells xs) in (
-      ((m ++ c ∷ []) ++ r),
-      b.joined ∙ ap (λ l. o ∷ l)
-          (ap (λ l. l ++ r) (append_assoc (g.spells a) m (c ∷ [])) ∙ append_assoc (g.spells a) (m ++ c ∷ []) r),
-    )
+first_inside o c g ts a xs u r b = grind (arith, append_assoc)
 
 -- ---- values parted by commas, between `(` and `)`
 
@@ -270,12 +240,8 @@ parentheses_one g h ts (a ∷ xs) (b ∷ bs) r s x y =
     (to_enclosed g ts b bs s y) in
     (ap (λ z. z.0) same.0, same.1)
 
-pub parentheses_unopened : {A : Type 0} (g : Grammar A) (ts : List Token) → IsNotNext (sign 40) ts
-    → HasNone (parentheses g) ts
-parentheses_unopened g ts other xs r b = other _ b.joined
-
 none_inside : {A : Type 0} (g : Grammar A) (ts inner : List Token) → ts ≡ sign 40 ∷ inner → IsNotNext (sign 41) inner
-    → HasNone (pair (commas g) (behind (sign 41) empty)) inner → HasNone (parentheses g) ts
+    → HasNone (pair (commas g) (behind_token (sign 41) empty)) inner → HasNone (parentheses g) ts
 none_inside g ts inner e other none [] r b = other r (tail_same _ _ _ _ (sym e ∙ b.joined))
 none_inside g ts inner e other none (a ∷ xs) r b =
     behind_none _ (sign 40) ts inner e none (a ∷ xs, tt) r (to_enclosed g ts a xs r b)
@@ -289,23 +255,3 @@ pub parentheses_open : {A : Type 0} (g : Grammar A) → IsListable g (sign 41) �
     → HasNone (parentheses g) ts
 parentheses_open g h ts inner mid xs e other b close =
     none_inside g ts inner e other (inside_open (sign 41) g h inner mid xs b close)
-
-pub parentheses_found : {A : Type 0} (g : Grammar A) (ts inner mid rest : List Token) (xs : List A)
-    → ts ≡ sign 40 ∷ inner → Begins (commas g) inner xs mid → mid ≡ sign 41 ∷ rest → Begins (parentheses g) ts xs rest
-parentheses_found g ts inner mid rest xs e b f = record {
-  joined =
-      e ∙ ap (λ l. sign 40 ∷ l) (b.joined
-      ∙ (ap (λ l. parted (map g.spells xs) ++ l) f
-      ∙ sym (append_assoc (parted (map g.spells xs)) (sign 41 ∷ []) rest)));
-  allowed = b.allowed.1;
-  follows = tt;
-}
-
--- what stands behind the values is the closing sign, or none
-pub parentheses_end : {A R : Type 0} (g : Grammar A) → IsListable g (sign 41)
-    → (ts inner mid : List Token) (xs : List A) (after : R → List Token) (r : Option R) → ts ≡ sign 40 ∷ inner
-    → IsNotNext (sign 41) inner → Begins (commas g) inner xs mid
-    → MatchOption r (IsNotNext (sign 41) mid) (λ p. mid ≡ sign 41 ∷ after p)
-    → MatchOption r (HasNone (parentheses g) ts) (λ p. Begins (parentheses g) ts xs (after p))
-parentheses_end g h ts inner mid xs after None e other b end = parentheses_open g h ts inner mid xs e other b end
-parentheses_end g h ts inner mid xs after (Some p) e other b end = parentheses_found g ts inner mid (after p) xs e b end

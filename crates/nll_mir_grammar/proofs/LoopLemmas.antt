@@ -5,10 +5,10 @@ use Rattle.std.specs.Borrow.{Bor}
 use Rattle.std.proofs.lemmas.Bool.{eqb-true, false≢true}
 use Rattle.std.proofs.lemmas.List.{append-nil, nil_from_length}
 use Rattle.nll_text.specs.Tokens.{Token, region, arrow, sign}
-use Rattle.nll_mir_grammar.specs.WrittenTypes.{Name, WrittenType, Arguments, int, reference, no_argument, region_argument}
+use Rattle.nll_mir_grammar.specs.WrittenTypes.{WrittenName, WrittenType, Arguments, int, reference, no_argument, region_argument}
 use Rattle.nll_mir_grammar.specs.Reading.{HasNoType, IsTypeIn}
 use Rattle.nll_text.specs.Grammars.{HasNone, IsNotNext, regions, Begins as Starts}
-use Rattle.nll_mir_grammar.specs.TypeTexts.{Piece, plain, steps, argument_steps, add_region, begin_row, joined_arguments, written, IsType}
+use Rattle.nll_mir_grammar.specs.TypeTexts.{Piece, plain, piece_steps, argument_steps, add_region, begin_row, joined_arguments, written, IsType}
 use Rattle.nll_mir_grammar.specs.OpenTypes.{Frame, behind, parts, arguments, inputs, output, Steps, IsStuck, begun, complete, AreOpen, IsFitting, AreRead, ComesTo, GoesFurther, pending, EndsWith, takes_region}
 use Rattle.nll_mir_grammar.specs.declared.opens.State.{State}
 use Rattle.nll_mir_grammar.specs.declared.opens.State.TheVariants.{Want, WantArgument, Have, Inside, WantArrow}
@@ -28,23 +28,14 @@ unchanged : (ts rest : List Token) (s s' : State) (frames : List Frame) (t : Wri
     → complete s t ≡ [] → complete s' t ≡ [] → IsFitting s' frames
     → Steps s frames t ts s' frames t rest → AreRead s frames t ps os
     → GoesFurther s frames t os ts s' ps os rest
-unchanged ts rest s s' frames t ps os falls e f fits step r = record {
-  falls = omega (arith, falls);
-  comes = comes_so s s' frames frames t t ts rest ps ps [] os os r
-      (sym (append-nil ps)) (append-nil (begun frames ++ complete s t)
-      ∙ ap (λ (qs : List Piece). begun frames ++ qs) (e ∙ sym f)) r.are_open fits step;
-}
+unchanged ts rest s s' frames t ps os falls e f fits step r = grind (arith, comes_so, append-nil)
 
 -- behind a comma comes the next thing of the row
 comma_so : (ts rest : List Token) (s' next : State) (frames : List Frame) (t : WrittenType) (ps : List TypePiece)
     (os : List Open) → ts ≡ sign 44 ∷ rest → pending next ≤ 1 → complete next t ≡ [] → IsFitting next frames
     → Steps Inside frames t (sign 44 ∷ rest) next frames t rest
     → s' ≡ next → AreRead Inside frames t ps os → GoesFurther Inside frames t os ts s' ps os rest
-comma_so ts rest s' next frames t ps os is few f fits step state r =
-    let less = one_less (sign 44) ts rest is in
-    subst (λ z. GoesFurther Inside frames t os ts z ps os rest) (sym state)
-    (unchanged ts rest Inside next frames t ps os (omega (arith, less, few)) refl f fits
-    (subst (λ z. Steps Inside frames t z next frames t rest) (sym is) step) r)
+comma_so ts rest s' next frames t ps os is few f fits step state r = grind (arith, one_less, unchanged)
 
 pub further_comma : (ts rest : List Token) (frames : List Frame) (t : WrittenType) (c : ℕ) (s' : State)
     (ps : List TypePiece) (os : List Open) → EndsWith frames c s' → ts ≡ sign 44 ∷ rest
@@ -77,10 +68,7 @@ stuck_inside ts _ t c s ends comma close = absurd ends
 pub further_arrow : (ts rest : List Token) (frames : List Frame) (t : WrittenType) (ps : List TypePiece)
     (os : List Open) → ts ≡ arrow ∷ rest → AreRead WantArrow frames t ps os
     → GoesFurther WantArrow frames t os ts Want ps os rest
-further_arrow ts rest frames t ps os e r =
-    let less = one_less arrow ts rest e in
-    unchanged ts rest WantArrow Want frames t ps os (omega (arith, less)) refl refl tt
-    (subst (λ (z : List Token). Steps WantArrow frames t z Want frames t rest) (sym e) (step_arrow frames t t rest)) r
+further_arrow ts rest frames t ps os e r = grind (arith, one_less, unchanged, step_arrow)
 
 -- ---- an argument comes
 
@@ -93,7 +81,7 @@ further_no_region ts frames t ps os other r =
     (λ q rest e. other q rest (record { joined = e; allowed = tt; follows = tt }))) r
 
 -- no arguments are open
-pub stuck_no_name : (ts rest : List Token) (frames : List Frame) (t : WrittenType) (q : Name)
+pub stuck_no_name : (ts rest : List Token) (frames : List Frame) (t : WrittenType) (q : WrittenName)
     → takes_region frames ≡ false → Starts regions ts q rest → IsStuck WantArgument frames t ts
 stuck_no_name ts rest frames t q none_takes is =
     subst (λ (z : List Token). IsStuck WantArgument frames t z) (sym is.joined)
@@ -148,7 +136,7 @@ first_comes t ts ps os e f = rw (e, f) (record {
 pub record IsWhole (ts at_ts : List Token) (ps : List TypePiece) : Type 0 where
   pub whole : WrittenType
   pub same : Steps Want [] int ts Have [] whole at_ts
-  pub pieces : map plain ps ≡ steps whole
+  pub pieces : map plain ps ≡ piece_steps whole
 
 -- This is so where a type is complete in frames that are all references.
 whole_in : (ts at_ts : List Token) (ps : List TypePiece) (frames : List Frame) (t : WrittenType)
@@ -167,10 +155,7 @@ whole_in ts at_ts ps (output _ ∷ frames) t same r = absurd r.are_open
 -- This is so where the loop ends.
 pub at_end : (s : State) (ts at_ts : List Token) (ps : List TypePiece) (os : List Open) → s ≡ Have
     → (length os == 0) ≡ true → ComesTo Want [] int ts s ps os at_ts → IsWhole ts at_ts ps
-at_end s ts at_ts ps os e none_open c =
-    whole_in ts at_ts ps c.frames' c.t' (subst (λ z. Steps Want [] int ts z c.frames' c.t' at_ts) e c.same)
-    (subst (λ (z : List Open). AreRead Have c.frames' c.t' ps z) (nil_from_length os (eqb-true (length os) 0 none_open))
-    (subst (λ z. AreRead z c.frames' c.t' ps os) e c.read))
+at_end s ts at_ts ps os e none_open c = grind (arith, whole_in, nil_from_length, eqb-true)
 
 -- Then the pieces are those of a type, which stands in front where no `<` follows; `o` has what is behind a `<`.
 pub whole_pieces : (ts at_ts : List Token) (ps : List TypePiece) → IsWhole ts at_ts ps → IsType ps

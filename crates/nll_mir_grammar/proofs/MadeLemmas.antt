@@ -1,5 +1,5 @@
 -- A line is made of the tokens of its bytes, where their signs are signs, as those of a form are.
-use Rattle.std.proofs.Common.{ℕ, Bool, true, false, List, [], ◌∷◌, ◌++◌, map, refl, sym, subst, Option, Some, None}
+use Rattle.std.proofs.Common.{ℕ, Bool, true, false, List, [], ◌∷◌, ◌++◌, map, refl, sym, subst, Option, Some, None, arith}
 use Rattle.std.specs.Prelude.{MatchOption}
 use Rattle.std.specs.List.{flat_map}
 use Rattle.nll_text.specs.Tokens.{Token, region, arrow, sign}
@@ -13,7 +13,7 @@ use Rattle.nll_types.specs.declared.parameter.Sign.TheVariants.{Covariant, Contr
 use Rattle.nll_body.specs.Statements.{Statement, assign, borrow, make, read, live, dead, goto, switch, call}
 use Rattle.nll_body.specs.Statements as statements
 use Rattle.nll_text.specs.LineTokens.{tokens_in}
-use Rattle.nll_mir_grammar.specs.WrittenTypes.{Name, WrittenType, WrittenTypes, Arguments, int, reference, tuple, named, function, none, more, no_argument, region_argument, type_argument, mutability, spelled, spelled_parts, spelled_more_parts, spelled_arguments, spelled_more_arguments}
+use Rattle.nll_mir_grammar.specs.WrittenTypes.{WrittenName, WrittenType, WrittenTypes, Arguments, int, reference, tuple, named, function, none, more, no_argument, region_argument, type_argument, mutability, spelled, spelled_parts, spelled_more_parts, spelled_arguments, spelled_more_arguments}
 use Rattle.nll_mir_grammar.specs.MirForms.{Form, outlives, assert_line, struct_line, variable, at_point, end, WrittenParameter, region_parameter, type_parameter, block_word, spelled_projection, spelled_place, spelled_operand, parted, in_parentheses, sign_token, dangling_mark, spelled_marks, spelled_parameter, spelled_parameters, drop_mark, spelled_exits, spelled_wheres, spelled_argument, spelled_statement, spelled_form, IsSpelled, HasForm}
 use Rattle.nll_mir_grammar.specs.Versions.{IsSpelledIn, HasFormIn}
 use Rattle.nll_mir_grammar.specs.Lines.{form_of}
@@ -129,11 +129,11 @@ real_exits : (b : ℕ) (u : Option ℕ) → AreReal (spelled_exits b u)
 real_exits b None = (tt, (tt, tt))
 real_exits b (Some c) = (tt, (tt, (tt, (tt, tt))))
 
-real_wheres : (ws : List (Name × Name)) → AreReal (spelled_wheres ws)
+real_wheres : (ws : List (WrittenName × WrittenName)) → AreReal (spelled_wheres ws)
 real_wheres [] = tt
 real_wheres (w ∷ ws) = (
   tt,
-  real_parted (λ (v : Name × Name). region v.0 ∷ sign 58 ∷ region v.1 ∷ []) (λ v. (tt, (refl, (tt, tt))))
+  real_parted (λ (v : WrittenName × WrittenName). region v.0 ∷ sign 58 ∷ region v.1 ∷ []) (λ v. (tt, (refl, (tt, tt))))
       (w ∷ ws),
 )
 
@@ -145,26 +145,19 @@ real_blocks [] = tt
 real_blocks (b ∷ bs) = (tt, real_blocks bs)
 
 -- what stands behind the `:` of a call
-real_result : (t : WrittenType) (ws : List (Name × Name)) (b : ℕ) (u : Option ℕ)
+real_result : (t : WrittenType) (ws : List (WrittenName × WrittenName)) (b : ℕ) (u : Option ℕ)
     → AreReal (spelled t ++ (spelled_wheres ws ++ spelled_exits b u))
 real_result t ws b u =
     real_append (spelled t) (spelled_wheres ws ++ spelled_exits b u) (real_type t)
     (real_append (spelled_wheres ws) (spelled_exits b u) (real_wheres ws) (real_exits b u))
 
-real_statement : (c : List ℕ) (s : Statement Name WrittenType) → AreReal (spelled_statement c s)
+real_statement : (c : List ℕ) (s : Statement WrittenName WrittenType) → AreReal (spelled_statement c s)
 real_statement c (assign p op) = real_append (spelled_place p) _ (real_place p) (refl, real_operand op)
 real_statement c (borrow p r m q) =
     real_append (spelled_place p) _ (real_place p)
     (refl, (refl, (tt, real_append (mutability m) (spelled_place q) (real_mutability m) (real_place q))))
 real_statement c (make p t ops) =
-    real_append (spelled_place p) _ (real_place p) (
-      refl,
-      (
-        tt,
-        real_append (spelled t) (in_parentheses (map spelled_operand ops)) (real_type t)
-            (real_parentheses spelled_operand real_operand ops),
-      ),
-    )
+    grind (arith, real_append, real_place, real_type, real_parentheses, real_operand)
 real_statement c (read p) = (tt, real_place p)
 real_statement c (live x) = (tt, (tt, tt))
 real_statement c (dead x) = (tt, (tt, tt))
@@ -173,17 +166,7 @@ real_statement c (switch op bs) =
     (tt, real_append (spelled_operand op) (map block_word bs) (real_operand op) (real_blocks bs))
 real_statement c (statements.drop x b u) = (tt, (tt, real_exits b u))
 real_statement c (call p args t ws b u) =
-    real_append (spelled_place p) _ (real_place p) (
-      refl,
-      (
-        tt,
-        (
-          tt,
-          real_append (in_parentheses (map spelled_argument args)) _
-              (real_parentheses spelled_argument real_argument args) (refl, real_result t ws b u),
-        ),
-      ),
-    )
+    grind (arith, real_append, real_place, real_parentheses, real_argument, real_result)
 real_statement c _ = (tt, tt)
 
 pub real_form : (c : List ℕ) (f : Form) → AreReal (spelled_form c f)

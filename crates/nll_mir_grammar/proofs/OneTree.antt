@@ -100,13 +100,9 @@ mutual
       (let h : q ≡ p = cc in let r : spelled_more_arguments ts ++ a ≡ spelled_more_arguments us ++ b = cc in
       let y = one_more_arguments ts us a b n o r in let y0 = y.0 in (cc, y.1))
   one_arguments (region_argument q ts) (type_argument u us) a b n o f g e =
-      absurd (no_name_of u (spelled_more_arguments us ++ b) (spelled_more_arguments ts ++ a) q
-      (let r : (spelled u ++ spelled_more_arguments us) ++ b ≡ region q ∷ (spelled_more_arguments ts ++ a) = cc in
-      sym (append_assoc (spelled u) (spelled_more_arguments us) b) ∙ r))
+      grind (arith, no_name_of, append_assoc)
   one_arguments (type_argument t ts) (region_argument p us) a b n o f g e =
-      absurd (no_name_of t (spelled_more_arguments ts ++ a) (spelled_more_arguments us ++ b) p
-      (let r : (spelled t ++ spelled_more_arguments ts) ++ a ≡ region p ∷ (spelled_more_arguments us ++ b) = cc in
-      sym (append_assoc (spelled t) (spelled_more_arguments ts) a) ∙ r))
+      grind (arith, no_name_of, append_assoc)
   one_arguments (type_argument t ts) (type_argument u us) a b n o f g e =
       let r : (spelled t ++ spelled_more_arguments ts) ++ a ≡ (spelled u ++ spelled_more_arguments us) ++ b = cc in
       let x = one_tree t u (spelled_more_arguments ts ++ a) (spelled_more_arguments us ++ b) n.0 o.0 (free_args ts a)
@@ -130,13 +126,9 @@ mutual
       (let h : q ≡ p = cc in let r : spelled_more_arguments ts ++ a ≡ spelled_more_arguments us ++ b = cc in
       let y = one_more_arguments ts us a b n o r in let y0 = y.0 in (cc, y.1))
   one_more_arguments (region_argument q ts) (type_argument u us) a b n o e =
-      absurd (no_name_of u (spelled_more_arguments us ++ b) (spelled_more_arguments ts ++ a) q
-      (let r : (spelled u ++ spelled_more_arguments us) ++ b ≡ region q ∷ (spelled_more_arguments ts ++ a) = cc in
-      sym (append_assoc (spelled u) (spelled_more_arguments us) b) ∙ r))
+      grind (arith, no_name_of, append_assoc)
   one_more_arguments (type_argument t ts) (region_argument p us) a b n o e =
-      absurd (no_name_of t (spelled_more_arguments ts ++ a) (spelled_more_arguments us ++ b) p
-      (let r : (spelled t ++ spelled_more_arguments ts) ++ a ≡ region p ∷ (spelled_more_arguments us ++ b) = cc in
-      sym (append_assoc (spelled t) (spelled_more_arguments ts) a) ∙ r))
+      grind (arith, no_name_of, append_assoc)
   one_more_arguments (type_argument t ts) (type_argument u us) a b n o e =
       let r : (spelled t ++ spelled_more_arguments ts) ++ a ≡ (spelled u ++ spelled_more_arguments us) ++ b = cc in
       let x = one_tree t u (spelled_more_arguments ts ++ a) (spelled_more_arguments us ++ b) n.0 o.0 (free_args ts a)

@@ -15,11 +15,11 @@ use Rattle.nll_types.specs.declared.place.Projection.TheVariants.{Deref, Field}
 use Rattle.nll_types.specs.declared.parameter.Parameter.{Parameter}
 use Rattle.nll_types.specs.declared.parameter.Sign.{Sign}
 use Rattle.nll_types.specs.declared.parameter.Sign.TheVariants.{Covariant, Contravariant, Invariant}
-use Rattle.nll_mir_grammar.specs.WrittenTypes.{Name, WrittenType, WrittenTypes, tuple, spelled}
+use Rattle.nll_mir_grammar.specs.WrittenTypes.{WrittenName, WrittenType, WrittenTypes, tuple, spelled}
 use Rattle.nll_mir_grammar.specs.Reading.{HasNoType, IsTypeIn}
 use Rattle.nll_mir_grammar.specs.MirForms.{WrittenParameter, region_parameter, type_parameter, spelled_place, spelled_operand, dangling_mark, sign_token, block_word}
 use Rattle.nll_text.specs.Grammars.{Grammar, Begins, HasNone, any_words, prefixed, regions}
-use Rattle.nll_mir_grammar.specs.Grammars.{IsOne, IsBefore, IsListable, behind, empty, pair, many, commas}
+use Rattle.nll_mir_grammar.specs.Grammars.{IsOne, IsBefore, IsListable, behind_token, empty, pair, many, commas}
 use Rattle.nll_mir_grammar.specs.Parts.{names, variables, block_names, projections, places, operands, types, tuples, arguments, marks, parameter_marks, parameters, parameter_lists, bounds, bound_lists, block_lists, exits, MayFollowMark}
 use Rattle.nll_mir_grammar.proofs.GrammarLemmas.{pair_found, IsSolid, tail_same, head_same, signs_apart, signs_differ, behind_one, behind_none, Joins, pair_one, many_one, IsLoose}
 use Rattle.nll_mir_grammar.proofs.ListLemmas.{inside_one, commas_one, enclosed}
@@ -48,14 +48,7 @@ pub names_one : IsOne names
 names_one ts a b r s x y = let e : word a ∷ r ≡ word b ∷ s = sym x.joined ∙ y.joined in (cc, cc)
 
 pub prefixed_one : (front : List ℕ) → IsOne (prefixed front)
-prefixed_one front ts a b r s x y =
-    let e : word (front ++ decimal a) ∷ r ≡ word (front ++ decimal b) ∷ s = sym x.joined ∙ y.joined in
-    let w : front ++ decimal a ≡ front ++ decimal b = cc in
-    let small_a : a < 10 ^ 9 = x.allowed in
-    let small_b : b < 10 ^ 9 = y.allowed in (
-      decimal_injective a b (omega arith) (omega arith) (behind_front front (decimal a) (decimal b) w),
-      tail_same _ _ _ _ e,
-    )
+prefixed_one front ts a b r s x y = grind (arith, decimal_injective, behind_front, tail_same)
 
 -- ---- places and operands
 
@@ -101,6 +94,10 @@ place_found ts mid rest x p v e b =
     from_path ts p rest (pair_found variables (many projections) ts mid rest p.variable p.projections
     (subst (λ y. Begins variables ts y mid) (sym e) v) b)
 
+-- where no variable stands, no place does
+pub no_place : (ts : List Token) → HasNone variables ts → HasNone places ts
+no_place ts none p r b = none p.variable _ (record { joined = b.joined; allowed = b.allowed.0; follows = tt })
+
 pub places_one : IsOne places
 places_one ts p q r s x y =
     let same = paths_one ts _ _ r s (to_path ts p r x) (to_path ts q s y) in (
@@ -128,11 +125,11 @@ behind_word : (v w : List ℕ) (ts xs ys : List Token) → ts ≡ word v ∷ xs 
 behind_word v w ts xs ys e f n = words_apart v w n (word_same v w (head_same _ _ _ _ (sym e ∙ f)))
 
 copied_place : (ts : List Token) (p : PlacePath) (r : List Token) → Begins operands ts (copied p) r
-    → Begins (behind (word (codes "copy")) places) ts p r
+    → Begins (behind_token (word (codes "copy")) places) ts p r
 copied_place ts p r b = record { joined = b.joined; allowed = b.allowed; follows = b.follows }
 
 moved_place : (ts : List Token) (p : PlacePath) (r : List Token) → Begins operands ts (moved p) r
-    → Begins (behind (word (codes "move")) places) ts p r
+    → Begins (behind_token (word (codes "move")) places) ts p r
 moved_place ts p r b = record { joined = b.joined; allowed = b.allowed; follows = b.follows }
 
 -- the operand behind its word
@@ -191,10 +188,7 @@ operand_word (moved p) = (codes "move", spelled_place p, refl)
 
 -- so it begins with no sign
 pub no_operand : (c : ℕ) (op : Operand) (r s : List Token) → spelled_operand op ++ r ≡ sign c ∷ s → ⊥
-no_operand c op r s e =
-    let w = operand_word op in
-    let f : word w.0 ∷ (w.1 ++ r) ≡ sign c ∷ s = ap (λ l. l ++ r) (sym w.2) ∙ e in
-    cc
+no_operand c op r s e = grind (arith, operand_word)
 
 -- ---- types
 
@@ -210,10 +204,6 @@ tuples_one ts a b r s x y =
     (tuple_same a b same.0, same.1)
 
 -- ---- each value has tokens
-
-pub projections_solid : IsSolid projections
-projections_solid Deref = omega arith
-projections_solid (Field k) = omega arith
 
 pub blocks_solid : IsSolid block_names
 blocks_solid b = omega arith
@@ -273,11 +263,12 @@ parameter_marks_one ts p q r s x y =
     (ap (λ z. parameter_from z p.may_dangle) f ∙ ap (λ z. parameter_from q.sign z) same.0, same.1)
 
 -- a parameter's name and marks
-region_marks : (ts : List Token) (a : Name) (p : Parameter) (r : List Token)
+region_marks : (ts : List Token) (a : WrittenName) (p : Parameter) (r : List Token)
     → Begins parameters ts (region_parameter a p) r → Begins (pair regions parameter_marks) ts (a, p) r
 region_marks ts a p r b = record { joined = b.joined; allowed = (tt, tt); follows = b.follows }
 
-type_marks : (ts : List Token) (a : Name) (p : Parameter) (r : List Token) → Begins parameters ts (type_parameter a p) r
+type_marks : (ts : List Token) (a : WrittenName) (p : Parameter) (r : List Token)
+    → Begins parameters ts (type_parameter a p) r
     → Begins (pair names parameter_marks) ts (a, p) r
 type_marks ts a p r b = record { joined = b.joined; allowed = (b.allowed, tt); follows = b.follows }
 
@@ -313,13 +304,7 @@ parameters_before u n (type_parameter a p) r h = mark_before p.may_dangle (sign 
 -- ---- lists
 
 pub parameters_listable : IsListable parameters (sign 62)
-parameters_listable = record {
-  one = parameters_one;
-  comma = parameters_before (sign 44) (signs_apart 44 63 refl);
-  closing = parameters_before (sign 62) (signs_apart 62 63 refl);
-  other = signs_apart 62 44 refl;
-  opens = no_parameter;
-}
+parameters_listable = grind (arith, parameters_one, parameters_before, signs_apart, no_parameter)
   where
     no_parameter : (a : WrittenParameter) (r s : List Token) → parameters.IsAllowed a
         → parameters.spells a ++ r ≡ sign 62 ∷ s → ⊥
@@ -331,7 +316,7 @@ to_enclosed : (ts : List Token) (p : WrittenParameter) (ps : List WrittenParamet
 to_enclosed ts p ps r b = record { joined = b.joined; allowed = ((omega arith, b.allowed), tt); follows = tt }
 
 pub no_parameters : (ts inner : List Token) → ts ≡ sign 60 ∷ inner
-    → HasNone (pair (commas parameters) (behind (sign 62) empty)) inner → HasNone parameter_lists ts
+    → HasNone (pair (commas parameters) (behind_token (sign 62) empty)) inner → HasNone parameter_lists ts
 no_parameters ts inner e none [] r b = b.follows inner (sym b.joined ∙ e)
 no_parameters ts inner e none (p ∷ ps) r b =
     behind_none _ (sign 60) ts inner e none (p ∷ ps, tt) r (to_enclosed ts p ps r b)
@@ -346,12 +331,13 @@ parameter_lists_one ts (p ∷ ps) (q ∷ qs) r s x y =
     (to_enclosed ts p ps r x) (to_enclosed ts q qs s y) in
     (ap (λ z. z.0) same.0, same.1)
 
-pub operands_join_colon : Joins operands (behind (sign 58) types)
+pub operands_join_colon : Joins operands (behind_token (sign 58) types)
 operands_join_colon op t r k l m = operands_before (sign 58) (signs_apart 46 58 refl) op (spelled t ++ r) k
 
 pub arguments_one : IsOne arguments
 arguments_one =
-    pair_one operands (behind (sign 58) types) operands_join_colon operands_one (behind_one types (sign 58) types_one)
+    pair_one operands (behind_token (sign 58) types) operands_join_colon operands_one (behind_one types
+    (sign 58) types_one)
 
 pub operands_listable : IsListable operands (sign 41)
 operands_listable = record {
@@ -374,18 +360,18 @@ arguments_listable = record {
 
 pub bounds_one : IsOne bounds
 bounds_one =
-    pair_one regions (behind (sign 58) regions) (regions_join (behind (sign 58) regions)) regions_one
+    pair_one regions (behind_token (sign 58) regions) (regions_join (behind_token (sign 58) regions)) regions_one
     (behind_one regions (sign 58) regions_one)
 
 pub bounds_before : (t : Token) → IsBefore t bounds
 bounds_before t w r h = tt
 
-pub any_bounds : (ws : List (Name × Name)) → AllByRecursion bounds.IsAllowed ws
+pub any_bounds : (ws : List (WrittenName × WrittenName)) → AllByRecursion bounds.IsAllowed ws
 any_bounds [] = tt
 any_bounds (w ∷ ws) = ((tt, tt), any_bounds ws)
 
-to_bounds : (ts : List Token) (w : Name × Name) (ws : List (Name × Name)) (r : List Token)
-    → Begins bound_lists ts (w ∷ ws) r → Begins (behind (word (codes "where")) (commas bounds)) ts (w ∷ ws) r
+to_bounds : (ts : List Token) (w : WrittenName × WrittenName) (ws : List (WrittenName × WrittenName)) (r : List Token)
+    → Begins bound_lists ts (w ∷ ws) r → Begins (behind_token (word (codes "where")) (commas bounds)) ts (w ∷ ws) r
 to_bounds ts w ws r b = record { joined = b.joined; allowed = (omega arith, any_bounds (w ∷ ws)); follows = b.follows }
 
 pub bound_lists_one : IsOne bound_lists
@@ -402,14 +388,16 @@ no_bounds ts inner e none [] r b = b.follows inner (sym b.joined ∙ e)
 no_bounds ts inner e none (p ∷ ps) r b =
     behind_none (commas bounds) (word (codes "where")) ts inner e none (p ∷ ps) r (to_bounds ts p ps r b)
 
-pub bounds_found : (ts inner rest : List Token) (ws : List (Name × Name)) → ts ≡ word (codes "where") ∷ inner
+pub bounds_found : (ts inner rest : List Token) (ws : List (WrittenName × WrittenName))
+    → ts ≡ word (codes "where") ∷ inner
     → Begins (commas bounds) inner ws rest → Begins bound_lists ts ws rest
 bounds_found ts inner rest [] e b = absurd (let h : 0 < 0 = b.allowed.0 in omega (arith, h))
 bounds_found ts inner rest (w ∷ ws) e b =
     record { joined = e ∙ ap (λ l. word (codes "where") ∷ l) b.joined; allowed = tt; follows = b.follows }
 
 -- bounds are read behind `where`
-pub read_bounds : {R E : Type 0} (ts inner : List Token) (ws : R → List (Name × Name)) (after : R → List Token)
+pub read_bounds : {R E : Type 0} (ts inner : List Token) (ws : R → List (WrittenName × WrittenName)) (after : R
+    → List Token)
     (r : Result (Option R) E) → ts ≡ word (codes "where") ∷ inner
     → IfOk r (λ o. MatchOption o (HasNone (commas bounds) inner) (λ p. Begins (commas bounds) inner (ws p) (after p)))
     → IfOk r (λ o. MatchOption o (HasNone bound_lists ts) (λ p. Begins bound_lists ts (ws p) (after p)))
@@ -427,12 +415,7 @@ many_blocks_one = many_one block_names blocks_loose (prefixed_one (codes "bb"))
 
 to_blocks : (ts : List Token) (bs : List ℕ) (r : List Token) → Begins block_lists ts bs r
     → Begins (many block_names) ts bs r
-to_blocks ts bs r b =
-    record {
-      joined = b.joined ∙ ap (λ l. l ++ r) (sym (flat_map_single block_word bs));
-      allowed = b.allowed.1;
-      follows = b.follows;
-    }
+to_blocks ts bs r b = grind (arith, flat_map_single)
 
 pub block_lists_one : IsOne block_lists
 block_lists_one ts bs cs r s x y = many_blocks_one ts bs cs r s (to_blocks ts bs r x) (to_blocks ts cs s y)
@@ -451,21 +434,21 @@ block_before : {B : Type 0} (h : Grammar B) → Joins block_names h
 block_before h a b r k l m = tt
 
 only_target : (ts : List Token) (b : ℕ) (r : List Token) → Begins exits ts (b, None) r
-    → Begins (behind arrow block_names) ts b r
+    → Begins (behind_token arrow block_names) ts b r
 only_target ts b r x = record { joined = x.joined; allowed = x.allowed.0; follows = tt }
 
 two_targets : (ts : List Token) (b c : ℕ) (r : List Token) → Begins exits ts (b, Some c) r
-    → Begins (behind arrow (pair block_names (behind (word (codes "unwind")) block_names))) ts (b, c) r
+    → Begins (behind_token arrow (pair block_names (behind_token (word (codes "unwind")) block_names))) ts (b, c) r
 two_targets ts b c r x = record { joined = x.joined; allowed = x.allowed; follows = tt }
 
 target_of : (ts : List Token) (b c : ℕ) (r : List Token) → Begins exits ts (b, Some c) r
-    → Begins (behind arrow block_names) ts b (word (codes "unwind") ∷ block_word c ∷ r)
+    → Begins (behind_token arrow block_names) ts b (word (codes "unwind") ∷ block_word c ∷ r)
 target_of ts b c r x = record { joined = x.joined; allowed = x.allowed.0; follows = tt }
 
 pub blocks_one : IsOne block_names
 blocks_one = prefixed_one (codes "bb")
 
-target_one : IsOne (behind arrow block_names)
+target_one : IsOne (behind_token arrow block_names)
 target_one = behind_one block_names arrow blocks_one
 
 pub exits_one : IsOne exits
@@ -477,8 +460,8 @@ exits_one ts (b, Some c) (d, None) r s x y =
     absurd (let same = target_one ts b d _ s (target_of ts b c r x) (only_target ts d s y) in y.follows _ (sym same.1))
 exits_one ts (b, Some c) (d, Some e) r s x y =
     let one =
-    behind_one _ arrow (pair_one block_names (behind (word (codes "unwind")) block_names)
-    (block_before (behind (word (codes "unwind")) block_names)) blocks_one
+    behind_one _ arrow (pair_one block_names (behind_token (word (codes "unwind")) block_names)
+    (block_before (behind_token (word (codes "unwind")) block_names)) blocks_one
     (behind_one block_names (word (codes "unwind")) blocks_one)) in
     let same = one ts (b, c) (d, e) r s (two_targets ts b c r x) (two_targets ts d e s y) in
     (ap (λ (z : ℕ × ℕ). (z.0, Some z.1)) same.0, same.1)

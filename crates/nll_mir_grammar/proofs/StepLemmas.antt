@@ -1,10 +1,10 @@
 -- Steps through a type.
-use Rattle.std.proofs.Common.{◌≡◌, List, [], ◌∷◌, ◌++◌, refl, sym, ap, ◌∙◌, subst, append_assoc, ⊎_elim, inl, inr}
+use Rattle.std.proofs.Common.{◌≡◌, List, [], ◌∷◌, ◌++◌, refl, sym, ap, ◌∙◌, subst, append_assoc, ⊎_elim, inl, inr, arith}
 use Rattle.nll_text.specs.Tokens.{Token, region, arrow, sign}
-use Rattle.nll_mir_grammar.specs.WrittenTypes.{Name, WrittenType, WrittenTypes, Arguments, int, reference, tuple, named, function, none, more, no_argument, region_argument, type_argument, mutability, spelled, spelled_parts, spelled_more_parts, spelled_arguments, spelled_more_arguments, HasNames, HaveNames, ArgumentsHaveNames, IsFree, BeginsWithType}
+use Rattle.nll_mir_grammar.specs.WrittenTypes.{WrittenName, WrittenType, WrittenTypes, Arguments, int, reference, tuple, named, function, none, more, no_argument, region_argument, type_argument, mutability, spelled, spelled_parts, spelled_more_parts, spelled_arguments, spelled_more_arguments, HasNames, HaveNames, ArgumentsHaveNames, IsFree, BeginsWithType}
 use Rattle.nll_mir_grammar.specs.Reading.{HasNoType, IsTypeIn}
 use Rattle.nll_mir_grammar.specs.TypeTexts.{joined_arguments}
-use Rattle.nll_mir_grammar.specs.OpenTypes.{Frame, parts, arguments, inputs, output, joined, Closes, GoesInside, Reads, GoesOn, GoesOnWithRegion, Finishes, Steps, TypesGoOn, ResultGoesOn, IsStuck, IsNoFront}
+use Rattle.nll_mir_grammar.specs.OpenTypes.{Frame, parts, arguments, inputs, output, joined_types, Closes, GoesInside, ReadsType, FramesGoOn, GoesOnWithRegion, Finishes, Steps, TypesGoOn, ResultGoesOn, IsStuck, IsNoFront}
 use Rattle.nll_mir_grammar.specs.declared.opens.State.{State}
 use Rattle.nll_mir_grammar.specs.declared.opens.State.TheVariants.{Want, WantArgument, Have, Inside, WantArrow}
 use Rattle.nll_mir_grammar.proofs.FrontLemmas.{apart, no_name_of}
@@ -12,7 +12,7 @@ use Rattle.nll_mir_grammar.proofs.FrontLemmas.{apart, no_name_of}
 -- ---- one thing more behind others
 
 pub joined_more : (done : WrittenTypes) (t : WrittenType) (us : WrittenTypes)
-    → joined (joined done (more t none)) us ≡ joined done (more t us)
+    → joined_types (joined_types done (more t none)) us ≡ joined_types done (more t us)
 joined_more none t us = refl
 joined_more (more u done) t us = ap (more u) (joined_more done t us)
 
@@ -23,7 +23,7 @@ joined_type no_argument t us = refl
 joined_type (region_argument r done) t us = ap (region_argument r) (joined_type done t us)
 joined_type (type_argument u done) t us = ap (type_argument u) (joined_type done t us)
 
-pub joined_region : (done : Arguments) (q : Name) (us : Arguments)
+pub joined_region : (done : Arguments) (q : WrittenName) (us : Arguments)
     → joined_arguments (joined_arguments done (region_argument q no_argument)) us
     ≡ joined_arguments done (region_argument q us)
 joined_region no_argument q us = refl
@@ -38,92 +38,73 @@ pub step_output : (fs : List Frame) (done : WrittenTypes) (t : WrittenType) (ts 
 step_output fs _ t ts = record { there = λ whole rest f. f; back = λ whole rest f. f }
 
 pub step_input : (fs : List Frame) (done : WrittenTypes) (t u' : WrittenType) (ts : List Token)
-    → Steps Have (inputs done ∷ fs) t ts Inside (inputs (joined done (more t none)) ∷ fs) u' ts
+    → Steps Have (inputs done ∷ fs) t ts Inside (inputs (joined_types done (more t none)) ∷ fs) u' ts
 step_input fs done t u' ts = record { there = λ whole rest f. f; back = λ whole rest f. f }
 
 pub step_part : (fs : List Frame) (done : WrittenTypes) (t u' : WrittenType) (ts : List Token)
-    → Steps Have (parts done ∷ fs) t ts Inside (parts (joined done (more t none)) ∷ fs) u' ts
+    → Steps Have (parts done ∷ fs) t ts Inside (parts (joined_types done (more t none)) ∷ fs) u' ts
 step_part fs done t u' ts = record { there = λ whole rest f. f; back = λ whole rest f. f }
 
-pub step_type_argument : (fs : List Frame) (n : Name) (done : Arguments) (t u' : WrittenType) (ts : List Token)
+pub step_type_argument : (fs : List Frame) (n : WrittenName) (done : Arguments) (t u' : WrittenType) (ts : List Token)
     → Steps Have (arguments n done ∷ fs) t ts Inside
     (arguments n (joined_arguments done (type_argument t no_argument)) ∷ fs) u' ts
 step_type_argument fs n done t u' ts = record { there = λ whole rest f. f; back = λ whole rest f. f }
 
 -- ---- an argument
 
-no_region : (q : Name) (after : List Token) (t : WrittenType) (mid : List Token) → Reads (region q ∷ after) t mid → ⊥
+no_region : (q : WrittenName) (after : List Token) (t : WrittenType) (mid : List Token)
+    → ReadsType (region q ∷ after) t mid → ⊥
 no_region q after t mid r = no_name_of t mid after q (sym r.joins)
 
-pub step_region : (fs : List Frame) (n : Name) (done : Arguments) (t' u' : WrittenType) (q : Name) (after : List Token)
+pub step_region : (fs : List Frame) (n : WrittenName) (done : Arguments) (t' u' : WrittenType) (q : WrittenName)
+    (after : List Token)
     → Steps WantArgument (arguments n done ∷ fs) t' (region q ∷ after) Inside
     (arguments n (joined_arguments done (region_argument q no_argument)) ∷ fs) u' after
-step_region fs n done t' u' q after = record {
-  there = λ whole rest. ⊎_elim (λ f. there whole rest f.0 f.1 f.2 f.3) (λ f. absurd (no_region q after f.0 f.1 f.2));
-  back = λ whole rest f. inl (q, after, refl, f);
-}
+step_region fs n done t' u' q after = grind (arith, there, no_region)
   where
-    row : Name → List Frame
+    row : WrittenName → List Frame
     row p = arguments n (joined_arguments done (region_argument p no_argument)) ∷ fs
 
-    there : (whole : WrittenType) (rest : List Token) (p : Name) (mid : List Token) → region q ∷ after ≡ region p ∷ mid
+    there : (whole : WrittenType) (rest : List Token) (p : WrittenName) (mid : List Token)
+        → region q ∷ after ≡ region p ∷ mid
         → GoesInside (row p) mid whole rest → GoesInside (row q) after whole rest
-    there whole rest p mid e g =
-        let h : p ≡ q = cc in
-        let k : mid ≡ after = cc in
-        subst (λ z. GoesInside (row z) after whole rest) h (subst (λ m. GoesInside (row p) m whole rest) k g)
+    there whole rest p mid e g = grind (arith, row)
 
 pub step_no_region : (fs : List Frame) (t' u' : WrittenType) (ts : List Token)
-    → ((q : Name) (others : List Token) → ts ≡ region q ∷ others → ⊥) → Steps WantArgument fs t' ts Want fs u' ts
+    → ((q : WrittenName) (others : List Token) → ts ≡ region q ∷ others → ⊥) → Steps WantArgument fs t' ts Want fs u' ts
 step_no_region fs t' u' ts other =
     record { there = λ whole rest. ⊎_elim (by whole rest fs) (λ f. f); back = λ whole rest f. inr f }
   where
     by : (whole : WrittenType) (rest : List Token) (gs : List Frame) → GoesOnWithRegion gs ts whole rest
-        → GoesOn gs ts whole rest
+        → FramesGoOn gs ts whole rest
     by whole rest (arguments n done ∷ gs) f = absurd (other f.0 f.1 f.2)
     by whole rest _ f = absurd f
 
 -- ---- behind a part or an argument
 
 -- nothing more behind others
-joined_nothing : (done : WrittenTypes) → joined done none ≡ done
+joined_nothing : (done : WrittenTypes) → joined_types done none ≡ done
 joined_nothing none = refl
 joined_nothing (more t ts) = ap (more t) (joined_nothing ts)
 
 -- A row of types of which these are read, and behind which this comes.
 module _ (done : WrittenTypes) (Then : WrittenTypes → List Token → Type 0) where
   comma_there : (after : List Token) (us : WrittenTypes) (mid : List Token)
-      → sign 44 ∷ after ≡ spelled_more_parts us ++ mid → HaveNames us → Then (joined done us) mid
-      → (t : WrittenType) × (other : List Token) × Reads after t other
-      × TypesGoOn (joined done (more t none)) other Then
+      → sign 44 ∷ after ≡ spelled_more_parts us ++ mid → HaveNames us → Then (joined_types done us) mid
+      → (t : WrittenType) × (other : List Token) × ReadsType after t other
+      × TypesGoOn (joined_types done (more t none)) other Then
   comma_there after none mid e n c = absurd (let h : sign 44 ≡ sign 41 = cc in apart 44 41 refl h)
-  comma_there after (more t us) mid e n c = (
-    t,
-    spelled_more_parts us ++ mid,
-    record {
-      joins = (let h : after ≡ (spelled t ++ spelled_more_parts us) ++ mid = cc in
-          h ∙ append_assoc (spelled t) (spelled_more_parts us) mid);
-      names = n.0;
-    },
-    (us, mid, refl, n.1, subst (λ z. Then z mid) (sym (joined_more done t us)) c),
-  )
+  comma_there after (more t us) mid e n c = grind (arith, append_assoc, joined_more)
 
-  comma_back : (after : List Token) (t : WrittenType) (other : List Token) → Reads after t other
-      → TypesGoOn (joined done (more t none)) other Then → TypesGoOn done (sign 44 ∷ after) Then
-  comma_back after t other r c = (
-    more t c.0,
-    c.1,
-    ap (λ l. sign 44 ∷ l) (r.joins ∙ ap (λ l. spelled t ++ l) c.2
-        ∙ sym (append_assoc (spelled t) (spelled_more_parts c.0) c.1)),
-    (r.names, c.3),
-    subst (λ z. Then z c.1) (joined_more done t c.0) c.4,
-  )
+  comma_back : (after : List Token) (t : WrittenType) (other : List Token) → ReadsType after t other
+      → TypesGoOn (joined_types done (more t none)) other Then → TypesGoOn done (sign 44 ∷ after) Then
+  comma_back after t other r c = grind (arith, append_assoc, joined_more)
 
   close_there : (after : List Token) (us : WrittenTypes) (mid : List Token)
-      → sign 41 ∷ after ≡ spelled_more_parts us ++ mid → Then (joined done us) mid → Then done after
+      → sign 41 ∷ after ≡ spelled_more_parts us ++ mid → Then (joined_types done us) mid → Then done after
   close_there after none mid e c =
       (let h : mid ≡ after = cc in
-      subst (λ z. Then z after) (joined_nothing done) (subst (λ m. Then (joined done none) m) h c))
+      subst (λ z. Then z after) (joined_nothing done) (subst (λ m. Then (joined_types done none) m) h c))
   close_there after (more t us) mid e c = absurd (let h : sign 41 ≡ sign 44 = cc in apart 41 44 refl h)
 
   close_back : (after : List Token) → Then done after → TypesGoOn done (sign 41 ∷ after) Then
@@ -176,31 +157,16 @@ step_close_input fs done t' u' after = record {
 pub step_arrow : (fs : List Frame) (t' u' : WrittenType) (after : List Token)
     → Steps WantArrow fs t' (arrow ∷ after) Want fs u' after
 step_arrow fs t' u' after = record {
-  there = λ whole rest f. subst (λ z. GoesOn fs z whole rest) (let e = f.1 in let h : f.0 ≡ after = cc in h) f.2;
+  there = λ whole rest f. subst (λ z. FramesGoOn fs z whole rest) (let e = f.1 in let h : f.0 ≡ after = cc in h) f.2;
   back = λ whole rest f. (after, refl, f);
 }
 
-pub step_comma_argument : (fs : List Frame) (n : Name) (done : Arguments) (t' u' : WrittenType) (after : List Token)
+pub step_comma_argument : (fs : List Frame) (n : WrittenName) (done : Arguments) (t' u' : WrittenType)
+    (after : List Token)
     → Steps Inside (arguments n done ∷ fs) t' (sign 44 ∷ after) WantArgument (arguments n done ∷ fs) u' after
 step_comma_argument fs n done t' u' after = record {
   there = λ whole rest f. there whole rest f.0 f.1 f.2 f.3 f.4;
-  back = λ whole rest. ⊎_elim
-      (λ f. let c = f.3 in (
-        region_argument f.0 c.0,
-        c.1,
-        ap (λ l. sign 44 ∷ l) (f.2 ∙ ap (λ l. region f.0 ∷ l) c.2),
-        c.3,
-        subst (λ z. Closes fs (named n z) c.1 whole rest) (joined_region done f.0 c.0) c.4,
-      ))
-      (λ f. let c = f.3 in (
-        type_argument f.0 c.0,
-        c.1,
-        (let k = c.2 in ap (λ l. sign 44 ∷ l)
-            (f.2.joins ∙ ap (λ l. spelled f.0 ++ l) k
-            ∙ sym (append_assoc (spelled f.0) (spelled_more_arguments c.0) c.1))),
-        (f.2.names, c.3),
-        subst (λ z. Closes fs (named n z) c.1 whole rest) (joined_type done f.0 c.0) c.4,
-      ));
+  back = grind (arith, joined_region, append_assoc, joined_type);
 }
   where
     there : (whole : WrittenType) (rest : List Token) (us : Arguments) (mid : List Token)
@@ -208,37 +174,12 @@ step_comma_argument fs n done t' u' after = record {
         → Closes fs (named n (joined_arguments done us)) mid whole rest
         → Finishes WantArgument (arguments n done ∷ fs) u' after whole rest
     there whole rest no_argument mid e h c = absurd (let h : sign 44 ≡ sign 62 = cc in apart 44 62 refl h)
-    there whole rest (region_argument q us) mid e h c =
-        inl (
-          q,
-          spelled_more_arguments us ++ mid,
-          (let h : after ≡ region q ∷ (spelled_more_arguments us ++ mid) = cc in h),
-          (us, mid, refl, h, subst (λ z. Closes fs (named n z) mid whole rest) (sym (joined_region done q us)) c),
-        )
-    there whole rest (type_argument t us) mid e h c =
-        inr (
-          t,
-          spelled_more_arguments us ++ mid,
-          record {
-            joins = (let h : after ≡ (spelled t ++ spelled_more_arguments us) ++ mid = cc in
-                h ∙ append_assoc (spelled t) (spelled_more_arguments us) mid);
-            names = h.0;
-          },
-          (us, mid, refl, h.1, subst (λ z. Closes fs (named n z) mid whole rest) (sym (joined_type done t us)) c),
-        )
+    there whole rest (region_argument q us) mid e h c = grind (arith, joined_region)
+    there whole rest (type_argument t us) mid e h c = grind (arith, append_assoc, joined_type)
 
-pub step_close_argument : (fs : List Frame) (n : Name) (done : Arguments) (t' : WrittenType) (after : List Token)
+pub step_close_argument : (fs : List Frame) (n : WrittenName) (done : Arguments) (t' : WrittenType) (after : List Token)
     → Steps Inside (arguments n done ∷ fs) t' (sign 62 ∷ after) Have fs (named n done) after
-step_close_argument fs n done t' after = record {
-  there = λ whole rest f. there whole rest f.0 f.1 f.2 f.4;
-  back = λ whole rest f. (
-    no_argument,
-    after,
-    refl,
-    tt,
-    subst (λ z. Closes fs (named n z) after whole rest) (sym (joined_none done)) f,
-  );
-}
+step_close_argument fs n done t' after = grind (arith, there, joined_none)
   where
     joined_none : (done : Arguments) → joined_arguments done no_argument ≡ done
     joined_none no_argument = refl
@@ -259,7 +200,7 @@ step_close_argument fs n done t' after = record {
 pub stuck_want : (fs : List Frame) (t' : WrittenType) (ts : List Token) → IsNoFront ts → IsStuck Want fs t' ts
 stuck_want fs t' ts front whole rest f = by f.0 f.1 f.2
   where
-    by : (t : WrittenType) (mid : List Token) → Reads ts t mid → ⊥
+    by : (t : WrittenType) (mid : List Token) → ReadsType ts t mid → ⊥
     by int mid r = front.int mid r.joins
     by (reference q m t) mid r = front.reference q ((mutability m ++ spelled t) ++ mid) r.joins
     by (tuple ts) mid r = front.bracket (spelled_parts ts ++ mid) r.joins
@@ -276,7 +217,7 @@ pub stuck_input : (fs : List Frame) (done : WrittenTypes) (t' : WrittenType) (ts
     → IsStuck Inside (inputs done ∷ fs) t' ts
 stuck_input fs before t' ts comma close whole rest f = no_types ts comma close f.0 f.1 f.2
 
-pub stuck_argument : (fs : List Frame) (n : Name) (done : Arguments) (t' : WrittenType) (ts : List Token)
+pub stuck_argument : (fs : List Frame) (n : WrittenName) (done : Arguments) (t' : WrittenType) (ts : List Token)
     → ((rest : List Token) → ts ≡ sign 44 ∷ rest → ⊥) → ((rest : List Token) → ts ≡ sign 62 ∷ rest → ⊥)
     → IsStuck Inside (arguments n done ∷ fs) t' ts
 stuck_argument fs n done t' ts comma close whole rest f = by f.0 f.1 f.2
@@ -287,8 +228,8 @@ stuck_argument fs n done t' ts comma close whole rest f = by f.0 f.1 f.2
     by (type_argument t us) mid e = comma ((spelled t ++ spelled_more_arguments us) ++ mid) e
 
 -- a region, where no arguments are open
-pub stuck_region : (fs : List Frame) (t' : WrittenType) (q : Name) (after : List Token)
-    → ((n : Name) (done : Arguments) (gs : List Frame) → fs ≡ arguments n done ∷ gs → ⊥)
+pub stuck_region : (fs : List Frame) (t' : WrittenType) (q : WrittenName) (after : List Token)
+    → ((n : WrittenName) (done : Arguments) (gs : List Frame) → fs ≡ arguments n done ∷ gs → ⊥)
     → IsStuck WantArgument fs t' (region q ∷ after)
 stuck_region fs t' q after other whole rest = ⊎_elim (by fs refl) (λ f. no_region q after f.0 f.1 f.2)
   where
@@ -315,10 +256,6 @@ pub type_here : (ts at_ts : List Token) (t' : WrittenType) → Steps Want [] int
 type_here ts at_ts t' same free =
     let f = same.back t' at_ts (refl, refl, free) in
     record {
-      found = record {
-        joined = f.2.joins ∙ ap (λ z. spelled z ++ f.1) f.3.0 ∙ ap (λ z. spelled t' ++ z) f.3.1;
-        names = subst HasNames f.3.0 f.2.names;
-        free = free;
-      };
+      found = grind arith;
       only = λ u other b. (let c = same.there u other (reads_of ts other u b) in (sym c.0, sym c.1));
     }

@@ -57,7 +57,3 @@ pub call_types : (args : List (Written × List TypePiece))
     ≡ map (λ (a : Written × List TypePiece). written a.1) args
 call_types [] = refl
 call_types (a ∷ args) = ap (λ ts. written a.1 ∷ ts) (call_types args)
-
--- the fields of a struct line are the parts of a tuple
-pub fields_alike : (t : WrittenType) → IsTuple t → has_function t ≡ have_function (parts t)
-fields_alike t e = ap has_function e

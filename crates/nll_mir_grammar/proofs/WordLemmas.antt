@@ -1,13 +1,21 @@
 -- What words and numbers at the front of the rest of a line are read from.
-use Rattle.std.proofs.Common.{◌≡◌, ℕ, ◌<◌, false, List, ◌∷◌, ◌++◌, length, get_or, ap, ◌∙◌, arith}
+use Rattle.std.proofs.Common.{◌≡◌, ℕ, ◌<◌, false, List, ◌∷◌, ◌++◌, length, get_or, refl, sym, ap, ◌∙◌, arith}
 use Rattle.std.specs.Prelude.{codes}
 use Rattle.std.specs.Fmt.{decimal}
 use Rattle.nll_text.specs.Lines.{is_blank}
-use Rattle.nll_text.specs.Tokens.{Token, word, first_passes}
+use Rattle.nll_text.specs.Tokens.{Token, word, sign, first_passes}
 use Rattle.nll_text.specs.LineTokens.{tokens_in}
-use Rattle.nll_text.specs.Grammars.{Begins, any_words}
+use Rattle.nll_text.specs.Grammars.{Begins, HasNone, any_words}
 use Rattle.nll_text.proofs.TokenLemmas.{first_token}
-use Rattle.nll_mir_grammar.specs.Parts.{variables, block_names}
+use Rattle.nll_mir_grammar.specs.Grammars.{behind_token}
+use Rattle.nll_mir_grammar.specs.Parts.{variables, block_names, places}
+use Rattle.nll_mir_grammar.specs.Kinds.{HasNoKeyword, keyword_name, lines, rights}
+use Rattle.nll_mir_grammar.specs.declared.keyword.Keyword.{Keyword}
+use Rattle.nll_mir_grammar.specs.declared.keyword.Keyword.TheVariants as words
+use Rattle.nll_mir_grammar.proofs.GrammarLemmas.{pair_none}
+use Rattle.nll_mir_grammar.proofs.PartLemmas.{no_place}
+use Rattle.nll_mir_grammar.proofs.KindLemmas.{rights_join}
+use Rattle.nll_mir_grammar.proofs.LineLemmas.{no_assignment}
 
 -- it is this word
 pub word_next : (ts rest : List Token) (name w : List ℕ) → Begins any_words ts name rest → name ≡ w
@@ -31,3 +39,30 @@ block_there core solid ts e n r b =
       ap (λ (l : List ℕ). get_or l 0 0) h.joined,
       ap (λ (l : List ℕ). get_or l 1 0) h.joined,
     )
+
+-- no keyword begins with `_`
+no_marked : (k : Keyword) (more : List ℕ) → get_or (keyword_name k ++ more) 0 0 ≡ 95 → ⊥
+no_marked words.End more e = absurd (omega (arith, e))
+no_marked _ more e = absurd (omega (arith, e))
+
+-- bytes that begin with `_` begin with no keyword
+pub marked : (core : List ℕ) → first_passes is_blank core ≡ false → get_or core 0 0 ≡ 95 → HasNoKeyword (tokens_in core)
+marked core solid first k rest e =
+    let h = first_token core solid (word (keyword_name k)) rest e in
+    no_marked k h.rest (sym (ap (λ (l : List ℕ). get_or l 0 0) h.joined) ∙ first)
+
+-- tokens that begin with no word, or with one that is no keyword, begin with no keyword
+pub no_word : (ts : List Token) → HasNone any_words ts → HasNoKeyword ts
+no_word ts none k rest e = none (keyword_name k) rest (record { joined = e; allowed = tt; follows = tt })
+
+pub no_keyword : (ts rest : List Token) (w : List ℕ) → Begins any_words ts w rest
+    → ((k : Keyword) → w ≡ keyword_name k → ⊥) → HasNoKeyword ts
+no_keyword ts rest w b none k r e =
+    let same : word w ∷ rest ≡ word (keyword_name k) ∷ r = sym b.joined ∙ e in none k cc
+
+-- bytes that don't begin with `_`, nor with a keyword, begin no line
+pub unmarked : (core : List ℕ) → first_passes is_blank core ≡ false
+    → ((0 < length core) × (get_or core 0 0 ≡ 95) → ⊥) → HasNoKeyword (tokens_in core)
+    → HasNone lines (tokens_in core)
+unmarked core solid other none = no_assignment _ none (pair_none places (behind_token (sign 61) rights) rights_join _
+    (no_place _ (λ n r b. other (variable_there core solid _ refl n r b))))

@@ -16,8 +16,8 @@ IsOne {A} g =
 -- ---- grammars made of others
 
 -- a token, and then a value
-abbrev pub behind : {A : Type 0} → Token → Grammar A → Grammar A
-behind t g = record {
+abbrev pub behind_token : {A : Type 0} → Token → Grammar A → Grammar A
+behind_token t g = record {
   spells = λ a. t ∷ g.spells a;
   IsAllowed = g.IsAllowed;
   MayFollow = g.MayFollow;
@@ -51,7 +51,7 @@ MayFollowLast g a (b ∷ bs) r = MayFollowLast g b bs r
 -- these may follow values that are separated by commas
 abbrev pub MayFollowAll : {A : Type 0} → Grammar A → List A → List Token → Type 0
 MayFollowAll g [] r = Unit {0}
-MayFollowAll g (a ∷ xs) r = MayFollowLast g a xs r × HasNone (behind (sign 44) g) r
+MayFollowAll g (a ∷ xs) r = MayFollowLast g a xs r × HasNone (behind_token (sign 44) g) r
 
 -- values separated by commas, at least one and as many as there are
 abbrev pub commas : {A : Type 0} → Grammar A → Grammar (List A)

@@ -4,9 +4,9 @@ use Rattle.std.specs.Prelude.{◌≡◌, ℕ, Bool, List, [], ◌∷◌, codes, 
 use Rattle.nll_text.specs.Tokens.{Token, word, sign}
 use Rattle.nll_types.specs.Places.{PlacePath}
 use Rattle.nll_types.specs.Operands.{Operand}
-use Rattle.nll_mir_grammar.specs.WrittenTypes.{Name, WrittenType, WrittenTypes}
+use Rattle.nll_mir_grammar.specs.WrittenTypes.{WrittenName, WrittenType, WrittenTypes}
 use Rattle.nll_text.specs.Grammars.{Grammar, Begins, any_words, numbers, regions}
-use Rattle.nll_mir_grammar.specs.Grammars.{behind, empty, pair, parentheses, by_kind}
+use Rattle.nll_mir_grammar.specs.Grammars.{behind_token, empty, pair, parentheses, by_kind}
 use Rattle.nll_mir_grammar.specs.Parts.{names, variables, block_names}
 use Rattle.nll_mir_grammar.specs.Parts.{places, operands, types, tuples, arguments, mutabilities}
 use Rattle.nll_mir_grammar.specs.Parts.{drop_marks, parameter_lists, bounds, bound_lists}
@@ -68,11 +68,11 @@ pub record IsNoPointKeyword (w : List ℕ) : Type 0 where
 
 -- what follows the word
 abbrev pub Behind : Keyword → Type 0
-Behind words.Universal = Name
-Behind words.Outlives = Name × Name
-Behind words.Region = Name
-Behind words.Assert = Name × Name
-Behind words.Struct = Name × (List WrittenParameter × (Bool × WrittenTypes))
+Behind words.Universal = WrittenName
+Behind words.Outlives = WrittenName × WrittenName
+Behind words.Region = WrittenName
+Behind words.Assert = WrittenName × WrittenName
+Behind words.Struct = WrittenName × (List WrittenParameter × (Bool × WrittenTypes))
 Behind words.Let = ℕ × WrittenType
 Behind words.Blocks = ℕ
 Behind words.Block = ℕ
@@ -88,7 +88,7 @@ Behind words.Stop = Unit {0}
 Behind words.End = Unit {0}
 
 -- what follows `struct`
-abbrev pub structs : Grammar (Name × (List WrittenParameter × (Bool × WrittenTypes)))
+abbrev pub structs : Grammar (WrittenName × (List WrittenParameter × (Bool × WrittenTypes)))
 structs = pair names (pair parameter_lists (pair drop_marks tuples))
 
 -- how it is spelled
@@ -98,7 +98,7 @@ tails words.Outlives = pair regions regions
 tails words.Region = regions
 tails words.Assert = bounds
 tails words.Struct = structs
-tails words.Let = pair variables (behind (sign 58) types)
+tails words.Let = pair variables (behind_token (sign 58) types)
 tails words.Blocks = numbers
 tails words.Block = block_names
 tails words.Read = places
@@ -124,14 +124,14 @@ pub data Right : Type 0 where
 -- what a right side has
 abbrev pub RightParts : Right → Type 0
 RightParts value = Operand
-RightParts borrowed = Name × (Bool × PlacePath)
+RightParts borrowed = WrittenName × (Bool × PlacePath)
 RightParts made = WrittenType × List Operand
 RightParts called =
     List ℕ × (List (Operand × WrittenType)
-    × (WrittenType × (List (Name × Name) × (ℕ × Option ℕ))))
+    × (WrittenType × (List (WrittenName × WrittenName) × (ℕ × Option ℕ))))
 
 -- what follows the `&` of a borrow
-abbrev pub borrows : Grammar (Name × (Bool × PlacePath))
+abbrev pub borrows : Grammar (WrittenName × (Bool × PlacePath))
 borrows = pair regions (pair mutabilities places)
 
 -- what follows `make`
@@ -139,20 +139,21 @@ abbrev pub makes : Grammar (WrittenType × List Operand)
 makes = pair types (parentheses operands)
 
 -- what follows the `:` of a call
-abbrev pub results : Grammar (WrittenType × (List (Name × Name) × (ℕ × Option ℕ)))
+abbrev pub results : Grammar (WrittenType × (List (WrittenName × WrittenName) × (ℕ × Option ℕ)))
 results = pair types (pair bound_lists exits)
 
 -- what follows the name of a function that is called
 abbrev pub signatures :
-    Grammar (List (Operand × WrittenType) × (WrittenType × (List (Name × Name) × (ℕ × Option ℕ))))
-signatures = pair (parentheses arguments) (behind (sign 58) results)
+    Grammar (List (Operand × WrittenType) × (WrittenType × (List (WrittenName × WrittenName) × (ℕ
+    × Option ℕ))))
+signatures = pair (parentheses arguments) (behind_token (sign 58) results)
 
 -- how it is spelled
 abbrev pub right_sides : (k : Right) → Grammar (RightParts k)
 right_sides value = operands
-right_sides borrowed = behind (sign 38) borrows
-right_sides made = behind (word (codes "make")) makes
-right_sides called = behind (word (codes "call")) (pair any_words signatures)
+right_sides borrowed = behind_token (sign 38) borrows
+right_sides made = behind_token (word (codes "make")) makes
+right_sides called = behind_token (word (codes "call")) (pair any_words signatures)
 
 -- a right side
 abbrev pub rights : Grammar ((k : Right) × RightParts k)
@@ -167,43 +168,44 @@ LineParts (Some k) = Behind k
 
 -- how it is spelled, with its keyword
 abbrev pub line_grammars : (k : Option Keyword) → Grammar (LineParts k)
-line_grammars None = pair places (behind (sign 61) rights)
-line_grammars (Some k) = behind (word (keyword_name k)) (tails k)
+line_grammars None = pair places (behind_token (sign 61) rights)
+line_grammars (Some k) = behind_token (word (keyword_name k)) (tails k)
 
 -- a line
 abbrev pub lines : Grammar ((k : Option Keyword) × LineParts k)
 lines = by_kind LineParts line_grammars
 
 -- the parts of a form, with the word after `call`
-abbrev pub parts_of : List ℕ → Form → (k : Option Keyword) × LineParts k
-parts_of f (universal a) = (Some words.Universal, a)
-parts_of f (outlives a b) = (Some words.Outlives, (a, b))
-parts_of f (further x) = (Some words.Region, x)
-parts_of f (assert_line a b) = (Some words.Assert, (a, b))
-parts_of f (struct_line n ps has_drop fields) = (Some words.Struct, (n, (ps, (has_drop, fields))))
-parts_of f (variable x t) = (Some words.Let, (x, t))
-parts_of f (blocks n) = (Some words.Blocks, n)
-parts_of f (block n) = (Some words.Block, n)
-parts_of f (at_point (assign p op)) = (None, (p, (value, op)))
-parts_of f (at_point (borrow p r m q)) = (None, (p, (borrowed, (r, (m, q)))))
-parts_of f (at_point (make p t ops)) = (None, (p, (made, (t, ops))))
-parts_of f (at_point (read p)) = (Some words.Read, p)
-parts_of f (at_point (live x)) = (Some words.Live, x)
-parts_of f (at_point (dead x)) = (Some words.Dead, x)
-parts_of f (at_point nop) = (Some words.Nop, tt)
-parts_of f (at_point (goto b)) = (Some words.Goto, b)
-parts_of f (at_point (switch op bs)) = (Some words.Switch, (op, bs))
-parts_of f (at_point (drop x b unwind)) = (Some words.Drop, (x, (b, unwind)))
-parts_of f (at_point (call p args t wheres b unwind)) =
+abbrev pub parts_of_form : List ℕ → Form → (k : Option Keyword) × LineParts k
+parts_of_form f (universal a) = (Some words.Universal, a)
+parts_of_form f (outlives a b) = (Some words.Outlives, (a, b))
+parts_of_form f (further x) = (Some words.Region, x)
+parts_of_form f (assert_line a b) = (Some words.Assert, (a, b))
+parts_of_form f (struct_line n ps has_drop fields) =
+    (Some words.Struct, (n, (ps, (has_drop, fields))))
+parts_of_form f (variable x t) = (Some words.Let, (x, t))
+parts_of_form f (blocks n) = (Some words.Blocks, n)
+parts_of_form f (block n) = (Some words.Block, n)
+parts_of_form f (at_point (assign p op)) = (None, (p, (value, op)))
+parts_of_form f (at_point (borrow p r m q)) = (None, (p, (borrowed, (r, (m, q)))))
+parts_of_form f (at_point (make p t ops)) = (None, (p, (made, (t, ops))))
+parts_of_form f (at_point (read p)) = (Some words.Read, p)
+parts_of_form f (at_point (live x)) = (Some words.Live, x)
+parts_of_form f (at_point (dead x)) = (Some words.Dead, x)
+parts_of_form f (at_point nop) = (Some words.Nop, tt)
+parts_of_form f (at_point (goto b)) = (Some words.Goto, b)
+parts_of_form f (at_point (switch op bs)) = (Some words.Switch, (op, bs))
+parts_of_form f (at_point (drop x b unwind)) = (Some words.Drop, (x, (b, unwind)))
+parts_of_form f (at_point (call p args t wheres b unwind)) =
     (None, (p, (called, (f, (args, (t, (wheres, (b, unwind))))))))
-parts_of f (at_point return) = (Some words.Return, tt)
-parts_of f (at_point stop) = (Some words.Stop, tt)
-parts_of f end = (Some words.End, tt)
+parts_of_form f (at_point return) = (Some words.Return, tt)
+parts_of_form f (at_point stop) = (Some words.Stop, tt)
+parts_of_form f end = (Some words.End, tt)
 
 -- a form at the front: `f` is the word after `call`
 pub record IsLine (ts : List Token) (f : Form) (rest : List Token) : Type 0 where
   pub callee : List ℕ
-  pub begins : Begins lines ts (parts_of callee f) rest
+  pub begins : Begins lines ts (parts_of_form callee f) rest
 
 -- the right side at the front, of an assignment to the place that is of this form
 pub record IsRightSide (ts : List Token) (p : PlacePath) (f : Form) (rest : List Token) :
@@ -211,11 +213,11 @@ pub record IsRightSide (ts : List Token) (p : PlacePath) (f : Form) (rest : List
   pub callee : List ℕ
   pub right : (k : Right) × RightParts k
   pub begins : Begins rights ts right rest
-  pub same : parts_of callee f ≡ (None, (p, right))
+  pub same : parts_of_form callee f ≡ (None, (p, right))
 
 -- what follows the keyword, of a line that is of this form
 abbrev pub IsBehind : Keyword → List Token → Form → List Token → Type 0
-IsBehind k ts f rest = Begins lines (word (keyword_name k) ∷ ts) (parts_of [] f) rest
+IsBehind k ts f rest = Begins lines (word (keyword_name k) ∷ ts) (parts_of_form [] f) rest
 
 -- the tokens begin with no keyword
 abbrev pub HasNoKeyword : List Token → Type 0

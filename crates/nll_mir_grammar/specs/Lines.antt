@@ -5,7 +5,7 @@ use Rattle.std.specs.Borrow.{Bor}
 use Rattle.std.specs.Global.{Vec}
 use Rattle.nll_types.specs.Operands.{Operand, operand_of}
 use Rattle.nll_types.specs.declared.operand.Operand.{Operand as Written}
-use Rattle.nll_mir_grammar.specs.WrittenTypes.{Name, WrittenType}
+use Rattle.nll_mir_grammar.specs.WrittenTypes.{WrittenName, WrittenType}
 use Rattle.nll_mir_grammar.specs.TypeTexts.{written}
 use Rattle.nll_mir_grammar.specs.declared.type_text.TypePiece.{TypePiece}
 use Rattle.nll_body.specs.Statements.{map_statement}
@@ -28,7 +28,7 @@ argument_of a = (operand_of a.0, written a.1)
 -- the result of a call in the code, its bounds, and where it goes on
 abbrev pub result_of :
     List TypePiece × (Vec (Bor (List ℕ) × Bor (List ℕ)) × (ℕ × Option ℕ))
-    → WrittenType × (List (Name × Name) × (ℕ × Option ℕ))
+    → WrittenType × (List (WrittenName × WrittenName) × (ℕ × Option ℕ))
 result_of r = (written r.0, (map (λ w. (w.0.now, w.1.now)) r.1.0.items, r.1.1))
 
 -- a parameter of the code

@@ -12,29 +12,30 @@ use Rattle.nll_types.specs.declared.place.Projection.TheVariants.{Deref, Field}
 use Rattle.nll_types.specs.declared.parameter.Parameter.{Parameter}
 use Rattle.nll_types.specs.declared.parameter.Sign.{Sign}
 use Rattle.nll_types.specs.declared.parameter.Sign.TheVariants.{Covariant, Contravariant, Invariant}
-use Rattle.nll_mir_grammar.specs.WrittenTypes.{Name, WrittenType, WrittenTypes, tuple, spelled}
+use Rattle.nll_mir_grammar.specs.WrittenTypes.{WrittenName, WrittenType, WrittenTypes, tuple}
+use Rattle.nll_mir_grammar.specs.WrittenTypes.{spelled}
 use Rattle.nll_mir_grammar.specs.WrittenTypes.{mutability, HasNames, is_capital}
 use Rattle.nll_body.specs.Statements.{Statement, assign, borrow, make, read, live, dead, nop}
 use Rattle.nll_body.specs.Statements.{goto, switch, drop, call, return, stop}
 
 -- A parameter of a struct: a region's name or a type's.
 pub data WrittenParameter : Type 0 where
-  region_parameter : Name → Parameter → WrittenParameter
-  type_parameter : Name → Parameter → WrittenParameter
+  region_parameter : WrittenName → Parameter → WrittenParameter
+  type_parameter : WrittenName → Parameter → WrittenParameter
 
 -- A line that isn't skipped, by its form.
 pub data Form : Type 0 where
-  universal : Name → Form
-  outlives : Name → Name → Form
-  further : Name → Form
+  universal : WrittenName → Form
+  outlives : WrittenName → WrittenName → Form
+  further : WrittenName → Form
   -- that the first region holds, at all points, what the second one holds
-  assert_line : Name → Name → Form
+  assert_line : WrittenName → WrittenName → Form
   -- a struct with its parameters, whether it has a drop of its own, and its fields
-  struct_line : Name → List WrittenParameter → Bool → WrittenTypes → Form
+  struct_line : WrittenName → List WrittenParameter → Bool → WrittenTypes → Form
   variable : ℕ → WrittenType → Form
   blocks : ℕ → Form
   block : ℕ → Form
-  at_point : Statement Name WrittenType → Form
+  at_point : Statement WrittenName WrittenType → Form
   end : Form
 
 -- ---- how the parts of a line are spelled
@@ -108,7 +109,7 @@ spelled_exits b None = arrow ∷ block_word b ∷ []
 spelled_exits b (Some c) = arrow ∷ block_word b ∷ word (codes "unwind") ∷ block_word c ∷ []
 
 -- nothing, or `where 'a : 'b , ..`
-abbrev pub spelled_wheres : List (Name × Name) → List Token
+abbrev pub spelled_wheres : List (WrittenName × WrittenName) → List Token
 spelled_wheres [] = []
 spelled_wheres (w ∷ ws) =
     word (codes "where") ∷ parted (map (λ v. region v.0 ∷ sign 58 ∷ region v.1 ∷ []) (w ∷ ws))
@@ -118,7 +119,7 @@ abbrev pub spelled_argument : Operand × WrittenType → List Token
 spelled_argument a = spelled_operand a.0 ++ sign 58 ∷ spelled a.1
 
 -- The tokens of a statement or terminator. The word after `call` may be any.
-abbrev pub spelled_statement : List ℕ → Statement Name WrittenType → List Token
+abbrev pub spelled_statement : List ℕ → Statement WrittenName WrittenType → List Token
 spelled_statement f (assign p op) = spelled_place p ++ sign 61 ∷ spelled_operand op
 spelled_statement f (borrow p r m q) =
     spelled_place p ++ sign 61 ∷ sign 38 ∷ region r ∷ (mutability m ++ spelled_place q)
@@ -160,17 +161,17 @@ spelled_form f end = word (codes "end") ∷ []
 -- ---- what a line may say
 
 -- a number has at most nine digits
-abbrev pub IsSmall : ℕ → Type 0
-IsSmall n = n < 10 ^ 9
+abbrev pub IsShortNumber : ℕ → Type 0
+IsShortNumber n = n < 10 ^ 9
 
 -- the number of a projection has at most nine digits, where it has one
 abbrev pub IsWritableProjection : Projection → Type 0
 IsWritableProjection Deref = Unit {0}
-IsWritableProjection (Field k) = IsSmall k
+IsWritableProjection (Field k) = IsShortNumber k
 
 -- the numbers of a place have at most nine digits
 abbrev pub IsWritablePlace : PlacePath → Type 0
-IsWritablePlace p = IsSmall p.variable × AllByRecursion IsWritableProjection p.projections
+IsWritablePlace p = IsShortNumber p.variable × AllByRecursion IsWritableProjection p.projections
 
 -- the numbers of an operand have at most nine digits
 abbrev pub IsWritableOperand : Operand → Type 0
@@ -186,26 +187,26 @@ IsWritableParameter (type_parameter n p) = is_capital n ≡ true
 -- the other block's number has at most nine digits, where there is another
 abbrev pub IsWritableUnwind : Option ℕ → Type 0
 IsWritableUnwind None = Unit {0}
-IsWritableUnwind (Some b) = IsSmall b
+IsWritableUnwind (Some b) = IsShortNumber b
 
 -- numbers have at most nine digits, names of types begin with a capital letter, and a switch has a
 -- target
-abbrev pub IsWritableStatement : Statement Name WrittenType → Type 0
+abbrev pub IsWritableStatement : Statement WrittenName WrittenType → Type 0
 IsWritableStatement (assign p op) = IsWritablePlace p × IsWritableOperand op
 IsWritableStatement (borrow p r m q) = IsWritablePlace p × IsWritablePlace q
 IsWritableStatement (make p t ops) =
     IsWritablePlace p × HasNames t × AllByRecursion IsWritableOperand ops
 IsWritableStatement (read p) = IsWritablePlace p
-IsWritableStatement (live x) = IsSmall x
-IsWritableStatement (dead x) = IsSmall x
+IsWritableStatement (live x) = IsShortNumber x
+IsWritableStatement (dead x) = IsShortNumber x
 IsWritableStatement nop = Unit {0}
-IsWritableStatement (goto b) = IsSmall b
+IsWritableStatement (goto b) = IsShortNumber b
 IsWritableStatement (switch op bs) =
-    IsWritableOperand op × (0 < length bs) × AllByRecursion IsSmall bs
-IsWritableStatement (drop x b unwind) = IsSmall x × IsSmall b × IsWritableUnwind unwind
+    IsWritableOperand op × (0 < length bs) × AllByRecursion IsShortNumber bs
+IsWritableStatement (drop x b unwind) = IsShortNumber x × IsShortNumber b × IsWritableUnwind unwind
 IsWritableStatement (call p args t wheres b unwind) =
     IsWritablePlace p × AllByRecursion (λ a. IsWritableOperand a.0 × HasNames a.1) args
-    × HasNames t × IsSmall b × IsWritableUnwind unwind
+    × HasNames t × IsShortNumber b × IsWritableUnwind unwind
 IsWritableStatement return = Unit {0}
 IsWritableStatement stop = Unit {0}
 
@@ -213,9 +214,9 @@ IsWritableStatement stop = Unit {0}
 abbrev pub IsWritable : Form → Type 0
 IsWritable (struct_line n ps has_drop fields) =
     (is_capital n ≡ true) × AllByRecursion IsWritableParameter ps × HasNames (tuple fields)
-IsWritable (variable x t) = IsSmall x × HasNames t
-IsWritable (blocks n) = IsSmall n
-IsWritable (block n) = IsSmall n
+IsWritable (variable x t) = IsShortNumber x × HasNames t
+IsWritable (blocks n) = IsShortNumber n
+IsWritable (block n) = IsShortNumber n
 IsWritable (at_point s) = IsWritableStatement s
 IsWritable _ = Unit {0}
 

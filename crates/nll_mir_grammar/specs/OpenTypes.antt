@@ -3,13 +3,13 @@
 use Rattle.std.specs.Prelude.{◌≡◌, ◌⊎◌, ℕ, Bool, true, false, List, [], ◌∷◌, ◌++◌, ◌<◌, ◌≤◌, ◌+◌}
 use Rattle.std.specs.Prelude.{◌*◌, length, reverse, map, codes}
 use Rattle.nll_text.specs.Tokens.{Token, word, region, arrow, sign}
-use Rattle.nll_mir_grammar.specs.WrittenTypes.{Name, WrittenType, WrittenTypes, Arguments}
+use Rattle.nll_mir_grammar.specs.WrittenTypes.{WrittenName, WrittenType, WrittenTypes, Arguments}
 use Rattle.nll_mir_grammar.specs.WrittenTypes.{reference, tuple, named, function, none, more}
 use Rattle.nll_mir_grammar.specs.WrittenTypes.{no_argument, region_argument, type_argument}
 use Rattle.nll_mir_grammar.specs.WrittenTypes.{spelled, spelled_more_parts}
 use Rattle.nll_mir_grammar.specs.WrittenTypes.{spelled_more_arguments, is_capital}
 use Rattle.nll_mir_grammar.specs.WrittenTypes.{HasNames, HaveNames, ArgumentsHaveNames, IsFree}
-use Rattle.nll_mir_grammar.specs.TypeTexts.{Piece, begin_reference, begin_row, steps}
+use Rattle.nll_mir_grammar.specs.TypeTexts.{Piece, begin_reference, begin_row, piece_steps}
 use Rattle.nll_mir_grammar.specs.TypeTexts.{part_steps, argument_steps, joined_arguments, plain}
 use Rattle.nll_mir_grammar.specs.declared.type_text.TypePiece.{TypePiece}
 use Rattle.nll_mir_grammar.specs.declared.fronts.Front.{Front}
@@ -23,22 +23,22 @@ use Rattle.nll_mir_grammar.specs.declared.opens.Open.TheVariants as opens
 -- ---- the tokens at the beginning of a type
 
 -- The tokens begin like this, and then come others.
-abbrev pub Begins : Front → List Token → List Token → Type 0
-Begins fronts.Int ts rest = ts ≡ word (codes "int") ∷ rest
-Begins fronts.Unit ts rest = ts ≡ sign 40 ∷ sign 41 ∷ rest
-Begins fronts.Tuple ts rest =
+abbrev pub BeginsType : Front → List Token → List Token → Type 0
+BeginsType fronts.Int ts rest = ts ≡ word (codes "int") ∷ rest
+BeginsType fronts.Unit ts rest = ts ≡ sign 40 ∷ sign 41 ∷ rest
+BeginsType fronts.Tuple ts rest =
     (ts ≡ sign 40 ∷ rest) × ((others : List Token) → rest ≡ sign 41 ∷ others → ⊥)
-Begins (fronts.Reference r true) ts rest =
+BeginsType (fronts.Reference r true) ts rest =
     ts ≡ sign 38 ∷ region r.now ∷ word (codes "mut") ∷ rest
-Begins (fronts.Reference r false) ts rest =
+BeginsType (fronts.Reference r false) ts rest =
     (ts ≡ sign 38 ∷ region r.now ∷ rest)
     × ((others : List Token) → rest ≡ word (codes "mut") ∷ others → ⊥)
-Begins (fronts.Generic n) ts rest =
+BeginsType (fronts.Generic n) ts rest =
     (is_capital n.now ≡ true) × (ts ≡ word n.now ∷ sign 60 ∷ rest)
-Begins (fronts.Name n) ts rest =
+BeginsType (fronts.Name n) ts rest =
     (is_capital n.now ≡ true) × (ts ≡ word n.now ∷ rest) × IsFree rest
-Begins fronts.Thunk ts rest = ts ≡ word (codes "fn") ∷ sign 40 ∷ sign 41 ∷ rest
-Begins fronts.Function ts rest =
+BeginsType fronts.Thunk ts rest = ts ≡ word (codes "fn") ∷ sign 40 ∷ sign 41 ∷ rest
+BeginsType fronts.Function ts rest =
     (ts ≡ word (codes "fn") ∷ sign 40 ∷ rest)
     × ((others : List Token) → rest ≡ sign 41 ∷ others → ⊥)
 
@@ -46,8 +46,8 @@ Begins fronts.Function ts rest =
 pub record IsNoFront (ts : List Token) : Type 0 where
   pub int : (rest : List Token) → ts ≡ word (codes "int") ∷ rest → ⊥
   pub bracket : (rest : List Token) → ts ≡ sign 40 ∷ rest → ⊥
-  pub reference : (q : Name) (rest : List Token) → ts ≡ sign 38 ∷ region q ∷ rest → ⊥
-  pub name : (s : Name) (rest : List Token) → is_capital s ≡ true → ts ≡ word s ∷ rest → ⊥
+  pub reference : (q : WrittenName) (rest : List Token) → ts ≡ sign 38 ∷ region q ∷ rest → ⊥
+  pub name : (s : WrittenName) (rest : List Token) → is_capital s ≡ true → ts ≡ word s ∷ rest → ⊥
   pub function : (rest : List Token) → ts ≡ word (codes "fn") ∷ sign 40 ∷ rest → ⊥
 
 -- ---- what is begun and not complete
@@ -56,19 +56,19 @@ pub record IsNoFront (ts : List Token) : Type 0 where
 -- function, with the arguments read so far; a function with these arguments, whose result comes
 -- next.
 pub data Frame : Type 0 where
-  behind : Name → Bool → Frame
+  behind : WrittenName → Bool → Frame
   parts : WrittenTypes → Frame
-  arguments : Name → Arguments → Frame
+  arguments : WrittenName → Arguments → Frame
   inputs : WrittenTypes → Frame
   output : WrittenTypes → Frame
 
 -- types, and then others
-abbrev pub joined : WrittenTypes → WrittenTypes → WrittenTypes
-joined none us = us
-joined (more t ts) us = more t (joined ts us)
+abbrev pub joined_types : WrittenTypes → WrittenTypes → WrittenTypes
+joined_types none us = us
+joined_types (more t ts) us = more t (joined_types ts us)
 
 -- the tokens begin with a type, which `<` may follow, and then come others
-pub record Reads (tokens : List Token) (t : WrittenType) (rest : List Token) : Type 0 where
+pub record ReadsType (tokens : List Token) (t : WrittenType) (rest : List Token) : Type 0 where
   pub joins : tokens ≡ spelled t ++ rest
   pub names : HasNames t
 
@@ -77,14 +77,15 @@ abbrev pub TypesGoOn :
     WrittenTypes → List Token → (WrittenTypes → List Token → Type 0) → Type 0
 TypesGoOn done ts Then =
     (us : WrittenTypes) × (mid : List Token) × (ts ≡ spelled_more_parts us ++ mid) × HaveNames us
-    × Then (joined done us) mid
+    × Then (joined_types done us) mid
 
 -- The result of a function with these arguments comes after an arrow, and the function goes on.
 abbrev pub ResultGoesOn :
     (WrittenType → List Token → Type 0) → WrittenTypes → List Token → Type 0
 ResultGoesOn Then us ts =
     (mid : List Token) × (ts ≡ arrow ∷ mid)
-    × ((u : WrittenType) × (other : List Token) × Reads mid u other × Then (function us u) other)
+    × ((u : WrittenType) × (other : List Token) × ReadsType mid u other
+    × Then (function us u) other)
 
 -- A part or an argument of the frame is complete, the others follow, and what all of them make goes
 -- on.
@@ -102,12 +103,12 @@ abbrev pub Closes : List Frame → WrittenType → List Token → WrittenType �
 Closes [] t ts whole rest = (t ≡ whole) × (ts ≡ rest) × IsFree rest
 Closes (behind r m ∷ frames) t ts whole rest = Closes frames (reference r m t) ts whole rest
 Closes (parts done ∷ frames) t ts whole rest =
-    RowGoesOn (parts (joined done (more t none))) ts (λ u us. Closes frames u us whole rest)
+    RowGoesOn (parts (joined_types done (more t none))) ts (λ u us. Closes frames u us whole rest)
 Closes (arguments n done ∷ frames) t ts whole rest =
     RowGoesOn (arguments n (joined_arguments done (type_argument t no_argument))) ts
     (λ u us. Closes frames u us whole rest)
 Closes (inputs done ∷ frames) t ts whole rest =
-    RowGoesOn (inputs (joined done (more t none))) ts (λ u us. Closes frames u us whole rest)
+    RowGoesOn (inputs (joined_types done (more t none))) ts (λ u us. Closes frames u us whole rest)
 Closes (output done ∷ frames) t ts whole rest = Closes frames (function done t) ts whole rest
 
 -- A part or an argument of the innermost frame is complete, and the frames go on.
@@ -116,14 +117,14 @@ GoesInside [] ts whole rest = ⊥
 GoesInside (f ∷ frames) ts whole rest = RowGoesOn f ts (λ u us. Closes frames u us whole rest)
 
 -- A type comes, and the frames go on.
-abbrev pub GoesOn : List Frame → List Token → WrittenType → List Token → Type 0
-GoesOn frames ts whole rest =
-    (t : WrittenType) × (mid : List Token) × Reads ts t mid × Closes frames t mid whole rest
+abbrev pub FramesGoOn : List Frame → List Token → WrittenType → List Token → Type 0
+FramesGoOn frames ts whole rest =
+    (t : WrittenType) × (mid : List Token) × ReadsType ts t mid × Closes frames t mid whole rest
 
 -- A region comes as an argument of the innermost frame, and the frames go on.
 abbrev pub GoesOnWithRegion : List Frame → List Token → WrittenType → List Token → Type 0
 GoesOnWithRegion (arguments n done ∷ frames) ts whole rest =
-    (q : Name) × (mid : List Token) × (ts ≡ region q ∷ mid)
+    (q : WrittenName) × (mid : List Token) × (ts ≡ region q ∷ mid)
     × GoesInside (arguments n (joined_arguments done (region_argument q no_argument)) ∷ frames) mid
     whole rest
 GoesOnWithRegion _ ts whole rest = ⊥
@@ -132,13 +133,13 @@ GoesOnWithRegion _ ts whole rest = ⊥
 -- is complete, it is `t`.
 abbrev pub Finishes :
     State → List Frame → WrittenType → List Token → WrittenType → List Token → Type 0
-Finishes Want frames t ts whole rest = GoesOn frames ts whole rest
+Finishes Want frames t ts whole rest = FramesGoOn frames ts whole rest
 Finishes WantArgument frames t ts whole rest =
-    GoesOnWithRegion frames ts whole rest ⊎ GoesOn frames ts whole rest
+    GoesOnWithRegion frames ts whole rest ⊎ FramesGoOn frames ts whole rest
 Finishes Have frames t ts whole rest = Closes frames t ts whole rest
 Finishes Inside frames t ts whole rest = GoesInside frames ts whole rest
 Finishes WantArrow frames t ts whole rest =
-    (mid : List Token) × (ts ≡ arrow ∷ mid) × GoesOn frames mid whole rest
+    (mid : List Token) × (ts ≡ arrow ∷ mid) × FramesGoOn frames mid whole rest
 
 -- From here and from there the same types come out.
 pub record Steps (s : State) (frames : List Frame) (t : WrittenType) (ts : List Token)
@@ -168,7 +169,7 @@ begun (output done ∷ frames) = begun frames ++ begin_row ∷ part_steps done
 
 -- the pieces of the type that is complete, where one is
 abbrev pub complete : State → WrittenType → List Piece
-complete Have t = steps t
+complete Have t = piece_steps t
 complete _ t = []
 
 -- The frame is what is open, with something that is read of it.
@@ -227,7 +228,7 @@ pub record GoesFurther (s : State) (frames : List Frame) (t : WrittenType) (open
 pub record IsBegun (front : Front) (frames : List Frame) (t : WrittenType) (opened : List Open)
     (s' : State) (ps' : List TypePiece) (opened' : List Open) : Type 0 where
   pub comes :
-      (ts rest : List Token) → Begins front ts rest
+      (ts rest : List Token) → BeginsType front ts rest
       → ComesTo Want frames t ts s' ps' opened' rest
   pub few : length opened' + pending s' ≤ length opened + 2
 
@@ -252,7 +253,7 @@ EndsWith (inputs _ ∷ frames) c s = (c ≡ 41) × (s ≡ Want)
 EndsWith _ c s = ⊥
 
 -- The innermost thing that was open is closed by this sign, and the same types come out.
-pub record IsClosed (frames : List Frame) (t : WrittenType) (c : ℕ) (opened : List Open)
+pub record IsInnermostClosed (frames : List Frame) (t : WrittenType) (c : ℕ) (opened : List Open)
     (s' : State) (ps' : List TypePiece) (opened' : List Open) : Type 0 where
   pub comes : (ts : List Token) → ComesTo Inside frames t (sign c ∷ ts) s' ps' opened' ts
   pub few : length opened' + pending s' ≤ length opened + 1

@@ -9,22 +9,23 @@ use Rattle.nll_types.specs.Operands.{Operand, constant, copied, moved}
 use Rattle.nll_types.specs.declared.place.Projection.{Projection}
 use Rattle.nll_types.specs.declared.parameter.Parameter.{Parameter}
 use Rattle.nll_types.specs.declared.parameter.Sign.{Sign}
-use Rattle.nll_mir_grammar.specs.WrittenTypes.{Name, WrittenType, WrittenTypes, tuple, spelled}
+use Rattle.nll_mir_grammar.specs.WrittenTypes.{WrittenName, WrittenType, WrittenTypes, tuple}
+use Rattle.nll_mir_grammar.specs.WrittenTypes.{spelled}
 use Rattle.nll_mir_grammar.specs.WrittenTypes.{mutability, HasNames, IsFree, is_capital}
 use Rattle.nll_text.specs.Grammars.{Grammar, HasNone, IsNotNext, prefixed, regions}
-use Rattle.nll_mir_grammar.specs.Grammars.{behind, pair, MayFollowAll}
+use Rattle.nll_mir_grammar.specs.Grammars.{behind_token, pair, MayFollowAll}
 use Rattle.nll_mir_grammar.specs.MirForms.{block_word, spelled_projection}
 use Rattle.nll_mir_grammar.specs.MirForms.{spelled_place, spelled_operand, spelled_marks}
 use Rattle.nll_mir_grammar.specs.MirForms.{spelled_parameters, spelled_exits, spelled_wheres}
 use Rattle.nll_mir_grammar.specs.MirForms.{WrittenParameter, region_parameter, type_parameter}
-use Rattle.nll_mir_grammar.specs.MirForms.{spelled_parameter, sign_token, drop_mark, IsSmall}
+use Rattle.nll_mir_grammar.specs.MirForms.{spelled_parameter, sign_token, drop_mark, IsShortNumber}
 use Rattle.nll_mir_grammar.specs.MirForms.{IsWritableProjection, IsWritablePlace}
 use Rattle.nll_mir_grammar.specs.MirForms.{IsWritableOperand, IsWritableParameter, IsWritableUnwind}
 
 -- ---- words
 
 -- the name of a type
-abbrev pub names : Grammar Name
+abbrev pub names : Grammar WrittenName
 names = record {
   spells = λ n. word n ∷ [];
   IsAllowed = λ n. is_capital n ≡ true;
@@ -87,7 +88,7 @@ tuples = record {
 
 -- an operand and the type of its parameter
 abbrev pub arguments : Grammar (Operand × WrittenType)
-arguments = pair operands (behind (sign 58) types)
+arguments = pair operands (behind_token (sign 58) types)
 
 -- ---- marks
 
@@ -157,16 +158,16 @@ parameter_lists = record {
 }
 
 -- of two regions the first must outlive the second
-abbrev pub bounds : Grammar (Name × Name)
-bounds = pair regions (behind (sign 58) regions)
+abbrev pub bounds : Grammar (WrittenName × WrittenName)
+bounds = pair regions (behind_token (sign 58) regions)
 
 -- these may follow the bounds of a call
-abbrev pub MayFollowBounds : List (Name × Name) → List Token → Type 0
+abbrev pub MayFollowBounds : List (WrittenName × WrittenName) → List Token → Type 0
 MayFollowBounds [] r = IsNotNext (word (codes "where")) r
 MayFollowBounds (w ∷ ws) r = MayFollowAll bounds (w ∷ ws) r
 
 -- the bounds of a call
-abbrev pub bound_lists : Grammar (List (Name × Name))
+abbrev pub bound_lists : Grammar (List (WrittenName × WrittenName))
 bound_lists = record {
   spells = spelled_wheres;
   IsAllowed = λ ws. Unit {0};
@@ -177,7 +178,7 @@ bound_lists = record {
 abbrev pub block_lists : Grammar (List ℕ)
 block_lists = record {
   spells = λ bs. map block_word bs;
-  IsAllowed = λ bs. (0 < length bs) × AllByRecursion IsSmall bs;
+  IsAllowed = λ bs. (0 < length bs) × AllByRecursion IsShortNumber bs;
   MayFollow = λ bs r. HasNone block_names r;
 }
 
@@ -192,6 +193,6 @@ MayFollowUnwind (Some b) r = Unit {0}
 abbrev pub exits : Grammar (ℕ × Option ℕ)
 exits = record {
   spells = λ e. spelled_exits e.0 e.1;
-  IsAllowed = λ e. IsSmall e.0 × IsWritableUnwind e.1;
+  IsAllowed = λ e. IsShortNumber e.0 × IsWritableUnwind e.1;
   MayFollow = λ e r. MayFollowUnwind e.1 r;
 }

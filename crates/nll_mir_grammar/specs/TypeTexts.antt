@@ -3,7 +3,7 @@
 -- other parts before what they are parts of.
 -- Source: project's choice.
 use Rattle.std.specs.Prelude.{◌≡◌, Bool, List, [], ◌∷◌, ◌++◌, map}
-use Rattle.nll_mir_grammar.specs.WrittenTypes.{Name, WrittenType, WrittenTypes, Arguments}
+use Rattle.nll_mir_grammar.specs.WrittenTypes.{WrittenName, WrittenType, WrittenTypes, Arguments}
 use Rattle.nll_mir_grammar.specs.WrittenTypes.{int, reference, tuple, named, function, none, more}
 use Rattle.nll_mir_grammar.specs.WrittenTypes.{no_argument, region_argument, type_argument}
 use Rattle.nll_mir_grammar.specs.declared.type_text.TypePiece.{TypePiece}
@@ -13,16 +13,16 @@ use Rattle.nll_mir_grammar.specs.declared.type_text.TypePiece.TheVariants as kep
 pub data Piece : Type 0 where
   make_int : Piece
   -- a reference to the type that is made next
-  begin_reference : Bool → Name → Piece
+  begin_reference : Bool → WrittenName → Piece
   -- a row of no arguments
   begin_row : Piece
   -- the region goes to the end of the row, or the type that was made last
-  add_region : Name → Piece
+  add_region : WrittenName → Piece
   add_type : Piece
   -- the tuple of the row
   make_tuple : Piece
   -- a name with the row as its arguments
-  make_named : Name → Piece
+  make_named : WrittenName → Piece
   -- the function of the row, whose result is the type that was made last
   make_function : Piece
 
@@ -41,23 +41,23 @@ plain kept.Function = make_function
 
 abbrev mutual
   -- the pieces that make a type
-  pub steps : WrittenType → List Piece
-  steps int = make_int ∷ []
-  steps (reference r m t) = begin_reference m r ∷ steps t
-  steps (tuple ts) = begin_row ∷ part_steps ts ++ make_tuple ∷ []
-  steps (named n args) = begin_row ∷ argument_steps args ++ make_named n ∷ []
-  steps (function ts t) = begin_row ∷ part_steps ts ++ steps t ++ make_function ∷ []
+  pub piece_steps : WrittenType → List Piece
+  piece_steps int = make_int ∷ []
+  piece_steps (reference r m t) = begin_reference m r ∷ piece_steps t
+  piece_steps (tuple ts) = begin_row ∷ part_steps ts ++ make_tuple ∷ []
+  piece_steps (named n args) = begin_row ∷ argument_steps args ++ make_named n ∷ []
+  piece_steps (function ts t) = begin_row ∷ part_steps ts ++ piece_steps t ++ make_function ∷ []
 
   -- the pieces that make each type of a row, and append it to the row
   pub part_steps : WrittenTypes → List Piece
   part_steps none = []
-  part_steps (more t ts) = steps t ++ add_type ∷ part_steps ts
+  part_steps (more t ts) = piece_steps t ++ add_type ∷ part_steps ts
 
   -- the pieces that append arguments to a row
   pub argument_steps : Arguments → List Piece
   argument_steps no_argument = []
   argument_steps (region_argument r args) = add_region r ∷ argument_steps args
-  argument_steps (type_argument t args) = steps t ++ add_type ∷ argument_steps args
+  argument_steps (type_argument t args) = piece_steps t ++ add_type ∷ argument_steps args
 
 -- ---- the type of pieces
 
@@ -65,22 +65,22 @@ abbrev mutual
 -- comes next.
 pub data Begun : Type 0 where
   row : Arguments → Begun
-  waiting : Bool → Name → Begun
+  waiting : Bool → WrittenName → Begun
 
 -- what is made so far, the newest first: types, and what is begun
-abbrev pub Made : Type 0
-Made = List WrittenType × List Begun
+abbrev pub MadePieces : Type 0
+MadePieces = List WrittenType × List Begun
 
 -- the newest type; an `int` where there is none
-abbrev pub top : List WrittenType → WrittenType
-top [] = int
-top (t ∷ ts) = t
+abbrev pub type_on_top : List WrittenType → WrittenType
+type_on_top [] = int
+type_on_top (t ∷ ts) = t
 
 -- the newest row of arguments; no argument where no row is newest
-abbrev pub top_row : List Begun → Arguments
-top_row [] = no_argument
-top_row (row args ∷ begun) = args
-top_row (waiting m r ∷ begun) = no_argument
+abbrev pub row_on_top : List Begun → Arguments
+row_on_top [] = no_argument
+row_on_top (row args ∷ begun) = args
+row_on_top (waiting m r ∷ begun) = no_argument
 
 -- the type with the references around it that wait for it
 abbrev pub with_waiting : WrittenType → List Begun → WrittenType
@@ -95,13 +95,13 @@ without_waiting (row args ∷ begun) = row args ∷ begun
 without_waiting (waiting m r ∷ begun) = without_waiting begun
 
 -- the type is complete, and with it the references that wait for it
-abbrev pub with_type : WrittenType → Made → Made
+abbrev pub with_type : WrittenType → MadePieces → MadePieces
 with_type t m = (with_waiting t m.1 ∷ m.0, without_waiting m.1)
 
 -- what lies below the newest
-abbrev pub below : {X : Type 0} → List X → List X
-below [] = []
-below (x ∷ xs) = xs
+abbrev pub below_newest : {X : Type 0} → List X → List X
+below_newest [] = []
+below_newest (x ∷ xs) = xs
 
 -- arguments, and then others
 abbrev pub joined_arguments : Arguments → Arguments → Arguments
@@ -116,29 +116,34 @@ types_among (region_argument r args) = types_among args
 types_among (type_argument t args) = more t (types_among args)
 
 -- what a piece makes of what is made so far
-abbrev pub after : Piece → Made → Made
-after make_int m = with_type int m
-after (begin_reference mutable r) m = (m.0, waiting mutable r ∷ m.1)
-after begin_row m = (m.0, row no_argument ∷ m.1)
-after (add_region r) m =
-    (m.0, row (joined_arguments (top_row m.1) (region_argument r no_argument)) ∷ below m.1)
-after add_type m = (
-  below m.0,
-  row (joined_arguments (top_row m.1) (type_argument (top m.0) no_argument)) ∷ below m.1,
+abbrev pub after_piece : Piece → MadePieces → MadePieces
+after_piece make_int m = with_type int m
+after_piece (begin_reference mutable r) m = (m.0, waiting mutable r ∷ m.1)
+after_piece begin_row m = (m.0, row no_argument ∷ m.1)
+after_piece (add_region r) m = (
+  m.0,
+  row (joined_arguments (row_on_top m.1) (region_argument r no_argument))
+      ∷ below_newest m.1,
 )
-after make_tuple m = with_type (tuple (types_among (top_row m.1))) (m.0, below m.1)
-after (make_named n) m = with_type (named n (top_row m.1)) (m.0, below m.1)
-after make_function m =
-    with_type (function (types_among (top_row m.1)) (top m.0)) (below m.0, below m.1)
+after_piece add_type m = (
+  below_newest m.0,
+  row (joined_arguments (row_on_top m.1) (type_argument (type_on_top m.0) no_argument))
+      ∷ below_newest m.1,
+)
+after_piece make_tuple m = with_type (tuple (types_among (row_on_top m.1))) (m.0, below_newest m.1)
+after_piece (make_named n) m = with_type (named n (row_on_top m.1)) (m.0, below_newest m.1)
+after_piece make_function m =
+    with_type (function (types_among (row_on_top m.1)) (type_on_top m.0))
+    (below_newest m.0, below_newest m.1)
 
 -- what pieces make of what is made so far
-abbrev pub made : Made → List Piece → Made
+abbrev pub made : MadePieces → List Piece → MadePieces
 made m [] = m
-made m (p ∷ ps) = made (after p m) ps
+made m (p ∷ ps) = made (after_piece p m) ps
 
 -- the type that pieces make
 abbrev pub type_made : List Piece → WrittenType
-type_made ps = top (made ([], []) ps).0
+type_made ps = type_on_top (made ([], []) ps).0
 
 -- the type that pieces of the program say
 abbrev pub written : List TypePiece → WrittenType
@@ -146,4 +151,4 @@ written ps = type_made (map plain ps)
 
 -- The pieces are those of a type.
 abbrev pub IsType : List TypePiece → Type 0
-IsType ps = map plain ps ≡ steps (written ps)
+IsType ps = map plain ps ≡ piece_steps (written ps)

@@ -4,16 +4,16 @@ use Rattle.std.specs.Prelude.{◌≡◌, ℕ, Bool, true, false, List, [], ◌�
 use Rattle.nll_text.specs.Tokens.{Token, word, region, arrow, sign, first_passes}
 
 -- a name: that of a region without its `'`, of a struct, or of a type parameter
-abbrev pub Name : Type 0
-Name = List ℕ
+abbrev pub WrittenName : Type 0
+WrittenName = List ℕ
 
 mutual
   -- A name stands for a struct or for a type parameter.
   pub data WrittenType : Type 0 where
     int : WrittenType
-    reference : Name → Bool → WrittenType → WrittenType
+    reference : WrittenName → Bool → WrittenType → WrittenType
     tuple : WrittenTypes → WrittenType
-    named : Name → Arguments → WrittenType
+    named : WrittenName → Arguments → WrittenType
     -- a function: the types of its arguments, and that of its result
     function : WrittenTypes → WrittenType → WrittenType
 
@@ -25,7 +25,7 @@ mutual
   -- the arguments of a struct, regions and types in one row
   pub data Arguments : Type 0 where
     no_argument : Arguments
-    region_argument : Name → Arguments → Arguments
+    region_argument : WrittenName → Arguments → Arguments
     type_argument : WrittenType → Arguments → Arguments
 
 -- ---- how types are spelled
@@ -71,7 +71,7 @@ abbrev mutual
       sign 44 ∷ (spelled t ++ spelled_more_arguments args)
 
 -- a struct's name and a type parameter's begin with a capital letter
-abbrev pub is_capital : Name → Bool
+abbrev pub is_capital : WrittenName → Bool
 is_capital name = first_passes (λ b. nat_le 65 b && nat_le b 90) name
 
 -- Each name in the type that isn't a region's begins with a capital letter.

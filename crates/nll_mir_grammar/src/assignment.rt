@@ -11,11 +11,31 @@ ghost use Rattle.nll_mir_grammar.specs.Lines.{form_of};
 use crate::line::Line;
 use crate::pairs::Read;
 use crate::place::{operand_at, place_at};
-use crate::right::{borrow_at, make_at, signature_at};
+use crate::right::{make_at, signature_at};
+use crate::words::mutability_at;
 use nll_body::{Call, Make, Statement};
-use nll_text::{after_sign, word_at};
+use nll_text::{after_sign, region_at, word_at};
 use nll_types::Place;
 use std::alloc::Global;
+
+// The borrow that goes to the place, after `&`: its region, whether it is `mut`, and the place
+// that is borrowed.
+fn borrowed<'a>(alloc: Global, place: Place, line: &'a [u8]) -> Read<'a, Line<'a>>
+    ensures { IfOk result
+        (λ o. (ts : List lex.Token) → ts ≡ lex.sign 38 ∷ tokens_in line.now
+        → MatchOption o (HasNone rights ts)
+        (λ p. IsRightSide ts (path_of place) (form_of p.0) (tokens_in p.1.now))) }
+{
+    let Some((region, behind)) = region_at(line) else {
+        return Ok(None);
+    };
+    let (mutable, behind) = mutability_at(behind);
+    let Some((source, rest)) = place_at(alloc, behind)? else {
+        return Ok(None);
+    };
+    let borrow = Statement::Borrow(place, region, mutable, source);
+    Ok(Some((Line::At(borrow), rest)))
+}
 
 // The value of a tuple or struct that goes to the place, after `make`.
 fn made<'a>(alloc: Global, place: Place, line: &'a [u8]) -> Read<'a, Line<'a>>
@@ -65,32 +85,6 @@ fn called<'a>(alloc: Global, place: Place, line: &'a [u8]) -> Read<'a, Line<'a>>
     Ok(Some((Line::At(call), rest)))
 }
 
-// What goes to the place: the right side of an assignment.
-fn right_side<'a>(alloc: Global, place: Place, line: &'a [u8]) -> Read<'a, Line<'a>>
-    ensures { IfOk result
-        (λ o. MatchOption o (HasNone rights (tokens_in line.now))
-        (λ p. IsRightSide (tokens_in line.now) (path_of place) (form_of p.0)
-        (tokens_in p.1.now))) }
-{
-    if let Some(behind) = after_sign(line, b'&') {
-        let Some((region, mutable, source, rest)) = borrow_at(alloc, behind)? else {
-            return Ok(None);
-        };
-        let borrow = Statement::Borrow(place, region, mutable, source);
-        return Ok(Some((Line::At(borrow), rest)));
-    }
-    match word_at(line) {
-        Some((b"make", behind)) => made(alloc, place, behind),
-        Some((b"call", behind)) => called(alloc, place, behind),
-        _ => {
-            let Some((operand, rest)) = operand_at(alloc, line)? else {
-                return Ok(None);
-            };
-            Ok(Some((Line::At(Statement::Assign(place, operand)), rest)))
-        }
-    }
-}
-
 /// The assignment at the front.
 pub fn assignment_at<'a>(alloc: Global, line: &'a [u8]) -> Read<'a, Line<'a>>
     ensures { IfOk result
@@ -100,8 +94,18 @@ pub fn assignment_at<'a>(alloc: Global, line: &'a [u8]) -> Read<'a, Line<'a>>
     let Some((place, behind)) = place_at(alloc, line)? else {
         return Ok(None);
     };
-    match after_sign(behind, b'=') {
-        Some(behind) => right_side(alloc, place, behind),
-        None => Ok(None),
+    let Some(right) = after_sign(behind, b'=') else {
+        return Ok(None);
+    };
+    if let Some(behind) = after_sign(right, b'&') {
+        return borrowed(alloc, place, behind);
+    }
+    if let Some((operand, rest)) = operand_at(alloc, right)? {
+        return Ok(Some((Line::At(Statement::Assign(place, operand)), rest)));
+    }
+    match word_at(right) {
+        Some((b"make", behind)) => made(alloc, place, behind),
+        Some((b"call", behind)) => called(alloc, place, behind),
+        _ => Ok(None),
     }
 }

@@ -3,20 +3,17 @@
 ghost use Rattle.std.specs.Prelude.{IfOk, MatchOption};
 ghost use Rattle.nll_text.specs.LineTokens.{tokens_in};
 ghost use Rattle.nll_text.specs.Grammars.{Begins, HasNone};
-ghost use Rattle.nll_mir_grammar.specs.Grammars.{many};
 ghost use Rattle.nll_mir_grammar.specs.Parts as parts;
 
 use crate::pairs::Read;
 use crate::words::block_at;
-use nll_sets::Memory;
 use nll_text::{after_arrow, after_word};
 use std::alloc::Global;
 
-// The blocks at the front, as many as there are.
-fn many_blocks_at<'a>(alloc: Global, line: &'a [u8]) -> Result<(Vec<u32>, &'a [u8]), Memory>
-    ensures { IfOk result
-        (λ p. Begins (many parts.block_names) (tokens_in line.now) p.0.items
-        (tokens_in p.1.now)) }
+/// The blocks at the front, at least one and as many as there are.
+pub fn blocks_at<'a>(alloc: Global, line: &'a [u8]) -> Read<'a, Vec<u32>>
+    ensures { IfOk result (λ o. MatchOption o (HasNone parts.block_lists (tokens_in line.now))
+        (λ p. Begins parts.block_lists (tokens_in line.now) p.0.items (tokens_in p.1.now))) }
 {
     let mut targets = Vec::new(alloc);
     let mut rest = line;
@@ -24,15 +21,6 @@ fn many_blocks_at<'a>(alloc: Global, line: &'a [u8]) -> Result<(Vec<u32>, &'a [u
         targets.push(block)?;
         rest = behind;
     }
-    Ok((targets, rest))
-}
-
-/// The blocks at the front, at least one and as many as there are.
-pub fn blocks_at<'a>(alloc: Global, line: &'a [u8]) -> Read<'a, Vec<u32>>
-    ensures { IfOk result (λ o. MatchOption o (HasNone parts.block_lists (tokens_in line.now))
-        (λ p. Begins parts.block_lists (tokens_in line.now) p.0.items (tokens_in p.1.now))) }
-{
-    let (targets, rest) = many_blocks_at(alloc, line)?;
     if targets.is_empty() {
         return Ok(None);
     }

@@ -1,11 +1,10 @@
 //! Reading a line, by its form.
 
-ghost use Rattle.std.specs.Prelude.{◌≡◌, ◌∷◌, IfOk, MatchOption};
-ghost use Rattle.nll_text.specs.Tokens as lex;
+ghost use Rattle.std.specs.Prelude.{IfOk, MatchOption};
 ghost use Rattle.nll_text.specs.LineTokens.{tokens_in};
 ghost use Rattle.nll_text.specs.Grammars.{HasNone};
 ghost use Rattle.nll_mir_grammar.specs.Kinds as kinds;
-ghost use Rattle.nll_mir_grammar.specs.Kinds.{HasNoKeyword, IsBehind, IsLine, keyword_name, tails};
+ghost use Rattle.nll_mir_grammar.specs.Kinds.{IsBehind, IsLine, tails};
 ghost use Rattle.nll_mir_grammar.specs.Lines.{form_of};
 ghost use Rattle.nll_mir_grammar.specs.MirForms.{Form};
 ghost use Rattle.nll_mir_grammar.specs.Versions.{HasFormIn};
@@ -14,15 +13,15 @@ use crate::assignment::assignment_at;
 use crate::keyword::{Keyword, keyword_of};
 use crate::line::Line;
 use crate::lines::{
-    assert_line, block_line, blocks_line, let_line, outlives_line, region_line, struct_line,
-    universal_line,
+    assert_line, blocks_line, let_line, outlives_line, region_line, struct_line, universal_line,
 };
 use crate::pairs::Read;
-use crate::points::{dead_line, drop_line, goto_line, live_line, read_line, switch_line};
+use crate::points::{drop_line, read_line, switch_line};
 use crate::version::{Version, is_of_version};
+use crate::words::{block_at, variable_at};
 use nll_body::Statement;
 use nll_sets::Memory;
-use nll_text::{is_gap, word_at};
+use nll_text::{behind_gap, is_gap, word_at};
 use std::alloc::Global;
 
 // The line that begins with the keyword, after which the rest follows.
@@ -39,12 +38,24 @@ fn line_behind<'a>(alloc: Global, keyword: Keyword, line: &'a [u8]) -> Read<'a, 
         Keyword::Struct => struct_line(alloc, line),
         Keyword::Let => let_line(alloc, line),
         Keyword::Blocks => Ok(blocks_line(line)),
-        Keyword::Block => Ok(block_line(line)),
+        Keyword::Block => match block_at(line) {
+            Some((number, rest)) => Ok(Some((Line::Block(number), rest))),
+            None => Ok(None),
+        },
         Keyword::Read => read_line(alloc, line),
-        Keyword::Live => Ok(live_line(line)),
-        Keyword::Dead => Ok(dead_line(line)),
+        Keyword::Live => match variable_at(line) {
+            Some((variable, rest)) => Ok(Some((Line::At(Statement::Live(variable)), rest))),
+            None => Ok(None),
+        },
+        Keyword::Dead => match variable_at(line) {
+            Some((variable, rest)) => Ok(Some((Line::At(Statement::Dead(variable)), rest))),
+            None => Ok(None),
+        },
         Keyword::Nop => Ok(Some((Line::At(Statement::Nop), line))),
-        Keyword::Goto => Ok(goto_line(line)),
+        Keyword::Goto => match block_at(line) {
+            Some((block, rest)) => Ok(Some((Line::At(Statement::Goto(block)), rest))),
+            None => Ok(None),
+        },
         Keyword::Switch => switch_line(alloc, line),
         Keyword::Drop => Ok(drop_line(line)),
         Keyword::Return => Ok(Some((Line::At(Statement::Return), line))),
@@ -53,24 +64,21 @@ fn line_behind<'a>(alloc: Global, keyword: Keyword, line: &'a [u8]) -> Read<'a, 
     }
 }
 
-// The keyword at the front, and what follows it.
-fn keyword_at<'a>(line: &'a [u8]) -> Option<(Keyword, &'a [u8])>
-    ensures { MatchOption result (HasNoKeyword (tokens_in line.now))
-        (λ p. tokens_in line.now ≡ lex.word (keyword_name p.0) ∷ tokens_in p.1.now) }
-{
-    let (word, rest) = word_at(line)?;
-    let keyword = keyword_of(word)?;
-    Some((keyword, rest))
-}
-
-// The line at the front.
+// The line at the front. Assignments are told from the others by the `_` of their variable.
 fn line_at<'a>(alloc: Global, line: &'a [u8]) -> Read<'a, Line<'a>>
     ensures { IfOk result (λ o. MatchOption o (HasNone kinds.lines (tokens_in line.now))
         (λ p. IsLine (tokens_in line.now) (form_of p.0) (tokens_in p.1.now))) }
 {
-    match keyword_at(line) {
-        Some((keyword, rest)) => line_behind(alloc, keyword, rest),
-        None => assignment_at(alloc, line),
+    let core = behind_gap(line);
+    if let [b'_', ..] = core {
+        return assignment_at(alloc, core);
+    }
+    let Some((word, rest)) = word_at(core) else {
+        return Ok(None);
+    };
+    match keyword_of(word) {
+        Some(keyword) => line_behind(alloc, keyword, rest),
+        None => Ok(None),
     }
 }
 

@@ -3,7 +3,7 @@
 ghost use Rattle.std.specs.Prelude.{◌∷◌, MatchOption};
 ghost use Rattle.nll_text.specs.Tokens as lex;
 ghost use Rattle.nll_text.specs.LineTokens.{tokens_in};
-ghost use Rattle.nll_mir_grammar.specs.OpenTypes.{Begins, IsNoFront};
+ghost use Rattle.nll_mir_grammar.specs.OpenTypes.{BeginsType, IsNoFront};
 
 use crate::words::{is_capital, mutability_at};
 use nll_text::{after_sign, region_at, word_at};
@@ -32,7 +32,7 @@ pub enum Front<'a> {
 // How a type begins whose first token is the word in front of these bytes.
 fn word_front<'a>(word: &'a [u8], behind: &'a [u8]) -> Option<(Front<'a>, &'a [u8])>
     ensures { MatchOption result (IsNoFront (lex.word word.now ∷ tokens_in behind.now))
-        (λ p. Begins p.0 (lex.word word.now ∷ tokens_in behind.now) (tokens_in p.1.now)) }
+        (λ p. BeginsType p.0 (lex.word word.now ∷ tokens_in behind.now) (tokens_in p.1.now)) }
 {
     if is_capital(word) {
         return match after_sign(behind, b'<') {
@@ -56,7 +56,7 @@ fn word_front<'a>(word: &'a [u8], behind: &'a [u8]) -> Option<(Front<'a>, &'a [u
 /// How a type begins here, and what follows.
 pub fn front_at(line: &[u8]) -> Option<(Front<'_>, &[u8])>
     ensures { MatchOption result (IsNoFront (tokens_in line.now))
-        (λ p. Begins p.0 (tokens_in line.now) (tokens_in p.1.now)) }
+        (λ p. BeginsType p.0 (tokens_in line.now) (tokens_in p.1.now)) }
 {
     if let Some(behind) = after_sign(line, b'&') {
         let (region, behind) = region_at(behind)?;

@@ -63,15 +63,12 @@ fn point_keyword(word: &[u8]) -> Option<Keyword>
     }
 }
 
-/// The keyword that a word is, where it is one. None begins with `_`, as variables do. Most lines
-/// of a long text are at points, so their keywords come first.
+/// The keyword that a word is, where it is one. Most lines of a long text are at points, so their
+/// keywords come first.
 pub fn keyword_of(word: &[u8]) -> Option<Keyword>
     ensures { MatchOption result ((k : keyword) → word.now ≡ keyword_name k → ⊥)
         (λ k. word.now ≡ keyword_name k) }
 {
-    if let [b'_', ..] = word {
-        return None;
-    }
     match point_keyword(word) {
         Some(keyword) => Some(keyword),
         None => line_keyword(word),

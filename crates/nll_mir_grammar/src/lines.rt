@@ -16,7 +16,7 @@ use crate::line::{Line, ParameterText, StructText, TupleText};
 use crate::pairs::{Read, with};
 use crate::parameters::parameters_in;
 use crate::type_front::{tuple_front, type_behind};
-use crate::words::{block_at, drop_mark_at, name_at, variable_at};
+use crate::words::{drop_mark_at, name_at, variable_at};
 use nll_text::{number_at, region_at};
 use std::alloc::Global;
 
@@ -64,15 +64,6 @@ pub fn blocks_line<'a>(line: &'a [u8]) -> Option<(Line<'a>, &'a [u8])>
 {
     let (number, rest) = number_at(line)?;
     Some((Line::Blocks(number), rest))
-}
-
-/// After `block`.
-pub fn block_line<'a>(line: &'a [u8]) -> Option<(Line<'a>, &'a [u8])>
-    ensures { MatchOption result (HasNone (tails keyword.Block) (tokens_in line.now))
-        (λ p. IsBehind keyword.Block (tokens_in line.now) (form_of p.0) (tokens_in p.1.now)) }
-{
-    let (number, rest) = block_at(line)?;
-    Some((Line::Block(number), rest))
 }
 
 /// After `let`.

@@ -4,7 +4,7 @@ ghost use Rattle.std.specs.Prelude.{◌≡◌, [], ◌∷◌, ◌++◌, IfOk, Ma
 ghost use Rattle.nll_text.specs.Tokens as lex;
 ghost use Rattle.nll_text.specs.LineTokens.{tokens_in};
 ghost use Rattle.nll_text.specs.Grammars.{Begins, Grammar, HasNone};
-ghost use Rattle.nll_mir_grammar.specs.Grammars.{IsBefore, IsListable, Puts, behind, commas};
+ghost use Rattle.nll_mir_grammar.specs.Grammars.{IsBefore, IsListable, Puts, commas};
 ghost use Rattle.nll_mir_grammar.specs.Grammars.{parentheses};
 
 use crate::pairs::Read;
@@ -61,21 +61,6 @@ fn push<'a, T: Listed<'a>>(
     }
 }
 
-// Appends the value after a comma.
-fn next<'a, T: Listed<'a>>(
-    alloc: Global,
-    line: &'a [u8],
-    values: &mut Vec<T>,
-) -> Result<Option<&'a [u8]>, Memory>
-    ensures { IfOk result (λ o. Puts (behind (lex.sign 44) T.grammar) T.meant (λ r. tokens_in r.now)
-        (tokens_in line.now) values.old.items values.new.items o) }
-{
-    match after_sign(line, b',') {
-        Some(behind) => push(alloc, behind, values),
-        None => Ok(None),
-    }
-}
-
 // Adds values separated by commas to the list, as many as there are.
 fn push_all<'a, T: Listed<'a>>(
     alloc: Global,
@@ -92,7 +77,10 @@ fn push_all<'a, T: Listed<'a>>(
         return Ok(None);
     };
     let mut rest = first;
-    while let Some(following) = next(alloc, rest, values)? {
+    while let Some(behind) = after_sign(rest, b',') {
+        let Some(following) = push(alloc, behind, values)? else {
+            return Ok(Some(rest));
+        };
         rest = following;
     }
     Ok(Some(rest))

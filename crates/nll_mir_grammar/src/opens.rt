@@ -5,7 +5,8 @@ ghost use Rattle.std.specs.Prelude.{IfOk, IfSome, MatchOption};
 ghost use Rattle.nll_text.specs.Tokens as lex;
 ghost use Rattle.nll_text.specs.LineTokens.{tokens_in};
 ghost use Rattle.nll_mir_grammar.specs.OpenTypes.{AreRead, EndsWith, Frame, GoesFurther, IsBegun};
-ghost use Rattle.nll_mir_grammar.specs.OpenTypes.{IsClosed, IsCompleted, IsStuck, takes_region};
+ghost use Rattle.nll_mir_grammar.specs.OpenTypes.{IsInnermostClosed, IsCompleted, IsStuck};
+ghost use Rattle.nll_mir_grammar.specs.OpenTypes.{takes_region};
 ghost use Rattle.nll_mir_grammar.specs.WrittenTypes.{WrittenType};
 ghost use Rattle.nll_mir_grammar.specs.declared.opens.State.{State as stage};
 ghost use Rattle.nll_mir_grammar.specs.declared.type_text.TypePiece.{TypePiece as piece};
@@ -212,7 +213,7 @@ fn close<'a>(pieces: &mut Vec<TypePiece<'a>>, opened: &mut Opened<'a>) -> Result
     ensures { IfOk result (λ s. (frames : List Frame) (t : WrittenType) (c : ℕ) (next : stage)
         → AreRead State.Inside frames t pieces.old.items opened.old.items
         → EndsWith frames c next
-        → IsClosed frames t c opened.old.items s pieces.new.items opened.new.items) }
+        → IsInnermostClosed frames t c opened.old.items s pieces.new.items opened.new.items) }
 {
     match opened.as_slice()[opened.len() - 1] {
         Open::Tuple => end(pieces, opened, TypePiece::Tuple),

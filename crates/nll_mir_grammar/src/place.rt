@@ -50,30 +50,7 @@ fn projections_at<'a>(
     Ok((projections, rest))
 }
 
-// The place of the variable with the projections at the front. Most places have none or one, and
-// these need no list.
-fn place_behind<'a>(
-    alloc: Global,
-    variable: u32,
-    line: &'a [u8],
-) -> Result<(Place, &'a [u8]), Memory>
-    ensures variable { IfOk result (λ p. (path_of p.0).variable ≡ variable) }
-    ensures taken { IfOk result (λ p. Begins (many parts.projections) (tokens_in line.now)
-        (path_of p.0).projections (tokens_in p.1.now)) }
-{
-    let Some((projection, rest)) = projection_at(line) else {
-        return Ok((Place::Whole(variable), line));
-    };
-    match projection_at(rest) {
-        Some(_) => {
-            let (projections, rest) = projections_at(alloc, line)?;
-            Ok((Place::new(alloc, variable, projections)?, rest))
-        }
-        None => Ok((Place::Part(variable, projection), rest)),
-    }
-}
-
-/// The place at the front.
+/// The place at the front. Most places have one projection or none, and these need no list.
 pub fn place_at<'a>(alloc: Global, line: &'a [u8]) -> Read<'a, Place>
     ensures { IfOk result (λ o. MatchOption o (HasNone parts.places (tokens_in line.now))
         (λ p. Begins parts.places (tokens_in line.now) (path_of p.0) (tokens_in p.1.now))) }
@@ -81,8 +58,14 @@ pub fn place_at<'a>(alloc: Global, line: &'a [u8]) -> Read<'a, Place>
     let Some((variable, behind)) = variable_at(line) else {
         return Ok(None);
     };
-    let (place, rest) = place_behind(alloc, variable, behind)?;
-    Ok(Some((place, rest)))
+    let Some((projection, rest)) = projection_at(behind) else {
+        return Ok(Some((Place::Whole(variable), behind)));
+    };
+    let Some(_) = projection_at(rest) else {
+        return Ok(Some((Place::Part(variable, projection), rest)));
+    };
+    let (projections, rest) = projections_at(alloc, behind)?;
+    Ok(Some((Place::new(alloc, variable, projections)?, rest)))
 }
 
 /// The operand at the front.

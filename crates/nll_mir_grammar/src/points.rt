@@ -11,36 +11,9 @@ use crate::blocks::{blocks_at, exits_at};
 use crate::line::Line;
 use crate::pairs::Read;
 use crate::place::{operand_at, place_at};
-use crate::words::{block_at, variable_at};
+use crate::words::variable_at;
 use nll_body::Statement;
 use std::alloc::Global;
-
-/// After `live`.
-pub fn live_line<'a>(line: &'a [u8]) -> Option<(Line<'a>, &'a [u8])>
-    ensures { MatchOption result (HasNone (tails keyword.Live) (tokens_in line.now))
-        (λ p. IsBehind keyword.Live (tokens_in line.now) (form_of p.0) (tokens_in p.1.now)) }
-{
-    let (variable, rest) = variable_at(line)?;
-    Some((Line::At(Statement::Live(variable)), rest))
-}
-
-/// After `dead`.
-pub fn dead_line<'a>(line: &'a [u8]) -> Option<(Line<'a>, &'a [u8])>
-    ensures { MatchOption result (HasNone (tails keyword.Dead) (tokens_in line.now))
-        (λ p. IsBehind keyword.Dead (tokens_in line.now) (form_of p.0) (tokens_in p.1.now)) }
-{
-    let (variable, rest) = variable_at(line)?;
-    Some((Line::At(Statement::Dead(variable)), rest))
-}
-
-/// After `goto`.
-pub fn goto_line<'a>(line: &'a [u8]) -> Option<(Line<'a>, &'a [u8])>
-    ensures { MatchOption result (HasNone (tails keyword.Goto) (tokens_in line.now))
-        (λ p. IsBehind keyword.Goto (tokens_in line.now) (form_of p.0) (tokens_in p.1.now)) }
-{
-    let (block, rest) = block_at(line)?;
-    Some((Line::At(Statement::Goto(block)), rest))
-}
 
 /// After `drop`.
 pub fn drop_line<'a>(line: &'a [u8]) -> Option<(Line<'a>, &'a [u8])>

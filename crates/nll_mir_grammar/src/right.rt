@@ -2,14 +2,13 @@
 
 ghost use Rattle.std.specs.Prelude.{IfOk, MatchOption, map};
 ghost use Rattle.nll_text.specs.Tokens as lex;
-ghost use Rattle.nll_types.specs.Places.{path_of};
 ghost use Rattle.nll_types.specs.Operands.{Operand as spec, operand_of};
 ghost use Rattle.nll_mir_grammar.specs.TypeTexts.{written};
 ghost use Rattle.nll_mir_grammar.specs.WrittenTypes.{WrittenType};
 ghost use Rattle.nll_text.specs.LineTokens.{tokens_in};
 ghost use Rattle.nll_text.specs.Grammars.{Begins, HasNone};
-ghost use Rattle.nll_mir_grammar.specs.Grammars.{behind, pair};
-ghost use Rattle.nll_mir_grammar.specs.Kinds.{borrows, makes, results, signatures};
+ghost use Rattle.nll_mir_grammar.specs.Grammars.{behind_token, pair};
+ghost use Rattle.nll_mir_grammar.specs.Kinds.{makes, results, signatures};
 ghost use Rattle.nll_mir_grammar.specs.Lines.{argument_of, result_of};
 ghost use Rattle.nll_mir_grammar.specs.Parts.{arguments, bound_lists, exits};
 
@@ -17,33 +16,12 @@ use crate::blocks::{Exits, exits_at};
 use crate::bounds::{Bounds, bounds_in};
 use crate::lists::{Listed, values_in};
 use crate::pairs::{Read, with};
-use crate::place::{operand_at, place_at};
+use crate::place::operand_at;
 use crate::type_front::{type_behind, type_front};
 use crate::type_text::TypeText;
-use crate::words::mutability_at;
-use nll_sets::Memory;
-use nll_text::{after_sign, region_at};
-use nll_types::{Operand, Place};
+use nll_text::after_sign;
+use nll_types::Operand;
 use std::alloc::Global;
-
-/// What follows the `&` of a borrow: its region, whether it is `mut`, and the place.
-pub fn borrow_at<'a>(
-    alloc: Global,
-    line: &'a [u8],
-) -> Result<Option<(&'a [u8], bool, Place, &'a [u8])>, Memory>
-    ensures { IfOk result (λ o. MatchOption o (HasNone borrows (tokens_in line.now))
-        (λ p. Begins borrows (tokens_in line.now) (p.0.now, (p.1, path_of p.2))
-        (tokens_in p.3.now))) }
-{
-    let Some((region, behind)) = region_at(line) else {
-        return Ok(None);
-    };
-    let (mutable, behind) = mutability_at(behind);
-    let Some((place, rest)) = place_at(alloc, behind)? else {
-        return Ok(None);
-    };
-    Ok(Some((region, mutable, place, rest)))
-}
 
 /// What follows `make`: a type, and operands.
 pub fn make_at<'a>(alloc: Global, line: &'a [u8]) -> Read<'a, (TypeText<'a>, Vec<Operand>)>
@@ -94,8 +72,8 @@ fn call_end_at<'a>(alloc: Global, line: &'a [u8]) -> Read<'a, (Bounds<'a>, Exits
 // The `:` of a call, and what follows it.
 fn result_behind<'a>(alloc: Global, line: &'a [u8]) -> Read<'a, CallResult<'a>>
     ensures { IfOk result
-        (λ o. MatchOption o (HasNone (behind (lex.sign 58) results) (tokens_in line.now))
-        (λ p. Begins (behind (lex.sign 58) results) (tokens_in line.now) (result_of p.0)
+        (λ o. MatchOption o (HasNone (behind_token (lex.sign 58) results) (tokens_in line.now))
+        (λ p. Begins (behind_token (lex.sign 58) results) (tokens_in line.now) (result_of p.0)
         (tokens_in p.1.now))) }
 {
     let Some(behind) = after_sign(line, b':') else {

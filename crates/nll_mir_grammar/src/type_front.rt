@@ -5,7 +5,7 @@ ghost use Rattle.nll_text.specs.Tokens as lex;
 ghost use Rattle.nll_mir_grammar.specs.TypeTexts.{written};
 ghost use Rattle.nll_text.specs.LineTokens.{tokens_in};
 ghost use Rattle.nll_text.specs.Grammars.{Begins, HasNone};
-ghost use Rattle.nll_mir_grammar.specs.Grammars.{behind};
+ghost use Rattle.nll_mir_grammar.specs.Grammars.{behind_token};
 ghost use Rattle.nll_mir_grammar.specs.Parts as parts;
 ghost use Rattle.nll_mir_grammar.specs.Tuples.{parts as parts_of_tuple};
 
@@ -27,8 +27,8 @@ pub fn type_front<'a>(alloc: Global, line: &'a [u8]) -> Read<'a, TypeText<'a>>
 /// The type after a `:`.
 pub fn type_behind<'a>(alloc: Global, line: &'a [u8]) -> Read<'a, TypeText<'a>>
     ensures { IfOk result
-        (λ o. MatchOption o (HasNone (behind (lex.sign 58) parts.types) (tokens_in line.now))
-        (λ p. Begins (behind (lex.sign 58) parts.types) (tokens_in line.now) (written p.0)
+        (λ o. MatchOption o (HasNone (behind_token (lex.sign 58) parts.types) (tokens_in line.now))
+        (λ p. Begins (behind_token (lex.sign 58) parts.types) (tokens_in line.now) (written p.0)
         (tokens_in p.1.now))) }
 {
     match after_sign(line, b':') {

@@ -4,10 +4,10 @@ ghost use Rattle.std.specs.Prelude.{◌≡◌, not, map};
 ghost use Rattle.std.specs.List.{list_all};
 ghost use Rattle.nll_mir_grammar.specs.Functions.{has_function};
 ghost use Rattle.nll_mir_grammar.specs.TypeTexts.{written};
-ghost use Rattle.nll_mir_grammar.specs.Lines.{form_of, parameter_of, point_form, struct_form};
+ghost use Rattle.nll_mir_grammar.specs.Lines.{form_of, parameter_of, point_form};
 ghost use Rattle.nll_mir_grammar.specs.Versions as spec;
 
-use crate::line::{Line, ParameterText, StructText};
+use crate::line::{Line, ParameterText};
 use crate::type_text::TypeText;
 use nll_body::Statement;
 use nll_types::{Operand, Sign};
@@ -59,16 +59,6 @@ fn are_first_arguments(arguments: &[(Operand, TypeText<'_>)]) -> bool
     true
 }
 
-// Whether a struct line may be in a text of version 1.
-fn is_first_struct(text: &StructText<'_>) -> bool
-    ensures { result ≡ spec.is_of_first (struct_form text.now) }
-{
-    if !are_first_parameters(text.parameters.as_slice()) {
-        return false;
-    }
-    !text.fields.as_type().has_function()
-}
-
 // Whether the types that are written in a statement or terminator may be in a text of version 1.
 fn is_first_statement<'a>(statement: &Statement<&'a [u8], TypeText<'a>>) -> bool
     ensures { result ≡ spec.is_of_first (point_form statement.now) }
@@ -94,7 +84,12 @@ pub(crate) fn is_of_version(version: Version, line: &Line<'_>) -> bool
     }
     match line {
         Line::Assert(_, _) => false,
-        Line::Struct(text) => is_first_struct(text),
+        Line::Struct(text) => {
+            if !are_first_parameters(text.parameters.as_slice()) {
+                return false;
+            }
+            !text.fields.as_type().has_function()
+        }
         Line::Let(_, ty) => !ty.has_function(),
         Line::At(statement) => is_first_statement(statement),
         _ => true,

@@ -17,18 +17,18 @@ use Rattle.nll_types.specs.declared.body_types.BodyTypes.{BodyTypes}
 use Rattle.nll_types.specs.declared.operand.Operand.{Operand as KeptOperand}
 use Rattle.nll_types.specs.declared.typed.Typed.{Typed}
 use Rattle.nll_types.proofs.RowLemmas.{tree_is, has_row, tree_later, rows_later}
-use Rattle.nll_mir_grammar.specs.WrittenTypes.{Name, WrittenType}
+use Rattle.nll_mir_grammar.specs.WrittenTypes.{WrittenName, WrittenType}
 use Rattle.nll_mir_grammar.specs.TypeTexts.{written}
 use Rattle.nll_mir_grammar.specs.declared.type_text.TypePiece.{TypePiece}
 use Rattle.nll_body.specs.CodeStatements.{arguments_of, call_of}
 use Rattle.nll_body.specs.Flat.{StatementLists, argument_in, call_in}
 use Rattle.nll_body.specs.Statements.{Statement, call, map_statement, types_written}
-use Rattle.nll_body.specs.Within.{AddsArguments, AreFlatArguments, AreWithin, Grows, IsCallIn, IsListed, IsNumberOf}
+use Rattle.nll_body.specs.Within.{AddsArguments, AreFlatArguments, AreWithin, ListsGrow, IsCallIn, IsListedSlice, IsNumberOf}
 use Rattle.nll_body.specs.declared.flat.FlatCall.{FlatCall}
 use Rattle.nll_body.specs.declared.flat.Slice.{Slice}
 use Rattle.nll_body.specs.declared.statement.Call.{Call}
 use Rattle.nll_body.proofs.FlatLemmas.{grows_further, listed_kept, number_kept}
-use Rattle.nll_mir_text.specs.Naming.{Scope, is_among, is_known, has_arguments, meant}
+use Rattle.nll_mir_text.specs.Naming.{Scope, is_name_among, is_known, has_arguments, meant}
 use Rattle.nll_mir_text.specs.Resolution.{IsResolved}
 use Rattle.nll_mir_text.specs.ResolvedStatements.{bound_numbers, is_bound, argument_meant, argument_resolved, has_names, AreOfArguments, IsOfStatement}
 
@@ -38,12 +38,7 @@ use Rattle.nll_mir_text.specs.ResolvedStatements.{bound_numbers, is_bound, argum
 pub behind_more : {X Y : Type 0} (f : X → Y) (new old before : List Y) (y : Y) (xs : List X) (i : ℕ) (d : X)
     → i < length xs → new ≡ old ++ y ∷ [] → y ≡ f (get_or xs i d) → old ≡ before ++ map f (take i xs)
     → new ≡ before ++ map f (take (i + 1) xs)
-behind_more f new old before y xs i d within pushed is all =
-    pushed
-    ∙ (ap (λ ys. ys ++ y ∷ []) all
-    ∙ (append_assoc before (map f (take i xs)) (y ∷ [])
-    ∙ (ap (λ z. before ++ (map f (take i xs) ++ z ∷ [])) is
-    ∙ ap (λ ys. before ++ ys) (sym (map_more f xs i d within)))))
+behind_more f new old before y xs i d within pushed is all = grind (arith, append_assoc, map_more)
 
 -- ---- arguments
 
@@ -98,7 +93,8 @@ added_more l m n args more before now = now ∙ (ap (λ as'. as' ++ more) before
 -- the slice of those that were added
 pub added_slice : (s : Scope) (texts : List (KeptOperand × List TypePiece)) (types : BodyTypes)
     (old new : StatementLists) (args : List (Operand × Typed)) (at : Slice) → AreOfArguments s texts types args
-    → AddsArguments old new args → at.first ≡ length old.arguments → at.count ≡ length texts → AreFlatArguments new args at
+    → AddsArguments old new args → at.first ≡ length old.arguments → at.count ≡ length texts
+    → AreFlatArguments new args at
 added_slice s texts types old new args at of adds first count =
     let many : length args ≡ length texts =
     sym (length-map args (argument_resolved types)) ∙ (ap length of.meant ∙ length-map texts (argument_meant s)) in
@@ -118,13 +114,14 @@ added_slice s texts types old new args at of adds first count =
 -- ---- names in calls
 
 -- the names in bounds, one after another
-names_of_bounds : (names : List Name) (ws : List (Bor (List ℕ) × Bor (List ℕ)))
-    → list_all (is_bound names) ws ≡ list_all (is_among names)
-    (flat_map (λ (w : Name × Name). w.0 ∷ w.1 ∷ []) (map {B = Name × Name} (λ w. (w.0.now, w.1.now)) ws))
+names_of_bounds : (names : List WrittenName) (ws : List (Bor (List ℕ) × Bor (List ℕ)))
+    → list_all (is_bound names) ws ≡ list_all (is_name_among names)
+    (flat_map (λ (w : WrittenName × WrittenName). w.0 ∷ w.1 ∷ []) (map {B = WrittenName
+    × WrittenName} (λ w. (w.0.now, w.1.now)) ws))
 names_of_bounds names [] = refl
 names_of_bounds names (w ∷ ws) =
     ap (λ b. is_bound names w && b) (names_of_bounds names ws)
-    ∙ and_assoc (is_among names w.0.now) (is_among names w.1.now) _
+    ∙ and_assoc (is_name_among names w.0.now) (is_name_among names w.1.now) _
 
 all_of_texts : (p : WrittenType → Bool) (texts : List (KeptOperand × List TypePiece))
     → list_all (λ a. p (written a.1)) texts
@@ -139,9 +136,9 @@ texts_fused : (s : Scope) (args : List (KeptOperand × List TypePiece))
 texts_fused s [] = refl
 texts_fused s (a ∷ args) = ap (λ bs. argument_meant s a ∷ bs) (texts_fused s args)
 
-bounds_fused : (names : List Name) (ws : List (Bor (List ℕ) × Bor (List ℕ)))
+bounds_fused : (names : List WrittenName) (ws : List (Bor (List ℕ) × Bor (List ℕ)))
     → map {B = ℕ × ℕ} (λ w. (number_of names w.0, number_of names w.1))
-    (map {B = Name × Name} (λ w. (w.0.now, w.1.now)) ws)
+    (map {B = WrittenName × WrittenName} (λ w. (w.0.now, w.1.now)) ws)
     ≡ map {B = ℕ × ℕ} (λ w. (w.0, w.1)) (map (bound_numbers names) ws)
 bounds_fused names [] = refl
 bounds_fused names (w ∷ ws) = ap (λ vs. bound_numbers names w ∷ vs) (bounds_fused names ws)
@@ -150,7 +147,7 @@ bounds_fused names (w ∷ ws) = ap (λ vs. bound_numbers names w ∷ vs) (bounds
 
 module _ (s : Scope) (c : Call (Bor (List ℕ)) (List TypePiece)) where
   -- the call as its line has it
-  abbrev line : Statement Name WrittenType
+  abbrev line : Statement WrittenName WrittenType
   line = map_statement (λ r. r.now) written (call_of c)
 
   abbrev bounds_known : Bool
@@ -200,8 +197,8 @@ module _ (s : Scope) (c : Call (Bor (List ℕ)) (List TypePiece)) where
 
 -- the parts of a call that are in the lists stand for these
 pub call_parts : (old amid new : StatementLists) (c : FlatCall) (p : PlacePath) (args : List (Operand × Typed))
-    (wheres : List (ℕ × ℕ)) → AreWithin old → Grows old amid → Grows amid new → IsNumberOf old p c.place
-    → IsListed amid.pairs wheres c.wheres → AreFlatArguments new args c.arguments
+    (wheres : List (ℕ × ℕ)) → AreWithin old → ListsGrow old amid → ListsGrow amid new → IsNumberOf old p c.place
+    → IsListedSlice amid.pairs wheres c.wheres → AreFlatArguments new args c.arguments
     → IsCallIn new c × (call_in new c ≡ call p args c.result wheres c.target c.unwind)
 call_parts old amid new c p args wheres within first then place bounds arguments =
     let number = number_kept old new within (grows_further _ _ _ first then).lists p c.place place in

@@ -9,8 +9,7 @@ use Rattle.nll_text.proofs.SkippedLemmas.{kept_tokens}
 use Rattle.nll_text.proofs.Utf8Lemmas.{IsUtf8-word, made_is_utf8}
 use Rattle.nll_text.proofs.TokenLemmas.{made_of_tokens}
 use Rattle.nll_body.specs.Statements.{assign, borrow, make, read, live, dead, nop, goto, switch, drop, call, return, stop}
-use Rattle.nll_mir_grammar.specs.MirForms.{Form, universal, outlives, further, assert_line, struct_line, variable, blocks, block, at_point, end, HasForm, spelled_form, spelled_parameter, spelled_parameters, drop_mark, WrittenParameter, region_parameter, type_parameter}
-use Rattle.nll_mir_grammar.specs.WrittenTypes.{tuple, spelled}
+use Rattle.nll_mir_grammar.specs.MirForms.{Form, universal, outlives, further, assert_line, struct_line, variable, blocks, block, at_point, end, HasForm, spelled_form, spelled_parameter, spelled_parameters, WrittenParameter, region_parameter, type_parameter}
 use Rattle.nll_mir_text.specs.MirReading.{IsNamed, HasTexts, HasFewParameters}
 use Rattle.nll_mir_text.proofs.TextLemmas.{few_made}
 
@@ -113,29 +112,14 @@ listed_long (p ∷ ps) =
 -- parameters have as many tokens at least
 parameters_long : (ps : List WrittenParameter) → length ps ≤ length (spelled_parameters ps)
 parameters_long [] = omega arith
-parameters_long (p ∷ ps) =
-    let more = flat_map comma (map spelled_parameter ps) in
-    let e : spelled_parameters (p ∷ ps) ≡ sign 60 ∷ ((spelled_parameter p ++ more) ++ sign 62 ∷ []) = refl in
-    omega (
-      arith,
-      listed_long ps,
-      ap length e,
-      length-append (spelled_parameter p ++ more) (sign 62 ∷ []),
-      length-append (spelled_parameter p) more,
-    )
+parameters_long (p ∷ ps) = grind (arith, listed_long, length-append)
 
 few_spelled : (callee : List ℕ) (f : Form) → length (spelled_form callee f) ≤ most_bytes → HasFewParameters f
 few_spelled callee (universal a) h = tt
 few_spelled callee (outlives a b) h = tt
 few_spelled callee (assert_line a b) h = tt
 few_spelled callee (further x) h = tt
-few_spelled callee (struct_line n ps has_drop fields) h =
-    omega (
-      arith,
-      h,
-      parameters_long ps,
-      length-append (spelled_parameters ps) (drop_mark has_drop ++ spelled (tuple fields)),
-    )
+few_spelled callee (struct_line n ps has_drop fields) h = grind (arith, parameters_long, length-append)
 few_spelled callee (variable x t) h = tt
 few_spelled callee (blocks n) h = tt
 few_spelled callee (block n) h = tt

@@ -7,9 +7,9 @@ use Rattle.std.proofs.lemmas.List.Elements.{All-from_recursion}
 use Rattle.nll_format.specs.Names.{number_of}
 use Rattle.nll_types.specs.Types.{parameter, named, type_count}
 use Rattle.nll_types.specs.Structs.{Struct, IsWellFormed, AreWellFormed}
-use Rattle.nll_mir_grammar.specs.WrittenTypes.{Name, WrittenType, WrittenTypes, Arguments, no_argument, region_argument, type_argument}
+use Rattle.nll_mir_grammar.specs.WrittenTypes.{WrittenName, WrittenType, WrittenTypes, Arguments, no_argument, region_argument, type_argument}
 use Rattle.nll_mir_grammar.specs.WrittenTypes as written
-use Rattle.nll_mir_text.specs.Naming.{Scope, is_among, meant, all_meant, regions_meant, types_meant, is_known, kinds_of, same_kinds, has_arguments}
+use Rattle.nll_mir_text.specs.Naming.{Scope, is_name_among, meant, all_meant, regions_meant, types_meant, is_known, kinds_of, same_kinds, has_arguments}
 use Rattle.nll_mir_text.specs.ToldTypes.{are_known, arguments_are_known, have_arguments, arguments_have_arguments}
 use Rattle.nll_mir_text.specs.MirReading.{region_count, other_count, AreKinds}
 
@@ -50,8 +50,8 @@ regions_known s (type_argument t args) k = regions_known s args (true_both _ _ k
 
 module _ (s : Scope) (structs : List Struct) (kept : AreKinds s.kinds structs)
     (counted : length s.structs ≡ length structs) where
-  by_name : (n : Name) (args : Arguments) (b : Bool) → is_among s.parameters n ≡ b
-      → (b || is_among s.structs n) && arguments_are_known s args ≡ true
+  by_name : (n : WrittenName) (args : Arguments) (b : Bool) → is_name_among s.parameters n ≡ b
+      → (b || is_name_among s.structs n) && arguments_are_known s args ≡ true
       → same_kinds (kinds_of args) (cond b [] (slice_index_or s.kinds (number_of s.structs n) []))
       && arguments_have_arguments s args ≡ true
       → (arguments_are_known s args ≡ true → arguments_have_arguments s args ≡ true
@@ -62,7 +62,7 @@ module _ (s : Scope) (structs : List Struct) (kept : AreKinds s.kinds structs)
   by_name n args true e k h parts = below _ _ e
   by_name n args false e k h parts =
       let taken = slice_index_or s.kinds (number_of s.structs n) [] in
-      let known = true_both (is_among s.structs n) (arguments_are_known s args) k in
+      let known = true_both (is_name_among s.structs n) (arguments_are_known s args) k in
       let has = true_both (same_kinds (kinds_of args) taken) (arguments_have_arguments s args) h in
       let known_struct : number_of s.structs n < length s.structs =
       below (number_of s.structs n) (length s.structs) known.0 in
@@ -88,7 +88,7 @@ module _ (s : Scope) (structs : List Struct) (kept : AreKinds s.kinds structs)
         let has = true_both _ _ h in
         (all_well_formed ts known.0 has.0, well_formed t known.1 has.1)
     well_formed (written.named n args) k h =
-        by_name n args (is_among s.parameters n) refl k h (λ known has. arguments_well_formed args known has)
+        by_name n args (is_name_among s.parameters n) refl k h (λ known has. arguments_well_formed args known has)
 
     pub all_well_formed : (ts : WrittenTypes) → are_known s ts ≡ true → have_arguments s ts ≡ true
         → AreWellFormed structs (length s.regions) (length s.parameters) (all_meant s ts)

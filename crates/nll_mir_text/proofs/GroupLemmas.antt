@@ -18,11 +18,7 @@ pub is_reached : (s : Said) (g : Group) → rank g ≤ s.reached → has_reached
 is_reached s g l = le-leb (rank g) s.reached l
 
 pub in_body : (s : Said) → is_in_body s ≡ true → (7 ≤ s.reached) × (s.reached ≤ 8)
-in_body s e =
-    let parts = and_parts (nat_le 7 s.reached) (not (nat_le 9 s.reached)) e in
-    let late : 7 ≤ s.reached = leb-true 7 s.reached parts.0 in
-    let early : s.reached < 9 = leb-false 9 s.reached (not-true _ parts.1) in
-    (late, omega (arith, early))
+in_body s e = grind (arith, and_parts, leb-true, leb-false, not-true)
 
 abbrev Follows : Said → Form → Type 0
 Follows s f = (s.reached ≤ group f) × (s.reached < 9)

@@ -1,5 +1,5 @@
 -- Types that are added leave what a reader's lines say.
-use Rattle.std.proofs.Common.{◌≡◌, ◌∙◌, ℕ, ◌≤◌, Bool, true, List, [], ◌∷◌, length, map, refl, ap, sym, subst, suc, arith}
+use Rattle.std.proofs.Common.{◌≡◌, ◌∙◌, ℕ, Bool, true, List, [], ◌∷◌, length, map, refl, ap, sym, suc, arith}
 use Rattle.std.specs.Prelude.{All}
 use Rattle.std.specs.List.{list_all}
 use Rattle.nll_sets.proofs.PrefixLemmas.{prefix_same}
@@ -13,11 +13,11 @@ use Rattle.nll_body.specs.Meant.{HasRows}
 use Rattle.nll_body.specs.Statements.{Statement, types_written}
 use Rattle.nll_body.specs.declared.flat.Stmt.{Stmt}
 use Rattle.nll_body.proofs.StatementMeantLemmas.{meant_later, has_rows_later}
-use Rattle.nll_body.specs.Typed.{HaveRows, meant}
+use Rattle.nll_body.specs.Typed.{HaveRows, meant_statement}
 use Rattle.nll_mir_grammar.specs.MirForms.{Form, at_point}
-use Rattle.nll_mir_grammar.specs.WrittenTypes.{Name, WrittenType}
+use Rattle.nll_mir_grammar.specs.WrittenTypes.{WrittenName, WrittenType}
 use Rattle.nll_mir_text.specs.Naming.{Scope, has_arguments}
-use Rattle.nll_mir_text.specs.MirSaid.{Said, group}
+use Rattle.nll_mir_text.specs.MirSaid.{Said}
 use Rattle.nll_mir_text.specs.MirFaults.{is_in_order}
 use Rattle.nll_mir_text.specs.MirReading.{said_by, scope_in, IsReady, IsDue}
 use Rattle.nll_mir_text.specs.ResolvedLines.{IsGrown, IsPlaced}
@@ -27,7 +27,7 @@ use Rattle.nll_mir_text.specs.declared.reader.Reader.{Reader}
 module _ (old new : BodyTypes) (grows : AddsTypes old new) where
   -- statements mean what they meant
   pub points_later : (is : List (Statement ℕ Typed)) → All (HasRows old.table.shapes old.regions.items) is
-      → map (meant new) is ≡ map (meant old) is
+      → map (meant_statement new) is ≡ map (meant_statement old) is
   points_later [] h = refl
   points_later (i ∷ is) h =
       let here = meant_later _ _ _ _ grows.table.extends grows.regions i (h 0 i (omega arith)) in
@@ -35,7 +35,7 @@ module _ (old new : BodyTypes) (grows : AddsTypes old new) where
       cc
 
   -- a statement over numbers is what it was
-  pub statement_later : (s : Scope) (i : Statement Name WrittenType) (k : Statement ℕ Typed)
+  pub statement_later : (s : Scope) (i : Statement WrittenName WrittenType) (k : Statement ℕ Typed)
       → IsOfStatement s i old k → IsOfStatement s i new k
   statement_later s i k h = record {
     known = h.known;
@@ -90,13 +90,13 @@ module _ (r : Reader) (t : BodyTypes) (l : StatementLists) (grows : AddsTypes r.
   }
 
   -- a line that was in order is
-  pub order_grown : (i : Statement Name WrittenType) → is_in_order (said_by r) (at_point i) ≡ true
+  pub order_grown : (i : Statement WrittenName WrittenType) → is_in_order (said_by r) (at_point i) ≡ true
       → is_in_order (said_by (grown r t l)) (at_point i) ≡ true
   order_grown i order = ap (λ (s : Said). is_in_order s (at_point i)) said_grown ∙ order
 
 -- with types alone a statement is still that of its line
 pub placed_grown : (r : Reader) (t : BodyTypes) → AddsTypes r.variables.types t → IsReady r
-    → (i : Statement Name WrittenType) (flat : Stmt) (fits : Bool) → IsPlaced r i flat fits
+    → (i : Statement WrittenName WrittenType) (flat : Stmt) (fits : Bool) → IsPlaced r i flat fits
     → IsPlaced (grown r t r.points.statements) i flat fits
 placed_grown r t grows ready i flat fits p = record {
   order = order_grown r t r.points.statements grows refl ready i p.order;
@@ -109,13 +109,7 @@ placed_grown r t grows ready i flat fits p = record {
 
 -- a reader that says what it said is still prepared for a line
 pub due_grown : (old new : Reader) (f : Form) → IsGrown old new → IsDue old f → IsDue new f
-due_grown old new f g h = record {
-  ready = g.ready;
-  order = ap (λ (s : Said). is_in_order s f) g.said ∙ h.order;
-  follows = subst (λ n. n ≤ group f) (sym (ap (λ (s : Said). s.reached) g.said)) h.follows;
-  texts = h.texts;
-  few = h.few;
-}
+due_grown old new f g h = grind arith
 
 -- a table with more shapes
 pub adds_table : (types : BodyTypes) (t : Tables) → AddsShapes types.table t
@@ -123,7 +117,7 @@ pub adds_table : (types : BodyTypes) (t : Tables) → AddsShapes types.table t
 adds_table types t grows = record { table = grows; regions = prefix_same types.regions.items }
 
 -- a statement that is made of a line that is in order
-pub placed_of : (r : Reader) (t : BodyTypes) (l : StatementLists) (i : Statement Name WrittenType) (k : Stmt)
+pub placed_of : (r : Reader) (t : BodyTypes) (l : StatementLists) (i : Statement WrittenName WrittenType) (k : Stmt)
     (fits : Bool) → AddsTypes r.variables.types t → statements_in l ≡ statements_in r.points.statements → IsReady r
     → is_in_order (said_by r) (at_point i) ≡ true → IsFlatOf (scope_in r.regions r.structs) i t l k
     → fits ≡ list_all (has_arguments (scope_in r.regions r.structs)) (types_written i) → IsPlaced (grown r t l) i k fits

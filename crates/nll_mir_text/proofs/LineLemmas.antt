@@ -1,5 +1,5 @@
 -- Tests and lists, as one more line of a text changes them.
-use Rattle.std.proofs.Common.{◌≡◌, ◌⊎◌, ℕ, ◌+◌, ◌<◌, Bool, true, false, cond, List, [], ◌∷◌, ◌++◌, Some, Contains, length, map, inl, inr, refl, sym, ap, ◌∙◌, subst, ⊎_elim, arith, length-append, slice_get}
+use Rattle.std.proofs.Common.{◌≡◌, ◌⊎◌, ℕ, ◌<◌, Bool, true, false, cond, List, [], ◌∷◌, ◌++◌, Some, Contains, length, map, inl, inr, refl, sym, ap, ◌∙◌, subst, ⊎_elim, arith, length-append, slice_get}
 use Rattle.std.specs.Prelude.{◌&&◌, ◌==◌, nat_lt, All}
 use Rattle.std.specs.List.{list_all}
 use Rattle.std.specs.List.Sorted.{IsStrictlyIncreasing}
@@ -8,8 +8,8 @@ use Rattle.std.proofs.lemmas.List.{get_or_append_left, get_or_at}
 use Rattle.std.proofs.lemmas.List.Elements.{Contains-push_cases, All-cons, All-nil}
 use Rattle.std.proofs.lemmas.Option.{get_or_from_slice_get, slice_get_within, slice_get-get_or}
 use Rattle.nll_format.specs.Names.{number_of}
-use Rattle.nll_mir_grammar.specs.WrittenTypes.{Name}
-use Rattle.nll_mir_text.specs.Naming.{is_among}
+use Rattle.nll_mir_grammar.specs.WrittenTypes.{WrittenName}
+use Rattle.nll_mir_text.specs.Naming.{is_name_among}
 
 -- ---- tests
 
@@ -29,11 +29,11 @@ below_all n (x ∷ xs) h =
     All-cons (λ b. b < n) x xs first (below_all n xs both.1)
 
 -- names that are declared have numbers
-pub numbers_below : (names xs : List Name) → list_all (is_among names) xs ≡ true
+pub numbers_below : (names xs : List WrittenName) → list_all (is_name_among names) xs ≡ true
     → All (λ q. q < length names) (map (number_of names) xs)
 numbers_below names [] h = All-nil (λ q. q < length names)
 numbers_below names (x ∷ xs) h =
-    let both = and_parts (is_among names x) (list_all (is_among names) xs) h in
+    let both = and_parts (is_name_among names x) (list_all (is_name_among names) xs) h in
     let first : number_of names x < length names = ltb-true (number_of names x) (length names) both.0 in
     All-cons (λ q. q < length names) (number_of names x) (map (number_of names) xs) first
     (numbers_below names xs both.1)
@@ -62,14 +62,7 @@ all_at P xs p x all at = subst P (get_or_from_slice_get xs p x x at) (all p x (s
 
 pub rise_push : (xs : List ℕ) (n : ℕ) → IsStrictlyIncreasing xs → All (λ q. q < n) xs
     → IsStrictlyIncreasing (xs ++ n ∷ [])
-rise_push xs n rise below k l = ⊎_elim
-    (λ low. rw (get_or_append_left xs (n ∷ []) 0 k (omega (arith, low)), get_or_append_left xs (n ∷ []) 0 (k + 1) low)
-    (rise k low))
-    (λ high.
-    let last : length xs ≡ k + 1 = omega (arith, high, l, length-append xs (n ∷ [])) in
-    rw (get_or_append_left xs (n ∷ []) 0 k (omega (arith, last)), get_or_at xs n [] 0 (k + 1) last)
-    (below k 0 (omega (arith, last))))
-    (cases_lt (k + 1) (length xs))
+rise_push xs n rise below k l = grind (arith, get_or_append_left, length-append, get_or_at, cases_lt)
 
 pub inserted : {X : Type 0} (b : Bool) (ks : List X) (x y : X) → Contains (cond b ks (ks ++ x ∷ [])) y
     → Contains ks y ⊎ (x ≡ y)

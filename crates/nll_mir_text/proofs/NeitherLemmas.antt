@@ -8,7 +8,7 @@ use Rattle.nll_text.specs.Lines.{lines_of, without_last_feed, is_skipped}
 use Rattle.nll_text.proofs.DecisionLemmas.{utf8_or_not}
 use Rattle.nll_problem.specs.Limits.{most_bytes}
 use Rattle.nll_problem.specs.declared.error.Kind.TheVariants.{Text}
-use Rattle.nll_format.specs.Text.{Fits, skipped, of_form, IsFaulty, not_utf8, no_form, at_form, Says, IsCut, IsHeaded, IsText, IsFault, too_long, header_not_utf8, no_header, at_line, no_end}
+use Rattle.nll_format.specs.Text.{Fits, skipped, of_form, IsFaulty, not_utf8, no_form, at_form, Says, IsCut, IsHeaded, IsText, IsFaultOfText, too_long, header_not_utf8, no_header, at_line, no_end}
 use Rattle.nll_format.specs.declared.error.TextKind.{TextKind}
 use Rattle.nll_format.specs.declared.error.TextKind.TheVariants.{NotUtf8, Header, Syntax, Limit, End}
 use Rattle.nll_mir_grammar.specs.MirForms.{Form}
@@ -80,7 +80,7 @@ lines_not_neither v before (line ∷ lines) fine faulty =
 -- ---- a text
 
 module _ (v : Version) (text : List ℕ) (none : (forms : List Form) → IsText (mir v) text forms → ⊥)
-    (fine : (line : ℕ) (kind : TextKind) → IsFault (mir v) text line kind → ⊥) where
+    (fine : (line : ℕ) (kind : TextKind) → IsFaultOfText (mir v) text line kind → ⊥) where
   by_body : (body : List (List ℕ)) → IsHeaded (mir v) text body → ⊥
   by_body body headed =
       lines_not_neither v [] body

@@ -1,6 +1,6 @@
 -- What is judged of a statement, and what lines say once it stands at the next point.
-use Rattle.std.proofs.Common.{◌≡◌, ℕ, ◌+◌, ◌<◌, ◌≤◌, Bool, true, false, not, cond, Option, Some, None, List, [], ◌∷◌, ◌++◌, length, map, refl, sym, ap, ◌∙◌}
-use Rattle.std.specs.Prelude.{◌&&◌, nat_lt, nat_le}
+use Rattle.std.proofs.Common.{◌≡◌, ℕ, ◌+◌, ◌<◌, ◌≤◌, Bool, true, false, not, Some, None, List, [], ◌∷◌, ◌++◌, length, map, refl, sym, ap, ◌∙◌, arith}
+use Rattle.std.specs.Prelude.{◌&&◌, nat_lt}
 use Rattle.std.proofs.lemmas.Bool.{le-leb, lt-leb, lt-ltb, le-ltb}
 use Rattle.std.specs.List.{list_all}
 use Rattle.std.proofs.lemmas.List.{length-map}
@@ -8,8 +8,7 @@ use Rattle.std.proofs.lemmas.List.Sums.{sum_by-cons, sum_by_push}
 use Rattle.nll_problem.specs.Limits.{most_points, most_edges}
 use Rattle.nll_problem.specs.declared.error.Kind.TheVariants.{Points, Edges}
 use Rattle.nll_format.specs.Names.{number_of}
-use Rattle.nll_format.specs.declared.error.TextKind.{TextKind}
-use Rattle.nll_format.specs.declared.error.TextKind.TheVariants.{Syntax, Unknown, Range, Shape, TypeSize, Limit}
+use Rattle.nll_format.specs.declared.error.TextKind.TheVariants.{Unknown, Range, Shape, TypeSize, Limit}
 use Rattle.nll_types.specs.Types.{TypeTree}
 use Rattle.nll_body.specs.Judging.{IsJudged}
 use Rattle.nll_types.specs.Rows.{tree_at}
@@ -17,16 +16,16 @@ use Rattle.nll_types.specs.Structs.{Struct}
 use Rattle.nll_types.specs.declared.body_types.BodyTypes.{BodyTypes}
 use Rattle.nll_types.specs.declared.typed.Typed.{Typed}
 use Rattle.nll_body.specs.declared.judgement.Judgement.{Judgement}
-use Rattle.nll_mir_grammar.specs.WrittenTypes.{Name, WrittenType}
+use Rattle.nll_mir_grammar.specs.WrittenTypes.{WrittenName, WrittenType}
 use Rattle.nll_body.specs.Statements.{Statement, types_written, is_terminator}
 use Rattle.nll_body.specs.Effects.{targets}
 use Rattle.nll_body.specs.Written.{regions_written, variables_written}
 use Rattle.nll_body.specs.Exits.{edges_from, edge_count}
 use Rattle.nll_body.proofs.MapLemmas.{same_terminator, same_targets, same_edges, same_variables}
-use Rattle.nll_mir_text.specs.Naming.{Scope, is_among, is_known, meant}
+use Rattle.nll_mir_text.specs.Naming.{Scope, is_name_among, is_known, meant}
 use Rattle.nll_body.specs.Flat.{statement_in}
 use Rattle.nll_body.specs.declared.flat.Stmt.{Stmt}
-use Rattle.nll_body.specs.Typed.{meant as meant_with}
+use Rattle.nll_body.specs.Typed.{meant_statement as meant_with}
 use Rattle.nll_body.specs.Typing.{types_agree, types_are_small}
 use Rattle.nll_mir_grammar.specs.MirForms.{at_point}
 use Rattle.nll_mir_text.specs.declared.reader.Reader.{Reader}
@@ -48,7 +47,7 @@ all_three true b c h = sym h
 all_three false b c h = refl
 
 -- what stands over numbers has the variables, the targets and the edges of what is written
-module _ (s : Scope) (i : Statement Name WrittenType) (types : BodyTypes) (r : Statement ℕ Typed)
+module _ (s : Scope) (i : Statement WrittenName WrittenType) (types : BodyTypes) (r : Statement ℕ Typed)
     (of : IsOfStatement s i types r) where
   abbrev tree : Typed → TypeTree
   tree = tree_at types.table.shapes types.regions.items
@@ -72,7 +71,7 @@ module _ (s : Scope) (i : Statement Name WrittenType) (types : BodyTypes) (r : S
       ∙ (ap (λ (m : Statement ℕ TypeTree). is_terminator m) of.meant
       ∙ same_terminator (number_of s.regions) (meant s) i)
 
-module _ (r : Reader) (i : Statement Name WrittenType) (flat : Stmt) (fits : Bool)
+module _ (r : Reader) (i : Statement WrittenName WrittenType) (flat : Stmt) (fits : Bool)
     (placed : IsPlaced r i flat fits) where
   abbrev here : Statement ℕ Typed
   here = statement_in r.points.statements flat
@@ -97,10 +96,7 @@ module _ (r : Reader) (i : Statement Name WrittenType) (flat : Stmt) (fits : Boo
 
   fits_is : (agree : Bool) → agree ≡ types_agree structs variables (meant_with r.variables.types here)
       → (fits && agree) ≡ shapes_fit (said_by r) i
-  fits_is agree a =
-      let agree_is : agree ≡ types_agree structs variables (statement_meant (said_by r) i) =
-      a ∙ ap (types_agree structs variables) placed.of.of.meant in
-      rw (placed.fits, agree_is) refl
+  fits_is agree a = grind arith
 
   -- what is judged of the statement
   pub point_judged : (judged j : Judgement) → j.declared ≡ judged.declared → j.fits ≡ (fits && judged.fits)
@@ -126,92 +122,48 @@ unknown_last true b c h = h
 unknown_last false b c h = refl
 
 -- a name in the statement isn't declared
-pub names_unknown : (s : Said) (i : Statement Name WrittenType) → has_names s.scope i ≡ false → knows s i ≡ false
+pub names_unknown : (s : Said) (i : Statement WrittenName WrittenType) → has_names s.scope i ≡ false → knows s i ≡ false
 names_unknown s i none =
-    unknown_last (knows_variables s (variables_written i)) (list_all (is_among s.scope.regions) (regions_written i))
+    unknown_last (knows_variables s (variables_written i)) (list_all (is_name_among s.scope.regions)
+    (regions_written i))
     (list_all (is_known s.scope) (types_written i)) none
 
 -- ---- faults
 
--- the first kind of fault, by what is wrong
-abbrev told : Bool → Bool → Bool → Bool → Bool → Bool → Bool → Option TextKind
-told order known range shape size points edges =
-    cond order (Some Syntax) (cond known (Some Unknown) (cond range (Some Range) (cond shape (Some Shape)
-    (cond size (Some TypeSize) (cond points (Some (Limit Points)) (cond edges (Some (Limit Edges)) None))))))
-
 -- a name or a variable isn't declared
-pub undeclared : (s : Said) (i : Statement Name WrittenType) → is_in_order s (at_point i) ≡ true → knows s i ≡ false
+pub undeclared : (s : Said) (i : Statement WrittenName WrittenType) → is_in_order s (at_point i) ≡ true
+    → knows s i ≡ false
     → first_fault s (at_point i) ≡ Some Unknown
-undeclared s i order none =
-    let rest : Bool → Bool → Option TextKind =
-    λ a b. told a b (not (has_targets s i)) (not (shapes_fit s i))
-    (not (types_are_small s.structs s.variables (statement_meant s i))) (nat_le most_points (length s.points))
-    (nat_lt most_edges (edge_count s.points + edges_from i)) in
-    ap (λ b. rest b (not (knows s i))) (ap not order) ∙ ap (λ b. rest false b) (ap not none)
+undeclared s i order none = grind arith
 
-module _ (s : Said) (i : Statement Name WrittenType) (order : is_in_order s (at_point i) ≡ true)
+module _ (s : Said) (i : Statement WrittenName WrittenType) (order : is_in_order s (at_point i) ≡ true)
     (known : knows s i ≡ true) where
-  abbrev by : Bool → Bool → Bool → Bool → Bool → Option TextKind
-  by range shape size points edges =
-      told (not (is_in_order s (at_point i))) (not (knows s i)) range shape size points edges
-
-  in_order_and_known : (range shape size points edges : Bool)
-      → by range shape size points edges ≡ told false false range shape size points edges
-  in_order_and_known range shape size points edges =
-      ap (λ b. told b (not (knows s i)) range shape size points edges) (ap not order)
-      ∙ ap (λ b. told false b range shape size points edges) (ap not known)
-
   pub out_of_range : has_targets s i ≡ false → first_fault s (at_point i) ≡ Some Range
-  out_of_range t = in_order_and_known _ _ _ _ _
-      ∙ ap (λ b. told false false b (not (shapes_fit s i))
-      (not (types_are_small s.structs s.variables (statement_meant s i))) (nat_le most_points (length s.points))
-      (nat_lt most_edges (edge_count s.points + edges_from i))) (ap not t)
+  out_of_range t = rw (order, known, t) refl
 
   module _ (targets_there : has_targets s i ≡ true) where
     pub unfit : shapes_fit s i ≡ false → first_fault s (at_point i) ≡ Some Shape
-    unfit f = in_order_and_known _ _ _ _ _
-        ∙ rw_two (not (has_targets s i)) (not (shapes_fit s i)) _ _ _ (ap not targets_there) (ap not f)
-      where
-        rw_two : (a b c d e : Bool) → a ≡ false → b ≡ true → told false false a b c d e ≡ Some Shape
-        rw_two a b c d e h k = rw (h, k) refl
+    unfit f = rw (order, known, targets_there, f) refl
 
     module _ (fit : shapes_fit s i ≡ true) where
       pub too_large : types_are_small s.structs s.variables (statement_meant s i) ≡ false
           → first_fault s (at_point i) ≡ Some TypeSize
-      too_large m = in_order_and_known _ _ _ _ _ ∙ by_size _ _ _ _ _ (ap not targets_there) (ap not fit) (ap not m)
-        where
-          by_size : (a b c d e : Bool) → a ≡ false → b ≡ false → c ≡ true → told false false a b c d e ≡ Some TypeSize
-          by_size a b c d e h k l = rw (h, k, l) refl
+      too_large m = rw (order, known, targets_there, fit, m) refl
 
       module _ (small : types_are_small s.structs s.variables (statement_meant s i) ≡ true) where
         pub too_many_points : most_points ≤ length s.points → first_fault s (at_point i) ≡ Some (Limit Points)
-        too_many_points p = in_order_and_known _ _ _ _ _
-            ∙ by_points _ _ _ _ _ (ap not targets_there) (ap not fit) (ap not small) (le-leb _ _ p)
-          where
-            by_points : (a b c d e : Bool) → a ≡ false → b ≡ false → c ≡ false → d ≡ true
-                → told false false a b c d e ≡ Some (Limit Points)
-            by_points a b c d e h k l m = rw (h, k, l, m) refl
+        too_many_points p = rw (order, known, targets_there, fit, small, le-leb _ _ p) refl
 
         pub too_many_edges : length s.points < most_points → most_edges < edge_count s.points + edges_from i
             → first_fault s (at_point i) ≡ Some (Limit Edges)
-        too_many_edges p e = in_order_and_known _ _ _ _ _
-            ∙ by_edges _ _ _ _ _ (ap not targets_there) (ap not fit) (ap not small) (lt-leb _ _ p) (lt-ltb _ _ e)
-          where
-            by_edges : (a b c d e : Bool) → a ≡ false → b ≡ false → c ≡ false → d ≡ false → e ≡ true
-                → told false false a b c d e ≡ Some (Limit Edges)
-            by_edges a b c d e h k l m n = rw (h, k, l, m, n) refl
+        too_many_edges p e = rw (order, known, targets_there, fit, small, lt-leb _ _ p, lt-ltb _ _ e) refl
 
         pub no_fault : length s.points < most_points → edge_count s.points + edges_from i ≤ most_edges
             → first_fault s (at_point i) ≡ None
-        no_fault p e = in_order_and_known _ _ _ _ _
-            ∙ by_none _ _ _ _ _ (ap not targets_there) (ap not fit) (ap not small) (lt-leb _ _ p) (le-ltb _ _ e)
-          where
-            by_none : (a b c d e : Bool) → a ≡ false → b ≡ false → c ≡ false → d ≡ false → e ≡ false
-                → told false false a b c d e ≡ None
-            by_none a b c d e h k l m n = rw (h, k, l, m, n) refl
+        no_fault p e = rw (order, known, targets_there, fit, small, lt-leb _ _ p, le-ltb _ _ e) refl
 
 -- the targets of a statement over numbers are blocks
-pub targets_are : (s : Said) (i : Statement Name WrittenType) (types : BodyTypes) (r : Statement ℕ Typed)
+pub targets_are : (s : Said) (i : Statement WrittenName WrittenType) (types : BodyTypes) (r : Statement ℕ Typed)
     → IsOfStatement s.scope i types r → (b : Bool) → b ≡ list_all (λ x. nat_lt x s.blocks) (targets r)
     → b ≡ has_targets s i
 targets_are s i types r of b h = h ∙ ap (list_all (λ x. nat_lt x s.blocks)) (targets_resolved s.scope i types r of)
@@ -219,7 +171,7 @@ targets_are s i types r of b h = h ∙ ap (list_all (λ x. nat_lt x s.blocks)) (
 -- ---- what is said
 
 -- the statement stands at the next point
-pub point_said : (s : Said) (i : Statement Name WrittenType) (points : List (Statement ℕ TypeTree)) (owes : Bool)
+pub point_said : (s : Said) (i : Statement WrittenName WrittenType) (points : List (Statement ℕ TypeTree)) (owes : Bool)
     (blocks : ℕ) (starts : List ℕ)
     → blocks ≡ s.blocks → starts ≡ s.starts → points ≡ s.points ++ statement_meant s i ∷ []
     → owes ≡ not (is_terminator i)

@@ -3,7 +3,7 @@ use Rattle.std.proofs.Common.{◌≡◌, ℕ, suc, ◌-◌, Bool, true, false, L
 use Rattle.std.proofs.Math.Seq.{take-length}
 use Rattle.std.proofs.lemmas.List.{length-drop, reverse-reverse}
 use Rattle.nll_mir_text.specs.Naming.{same_kinds}
-use Rattle.nll_mir_text.specs.Resolving.{is_region, newest}
+use Rattle.nll_mir_text.specs.Resolving.{is_region_entry, newest}
 use Rattle.nll_mir_text.specs.declared.rows.Mark.{Mark}
 
 -- the newest row, in order, is what stands behind its beginning
@@ -24,6 +24,6 @@ kinds_differ (false ∷ kinds) (false ∷ ks) h = kinds_differ kinds ks (λ e. h
 kinds_differ (true ∷ kinds) (false ∷ ks) h = refl
 kinds_differ (false ∷ kinds) (true ∷ ks) h = refl
 
-pub length_kinds : (ms : List Mark) → length (map is_region ms) ≡ length ms
+pub length_kinds : (ms : List Mark) → length (map is_region_entry ms) ≡ length ms
 length_kinds [] = refl
 length_kinds (m ∷ ms) = ap suc (length_kinds ms)

@@ -1,6 +1,6 @@
 -- What lines say once there is one more line.
 use Rattle.std.proofs.Common.{◌≡◌, ℕ, zero, suc, ◌+◌, ◌<◌, ◌≤◌, Bool, true, false, not, cond, List, [], ◌∷◌, ◌++◌, Option, Some, None, Contains, length, map, get_or, unwrap_or, refl, sym, ap, ◌∙◌, subst, ⊎_elim, arith, append_assoc, length-append}
-use Rattle.std.specs.Prelude.{codes, nat_lt}
+use Rattle.std.specs.Prelude.{codes}
 use Rattle.std.specs.List.{filter_map, last_or}
 use Rattle.std.specs.Str.{bytes_eq}
 use Rattle.std.proofs.lemmas.Bool.{and_parts, not-false, ltb-true}
@@ -12,16 +12,16 @@ use Rattle.nll_format.specs.Names.{number_of}
 use Rattle.nll_format.specs.Text.{Fits, skipped, of_form, Says}
 use Rattle.nll_types.specs.Types.{TypeTree}
 use Rattle.nll_types.specs.Structs.{Struct}
-use Rattle.nll_mir_grammar.specs.WrittenTypes.{Name, WrittenType, WrittenTypes}
+use Rattle.nll_mir_grammar.specs.WrittenTypes.{WrittenName, WrittenType, WrittenTypes}
 use Rattle.nll_body.specs.Statements.{Statement, is_terminator}
 use Rattle.nll_mir_text.specs.Naming.{Scope, meant}
 use Rattle.nll_mir_grammar.specs.MirForms.{Form, WrittenParameter, universal, outlives, further, assert_line, struct_line, variable, blocks, block, at_point, end}
 use Rattle.nll_mir_grammar.specs.declared.version.Version.{Version}
 use Rattle.nll_mir_text.specs.declared.groups.Group.TheVariants.{End}
-use Rattle.nll_mir_text.specs.MirSaid.{Said, said, group, reached, universal_in, further_in, outlives_in, assert_in, struct_in, variable_in, blocks_in, statement_of_form, owes_in, numbers_of, universals_said, names_said, meant_in, with_fronts, declared_in, start_in}
-use Rattle.nll_mir_text.specs.StructLines.{is_region}
-use Rattle.nll_mir_text.specs.MirSteps.{says, declared, has_reached}
-use Rattle.nll_mir_text.specs.MirFaults.{first_fault, is_in_order, is_universal}
+use Rattle.nll_mir_text.specs.MirSaid.{Said, said, group, reached, universal_in, further_in, outlives_in, assert_in, struct_in, variable_in, blocks_in, statement_of_form, owes_in, region_numbers, universals_said, names_said, meant_in, with_fronts, declared_in, start_in}
+use Rattle.nll_mir_text.specs.StructLines.{is_region_parameter}
+use Rattle.nll_mir_text.specs.MirSteps.{says, declared_struct, has_reached}
+use Rattle.nll_mir_text.specs.MirFaults.{first_fault, is_in_order}
 use Rattle.nll_mir_text.specs.MirReading.{Adds}
 use Rattle.nll_mir_text.specs.MirText.{mir}
 use Rattle.nll_mir_text.proofs.FaultLemmas.{faultless}
@@ -39,23 +39,24 @@ in_place forms f fine = (follows (said forms) f (in_order (said forms) f fine)).
 
 -- ---- what lines say, from what each says
 
-abbrev scope_from : List Name → List Name → List (Name × List WrittenParameter) → Scope
+abbrev scope_from : List WrittenName → List WrittenName → List (WrittenName × List WrittenParameter) → Scope
 scope_from us fs ds = record {
   regions = (codes "static" ∷ us) ++ fs;
   parameters = [];
   structs = map (λ d. d.0) ds;
-  kinds = map (λ d. map is_region d.1) ds;
+  kinds = map (λ d. map is_region_parameter d.1) ds;
 }
 
-abbrev said_from : ℕ → List Name → List Name → List (Name × Name) → List (Name × Name)
-    → List (Name × List WrittenParameter) → List Struct → List WrittenType → List ℕ → List ℕ
-    → List (Statement Name WrittenType) → List Bool → Said
+abbrev said_from : ℕ → List WrittenName → List WrittenName → List (WrittenName × WrittenName)
+    → List (WrittenName × WrittenName)
+    → List (WrittenName × List WrittenParameter) → List Struct → List WrittenType → List ℕ → List ℕ
+    → List (Statement WrittenName WrittenType) → List Bool → Said
 said_from r us fs os cs ds structs vs bs starts is ows = record {
   reached = r;
   scope = scope_from us fs ds;
   universals = length (codes "static" ∷ us);
-  outlives = insert_all same_pair [] (map (numbers_of (codes "static" ∷ us)) os);
-  asserts = insert_all same_pair [] (map (numbers_of ((codes "static" ∷ us) ++ fs)) cs);
+  outlives = insert_all same_pair [] (map (region_numbers (codes "static" ∷ us)) os);
+  asserts = insert_all same_pair [] (map (region_numbers ((codes "static" ∷ us) ++ fs)) cs);
   structs = structs;
   variables = map (meant (scope_from us fs ds)) vs;
   blocks = get_or bs 0 0;
@@ -91,9 +92,9 @@ fronts_push (x ∷ forms) f =
     ∙ ap (λ (ps : List (List Form × Form)). ([], x) ∷ ps)
     (map_push (λ (p : List Form × Form). (x ∷ p.0, p.1)) (with_fronts forms) (forms, f))
 
-same_from : (r : ℕ) (us us' fs fs' : List Name) (os os' cs cs' : List (Name × Name))
-    (ds ds' : List (Name × List WrittenParameter)) (structs structs' : List Struct) (vs vs' : List WrittenType)
-    (bs bs' starts starts' : List ℕ) (is is' : List (Statement Name WrittenType)) (ows ows' : List Bool)
+same_from : (r : ℕ) (us us' fs fs' : List WrittenName) (os os' cs cs' : List (WrittenName × WrittenName))
+    (ds ds' : List (WrittenName × List WrittenParameter)) (structs structs' : List Struct) (vs vs' : List WrittenType)
+    (bs bs' starts starts' : List ℕ) (is is' : List (Statement WrittenName WrittenType)) (ows ows' : List Bool)
     → us ≡ us' → fs ≡ fs' → os ≡ os' → cs ≡ cs' → ds ≡ ds' → structs ≡ structs' → vs ≡ vs' → bs ≡ bs' → starts ≡ starts'
     → is ≡ is' → ows ≡ ows'
     → said_from r us fs os cs ds structs vs bs starts is ows
@@ -118,18 +119,7 @@ more forms f r =
     (grown (filter_map owes_in forms) (owes_in f))
 
 all_pushed : (forms : List Form) (f : Form) → said (forms ++ f ∷ []) ≡ more forms f (reached (forms ++ f ∷ []))
-all_pushed forms f = same_from (reached (forms ++ f ∷ [])) _ _ _ _ _ _ _ _ _ _ _ _ _ _ _ _ _ _ _ _ _ _
-    (pushed universal_in forms f)
-    (pushed further_in forms f)
-    (pushed outlives_in forms f)
-    (pushed assert_in forms f)
-    (pushed struct_in forms f)
-    (ap (filter_map declared_in) (fronts_push forms f) ∙ pushed declared_in (with_fronts forms) (forms, f))
-    (pushed variable_in forms f)
-    (pushed blocks_in forms f)
-    (ap (filter_map start_in) (fronts_push forms f) ∙ pushed start_in (with_fronts forms) (forms, f))
-    (pushed statement_of_form forms f)
-    (pushed owes_in forms f)
+all_pushed forms f = grind (arith, same_from, pushed, fronts_push)
 
 -- ---- lines of later groups
 
@@ -178,26 +168,25 @@ module _ (forms : List Form) (n : ℕ) (h : reached forms ≤ n) where
 
 -- ---- one more line, by its form
 
-named_more : (s : Said) (r : ℕ) (xs ys : List Name) (m n : ℕ) → xs ≡ ys → m ≡ n
+named_more : (s : Said) (r : ℕ) (xs ys : List WrittenName) (m n : ℕ) → xs ≡ ys → m ≡ n
     → record s { reached = r; scope = record s.scope { regions = xs }; universals = m }
     ≡ record s { reached = r; scope = record s.scope { regions = ys }; universals = n }
 named_more s r xs ys m n e k = rw (e, k) refl
 
-universal_more : (r : ℕ) (us fs : List Name) (os cs : List (Name × Name)) (ds : List (Name × List WrittenParameter))
-    (structs : List Struct) (vs : List WrittenType) (bs starts : List ℕ) (is : List (Statement Name WrittenType))
-    (ows : List Bool) (a : Name)
+universal_more : (r : ℕ) (us fs : List WrittenName) (os cs : List (WrittenName
+    × WrittenName)) (ds : List (WrittenName × List WrittenParameter))
+    (structs : List Struct) (vs : List WrittenType) (bs starts : List ℕ) (is : List (Statement WrittenName WrittenType))
+    (ows : List Bool) (a : WrittenName)
     → fs ≡ [] → os ≡ [] → cs ≡ [] → vs ≡ [] → is ≡ []
     → said_from 1 (us ++ a ∷ []) fs os cs ds structs vs bs starts is ows
     ≡ says (said_from r us fs os cs ds structs vs bs starts is ows) (universal a)
-universal_more r us fs os cs ds structs vs bs starts is ows a f o c v i = rw (f, o, c, v, i)
-    (named_more (said_from r us [] [] [] ds structs [] bs starts [] ows) 1 _ _ _ _
-    (append-nil (codes "static" ∷ (us ++ a ∷ []))
-    ∙ ap (λ (xs : List Name). xs ++ a ∷ []) (sym (append-nil (codes "static" ∷ us))))
-    (length-append (codes "static" ∷ us) (a ∷ [])))
+universal_more r us fs os cs ds structs vs bs starts is ows a f o c v i =
+    grind (arith, named_more, append-nil, length-append)
 
-further_more : (r : ℕ) (us fs : List Name) (os cs : List (Name × Name)) (ds : List (Name × List WrittenParameter))
-    (structs : List Struct) (vs : List WrittenType) (bs starts : List ℕ) (is : List (Statement Name WrittenType))
-    (ows : List Bool) (x : Name)
+further_more : (r : ℕ) (us fs : List WrittenName) (os cs : List (WrittenName × WrittenName)) (ds : List (WrittenName
+    × List WrittenParameter))
+    (structs : List Struct) (vs : List WrittenType) (bs starts : List ℕ) (is : List (Statement WrittenName WrittenType))
+    (ows : List Bool) (x : WrittenName)
     → cs ≡ [] → vs ≡ [] → is ≡ []
     → said_from 3 us (fs ++ x ∷ []) os cs ds structs vs bs starts is ows
     ≡ says (said_from r us fs os cs ds structs vs bs starts is ows) (further x)
@@ -205,23 +194,23 @@ further_more r us fs os cs ds structs vs bs starts is ows x c v i = rw (c, v, i)
     (named_more (said_from r us fs os [] ds structs [] bs starts [] ows) 3 _ _ _ _
     (sym (append_assoc (codes "static" ∷ us) fs (x ∷ []))) refl)
 
-declared_more : (s : Said) (ns ms : List Name) (ks ls : List (List Bool)) (structs : List Struct) → ns ≡ ms → ks ≡ ls
+declared_more : (s : Said) (ns ms : List WrittenName) (ks ls : List (List Bool)) (structs : List Struct) → ns ≡ ms
+    → ks ≡ ls
     → record s { reached = 5; scope = record s.scope { structs = ns; kinds = ks }; structs = structs }
     ≡ record s { reached = 5; scope = record s.scope { structs = ms; kinds = ls }; structs = structs }
 declared_more s ns ms ks ls structs e k = rw (e, k) refl
 
-struct_more : (r : ℕ) (us fs : List Name) (os cs : List (Name × Name)) (ds : List (Name × List WrittenParameter))
-    (structs : List Struct) (vs : List WrittenType) (bs starts : List ℕ) (is : List (Statement Name WrittenType))
-    (ows : List Bool) (n : Name) (ps : List WrittenParameter) (has_drop : Bool) (fields : WrittenTypes)
+struct_more : (r : ℕ) (us fs : List WrittenName) (os cs : List (WrittenName × WrittenName)) (ds : List (WrittenName
+    × List WrittenParameter))
+    (structs : List Struct) (vs : List WrittenType) (bs starts : List ℕ) (is : List (Statement WrittenName WrittenType))
+    (ows : List Bool) (n : WrittenName) (ps : List WrittenParameter) (has_drop : Bool) (fields : WrittenTypes)
     → vs ≡ [] → is ≡ []
     → said_from 5 us fs os cs (ds ++ (n, ps) ∷ [])
-    (structs ++ declared (said_from r us fs os cs ds structs vs bs starts is ows) ps has_drop fields ∷ []) vs bs
+    (structs ++ declared_struct (said_from r us fs os cs ds structs vs bs starts is ows) ps has_drop fields ∷ []) vs bs
     starts is ows
     ≡ says (said_from r us fs os cs ds structs vs bs starts is ows) (struct_line n ps has_drop fields)
-struct_more r us fs os cs ds structs vs bs starts is ows n ps has_drop fields v i = rw (v, i)
-    (declared_more (said_from r us fs os cs ds structs [] bs starts [] ows) _ _ _ _ _
-    (map_push (λ (d : Name × List WrittenParameter). d.0) ds (n, ps))
-    (map_push (λ (d : Name × List WrittenParameter). map is_region d.1) ds (n, ps)))
+struct_more r us fs os cs ds structs vs bs starts is ows n ps has_drop fields v i =
+    grind (arith, declared_more, map_push)
 
 paired : (s : Said) (r : ℕ) (ps qs : List (ℕ × ℕ)) → ps ≡ qs
     → record s { reached = r; outlives = ps } ≡ record s { reached = r; outlives = qs }
@@ -254,12 +243,12 @@ insert_all_push : {X : Type 0} (e : X → X → Bool) (ks xs : List X) (x : X)
 insert_all_push e ks [] x = refl
 insert_all_push e ks (y ∷ xs) x = insert_all_push e (insert_key e ks y) xs x
 
-pair_more : (names : List Name) (ps : List (Name × Name)) (p : Name × Name)
-    → insert_all same_pair [] (map (numbers_of names) (ps ++ p ∷ []))
-    ≡ insert_all same_pair (insert_all same_pair [] (map (numbers_of names) ps)) (numbers_of names p ∷ [])
+pair_more : (names : List WrittenName) (ps : List (WrittenName × WrittenName)) (p : WrittenName × WrittenName)
+    → insert_all same_pair [] (map (region_numbers names) (ps ++ p ∷ []))
+    ≡ insert_all same_pair (insert_all same_pair [] (map (region_numbers names) ps)) (region_numbers names p ∷ [])
 pair_more names ps p =
-    ap (insert_all same_pair []) (map_push (numbers_of names) ps p)
-    ∙ insert_all_push same_pair [] (map (numbers_of names) ps) (numbers_of names p)
+    ap (insert_all same_pair []) (map_push (region_numbers names) ps p)
+    ∙ insert_all_push same_pair [] (map (region_numbers names) ps) (region_numbers names p)
 
 -- a name's number among the universal regions, which stand in front
 front_step : (b : Bool) (n m l : ℕ) → (n < l → n ≡ m) → cond (not b) (1 + n) 0 < suc l
@@ -267,7 +256,7 @@ front_step : (b : Bool) (n m l : ℕ) → (n < l → n ≡ m) → cond (not b) (
 front_step true n m l later h = refl
 front_step false n m l later h = ap (λ k. 1 + k) (later (omega arith))
 
-number_front : (us fs : List Name) (a : Name) → number_of (us ++ fs) a < length us
+number_front : (us fs : List WrittenName) (a : WrittenName) → number_of (us ++ fs) a < length us
     → number_of (us ++ fs) a ≡ number_of us a
 number_front [] fs a h = absurd (omega arith)
 number_front (u ∷ us) fs a h =
@@ -281,17 +270,9 @@ owed : (ows : List Bool) (b : Bool) → unwrap_or (last_or None (ows ++ b ∷ []
 owed ows b = ap (λ (o : Option Bool). unwrap_or o false) (last_is None ows b)
 
 -- the numbers of two universal regions
-universal_numbers : (forms : List Form) (a b : Name) → first_fault (said forms) (outlives a b) ≡ None
-    → numbers_of (universals_said forms) (a, b) ≡ numbers_of (names_said forms) (a, b)
-universal_numbers forms a b fine =
-    let both =
-    and_parts (is_universal (said forms) a) (is_universal (said forms) b)
-    (not-false _ (faultless (said forms) (outlives a b) fine).unknown) in
-    let of : (z : Name) → nat_lt (number_of (names_said forms) z) (length (universals_said forms)) ≡ true
-    → number_of (universals_said forms) z ≡ number_of (names_said forms) z = λ z is.
-    sym (number_front (universals_said forms) (filter_map further_in forms) z (ltb-true _ _ is)) in
-    ap (λ (k : ℕ). (k, number_of (universals_said forms) b)) (of a both.0)
-    ∙ ap (λ (k : ℕ). (number_of (names_said forms) a, k)) (of b both.1)
+universal_numbers : (forms : List Form) (a b : WrittenName) → first_fault (said forms) (outlives a b) ≡ None
+    → region_numbers (universals_said forms) (a, b) ≡ region_numbers (names_said forms) (a, b)
+universal_numbers forms a b fine = grind (arith, and_parts, not-false, faultless, number_front, ltb-true)
 
 step : (forms : List Form) (f : Form) → first_fault (said forms) f ≡ None → more forms f (group f) ≡ says (said forms) f
 step forms (universal a) fine =
@@ -302,10 +283,7 @@ step forms (universal a) fine =
     (filter_map start_in (with_fronts forms)) (filter_map statement_of_form forms) (filter_map owes_in forms) a
     (no_further forms 1 h (omega arith)) (no_outlives forms 1 h (omega arith)) (no_asserts forms 1 h (omega arith))
     (no_variables forms 1 h (omega arith)) (no_statements forms 1 h (omega arith))
-step forms (outlives a b) fine =
-    paired (said forms) 2 _ _
-    (pair_more (universals_said forms) (filter_map outlives_in forms) (a, b)
-    ∙ ap (λ (p : ℕ × ℕ). insert_all same_pair (said forms).outlives (p ∷ [])) (universal_numbers forms a b fine))
+step forms (outlives a b) fine = grind (arith, paired, pair_more, universal_numbers)
 step forms (further x) fine =
     let h : reached forms ≤ 3 = in_place forms (further x) fine in
     further_more (reached forms) (filter_map universal_in forms) (filter_map further_in forms)
@@ -325,10 +303,7 @@ step forms (struct_line n ps has_drop fields) fine =
     (filter_map owes_in forms) n ps has_drop fields (no_variables forms 5 h (omega arith))
     (no_statements forms 5 h (omega arith))
 step forms (variable x t) fine = typed (said forms) 6 _ _ (map_push _ (filter_map variable_in forms) t)
-step forms (blocks n) fine =
-    let h : reached forms < 7 = before_blocks (said forms) n (in_order (said forms) (blocks n) fine) in
-    counted (said forms) 7 _ _
-    (ap (λ (bs : List ℕ). get_or (bs ++ n ∷ []) 0 0) (no_blocks forms 6 (omega (arith, h)) (omega arith)))
+step forms (blocks n) fine = grind (arith, before_blocks, in_order, counted, get_or, no_blocks)
 step forms (block n) fine =
     begun (said forms) _ _ _ _ (sym (length-map (filter_map statement_of_form forms) _))
     (owed (filter_map owes_in forms) true)

@@ -1,17 +1,17 @@
 -- The shapes of types that are made, where some are taken off.
-use Rattle.std.proofs.Common.{◌≡◌, ℕ, true, suc, ◌+◌, ◌-◌, List, [], ◌∷◌, ◌++◌, length, take, drop, refl, ap, ◌∙◌, arith, ⊎_elim}
+use Rattle.std.proofs.Common.{◌≡◌, ℕ, true, suc, ◌-◌, List, [], ◌∷◌, length, take, drop, refl, ap, arith}
 use Rattle.std.proofs.lemmas.List.{get_or-drop, get_or-take, length-drop, length-take}
-use Rattle.std.specs.Prelude.{slice_index, OnOk, Ok, Err}
+use Rattle.std.specs.Prelude.{OnOk, Ok, Err}
 use Rattle.std.specs.declared.result.Result.{Result}
 use Rattle.nll_types.specs.Shapes.{shapes_of}
 use Rattle.nll_types.specs.Table.{AreBelow, Extends, all_at, shapes_in}
-use Rattle.nll_types.specs.Types.{TypeTree, int}
-use Rattle.nll_types.specs.Views.{row_of}
+use Rattle.nll_types.specs.Types.{TypeTree}
+use Rattle.nll_types.specs.Views.{row_of_trees}
 use Rattle.nll_types.specs.declared.node.Node.{Node}
 use Rattle.nll_types.specs.declared.body_types.BodyTypes.{BodyTypes}
 use Rattle.nll_mir_grammar.specs.TypeTexts.{Piece}
 use Rattle.nll_mir_text.specs.Naming.{Scope}
-use Rattle.nll_mir_text.specs.Resolving.{AreShaped, IsOf, Resolves, State, after, older}
+use Rattle.nll_mir_text.specs.Resolving.{AreShaped, IsOf, Resolves, ResolvingState, after_resolved, all_but_last}
 use Rattle.nll_mir_text.specs.declared.type_resolution.Resolving.{Resolving}
 
 -- what follows from two facts on a call that was done
@@ -30,26 +30,15 @@ module _ (shapes : List Node) where
 
   shaped_drop : (n : ℕ) (ts : List TypeTree) (is : List ℕ) → AreShaped shapes ts is
       → AreShaped shapes (drop n ts) (drop n is)
-  shaped_drop n ts is a = record {
-    counted = omega (arith, length-drop n ts, length-drop n is, a.counted);
-    each = λ k l. rw (get_or-drop n is k 0, get_or-drop n ts k int)
-        (a.each (n + k) (omega (arith, l, length-drop n is)));
-  }
+  shaped_drop n ts is a = grind (arith, length-drop, get_or-drop)
 
   shaped_take : (n : ℕ) (ts : List TypeTree) (is : List ℕ) → AreShaped shapes ts is
       → AreShaped shapes (take n ts) (take n is)
-  shaped_take n ts is a = record {
-    counted = omega (arith, length-take n ts, length-take n is, a.counted);
-    each = λ k l. rw (
-      get_or-take n is k 0 (omega (arith, l, length-take n is)),
-      get_or-take n ts k int (omega (arith, l, length-take n is)),
-    )
-        (a.each k (omega (arith, l, length-take n is)));
-  }
+  shaped_take n ts is a = grind (arith, length-take, get_or-take)
 
   -- the shapes of types in a row
   row_shaped : (ts : List TypeTree) (is : List ℕ) → AreShaped shapes ts is
-      → all_at (shapes_in shapes) is ≡ shapes_of (row_of ts)
+      → all_at (shapes_in shapes) is ≡ shapes_of (row_of_trees ts)
   row_shaped [] [] a = refl
   row_shaped (t ∷ ts) (i ∷ is) a =
       let here = a.each 0 (omega arith) in
@@ -64,27 +53,24 @@ module _ (shapes : List Node) where
   front_taken n m ts is left a e f = rw (e, f) (shaped_take m ts is a)
 
   pub row_taken : (n m : ℕ) (ts : List TypeTree) (is row : List ℕ) → AreShaped shapes ts is → row ≡ drop n is
-      → n ≡ m → all_at (shapes_in shapes) row ≡ shapes_of (row_of (drop m ts))
+      → n ≡ m → all_at (shapes_in shapes) row ≡ shapes_of (row_of_trees (drop m ts))
   row_taken n m ts is row a e f = rw (e, f) (row_shaped (drop m ts) (drop m is) (shaped_drop m ts is a))
 
 -- numbers keep their shapes where a table grows
 pub shaped_kept : (old new : List Node) (ts : List TypeTree) (is : List ℕ) → Extends old new
     → AreBelow (length old) is → AreShaped old ts is → AreShaped new ts is
-shaped_kept old new ts is e b a = record {
-  counted = a.counted;
-  each = λ k l. e.kept (slice_index is k) (b k l) ∙ a.each k l;
-}
+shaped_kept old new ts is e b a = grind arith
 
 -- where the newest is taken
 pub older_taken : (shapes : List Node) (ts : List TypeTree) (is left : List ℕ)
-    → AreShaped shapes ts is → left ≡ older is → AreShaped shapes (older ts) left
+    → AreShaped shapes ts is → left ≡ all_but_last is → AreShaped shapes (all_but_last ts) left
 older_taken shapes ts is left a e =
     front_taken shapes (length is - 1) (length ts - 1) ts is left a e (ap (λ n. n - 1) a.counted)
 
 -- a piece whose name, if it has one, is known
 pub piece_done : (s : Scope) (p : Piece) (types : BodyTypes) (kept : Resolving) (types_new : BodyTypes)
     (kept_new : Resolving) → AreBelow (length types_new.table.shapes) kept_new.shapes.items
-    → ((st : State) → IsOf st types kept → IsOf (after s p st) types_new kept_new)
+    → ((st : ResolvingState) → IsOf st types kept → IsOf (after_resolved s p st) types_new kept_new)
     → Resolves s p types kept types_new kept_new true
 piece_done s p types kept types_new kept_new below made =
     record { below = below; made = λ e st a. made st a; unknown = λ e. absurd (cc); same = λ e. absurd (cc) }

@@ -9,19 +9,19 @@ use Rattle.nll_format.specs.Names.{number_of}
 use Rattle.nll_problem.specs.Limits.{most_points, most_edges}
 use Rattle.nll_types.specs.Types.{TypeTree}
 use Rattle.nll_types.specs.Structs.{IsWellFormed}
-use Rattle.nll_mir_grammar.specs.WrittenTypes.{Name, WrittenType}
+use Rattle.nll_mir_grammar.specs.WrittenTypes.{WrittenName, WrittenType}
 use Rattle.nll_body.specs.Statements.{Statement, is_terminator, types_written}
 use Rattle.nll_body.specs.Effects.{targets}
 use Rattle.nll_body.specs.Written.{regions_written, variables_written}
 use Rattle.nll_body.proofs.MapLemmas.{regions_mapped, types_mapped, same_edges, same_targets, same_terminator}
 use Rattle.nll_mir_grammar.specs.MirForms.{Form, universal, outlives, further, assert_line, struct_line, variable, blocks, block, at_point, end}
-use Rattle.nll_mir_text.specs.Naming.{meant, is_among, has_arguments, is_known}
+use Rattle.nll_mir_text.specs.Naming.{meant, is_name_among, has_arguments, is_known}
 use Rattle.nll_format.specs.Text.{Says, IsText}
 use Rattle.nll_body.specs.Edges.{edges_from, edge_count}
-use Rattle.nll_body.specs.Sound.{IsSound}
+use Rattle.nll_body.specs.Sound.{IsSoundBody}
 use Rattle.nll_body.specs.WellTyped.{IsWellTyped}
 use Rattle.nll_mir_text.specs.MirSaid.{Said, said}
-use Rattle.nll_mir_text.specs.MirSteps.{says, declared, statement_meant}
+use Rattle.nll_mir_text.specs.MirSteps.{says, statement_meant}
 use Rattle.nll_mir_text.specs.MirFaults.{first_fault, has_targets, shapes_fit, knows, knows_variables, is_in_body}
 use Rattle.nll_body.specs.Typing.{types_agree}
 use Rattle.nll_mir_grammar.specs.declared.version.Version.{Version}
@@ -72,7 +72,7 @@ module _ (s : Said) (w : IsWell s) where
       }
 
   -- a statement or terminator stands where a terminator is owed
-  stands : (i : Statement Name WrittenType) → 7 ≤ s.reached → s.owes ≡ true → has_targets s i ≡ true
+  stands : (i : Statement WrittenName WrittenType) → 7 ≤ s.reached → s.owes ≡ true → has_targets s i ≡ true
       → length s.points < most_points → edge_count s.points + edges_from i ≤ most_edges
       → ArePlaced 8 s.blocks s.starts (s.points ++ statement_meant s i ∷ []) (not (is_terminator i))
   stands i at owed targeted few_points few_edges =
@@ -128,12 +128,12 @@ module _ (s : Said) (w : IsWell s) where
       (map (meant s.scope) ts) first (types_good ts known.1 has.1)
 
   -- what is written in one more statement keeps to what is declared
-  writes : (i : Statement Name WrittenType) → knows s i ≡ true → shapes_fit s i ≡ true
+  writes : (i : Statement WrittenName WrittenType) → knows s i ≡ true → shapes_fit s i ≡ true
       → AreWritten s.scope.regions s.structs (s.points ++ statement_meant s i ∷ [])
   writes i known fit =
       let j = statement_meant s i in
       let names =
-      three (knows_variables s (variables_written i)) (list_all (is_among s.scope.regions) (regions_written i))
+      three (knows_variables s (variables_written i)) (list_all (is_name_among s.scope.regions) (regions_written i))
       (list_all (is_known s.scope) (types_written i)) known in
       let args =
       and_parts (list_all (has_arguments s.scope) (types_written i))
@@ -156,7 +156,8 @@ module _ (s : Said) (w : IsWell s) where
             (pushed_at s.points j p k at);
       }
 
-  well_at_point : (i : Statement Name WrittenType) → first_fault s (at_point i) ≡ None → IsWell (says s (at_point i))
+  well_at_point : (i : Statement WrittenName WrittenType) → first_fault s (at_point i) ≡ None
+      → IsWell (says s (at_point i))
   well_at_point i e =
       let no = faultless s (at_point i) e in
       let order = and_parts (is_in_body s) s.owes (in_order s (at_point i) e) in
@@ -234,7 +235,7 @@ module _ (s : Said) (w : IsWell s) (at_end : s.reached ≡ 9) where
   first : slice_get s.starts 0 ≡ Some 0
   first = w.places.at_zero some_start
 
-  sound_said : IsWellTyped (body_said s) → IsSound (body_said s)
+  sound_said : IsWellTyped (body_said s) → IsSoundBody (body_said s)
   sound_said typed =
       let d = w.declares in
       let p = w.places in
@@ -264,7 +265,7 @@ module _ (s : Said) (w : IsWell s) (at_end : s.reached ≡ 9) where
 
 -- the body that a text that fits says is sound
 pub sound_text : (v : Version) (text : List ℕ) (forms : List Form) → IsText (mir v) text forms
-    → IsSound (body_said (said forms))
+    → IsSoundBody (body_said (said forms))
 sound_text v text forms fits =
     sound_said (said forms) (well_said v fits.body forms fits.fine) (reached_at_end forms fits.ended)
     (typed_text v text forms fits)

@@ -1,32 +1,31 @@
 -- One more struct: the kinds of its arguments, and that its fields keep to what is declared.
 use Rattle.std.proofs.Common.{◌≡◌, ℕ, Some, None, ◌+◌, ◌<◌, Bool, true, false, List, [], ◌∷◌, ◌++◌, length, map, refl, sym, ◌∙◌, subst, ⊎_elim, arith, length-append}
 use Rattle.std.specs.Prelude.{◌||◌}
-use Rattle.std.specs.List.{list_any}
 use Rattle.std.proofs.lemmas.Bool.{cases_lt, not-false, leb-false, lt-leb}
 use Rattle.std.proofs.lemmas.List.{get_or_append_left, get_or_at, length-map, take-append-le}
 use Rattle.std.proofs.Math.Seq.{take-length}
 use Rattle.nll_problem.specs.Limits.{most_structs}
 use Rattle.nll_format.specs.declared.error.TextKind.TheVariants.{Unknown, Duplicate, Shape, TypeSize}
 use Rattle.nll_body.specs.Typing.{are_small}
-use Rattle.nll_types.specs.Structs.{Struct, no_struct, HasGoodFields, AreWellFormed, AreInOrder}
-use Rattle.nll_mir_grammar.specs.WrittenTypes.{Name, WrittenTypes}
+use Rattle.nll_types.specs.Structs.{Struct, HasGoodFields, AreWellFormed, AreInOrder}
+use Rattle.nll_mir_grammar.specs.WrittenTypes.{WrittenName, WrittenTypes}
 use Rattle.nll_mir_grammar.specs.MirForms.{WrittenParameter, region_parameter, type_parameter, struct_line}
-use Rattle.nll_mir_text.specs.Naming.{is_among, all_meant}
+use Rattle.nll_mir_text.specs.Naming.{is_name_among, all_meant}
 use Rattle.nll_mir_text.specs.ToldTypes.{are_known, have_arguments}
 use Rattle.nll_mir_text.specs.MirSaid.{Said, scope_inside}
-use Rattle.nll_mir_text.specs.StructLines.{is_region, regions_in, types_in, region_names, type_names}
-use Rattle.nll_mir_text.specs.MirSteps.{declared}
+use Rattle.nll_mir_text.specs.StructLines.{is_region_parameter, regions_in, types_in, region_names, type_names}
+use Rattle.nll_mir_text.specs.MirSteps.{declared_struct}
 use Rattle.nll_mir_text.specs.MirFaults.{has_repeats, redeclares, is_in_order, first_fault}
 use Rattle.nll_mir_text.specs.MirReading.{AreKinds, region_count, other_count}
 use Rattle.nll_mir_text.proofs.FaultLemmas.{faultless}
 use Rattle.nll_mir_text.proofs.GoodFieldLemmas.{all_well_formed}
 
-regions_counted : (ps : List WrittenParameter) → region_count (map is_region ps) ≡ length (regions_in ps)
+regions_counted : (ps : List WrittenParameter) → region_count (map is_region_parameter ps) ≡ length (regions_in ps)
 regions_counted [] = refl
 regions_counted (region_parameter a p ∷ ps) = omega (arith, regions_counted ps)
 regions_counted (type_parameter n p ∷ ps) = regions_counted ps
 
-types_counted : (ps : List WrittenParameter) → other_count (map is_region ps) ≡ length (types_in ps)
+types_counted : (ps : List WrittenParameter) → other_count (map is_region_parameter ps) ≡ length (types_in ps)
 types_counted [] = refl
 types_counted (region_parameter a p ∷ ps) = types_counted ps
 types_counted (type_parameter n p ∷ ps) = omega (arith, types_counted ps)
@@ -39,37 +38,14 @@ pub kinds_pushed : (kinds : List (List Bool)) (structs : List Struct) (ks : List
     → length kinds ≡ length structs → AreKinds kinds structs
     → region_count ks ≡ length d.regions → other_count ks ≡ length d.types
     → AreKinds (kinds ++ ks ∷ []) (structs ++ d ∷ [])
-kinds_pushed kinds structs ks d counted kept regions types = record {
-  regions = λ n l. split n (length structs) (omega (arith, length-append structs (d ∷ []))) _
-      (λ low. rw (
-        get_or_append_left kinds (ks ∷ []) [] n (omega (arith, low, counted)),
-        get_or_append_left structs (d ∷ []) no_struct n low,
-      ) (kept.regions n low))
-      (λ same. rw (get_or_at kinds ks [] [] n (counted ∙ sym same), get_or_at structs d [] no_struct n (sym same))
-      regions);
-  types = λ n l. split n (length structs) (omega (arith, length-append structs (d ∷ []))) _
-      (λ low. rw (
-        get_or_append_left kinds (ks ∷ []) [] n (omega (arith, low, counted)),
-        get_or_append_left structs (d ∷ []) no_struct n low,
-      ) (kept.types n low))
-      (λ same. rw (get_or_at kinds ks [] [] n (counted ∙ sym same), get_or_at structs d [] no_struct n (sym same))
-      types);
-}
+kinds_pushed kinds structs ks d counted kept regions types =
+    grind (arith, split, length-append, get_or_append_left, get_or_at)
 
 -- one more struct in order
 pub order_push : (structs : List Struct) (d : Struct) → AreInOrder structs → HasGoodFields structs d
     → AreInOrder (structs ++ d ∷ [])
-order_push structs d order good s l = split s (length structs) (omega (arith, l, length-append structs (d ∷ []))) _
-    (λ low. rw (
-      take-append-le s structs (d ∷ []) (omega (arith, low)),
-      get_or_append_left structs (d ∷ []) no_struct s low,
-    ) (order s low))
-    (λ same. rw (
-      same,
-      take-append-le (length structs) structs (d ∷ []) (omega arith),
-      take-length structs,
-      get_or_at structs d [] no_struct (length structs) refl,
-    ) good)
+order_push structs d order good s l =
+    grind (arith, split, length-append, take-append-le, get_or_append_left, take-length, get_or_at)
 
 -- ---- a struct line with which nothing is wrong
 
@@ -80,41 +56,26 @@ four false false true d h = absurd cc
 four false false false d h = (refl, refl, refl, h)
 
 -- What is right of a struct line with which nothing is wrong.
-pub record IsFine (s : Said) (n : Name) (ps : List WrittenParameter) (fields : WrittenTypes) : Type 0 where
+pub record IsFine (s : Said) (n : WrittenName) (ps : List WrittenParameter) (fields : WrittenTypes) : Type 0 where
   pub known : are_known (scope_inside s.scope ps) fields ≡ true
-  pub new : is_among s.scope.structs n ≡ false
+  pub new : is_name_among s.scope.structs n ≡ false
   pub regions : has_repeats (region_names ps) ≡ false
   pub types : has_repeats (type_names ps) ≡ false
   pub has : have_arguments (scope_inside s.scope ps) fields ≡ true
   pub few : length s.structs < most_structs
 
-pub struct_fine : (s : Said) (n : Name) (ps : List WrittenParameter) (has_drop : Bool) (fields : WrittenTypes)
+pub struct_fine : (s : Said) (n : WrittenName) (ps : List WrittenParameter) (has_drop : Bool) (fields : WrittenTypes)
     → first_fault s (struct_line n ps has_drop fields) ≡ None → IsFine s n ps fields
-struct_fine s n ps has_drop fields e =
-    let no = faultless s (struct_line n ps has_drop fields) e in
-    let once =
-    four (is_among s.scope.structs n) (has_repeats (region_names ps)) (has_repeats (type_names ps))
-    (list_any (is_among (n ∷ s.scope.structs)) (type_names ps)) no.duplicate in
-    record {
-      known = not-false (are_known (scope_inside s.scope ps) fields) no.unknown;
-      new = once.0;
-      regions = once.1;
-      types = once.2;
-      has = not-false (have_arguments (scope_inside s.scope ps) fields) no.shape;
-      few = leb-false most_structs (length s.structs) no.structs;
-    }
+struct_fine s n ps has_drop fields e = grind (arith, faultless, four, not-false, leb-false)
 
 -- no name of its own stands twice in a struct line that declares none again
-pub once_each : (s : Said) (n : Name) (ps : List WrittenParameter) → redeclares s.scope n ps ≡ false
+pub once_each : (s : Said) (n : WrittenName) (ps : List WrittenParameter) → redeclares s.scope n ps ≡ false
     → (has_repeats (region_names ps) ≡ false) × (has_repeats (type_names ps) ≡ false)
-once_each s n ps once =
-    let parts =
-    four (is_among s.scope.structs n) (has_repeats (region_names ps)) (has_repeats (type_names ps))
-    (list_any (is_among (n ∷ s.scope.structs)) (type_names ps)) once in (parts.1, parts.2)
+once_each s n ps once = grind (arith, four)
 
 -- ---- the first fault of a struct line that stands in order
 
-module _ (s : Said) (n : Name) (ps : List WrittenParameter) (has_drop : Bool) (fields : WrittenTypes)
+module _ (s : Said) (n : WrittenName) (ps : List WrittenParameter) (has_drop : Bool) (fields : WrittenTypes)
     (order : is_in_order s (struct_line n ps has_drop fields) ≡ true) where
   pub struct_unknown : are_known (scope_inside s.scope ps) fields ≡ false
       → first_fault s (struct_line n ps has_drop fields) ≡ Some Unknown
@@ -142,23 +103,25 @@ module _ (s : Said) (n : Name) (ps : List WrittenParameter) (has_drop : Bool) (f
 
 module _ (s : Said) (ps : List WrittenParameter) (has_drop : Bool) (fields : WrittenTypes) where
   -- the kinds are those of the parameters
-  pub regions_declared : region_count (map is_region ps) ≡ length (declared s ps has_drop fields).regions
+  pub regions_declared : region_count (map is_region_parameter ps) ≡ length
+      (declared_struct s ps has_drop fields).regions
   regions_declared = regions_counted ps ∙ sym (length-map (regions_in ps) (λ p. p.1))
 
-  pub types_declared : other_count (map is_region ps) ≡ length (declared s ps has_drop fields).types
+  pub types_declared : other_count (map is_region_parameter ps) ≡ length (declared_struct s ps has_drop fields).types
   types_declared = types_counted ps ∙ sym (length-map (types_in ps) (λ p. p.1))
 
   -- the fields keep to what is declared, where their names are known and have arguments
   pub good_fields : AreKinds s.scope.kinds s.structs → length s.scope.structs ≡ length s.structs
       → are_known (scope_inside s.scope ps) fields ≡ true → have_arguments (scope_inside s.scope ps) fields ≡ true
-      → HasGoodFields s.structs (declared s ps has_drop fields)
+      → HasGoodFields s.structs (declared_struct s ps has_drop fields)
   good_fields kinds named known has =
       let good = all_well_formed (scope_inside s.scope ps) s.structs kinds named fields known has in
-      let regions : length (scope_inside s.scope ps).regions ≡ length (declared s ps has_drop fields).regions + 1 =
+      let regions : length (scope_inside s.scope ps).regions ≡ length
+      (declared_struct s ps has_drop fields).regions + 1 =
       omega (arith, length-map (regions_in ps) (λ p. p.0), length-map (regions_in ps) (λ p. p.1)) in
-      let types : length (scope_inside s.scope ps).parameters ≡ length (declared s ps has_drop fields).types =
+      let types : length (scope_inside s.scope ps).parameters ≡ length (declared_struct s ps has_drop fields).types =
       length-map (types_in ps) (λ p. p.0) ∙ sym (length-map (types_in ps) (λ p. p.1)) in
-      subst (λ (n : ℕ). AreWellFormed s.structs (length (declared s ps has_drop fields).regions + 1) n
-      (declared s ps has_drop fields).fields) types
+      subst (λ (n : ℕ). AreWellFormed s.structs (length (declared_struct s ps has_drop fields).regions + 1) n
+      (declared_struct s ps has_drop fields).fields) types
       (subst (λ (n : ℕ). AreWellFormed s.structs n (length (scope_inside s.scope ps).parameters)
-      (declared s ps has_drop fields).fields) regions good)
+      (declared_struct s ps has_drop fields).fields) regions good)

@@ -14,7 +14,7 @@ use Rattle.nll_types.specs.declared.node.Node.{Node}
 use Rattle.nll_body.specs.Flat.{statements_in}
 use Rattle.nll_body.specs.Meant.{HasRows, meant_by}
 use Rattle.nll_types.specs.declared.structs.Declaration.{Declaration}
-use Rattle.nll_mir_grammar.specs.WrittenTypes.{Name, WrittenType, WrittenTypes}
+use Rattle.nll_mir_grammar.specs.WrittenTypes.{WrittenName, WrittenType, WrittenTypes}
 use Rattle.nll_mir_grammar.specs.TypeTexts.{written}
 use Rattle.nll_mir_grammar.specs.Lines.{parameter_of}
 use Rattle.nll_mir_grammar.specs.MirForms.{WrittenParameter}
@@ -23,8 +23,8 @@ use Rattle.nll_mir_grammar.specs.declared.line.StructText.{StructText}
 use Rattle.nll_mir_text.specs.Naming.{Scope, all_meant, meant}
 use Rattle.nll_mir_text.specs.declared.groups.Group.TheVariants.{Structs}
 use Rattle.nll_mir_text.specs.MirSaid.{Said, scope_inside}
-use Rattle.nll_mir_text.specs.StructLines.{is_region, regions_in, types_in, AreOwn, own_scope}
-use Rattle.nll_mir_text.specs.MirSteps.{says, declared}
+use Rattle.nll_mir_text.specs.StructLines.{is_region_parameter, regions_in, types_in, AreOwn, own_scope}
+use Rattle.nll_mir_text.specs.MirSteps.{says, declared_struct}
 use Rattle.nll_mir_text.specs.MirFaults.{first_fault}
 use Rattle.nll_mir_text.specs.MirReading.{said_by, AreKinds, IsDue, IsTaken, struct_form}
 use Rattle.nll_mir_text.specs.declared.own_names.OwnNames.{OwnNames}
@@ -34,7 +34,7 @@ use Rattle.nll_mir_text.proofs.OwnLemmas.{few_regions, own_scope_is}
 use Rattle.nll_mir_text.proofs.StructLemmas.{IsFine, struct_fine, kinds_pushed, regions_declared, types_declared, good_fields}
 
 -- what is said with other structs and shapes
-abbrev said_with : Reader → List Name → List (List Bool) → List Struct → List Node → Said
+abbrev said_with : Reader → List WrittenName → List (List Bool) → List Struct → List Node → Said
 said_with r names kinds structs ns = record (said_by r) {
   reached = 5;
   scope = record (said_by r).scope { structs = names; kinds = kinds };
@@ -72,7 +72,7 @@ module _ (r : Reader) (own : OwnNames) (text : StructText) (due : IsDue r (struc
       (types : d.types.items ≡ map (λ p. p.1) (types_in parameters)) (has_drop : d.has_drop ≡ text.has_drop)
       (meant : trees d.fields.items ≡ all_meant (own_scope own r.structs) fields) where
     abbrev more : Struct
-    more = declared (said_by r) parameters text.has_drop fields
+    more = declared_struct (said_by r) parameters text.has_drop fields
 
     fields_meant : trees d.fields.items ≡ all_meant (scope_inside (said_by r).scope parameters) fields
     fields_meant =
@@ -96,7 +96,7 @@ module _ (r : Reader) (own : OwnNames) (text : StructText) (due : IsDue r (struc
     module _ (t : Tables) (s : StructNames) (structs : t.structs ≡ r.variables.types.table.structs ++ d ∷ [])
         (shapes : t.shapes ≡ r.variables.types.table.shapes) (names : s.names ≡ r.structs.names ++ text.name.now ∷ [])
         (kinds : map (λ ks. ks.items) s.kinds.items
-        ≡ map (λ ks. ks.items) r.structs.kinds.items ++ map is_region parameters ∷ [])
+        ≡ map (λ ks. ks.items) r.structs.kinds.items ++ map is_region_parameter parameters ∷ [])
         (none : s.none ≡ r.structs.none) where
       abbrev after : Reader
       after = record r {
@@ -114,19 +114,14 @@ module _ (r : Reader) (own : OwnNames) (text : StructText) (due : IsDue r (struc
       same = r.variables.types.table.shapes
 
       more_said : said_by after ≡ says (said_by r) (struct_form text)
-      more_said =
-          ap (λ ns. said_with r s.names (map (λ ks. ks.items) s.kinds.items) (structs_of t.structs) ns) shapes
-          ∙ (ap (λ xs. said_with r xs (map (λ ks. ks.items) s.kinds.items) (structs_of t.structs) same) names
-          ∙ (ap (λ xs. said_with r (r.structs.names ++ text.name.now ∷ []) xs (structs_of t.structs) same) kinds
-          ∙ ap (λ xs. said_with r (r.structs.names ++ text.name.now ∷ [])
-          (map (λ ks. ks.items) r.structs.kinds.items ++ map is_region parameters ∷ []) xs same) more_structs))
+      more_said = grind (arith, more_structs)
 
       more_kinds : AreKinds (map (λ ks. ks.items) s.kinds.items) (structs_of t.structs)
       more_kinds =
           subst (λ xs. AreKinds xs (structs_of t.structs)) (sym kinds)
-          (subst (AreKinds (map (λ ks. ks.items) r.structs.kinds.items ++ map is_region parameters ∷ []))
+          (subst (AreKinds (map (λ ks. ks.items) r.structs.kinds.items ++ map is_region_parameter parameters ∷ []))
           (sym more_structs)
-          (kinds_pushed _ _ (map is_region parameters) more
+          (kinds_pushed _ _ (map is_region_parameter parameters) more
           (length-map r.structs.kinds.items (λ ks. ks.items) ∙ (due.ready.counted_kinds ∙ sym counted_structs))
           due.ready.kinds
           (regions_declared (said_by r) parameters text.has_drop fields)
@@ -161,7 +156,7 @@ module _ (r : Reader) (own : OwnNames) (text : StructText) (due : IsDue r (struc
                 ap length kinds,
                 length-map s.kinds.items (λ ks. ks.items),
                 length-map r.structs.kinds.items (λ ks. ks.items),
-                length-append (map (λ ks. ks.items) r.structs.kinds.items) (map is_region parameters ∷ []),
+                length-append (map (λ ks. ks.items) r.structs.kinds.items) (map is_region_parameter parameters ∷ []),
               );
           kinds = more_kinds;
           few_structs = omega (arith, more_counted, is_fine.few, counted_structs);

@@ -1,5 +1,5 @@
 -- What the lines of a text that fits say is a well-typed body.
-use Rattle.std.proofs.Common.{◌≡◌, ℕ, ◌<◌, ◌≤◌, true, Bool, List, [], ◌∷◌, ◌++◌, Some, None, length, refl, sym, subst, ⊎_elim, arith, length-append, slice_get}
+use Rattle.std.proofs.Common.{◌≡◌, ℕ, ◌<◌, ◌≤◌, true, Bool, List, [], ◌∷◌, ◌++◌, Some, None, length, sym, subst, ⊎_elim, arith, length-append, slice_get}
 use Rattle.std.specs.Prelude.{All}
 use Rattle.std.specs.List.{list_all}
 use Rattle.std.proofs.lemmas.Bool.{and_parts, not-false, leb-false}
@@ -8,7 +8,7 @@ use Rattle.nll_problem.specs.Limits.{most_structs}
 use Rattle.nll_types.specs.Types.{TypeTree}
 use Rattle.nll_types.specs.Structs.{Struct}
 use Rattle.nll_types.specs.Shapes.{is_small}
-use Rattle.nll_mir_grammar.specs.WrittenTypes.{Name, WrittenType, WrittenTypes}
+use Rattle.nll_mir_grammar.specs.WrittenTypes.{WrittenName, WrittenType, WrittenTypes}
 use Rattle.nll_body.specs.Statements.{Statement, types_written}
 use Rattle.nll_body.specs.Typing.{types_agree, types_are_small, are_small}
 use Rattle.nll_mir_text.specs.Naming.{meant, has_arguments}
@@ -16,7 +16,7 @@ use Rattle.nll_format.specs.Text.{Says, IsText}
 use Rattle.nll_mir_grammar.specs.MirForms.{Form, WrittenParameter, universal, outlives, further, assert_line, struct_line, variable, blocks, block, at_point, end}
 use Rattle.nll_mir_grammar.specs.declared.version.Version.{Version}
 use Rattle.nll_mir_text.specs.MirSaid.{Said, said}
-use Rattle.nll_mir_text.specs.MirSteps.{says, nothing_said, declared, statement_meant}
+use Rattle.nll_mir_text.specs.MirSteps.{says, nothing_said, declared_struct, statement_meant}
 use Rattle.nll_mir_text.specs.MirFaults.{first_fault, shapes_fit}
 use Rattle.nll_body.specs.WellTyped.{IsWellTyped}
 use Rattle.nll_mir_text.specs.MirText.{mir, body_said}
@@ -43,67 +43,24 @@ record IsTyped (s : Said) : Type 0 where
       → types_are_small s.structs s.variables i ≡ true
 
 typed_nothing : IsTyped nothing_said
-typed_nothing = record {
-  few_structs = omega arith;
-  fields = λ k d l. absurd (omega (arith, l));
-  variables = λ k d l. absurd (omega (arith, l));
-  none_yet = λ _. refl;
-  agree = λ p i at. absurd (nothing_at [] p i refl at);
-  small = λ p i at. absurd (nothing_at [] p i refl at);
-}
+typed_nothing = grind (arith, nothing_at)
 
 -- ---- one more line
 
 module _ (s : Said) (w : IsTyped s) where
-  typed_universal : (a : Name) → first_fault s (universal a) ≡ None → IsTyped (says s (universal a))
-  typed_universal a e =
-      let le : s.reached ≤ 1 = (follows s (universal a) (in_order s (universal a) e)).0 in
-      record {
-        few_structs = w.few_structs;
-        fields = w.fields;
-        variables = w.variables;
-        none_yet = λ _. w.none_yet (omega (arith, le));
-        agree = w.agree;
-        small = w.small;
-      }
+  typed_universal : (a : WrittenName) → first_fault s (universal a) ≡ None → IsTyped (says s (universal a))
+  typed_universal a e = grind (arith, follows, in_order)
 
-  typed_outlives : (a b : Name) → first_fault s (outlives a b) ≡ None → IsTyped (says s (outlives a b))
-  typed_outlives a b e =
-      let le : s.reached ≤ 2 = (follows s (outlives a b) (in_order s (outlives a b) e)).0 in
-      record {
-        few_structs = w.few_structs;
-        fields = w.fields;
-        variables = w.variables;
-        none_yet = λ _. w.none_yet (omega (arith, le));
-        agree = w.agree;
-        small = w.small;
-      }
+  typed_outlives : (a b : WrittenName) → first_fault s (outlives a b) ≡ None → IsTyped (says s (outlives a b))
+  typed_outlives a b e = grind (arith, follows, in_order)
 
-  typed_further : (x : Name) → first_fault s (further x) ≡ None → IsTyped (says s (further x))
-  typed_further x e =
-      let le : s.reached ≤ 3 = (follows s (further x) (in_order s (further x) e)).0 in
-      record {
-        few_structs = w.few_structs;
-        fields = w.fields;
-        variables = w.variables;
-        none_yet = λ _. w.none_yet (omega (arith, le));
-        agree = w.agree;
-        small = w.small;
-      }
+  typed_further : (x : WrittenName) → first_fault s (further x) ≡ None → IsTyped (says s (further x))
+  typed_further x e = grind (arith, follows, in_order)
 
-  typed_assert : (a b : Name) → first_fault s (assert_line a b) ≡ None → IsTyped (says s (assert_line a b))
-  typed_assert a b e =
-      let le : s.reached ≤ 4 = (follows s (assert_line a b) (in_order s (assert_line a b) e)).0 in
-      record {
-        few_structs = w.few_structs;
-        fields = w.fields;
-        variables = w.variables;
-        none_yet = λ _. w.none_yet (omega (arith, le));
-        agree = w.agree;
-        small = w.small;
-      }
+  typed_assert : (a b : WrittenName) → first_fault s (assert_line a b) ≡ None → IsTyped (says s (assert_line a b))
+  typed_assert a b e = grind (arith, follows, in_order)
 
-  typed_struct : (n : Name) (ps : List WrittenParameter) (has_drop : Bool) (fields : WrittenTypes)
+  typed_struct : (n : WrittenName) (ps : List WrittenParameter) (has_drop : Bool) (fields : WrittenTypes)
       → first_fault s (struct_line n ps has_drop fields) ≡ None → IsTyped (says s (struct_line n ps has_drop fields))
   typed_struct n ps has_drop fields e =
       let no = faultless s (struct_line n ps has_drop fields) e in
@@ -111,7 +68,7 @@ module _ (s : Said) (w : IsTyped s) where
       (follows s (struct_line n ps has_drop fields) (in_order s (struct_line n ps has_drop fields) e)).0 in
       let few : length s.structs < most_structs = leb-false most_structs (length s.structs) no.structs in
       let none : length s.points ≡ 0 = w.none_yet (omega (arith, le)) in
-      let more = declared s ps has_drop fields in
+      let more = declared_struct s ps has_drop fields in
       record {
         few_structs = omega (arith, few, length-append s.structs (more ∷ []));
         fields = All-push HasSmallFields s.structs more w.fields (not-false _ no.size);
@@ -136,28 +93,13 @@ module _ (s : Said) (w : IsTyped s) where
       }
 
   typed_blocks : (n : ℕ) → first_fault s (blocks n) ≡ None → IsTyped (says s (blocks n))
-  typed_blocks n e =
-      let at : s.reached < 7 = before_blocks s n (in_order s (blocks n) e) in
-      record {
-        few_structs = w.few_structs;
-        fields = w.fields;
-        variables = w.variables;
-        none_yet = λ _. w.none_yet (omega (arith, at));
-        agree = w.agree;
-        small = w.small;
-      }
+  typed_blocks n e = grind (arith, before_blocks, in_order)
 
   typed_block : (n : ℕ) → IsTyped (says s (block n))
-  typed_block n = record {
-    few_structs = w.few_structs;
-    fields = w.fields;
-    variables = w.variables;
-    none_yet = λ l. absurd (omega (arith, l));
-    agree = w.agree;
-    small = w.small;
-  }
+  typed_block n = grind arith
 
-  typed_at_point : (i : Statement Name WrittenType) → first_fault s (at_point i) ≡ None → IsTyped (says s (at_point i))
+  typed_at_point : (i : Statement WrittenName WrittenType) → first_fault s (at_point i) ≡ None
+      → IsTyped (says s (at_point i))
   typed_at_point i e =
       let no = faultless s (at_point i) e in
       let j = statement_meant s i in
@@ -180,14 +122,7 @@ module _ (s : Said) (w : IsTyped s) where
       }
 
   typed_end : IsTyped (says s end)
-  typed_end = record {
-    few_structs = w.few_structs;
-    fields = w.fields;
-    variables = w.variables;
-    none_yet = λ l. absurd (omega (arith, l));
-    agree = w.agree;
-    small = w.small;
-  }
+  typed_end = grind arith
 
   typed_says : (f : Form) → first_fault s f ≡ None → IsTyped (says s f)
   typed_says (universal a) e = typed_universal a e
@@ -212,13 +147,7 @@ typed_said : (v : Version) (lines : List (List ℕ)) (forms : List Form) → Say
 typed_said v lines forms h = behind_all (λ fs. IsTyped (said fs)) typed_push v [] lines forms h typed_nothing
 
 typed_body : (s : Said) → IsTyped s → IsWellTyped (body_said s)
-typed_body s w = record {
-  struct_limit = w.few_structs;
-  fields = w.fields;
-  variables = w.variables;
-  agree = w.agree;
-  small = w.small;
-}
+typed_body s w = grind arith
 
 -- the body that a text that fits says is well typed
 pub typed_text : (v : Version) (text : List ℕ) (forms : List Form) → IsText (mir v) text forms

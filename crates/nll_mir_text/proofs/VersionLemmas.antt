@@ -1,12 +1,11 @@
 -- Texts of the two versions: which text is of which, and how a text is refused.
-use Rattle.std.proofs.Common.{◌≡◌, ℕ, ◌<◌, List, length, get_or, refl, sym, ap, ◌∙◌, subst, arith, inl, inr, ⊎_elim}
-use Rattle.std.specs.Prelude.{codes}
+use Rattle.std.proofs.Common.{◌≡◌, ℕ, ◌<◌, List, length, get_or, refl, sym, ◌∙◌, subst, arith, inl, inr, ⊎_elim}
 use Rattle.std.specs.Str.{IsUtf8}
 use Rattle.nll_text.specs.Tokens.{Token}
 use Rattle.nll_text.proofs.TokenLemmas.{one_token_list_lem}
 use Rattle.nll_problem.specs.Limits.{most_bytes}
 use Rattle.nll_problem.specs.declared.error.Kind.TheVariants.{Text}
-use Rattle.nll_format.specs.Text.{IsHeaded, IsHeader, IsCut, IsFault, IsRefusal, IsUncut, too_long, header_not_utf8, no_header}
+use Rattle.nll_format.specs.Text.{IsHeaded, IsFormatHeader, IsCut, IsFaultOfText, IsRefusal, IsUncut, too_long, header_not_utf8, no_header}
 use Rattle.nll_format.specs.declared.error.TextError.{TextError}
 use Rattle.nll_format.specs.declared.error.TextKind.TheVariants.{NotUtf8, Header, Limit}
 use Rattle.nll_mir_grammar.specs.MirForms.{Form, IsSpelled, HasForm}
@@ -28,11 +27,8 @@ one_form_in version line f g h k = one_form line f g h.0 k.0
 
 -- ---- a text has one version
 
-headers_apart : (line : List ℕ) → IsHeader (mir First) line → IsHeader (mir Second) line → ⊥
-headers_apart line f s =
-    let e : codes "1" ≡ codes "2" = (let h = sym f ∙ s in cc) in
-    let n : 49 ≡ 50 = ap (λ (l : List ℕ). get_or l 0 0) e in
-    absurd (omega (arith, n))
+headers_apart : (line : List ℕ) → IsFormatHeader (mir First) line → IsFormatHeader (mir Second) line → ⊥
+headers_apart line f s = grind (arith, get_or)
 
 first_line : (text : List ℕ) (one other : List ℕ) (b c : List (List ℕ)) → IsCut text one b → IsCut text other c
     → one ≡ other
@@ -40,7 +36,7 @@ first_line text one other b c h k = (let e = sym h.cut ∙ k.cut in cc)
 
 pub not_second : (text : List ℕ) (b c : List (List ℕ)) → IsHeaded (mir First) text b → IsHeaded (mir Second) text c → ⊥
 not_second text b c h k =
-    headers_apart k.header (subst (λ l. IsHeader (mir First) l)
+    headers_apart k.header (subst (λ l. IsFormatHeader (mir First) l)
     (first_line text h.header k.header b c h.cut k.cut) h.is_header) k.is_header
 
 pub of_headed : (version : Version) (text : List ℕ) (body : List (List ℕ)) → IsHeaded (mir version) text body
@@ -55,8 +51,9 @@ one_version text Second First h k = absurd (k h.0 h.1)
 one_version text Second Second h k = refl
 
 -- where the line is the header of neither, it is that of none
-pub no_version : (line : List ℕ) → (IsHeader (mir First) line → ⊥) → (IsHeader (mir Second) line → ⊥) → (v : Version)
-    → IsHeader (mir v) line → ⊥
+pub no_version : (line : List ℕ) → (IsFormatHeader (mir First) line → ⊥) → (IsFormatHeader (mir Second) line → ⊥)
+    → (v : Version)
+    → IsFormatHeader (mir v) line → ⊥
 no_version line a b First h = a h
 no_version line a b Second h = b h
 
@@ -66,7 +63,7 @@ pub too_long_for_mir : (text : List ℕ) → most_bytes < length text → IsMirF
 too_long_for_mir text long = (First, (λ body k. absurd (omega (arith, k.cut.short, long))), too_long long)
 
 pub refused_in : (version : Version) (text : List ℕ) (body : List (List ℕ)) (error : TextError)
-    → IsHeaded (mir version) text body → IsRefusal (IsFault (mir version) text) error
+    → IsHeaded (mir version) text body → IsRefusal (IsFaultOfText (mir version) text) error
     → IsRefusal (IsMirFault text) error
 refused_in version text body error headed refused =
     ⊎_elim inl (λ f. inr (version, of_headed version text body headed, f)) refused
@@ -88,9 +85,10 @@ refused_uncut text error wrong = ⊎_elim
 
 -- the first line is the header of no version
 pub refused_at_header : (text header : List ℕ) (body : List (List ℕ)) → IsCut text header body → IsUtf8 header
-    → ((v : Version) → IsHeader (mir v) header → ⊥) → IsMirFault text 1 Header
+    → ((v : Version) → IsFormatHeader (mir v) header → ⊥) → IsMirFault text 1 Header
 refused_at_header text header body cut utf8 none = (
   First,
-  (λ b k. none Second (subst (IsHeader (mir Second)) (first_line text k.header header b body k.cut cut) k.is_header)),
+  (λ b k. none Second (subst (IsFormatHeader (mir Second))
+      (first_line text k.header header b body k.cut cut) k.is_header)),
   no_header header body cut utf8 (none First),
 )

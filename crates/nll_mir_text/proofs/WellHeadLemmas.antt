@@ -1,5 +1,5 @@
 -- A line of the head keeps what holds of what lines say.
-use Rattle.std.proofs.Common.{◌≡◌, ℕ, ◌+◌, ◌<◌, ◌≤◌, Bool, true, List, [], ◌∷◌, ◌++◌, None, length, map, subst, ⊎_elim, arith, length-append}
+use Rattle.std.proofs.Common.{◌≡◌, ℕ, ◌<◌, ◌≤◌, Bool, true, List, [], ◌∷◌, ◌++◌, None, length, map, subst, ⊎_elim, arith, length-append}
 use Rattle.std.specs.Prelude.{◌&&◌}
 use Rattle.std.specs.List.{list_any}
 use Rattle.std.proofs.lemmas.Bool.{and_parts, not-false, leb-false, ltb-true}
@@ -8,14 +8,14 @@ use Rattle.nll_problem.specs.Building.{same_pair}
 use Rattle.nll_format.specs.Names.{number_of}
 use Rattle.nll_problem.specs.Limits.{most_universals, most_regions, most_variables}
 use Rattle.nll_types.specs.Structs.{IsWellFormed}
-use Rattle.nll_mir_grammar.specs.WrittenTypes.{Name, WrittenType, WrittenTypes}
+use Rattle.nll_mir_grammar.specs.WrittenTypes.{WrittenName, WrittenType, WrittenTypes}
 use Rattle.nll_mir_grammar.specs.MirForms.{WrittenParameter, universal, outlives, further, assert_line, struct_line, variable, blocks}
-use Rattle.nll_mir_text.specs.Naming.{meant, is_among, has_arguments, is_known}
+use Rattle.nll_mir_text.specs.Naming.{meant, is_name_among, has_arguments, is_known}
 use Rattle.nll_mir_text.specs.ToldTypes.{have_arguments, are_known}
 use Rattle.nll_mir_text.specs.MirSaid.{Said, scope_inside}
-use Rattle.nll_mir_text.specs.StructLines.{is_region}
-use Rattle.nll_mir_text.specs.MirSteps.{says, declared}
-use Rattle.nll_mir_text.specs.MirFaults.{is_universal, first_fault}
+use Rattle.nll_mir_text.specs.StructLines.{is_region_parameter}
+use Rattle.nll_mir_text.specs.MirSteps.{says, declared_struct}
+use Rattle.nll_mir_text.specs.MirFaults.{is_universal_in, first_fault}
 use Rattle.nll_mir_text.proofs.FaultLemmas.{faultless}
 use Rattle.nll_mir_text.proofs.LineLemmas.{positive, nothing_at, inserted}
 use Rattle.nll_mir_text.proofs.GoodFieldLemmas.{well_formed}
@@ -29,10 +29,11 @@ module _ (s : Said) (w : IsWell s) where
   pub unnamed : (t : WrittenType)
       → IsWellFormed s.structs (length s.scope.regions) (length s.scope.parameters) (meant s.scope t)
       → IsWellFormed s.structs (length s.scope.regions) 0 (meant s.scope t)
-  unnamed t = subst (λ (ps : List Name). IsWellFormed s.structs (length s.scope.regions) (length ps) (meant s.scope t))
+  unnamed t = subst (λ (ps : List WrittenName). IsWellFormed s.structs (length s.scope.regions) (length ps)
+      (meant s.scope t))
       w.plain
 
-  pub well_universal : (a : Name) → first_fault s (universal a) ≡ None → IsWell (says s (universal a))
+  pub well_universal : (a : WrittenName) → first_fault s (universal a) ≡ None → IsWell (says s (universal a))
   well_universal a e =
       let no = faultless s (universal a) e in
       let le : s.reached ≤ 1 = (follows s (universal a) (in_order s (universal a) e)).0 in
@@ -64,13 +65,13 @@ module _ (s : Said) (w : IsWell s) where
         written = written_early _ _ _ _ _ w.places (omega (arith, le)) (s.scope.regions ++ a ∷ []) s.structs;
       }
 
-  pub well_outlives : (a b : Name) → first_fault s (outlives a b) ≡ None → IsWell (says s (outlives a b))
+  pub well_outlives : (a b : WrittenName) → first_fault s (outlives a b) ≡ None → IsWell (says s (outlives a b))
   well_outlives a b e =
       let no = faultless s (outlives a b) e in
       let le : s.reached ≤ 2 = (follows s (outlives a b) (in_order s (outlives a b) e)).0 in
       let both =
-      and_parts (is_universal s a) (is_universal s b)
-      (not-false (is_universal s a && is_universal s b) no.unknown) in
+      and_parts (is_universal_in s a) (is_universal_in s b)
+      (not-false (is_universal_in s a && is_universal_in s b) no.unknown) in
       let d = w.declares in
       record {
         plain = w.plain;
@@ -100,7 +101,7 @@ module _ (s : Said) (w : IsWell s) where
         written = written_early _ _ _ _ _ w.places (omega (arith, le)) s.scope.regions s.structs;
       }
 
-  pub well_further : (x : Name) → first_fault s (further x) ≡ None → IsWell (says s (further x))
+  pub well_further : (x : WrittenName) → first_fault s (further x) ≡ None → IsWell (says s (further x))
   well_further x e =
       let no = faultless s (further x) e in
       let le : s.reached ≤ 3 = (follows s (further x) (in_order s (further x) e)).0 in
@@ -131,13 +132,13 @@ module _ (s : Said) (w : IsWell s) where
         written = written_early _ _ _ _ _ w.places (omega (arith, le)) (s.scope.regions ++ x ∷ []) s.structs;
       }
 
-  pub well_assert : (a b : Name) → first_fault s (assert_line a b) ≡ None → IsWell (says s (assert_line a b))
+  pub well_assert : (a b : WrittenName) → first_fault s (assert_line a b) ≡ None → IsWell (says s (assert_line a b))
   well_assert a b e =
       let no = faultless s (assert_line a b) e in
       let le : s.reached ≤ 4 = (follows s (assert_line a b) (in_order s (assert_line a b) e)).0 in
       let both =
-      and_parts (is_among s.scope.regions a) (is_among s.scope.regions b)
-      (not-false (is_among s.scope.regions a && is_among s.scope.regions b) no.unknown) in
+      and_parts (is_name_among s.scope.regions a) (is_name_among s.scope.regions b)
+      (not-false (is_name_among s.scope.regions a && is_name_among s.scope.regions b) no.unknown) in
       let d = w.declares in
       record {
         plain = w.plain;
@@ -168,7 +169,7 @@ module _ (s : Said) (w : IsWell s) where
         written = written_early _ _ _ _ _ w.places (omega (arith, le)) s.scope.regions s.structs;
       }
 
-  pub well_struct : (n : Name) (ps : List WrittenParameter) (has_drop : Bool) (fields : WrittenTypes)
+  pub well_struct : (n : WrittenName) (ps : List WrittenParameter) (has_drop : Bool) (fields : WrittenTypes)
       → first_fault s (struct_line n ps has_drop fields) ≡ None → IsWell (says s (struct_line n ps has_drop fields))
   well_struct n ps has_drop fields e =
       let no = faultless s (struct_line n ps has_drop fields) e in
@@ -177,7 +178,7 @@ module _ (s : Said) (w : IsWell s) where
       let known : are_known (scope_inside s.scope ps) fields ≡ true = not-false _ no.unknown in
       let has : have_arguments (scope_inside s.scope ps) fields ≡ true = not-false _ no.shape in
       let d = w.declares in
-      let more = declared s ps has_drop fields in
+      let more = declared_struct s ps has_drop fields in
       record {
         plain = w.plain;
         asserted = w.asserted;
@@ -193,10 +194,10 @@ module _ (s : Said) (w : IsWell s) where
               omega (
                 arith,
                 d.counted,
-                length-append s.scope.kinds (map is_region ps ∷ []),
+                length-append s.scope.kinds (map is_region_parameter ps ∷ []),
                 length-append s.structs (more ∷ []),
               );
-          takes = kinds_pushed s.scope.kinds s.structs (map is_region ps) more d.counted d.takes
+          takes = kinds_pushed s.scope.kinds s.structs (map is_region_parameter ps) more d.counted d.takes
               (regions_declared s ps has_drop fields) (types_declared s ps has_drop fields);
           order = order_push s.structs more d.order (good_fields s ps has_drop fields d.takes d.named known has);
           none_yet = λ _. d.none_yet (omega (arith, le));
@@ -238,28 +239,4 @@ module _ (s : Said) (w : IsWell s) where
       }
 
   pub well_blocks : (n : ℕ) → first_fault s (blocks n) ≡ None → IsWell (says s (blocks n))
-  well_blocks n e =
-      let no = faultless s (blocks n) e in
-      let at : s.reached < 7 = before_blocks s n (in_order s (blocks n) e) in
-      let some : 0 < n = positive n no.range in
-      let p = w.places in
-      let none = p.none_yet (omega (arith, at)) in
-      record {
-        plain = w.plain;
-        asserted = w.asserted;
-        declares = declares_late _ _ _ _ _ _ _ _ 7 w.declares (omega arith);
-        places = record {
-          some_block = λ _. some;
-          none_yet = λ _. none;
-          begun = p.begun;
-          within = p.within;
-          rise = p.rise;
-          at_zero = p.at_zero;
-          whole = λ e. absurd (omega (arith, e));
-          few_points = p.few_points;
-          few_edges = p.few_edges;
-          goes_on = p.goes_on;
-          leads = λ q b i stands. absurd (nothing_at s.points q i none stands);
-        };
-        written = w.written;
-      }
+  well_blocks n e = grind (arith, faultless, before_blocks, in_order, positive, declares_late, nothing_at)

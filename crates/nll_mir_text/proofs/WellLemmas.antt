@@ -1,26 +1,26 @@
 -- What holds of what lines say, by what they declare and place.
-use Rattle.std.proofs.Common.{◌≡◌, ℕ, ◌+◌, ◌<◌, ◌≤◌, Bool, true, false, not, cond, List, [], ◌∷◌, ◌++◌, Some, Contains, length, refl, sym, subst, arith, length-append, slice_get}
-use Rattle.std.specs.Prelude.{All, codes}
+use Rattle.std.proofs.Common.{◌≡◌, ℕ, ◌+◌, ◌<◌, ◌≤◌, Bool, true, false, not, cond, List, [], ◌∷◌, ◌++◌, Some, Contains, length, sym, subst, arith, length-append, slice_get}
+use Rattle.std.specs.Prelude.{All}
 use Rattle.std.specs.List.Sorted.{IsStrictlyIncreasing}
 use Rattle.std.proofs.lemmas.List.Elements.{All-nil}
 use Rattle.nll_problem.specs.Limits.{most_points, most_edges, most_universals, most_regions, most_variables}
 use Rattle.nll_types.specs.Types.{TypeTree}
 use Rattle.nll_types.specs.Structs.{Struct, AreInOrder, IsWellFormed}
-use Rattle.nll_mir_grammar.specs.WrittenTypes.{Name}
+use Rattle.nll_mir_grammar.specs.WrittenTypes.{WrittenName}
 use Rattle.nll_body.specs.Statements.{Statement, is_terminator, types_written}
 use Rattle.nll_body.specs.Effects.{targets}
 use Rattle.nll_body.specs.Written.{regions_written}
-use Rattle.nll_mir_grammar.specs.MirForms.{outlives, blocks}
 use Rattle.nll_body.specs.Edges.{edge_count}
 use Rattle.nll_mir_text.specs.MirSaid.{Said}
-use Rattle.nll_mir_text.specs.MirSteps.{nothing_said, declared}
+use Rattle.nll_mir_text.specs.MirSteps.{nothing_said}
 use Rattle.nll_mir_text.specs.MirReading.{AreKinds}
 use Rattle.nll_mir_text.proofs.LineLemmas.{nothing_at}
 
 -- ---- what holds of what lines say
 
 -- What is declared keeps to what was declared before.
-pub record IsDeclared (reached universals : ℕ) (names : List Name) (longer : List (ℕ × ℕ)) (struct_names : List Name)
+pub record IsDeclared (reached universals : ℕ) (names : List WrittenName) (longer : List (ℕ
+    × ℕ)) (struct_names : List WrittenName)
     (kinds : List (List Bool)) (structs : List Struct) (variables : List TypeTree) : Type 0 where
   pub some : 0 < universals
   pub few : universals ≤ most_universals
@@ -67,7 +67,8 @@ pub record ArePlaced (reached count : ℕ) (starts : List ℕ) (points : List (S
   pub leads : (p b : ℕ) (i : Statement ℕ TypeTree) → slice_get points p ≡ Some i → Contains (targets i) b → b < count
 
 -- The regions and the types that are written at the points keep to what is declared.
-pub record AreWritten (names : List Name) (structs : List Struct) (points : List (Statement ℕ TypeTree)) : Type 0 where
+pub record AreWritten (names : List WrittenName) (structs : List Struct) (points : List
+    (Statement ℕ TypeTree)) : Type 0 where
   pub regions : (p r : ℕ) (i : Statement ℕ TypeTree) → slice_get points p ≡ Some i → Contains (regions_written i) r
       → r < length names
   pub types : (p : ℕ) (t : TypeTree) (i : Statement ℕ TypeTree) → slice_get points p ≡ Some i
@@ -75,11 +76,12 @@ pub record AreWritten (names : List Name) (structs : List Struct) (points : List
       → IsWellFormed structs (length names) 0 t
 
 -- The asserted pairs are of declared regions.
-abbrev pub AreAsserted : List Name → List (ℕ × ℕ) → Type 0
+abbrev pub AreAsserted : List WrittenName → List (ℕ × ℕ) → Type 0
 AreAsserted names pairs = (a b : ℕ) → Contains pairs (a, b) → (a < length names) × (b < length names)
 
 -- they are so where there are more regions
-pub asserted_more : (old new : List Name) (pairs : List (ℕ × ℕ)) → length old ≤ length new → AreAsserted old pairs
+pub asserted_more : (old new : List WrittenName) (pairs : List (ℕ × ℕ)) → length old ≤ length new
+    → AreAsserted old pairs
     → AreAsserted new pairs
 asserted_more old new pairs more all a b c = let k = all a b c in (omega (arith, k.0, more), omega (arith, k.1, more))
 
@@ -92,56 +94,22 @@ pub record IsWell (s : Said) : Type 0 where
   pub written : AreWritten s.scope.regions s.structs s.points
 
 -- nothing is written where there are no points
-pub written_nowhere : (names : List Name) (structs : List Struct) (points : List (Statement ℕ TypeTree))
+pub written_nowhere : (names : List WrittenName) (structs : List Struct) (points : List (Statement ℕ TypeTree))
     → length points ≡ 0
     → AreWritten names structs points
-written_nowhere names structs points none = record {
-  regions = λ p r i at h. absurd (nothing_at points p i none at);
-  types = λ p t i at h. absurd (nothing_at points p i none at);
-}
+written_nowhere names structs points none = grind (arith, nothing_at)
 
 -- a line in front of the blocks stands in front of all points
 pub written_early : (reached count : ℕ) (starts : List ℕ) (points : List (Statement ℕ TypeTree)) (owes : Bool)
     → ArePlaced reached count starts points owes → reached < 8
-    → (names : List Name) (structs : List Struct) → AreWritten names structs points
+    → (names : List WrittenName) (structs : List Struct) → AreWritten names structs points
 written_early reached count starts points owes h early names structs =
     written_nowhere names structs points (h.none_yet early)
 
 -- ---- no line yet
 
 pub well_nothing : IsWell nothing_said
-well_nothing = record {
-  plain = refl;
-  asserted = λ a b c. absurd (omega (arith, c.1));
-  declares = record {
-    some = omega arith;
-    few = omega arith;
-    all = omega arith;
-    few_names = omega arith;
-    few_variables = omega arith;
-    known = λ a b c. absurd (omega (arith, c.1));
-    named = refl;
-    counted = refl;
-    takes = record { regions = λ n l. absurd (omega (arith, l)); types = λ n l. absurd (omega (arith, l)) };
-    order = λ n l. absurd (omega (arith, l));
-    none_yet = λ _. refl;
-    keep = λ k d l. absurd (omega (arith, l));
-  };
-  places = record {
-    some_block = λ l. absurd (omega (arith, l));
-    none_yet = λ _. refl;
-    begun = λ _. refl;
-    within = λ k d l. absurd (omega (arith, l));
-    rise = λ k l. absurd (omega (arith, l));
-    at_zero = λ l. absurd (omega (arith, l));
-    whole = λ e. absurd (omega (arith, e));
-    few_points = omega arith;
-    few_edges = omega arith;
-    goes_on = λ p i at. absurd (nothing_at [] p i refl at);
-    leads = λ p b i at. absurd (nothing_at [] p i refl at);
-  };
-  written = written_nowhere (codes "static" ∷ []) [] [] refl;
-}
+well_nothing = grind (arith, nothing_at, written_nowhere)
 
 -- ---- one more line
 
@@ -149,39 +117,14 @@ well_nothing = record {
 module _ (reached count : ℕ) (starts : List ℕ) (points : List (Statement ℕ TypeTree)) (owes : Bool) where
   pub places_early : (after : ℕ) → ArePlaced reached count starts points owes → reached ≤ after → after < 7
       → ArePlaced after count starts points owes
-  places_early after h le early = record {
-    some_block = λ l. absurd (omega (arith, l, early));
-    none_yet = λ l. h.none_yet (omega (arith, le, early));
-    begun = h.begun;
-    within = h.within;
-    rise = h.rise;
-    at_zero = h.at_zero;
-    whole = λ e. absurd (omega (arith, e, early));
-    few_points = h.few_points;
-    few_edges = h.few_edges;
-    goes_on = h.goes_on;
-    leads = h.leads;
-  }
+  places_early after h le early = grind arith
 
 -- a line behind the declarations leaves them as they are
-module _ (reached universals : ℕ) (names : List Name) (longer : List (ℕ × ℕ)) (struct_names : List Name)
+module _ (reached universals : ℕ) (names : List WrittenName) (longer : List (ℕ × ℕ)) (struct_names : List WrittenName)
     (kinds : List (List Bool)) (structs : List Struct) (variables : List TypeTree) where
   pub declares_late : (after : ℕ) → IsDeclared reached universals names longer struct_names kinds structs variables
       → 6 ≤ after → IsDeclared after universals names longer struct_names kinds structs variables
-  declares_late after h late = record {
-    some = h.some;
-    few = h.few;
-    all = h.all;
-    few_names = h.few_names;
-    few_variables = h.few_variables;
-    known = h.known;
-    named = h.named;
-    counted = h.counted;
-    takes = h.takes;
-    order = h.order;
-    none_yet = λ l. absurd (omega (arith, l, late));
-    keep = h.keep;
-  }
+  declares_late after h late = grind arith
 
   -- names and structs are declared before variables
   pub keeps_none : reached < 6 → IsDeclared reached universals names longer struct_names kinds structs variables

@@ -13,7 +13,7 @@ use Rattle.nll_format.specs.declared.error.TextKind.{TextKind}
 use Rattle.nll_format.specs.declared.error.TextKind.TheVariants.{Syntax, Unknown, Duplicate, Range}
 use Rattle.nll_format.specs.declared.error.TextKind.TheVariants.{Shape, TypeSize, Limit}
 use Rattle.nll_types.specs.Shapes.{is_small}
-use Rattle.nll_mir_grammar.specs.WrittenTypes.{Name, WrittenType, tuple}
+use Rattle.nll_mir_grammar.specs.WrittenTypes.{WrittenName, WrittenType, tuple}
 use Rattle.nll_body.specs.Statements.{Statement, types_written}
 use Rattle.nll_body.specs.Effects.{targets}
 use Rattle.nll_body.specs.Written.{regions_written, variables_written}
@@ -22,7 +22,8 @@ use Rattle.nll_body.specs.Typing.{types_agree, types_are_small, are_small}
 use Rattle.nll_mir_grammar.specs.MirForms.{WrittenParameter}
 use Rattle.nll_mir_grammar.specs.MirForms.{Form, universal, outlives, further, assert_line}
 use Rattle.nll_mir_grammar.specs.MirForms.{struct_line, variable, blocks, block, at_point, end}
-use Rattle.nll_mir_text.specs.Naming.{Scope, is_among, is_known, has_arguments, meant, all_meant}
+use Rattle.nll_mir_text.specs.Naming.{Scope, is_name_among, is_known, has_arguments, meant}
+use Rattle.nll_mir_text.specs.Naming.{all_meant}
 use Rattle.nll_mir_text.specs.MirSaid.{Said, group, scope_inside, meant_in}
 
 -- ---- order
@@ -43,32 +44,32 @@ is_in_order s f = nat_le s.reached (group f)
 -- ---- names
 
 -- the name is that of a universal region
-abbrev pub is_universal : Said → Name → Bool
-is_universal s a = nat_lt (number_of s.scope.regions a) s.universals
+abbrev pub is_universal_in : Said → WrittenName → Bool
+is_universal_in s a = nat_lt (number_of s.scope.regions a) s.universals
 
 -- a name occurs in the row twice
-abbrev pub has_repeats : List Name → Bool
+abbrev pub has_repeats : List WrittenName → Bool
 has_repeats [] = false
-has_repeats (x ∷ xs) = is_among xs x || has_repeats xs
+has_repeats (x ∷ xs) = is_name_among xs x || has_repeats xs
 
 -- A name of the struct's own is declared already: the struct's, a parameter's that occurs twice or
 -- is 'static, or a type parameter's that is a struct's.
-abbrev pub redeclares : Scope → Name → List WrittenParameter → Bool
+abbrev pub redeclares : Scope → WrittenName → List WrittenParameter → Bool
 redeclares s n ps =
-    is_among s.structs n
+    is_name_among s.structs n
     || has_repeats (scope_inside s ps).regions
     || has_repeats (scope_inside s ps).parameters
-    || list_any (is_among (n ∷ s.structs)) (scope_inside s ps).parameters
+    || list_any (is_name_among (n ∷ s.structs)) (scope_inside s ps).parameters
 
 -- the variables are declared
 abbrev pub knows_variables : Said → List ℕ → Bool
 knows_variables s xs = list_all (λ x. nat_lt x (length s.variables)) xs
 
 -- each name and each variable in the statement is declared
-abbrev pub knows : Said → Statement Name WrittenType → Bool
+abbrev pub knows : Said → Statement WrittenName WrittenType → Bool
 knows s i =
     knows_variables s (variables_written i)
-    && list_all (is_among s.scope.regions) (regions_written i)
+    && list_all (is_name_among s.scope.regions) (regions_written i)
     && list_all (is_known s.scope) (types_written i)
 
 -- ---- blocks
@@ -80,7 +81,7 @@ has_targets s i = list_all (λ b. nat_lt b s.blocks) (targets i)
 -- ---- types
 
 -- the statement's types agree, and those that are written have arguments of the right kinds
-abbrev pub shapes_fit : Said → Statement Name WrittenType → Bool
+abbrev pub shapes_fit : Said → Statement WrittenName WrittenType → Bool
 shapes_fit s i =
     list_all (has_arguments s.scope) (types_written i)
     && types_agree s.structs s.variables (meant_in s.scope i)
@@ -90,14 +91,14 @@ shapes_fit s i =
 -- Whether a line of the form has a fault of the kind, after lines that say s.
 abbrev pub has_fault : Said → Form → TextKind → Bool
 has_fault s f Syntax = not (is_in_order s f)
-has_fault s (universal a) Duplicate = is_among s.scope.regions a
+has_fault s (universal a) Duplicate = is_name_among s.scope.regions a
 has_fault s (universal a) (Limit Universals) = nat_le most_universals s.universals
 has_fault s (universal a) (Limit Regions) = nat_le most_regions (length s.scope.regions)
-has_fault s (outlives a b) Unknown = not (is_universal s a && is_universal s b)
-has_fault s (further x) Duplicate = is_among s.scope.regions x
+has_fault s (outlives a b) Unknown = not (is_universal_in s a && is_universal_in s b)
+has_fault s (further x) Duplicate = is_name_among s.scope.regions x
 has_fault s (further x) (Limit Regions) = nat_le most_regions (length s.scope.regions)
 has_fault s (assert_line a b) Unknown =
-    not (is_among s.scope.regions a && is_among s.scope.regions b)
+    not (is_name_among s.scope.regions a && is_name_among s.scope.regions b)
 has_fault s (struct_line n ps has_drop fields) Unknown =
     not (is_known (scope_inside s.scope ps) (tuple fields))
 has_fault s (struct_line n ps has_drop fields) Duplicate = redeclares s.scope n ps

@@ -10,8 +10,9 @@ use Rattle.nll_types.specs.Declarations.{structs_of}
 use Rattle.nll_types.specs.Structs.{Struct, struct_at}
 use Rattle.nll_body.specs.Statements.{Statement, is_terminator}
 use Rattle.nll_body.specs.Exits.{edges_from, edge_count}
+use Rattle.nll_body.specs.declared.exits.Exits.{Exits}
 use Rattle.nll_body.specs.Flat.{statements_in}
-use Rattle.nll_body.specs.Typed.{HaveRows, meant, trees_at}
+use Rattle.nll_body.specs.Typed.{HaveRows, meant_statement, trees_at}
 use Rattle.nll_format.specs.Text.{IsText}
 use Rattle.nll_format.specs.declared.error.TextKind.{TextKind}
 use Rattle.nll_format.specs.declared.error.TextKind.TheVariants.{Memory}
@@ -19,7 +20,7 @@ use Rattle.nll_mir_grammar.specs.MirForms.{Form, universal, further, struct_line
 use Rattle.nll_mir_grammar.specs.MirForms.{WrittenParameter, region_parameter, type_parameter}
 pub use Rattle.nll_mir_grammar.specs.Lines.{struct_form}
 use Rattle.nll_mir_grammar.specs.declared.version.Version.{Version}
-use Rattle.nll_mir_grammar.specs.WrittenTypes.{Name, WrittenType}
+use Rattle.nll_mir_grammar.specs.WrittenTypes.{WrittenName, WrittenType}
 use Rattle.nll_mir_text.specs.Naming.{Scope}
 use Rattle.nll_mir_text.specs.declared.tables.Regions.{Regions}
 use Rattle.nll_mir_text.specs.declared.tables.StructNames.{StructNames}
@@ -27,7 +28,6 @@ use Rattle.nll_mir_text.specs.MirSaid.{Said, said, group}
 use Rattle.nll_mir_text.specs.MirSteps.{says, rank}
 use Rattle.nll_mir_text.specs.MirFaults.{is_in_order, first_fault}
 use Rattle.nll_mir_text.specs.MirText.{mir}
-use Rattle.nll_mir_text.specs.declared.blocks.Admitted.{Admitted}
 use Rattle.nll_mir_text.specs.declared.reader.Reader.{Reader}
 
 -- ---- what a reader holds
@@ -53,7 +53,7 @@ said_by r = record {
   variables = trees_at r.variables.types r.variables.typed.items;
   blocks = r.points.blocks;
   starts = r.points.starts.items;
-  points = map (meant r.variables.types) (statements_in r.points.statements);
+  points = map (meant_statement r.variables.types) (statements_in r.points.statements);
   owes = r.points.owes;
 }
 
@@ -137,18 +137,17 @@ pub record IsTaken (s : Said) (f : Form) (r : Reader) : Type 0 where
   pub says : said_by r ≡ says s f
   pub ready : IsReady r
 
--- A statement is admitted after lines that say s, and with it there are this many edges: its line
--- has no fault, the reader holds what they say, and there is room for a point. The result says
--- whether the block ends with it.
-pub record IsAdmitted (s : Said) (i : Statement Name WrittenType) (a : Admitted) (r : Reader)
+-- A statement with these exits is admitted after lines that say s: its line has no fault, the
+-- reader holds what they say, and there is room for a point and for the edges.
+pub record IsAdmitted (s : Said) (i : Statement WrittenName WrittenType) (e : Exits) (r : Reader)
     : Type 0 where
   pub fine : first_fault s (at_point i) ≡ None
   pub same : said_by r ≡ s
   pub ready : IsReady r
   pub few : length (statements_in r.points.statements) < most_points
-  pub counted : a.edges ≡ r.points.edges + edges_from i
-  pub few_edges : a.edges ≤ most_edges
-  pub ends : a.ends ≡ is_terminator i
+  pub counted : e.edges ≡ edges_from i
+  pub few_edges : r.points.edges + e.edges ≤ most_edges
+  pub ends : e.ends ≡ is_terminator i
 
 -- a line of the form is refused after lines that say s: for a failed allocation, or with its first
 -- kind of fault

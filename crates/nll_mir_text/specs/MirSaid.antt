@@ -9,7 +9,7 @@ use Rattle.nll_format.specs.Names.{number_of}
 use Rattle.nll_types.specs.Types.{TypeTree}
 use Rattle.nll_types.specs.Structs.{Struct}
 use Rattle.nll_types.specs.declared.parameter.Parameter.{Parameter}
-use Rattle.nll_mir_grammar.specs.WrittenTypes.{Name, WrittenType, WrittenTypes}
+use Rattle.nll_mir_grammar.specs.WrittenTypes.{WrittenName, WrittenType, WrittenTypes}
 use Rattle.nll_body.specs.Statements.{Statement, is_terminator, map_statement}
 use Rattle.nll_mir_grammar.specs.MirForms.{WrittenParameter, region_parameter, type_parameter}
 use Rattle.nll_mir_grammar.specs.MirForms.{Form, universal, outlives, further, assert_line}
@@ -19,19 +19,19 @@ use Rattle.nll_mir_text.specs.Naming.{Scope, meant, all_meant}
 -- ---- the parameters of a struct
 
 -- the region parameter
-abbrev pub region_in : WrittenParameter → Option (Name × Parameter)
-region_in (region_parameter a p) = Some (a, p)
-region_in (type_parameter n p) = None
+abbrev pub region_parameter_in : WrittenParameter → Option (WrittenName × Parameter)
+region_parameter_in (region_parameter a p) = Some (a, p)
+region_parameter_in (type_parameter n p) = None
 
 -- the type parameter
-abbrev pub type_in : WrittenParameter → Option (Name × Parameter)
+abbrev pub type_in : WrittenParameter → Option (WrittenName × Parameter)
 type_in (region_parameter a p) = None
 type_in (type_parameter n p) = Some (n, p)
 
 -- ---- the groups of lines
 
 -- the group of a line of the form, by the word that its first line begins with
-abbrev pub group_of : Form → Name
+abbrev pub group_of : Form → WrittenName
 group_of (universal a) = codes "universal"
 group_of (outlives a b) = codes "outlives"
 group_of (further x) = codes "region"
@@ -44,7 +44,7 @@ group_of (at_point i) = codes "block"
 group_of end = codes "end"
 
 -- the groups in their order in a text, that of the header first
-abbrev pub groups : List Name
+abbrev pub groups : List WrittenName
 groups =
     codes "nll-mir" ∷ codes "universal" ∷ codes "outlives" ∷ codes "region" ∷ codes "assert"
     ∷ codes "struct" ∷ codes "let" ∷ codes "blocks" ∷ codes "block" ∷ codes "end" ∷ []
@@ -61,27 +61,27 @@ reached (f ∷ forms) = max (group f) (reached forms)
 -- ---- what one line says
 
 -- the universal region that a line declares
-abbrev pub universal_in : Form → Option Name
+abbrev pub universal_in : Form → Option WrittenName
 universal_in (universal a) = Some a
 universal_in _ = None
 
 -- the further region that a line declares
-abbrev pub further_in : Form → Option Name
+abbrev pub further_in : Form → Option WrittenName
 further_in (further x) = Some x
 further_in _ = None
 
 -- the regions of an `outlives` line
-abbrev pub outlives_in : Form → Option (Name × Name)
+abbrev pub outlives_in : Form → Option (WrittenName × WrittenName)
 outlives_in (outlives a b) = Some (a, b)
 outlives_in _ = None
 
 -- the regions of an `assert` line
-abbrev pub assert_in : Form → Option (Name × Name)
+abbrev pub assert_in : Form → Option (WrittenName × WrittenName)
 assert_in (assert_line a b) = Some (a, b)
 assert_in _ = None
 
 -- the name and the parameters of the struct that a line declares
-abbrev pub struct_in : Form → Option (Name × List WrittenParameter)
+abbrev pub struct_in : Form → Option (WrittenName × List WrittenParameter)
 struct_in (struct_line n ps has_drop fields) = Some (n, ps)
 struct_in _ = None
 
@@ -96,7 +96,7 @@ blocks_in (blocks n) = Some n
 blocks_in _ = None
 
 -- the statement or terminator of a line
-abbrev pub statement_of_form : Form → Option (Statement Name WrittenType)
+abbrev pub statement_of_form : Form → Option (Statement WrittenName WrittenType)
 statement_of_form (at_point i) = Some i
 statement_of_form _ = None
 
@@ -109,15 +109,15 @@ owes_in _ = None
 -- ---- what names mean
 
 -- the regions' numbers
-abbrev pub numbers_of : List Name → Name × Name → ℕ × ℕ
-numbers_of names p = (number_of names p.0, number_of names p.1)
+abbrev pub region_numbers : List WrittenName → WrittenName × WrittenName → ℕ × ℕ
+region_numbers names p = (number_of names p.0, number_of names p.1)
 
 -- the universal regions in order, 'static first
-abbrev pub universals_said : List Form → List Name
+abbrev pub universals_said : List Form → List WrittenName
 universals_said forms = codes "static" ∷ filter_map universal_in forms
 
 -- the regions in order: the universal ones, then the further ones
-abbrev pub names_said : List Form → List Name
+abbrev pub names_said : List Form → List WrittenName
 names_said forms = universals_said forms ++ filter_map further_in forms
 
 -- what names mean in the types of variables and of statements
@@ -126,28 +126,28 @@ scope_said forms = record {
   regions = names_said forms;
   parameters = [];
   structs = map (λ d. d.0) (filter_map struct_in forms);
-  kinds = map (λ d. map (λ p. is_some (region_in p)) d.1) (filter_map struct_in forms);
+  kinds = map (λ d. map (λ p. is_some (region_parameter_in p)) d.1) (filter_map struct_in forms);
 }
 
 -- what names mean in the fields of a struct with these parameters: 'static, the struct's own
 -- parameters, and the structs that are declared
 abbrev pub scope_inside : Scope → List WrittenParameter → Scope
 scope_inside s ps = record s {
-  regions = codes "static" ∷ map (λ p. p.0) (filter_map region_in ps);
+  regions = codes "static" ∷ map (λ p. p.0) (filter_map region_parameter_in ps);
   parameters = map (λ p. p.0) (filter_map type_in ps);
 }
 
 -- the struct that a line declares, where names mean this in its fields
 abbrev pub struct_meant : Scope → List WrittenParameter → Bool → WrittenTypes → Struct
 struct_meant s ps has_drop fields = record {
-  regions = map (λ p. p.1) (filter_map region_in ps);
+  regions = map (λ p. p.1) (filter_map region_parameter_in ps);
   types = map (λ p. p.1) (filter_map type_in ps);
   has_drop = has_drop;
   fields = all_meant s fields;
 }
 
 -- a statement with its regions and types as they are meant
-abbrev pub meant_in : Scope → Statement Name WrittenType → Statement ℕ TypeTree
+abbrev pub meant_in : Scope → Statement WrittenName WrittenType → Statement ℕ TypeTree
 meant_in s i = map_statement (number_of s.regions) (meant s) i
 
 -- ---- what a line says after others
@@ -203,9 +203,10 @@ said forms = record {
   universals = length (universals_said forms);
   outlives =
       insert_all same_pair []
-      (map (numbers_of (universals_said forms)) (filter_map outlives_in forms));
+      (map (region_numbers (universals_said forms)) (filter_map outlives_in forms));
   asserts =
-      insert_all same_pair [] (map (numbers_of (names_said forms)) (filter_map assert_in forms));
+      insert_all same_pair [] (map (region_numbers (names_said forms))
+      (filter_map assert_in forms));
   structs = filter_map declared_in (with_fronts forms);
   variables = map (meant (scope_said forms)) (filter_map variable_in forms);
   blocks = get_or (filter_map blocks_in forms) 0 0;

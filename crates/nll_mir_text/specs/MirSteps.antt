@@ -5,7 +5,7 @@ use Rattle.indexmap.specs.IndexSet.{insert_all}
 use Rattle.nll_problem.specs.Building.{same_pair}
 use Rattle.nll_types.specs.Types.{TypeTree}
 use Rattle.nll_types.specs.Structs.{Struct}
-use Rattle.nll_mir_grammar.specs.WrittenTypes.{Name, WrittenType, WrittenTypes}
+use Rattle.nll_mir_grammar.specs.WrittenTypes.{WrittenName, WrittenType, WrittenTypes}
 use Rattle.nll_body.specs.Statements.{Statement, is_terminator}
 use Rattle.nll_mir_grammar.specs.MirForms.{WrittenParameter}
 use Rattle.nll_mir_grammar.specs.MirForms.{Form, universal, outlives, further, assert_line}
@@ -15,8 +15,8 @@ use Rattle.nll_mir_text.specs.declared.groups.Group.{Group}
 use Rattle.nll_mir_text.specs.declared.groups.Group.TheVariants.{Header, Universals, Outlives}
 use Rattle.nll_mir_text.specs.declared.groups.Group.TheVariants.{Regions, Asserts, Structs}
 use Rattle.nll_mir_text.specs.declared.groups.Group.TheVariants.{Variables, BlockCount, Blocks, End}
-use Rattle.nll_mir_text.specs.MirSaid.{Said, said, group, numbers_of, scope_inside}
-use Rattle.nll_mir_text.specs.StructLines.{is_region}
+use Rattle.nll_mir_text.specs.MirSaid.{Said, said, group, region_numbers, scope_inside}
+use Rattle.nll_mir_text.specs.StructLines.{is_region_parameter}
 use Rattle.nll_mir_text.specs.MirSaid.{struct_meant, meant_in}
 
 -- the number of a group of the code
@@ -41,11 +41,11 @@ abbrev pub nothing_said : Said
 nothing_said = said []
 
 -- the struct that a further line declares
-abbrev pub declared : Said → List WrittenParameter → Bool → WrittenTypes → Struct
-declared s ps has_drop fields = struct_meant (scope_inside s.scope ps) ps has_drop fields
+abbrev pub declared_struct : Said → List WrittenParameter → Bool → WrittenTypes → Struct
+declared_struct s ps has_drop fields = struct_meant (scope_inside s.scope ps) ps has_drop fields
 
 -- a statement as it is meant after lines that say s
-abbrev pub statement_meant : Said → Statement Name WrittenType → Statement ℕ TypeTree
+abbrev pub statement_meant : Said → Statement WrittenName WrittenType → Statement ℕ TypeTree
 statement_meant s i = meant_in s.scope i
 
 -- What is said after a further line of the form, which is in order.
@@ -57,7 +57,7 @@ says s (universal a) = record s {
 }
 says s (outlives a b) = record s {
   reached = group (outlives a b);
-  outlives = insert_all same_pair s.outlives (numbers_of s.scope.regions (a, b) ∷ []);
+  outlives = insert_all same_pair s.outlives (region_numbers s.scope.regions (a, b) ∷ []);
 }
 says s (further x) = record s {
   reached = group (further x);
@@ -65,15 +65,15 @@ says s (further x) = record s {
 }
 says s (assert_line a b) = record s {
   reached = group (assert_line a b);
-  asserts = insert_all same_pair s.asserts (numbers_of s.scope.regions (a, b) ∷ []);
+  asserts = insert_all same_pair s.asserts (region_numbers s.scope.regions (a, b) ∷ []);
 }
 says s (struct_line n ps has_drop fields) = record s {
   reached = group (struct_line n ps has_drop fields);
   scope = record s.scope {
     structs = s.scope.structs ++ n ∷ [];
-    kinds = s.scope.kinds ++ map is_region ps ∷ [];
+    kinds = s.scope.kinds ++ map is_region_parameter ps ∷ [];
   };
-  structs = s.structs ++ declared s ps has_drop fields ∷ [];
+  structs = s.structs ++ declared_struct s ps has_drop fields ∷ [];
 }
 says s (variable x t) = record s {
   reached = group (variable x t);

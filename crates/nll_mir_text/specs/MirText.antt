@@ -1,7 +1,7 @@
 -- MIR texts as a format, and what a MIR text means. Source: project's choice; docs/FORMATS.md says
 -- the same in prose.
 use Rattle.std.specs.Prelude.{◌≡◌, ℕ, List, codes, Contains}
-use Rattle.nll_format.specs.Text.{Format, IsText, IsHeaded, IsHeader, IsFault}
+use Rattle.nll_format.specs.Text.{Format, IsText, IsHeaded, IsFormatHeader, IsFaultOfText}
 use Rattle.nll_format.specs.declared.error.TextKind.{TextKind}
 use Rattle.nll_mir_grammar.specs.MirForms.{Form, end}
 use Rattle.nll_mir_grammar.specs.Versions.{HasFormIn, version_codes}
@@ -54,8 +54,8 @@ IsOfVersion text Second = (body : List (List ℕ)) × IsHeaded (mir Second) text
 -- The text's fault, by the line, counted from 1, and its kind: that of a text of its version.
 abbrev pub IsMirFault : List ℕ → ℕ → TextKind → Type 0
 IsMirFault text line kind =
-    (version : Version) × IsOfVersion text version × IsFault (mir version) text line kind
+    (version : Version) × IsOfVersion text version × IsFaultOfText (mir version) text line kind
 
 -- the line is the header of a MIR text of some version
 abbrev pub IsMirHeader : List ℕ → Type 0
-IsMirHeader line = (version : Version) × IsHeader (mir version) line
+IsMirHeader line = (version : Version) × IsFormatHeader (mir version) line

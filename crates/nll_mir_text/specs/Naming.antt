@@ -5,7 +5,7 @@ use Rattle.std.specs.Prelude.{◌∷◌, length, slice_index_or}
 use Rattle.nll_format.specs.Names.{number_of}
 use Rattle.nll_types.specs.Types.{TypeTree, TypeTrees, int, parameter, reference, tuple, named}
 use Rattle.nll_types.specs.Types.{function, none, more}
-use Rattle.nll_mir_grammar.specs.WrittenTypes.{Name, WrittenType, WrittenTypes, Arguments}
+use Rattle.nll_mir_grammar.specs.WrittenTypes.{WrittenName, WrittenType, WrittenTypes, Arguments}
 use Rattle.nll_mir_grammar.specs.WrittenTypes.{no_argument, region_argument, type_argument}
 use Rattle.nll_mir_grammar.specs.WrittenTypes as written
 
@@ -13,14 +13,14 @@ use Rattle.nll_mir_grammar.specs.WrittenTypes as written
 -- places in these rows. With each struct go the kinds of its arguments, in order: whether one is a
 -- region.
 pub record Scope : Type 0 where
-  pub regions : List Name
-  pub parameters : List Name
-  pub structs : List Name
+  pub regions : List WrittenName
+  pub parameters : List WrittenName
+  pub structs : List WrittenName
   pub kinds : List (List Bool)
 
 -- the name is one of these
-abbrev pub is_among : List Name → Name → Bool
-is_among names x = nat_lt (number_of names x) (length names)
+abbrev pub is_name_among : List WrittenName → WrittenName → Bool
+is_name_among names x = nat_lt (number_of names x) (length names)
 
 -- The type that a written type means. A name that is a type parameter's means that parameter, and
 -- any other a struct.
@@ -30,7 +30,7 @@ abbrev mutual
   meant s (written.reference r m t) = reference (number_of s.regions r) m (meant s t)
   meant s (written.tuple ts) = tuple (all_meant s ts)
   meant s (written.named n args) =
-      if is_among s.parameters n then parameter (number_of s.parameters n)
+      if is_name_among s.parameters n then parameter (number_of s.parameters n)
       else named (number_of s.structs n) (regions_meant s args) (types_meant s args)
   meant s (written.function ts t) = function (all_meant s ts) (meant s t)
 
@@ -53,18 +53,18 @@ abbrev mutual
 -- Whether each region's name in the type passes one test, and each other name, with the arguments
 -- after it, another test.
 abbrev mutual
-  pub each_name : (Name → Bool) → (Name → Arguments → Bool) → WrittenType → Bool
+  pub each_name : (WrittenName → Bool) → (WrittenName → Arguments → Bool) → WrittenType → Bool
   each_name p q written.int = true
   each_name p q (written.reference r m t) = p r && each_name p q t
   each_name p q (written.tuple ts) = each_name_in p q ts
   each_name p q (written.named n args) = q n args && each_name_among p q args
   each_name p q (written.function ts t) = each_name_in p q ts && each_name p q t
 
-  pub each_name_in : (Name → Bool) → (Name → Arguments → Bool) → WrittenTypes → Bool
+  pub each_name_in : (WrittenName → Bool) → (WrittenName → Arguments → Bool) → WrittenTypes → Bool
   each_name_in p q written.none = true
   each_name_in p q (written.more t ts) = each_name p q t && each_name_in p q ts
 
-  pub each_name_among : (Name → Bool) → (Name → Arguments → Bool) → Arguments → Bool
+  pub each_name_among : (WrittenName → Bool) → (WrittenName → Arguments → Bool) → Arguments → Bool
   each_name_among p q no_argument = true
   each_name_among p q (region_argument r args) = p r && each_name_among p q args
   each_name_among p q (type_argument t args) = each_name p q t && each_name_among p q args
@@ -72,7 +72,8 @@ abbrev mutual
 -- each name in the type is known: a region's, a type parameter's or a struct's
 abbrev pub is_known : Scope → WrittenType → Bool
 is_known s t =
-    each_name (is_among s.regions) (λ n args. is_among s.parameters n || is_among s.structs n) t
+    each_name (is_name_among s.regions) (λ n args. is_name_among s.parameters n || is_name_among
+    s.structs n) t
 
 -- for each argument whether it is a region
 abbrev pub kinds_of : Arguments → List Bool
@@ -81,9 +82,9 @@ kinds_of (region_argument r args) = true ∷ kinds_of args
 kinds_of (type_argument t args) = false ∷ kinds_of args
 
 -- the kinds of arguments that a name takes: a type parameter takes none
-abbrev pub kinds_taken : Scope → Name → List Bool
+abbrev pub kinds_taken : Scope → WrittenName → List Bool
 kinds_taken s n =
-    if is_among s.parameters n then []
+    if is_name_among s.parameters n then []
     else slice_index_or s.kinds (number_of s.structs n) []
 
 -- the two rows of kinds are one

@@ -3,7 +3,7 @@
 use Rattle.std.specs.Prelude.{◌≡◌, ℕ, Bool, true}
 use Rattle.std.specs.List.{list_all}
 use Rattle.nll_types.specs.declared.typed.Typed.{Typed}
-use Rattle.nll_mir_grammar.specs.WrittenTypes.{Name, WrittenType}
+use Rattle.nll_mir_grammar.specs.WrittenTypes.{WrittenName, WrittenType}
 use Rattle.nll_body.specs.Statements.{Statement, types_written}
 use Rattle.nll_body.specs.declared.flat.Stmt.{Stmt}
 use Rattle.nll_mir_text.specs.Naming.{has_arguments}
@@ -16,7 +16,8 @@ use Rattle.nll_mir_text.specs.declared.reader.Reader.{Reader}
 
 -- The line of the written statement is in order, the number stands for it, and the flag says
 -- whether the names in its types have the arguments that they take.
-pub record IsPlaced (r : Reader) (i : Statement Name WrittenType) (flat : Stmt) (fitting : Bool)
+pub record IsPlaced (r : Reader) (i : Statement WrittenName WrittenType) (flat : Stmt)
+    (fitting : Bool)
     : Type 0 where
   pub order : is_in_order (said_by r) (at_point i) ≡ true
   pub of : IsFlatOf (scope_in r.regions r.structs) i r.variables.types r.points.statements flat

@@ -9,14 +9,14 @@ use Rattle.nll_types.specs.Types.{TypeTree, TypeTrees, int, parameter, reference
 use Rattle.nll_types.specs.Types.{function}
 use Rattle.nll_types.specs.Shapes.{shape_of}
 use Rattle.nll_types.specs.Table.{AreBelow, shape_in}
-use Rattle.nll_types.specs.Views.{row_of}
+use Rattle.nll_types.specs.Views.{row_of_trees}
 use Rattle.nll_types.specs.declared.node.Node.{Node}
 use Rattle.nll_types.specs.declared.body_types.BodyTypes.{BodyTypes}
-use Rattle.nll_mir_grammar.specs.WrittenTypes.{Name}
+use Rattle.nll_mir_grammar.specs.WrittenTypes.{WrittenName}
 use Rattle.nll_mir_grammar.specs.TypeTexts as written
 use Rattle.nll_mir_grammar.specs.TypeTexts.{make_int, begin_reference, begin_row, add_region}
 use Rattle.nll_mir_grammar.specs.TypeTexts.{add_type, make_tuple, make_named, make_function}
-use Rattle.nll_mir_text.specs.Naming.{Scope, is_among, kinds_taken, same_kinds}
+use Rattle.nll_mir_text.specs.Naming.{Scope, is_name_among, kinds_taken, same_kinds}
 use Rattle.nll_mir_text.specs.declared.rows.Mark.{Mark}
 use Rattle.nll_mir_text.specs.declared.rows.Mark.TheVariants as marks
 use Rattle.nll_mir_text.specs.declared.type_resolution.Resolving.{Resolving}
@@ -48,11 +48,11 @@ starts (marks.Part ∷ ms) = starts ms
 starts (marks.Behind m r ∷ ms) = starts ms
 
 -- whether it is a region
-abbrev pub is_region : Mark → Bool
-is_region (marks.Region r) = true
-is_region (marks.Row k n) = false
-is_region marks.Part = false
-is_region (marks.Behind m r) = false
+abbrev pub is_region_entry : Mark → Bool
+is_region_entry (marks.Region r) = true
+is_region_entry (marks.Row k n) = false
+is_region_entry marks.Part = false
+is_region_entry (marks.Behind m r) = false
 
 -- the regions among these
 abbrev pub regions_in : List Mark → List ℕ
@@ -96,7 +96,7 @@ NoneWaits ms =
 
 -- The types that are made so far, the newest last, and all regions so far; the entries of the rows,
 -- the newest first; and what is known of the names so far.
-pub record State : Type 0 where
+pub record ResolvingState : Type 0 where
   pub made : List TypeTree
   pub regions : List ℕ
   pub rows : List Mark
@@ -104,43 +104,50 @@ pub record State : Type 0 where
   pub fits : Bool
 
 -- nothing after these regions
-abbrev pub nothing : List ℕ → State
-nothing regions = record { made = []; regions = regions; rows = []; known = true; fits = true }
+abbrev pub no_regions_after : List ℕ → ResolvingState
+no_regions_after regions = record {
+  made = [];
+  regions = regions;
+  rows = [];
+  known = true;
+  fits =
+      true;
+}
 
 -- the newest type; an `int` where there is none
 abbrev pub newest_type : List TypeTree → TypeTree
 newest_type ts = slice_index_or ts (length ts - 1) int
 
 -- a list without its last item
-abbrev pub older : {X : Type 0} → List X → List X
-older xs = take (length xs - 1) xs
+abbrev pub all_but_last : {X : Type 0} → List X → List X
+all_but_last xs = take (length xs - 1) xs
 
 -- the arguments of the newest row, in order
-abbrev pub arguments : State → List Mark
-arguments st = reverse (newest st.rows)
+abbrev pub newest_arguments : ResolvingState → List Mark
+newest_arguments st = reverse (newest st.rows)
 
 -- the types before the newest row
-abbrev pub types_before : State → List TypeTree
+abbrev pub types_before : ResolvingState → List TypeTree
 types_before st = take (starts st.rows).0 st.made
 
 -- the types of the newest row
-abbrev pub types_inside : State → TypeTrees
-types_inside st = row_of (drop (starts st.rows).0 st.made)
+abbrev pub types_inside : ResolvingState → TypeTrees
+types_inside st = row_of_trees (drop (starts st.rows).0 st.made)
 
 -- the type of a name that has the newest row as its arguments
-abbrev pub named_type : Scope → Name → State → TypeTree
+abbrev pub named_type : Scope → WrittenName → ResolvingState → TypeTree
 named_type s n st =
-    if is_among s.parameters n then parameter (number_of s.parameters n)
-    else named (number_of s.structs n) (regions_in (arguments st)) (types_inside st)
+    if is_name_among s.parameters n then parameter (number_of s.parameters n)
+    else named (number_of s.structs n) (regions_in (newest_arguments st)) (types_inside st)
 
 -- the regions after a name; where it is a type parameter's, those of the row go
-abbrev pub named_regions : Scope → Name → State → List ℕ
+abbrev pub named_regions : Scope → WrittenName → ResolvingState → List ℕ
 named_regions s n st =
-    if is_among s.parameters n then take (starts st.rows).1 st.regions
-    else st.regions ++ regions_in (arguments st)
+    if is_name_among s.parameters n then take (starts st.rows).1 st.regions
+    else st.regions ++ regions_in (newest_arguments st)
 
 -- the type is complete, and with it the references that wait for it
-abbrev pub type_completed : TypeTree → State → State
+abbrev pub type_completed : TypeTree → ResolvingState → ResolvingState
 type_completed t st = record st {
   made = st.made ++ with_references t st.rows ∷ [];
   regions = st.regions ++ regions_around st.rows;
@@ -148,45 +155,46 @@ type_completed t st = record st {
 }
 
 -- the newest row is taken off, with the types that are in it
-abbrev pub without_row : State → State
+abbrev pub without_row : ResolvingState → ResolvingState
 without_row st = record st { made = types_before st; rows = others st.rows }
 
 -- what a piece makes of what is resolved so far
-abbrev pub after : Scope → written.Piece → State → State
-after s make_int st = type_completed int st
-after s (begin_reference m r) st = record st {
+abbrev pub after_resolved : Scope → written.Piece → ResolvingState → ResolvingState
+after_resolved s make_int st = type_completed int st
+after_resolved s (begin_reference m r) st = record st {
   rows = marks.Behind m (number_of s.regions r) ∷ st.rows;
-  known = st.known && is_among s.regions r;
+  known = st.known && is_name_among s.regions r;
 }
-after s begin_row st =
+after_resolved s begin_row st =
     record st { rows = marks.Row (length st.made) (length st.regions) ∷ st.rows }
-after s (add_region r) st = record st {
+after_resolved s (add_region r) st = record st {
   rows = marks.Region (number_of s.regions r) ∷ st.rows;
-  known = st.known && is_among s.regions r;
+  known = st.known && is_name_among s.regions r;
 }
-after s add_type st = record st { rows = marks.Part ∷ st.rows }
-after s make_tuple st = type_completed (tuple (types_inside st)) (without_row st)
-after s (make_named n) st = type_completed (named_type s n st) (record {
+after_resolved s add_type st = record st { rows = marks.Part ∷ st.rows }
+after_resolved s make_tuple st = type_completed (tuple (types_inside st)) (without_row st)
+after_resolved s (make_named n) st = type_completed (named_type s n st) (record {
   made = types_before st;
   regions = named_regions s n st;
   rows = others st.rows;
-  known = st.known && (is_among s.parameters n || is_among s.structs n);
-  fits = st.fits && same_kinds (map is_region (arguments st)) (kinds_taken s n);
+  known = st.known && (is_name_among s.parameters n || is_name_among s.structs n);
+  fits = st.fits && same_kinds (map is_region_entry (newest_arguments st)) (kinds_taken s n);
 })
-after s make_function st =
-    let others_made = record st { made = older st.made } in
+after_resolved s make_function st =
+    let others_made = record st { made = all_but_last st.made } in
     type_completed (function (types_inside others_made) (newest_type st.made))
     (without_row others_made)
 
 -- what pieces make of what is resolved so far
-abbrev pub run : Scope → List written.Piece → State → State
-run s [] st = st
-run s (p ∷ ps) st = run s ps (after s p st)
+abbrev pub run_pieces : Scope → List written.Piece → ResolvingState → ResolvingState
+run_pieces s [] st = st
+run_pieces s (p ∷ ps) st = run_pieces s ps (after_resolved s p st)
 
 -- these regions come first at each step
-abbrev pub KeepsRegions : Scope → List ℕ → List written.Piece → State → Type 0
+abbrev pub KeepsRegions : Scope → List ℕ → List written.Piece → ResolvingState → Type 0
 KeepsRegions s rs [] st = IsPrefix rs st.regions
-KeepsRegions s rs (p ∷ ps) st = IsPrefix rs st.regions × KeepsRegions s rs ps (after s p st)
+KeepsRegions s rs (p ∷ ps) st = IsPrefix rs st.regions
+    × KeepsRegions s rs ps (after_resolved s p st)
 
 -- ---- what the code keeps of it
 
@@ -198,7 +206,7 @@ pub record AreShaped (shapes : List Node) (ts : List TypeTree) (numbers : List �
 
 -- The code has what is resolved so far: each name is known, the shapes of the types are there, the
 -- regions stand at the end of the body's list, and the rest is the same.
-pub record IsOf (st : State) (types : BodyTypes) (kept : Resolving) : Type 0 where
+pub record IsOf (st : ResolvingState) (types : BodyTypes) (kept : Resolving) : Type 0 where
   pub shapes : AreShaped types.table.shapes st.made kept.shapes.items
   pub regions : types.regions.items ≡ st.regions
   pub rows : reverse kept.rows.items ≡ st.rows
@@ -210,13 +218,14 @@ pub record IsOf (st : State) (types : BodyTypes) (kept : Resolving) : Type 0 whe
 pub record Resolves (s : Scope) (p : written.Piece) (types : BodyTypes) (kept : Resolving)
     (types_new : BodyTypes) (kept_new : Resolving) (known : Bool) : Type 0 where
   pub below : AreBelow (length types_new.table.shapes) kept_new.shapes.items
-  pub made : known ≡ true → (st : State) → IsOf st types kept
-      → IsOf (after s p st) types_new kept_new
-  pub unknown : known ≡ false → (st : State) → (after s p st).known ≡ false
+  pub made : known ≡ true → (st : ResolvingState) → IsOf st types kept
+      → IsOf (after_resolved s p st) types_new kept_new
+  pub unknown : known ≡ false → (st : ResolvingState) → (after_resolved s p st).known ≡ false
   pub same : known ≡ false → types_new.regions.items ≡ types.regions.items
 
 -- All is resolved, and this is the number of the newest type's shape.
-pub record IsAllResolved (st : State) (types : BodyTypes) (kept : Resolving) (i : ℕ) : Type 0 where
+pub record IsAllResolved (st : ResolvingState) (types : BodyTypes) (kept : Resolving)
+    (i : ℕ) : Type 0 where
   pub shape : shape_in types.table.shapes i ≡ shape_of (newest_type st.made)
   pub regions : types.regions.items ≡ st.regions
   pub known : st.known ≡ true

@@ -2,7 +2,8 @@
 -- private contracts cite this file.
 use Rattle.std.specs.Prelude.{Bool, true, ◌||◌}
 use Rattle.nll_mir_grammar.specs.WrittenTypes.{WrittenTypes, Arguments, tuple}
-use Rattle.nll_mir_text.specs.Naming.{Scope, is_among, is_known, has_arguments, each_name_among}
+use Rattle.nll_mir_text.specs.Naming.{Scope, is_name_among, is_known, has_arguments}
+use Rattle.nll_mir_text.specs.Naming.{each_name_among}
 use Rattle.nll_mir_text.specs.Naming.{kinds_of, kinds_taken, same_kinds}
 
 -- each name in the types is known
@@ -16,8 +17,8 @@ have_arguments s ts = has_arguments s (tuple ts)
 -- each name among arguments is known
 abbrev pub arguments_are_known : Scope → Arguments → Bool
 arguments_are_known s args =
-    each_name_among (is_among s.regions)
-    (λ n args. is_among s.parameters n || is_among s.structs n) args
+    each_name_among (is_name_among s.regions)
+    (λ n args. is_name_among s.parameters n || is_name_among s.structs n) args
 
 -- each name among arguments has arguments of the kinds that it takes
 abbrev pub arguments_have_arguments : Scope → Arguments → Bool

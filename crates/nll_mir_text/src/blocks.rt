@@ -1,8 +1,8 @@
 //! Lines of the blocks, and the statements at points.
 
-ghost use Rattle.std.specs.Prelude.{◌≡◌, Bool, Some, IfOk, IfErr, OnOk};
+ghost use Rattle.std.specs.Prelude.{◌≡◌, Bool, Some, IfErr, OnOk};
 ghost use Rattle.nll_mir_grammar.specs.MirForms as forms;
-ghost use Rattle.nll_mir_grammar.specs.WrittenTypes.{Name, WrittenType};
+ghost use Rattle.nll_mir_grammar.specs.WrittenTypes.{WrittenName, WrittenType};
 ghost use Rattle.nll_body.specs.Flat.{statement_in};
 ghost use Rattle.nll_body.specs.Meant.{HasRows};
 ghost use Rattle.nll_body.specs.Statements.{Statement as written_statement};
@@ -22,15 +22,6 @@ use nll_body::{Exits, Judgement, Places, Statement, Stmt, judge_statement};
 use nll_format::TextKind;
 use nll_mir_grammar::TypeText;
 use nll_problem::{Kind, MAX_EDGES, MAX_POINTS};
-
-/// What a body has with a statement that is admitted.
-#[derive(Clone, Copy)]
-pub struct Admitted {
-    /// How many edges there are with those of the statement.
-    pub edges: usize,
-    /// Whether the block ends with it.
-    pub ends: bool,
-}
 
 impl Reader {
     /// Begins a block.
@@ -63,21 +54,16 @@ impl Reader {
         Ok(())
     }
 
-    // What there is with a statement, unless it has a fault by what was judged of it.
-    fn admit_judged(
-        &self,
-        judgement: Judgement,
-        exits: Exits,
-        statement: &Stmt,
-    ) -> Result<Admitted, TextKind>
+    // Refuses a statement with these exits that has a fault by what was judged of it.
+    fn admit(&self, judgement: Judgement, exits: Exits, statement: &Stmt) -> Result<(), TextKind>
         requires ready { IsReady self.now }
         requires exits { AreExits exits
             (statement_in self.now.points.statements statement.now) }
-        ensures admitted { IfOk result (λ a. (i : written_statement Name WrittenType)
+        ensures admitted { OnOk result ((i : written_statement WrittenName WrittenType)
             (fits : Bool) → IsPlaced self.now i statement.now fits
             → IsOfPoint (said_by self.now) i judgement
-            → IsAdmitted (said_by self.now) i a self.now) }
-        ensures refused { IfErr result (λ kind. (i : written_statement Name WrittenType)
+            → IsAdmitted (said_by self.now) i exits self.now) }
+        ensures refused { IfErr result (λ kind. (i : written_statement WrittenName WrittenType)
             (fits : Bool) → IsPlaced self.now i statement.now fits
             → IsOfPoint (said_by self.now) i judgement
             → IsRefused (said_by self.now) (forms.at_point i) kind) }
@@ -101,59 +87,37 @@ impl Reader {
         if edges > MAX_EDGES {
             return Err(TextKind::Limit(Kind::Edges));
         }
-        let ends = exits.ends;
-        Ok(Admitted { edges, ends })
-    }
-
-    // Judges what is to be at the next point, the names in whose types have the arguments that they
-    // take or not: what there is with it. The shapes of its types are in the table then.
-    fn admit(&mut self, statement: &Stmt, fits: bool) -> Result<Admitted, TextKind>
-        requires ready { IsReady self.old }
-        requires rows { HasRows self.old.variables.types.table.shapes
-            self.old.variables.types.regions.items
-            (statement_in self.old.points.statements statement.now) }
-        ensures admitted { IfOk result (λ a. (i : written_statement Name WrittenType)
-            → IsPlaced self.old i statement.now fits
-            → IsAdmitted (said_by self.old) i a self.new
-            × IsPlaced self.new i statement.now fits) }
-        ensures points { self.new.points ≡ self.old.points }
-        ensures refused { IfErr result (λ kind. (i : written_statement Name WrittenType)
-            → IsPlaced self.old i statement.now fits
-            → IsRefused (said_by self.old) (forms.at_point i) kind) }
-    {
-        let places = Places {
-            variables: self.variables.typed.as_slice(),
-            statements: &self.points.statements,
-        };
-        let exits = places.statements.exits(self.alloc, statement)?;
-        let table = &mut self.variables.types.table;
-        let judged = judge_statement(self.alloc, table, &places, statement)?;
-        let judgement = Judgement {
-            fits: fits & judged.fits,
-            ..judged
-        };
-        self.admit_judged(judgement, exits, statement)
+        Ok(())
     }
 
     // Adds a statement at the next point, unless it has a fault. What it consists of is in the
-    // lists.
+    // lists, and the names in its types have the arguments that they take or not. The shapes of
+    // its types are in the table then.
     fn add_resolved(&mut self, statement: Stmt, fits: bool) -> Result<(), TextKind>
         requires ready { IsReady self.old }
         requires rows { HasRows self.old.variables.types.table.shapes
             self.old.variables.types.regions.items
             (statement_in self.old.points.statements statement) }
         requires within { IsStatementIn self.old.points.statements statement }
-        ensures taken { OnOk result ((i : written_statement Name WrittenType)
+        ensures taken { OnOk result ((i : written_statement WrittenName WrittenType)
             → IsPlaced self.old i statement fits
             → IsTaken (said_by self.old) (forms.at_point i) self.new) }
-        ensures refused { IfErr result (λ kind. (i : written_statement Name WrittenType)
+        ensures refused { IfErr result (λ kind. (i : written_statement WrittenName WrittenType)
             → IsPlaced self.old i statement fits
             → IsRefused (said_by self.old) (forms.at_point i) kind) }
     {
-        let admitted = self.admit(&statement, fits)?;
+        let places = Places {
+            variables: self.variables.typed.as_slice(),
+            statements: &self.points.statements,
+        };
+        let exits = places.statements.exits(self.alloc, &statement)?;
+        let table = &mut self.variables.types.table;
+        let mut judged = judge_statement(self.alloc, table, &places, &statement)?;
+        judged.fits = fits & judged.fits;
+        self.admit(judged, exits, &statement)?;
         self.points.statements.push(statement)?;
-        self.points.edges = admitted.edges;
-        self.points.owes = !admitted.ends;
+        self.points.edges += exits.edges;
+        self.points.owes = !exits.ends;
         self.reached = Group::Blocks;
         Ok(())
     }

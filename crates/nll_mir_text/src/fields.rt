@@ -1,6 +1,6 @@
-//! The fields of a struct: their sizes, and what a struct line declares of them.
+//! The parameters and the fields of a struct: sizes, and what a struct line declares.
 
-ghost use Rattle.std.specs.Prelude.{◌≡◌, ◌<◌, length, map, IfOk};
+ghost use Rattle.std.specs.Prelude.{◌≡◌, ◌<◌, ◌++◌, length, map, IfOk, OnOk};
 ghost use Rattle.std.specs.List.{list_all};
 ghost use Rattle.nll_types.specs.Shapes.{is_small_shape, shapes_of, tuple_shape};
 ghost use Rattle.nll_types.specs.Table.{AreBelow, shape_in};
@@ -8,11 +8,11 @@ ghost use Rattle.nll_types.specs.Rows.{tree_at};
 ghost use Rattle.nll_types.specs.Types.{TypeTrees, tuple};
 ghost use Rattle.nll_types.specs.Views.{tree, trees};
 ghost use Rattle.nll_mir_grammar.specs.Lines.{parameter_of};
-ghost use Rattle.nll_mir_text.specs.StructLines.{regions_in, types_in};
+ghost use Rattle.nll_mir_text.specs.StructLines as specs;
+ghost use Rattle.nll_mir_text.specs.StructLines.{region_marks, type_marks, regions_in, types_in};
 ghost use Rattle.nll_body.specs.Typing as typing;
 
-use crate::parameters::push_marks;
-use nll_mir_grammar::StructText;
+use nll_mir_grammar::{ParameterText, StructText};
 use nll_sets::Memory;
 use nll_types::{BodyTypes, Declaration, Node, Shapes, Ty, Typed};
 use std::alloc::Global;
@@ -52,6 +52,24 @@ fn parts_of(alloc: Global, ty: Ty) -> Vec<Ty>
     }
 }
 
+// Appends what is marked of parameters: of regions, and of types.
+fn push_marks(parameters: &[ParameterText<'_>], declaration: &mut Declaration) -> Result<(), Memory>
+    ensures regions { OnOk result (declaration.new.regions.items
+        ≡ declaration.old.regions.items ++ region_marks (map parameter_of parameters.now)) }
+    ensures types { OnOk result (declaration.new.types.items
+        ≡ declaration.old.types.items ++ type_marks (map parameter_of parameters.now)) }
+    ensures has_drop { declaration.new.has_drop ≡ declaration.old.has_drop }
+    ensures fields { declaration.new.fields ≡ declaration.old.fields }
+{
+    for parameter in parameters {
+        match parameter {
+            ParameterText::Region(_, marks) => declaration.regions.push(*marks)?,
+            ParameterText::Type(_, marks) => declaration.types.push(*marks)?,
+        }
+    }
+    Ok(())
+}
+
 /// What a struct line declares, whose fields are a tuple of this number.
 pub fn declaration(
     alloc: Global,
@@ -85,4 +103,19 @@ pub fn declaration(
             Err(memory)
         }
     }
+}
+
+/// For each parameter whether it is a region.
+pub fn kinds(alloc: Global, parameters: &[ParameterText<'_>]) -> Result<Vec<bool>, Memory>
+    ensures { IfOk result (λ v.
+        v.items ≡ map specs.is_region_parameter (map parameter_of parameters.now)) }
+{
+    let mut kinds = Vec::with_capacity(alloc, parameters.len())?;
+    for parameter in parameters {
+        match parameter {
+            ParameterText::Region(_, _) => kinds.push(true)?,
+            ParameterText::Type(_, _) => kinds.push(false)?,
+        }
+    }
+    Ok(kinds)
 }

@@ -1,26 +1,22 @@
 //! Lines of the head: regions, structs, variables, and how many blocks there must be.
 
-ghost use Rattle.std.specs.Prelude.{◌≡◌, ◌<◌, length, map, Some, None, true, false};
-ghost use Rattle.std.specs.Prelude.{IfOk, IfErr, OnOk, OnErr};
-ghost use Rattle.nll_mir_text.specs.Naming.{has_arguments, is_among};
+ghost use Rattle.std.specs.Prelude.{◌≡◌, map, Some, true, false, IfOk, IfErr, OnOk, OnErr};
+ghost use Rattle.nll_mir_text.specs.Naming.{has_arguments, is_name_among};
 ghost use Rattle.nll_mir_text.specs.Resolution.{IsResolved};
 ghost use Rattle.nll_format.specs.Names.{number_of};
 ghost use Rattle.nll_mir_grammar.specs.TypeTexts.{written};
-ghost use Rattle.nll_mir_grammar.specs.WrittenTypes.{WrittenType};
 ghost use Rattle.nll_mir_grammar.specs.MirForms as forms;
 ghost use Rattle.nll_mir_grammar.specs.Lines.{parameter_of};
 ghost use Rattle.nll_mir_grammar.specs.Tuples.{IsTuple};
-ghost use Rattle.nll_mir_text.specs.MirFaults.{first_fault, is_universal};
+ghost use Rattle.nll_mir_text.specs.MirFaults.{first_fault, is_universal_in};
 ghost use Rattle.nll_mir_text.specs.MirReading.{said_by, scope_in, IsReady};
 ghost use Rattle.nll_mir_text.specs.MirReading.{IsDue, IsTaken, IsRefused, struct_form};
 ghost use Rattle.nll_mir_text.specs.StructLines.{AreOwn, own_scope};
-ghost use Rattle.nll_mir_text.specs.ResolvedLines.{IsOfVariable};
 
-use crate::fields::{declaration, has_small_parts};
+use crate::fields::{declaration, has_small_parts, kinds};
 use crate::groups::Group;
 use crate::limits::{MAX_STRUCTS, MAX_VARIABLES};
 use crate::own_names::{OwnNames, gather_names, redeclares};
-use crate::parameters::kinds;
 use crate::reader::Reader;
 use crate::scope::Scope;
 use crate::tables::scope_in;
@@ -28,7 +24,6 @@ use crate::type_resolution::resolve;
 use nll_format::TextKind;
 use nll_mir_grammar::{StructText, TypeText};
 use nll_problem::{Kind, MAX_POINTS, MAX_REGIONS, MAX_UNIVERSALS};
-use nll_sets::Memory;
 use nll_types::Typed;
 
 impl Reader {
@@ -75,8 +70,8 @@ impl Reader {
     fn universal(&self, name: &[u8]) -> Result<u32, TextKind>
         requires { IsReady self.now }
         ensures ok { IfOk result (λ r. r ≡ number_of self.now.regions.names name.now) }
-        ensures universal { OnOk result (is_universal (said_by self.now) name.now ≡ true) }
-        ensures other { OnErr result (is_universal (said_by self.now) name.now ≡ false) }
+        ensures universal { OnOk result (is_universal_in (said_by self.now) name.now ≡ true) }
+        ensures other { OnErr result (is_universal_in (said_by self.now) name.now ≡ false) }
         ensures err { IfErr result (λ kind. kind ≡ TextKind.Unknown) }
     {
         match self.regions.names.number_of(name) {
@@ -104,8 +99,8 @@ impl Reader {
     fn region(&self, name: &[u8]) -> Result<u32, TextKind>
         requires { IsReady self.now }
         ensures ok { IfOk result (λ r. r ≡ number_of self.now.regions.names name.now) }
-        ensures declared { OnOk result (is_among self.now.regions.names name.now ≡ true) }
-        ensures other { OnErr result (is_among self.now.regions.names name.now ≡ false) }
+        ensures declared { OnOk result (is_name_among self.now.regions.names name.now ≡ true) }
+        ensures other { OnErr result (is_name_among self.now.regions.names name.now ≡ false) }
         ensures err { IfErr result (λ kind. kind ≡ TextKind.Unknown) }
     {
         match self.regions.names.number_of(name) {
@@ -156,30 +151,11 @@ impl Reader {
             (IsRefused (said_by self.old) (forms.variable number (written text.now))) }
     {
         let scope = scope_in(&self.regions, &self.structs);
+        let types = &mut self.variables.types;
         let mut fits = true;
-        match resolve(
-            self.alloc,
-            &scope,
-            text,
-            &mut self.variables.types,
-            &mut fits,
-        )? {
-            Some(ty) => self.add_resolved_variable(number, ty, fits),
-            None => Err(TextKind::Unknown),
-        }
-    }
-
-    // Declares a variable of this type, the names in which have the arguments that they take or
-    // not.
-    fn add_resolved_variable(&mut self, number: u32, ty: Typed, fits: bool) -> Result<(), TextKind>
-        requires ready { IsReady self.old }
-        requires within { ty.shape < length self.old.variables.types.table.shapes }
-        ensures taken { OnOk result ((t : WrittenType) → IsOfVariable self.old number t ty fits
-            → IsTaken (said_by self.old) (forms.variable number t) self.new) }
-        ensures refused { IfErr result (λ kind. (t : WrittenType)
-            → IsOfVariable self.old number t ty fits
-            → IsRefused (said_by self.old) (forms.variable number t) kind) }
-    {
+        let Some(ty) = resolve(self.alloc, &scope, text, types, &mut fits)? else {
+            return Err(TextKind::Unknown);
+        };
         if number as usize != self.variables.typed.len() {
             return Err(TextKind::Range);
         }
@@ -225,13 +201,8 @@ impl Reader {
         };
         let fields = text.fields.as_type();
         let mut fits = true;
-        match resolve(
-            self.alloc,
-            &scope,
-            fields,
-            &mut self.variables.types,
-            &mut fits,
-        )? {
+        let types = &mut self.variables.types;
+        match resolve(self.alloc, &scope, fields, types, &mut fits)? {
             Some(fields) => self.add_resolved_struct(own, text, fields, fits),
             None => Err(TextKind::Unknown),
         }
@@ -269,26 +240,6 @@ impl Reader {
         if self.structs.names.len() >= MAX_STRUCTS {
             return Err(TextKind::Limit(Kind::Structs));
         }
-        self.declare_struct(own, text, fields)?;
-        Ok(())
-    }
-
-    // Declares a struct with which nothing is wrong.
-    fn declare_struct(
-        &mut self,
-        own: &OwnNames,
-        text: &StructText<'_>,
-        fields: Typed,
-    ) -> Result<(), Memory>
-        requires due { IsDue self.old (struct_form text.now) }
-        requires own { AreOwn (map parameter_of text.now.parameters.items) own.now }
-        requires fields { IsResolved (own_scope own.now self.old.structs)
-            (written text.now.fields) self.old.variables.types fields }
-        requires tuple { IsTuple (written text.now.fields) }
-        requires fine { first_fault (said_by self.old) (struct_form text.now) ≡ None }
-        ensures { OnOk result (IsTaken (said_by self.old) (struct_form text.now) self.new) }
-    {
-        let parameters = text.parameters.as_slice();
         let declaration = declaration(self.alloc, text, &self.variables.types, fields)?;
         self.variables.types.table.declare(self.alloc, declaration)?;
         let kinds = kinds(self.alloc, parameters)?;

@@ -3,7 +3,7 @@
 ghost use Rattle.std.specs.Prelude.{◌≡◌, ℕ, List};
 ghost use Rattle.nll_format.specs.declared.error.TextKind.{TextKind};
 ghost use Rattle.nll_body.specs.Bodies.{BodyText};
-ghost use Rattle.nll_body.specs.Sound.{IsSound};
+ghost use Rattle.nll_body.specs.Sound.{IsSoundBody};
 ghost use Rattle.nll_body.specs.WellTyped.{IsWellTyped};
 ghost use Rattle.nll_mir_text.specs.MirText.{Means, IsMirFault};
 
@@ -34,7 +34,7 @@ pub fn mir_not_neither()
 
 /// States that the body that a text means is sound.
 pub fn mir_meaning_is_sound()
-    ensures { (text : List ℕ) (body : BodyText) → Means text body → IsSound body }
+    ensures { (text : List ℕ) (body : BodyText) → Means text body → IsSoundBody body }
 {}
 
 /// States that the body that a text means is well typed.

@@ -1,7 +1,7 @@
 //! The reader of MIR texts, of versions 1 and 2.
 //! Read `scope`, `rows`, `made`, `type_resolution`, `tables`, `groups`, `resolution`, `own_names`,
-//! `fields`, `reader`, `head`, `blocks`, `header`, `text`, `mir`, then `laws`; the definitions are
-//! in specs/.
+//! `fields`, `reader`, `head`, `blocks`, `header`, `mir`, then `laws`; the definitions are in
+//! specs/.
 #![tactic(auto)]
 
 mod blocks;
@@ -14,14 +14,12 @@ mod limits;
 mod made;
 mod mir;
 mod own_names;
-mod parameters;
 mod ranges;
 mod reader;
 mod resolution;
 mod rows;
 mod scope;
 mod tables;
-mod text;
 mod type_resolution;
 
 pub use header::is_mir_header;

@@ -1,16 +1,16 @@
 //! Types that are made of those that were made before, the newest last.
 
-ghost use Rattle.std.specs.Prelude.{◌≡◌, ◌<◌, List, length, drop, reverse, take};
-ghost use Rattle.std.specs.Prelude.{IfOk, IsTrue, OnOk};
+ghost use Rattle.std.specs.Prelude.{◌≡◌, ◌<◌, List, length, drop, reverse, take, IfOk, OnOk};
 ghost use Rattle.nll_types.specs.Shapes.{reference_shape, shape_of};
 ghost use Rattle.nll_types.specs.Table.{AreBelow, shape_in};
 ghost use Rattle.nll_types.specs.Tables.{AddsShapes};
 ghost use Rattle.nll_types.specs.Types.{TypeTree};
-ghost use Rattle.nll_mir_text.specs.Resolving.{AreShaped, newest_type, older, others, starts};
+ghost use Rattle.nll_mir_text.specs.Resolving.{AreShaped, newest_type, all_but_last, others};
+ghost use Rattle.nll_mir_text.specs.Resolving.{starts};
 
 use crate::rows::{Rows, newest_row};
 use nll_sets::Memory;
-use nll_types::{Node, Shapes, TypeTable};
+use nll_types::{Node, TypeTable};
 use smallvec::SmallVec;
 use std::alloc::Global;
 
@@ -19,22 +19,6 @@ const NEAR: usize = 8;
 
 /// The shapes of the types that are made, the newest last. Few types have more parts.
 pub(crate) type Made = SmallVec<usize, 8>;
-
-// Whether a shape is that of a reference to the target.
-fn is_reference(shapes: &Shapes, shape: usize, mutable: bool, target: usize) -> bool
-    requires shape { shape < length shapes.now }
-    requires target { target < length shapes.now }
-    ensures { IsTrue result
-        → shape_in shapes.now shape ≡ reference_shape mutable (shape_in shapes.now target) }
-{
-    match shapes.node(shape) {
-        Node::Reference(marked, behind) => {
-            let same = shapes.is_same(*behind, target);
-            (*marked == mutable) & same
-        }
-        _ => false,
-    }
-}
 
 /// The number of the shape of a reference. Most come soon after their targets, and are found there
 /// without hashing.
@@ -52,8 +36,10 @@ pub(crate) fn reference_to(
     let shapes = table.shapes();
     let end = target + NEAR.min(shapes.len() - target);
     for shape in target + 1..end {
-        if is_reference(shapes, shape, mutable, target) {
-            return Ok(shape);
+        if let Node::Reference(marked, behind) = shapes.node(shape) {
+            if *marked == mutable && shapes.is_same(*behind, target) {
+                return Ok(shape);
+            }
         }
     }
     table.add(Node::Reference(mutable, target))
@@ -67,7 +53,7 @@ pub(crate) fn pop(table: &mut TypeTable, made: &mut Made) -> Result<usize, Memor
     ensures newest { IfOk result (λ i. (ts : List TypeTree)
         → AreShaped table.old.shapes ts made.old.items
         → shape_in table.new.shapes i ≡ shape_of (newest_type ts)) }
-    ensures older { made.new.items ≡ older made.old.items }
+    ensures older { made.new.items ≡ all_but_last made.old.items }
 {
     match made.pop() {
         Some(shape) => Ok(shape),

@@ -2,14 +2,13 @@
 
 ghost use Rattle.std.specs.Prelude.{◌≡◌, IfOk, IfErr};
 ghost use Rattle.nll_format.specs.Text.{IsRefusal};
-ghost use Rattle.nll_body.specs.Sound.{IsSound};
-ghost use Rattle.nll_mir_text.specs.MirReading.{said_by, IsReady};
-ghost use Rattle.nll_mir_text.specs.MirText.{body_said, Means, IsMirFault};
+ghost use Rattle.nll_mir_text.specs.MirReading.{said_by, IsReady, Holds};
+ghost use Rattle.nll_mir_text.specs.MirText.{Means, IsMirFault};
 
+use crate::header::header_version;
 use crate::reader::Reader;
-use crate::text::read_text;
 use nll_body::Body;
-use nll_format::{TextError, TextKind};
+use nll_format::{TextError, TextKind, first_line, read_lines};
 use nll_sets::Memory;
 use std::alloc::Global;
 
@@ -23,22 +22,28 @@ fn pairs(alloc: Global, reader: &Reader) -> Result<(Vec<(u32, u32)>, Vec<(u32, u
     Ok((outlives, asserts))
 }
 
-// Makes the body that a reader's lines say.
-fn make_body(alloc: Global, reader: Reader) -> Result<Body, TextKind>
-    requires ready { IsReady reader }
-    requires sound { IsSound (body_said (said_by reader)) }
-    ensures ok { IfOk result (λ body. body ≡ body_said (said_by reader)) }
-    ensures err { IfErr result (λ kind. kind ≡ TextKind.Memory) }
+// Reads what the lines of a MIR text say.
+fn read_text(alloc: Global, text: &[u8]) -> Result<Reader, TextError>
+    ensures ok { IfOk result (Holds text.now) }
+    ensures ready { IfOk result IsReady }
+    ensures fault { IfErr result (IsRefusal (IsMirFault text.now)) }
 {
-    match pairs(alloc, &reader) {
-        Ok((outlives, asserts)) => {
-            Body::new(alloc, reader.finish(outlives, asserts)).map_err(TextKind::of)
-        }
-        Err(memory) => {
-            drop(reader);
-            Err(TextKind::from(memory))
-        }
+    let (header, body) = first_line(text)?;
+    let Some(version) = header_version(header) else {
+        return Err(TextError {
+            line: 1,
+            kind: TextKind::Header,
+        });
+    };
+    let mut reader = match Reader::new(alloc) {
+        Ok(reader) => reader,
+        Err(kind) => return Err(TextError { line: 0, kind }),
+    };
+    if let Err(error) = read_lines(&mut reader, &version, body) {
+        drop(reader);
+        return Err(error);
     }
+    Ok(reader)
 }
 
 /// Reads a MIR text, of version 1 or 2 by its header.
@@ -55,8 +60,20 @@ pub fn read_mir(alloc: Global, text: &[u8]) -> Result<Body, TextError>
     ensures fault { IfErr result (IsRefusal (IsMirFault text.now)) }
 {
     let reader = read_text(alloc, text)?;
-    match make_body(alloc, reader) {
-        Ok(body) => Ok(body),
-        Err(kind) => Err(TextError { line: 0, kind }),
+    match pairs(alloc, &reader) {
+        Ok((outlives, asserts)) => match Body::new(alloc, reader.finish(outlives, asserts)) {
+            Ok(body) => Ok(body),
+            Err(_error) => Err(TextError {
+                line: 0,
+                kind: TextKind::Memory,
+            }),
+        },
+        Err(_memory) => {
+            drop(reader);
+            Err(TextError {
+                line: 0,
+                kind: TextKind::Memory,
+            })
+        }
     }
 }

@@ -5,7 +5,7 @@ ghost use Rattle.std.specs.Prelude.{if◌then◌else◌};
 ghost use Rattle.std.specs.List.{list_any};
 ghost use Rattle.std.specs.Str.{IsUtf8};
 ghost use Rattle.nll_mir_grammar.specs.Lines.{parameter_of};
-ghost use Rattle.nll_mir_text.specs.Naming.{is_among};
+ghost use Rattle.nll_mir_text.specs.Naming.{is_name_among};
 ghost use Rattle.nll_mir_text.specs.MirFaults.{has_repeats};
 ghost use Rattle.nll_mir_text.specs.MirReading.{IsNamed};
 ghost use Rattle.nll_mir_text.specs.StructLines.{AreOwn, region_names, type_names, takes_name};
@@ -29,7 +29,7 @@ pub struct OwnNames {
 // Adds a name, where it isn't there: whether it is new.
 fn add_name(alloc: Global, names: &mut Names, name: &[u8]) -> Result<bool, Memory>
     requires { IsUtf8 name.now }
-    ensures new { IfOk result (λ new. new ≡ not (is_among names.old name.now)) }
+    ensures new { IfOk result (λ new. new ≡ not (is_name_among names.old name.now)) }
     ensures names { IfOk result (λ new. names.new
         ≡ (if new then names.old ++ name.now ∷ [] else names.old)) }
 {
@@ -99,10 +99,10 @@ pub fn redeclares(
     parameters: &[ParameterText<'_>],
 ) -> bool
     requires { AreOwn (map parameter_of parameters.now) own.now }
-    ensures { result ≡ is_among structs.now name.now
+    ensures { result ≡ is_name_among structs.now name.now
         || has_repeats (region_names (map parameter_of parameters.now))
         || has_repeats (type_names (map parameter_of parameters.now))
-        || list_any (is_among (name.now ∷ structs.now))
+        || list_any (is_name_among (name.now ∷ structs.now))
         (type_names (map parameter_of parameters.now)) }
 {
     if structs.number_of(name).is_some() {

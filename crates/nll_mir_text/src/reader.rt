@@ -3,11 +3,10 @@
 ghost use Rattle.std.specs.Prelude.{◌≡◌, ◌↔◌, List, [], IsTrue, IfOk, IfErr, OnOk};
 ghost use Rattle.nll_mir_grammar.specs.MirForms.{Form};
 ghost use Rattle.nll_mir_grammar.specs.Lines.{form_of};
-ghost use Rattle.nll_mir_text.specs.MirFaults as faults;
 ghost use Rattle.nll_mir_text.specs.MirFaults.{is_in_order};
 ghost use Rattle.nll_mir_text.specs.MirSteps as steps;
 ghost use Rattle.nll_mir_text.specs.MirReading.{said_by, HoldsForms, IsReady, HasTexts};
-ghost use Rattle.nll_mir_text.specs.MirReading.{HasFewParameters, IsDue, IsTaken, IsRefused};
+ghost use Rattle.nll_mir_text.specs.MirReading.{HasFewParameters, IsTaken, IsRefused};
 ghost use Rattle.nll_body.specs.Parts.{AreTyped, body_of};
 ghost use Rattle.nll_mir_text.specs.MirText.{body_said, mir};
 
@@ -75,73 +74,43 @@ impl Reader {
         !self.reached.is_before(group)
     }
 
-    // Whether the `blocks` line is there, and no `end` line.
-    fn is_in_body(&self) -> bool
-        ensures { result ≡ faults.is_in_body (said_by self.now) }
-    {
-        self.has_reached(Group::BlockCount) & !self.has_reached(Group::End)
-    }
-
     // Whether a line is in order.
     fn may_follow(&self, line: &Line<'_>) -> bool
         ensures { result ≡ is_in_order (said_by self.now) (form_of line.now) }
     {
+        // The `blocks` line is there, and no `end` line.
+        let in_body = self.has_reached(Group::BlockCount) & !self.has_reached(Group::End);
         match line {
             Line::Blocks(_) => self.reached.precedes(Group::BlockCount),
-            Line::Block(_) | Line::End => self.is_in_body() & !self.points.owes,
-            Line::At(_) => self.is_in_body() & self.points.owes,
+            Line::Block(_) | Line::End => in_body & !self.points.owes,
+            Line::At(_) => in_body & self.points.owes,
             _ => !group_of(line).is_before(self.reached),
         }
     }
 
-    // Takes in a line of a form that is in order, unless something else is wrong with it.
-    fn accept(&mut self, line: Line<'_>) -> Result<(), TextKind>
-        requires { IsDue self.old (form_of line) }
-        ensures taken { OnOk result (IsTaken (said_by self.old) (form_of line.entry) self.new) }
-        ensures refused { IfErr result (IsRefused (said_by self.old) (form_of line.entry)) }
+    // Takes in a line of a form, unless something is wrong with it.
+    fn accept(&mut self, line: &Line<'_>) -> Result<(), TextKind>
+        requires ready { IsReady self.old }
+        requires texts { HasTexts (form_of line.now) }
+        requires few { HasFewParameters (form_of line.now) }
+        ensures taken { OnOk result (IsTaken (said_by self.old) (form_of line.now) self.new) }
+        ensures refused { IfErr result (IsRefused (said_by self.old) (form_of line.now)) }
     {
+        if !self.may_follow(line) {
+            return Err(TextKind::Syntax);
+        }
         match line {
             Line::Universal(name) => self.add_universal(name),
             Line::Outlives(longer, shorter) => self.add_outlives(longer, shorter),
             Line::Region(name) => self.add_region(name),
             Line::Assert(longer, shorter) => self.add_assert(longer, shorter),
-            Line::Struct(text) => {
-                let taken = self.add_struct(&*text);
-                // Early drop.
-                drop(text);
-                taken
-            }
-            Line::Let(number, text) => {
-                let taken = self.add_variable(number, &text);
-                // Early drop.
-                drop(text);
-                taken
-            }
-            Line::Blocks(count) => self.set_blocks(count),
-            Line::Block(number) => self.add_block(number),
-            Line::At(statement) => {
-                let taken = self.add_statement(&statement);
-                // Early drop.
-                drop(statement);
-                taken
-            }
+            Line::Struct(text) => self.add_struct(text),
+            Line::Let(number, text) => self.add_variable(*number, text),
+            Line::Blocks(count) => self.set_blocks(*count),
+            Line::Block(number) => self.add_block(*number),
+            Line::At(statement) => self.add_statement(statement),
             Line::End => self.end(),
         }
-    }
-
-    // Takes in a line of a form, unless something is wrong with it.
-    fn take(&mut self, line: Line<'_>) -> Result<(), TextKind>
-        requires ready { IsReady self.old }
-        requires texts { HasTexts (form_of line) }
-        requires few { HasFewParameters (form_of line) }
-        ensures taken { OnOk result (IsTaken (said_by self.old) (form_of line.entry) self.new) }
-        ensures refused { IfErr result (IsRefused (said_by self.old) (form_of line.entry)) }
-    {
-        if !self.may_follow(&line) {
-            drop(line);
-            return Err(TextKind::Syntax);
-        }
-        self.accept(line)
     }
 
     /// The parts of the body that the lines say, of which these are the pairs of regions: those
@@ -184,7 +153,12 @@ impl<'a> LineReader<'a, Version> for Reader {
 
     fn read_line(&mut self, version: &Version, line: &'a [u8]) -> Result<(), TextKind> {
         match line_of(self.alloc, *version, line)? {
-            Some(form) => self.take(form),
+            Some(form) => {
+                let taken = self.accept(&form);
+                // Early drop.
+                drop(form);
+                taken
+            }
             None => pass_over(line),
         }
     }

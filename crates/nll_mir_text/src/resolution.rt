@@ -9,17 +9,17 @@ ghost use Rattle.nll_mir_grammar.specs.TypeTexts.{written};
 ghost use Rattle.nll_types.specs.Grown.{AddsTypes};
 ghost use Rattle.nll_types.specs.Operands.{Operand as Used};
 ghost use Rattle.nll_types.specs.declared.typed.Typed.{Typed as Numbered};
-ghost use Rattle.nll_body.specs.CodeStatements.{call_of, made_of};
+ghost use Rattle.nll_body.specs.CodeStatements.{call_of};
 ghost use Rattle.nll_body.specs.Statements.{map_statement};
-ghost use Rattle.nll_body.specs.Within.{AreFlatArguments, Grows, IsListed};
-ghost use Rattle.nll_mir_text.specs.Naming.{has_arguments, is_among, is_known};
+ghost use Rattle.nll_body.specs.Within.{AreFlatArguments, ListsGrow, IsListedSlice};
+ghost use Rattle.nll_mir_text.specs.Naming.{has_arguments, is_name_among, is_known};
 ghost use Rattle.nll_mir_text.specs.Resolution.{HasRoom, scope_of};
 ghost use Rattle.nll_mir_text.specs.ResolvedStatements.{as_written, is_bound, bound_numbers};
 ghost use Rattle.nll_mir_text.specs.ResolvedStatements.{AreOfArguments, FitOf, MadeOf};
 
 use crate::scope::Scope;
 use crate::type_resolution::resolve;
-use nll_body::{Call, FlatCall, Make, Slice, Statement, Statements, Stmt};
+use nll_body::{Call, FlatCall, Slice, Statement, Statements, Stmt};
 use nll_format::Names;
 use nll_mir_grammar::TypeText;
 use nll_problem::RegionId;
@@ -30,8 +30,8 @@ use std::alloc::Global;
 // The number of a region, where its name is declared.
 fn resolve_region(names: &Names, name: &[u8]) -> Option<RegionId>
     requires { length names.now < 2 ^ 32 }
-    ensures { MatchOption result (is_among names.now name.now ≡ false)
-        (λ r. (is_among names.now name.now ≡ true) × (r ≡ number_of names.now name.now)) }
+    ensures { MatchOption result (is_name_among names.now name.now ≡ false)
+        (λ r. (is_name_among names.now name.now ≡ true) × (r ≡ number_of names.now name.now)) }
 {
     match names.number_of(name) {
         Some(number) => Some(RegionId(number as u32)),
@@ -46,11 +46,11 @@ fn resolve_bounds(
     statements: &mut Statements,
 ) -> Result<Option<Slice>, Memory>
     requires { length names.now < 2 ^ 32 }
-    ensures grows { Grows statements.old statements.new }
+    ensures grows { ListsGrow statements.old statements.new }
     ensures made { IfOk result (λ o. MatchOption o
         (list_all (is_bound names.now) bounds.now ≡ false)
         (λ s. (list_all (is_bound names.now) bounds.now ≡ true)
-        × IsListed statements.new.pairs (map (bound_numbers names.now) bounds.now) s)) }
+        × IsListedSlice statements.new.pairs (map (bound_numbers names.now) bounds.now) s)) }
 {
     let slice = Slice::of(statements.call_counts().1, bounds.len())?;
     for bound in bounds {
@@ -76,7 +76,7 @@ fn resolve_arguments(
 ) -> Result<Option<Slice>, Memory>
     requires { HasRoom scope.now }
     ensures adds { IfOk result (λ _. AddsTypes types.old types.new) }
-    ensures grows { Grows statements.old statements.new }
+    ensures grows { ListsGrow statements.old statements.new }
     ensures made { IfOk result (λ o. MatchOption o
         (list_all (λ a. is_known (scope_of scope.now) (written a.1)) arguments.now ≡ false)
         (λ s. (args : List (Used × Numbered))
@@ -106,7 +106,7 @@ fn resolve_call(
 ) -> Result<Option<Stmt>, Memory>
     requires { HasRoom scope.now }
     ensures adds { IfOk result (λ _. AddsTypes types.old types.new) }
-    ensures grows { Grows statements.old statements.new }
+    ensures grows { ListsGrow statements.old statements.new }
     ensures made { IfOk result (λ o. MadeOf (scope_of scope.now)
         (map_statement (λ r. r.now) written (call_of call.now)) types.new statements.new o) }
     ensures fits { IfOk result (λ o. FitOf (scope_of scope.now)
@@ -134,32 +134,6 @@ fn resolve_call(
     Ok(Some(statements.add_call(made)?))
 }
 
-// Adds a tuple or struct that is made, where the names in its type are declared.
-fn resolve_make(
-    alloc: Global,
-    scope: &Scope<'_>,
-    make: &Make<TypeText<'_>>,
-    types: &mut BodyTypes,
-    statements: &mut Statements,
-    fits: &mut bool,
-) -> Result<Option<Stmt>, Memory>
-    requires { HasRoom scope.now }
-    ensures adds { IfOk result (λ _. AddsTypes types.old types.new) }
-    ensures grows { Grows statements.old statements.new }
-    ensures made { IfOk result (λ o. MadeOf (scope_of scope.now)
-        (map_statement (λ r. r) written (made_of make.now)) types.new statements.new o) }
-    ensures fits { IfOk result (λ o. FitOf (scope_of scope.now)
-        (map_statement (λ r. r) written (made_of make.now)) fits.old fits.new o) }
-{
-    match resolve(alloc, scope, &make.ty, types, fits)? {
-        Some(ty) => {
-            let made = statements.add_make(&make.place, ty, make.operands.as_slice())?;
-            Ok(Some(made))
-        }
-        None => Ok(None),
-    }
-}
-
 /// Adds what a statement consists of to the lists, where each name in it is declared. Each name is
 /// looked up once. The flag stays true where each name in its types has arguments of the kinds that
 /// it takes.
@@ -173,7 +147,7 @@ pub fn resolve_statement(
 ) -> Result<Option<Stmt>, Memory>
     requires { HasRoom scope.now }
     ensures adds { IfOk result (λ _. AddsTypes types.old types.new) }
-    ensures grows { Grows statements.old statements.new }
+    ensures grows { ListsGrow statements.old statements.new }
     ensures made { IfOk result (λ o. MadeOf (scope_of scope.now) (as_written statement.now)
         types.new statements.new o) }
     ensures fits { IfOk result
@@ -187,7 +161,13 @@ pub fn resolve_statement(
             };
             statements.add_borrow(target, region, *mutable, source)?
         }
-        Statement::Make(make) => return resolve_make(alloc, scope, make, types, statements, fits),
+        Statement::Make(make) => {
+            let Some(ty) = resolve(alloc, scope, &make.ty, types, fits)? else {
+                return Ok(None);
+            };
+            let operands = make.operands.as_slice();
+            return Ok(Some(statements.add_make(&make.place, ty, operands)?));
+        }
         Statement::Read(source) => Stmt::Read(statements.add_place(source)?),
         Statement::Live(variable) => Stmt::Live(*variable),
         Statement::Dead(variable) => Stmt::Dead(*variable),

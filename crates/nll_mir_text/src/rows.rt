@@ -89,7 +89,7 @@ pub(crate) fn pop_reference(rows: &mut Rows) -> Option<(bool, RegionId)>
 
 /// Whether arguments are of these kinds.
 pub(crate) fn are_of(arguments: &[Mark], kinds: &[bool]) -> bool
-    ensures { result ≡ naming.same_kinds (map spec.is_region arguments.now) kinds.now }
+    ensures { result ≡ naming.same_kinds (map spec.is_region_entry arguments.now) kinds.now }
 {
     if arguments.len() != kinds.len() {
         return false;
@@ -104,7 +104,7 @@ pub(crate) fn are_of(arguments: &[Mark], kinds: &[bool]) -> bool
 
 /// Whether a struct takes arguments of these kinds.
 pub(crate) fn takes(scope: &Scope<'_>, number: usize, arguments: &[Mark]) -> bool
-    ensures { result ≡ naming.same_kinds (map spec.is_region arguments.now)
+    ensures { result ≡ naming.same_kinds (map spec.is_region_entry arguments.now)
         (slice_index_or (scope_of scope.now).kinds number []) }
 {
     match scope.kinds.get(number) {

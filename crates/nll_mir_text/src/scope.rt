@@ -2,7 +2,7 @@
 
 ghost use Rattle.std.specs.Prelude.{◌≡◌, ◌≤◌, length};
 ghost use Rattle.nll_format.specs.Names.{number_of as number_among};
-ghost use Rattle.nll_mir_text.specs.Naming.{is_among};
+ghost use Rattle.nll_mir_text.specs.Naming.{is_name_among};
 
 use nll_format::Names;
 
@@ -19,7 +19,7 @@ pub struct Scope<'a> {
 /// The number of a name, and whether it is among the names.
 pub(crate) fn find(names: &Names, name: &[u8]) -> (usize, bool)
     ensures number { result.0 ≡ number_among names.now name.now }
-    ensures known { result.1 ≡ is_among names.now name.now }
+    ensures known { result.1 ≡ is_name_among names.now name.now }
     ensures within { result.0 ≤ length names.now }
 {
     if names.len() == 0 {

@@ -2,7 +2,7 @@
 
 ghost use Rattle.std.specs.Prelude.{◌≡◌, ◌++◌, ◌∷◌, [], false, map, OnOk};
 ghost use Rattle.std.specs.Str.{IsUtf8};
-ghost use Rattle.nll_mir_text.specs.Naming.{is_among};
+ghost use Rattle.nll_mir_text.specs.Naming.{is_name_among};
 ghost use Rattle.nll_mir_text.specs.Resolution.{scope_of};
 ghost use Rattle.nll_mir_text.specs.MirReading as spec;
 
@@ -37,7 +37,7 @@ pub struct StructNames {
 impl StructNames {
     /// Adds a struct that takes arguments of these kinds.
     pub fn add(&mut self, alloc: Global, name: &[u8], kinds: Vec<bool>) -> Result<(), Memory>
-        requires new { is_among self.old.names name.now ≡ false }
+        requires new { is_name_among self.old.names name.now ≡ false }
         requires text { IsUtf8 name.now }
         ensures names { OnOk result (self.new.names ≡ self.old.names ++ name.now ∷ []) }
         ensures kinds { OnOk result (map (λ ks. ks.items) self.new.kinds.items

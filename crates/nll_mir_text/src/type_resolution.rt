@@ -7,18 +7,14 @@ ghost use Rattle.nll_types.specs.Table.{AreBelow, IsOver, shape_in, shape_over, 
 ghost use Rattle.nll_types.specs.Grown.{AddsTypes};
 ghost use Rattle.nll_types.specs.Tables.{AddsShapes};
 ghost use Rattle.nll_types.specs.Types.{TypeTree};
-ghost use Rattle.nll_types.specs.declared.body_types.BodyTypes.{BodyTypes as kept_types};
-ghost use Rattle.nll_format.specs.Names.{number_of};
 ghost use Rattle.nll_sets.specs.Prefix.{IsPrefix};
-ghost use Rattle.nll_mir_grammar.specs.WrittenTypes.{Name as name};
-ghost use Rattle.nll_mir_grammar.specs.TypeTexts.{add_region, begin_reference, make_function};
-ghost use Rattle.nll_mir_grammar.specs.TypeTexts.{make_named, make_tuple, plain, written};
-ghost use Rattle.nll_mir_text.specs.Naming.{Scope as naming_scope, has_arguments, is_among};
-ghost use Rattle.nll_mir_text.specs.Naming.{is_known};
+ghost use Rattle.nll_mir_grammar.specs.TypeTexts.{make_function, make_named, plain, written};
+ghost use Rattle.nll_mir_text.specs.Naming.{Scope as naming_scope, has_arguments, is_known};
 ghost use Rattle.nll_mir_text.specs.Resolution.{HasRoom, IsResolved, scope_of};
 ghost use Rattle.nll_mir_text.specs.Resolving as spec;
-ghost use Rattle.nll_mir_text.specs.Resolving.{IsAllResolved, IsOf, KeepsRegions, Resolves, State};
-ghost use Rattle.nll_mir_text.specs.Resolving.{regions_around, run, type_completed};
+ghost use Rattle.nll_mir_text.specs.Resolving.{IsAllResolved, IsOf, KeepsRegions, Resolves};
+ghost use Rattle.nll_mir_text.specs.Resolving.{ResolvingState};
+ghost use Rattle.nll_mir_text.specs.Resolving.{regions_around, run_pieces, type_completed};
 ghost use Rattle.nll_mir_text.specs.Resolving.{with_references, without_references};
 
 use crate::made::{Made, pop, pop_row, reference_to};
@@ -69,7 +65,7 @@ fn put_type(node: Node, types: &mut BodyTypes, made: &mut Resolving) -> Result<(
     requires below { AreBelow (length types.old.table.shapes) made.old.shapes.items }
     ensures grows { AddsShapes types.old.table types.new.table }
     ensures below { OnOk result (AreBelow (length types.new.table.shapes) made.new.shapes.items) }
-    ensures made { OnOk result ((st : State) (t : TypeTree) → IsOf st types.old made.old
+    ensures made { OnOk result ((st : ResolvingState) (t : TypeTree) → IsOf st types.old made.old
         → shape_over (shapes_in types.old.table.shapes) node ≡ shape_of t
         → IsOf (type_completed t st) types.new made.new) }
 {
@@ -77,49 +73,6 @@ fn put_type(node: Node, types: &mut BodyTypes, made: &mut Resolving) -> Result<(
     let shape = put_around(types, &mut made.rows, target)?;
     made.shapes.push(shape)?;
     Ok(())
-}
-
-// A reference waits for the next type, where its region is known.
-fn put_reference(
-    scope: &Scope<'_>,
-    mutable: bool,
-    region: &[u8],
-    made: &mut Resolving,
-) -> Result<bool, Memory>
-    requires room { HasRoom scope.now }
-    ensures made { IfOk result (λ known. (types : kept_types)
-        → AreBelow (length types.table.shapes) made.old.shapes.items
-        → Resolves (scope_of scope.now) (begin_reference mutable region.now)
-        types made.old types made.new known) }
-{
-    let (number, known) = find(scope.regions, region);
-    made.rows
-        .push(Mark::Behind(mutable, RegionId(number as u32)))?;
-    Ok(known)
-}
-
-// A region is in the newest row, where it is known.
-fn put_region(scope: &Scope<'_>, region: &[u8], made: &mut Resolving) -> Result<bool, Memory>
-    requires room { HasRoom scope.now }
-    ensures made { IfOk result (λ known. (types : kept_types)
-        → AreBelow (length types.table.shapes) made.old.shapes.items
-        → Resolves (scope_of scope.now) (add_region region.now)
-        types made.old types made.new known) }
-{
-    let (number, known) = find(scope.regions, region);
-    made.rows.push(Mark::Region(RegionId(number as u32)))?;
-    Ok(known)
-}
-
-// The tuple of the newest row is made.
-fn put_tuple(alloc: Global, types: &mut BodyTypes, made: &mut Resolving) -> Result<(), Memory>
-    requires below { AreBelow (length types.old.table.shapes) made.old.shapes.items }
-    ensures grows { AddsShapes types.old.table types.new.table }
-    ensures made { OnOk result ((s : naming_scope)
-        → Resolves s make_tuple types.old made.old types.new made.new true) }
-{
-    let parts = pop_row(alloc, &mut made.shapes, &mut made.rows)?;
-    put_type(Node::Tuple(parts), types, made)
 }
 
 // The function of the newest row, with the newest type as its result, is made.
@@ -132,22 +85,6 @@ fn put_function(alloc: Global, types: &mut BodyTypes, made: &mut Resolving) -> R
     let output = pop(&mut types.table, &mut made.shapes)?;
     let inputs = pop_row(alloc, &mut made.shapes, &mut made.rows)?;
     put_type(Node::Function(inputs, output), types, made)
-}
-
-// A type parameter is made, in place of the newest row: it takes no arguments.
-fn put_parameter(number: usize, types: &mut BodyTypes, made: &mut Resolving) -> Result<(), Memory>
-    requires { AreBelow (length types.old.table.shapes) made.old.shapes.items }
-    ensures grows { AddsShapes types.old.table types.new.table }
-    ensures made { OnOk result ((s : naming_scope) (n : name)
-        → is_among s.parameters n ≡ true → number_of s.parameters n ≡ number
-        → Resolves s (make_named n) types.old made.old types.new made.new true) }
-{
-    let row = newest_row(made.rows.as_slice());
-    made.fits &= are_of(&made.rows.as_slice()[row.place..], &[]);
-    made.rows.truncate(row.place.saturating_sub(1));
-    made.shapes.truncate(row.types);
-    types.regions.truncate(row.regions);
-    put_type(Node::Parameter(number), types, made)
 }
 
 // Appends the regions among arguments. Answers how many there are.
@@ -165,34 +102,8 @@ fn push_regions(arguments: &[Mark], regions: &mut Vec<RegionId>) -> Result<usize
     Ok(regions.len() - before)
 }
 
-// A struct is made, with the newest row as its arguments, where its name is known.
-fn put_struct(
-    alloc: Global,
-    scope: &Scope<'_>,
-    name: &[u8],
-    types: &mut BodyTypes,
-    made: &mut Resolving,
-) -> Result<bool, Memory>
-    requires other { is_among (scope_of scope.now).parameters name.now ≡ false }
-    requires below { AreBelow (length types.old.table.shapes) made.old.shapes.items }
-    ensures grows { AddsShapes types.old.table types.new.table }
-    ensures made { IfOk result (λ known. Resolves (scope_of scope.now) (make_named name.now)
-        types.old made.old types.new made.new known) }
-{
-    let (number, known) = find(scope.structs, name);
-    if !known {
-        return Ok(false);
-    }
-    let row = newest_row(made.rows.as_slice());
-    let arguments = &made.rows.as_slice()[row.place..];
-    made.fits &= takes(scope, number, arguments);
-    let count = push_regions(arguments, &mut types.regions)?;
-    let parts = pop_row(alloc, &mut made.shapes, &mut made.rows)?;
-    put_type(Node::Named(number, count, parts), types, made)?;
-    Ok(true)
-}
-
-// What a name means is made, with the newest row as its arguments, where the name is known.
+// What a name means is made, where the name is known: a type parameter in place of the newest row,
+// as it takes no arguments, or a struct with that row as its arguments.
 fn put_named(
     alloc: Global,
     scope: &Scope<'_>,
@@ -205,12 +116,26 @@ fn put_named(
     ensures made { IfOk result (λ known. Resolves (scope_of scope.now) (make_named name.now)
         types.old made.old types.new made.new known) }
 {
+    let row = newest_row(made.rows.as_slice());
+    let arguments = &made.rows.as_slice()[row.place..];
     let (number, is_parameter) = find(scope.parameters, name);
     if is_parameter {
-        put_parameter(number, types, made)?;
+        made.fits &= are_of(arguments, &[]);
+        made.rows.truncate(row.place.saturating_sub(1));
+        made.shapes.truncate(row.types);
+        types.regions.truncate(row.regions);
+        put_type(Node::Parameter(number), types, made)?;
         return Ok(true);
     }
-    put_struct(alloc, scope, name, types, made)
+    let (number, known) = find(scope.structs, name);
+    if !known {
+        return Ok(false);
+    }
+    made.fits &= takes(scope, number, arguments);
+    let count = push_regions(arguments, &mut types.regions)?;
+    let parts = pop_row(alloc, &mut made.shapes, &mut made.rows)?;
+    put_type(Node::Named(number, count, parts), types, made)?;
+    Ok(true)
 }
 
 // Resolves a piece. Answers whether the name in it, if there is one, is known.
@@ -229,16 +154,26 @@ fn resolve_piece(
 {
     match piece {
         TypePiece::Reference(mutable, region) => {
-            return put_reference(scope, *mutable, region, made);
+            let (number, known) = find(scope.regions, region);
+            let region = RegionId(number as u32);
+            made.rows.push(Mark::Behind(*mutable, region))?;
+            return Ok(known);
         }
-        TypePiece::Region(region) => return put_region(scope, region, made),
+        TypePiece::Region(region) => {
+            let (number, known) = find(scope.regions, region);
+            made.rows.push(Mark::Region(RegionId(number as u32)))?;
+            return Ok(known);
+        }
         TypePiece::Named(name) => return put_named(alloc, scope, name, types, made),
         TypePiece::Int => put_type(Node::Int, types, made)?,
         TypePiece::Row => made
             .rows
             .push(Mark::Row(made.shapes.len(), types.regions.len()))?,
         TypePiece::Part => made.rows.push(Mark::Part)?,
-        TypePiece::Tuple => put_tuple(alloc, types, made)?,
+        TypePiece::Tuple => {
+            let parts = pop_row(alloc, &mut made.shapes, &mut made.rows)?;
+            put_type(Node::Tuple(parts), types, made)?
+        }
         TypePiece::Function => put_function(alloc, types, made)?,
     }
     Ok(true)
@@ -257,10 +192,12 @@ fn resolve_pieces(
     requires below { AreBelow (length types.old.table.shapes) made.old.shapes.items }
     ensures grows { AddsShapes types.old.table types.new.table }
     ensures within { IfOk result (λ o. IfSome o (λ i. i < length types.new.table.shapes)) }
-    ensures shape { IfOk result (λ o. (st : State) → IsOf st types.old made.old
-        → MatchOption o ((run (scope_of scope.now) (map plain pieces.now) st).known ≡ false)
-        (IsAllResolved (run (scope_of scope.now) (map plain pieces.now) st) types.new made.new)) }
-    ensures kept { IfOk result (λ _. (st : State) (rs : List ℕ) → IsOf st types.old made.old
+    ensures shape { IfOk result (λ o. (st : ResolvingState) → IsOf st types.old made.old
+        → MatchOption o ((run_pieces (scope_of scope.now) (map plain pieces.now) st).known ≡ false)
+        (IsAllResolved (run_pieces (scope_of scope.now)
+        (map plain pieces.now) st) types.new made.new)) }
+    ensures kept { IfOk result (λ _. (st : ResolvingState) (rs : List ℕ)
+        → IsOf st types.old made.old
         → KeepsRegions (scope_of scope.now) rs (map plain pieces.now) st
         → IsPrefix rs types.new.regions.items) }
 {

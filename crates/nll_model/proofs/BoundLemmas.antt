@@ -14,8 +14,8 @@ use Rattle.nll_owner.proofs.OwnerLemmas.{pair_small}
 use Rattle.std.proofs.lemmas.List.Elements.{Contains-append_left, Contains-append_right}
 use Rattle.nll_model.specs.declared.seat.Item.{Item}
 use Rattle.nll_model.specs.declared.seat.Item.TheVariants.{Nothing, Fresh, Owed}
-use Rattle.nll_model.specs.State.{Lane, empty_lane, Seat, State, lane_to, IsAt}
-use Rattle.nll_model.specs.Soundness.{held, under_way, IsSoundSeat, IsSoundState, AreRanksLow}
+use Rattle.nll_model.specs.State.{Lane, empty_lane, Seat, WorldState, lane_to, IsAt}
+use Rattle.nll_model.specs.Soundness.{held_balance, under_way, IsSoundSeat, IsSoundState, AreRanksLow}
 use Rattle.nll_model.proofs.SoundLemmas.{get_within}
 
 sum_le : {X : Type 0} (f : X → ℕ) (m : ℕ) (d : X) (xs : List X) → ((j : ℕ) → j < length xs → f (get_or xs j d) ≤ m)
@@ -25,13 +25,13 @@ sum_le f m d (x ∷ xs) h =
     let a = h 0 (omega arith) in let b = sum_le f m d xs (λ j l. h (suc j) (omega arith)) in
     omega (arith, a, b, sum_by-cons f x xs)
 
-held_le : (loaded : Bool) (item : Item) → held loaded item ≤ 1
+held_le : (loaded : Bool) (item : Item) → held_balance loaded item ≤ 1
 held_le false item = omega arith
 held_le true Nothing = omega arith
 held_le true Fresh = omega arith
 held_le true Owed = omega arith
 
-module _ (q : Problem) (c : Cut) (w : State) (sound : IsSoundState q c w) where
+module _ (q : Problem) (c : Cut) (w : WorldState) (sound : IsSoundState q c w) where
   lane_small : (i : ℕ) (s : Seat) → IsAt w i s → (j : ℕ) → j < length s.lanes
       → length (lane_to s j).out + length (lane_to s j).box ≤ 2 ^ 37
   lane_small i s at j l = ⊎_elim
@@ -90,9 +90,10 @@ module _ (q : Problem) (c : Cut) (w : State) (sound : IsSoundState q c w) where
       let h = held_some s.owner.loaded refl in
       omega (arith, one, is, h, sound.balance)
     where
-      held_some : (b : Bool) → s.owner.loaded ≡ b → 0 < held s.owner.loaded s.item
-      held_some true l = (let a = ap (λ x. held x s.item) l in let b = ap (held true) owed in omega (arith, a, b))
-      held_some false l = (let a = ap (λ x. held x s.item) l in omega (arith, a))
+      held_some : (b : Bool) → s.owner.loaded ≡ b → 0 < held_balance s.owner.loaded s.item
+      held_some true l = (let a = ap (λ x. held_balance x s.item) l in let b =
+          ap (held_balance true) owed in omega (arith, a, b))
+      held_some false l = (let a = ap (λ x. held_balance x s.item) l in omega (arith, a))
 
   -- the first growth of a box stands in the log of its sender, and may be told
   first_from : (i j : ℕ) (s u : Seat) (g : Growth) (rest : List Growth) → i ≢ j → IsAt w i s → IsAt w j u

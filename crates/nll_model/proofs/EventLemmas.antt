@@ -13,14 +13,15 @@ use Rattle.nll_mail.specs.declared.growth.Growth.{Growth}
 use Rattle.nll_owner.specs.Logs.{part}
 use Rattle.nll_owner.specs.Owner.{received_from, part_for, given_to, with_growth}
 use Rattle.nll_model.specs.declared.seat.Item.TheVariants.{Nothing, Fresh, Owed}
-use Rattle.nll_model.specs.State.{Lane, empty_lane, Seat, State, lane_to, IsAt, with_seat, with_lane}
-use Rattle.nll_model.specs.Events.{owed_lane, fresh_count, Turns}
-use Rattle.nll_model.specs.Soundness.{held, under_way, IsSoundSeat, IsSoundState}
+use Rattle.nll_model.specs.State.{Lane, empty_lane, Seat, WorldState, lane_to, IsAt, with_seat, with_lane}
+use Rattle.nll_model.specs.Events.{owed_lane, fresh_count, TakesTurn}
+use Rattle.nll_model.specs.Soundness.{held_balance, under_way, IsSoundSeat, IsSoundState}
 use Rattle.nll_model.proofs.LaneLemmas.{drop_front, none_own, owing, set_cases, sum_same, whole}
 
 -- ---- another seat for one owner
 
-module _ (q : Problem) (c : Cut) (w : State) (sound : IsSoundState q c w) (i : ℕ) (s : Seat) (at : IsAt w i s) where
+module _ (q : Problem) (c : Cut) (w : WorldState) (sound : IsSoundState q c w) (i : ℕ) (s : Seat)
+    (at : IsAt w i s) where
   i_within : i < length w.seats
   i_within = slice_get_within w.seats i s at
 
@@ -99,11 +100,11 @@ module _ (q : Problem) (c : Cut) (w : State) (sound : IsSoundState q c w) (i : �
           go true h = refl
           go false h = absurd (cc (seat.unloaded h, fresh))
 
-      held_s : held s.owner.loaded s.item ≡ 1
-      held_s = ap (λ b. held b s.item) loaded ∙ ap (held true) fresh
+      held_s : held_balance s.owner.loaded s.item ≡ 1
+      held_s = ap (λ b. held_balance b s.item) loaded ∙ ap (held_balance true) fresh
 
-      held_t : held s.owner.loaded Owed ≡ 1
-      held_t = ap (λ b. held b Owed) loaded
+      held_t : held_balance s.owner.loaded Owed ≡ 1
+      held_t = ap (λ b. held_balance b Owed) loaded
 
       new : IsSoundSeat q c i t
       new = record {
@@ -147,11 +148,11 @@ module _ (q : Problem) (c : Cut) (w : State) (sound : IsSoundState q c w) (i : �
           go true h = refl
           go false h = absurd (cc (seat.unloaded h, owed))
 
-      held_s : held s.owner.loaded s.item ≡ 1
-      held_s = ap (λ b. held b s.item) loaded ∙ ap (held true) owed
+      held_s : held_balance s.owner.loaded s.item ≡ 1
+      held_s = ap (λ b. held_balance b s.item) loaded ∙ ap (held_balance true) owed
 
-      held_t : held s.owner.loaded Nothing ≡ 0
-      held_t = ap (λ b. held b Nothing) loaded
+      held_t : held_balance s.owner.loaded Nothing ≡ 0
+      held_t = ap (λ b. held_balance b Nothing) loaded
 
       new : IsSoundSeat q c i (record s { item = Nothing })
       new = record {
@@ -246,7 +247,7 @@ module _ (q : Problem) (c : Cut) (w : State) (sound : IsSoundState q c w) (i : �
 
   -- ---- an owner's turn
 
-  module _ (t : Seat) (turns : Turns s t) (idle : s.item ≡ Nothing) where
+  module _ (t : Seat) (turns : TakesTurn s t) (idle : s.item ≡ Nothing) where
     owners_is : t.owner.cut.owners ≡ c.owners
     owners_is = ap (λ (x : Cut). x.owners) (turns.cut ∙ seat.cut)
 
@@ -318,7 +319,8 @@ module _ (q : Problem) (c : Cut) (w : State) (sound : IsSoundState q c w) (i : �
 
     turned_way : under_way t ≡ 1 + sum_by owing s.lanes
     turned_way =
-        let h : held t.owner.loaded t.item ≡ 1 = ap (λ b. held b t.item) turns.loaded ∙ ap (held true) turns.item in
+        let h : held_balance t.owner.loaded t.item ≡ 1 =
+        ap (λ b. held_balance b t.item) turns.loaded ∙ ap (held_balance true) turns.item in
         omega (arith, h, same_owing)
 
     -- ---- Load
@@ -329,7 +331,8 @@ module _ (q : Problem) (c : Cut) (w : State) (sound : IsSoundState q c w) (i : �
         (λ j u differ hu. turn_to j (received_from u.owner i) (owner_in j u hu) (sound.ways i j s u differ at hu))
         (λ j u differ hu. subst (λ x. part_for u.owner i ≡ get_or x j [] ++ whole (lane_to u i)) (sym same)
         (sound.ways j i u s (λ e. differ (sym e)) hu at))
-        (let h : held s.owner.loaded s.item ≡ 1 = ap (λ b. held b s.item) unloaded in omega (arith, h, turned_way))
+        (let h : held_balance s.owner.loaded s.item ≡ 1 =
+        ap (λ b. held_balance b s.item) unloaded in omega (arith, h, turned_way))
 
     -- ---- Take
 
@@ -342,7 +345,7 @@ module _ (q : Problem) (c : Cut) (w : State) (sound : IsSoundState q c w) (i : �
       abbrev giver : Seat
       giver = with_lane u i (record (lane_to u i) { box = left })
 
-      abbrev taken : State
+      abbrev taken : WorldState
       taken = with_seat (with_seat w i t) j giver
 
       i_in : i < c.owners
@@ -467,7 +470,8 @@ module _ (q : Problem) (c : Cut) (w : State) (sound : IsSoundState q c w) (i : �
           let is_u =
           ap under_way (get_or-set_other w.seats i j t u (λ e. differ (sym e))
           ∙ get_or_from_slice_get w.seats j u u at_u) in
-          let idle_s : held s.owner.loaded s.item ≡ 0 = ap (λ b. held b s.item) loaded ∙ ap (held true) idle in
+          let idle_s : held_balance s.owner.loaded s.item ≡ 0 =
+          ap (λ b. held_balance b s.item) loaded ∙ ap (held_balance true) idle in
           omega (arith, one, is_s, two, is_u, idle_s, giver_owing, turned_way, sound.balance)
 
       pub take : IsSoundState q c taken

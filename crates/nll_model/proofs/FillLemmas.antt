@@ -3,13 +3,13 @@ use Rattle.std.proofs.Common.{◌≡◌, ◌≢◌, ℕ, ◌+◌, ◌<◌, true,
 use Rattle.std.proofs.lemmas.Bool.{cases_eq}
 use Rattle.std.proofs.lemmas.List.{length-set, get_or-set_same, get_or-set_other, get_or_default}
 use Rattle.nll_owner.specs.Logs.{IsPrefix}
-use Rattle.nll_owner.specs.Owner.{Owner, IsSound, IsDone, part_for, given_to}
+use Rattle.nll_owner.specs.Owner.{Owner, IsSoundOwner, IsDone, part_for, given_to}
 use Rattle.nll_model.specs.declared.seat.Item.TheVariants.{Fresh}
 use Rattle.nll_model.specs.State.{Lane, empty_lane, Seat, lane_to}
-use Rattle.nll_model.specs.Events.{Turns}
-use Rattle.nll_model.specs.Working.{Fills}
+use Rattle.nll_model.specs.Events.{TakesTurn}
+use Rattle.nll_model.specs.Working.{FillsLanes}
 
-pub fills_none : (s : Seat) → IsSound s.owner → Fills s s 0
+pub fills_none : (s : Seat) → IsSoundOwner s.owner → FillsLanes s s 0
 fills_none s sound = record {
   sound = sound;
   owner = refl;
@@ -22,12 +22,12 @@ fills_none s sound = record {
   other_lanes = λ j l. refl;
 }
 
-module _ (first now : Seat) (count : ℕ) (f : Fills first now count) (old new : Lane) (owner : Owner)
+module _ (first now : Seat) (count : ℕ) (f : FillsLanes first now count) (old new : Lane) (owner : Owner)
     (within : count < length now.lanes) (old_is : old ≡ get_or now.lanes count old)
     (new_is : new ≡ record old { fresh = old.fresh ++ drop (given_to now.owner count) (part_for now.owner count) })
     (given : given_to owner count ≡ length (part_for now.owner count))
     (others : owner ≡ record now.owner { given = owner.given })
-    (other_given : (j : ℕ) → j ≢ count → given_to owner j ≡ given_to now.owner j) (sound : IsSound owner) where
+    (other_given : (j : ℕ) → j ≢ count → given_to owner j ≡ given_to now.owner j) (sound : IsSoundOwner owner) where
   abbrev pub next : Seat
   next = record now { owner = owner; lanes = set now.lanes count new }
 
@@ -58,7 +58,7 @@ module _ (first now : Seat) (count : ℕ) (f : Fills first now count) (old new :
   there : (j : ℕ) → j ≢ count → lane_to next j ≡ lane_to now j
   there j differs = get_or-set_other now.lanes count j new empty_lane differs
 
-  pub fills_more : Fills first next (count + 1)
+  pub fills_more : FillsLanes first next (count + 1)
   fills_more = record {
     sound = sound;
     owner = others ∙ ap (λ (o : Owner). record o { given = owner.given }) f.owner;
@@ -90,7 +90,7 @@ module _ (old middle new : Seat) (count : ℕ) (begins : IsPrefix old.owner.log 
     (given : middle.owner.given ≡ old.owner.given) (left : middle.left ≡ old.left) (lanes : middle.lanes ≡ old.lanes)
     (done : IsDone middle.owner) (whole : middle.owner.broken ≡ false) (loaded : middle.owner.loaded ≡ true)
     (none_fresh : (j : ℕ) → (lane_to old j).fresh ≡ []) (owners : count ≡ middle.owner.cut.owners)
-    (f : Fills middle new count) where
+    (f : FillsLanes middle new count) where
   lane_old : (j : ℕ) → lane_to middle j ≡ lane_to old j
   lane_old j = ap (λ ls. get_or ls j empty_lane) lanes
 
@@ -108,7 +108,7 @@ module _ (old middle new : Seat) (count : ℕ) (begins : IsPrefix old.owner.log 
       ∙ (ap (λ (g : List ℕ). drop (get_or g j 0) (part_for middle.owner j)) given
       ∙ ap (drop (given_to old.owner j)) (sym (part_new j)))
 
-  pub turned : Turns old (record new { item = Fresh })
+  pub turned : TakesTurn old (record new { item = Fresh })
   turned = record {
     begins = (begins.0, ap (λ (o : Owner). o.log) f.owner ∙ begins.1);
     problem = ap (λ (o : Owner). o.problem) f.owner ∙ problem;

@@ -8,13 +8,13 @@ use Rattle.fixpoint.proofs.RankLemmas.{ranks_low}
 use Rattle.nll_owner.specs.Regions.{IsValid, system_of, part_of, rules}
 use Rattle.nll_owner.specs.RegionsLawful.{regions_lawful}
 use Rattle.nll_owner.proofs.RegionLemmas.{part_sound}
-use Rattle.nll_model.specs.State.{Seat, State, IsAt, first_seat}
+use Rattle.nll_model.specs.State.{Seat, WorldState, IsAt, first_seat}
 use Rattle.nll_model.specs.Soundness.{IsOwner, IsOrderly, IsSoundState, AreRanksLow, IsLawful}
 use Rattle.nll_model.proofs.LaneLemmas.{same_at}
 use Rattle.nll_model.proofs.SoundLemmas.{still, says_least, said_least}
 use Rattle.nll_model.proofs.OrderlyLemmas.{sound_is_orderly}
 
-module _ (q : Problem) (c : Cut) (w : State) (orderly : IsOrderly q c w) where
+module _ (q : Problem) (c : Cut) (w : WorldState) (orderly : IsOrderly q c w) where
   abbrev seat_of : ℕ → Seat
   seat_of i = get_or w.seats i (first_seat q c i)
 
@@ -40,7 +40,7 @@ module _ (q : Problem) (c : Cut) (w : State) (orderly : IsOrderly q c w) where
       (λ a b f la lb differ told. orderly.heard a b (seat_of a) (seat_of b) f differ (at a la) (at b lb) told)
       i g l (subst (λ (x : Seat). Contains x.owner.log g) same h)
 
-module _ (q : Problem) (c : Cut) (w : State) (sound : IsSoundState q c w) where
+module _ (q : Problem) (c : Cut) (w : WorldState) (sound : IsSoundState q c w) where
   pub lawful : IsSoundProblem q → IsCutOf q c → IsLawful q c w
   lawful problem cut = record {
     problem = problem;

@@ -7,17 +7,18 @@ use Rattle.nll_problem.specs.Problem.{Problem}
 use Rattle.nll_cut.specs.Partition.{Cut}
 use Rattle.nll_mail.specs.declared.growth.Growth.{Growth}
 use Rattle.nll_owner.specs.Logs.{IsPrefix}
-use Rattle.nll_owner.specs.Owner.{Owner, IsSound, received_from, with_growth}
+use Rattle.nll_owner.specs.Owner.{Owner, IsSoundOwner, received_from, with_growth}
 use Rattle.fixpoint.proofs.ListLemmas.{filter_from}
-use Rattle.nll_model.specs.State.{Seat, State, IsAt}
+use Rattle.nll_model.specs.State.{Seat, WorldState, IsAt}
 use Rattle.nll_model.specs.Soundness.{IsOwner, IsOrderly, IsSoundState}
-use Rattle.nll_model.specs.Working.{GoesOn, NoGrowth, IsGrowthFrom}
+use Rattle.nll_model.specs.Working.{OwnerGoesOn, NoGrowth, IsGrowthFrom}
 use Rattle.nll_model.proofs.LaneLemmas.{set_cases}
 
 -- ---- one owner
 
 -- only what it gave out has changed
-pub given_out : (old new : Owner) → new ≡ record old { given = new.given } → IsSound new → GoesOn NoGrowth old new
+pub given_out : (old new : Owner) → new ≡ record old { given = new.given } → IsSoundOwner new
+    → OwnerGoesOn NoGrowth old new
 given_out old new is sound = record {
   begins = ([], ap (λ (o : Owner). o.log) is ∙ sym (append-nil old.log));
   problem = ap (λ (o : Owner). o.problem) is;
@@ -27,12 +28,16 @@ given_out old new is sound = record {
   heard = λ j g h. inl (subst (λ (o : Owner). Contains (received_from o j) g) is h);
 }
 
-pub stays : (old new : Owner) → new ≡ old → IsSound old → GoesOn NoGrowth old new
+pub stays : (old new : Owner) → new ≡ old → IsSoundOwner old → OwnerGoesOn NoGrowth old new
 stays old new is sound =
-    given_out old new (is ∙ ap (λ (o : Owner). record old { given = o.given }) (sym is)) (subst IsSound (sym is) sound)
+    given_out old new (is ∙ ap (λ (o : Owner). record old {
+      given =
+          o.given;
+    }) (sym is)) (subst IsSoundOwner (sym is) sound)
 
-pub goes_further : (came : ℕ → Growth → Type 0) (old now new : Owner) → GoesOn came old now → GoesOn NoGrowth now new
-    → GoesOn came old new
+pub goes_further : (came : ℕ → Growth → Type 0) (old now new : Owner) → OwnerGoesOn came old now
+    → OwnerGoesOn NoGrowth now new
+    → OwnerGoesOn came old new
 goes_further came old now new one two = record {
   begins = (
     one.begins.0 ++ two.begins.0,
@@ -51,7 +56,7 @@ goes_further came old now new one two = record {
 module _ (old new : Owner) (from : ℕ) (growth : Growth) (begins : IsPrefix old.log new.log)
     (is : new ≡ record old { log = new.log; received = new.received; clock = new.clock; broken = new.broken })
     (perhaps : (new.received ≡ old.received) ⊎ (new.received ≡ with_growth old.received from growth))
-    (sound : IsSound new) where
+    (sound : IsSoundOwner new) where
   in_lists : (j : ℕ) (g : Growth) → Contains (get_or (with_growth old.received from growth) j []) g
       → Contains (received_from old j) g ⊎ IsGrowthFrom from growth j g
   in_lists j g h = ⊎_elim
@@ -75,7 +80,7 @@ module _ (old new : Owner) (from : ℕ) (growth : Growth) (begins : IsPrefix old
       (get_or-set_other old.received from j (received_from old from ++ growth ∷ []) [] differs) h))
       (cases_eq j from)
 
-  pub received_on : GoesOn (IsGrowthFrom from growth) old new
+  pub received_on : OwnerGoesOn (IsGrowthFrom from growth) old new
   received_on = record {
     begins = begins;
     problem = ap (λ (o : Owner). o.problem) is;
@@ -92,8 +97,9 @@ module _ (old new : Owner) (from : ℕ) (growth : Growth) (begins : IsPrefix old
 
 -- ---- all owners
 
-module _ (q : Problem) (c : Cut) (w : State) (orderly : IsOrderly q c w) (i : ℕ) (s : Seat) (at : IsAt w i s) (t : Seat)
-    (balance : ℕ) (came : ℕ → Growth → Type 0) (on : GoesOn came s.owner t.owner)
+module _ (q : Problem) (c : Cut) (w : WorldState) (orderly : IsOrderly q c w) (i : ℕ) (s : Seat) (at : IsAt w i s)
+    (t : Seat)
+    (balance : ℕ) (came : ℕ → Growth → Type 0) (on : OwnerGoesOn came s.owner t.owner)
     (from_log : (j : ℕ) (g : Growth) (u : Seat) → came j g → IsAt w j u → Contains u.owner.log g) where
   is_owner : IsOwner q c i t.owner
   is_owner = let old = orderly.owners i s at in record {
@@ -131,16 +137,16 @@ module _ (q : Problem) (c : Cut) (w : State) (orderly : IsOrderly q c w) (i : �
   }
 
 -- the same of a state that is seen by its parts, where no growth came
-pub orderly_after : (q : Problem) (c : Cut) (w v : State) (i : ℕ) (s t : Seat) (balance : ℕ) → v ≡ w → IsAt w i s
-    → GoesOn NoGrowth s.owner t.owner → IsOrderly q c w
+pub orderly_after : (q : Problem) (c : Cut) (w v : WorldState) (i : ℕ) (s t : Seat) (balance : ℕ) → v ≡ w → IsAt w i s
+    → OwnerGoesOn NoGrowth s.owner t.owner → IsOrderly q c w
     → IsOrderly q c (record { seats = set v.seats i t; balance = balance })
 orderly_after q c w v i s t balance is at on orderly =
-    subst (λ (x : State). IsOrderly q c (record { seats = set x.seats i t; balance = balance })) (sym is)
+    subst (λ (x : WorldState). IsOrderly q c (record { seats = set x.seats i t; balance = balance })) (sym is)
     (orderly_then q c w orderly i s at t balance NoGrowth on (λ j g u came _. absurd came))
 
 -- ---- what is sound is orderly
 
-pub sound_is_orderly : (q : Problem) (c : Cut) (w : State) → IsSoundState q c w → IsOrderly q c w
+pub sound_is_orderly : (q : Problem) (c : Cut) (w : WorldState) → IsSoundState q c w → IsOrderly q c w
 sound_is_orderly q c w sound = record {
   count = sound.count;
   owners = λ i s at. let seat = sound.seats i s at in

@@ -6,14 +6,14 @@ use Rattle.std.proofs.lemmas.Option.{slice_get_within}
 use Rattle.nll_problem.specs.Problem.{Problem}
 use Rattle.nll_cut.specs.Partition.{Cut}
 use Rattle.nll_model.specs.declared.event.Event.TheVariants.{Take, Push}
-use Rattle.nll_model.specs.State.{Seat, State, IsAt, lane_to}
-use Rattle.nll_model.specs.Events.{IsFree, IsPossible}
+use Rattle.nll_model.specs.State.{Seat, WorldState, IsAt, lane_to}
+use Rattle.nll_model.specs.Events.{IsFreeOwner, IsPossible}
 use Rattle.nll_model.specs.Soundness.{IsSoundState}
 use Rattle.nll_model.proofs.LaneLemmas.{same_at}
 use Rattle.nll_model.proofs.StateLemmas.{lanes_is}
 
 -- numbers of no two owners
-pub no_push : (q : Problem) (c : Cut) (w : State) → IsSoundState q c w → (i j : ℕ) (b : Bool)
+pub no_push : (q : Problem) (c : Cut) (w : WorldState) → IsSoundState q c w → (i j : ℕ) (b : Bool)
     → (IsTrue b ↔ ((i ≢ j) × (i < length w.seats) × (j < length w.seats))) → b ≡ false
     → IsTrue false ↔ IsPossible w (Push i j)
 no_push q c w sound i j b two is = (
@@ -23,7 +23,7 @@ no_push q c w sound i j b two is = (
       absurd (false≢true (sym is ∙ two.1 (p.1, within, omega (arith, p.3, lanes_is q c w sound i p.0 p.2))))),
 )
 
-pub may_push : (w : State) (i j : ℕ) (s : Seat) → i ≢ j → IsAt w i s → j < length s.lanes → (b : Bool)
+pub may_push : (w : WorldState) (i j : ℕ) (s : Seat) → i ≢ j → IsAt w i s → j < length s.lanes → (b : Bool)
     → (IsTrue b ↔ ((lane_to s j).out ≡ [])) → IsTrue (not b) ↔ IsPossible w (Push i j)
 may_push w i j s differ at within true empty = (
   (λ h. absurd (false≢true h)),
@@ -32,7 +32,7 @@ may_push w i j s differ at within true empty = (
 may_push w i j s differ at within false empty =
     ((λ h. (s, differ, at, within, λ e. false≢true (empty.1 e))), (λ p. refl))
 
-pub may_take : (w : State) (i j : ℕ) (s u : Seat) → i ≢ j → IsAt w i s → IsFree s → IsAt w j u → (b : Bool)
+pub may_take : (w : WorldState) (i j : ℕ) (s u : Seat) → i ≢ j → IsAt w i s → IsFreeOwner s → IsAt w j u → (b : Bool)
     → (IsTrue b ↔ ((lane_to u i).box ≡ [])) → IsTrue (not b) ↔ IsPossible w (Take i j)
 may_take w i j s u differ at free at_u true empty = (
   (λ h. absurd (false≢true h)),

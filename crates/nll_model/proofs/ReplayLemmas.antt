@@ -11,8 +11,8 @@ use Rattle.fixpoint.specs.declared.error.PartError.{PartError}
 use Rattle.nll_model.specs.declared.event.Event.{Event}
 use Rattle.nll_model.specs.declared.outcome.Step.{Step}
 use Rattle.nll_model.specs.declared.seat.Item.TheVariants.{Nothing}
-use Rattle.nll_model.specs.State.{Seat, State, empty_lane, first_seat}
-use Rattle.nll_model.specs.Events.{Does, IsStep, AreSteps}
+use Rattle.nll_model.specs.State.{Seat, WorldState, empty_lane, first_seat}
+use Rattle.nll_model.specs.Events.{Does, IsAnswerOf, AreSteps}
 use Rattle.nll_model.specs.Working.{AreFirst}
 use Rattle.nll_model.specs.Soundness.{IsLawful, IsOrderly}
 use Rattle.nll_model.proofs.StepsLemmas.{step_sound}
@@ -20,7 +20,7 @@ use Rattle.nll_model.proofs.OrderlyLemmas.{sound_is_orderly}
 use Rattle.nll_model.proofs.LawfulLemmas.{lawful}
 
 -- a step leads to an orderly state, and to a lawful one where it isn't refused
-pub after_step : (q : Problem) (c : Cut) (w new : State) (e : Event) (r : Result Step PartError) (broken : Bool)
+pub after_step : (q : Problem) (c : Cut) (w new : WorldState) (e : Event) (r : Result Step PartError) (broken : Bool)
     → IfOk r (λ answer. Does w e answer new) → OnErr r ((p : Problem) (d : Cut) → IsOrderly p d w → IsOrderly p d new)
     → IsLawful q c w → IsOrderly q c w
     → broken ≡ is_err r → IsOrderly q c new × (broken ≡ false → IsLawful q c new)
@@ -54,9 +54,10 @@ first_push q c seats s first is k t h = ⊎_elim
     (get_push seats s k t h)
 
 -- a run goes on by one event
-pub steps_push : (w now next : State) (events : List Event) (answers : List (Option Step)) (e : Event) (a : Option Step)
-    → AreSteps w events answers now → IsStep now e a next → AreSteps w (events ++ e ∷ []) (answers ++ a ∷ []) next
-steps_push w now next [] [] e a h step = (next, subst (λ x. IsStep x e a next) h step, refl)
+pub steps_push : (w now next : WorldState) (events : List Event) (answers : List (Option Step)) (e : Event)
+    (a : Option Step)
+    → AreSteps w events answers now → IsAnswerOf now e a next → AreSteps w (events ++ e ∷ []) (answers ++ a ∷ []) next
+steps_push w now next [] [] e a h step = (next, subst (λ x. IsAnswerOf x e a next) h step, refl)
 steps_push w now next [] (b ∷ bs) e a h step = absurd h
 steps_push w now next (f ∷ fs) [] e a h step = absurd h
 steps_push w now next (f ∷ fs) (b ∷ bs) e a h step = (h.0, h.1, steps_push h.0 now next fs bs e a h.2 step)

@@ -11,7 +11,7 @@ use Rattle.nll_problem.specs.Solution.{Least}
 use Rattle.nll_problem.proofs.AskLemmas.{asked_weaker}
 use Rattle.nll_cut.specs.Partition.{Cut, owner_of}
 use Rattle.nll_mail.specs.declared.growth.Growth.{Growth}
-use Rattle.nll_owner.specs.Logs.{IsWellFormed, part, IsTold, list_of, IsWellSupported, IsSaturated, IsCutOf, log_of, AreSound, AreSettled}
+use Rattle.nll_owner.specs.Logs.{IsWellFormedLog, part, IsTold, list_of, IsWellSupported, IsSaturated, IsCutOf, log_of, AreSoundLogs, AreSettled}
 use Rattle.nll_owner.specs.Owner.{IsDone, list_in, received_from, part_for}
 use Rattle.nll_owner.proofs.LogLemmas.{list_own, list_other}
 use Rattle.fixpoint.proofs.ListLemmas.{filter_from}
@@ -19,8 +19,8 @@ use Rattle.nll_owner.proofs.LawLemmas.{each_least, least_exact}
 use Rattle.nll_owner.proofs.OwnerLemmas.{supported_in}
 use Rattle.nll_model.specs.declared.seat.Item.{Item}
 use Rattle.nll_model.specs.declared.seat.Item.TheVariants.{Nothing, Fresh, Owed}
-use Rattle.nll_model.specs.State.{Lane, empty_lane, Seat, State, lane_to, IsAt}
-use Rattle.nll_model.specs.Soundness.{held, under_way, IsSoundSeat, IsSoundState, IsStill, Says}
+use Rattle.nll_model.specs.State.{Lane, empty_lane, Seat, WorldState, lane_to, IsAt}
+use Rattle.nll_model.specs.Soundness.{held_balance, under_way, IsSoundSeat, IsSoundState, IsStill, LogSays}
 
 -- ---- reading lists
 
@@ -42,10 +42,10 @@ lane_is l f o b = ap (λ x. record l { fresh = x }) f
 -- ---- one seat
 
 module _ (q : Problem) (c : Cut) (i : ℕ) (s : Seat) (sound : IsSoundSeat q c i s) where
-  pub seat_well_formed : IsWellFormed c i s.owner.log
+  pub seat_well_formed : IsWellFormedLog c i s.owner.log
   seat_well_formed =
-      subst (λ x. IsWellFormed x i s.owner.log) sound.cut
-      (subst (λ x. IsWellFormed s.owner.cut x s.owner.log) sound.me sound.sound.well_formed)
+      subst (λ x. IsWellFormedLog x i s.owner.log) sound.cut
+      (subst (λ x. IsWellFormedLog s.owner.cut x s.owner.log) sound.me sound.sound.well_formed)
 
   seat_list : (b : ℕ) → list_in s.owner b ≡ list_of c i s.owner.log (received_from s.owner) b
   seat_list b = ap (λ x. list_of x s.owner.me s.owner.log (received_from s.owner) b) sound.cut
@@ -79,17 +79,17 @@ module _ (q : Problem) (c : Cut) (i : ℕ) (s : Seat) (sound : IsSoundSeat q c i
 
 -- ---- all seats
 
-abbrev pub logs_of : State → List (List Growth)
+abbrev pub logs_of : WorldState → List (List Growth)
 logs_of w = map (λ (s : Seat). s.owner.log) w.seats
 
 abbrev seat_received : Option Seat → ℕ → List Growth
 seat_received (Some s) j = received_from s.owner j
 seat_received None j = []
 
-abbrev pub received_of : State → ℕ → ℕ → List Growth
+abbrev pub received_of : WorldState → ℕ → ℕ → List Growth
 received_of w i j = seat_received (slice_get w.seats i) j
 
-module _ (q : Problem) (c : Cut) (w : State) (sound : IsSoundState q c w) where
+module _ (q : Problem) (c : Cut) (w : WorldState) (sound : IsSoundState q c w) where
   seat_at : (i : ℕ) → i < c.owners → (s : Seat) × IsAt w i s
   seat_at i l = get_within w.seats i (subst (λ n. i < n) (sym sound.count) l)
 
@@ -108,11 +108,11 @@ module _ (q : Problem) (c : Cut) (w : State) (sound : IsSoundState q c w) where
       ∙ (received_at i s at (owner_of c b) ∙ sym (list_other c i s.owner.log (received_from s.owner) b other)))
       (cases_eq (owner_of c b) i)
 
-  pub world_sound : AreSound q c (logs_of w) (received_of w)
+  pub world_sound : AreSoundLogs q c (logs_of w) (received_of w)
   world_sound = record {
     counted = length-map w.seats (λ (s : Seat). s.owner.log) ∙ sound.count;
     well_formed = λ i l. let s = seat_at i l in
-        subst (IsWellFormed c i) (sym (log_at i s.0 s.1)) (seat_well_formed q c i s.0 (sound.seats i s.0 s.1));
+        subst (IsWellFormedLog c i) (sym (log_at i s.0 s.1)) (seat_well_formed q c i s.0 (sound.seats i s.0 s.1));
     supported = λ i l.
         let s = seat_at i l in
         subst (IsWellSupported q (list_of c i (log_of (logs_of w) i) (received_of w i))) (sym (log_at i s.0 s.1))
@@ -128,7 +128,7 @@ module _ (q : Problem) (c : Cut) (w : State) (sound : IsSoundState q c w) where
         subst (λ xs. Contains xs g) (sym (log_at j t.0 t.1)) (filter_from _ t.0.owner.log g in_part).0;
   }
 
-  pub said : (r e : ℕ) → Says c w r e → IsTold (log_of (logs_of w) (owner_of c r)) r e
+  pub said : (r e : ℕ) → LogSays c w r e → IsTold (log_of (logs_of w) (owner_of c r)) r e
   said r e h = subst (λ xs. IsTold xs r e) (sym (log_at (owner_of c r) h.0 h.1)) h.2
 
   -- nothing is under way of any seat where the balance is 0
@@ -140,7 +140,7 @@ module _ (q : Problem) (c : Cut) (w : State) (sound : IsSoundState q c w) where
         let is = ap under_way (get_or_from_slice_get w.seats i s s at) in
         omega (arith, one, is, sound.balance, none)
 
-    held_none : (loaded : Bool) (item : Item) → held loaded item ≡ 0 → (loaded ≡ true) × (item ≡ Nothing)
+    held_none : (loaded : Bool) (item : Item) → held_balance loaded item ≡ 0 → (loaded ≡ true) × (item ≡ Nothing)
     held_none false item h = absurd (omega arith)
     held_none true Nothing h = (refl, refl)
     held_none true Fresh h = absurd (omega arith)
@@ -198,7 +198,7 @@ module _ (q : Problem) (c : Cut) (w : State) (sound : IsSoundState q c w) where
     }
 
     module _ (problem : IsSoundProblem q) (cut : IsCutOf q c) where
-      says_from : (r e : ℕ) → IsTold (log_of (logs_of w) (owner_of c r)) r e → Says c w r e
+      says_from : (r e : ℕ) → IsTold (log_of (logs_of w) (owner_of c r)) r e → LogSays c w r e
       says_from r e h = ⊎_elim
           (λ within. let s = get_within w.seats (owner_of c r) within in
           (s.0, s.1, subst (λ xs. IsTold xs r e) (log_at (owner_of c r) s.0 s.1) h))
@@ -209,12 +209,12 @@ module _ (q : Problem) (c : Cut) (w : State) (sound : IsSoundState q c w) where
           absurd (let l = (subst (λ xs. IsTold xs r e) empty h).1.1 in omega arith))
           (cases_lt (owner_of c r) (length w.seats))
 
-      pub says_least : (r e : ℕ) → Says c w r e ↔ Least q r e
+      pub says_least : (r e : ℕ) → LogSays c w r e ↔ Least q r e
       says_least r e =
           let x = least_exact q c (logs_of w) (received_of w) problem cut world_sound world_settled r e in
           (λ h. x.0 (said r e h), λ l. says_from r e (x.1 l))
 
-  pub said_least : IsSoundProblem q → IsCutOf q c → (r e : ℕ) → Says c w r e → Least q r e
+  pub said_least : IsSoundProblem q → IsCutOf q c → (r e : ℕ) → LogSays c w r e → Least q r e
   said_least problem cut r e h =
       let s = said r e h in
       let l = slice_get_within w.seats (owner_of c r) h.0 h.1 in

@@ -7,10 +7,10 @@ use Rattle.nll_cut.specs.Partition.{Cut}
 use Rattle.nll_mail.specs.declared.growth.Growth.{Growth}
 use Rattle.nll_owner.specs.Owner.{Owner, Passes}
 use Rattle.nll_model.specs.declared.seat.Item.TheVariants.{Nothing, Fresh}
-use Rattle.nll_model.specs.State.{Lane, Seat, State, IsAt, with_lane, with_seat, lane_to}
-use Rattle.nll_model.specs.Events.{IsFree, fresh_count}
+use Rattle.nll_model.specs.State.{Lane, Seat, WorldState, IsAt, with_lane, with_seat, lane_to}
+use Rattle.nll_model.specs.Events.{IsFreeOwner, fresh_count}
 use Rattle.nll_model.specs.Soundness.{IsOrderly, IsSoundState}
-use Rattle.nll_model.specs.Working.{GoesOn, NoGrowth, IsGrowthFrom}
+use Rattle.nll_model.specs.Working.{OwnerGoesOn, NoGrowth, IsGrowthFrom}
 use Rattle.nll_model.proofs.LaneLemmas.{set_cases}
 use Rattle.nll_model.proofs.EventLemmas.{owe}
 use Rattle.nll_model.proofs.OrderlyLemmas.{sound_is_orderly, orderly_then, stays}
@@ -18,13 +18,14 @@ use Rattle.nll_model.proofs.LawfulLemmas.{ranks_are_low}
 use Rattle.nll_model.proofs.BoundLemmas.{balance_small, limit, first_passes, first_logged}
 
 -- the seat that stands at the place of another is that one
-pub seat_is : (w : State) (i : ℕ) (s t : Seat) → IsAt w i s → t ≡ get_or w.seats i t → t ≡ s
+pub seat_is : (w : WorldState) (i : ℕ) (s t : Seat) → IsAt w i s → t ≡ get_or w.seats i t → t ≡ s
 seat_is w i s t at is = is ∙ get_or_from_slice_get w.seats i s t at
 
-pub place_in : (w : State) (i : ℕ) (s : Seat) → IsAt w i s → i < length w.seats
+pub place_in : (w : WorldState) (i : ℕ) (s : Seat) → IsAt w i s → i < length w.seats
 place_in w i s at = slice_get_within w.seats i s at
 
-module _ (q : Problem) (c : Cut) (w : State) (sound : IsSoundState q c w) (i : ℕ) (s : Seat) (at : IsAt w i s) where
+module _ (q : Problem) (c : Cut) (w : WorldState) (sound : IsSoundState q c w) (i : ℕ) (s : Seat)
+    (at : IsAt w i s) where
   pub owners_is : length w.seats ≡ s.owner.cut.owners
   owners_is = sound.count ∙ sym (ap (λ (x : Cut). x.owners) (sound.seats i s at).cut)
 
@@ -57,8 +58,8 @@ set_at_other (z ∷ xs) (suc j) zero y x h at = at
 set_at_other (z ∷ xs) (suc j) (suc i) y x h at = set_at_other xs j i y x (λ e. h (ap suc e)) at
 
 -- ---- a growth goes from one seat to another
-module _ (q : Problem) (c : Cut) (w : State) (sound : IsSoundState q c w) (i j : ℕ) (s u : Seat) (differ : i ≢ j)
-    (at : IsAt w i s) (free : IsFree s) (at_u : IsAt w j u) where
+module _ (q : Problem) (c : Cut) (w : WorldState) (sound : IsSoundState q c w) (i j : ℕ) (s u : Seat) (differ : i ≢ j)
+    (at : IsAt w i s) (free : IsFreeOwner s) (at_u : IsAt w j u) where
   -- the seat at i after one at j was changed
   pub other_is : (v t : Seat) → t ≡ get_or (set w.seats j v) i t → t ≡ s
   other_is v t is = seat_is w i s t at (is ∙ get_or-set_other w.seats j i v t differ)
@@ -77,7 +78,7 @@ module _ (q : Problem) (c : Cut) (w : State) (sound : IsSoundState q c w) (i j :
 
   -- where the other one refuses it, the owners are orderly still
   module _ (g : Growth) (rest : List Growth) (first : (lane_to u i).box ≡ g ∷ rest) (v t : Seat) (lane : Lane)
-      (v_is : v ≡ with_lane u i lane) (on : GoesOn (IsGrowthFrom j g) s.owner t.owner) where
+      (v_is : v ≡ with_lane u i lane) (on : OwnerGoesOn (IsGrowthFrom j g) s.owner t.owner) where
     same_owner : v.owner ≡ u.owner
     same_owner = ap (λ (x : Seat). x.owner) v_is
 

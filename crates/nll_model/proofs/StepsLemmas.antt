@@ -14,8 +14,8 @@ use Rattle.nll_model.specs.declared.event.Event.{Event}
 use Rattle.nll_model.specs.declared.event.Event.TheVariants.{Load, Take, Owe, Clear, Push, Leave}
 use Rattle.nll_model.specs.declared.outcome.Step.{Step}
 use Rattle.nll_model.specs.declared.outcome.Step.TheVariants.{Done, Quiet, Open}
-use Rattle.nll_model.specs.State.{Lane, empty_lane, Seat, State, lane_to, first_seat, IsFirst}
-use Rattle.nll_model.specs.Events.{Does, IsStep, AreSteps}
+use Rattle.nll_model.specs.State.{Lane, empty_lane, Seat, WorldState, lane_to, first_seat, IsFirst}
+use Rattle.nll_model.specs.Events.{Does, IsAnswerOf, AreSteps}
 use Rattle.nll_model.specs.Soundness.{under_way, IsSoundSeat, IsSoundState}
 use Rattle.nll_model.proofs.EventLemmas.{owe, clear, leave, push, load, take}
 
@@ -60,7 +60,7 @@ owing_none (suc n) =
       sum_by-cons (λ (l : Lane). length l.out + length l.box) empty_lane (replicate n empty_lane),
     ))
 
-pub first_sound_state : (q : Problem) (c : Cut) (w : State) → IsSoundProblem q → IsCutOf q c → IsFirst q c w
+pub first_sound_state : (q : Problem) (c : Cut) (w : WorldState) → IsSoundProblem q → IsCutOf q c → IsFirst q c w
     → IsSoundState q c w
 first_sound_state q c w problem cut first = record {
   count = first.count;
@@ -85,7 +85,7 @@ first_sound_state q c w problem cut first = record {
 
 -- ---- one event, and a run
 
-pub step_sound : (q : Problem) (c : Cut) (w new : State) (event : Event) (answer : Step) → IsSoundState q c w
+pub step_sound : (q : Problem) (c : Cut) (w new : WorldState) (event : Event) (answer : Step) → IsSoundState q c w
     → Does w event answer new → IsSoundState q c new
 step_sound q c w new (Load i) Done sound h =
     subst (IsSoundState q c) (sym h.6) (load q c w sound i h.0 h.2 h.1 h.4
@@ -115,12 +115,12 @@ step_sound q c w new (Leave i) Quiet sound (s, at, none, loaded, idle, stays, ou
 step_sound q c w new (Leave i) Open sound (s, at, some, loaded, idle, stays, outs, is) =
     subst (IsSoundState q c) (sym is) sound
 
-pub world_step_sound : (q : Problem) (c : Cut) (w new : State) (event : Event) (answer : Option Step)
-    → IsSoundState q c w → IsStep w event answer new → IsSoundState q c new
+pub world_step_sound : (q : Problem) (c : Cut) (w new : WorldState) (event : Event) (answer : Option Step)
+    → IsSoundState q c w → IsAnswerOf w event answer new → IsSoundState q c new
 world_step_sound q c w new event (Some answer) sound h = step_sound q c w new event answer sound h
 world_step_sound q c w new event None sound h = subst (IsSoundState q c) (sym h.1) sound
 
-pub steps_sound : (q : Problem) (c : Cut) (w last : State) (events : List Event) (answers : List (Option Step))
+pub steps_sound : (q : Problem) (c : Cut) (w last : WorldState) (events : List Event) (answers : List (Option Step))
     → IsSoundState q c w → AreSteps w events answers last → IsSoundState q c last
 steps_sound q c w last [] [] sound h = subst (IsSoundState q c) (sym h) sound
 steps_sound q c w last [] (a ∷ rest) sound h = absurd h

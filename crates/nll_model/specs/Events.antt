@@ -5,8 +5,8 @@ use Rattle.std.specs.Prelude.{◌≡◌, ◌≢◌, ℕ, ◌+◌, ◌<◌, true,
 use Rattle.std.specs.Prelude.{map, drop, slice_set, sum_by, Option, Some, None}
 use Rattle.nll_mail.specs.declared.growth.Growth.{Growth}
 use Rattle.nll_owner.specs.Logs.{IsPrefix}
-use Rattle.nll_owner.specs.Owner.{IsSound, IsDone, part_for, given_to, with_growth}
-use Rattle.nll_model.specs.State.{Lane, Seat, State, IsAt, lane_to, with_seat, with_lane}
+use Rattle.nll_owner.specs.Owner.{IsSoundOwner, IsDone, part_for, given_to, with_growth}
+use Rattle.nll_model.specs.State.{Lane, Seat, WorldState, IsAt, lane_to, with_seat, with_lane}
 use Rattle.nll_model.specs.declared.event.Event.{Event}
 use Rattle.nll_model.specs.declared.event.Event.TheVariants.{Load, Take, Owe, Clear, Push, Leave}
 use Rattle.nll_model.specs.declared.outcome.Step.{Step}
@@ -16,8 +16,8 @@ use Rattle.nll_model.specs.declared.seat.Item.TheVariants.{Nothing, Fresh, Owed}
 -- ---- where an event is possible
 
 -- the owner is loaded, works on nothing and hasn't left
-abbrev pub IsFree : Seat → Type 0
-IsFree s = (s.owner.loaded ≡ true) × (s.item ≡ Nothing) × (s.left ≡ false)
+abbrev pub IsFreeOwner : Seat → Type 0
+IsFreeOwner s = (s.owner.loaded ≡ true) × (s.item ≡ Nothing) × (s.left ≡ false)
 
 -- nothing that is owed for waits to be sent
 abbrev pub HasSent : Seat → Type 0
@@ -27,26 +27,26 @@ HasSent s = (j : ℕ) → (lane_to s j).out ≡ []
 -- from the other isn't empty; an owe if the owner has an item that isn't owed for; a clear if it
 -- has one that is; a push if something that is owed for waits to be sent; a leave if the owner is
 -- free and has sent all.
-abbrev pub IsPossible : State → Event → Type 0
+abbrev pub IsPossible : WorldState → Event → Type 0
 IsPossible w (Load i) = (s : Seat) × IsAt w i s × (s.owner.loaded ≡ false)
 IsPossible w (Take i j) =
-    (s u : Seat) × (i ≢ j) × IsAt w i s × IsFree s × IsAt w j u × ((lane_to u i).box ≢ [])
+    (s u : Seat) × (i ≢ j) × IsAt w i s × IsFreeOwner s × IsAt w j u × ((lane_to u i).box ≢ [])
 IsPossible w (Owe i) = (s : Seat) × IsAt w i s × (s.item ≡ Fresh)
 IsPossible w (Clear i) = (s : Seat) × IsAt w i s × (s.item ≡ Owed)
 IsPossible w (Push i j) =
     (s : Seat) × (i ≢ j) × IsAt w i s × (j < length s.lanes) × ((lane_to s j).out ≢ [])
-IsPossible w (Leave i) = (s : Seat) × IsAt w i s × IsFree s × HasSent s
+IsPossible w (Leave i) = (s : Seat) × IsAt w i s × IsFreeOwner s × HasSent s
 
 -- ---- what an event does
 
 -- An owner's turn: its log grew, in any well-formed and well-supported way, until nothing was left
 -- to do; all that it has for the others and hadn't given them yet is fresh, and so is its item.
-pub record Turns (old new : Seat) : Type 0 where
+pub record TakesTurn (old new : Seat) : Type 0 where
   pub begins : IsPrefix old.owner.log new.owner.log
   pub problem : new.owner.problem ≡ old.owner.problem
   pub cut : new.owner.cut ≡ old.owner.cut
   pub me : new.owner.me ≡ old.owner.me
-  pub sound : IsSound new.owner
+  pub sound : IsSoundOwner new.owner
   pub whole : new.owner.broken ≡ false
   pub loaded : new.owner.loaded ≡ true
   pub done : IsDone new.owner
@@ -74,17 +74,17 @@ abbrev pub fresh_count : Seat → ℕ
 fresh_count s = sum_by (λ (l : Lane). length l.fresh) s.lanes
 
 -- What an event does where it is possible, and its answer.
-abbrev pub Does : State → Event → Step → State → Type 0
+abbrev pub Does : WorldState → Event → Step → WorldState → Type 0
 -- the owner takes its first turn
 Does w (Load i) Done new =
     (s t : Seat) × IsAt w i s × (s.owner.loaded ≡ false)
-    × Turns s t × (t.owner.received ≡ s.owner.received) × (new ≡ with_seat w i t)
+    × TakesTurn s t × (t.owner.received ≡ s.owner.received) × (new ≡ with_seat w i t)
 -- the owner takes a turn by the first growth of the other's box, which it receives
 Does w (Take i j) Done new =
     (s t u : Seat) × (g : Growth) × (rest : List Growth) × (i ≢ j)
     × IsAt w i s × (s.owner.loaded ≡ true) × (s.item ≡ Nothing) × (s.left ≡ false)
     × IsAt w j u × ((lane_to u i).box ≡ g ∷ rest)
-    × Turns s t × (t.owner.received ≡ with_growth s.owner.received j g)
+    × TakesTurn s t × (t.owner.received ≡ with_growth s.owner.received j g)
     × (new ≡ with_seat (with_seat w i t) j (with_lane u i (record (lane_to u i) { box = rest })))
 -- all that is fresh is owed for, and the balance grows by its number
 Does w (Owe i) Done new =
@@ -121,13 +121,13 @@ Does w (Leave i) Open new =
 Does w _ _ new = ⊥
 
 -- An event with its answer; without one the event isn't possible, and nothing has changed.
-abbrev pub IsStep : State → Event → Option Step → State → Type 0
-IsStep w event (Some answer) new = Does w event answer new
-IsStep w event None new = (IsPossible w event → ⊥) × (new ≡ w)
+abbrev pub IsAnswerOf : WorldState → Event → Option Step → WorldState → Type 0
+IsAnswerOf w event (Some answer) new = Does w event answer new
+IsAnswerOf w event None new = (IsPossible w event → ⊥) × (new ≡ w)
 
 -- A sequence of events, each with its answer.
-abbrev pub AreSteps : State → List Event → List (Option Step) → State → Type 0
+abbrev pub AreSteps : WorldState → List Event → List (Option Step) → WorldState → Type 0
 AreSteps w [] [] new = new ≡ w
 AreSteps w (event ∷ events) (answer ∷ answers) new =
-    (next : State) × IsStep w event answer next × AreSteps next events answers new
+    (next : WorldState) × IsAnswerOf w event answer next × AreSteps next events answers new
 AreSteps w _ _ new = ⊥

@@ -9,24 +9,24 @@ use Rattle.nll_problem.specs.Solution.{Least}
 use Rattle.nll_cut.specs.Partition.{Cut, owner_of}
 use Rattle.nll_mail.specs.declared.growth.Growth.{Growth}
 use Rattle.nll_owner.specs.Logs.{IsCutOf, IsTold}
-use Rattle.nll_owner.specs.Owner.{Owner, IsSound, IsDone, part_for, given_to, received_from}
-use Rattle.nll_model.specs.State.{Lane, Seat, State, IsAt, lane_to, empty_lane}
+use Rattle.nll_owner.specs.Owner.{Owner, IsSoundOwner, IsDone, part_for, given_to, received_from}
+use Rattle.nll_model.specs.State.{Lane, Seat, WorldState, IsAt, lane_to, empty_lane}
 use Rattle.nll_model.specs.declared.seat.Item.{Item}
 use Rattle.nll_model.specs.declared.seat.Item.TheVariants.{Nothing, Fresh}
 
 -- ---- what the balance counts
 
 -- 1 for a load that isn't cleared, or for a received growth that is being worked on; otherwise 0
-abbrev pub held : Bool → Item → ℕ
-held false item = 1
-held true Nothing = 0
-held true _ = 1
+abbrev pub held_balance : Bool → Item → ℕ
+held_balance false item = 1
+held_balance true Nothing = 0
+held_balance true _ = 1
 
 -- what is under way at a seat: what its owner holds, and the growths that are owed for and not yet
 -- taken
 abbrev pub under_way : Seat → ℕ
 under_way s =
-    held s.owner.loaded s.item + sum_by (λ (l : Lane). length l.out + length l.box) s.lanes
+    held_balance s.owner.loaded s.item + sum_by (λ (l : Lane). length l.out + length l.box) s.lanes
 
 -- ---- what is true at every moment
 
@@ -36,7 +36,7 @@ pub record IsSoundSeat (q : Problem) (c : Cut) (i : ℕ) (s : Seat) : Type 0 whe
   pub problem : s.owner.problem ≡ q
   pub cut : s.owner.cut ≡ c
   pub me : s.owner.me ≡ i
-  pub sound : IsSound s.owner
+  pub sound : IsSoundOwner s.owner
   pub whole : s.owner.broken ≡ false
   pub count : length s.lanes ≡ c.owners
   pub given : (j : ℕ) → j < c.owners → given_to s.owner j ≡ length (part_for s.owner j)
@@ -48,7 +48,7 @@ pub record IsSoundSeat (q : Problem) (c : Cut) (i : ℕ) (s : Seat) : Type 0 whe
 
 -- A sound state: what owner i grew for owner j is what j received, then what is in the box, then
 -- what is owed for, then what is fresh; and the balance counts exactly what is under way.
-pub record IsSoundState (q : Problem) (c : Cut) (w : State) : Type 0 where
+pub record IsSoundState (q : Problem) (c : Cut) (w : WorldState) : Type 0 where
   pub count : length w.seats ≡ c.owners
   pub seats : (i : ℕ) (s : Seat) → IsAt w i s → IsSoundSeat q c i s
   pub ways :
@@ -62,11 +62,11 @@ pub record IsOwner (q : Problem) (c : Cut) (i : ℕ) (o : Owner) : Type 0 where
   pub problem : o.problem ≡ q
   pub cut : o.cut ≡ c
   pub me : o.me ≡ i
-  pub sound : IsSound o
+  pub sound : IsSoundOwner o
 
 -- An orderly state, as every state is, even after memory was refused: the owners are sound, and
 -- what one received from another is in that one's log.
-pub record IsOrderly (q : Problem) (c : Cut) (w : State) : Type 0 where
+pub record IsOrderly (q : Problem) (c : Cut) (w : WorldState) : Type 0 where
   pub count : length w.seats ≡ c.owners
   pub owners : (i : ℕ) (s : Seat) → IsAt w i s → IsOwner q c i s.owner
   pub heard :
@@ -76,30 +76,30 @@ pub record IsOrderly (q : Problem) (c : Cut) (w : State) : Type 0 where
 -- ---- what follows
 
 -- the log of the owner of r says that r has e
-abbrev pub Says : Cut → State → ℕ → ℕ → Type 0
-Says c w r e = (s : Seat) × IsAt w (owner_of c r) s × IsTold s.owner.log r e
+abbrev pub LogSays : Cut → WorldState → ℕ → ℕ → Type 0
+LogSays c w r e = (s : Seat) × IsAt w (owner_of c r) s × IsTold s.owner.log r e
 
 -- all that the logs say is in the least values
-abbrev pub SaysOnlyLeast : Problem → Cut → State → Type 0
-SaysOnlyLeast q c w = (r e : ℕ) → Says c w r e → Least q r e
+abbrev pub SaysOnlyLeast : Problem → Cut → WorldState → Type 0
+SaysOnlyLeast q c w = (r e : ℕ) → LogSays c w r e → Least q r e
 
 -- the logs say exactly the least values
-abbrev pub SaysLeast : Problem → Cut → State → Type 0
-SaysLeast q c w = (r e : ℕ) → Says c w r e ↔ Least q r e
+abbrev pub SaysLeast : Problem → Cut → WorldState → Type 0
+SaysLeast q c w = (r e : ℕ) → LogSays c w r e ↔ Least q r e
 
 -- no growth is fresh, owed for or in a box
-abbrev pub IsStill : State → Type 0
+abbrev pub IsStill : WorldState → Type 0
 IsStill w = (i j : ℕ) (s : Seat) → IsAt w i s → lane_to s j ≡ empty_lane
 
 -- no rank of a log reaches 2^37
-abbrev pub AreRanksLow : State → Type 0
+abbrev pub AreRanksLow : WorldState → Type 0
 AreRanksLow w =
     (i : ℕ) (s : Seat) (g : Growth) → IsAt w i s → Contains s.owner.log g → g.rank < 2 ^ 37
 
 -- What holds of every state that a world of this problem and cut reaches: it is sound; its logs say
 -- only what the least values have; at a balance of 0 nothing is under way, and they say exactly
 -- that; and its ranks are low.
-pub record IsLawful (q : Problem) (c : Cut) (w : State) : Type 0 where
+pub record IsLawful (q : Problem) (c : Cut) (w : WorldState) : Type 0 where
   pub problem : IsSoundProblem q
   pub cut : IsCutOf q c
   pub sound : IsSoundState q c w

@@ -30,7 +30,7 @@ pub record Seat : Type 0 where
   pub lanes : List Lane
 
 -- The state of a world: a seat for each owner, and the balance.
-pub record State : Type 0 where
+pub record WorldState : Type 0 where
   pub seats : List Seat
   pub balance : ℕ
 
@@ -38,11 +38,11 @@ pub record State : Type 0 where
 pub record World : Type 0 where
   pub problem : Problem
   pub cut : Cut
-  pub state : State
+  pub state : WorldState
   pub broken : Bool
 
 -- owner i has this seat
-abbrev pub IsAt : State → ℕ → Seat → Type 0
+abbrev pub IsAt : WorldState → ℕ → Seat → Type 0
 IsAt w i s = slice_get w.seats i ≡ Some s
 
 -- the lane of a seat to owner j
@@ -50,7 +50,7 @@ abbrev pub lane_to : Seat → ℕ → Lane
 lane_to s j = slice_index_or s.lanes j empty_lane
 
 -- the state with another seat for owner i
-abbrev pub with_seat : State → ℕ → Seat → State
+abbrev pub with_seat : WorldState → ℕ → Seat → WorldState
 with_seat w i s = record w { seats = slice_set w.seats i s }
 
 -- the seat with another lane to owner j
@@ -69,7 +69,7 @@ first_seat q c i = record {
 }
 
 -- No owner has done anything yet, nothing is under way, and the balance is the number of owners.
-pub record IsFirst (q : Problem) (c : Cut) (w : State) : Type 0 where
+pub record IsFirst (q : Problem) (c : Cut) (w : WorldState) : Type 0 where
   pub count : length w.seats ≡ c.owners
   pub each : (i : ℕ) (s : Seat) → IsAt w i s → s ≡ first_seat q c i
   pub balance : w.balance ≡ c.owners

@@ -6,15 +6,15 @@ use Rattle.nll_problem.specs.Problem.{Problem}
 use Rattle.nll_cut.specs.Partition.{Cut}
 use Rattle.nll_mail.specs.declared.growth.Growth.{Growth}
 use Rattle.nll_owner.specs.Logs.{IsPrefix}
-use Rattle.nll_owner.specs.Owner.{Owner, IsSound, part_for, given_to, received_from}
+use Rattle.nll_owner.specs.Owner.{Owner, IsSoundOwner, part_for, given_to, received_from}
 use Rattle.nll_model.specs.State.{Lane, Seat, lane_to, with_lane, first_seat}
 
 -- The first growth that is owed for went to the back of the box, or there is none.
-abbrev pub Pushes : Bool → Lane → Lane → Type 0
-Pushes true old new =
+abbrev pub PushesOwed : Bool → Lane → Lane → Type 0
+PushesOwed true old new =
     (g : Growth) × (rest : List Growth) × (old.out ≡ g ∷ rest)
     × (new ≡ record old { out = rest; box = old.box ++ g ∷ [] })
-Pushes false old new = (old.out ≡ []) × (new ≡ old)
+PushesOwed false old new = (old.out ≡ []) × (new ≡ old)
 
 -- Like `Pushes`, for the lane of a seat.
 abbrev pub PushesTo : Bool → ℕ → Seat → Seat → Type 0
@@ -33,8 +33,8 @@ TakesFrom old (Some g) P =
 TakesFrom old None P = old.box ≡ []
 
 -- The lanes to the first owners got all that the owner hadn't given them.
-pub record Fills (old new : Seat) (count : ℕ) : Type 0 where
-  pub sound : IsSound new.owner
+pub record FillsLanes (old new : Seat) (count : ℕ) : Type 0 where
+  pub sound : IsSoundOwner new.owner
   pub owner : new.owner ≡ record old.owner { given = new.owner.given }
   pub item : new.item ≡ old.item
   pub left : new.left ≡ old.left
@@ -50,12 +50,12 @@ pub record Fills (old new : Seat) (count : ℕ) : Type 0 where
 
 -- The owner went on, perhaps to a refusal: its log only grew, and what it received it had received
 -- before, or it is of this kind.
-pub record GoesOn (came : ℕ → Growth → Type 0) (old new : Owner) : Type 0 where
+pub record OwnerGoesOn (came : ℕ → Growth → Type 0) (old new : Owner) : Type 0 where
   pub begins : IsPrefix old.log new.log
   pub problem : new.problem ≡ old.problem
   pub cut : new.cut ≡ old.cut
   pub me : new.me ≡ old.me
-  pub sound : IsSound new
+  pub sound : IsSoundOwner new
   pub heard :
       (j : ℕ) (g : Growth) → Contains (received_from new j) g
       → Contains (received_from old j) g ⊎ came j g

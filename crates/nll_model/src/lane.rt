@@ -3,10 +3,10 @@
 ghost use Rattle.std.specs.Prelude.{◌≡◌, ◌≢◌, ℕ, ◌<◌, ◌++◌, ◌↔◌, false, length, drop, List, []};
 ghost use Rattle.std.specs.Prelude.{◌∷◌, OnOk, IfOk, IfSome, IfNone, IsTrue};
 ghost use Rattle.nll_mail.specs.declared.growth.Growth.{Growth};
-ghost use Rattle.nll_owner.specs.Owner.{IsSound, part_for, given_to};
+ghost use Rattle.nll_owner.specs.Owner.{IsSoundOwner, part_for, given_to};
 ghost use Rattle.nll_model.specs.State.{empty_lane};
 ghost use Rattle.nll_model.specs.Events.{owed_lane};
-ghost use Rattle.nll_model.specs.Working.{Pushes};
+ghost use Rattle.nll_model.specs.Working.{PushesOwed};
 
 use nll_mail::Growth;
 use nll_owner::Owner;
@@ -70,7 +70,7 @@ impl Lane {
 
     // Appends the part of the log that another owner reads and that wasn't given to it yet.
     pub(crate) fn collect(&mut self, owner: &mut Owner<'_>, to: u16) -> Result<(), Memory>
-        requires sound { IsSound owner.old }
+        requires sound { IsSoundOwner owner.old }
         requires whole { owner.old.broken ≡ false }
         requires to { to < owner.old.cut.owners }
         ensures fresh { OnOk result (self.new ≡ record self.old {
@@ -79,7 +79,7 @@ impl Lane {
         ensures given { OnOk result (given_to owner.new to ≡ length (part_for owner.old to)) }
         ensures others { owner.new ≡ record owner.old { given = owner.new.given } }
         ensures other_given { (j : ℕ) → j ≢ to → given_to owner.new j ≡ given_to owner.old j }
-        ensures sound { IsSound owner.new }
+        ensures sound { IsSoundOwner owner.new }
     {
         collect(owner, &mut self.fresh, to)
     }
@@ -96,7 +96,7 @@ impl Lane {
 
     // Moves the first growth that is owed for into the box. Returns whether there is one.
     pub(crate) fn push(&mut self) -> Result<bool, Memory>
-        ensures { IfOk result (λ moved. Pushes moved self.old self.new) }
+        ensures { IfOk result (λ moved. PushesOwed moved self.old self.new) }
     {
         match self.out.pop_front() {
             Some(growth) => {
@@ -133,7 +133,7 @@ impl Lane {
 
 // Appends the part of the log that another owner reads and that wasn't given to it yet.
 fn collect(owner: &mut Owner<'_>, fresh: &mut VecDeque<Growth>, to: u16) -> Result<(), Memory>
-    requires sound { IsSound owner.old }
+    requires sound { IsSoundOwner owner.old }
     requires whole { owner.old.broken ≡ false }
     requires to { to < owner.old.cut.owners }
     ensures fresh { OnOk result (fresh.new.items
@@ -141,7 +141,7 @@ fn collect(owner: &mut Owner<'_>, fresh: &mut VecDeque<Growth>, to: u16) -> Resu
     ensures given { OnOk result (given_to owner.new to ≡ length (part_for owner.old to)) }
     ensures others { owner.new ≡ record owner.old { given = owner.new.given } }
     ensures other_given { (j : ℕ) → j ≢ to → given_to owner.new j ≡ given_to owner.old j }
-    ensures sound { IsSound owner.new }
+    ensures sound { IsSoundOwner owner.new }
 {
     while let Some(growth) = owner.outgoing(to) {
         fresh.push_back(growth)?;

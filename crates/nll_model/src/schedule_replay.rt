@@ -4,8 +4,8 @@ ghost use Rattle.std.specs.Prelude.{◌≡◌, ◌↔◌, ℕ, false, length, On
 ghost use Rattle.nll_core.specs.Values.{IsHeld, IsShaped};
 ghost use Rattle.nll_owner.specs.Tables.{AreTables};
 ghost use Rattle.fixpoint.specs.declared.error.PartError.TheVariants.{Memory as memory};
-ghost use Rattle.nll_model.specs.Events.{IsStep, AreSteps};
-ghost use Rattle.nll_model.specs.Soundness.{IsLawful, Says};
+ghost use Rattle.nll_model.specs.Events.{IsAnswerOf, AreSteps};
+ghost use Rattle.nll_model.specs.Soundness.{IsLawful, LogSays};
 ghost use Rattle.nll_model.specs.Replaying.{IsReplay};
 ghost use Rattle.nll_model.specs.declared.error.ModelError.TheVariants.{Owner};
 
@@ -75,7 +75,7 @@ fn outcome_of(
     ensures balance { IfOk result (λ r. r.balance ≡ world.now.state.balance) }
     ensures shaped { IfOk result (λ r. IsShaped world.now.problem r.values) }
     ensures held { IfOk result (λ r. (x e : ℕ)
-        → IsHeld r.values x e ↔ Says world.now.cut world.now.state x e) }
+        → IsHeld r.values x e ↔ LogSays world.now.cut world.now.state x e) }
     ensures lawful { IfOk result
         (λ _. IsLawful world.now.problem world.now.cut world.now.state) }
     ensures memory { IfErr result (λ error. error ≡ Owner memory) }
@@ -114,7 +114,7 @@ fn take_all(
 // The answer of an event; none where it isn't possible.
 fn answer_of(world: &mut World, event: Event) -> Result<Option<Step>, OwnerError>
     requires { world.old.broken ≡ false }
-    ensures step { IfOk result (λ answer. IsStep world.old.state event answer world.new.state) }
+    ensures step { IfOk result (λ answer. IsAnswerOf world.old.state event answer world.new.state) }
     ensures others { OnOk result (world.new ≡ record world.old { state = world.new.state }) }
     ensures memory { IfErr result (λ error. error ≡ memory) }
 {

@@ -3,12 +3,12 @@
 ghost use Rattle.std.specs.Prelude.{◌≡◌, ◌↔◌, ℕ, ◌^◌, ◌<◌, true, false, length, replicate, []};
 ghost use Rattle.std.specs.Prelude.{Err, OnOk, IfOk, IsTrue};
 ghost use Rattle.nll_mail.specs.declared.growth.Growth.{Growth};
-ghost use Rattle.nll_owner.specs.Owner.{IsSound, Passes, first_owner, with_growth};
+ghost use Rattle.nll_owner.specs.Owner.{IsSoundOwner, Passes, first_owner, with_growth};
 ghost use Rattle.fixpoint.specs.declared.error.PartError.TheVariants.{Broken};
 ghost use Rattle.nll_model.specs.State.{lane_to, with_lane, first_seat, empty_lane};
-ghost use Rattle.nll_model.specs.Events.{Turns, IsFree, HasSent, owed_seat, fresh_count};
-ghost use Rattle.nll_model.specs.Working.{Fills, PushesTo, TakesFrom};
-ghost use Rattle.nll_model.specs.Working.{GoesOn, NoGrowth, IsGrowthFrom};
+ghost use Rattle.nll_model.specs.Events.{TakesTurn, IsFreeOwner, HasSent, owed_seat, fresh_count};
+ghost use Rattle.nll_model.specs.Working.{FillsLanes, PushesTo, TakesFrom};
+ghost use Rattle.nll_model.specs.Working.{OwnerGoesOn, NoGrowth, IsGrowthFrom};
 ghost use Rattle.nll_model.specs.declared.seat.Item.TheVariants.{Nothing};
 
 use crate::lane::Lane;
@@ -104,7 +104,7 @@ impl<'q> Seat<'q> {
 
     // Whether the owner is loaded, works on nothing and hasn't left.
     pub(crate) fn is_free(&self) -> bool
-        ensures { IsTrue result ↔ IsFree self.now }
+        ensures { IsTrue result ↔ IsFreeOwner self.now }
     {
         if !self.owner.is_loaded() || self.left {
             return false;
@@ -144,16 +144,16 @@ impl<'q> Seat<'q> {
 
     // Loads the owner, and makes fresh all that it has for others.
     pub(crate) fn load(&mut self, owners: u16) -> Result<(), OwnerError>
-        requires sound { IsSound self.old.owner }
+        requires sound { IsSoundOwner self.old.owner }
         requires whole { self.old.owner.broken ≡ false }
         requires unloaded { self.old.owner.loaded ≡ false }
         requires owners { owners ≡ self.old.owner.cut.owners }
         requires lanes { length self.old.lanes ≡ owners }
         requires none_fresh { (j : ℕ) → (lane_to self.old j).fresh ≡ [] }
-        ensures turns { OnOk result (Turns self.old self.new) }
+        ensures turns { OnOk result (TakesTurn self.old self.new) }
         ensures received { OnOk result (self.new.owner.received ≡ self.old.owner.received) }
         ensures whole { result ≡ Err Broken → ⊥ }
-        ensures goes_on { GoesOn NoGrowth self.old.owner self.new.owner }
+        ensures goes_on { OwnerGoesOn NoGrowth self.old.owner self.new.owner }
     {
         self.owner.load()?;
         self.fill(owners)?;
@@ -168,7 +168,7 @@ impl<'q> Seat<'q> {
         from: u16,
         growth: Growth,
     ) -> Result<(), OwnerError>
-        requires sound { IsSound self.old.owner }
+        requires sound { IsSoundOwner self.old.owner }
         requires whole { self.old.owner.broken ≡ false }
         requires loaded { self.old.owner.loaded ≡ true }
         requires passes { Passes
@@ -176,11 +176,11 @@ impl<'q> Seat<'q> {
         requires owners { owners ≡ self.old.owner.cut.owners }
         requires lanes { length self.old.lanes ≡ owners }
         requires none_fresh { (j : ℕ) → (lane_to self.old j).fresh ≡ [] }
-        ensures turns { OnOk result (Turns self.old self.new) }
+        ensures turns { OnOk result (TakesTurn self.old self.new) }
         ensures received { OnOk result
             (self.new.owner.received ≡ with_growth self.old.owner.received from growth) }
         ensures whole { result ≡ Err Broken → ⊥ }
-        ensures goes_on { GoesOn (IsGrowthFrom from growth) self.old.owner self.new.owner }
+        ensures goes_on { OwnerGoesOn (IsGrowthFrom from growth) self.old.owner self.new.owner }
     {
         self.owner.receive(from, growth)?;
         self.fill(owners)?;
@@ -190,13 +190,13 @@ impl<'q> Seat<'q> {
 
     // Makes fresh all that the owner has for others.
     fn fill(&mut self, owners: u16) -> Result<(), Memory>
-        requires sound { IsSound self.old.owner }
+        requires sound { IsSoundOwner self.old.owner }
         requires whole { self.old.owner.broken ≡ false }
         requires owners { owners ≡ self.old.owner.cut.owners }
         requires lanes { length self.old.lanes ≡ owners }
-        ensures fills { OnOk result (Fills self.old self.new owners) }
+        ensures fills { OnOk result (FillsLanes self.old self.new owners) }
         ensures owner { self.new.owner ≡ record self.old.owner { given = self.new.owner.given } }
-        ensures sound { IsSound self.new.owner }
+        ensures sound { IsSoundOwner self.new.owner }
     {
         for to in 0..owners {
             self.lanes[to as usize].collect(&mut self.owner, to)?;

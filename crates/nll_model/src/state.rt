@@ -8,7 +8,7 @@ ghost use Rattle.nll_owner.specs.Logs.{IsCutOf};
 ghost use Rattle.fixpoint.specs.declared.error.PartError.TheVariants.{Broken};
 ghost use Rattle.nll_model.specs.State.{Seat, IsAt};
 ghost use Rattle.nll_model.specs.Events.{Does, IsPossible};
-ghost use Rattle.nll_model.specs.Soundness.{IsSoundState, IsOrderly, Says};
+ghost use Rattle.nll_model.specs.Soundness.{IsSoundState, IsOrderly, LogSays};
 ghost use Rattle.nll_model.specs.declared.event.Event.TheVariants as events;
 ghost use Rattle.nll_model.specs.declared.outcome.Step.TheVariants.{Done};
 
@@ -33,7 +33,7 @@ pub struct State<'q> {
 impl<'q> Model for State<'q> {
     ghost use Rattle.nll_model.specs.State as spec;
 
-    ghost Value = { spec.State };
+    ghost Value = { spec.WorldState };
 
     ghost view = { λ w. record { seats = w.seats.items; balance = w.balance } };
 }
@@ -69,7 +69,7 @@ impl<'q> State<'q> {
         requires sound { IsSoundState problem.now cut.now self.now }
         ensures shaped { IfOk result (λ values. IsShaped problem.now values) }
         ensures held { IfOk result (λ values. (r e : ℕ)
-            → IsHeld values r e ↔ Says cut.now self.now r e) }
+            → IsHeld values r e ↔ LogSays cut.now self.now r e) }
     {
         let mut sets = Vec::new(alloc);
         for number in 0..problem.regions() {

@@ -6,8 +6,8 @@ ghost use Rattle.nll_core.specs.Values.{IsHeld, IsShaped};
 ghost use Rattle.nll_owner.specs.Tables.{AreTables};
 ghost use Rattle.fixpoint.specs.declared.error.PartError.TheVariants.{Memory as memory, Broken};
 ghost use Rattle.nll_model.specs.State.{World, IsNew};
-ghost use Rattle.nll_model.specs.Events.{IsStep, IsPossible};
-ghost use Rattle.nll_model.specs.Soundness.{IsLawful, IsOrderly, Says};
+ghost use Rattle.nll_model.specs.Events.{IsAnswerOf, IsPossible};
+ghost use Rattle.nll_model.specs.Soundness.{IsLawful, IsOrderly, LogSays};
 ghost use Rattle.nll_model.specs.declared.error.ModelError.TheVariants.{NotNow, Owner};
 
 use crate::error::ModelError;
@@ -127,7 +127,7 @@ impl<'q> World<'q> {
           broken = self.new.broken;
         } }
         ensures done { IfOk result (λ answer. (self.old.broken ≡ false)
-            × IsStep self.old.state event (Some answer) self.new.state
+            × IsAnswerOf self.old.state event (Some answer) self.new.state
             × (self.new.broken ≡ false)) }
         ensures not_now { (result ≡ Err NotNow)
             ↔ ((self.old.broken ≡ false) × (IsPossible self.old.state event → ⊥)) }
@@ -186,7 +186,7 @@ impl<'q> World<'q> {
         requires { self.now.broken ≡ false }
         ensures shaped { IfOk result (λ values. IsShaped self.now.problem values) }
         ensures held { IfOk result (λ values. (r e : ℕ)
-            → IsHeld values r e ↔ Says self.now.cut self.now.state r e) }
+            → IsHeld values r e ↔ LogSays self.now.cut self.now.state r e) }
     {
         let values = self.state.values(alloc, self.problem, self.cut)?;
         Ok(values)

@@ -17,12 +17,12 @@ use Rattle.nll_core.proofs.SearchLemmas.{flag_within}
 use Rattle.nll_sets.specs.Runs.{IsInRuns, IsWithin, IsRunFrom}
 use Rattle.nll_sets.specs.declared.run.Run.{Run}
 use Rattle.nll_owner.specs.Logs.{IsTold}
-use Rattle.nll_owner.specs.Owner.{Owner, Has, IsCalled, IsSound}
-use Rattle.nll_owner.specs.Keeping.{Grows}
-use Rattle.nll_owner.specs.Following.{IsLinkOf, link_shape, constraint_of, Following, IsLeft, IsFollowed, IsFollowing, OfRunOr}
+use Rattle.nll_owner.specs.Owner.{Owner, Has, IsCalled, IsSoundOwner}
+use Rattle.nll_owner.specs.Keeping.{OwnerGrows}
+use Rattle.nll_owner.specs.Following.{IsLinkOf, link_shape, constraint_of, Following, IsLeft, IsLinkFollowed, IsFollowing, OfRunOr}
 use Rattle.nll_owner.specs.RegionRuns.{IsToldByRuns}
 use Rattle.nll_owner.specs.declared.link.Link.{Link}
-use Rattle.nll_owner.specs.declared.region_run.RegionRun.{RegionRun}
+use Rattle.nll_owner.specs.declared.region_runs.RegionRun.{RegionRun}
 use Rattle.nll_owner.proofs.DecidingLemmas.{Decided, either, of_run, told, told_by_runs, test_of, test_yes, test_from}
 use Rattle.nll_owner.proofs.LogRunLemmas.{at_place}
 use Rattle.nll_owner.proofs.RegionRunLemmas.{due_at, told_up_to}
@@ -33,7 +33,7 @@ use Rattle.nll_owner.proofs.LinkLemmas.{has_grown, lacks_more, left_grows, left_
 
 -- a link that lacks only what is left lacks only what is left among more
 pub followed_less : (o : Owner) (r : ℕ) (left more : ℕ → Type 0) (l : Link) → ((x : ℕ) → Has o r x → left x → more x)
-    → IsFollowed o r left l → IsFollowed o r more l
+    → IsLinkFollowed o r left l → IsLinkFollowed o r more l
 followed_less o r left more l of w = record {
   whole = w.whole;
   fits = w.fits;
@@ -62,22 +62,22 @@ following_less less more o f of w = record {
     left_less r e (inr d) = inr (of r e d)
 
 -- the constraints of a link hold at all points or at points of the graph
-starts_are_among : (o : Owner) (r : ℕ) (l : Link) → IsSound o → IsLinkOf o.cut o.me r o.problem.constraints l
+starts_are_among : (o : Owner) (r : ℕ) (l : Link) → IsSoundOwner o → IsLinkOf o.cut o.me r o.problem.constraints l
     → (p : At) → Contains l.frontier.starts p → IsAmong o.problem.graph.points p
 starts_are_among o r l sound link p h = sound.problem.constraint_points (constraint_of r l.sup p) (link.points p h)
 
 -- what a link has reached is asked for inside the set of the region
 sound_inside : (o : Owner) (r : ℕ) (left : ℕ → Type 0) (l : Link) (set : List Bool)
-    → ((x : ℕ) → IsIn set x ↔ Has o r x) → IsFollowed o r left l → (x : ℕ) → IsIn l.frontier.reached x
+    → ((x : ℕ) → IsIn set x ↔ Has o r x) → IsLinkFollowed o r left l → (x : ℕ) → IsIn l.frontier.reached x
     → IsAskedFrom o.problem.graph (IsIn set) l.frontier.starts x
 sound_inside o r left l set holds w x h = let t = w.sound x h in
     (t.0, t.1, asked_weaker o.problem.graph (Has o r) t.0 (IsIn set) (λ y. (holds y).1) x t.2)
 
 -- so it may grow by a run of the region
-pub may_grow : (o : Owner) (r : ℕ) (left : ℕ → Type 0) (l : Link) (set : List Bool) (run : Run) → IsSound o
+pub may_grow : (o : Owner) (r : ℕ) (left : ℕ → Type 0) (l : Link) (set : List Bool) (run : Run) → IsSoundOwner o
     → IsLinkOf o.cut o.me r o.problem.constraints l → length set ≡ element_count o.problem.graph
     → ((x : ℕ) → IsIn set x ↔ Has o r x) → run.first ≤ run.last → ((x : ℕ) → IsWithin run x → Has o r x)
-    → IsFollowed o r left l → MayGrowByRun o.problem.graph set run l.frontier
+    → IsLinkFollowed o r left l → MayGrowByRun o.problem.graph set run l.frontier
 may_grow o r left l set run sound link width holds proper has w = record {
   width = width;
   proper = proper;
@@ -112,10 +112,10 @@ module _ (o : Owner) (r : ℕ) (run : Run) (set : List Bool) (l m : Link) (found
       )
 
   -- what is left then is what was left, but for the run, and what is new
-  module _ (n : Owner) (g : Grows o n) (left later : ℕ → Type 0) (test : ℕ → Bool)
+  module _ (n : Owner) (g : OwnerGrows o n) (left later : ℕ → Type 0) (test : ℕ → Bool)
       (part : (x : ℕ) → left x → IsWithin run x ⊎ (test x ≡ true)) (rest : (x : ℕ) → test x ≡ true → later x)
       (new : (x : ℕ) → IsTold g.begins.0 r x → later x)
-      (w : IsFollowed o r left l) (was : l.rests ≡ false) (is : m.rests ≡ false)
+      (w : IsLinkFollowed o r left l) (was : l.rests ≡ false) (is : m.rests ≡ false)
       (covers : (x : ℕ) → IsInRuns found x → Has n l.sup x) where
     filled : (x : ℕ) → IsIn m.frontier.reached x → Has n l.sup x
     filled x h = go (flag l.frontier.reached x) refl
@@ -138,7 +138,7 @@ module _ (o : Owner) (r : ℕ) (run : Run) (set : List Bool) (l m : Link) (found
         (λ x h. ⊎_elim (λ had. inl ((holds x).1 had)) (λ k. inr (new x k)) (has_grown o n g r x h))
         (λ x _ due. rest x due) (grown.whole test before)
 
-    advanced : IsFollowed n r later m
+    advanced : IsLinkFollowed n r later m
     advanced = record {
       whole = grown.usable.1;
       fits = subst (λ (q : Problem). length m.frontier.reached ≤ element_count q.graph) (sym (same_problem o n g))
@@ -158,10 +158,10 @@ module _ (o : Owner) (r : ℕ) (run : Run) (set : List Bool) (l m : Link) (found
     }
 
   -- so it grows by a run, and what is behind the run up to a limit is due
-  pub advanced_on : (n : Owner) (g : Grows o n) (place limit : ℕ) (rest : List RegionRun) → place ≤ length o.log
-      → IsFollowed o r (IsLeft o place (OfRunOr rest r run.first limit) r) l
+  pub advanced_on : (n : Owner) (g : OwnerGrows o n) (place limit : ℕ) (rest : List RegionRun) → place ≤ length o.log
+      → IsLinkFollowed o r (IsLeft o place (OfRunOr rest r run.first limit) r) l
       → l.rests ≡ false → m.rests ≡ false → ((x : ℕ) → IsInRuns found x → Has n l.sup x)
-      → IsFollowed n r (IsLeft n place (OfRunOr rest r (run.last + 1) limit) r) m
+      → IsLinkFollowed n r (IsLeft n place (OfRunOr rest r (run.last + 1) limit) r) m
   advanced_on n g place limit rest low w =
       advanced n g (IsLeft o place (OfRunOr rest r run.first limit) r) (IsLeft n place due r) (test_of decided)
       (λ x k. ⊎_elim inl (λ later. inr (test_yes (IsLeft o place due r) decided x later)) (part x k))
@@ -185,11 +185,11 @@ module _ (o : Owner) (r : ℕ) (run : Run) (set : List Bool) (l m : Link) (found
 -- ---- a link rests, or is handed all that is known
 
 module _ (o : Owner) (r place : ℕ) (l : Link) (runs : List RegionRun) (count : ℕ) (low : count ≤ length runs)
-    (w : IsFollowed o r (IsLeft o place (IsToldByRuns runs) r) l) where
+    (w : IsLinkFollowed o r (IsLeft o place (IsToldByRuns runs) r) l) where
   -- where the own region has the first runs too, or all of the other one, the link may rest
   pub rested : (l.rests ≡ true → (n : ℕ) (k : RegionRun) → n < count → get_or runs n k ≡ k → (x : ℕ) → IsWithin k.run x
       → Has o l.sup x) → (l.rests ≡ false → (x : ℕ) → Has o r x → Has o l.sup x)
-      → IsFollowed o r (IsLeft o place (IsToldByRuns (drop count runs)) r) (record l { rests = true })
+      → IsLinkFollowed o r (IsLeft o place (IsToldByRuns (drop count runs)) r) (record l { rests = true })
   rested still all = record {
     whole = w.whole;
     fits = w.fits;
@@ -215,7 +215,7 @@ module _ (o : Owner) (r place : ℕ) (l : Link) (runs : List RegionRun) (count :
   -- where nothing is reached and no walk begins in the first runs, these bring nothing
   pub idle : l.rests ≡ false → 0 < count
       → ((n : ℕ) (k : RegionRun) → n < count → get_or runs n k ≡ k → IsIdle l.frontier.starts k.run l.frontier.reached)
-      → IsFollowed o r (IsLeft o place (IsToldByRuns (drop count runs)) r) l
+      → IsLinkFollowed o r (IsLeft o place (IsToldByRuns (drop count runs)) r) l
   idle awake some each = record {
     whole = w.whole;
     fits = w.fits;
@@ -266,8 +266,8 @@ module _ (o : Owner) (r place : ℕ) (l : Link) (runs : List RegionRun) (count :
 
 module _ (o : Owner) (r place : ℕ) (rest : List RegionRun) (l : Link) where
   -- all of the region is due to a link that is awake again
-  pub awoken : (left : ℕ → Type 0) (limit : ℕ) → ((x : ℕ) → Has o r x → x ≤ limit) → IsFollowed o r left l
-      → IsFollowed o r (IsLeft o place (OfRunOr rest r 0 limit) r) (record l { rests = false })
+  pub awoken : (left : ℕ → Type 0) (limit : ℕ) → ((x : ℕ) → Has o r x → x ≤ limit) → IsLinkFollowed o r left l
+      → IsLinkFollowed o r (IsLeft o place (OfRunOr rest r 0 limit) r) (record l { rests = false })
   awoken left limit low w = record {
     whole = w.whole;
     fits = w.fits;
@@ -291,10 +291,10 @@ module _ (o : Owner) (r place : ℕ) (rest : List RegionRun) (l : Link) where
       have x t = t.1 (due x t.0)
 
   module _ (set : List Bool) (holds : (x : ℕ) → IsIn set x ↔ Has o r x) (next limit : ℕ)
-      (w : IsFollowed o r (IsLeft o place (OfRunOr rest r next limit) r) l) where
+      (w : IsLinkFollowed o r (IsLeft o place (OfRunOr rest r next limit) r) l) where
     -- what is due of the region lies in the next run or behind it
     pub due_from : (run : Run) → IsRunFrom set next run
-        → IsFollowed o r (IsLeft o place (OfRunOr rest r run.first limit) r) l
+        → IsLinkFollowed o r (IsLeft o place (OfRunOr rest r run.first limit) r) l
     due_from run from =
         followed_less o r (IsLeft o place (OfRunOr rest r next limit) r)
         (IsLeft o place (OfRunOr rest r run.first limit) r) l less w
@@ -309,7 +309,7 @@ module _ (o : Owner) (r place : ℕ) (rest : List RegionRun) (l : Link) where
 
     -- where there is no such run, nothing of it is due
     pub none_due_from : ((x : ℕ) → next ≤ x → flag set x ≡ false)
-        → IsFollowed o r (IsLeft o place (IsToldByRuns rest) r) l
+        → IsLinkFollowed o r (IsLeft o place (IsToldByRuns rest) r) l
     none_due_from none =
         followed_less o r (IsLeft o place (OfRunOr rest r next limit) r) (IsLeft o place (IsToldByRuns rest) r) l less w
       where
@@ -320,8 +320,8 @@ module _ (o : Owner) (r place : ℕ) (rest : List RegionRun) (l : Link) where
         less x h (inr (inr told)) = inr told
 
   -- nothing is due behind the end of a run up to that end
-  pub none_due_past : (last : ℕ) → IsFollowed o r (IsLeft o place (OfRunOr rest r (last + 1) last) r) l
-      → IsFollowed o r (IsLeft o place (IsToldByRuns rest) r) l
+  pub none_due_past : (last : ℕ) → IsLinkFollowed o r (IsLeft o place (OfRunOr rest r (last + 1) last) r) l
+      → IsLinkFollowed o r (IsLeft o place (IsToldByRuns rest) r) l
   none_due_past last w =
       followed_less o r (IsLeft o place (OfRunOr rest r (last + 1) last) r)
       (IsLeft o place (IsToldByRuns rest) r) l less w
@@ -337,10 +337,10 @@ module _ (o : Owner) (r place : ℕ) (rest : List RegionRun) (l : Link) where
 module _ (o : Owner) (r place : ℕ) (l : Link) (runs : List RegionRun) (n : ℕ) where
   -- of what is told from a place on, the run there is next
   pub due_next : (k : RegionRun) (rest : List RegionRun) → rest ≡ drop (n + 1) runs → n < length runs
-      → k ≡ get_or runs n k → k.region ≡ r → IsFollowed o r (IsLeft o place (IsToldByRuns (drop n runs)) r) l
-      → IsFollowed o r (IsLeft o place (OfRunOr rest r k.run.first k.run.last) r) l
+      → k ≡ get_or runs n k → k.region ≡ r → IsLinkFollowed o r (IsLeft o place (IsToldByRuns (drop n runs)) r) l
+      → IsLinkFollowed o r (IsLeft o place (OfRunOr rest r k.run.first k.run.last) r) l
   due_next k rest is within at of w =
-      subst (λ xs. IsFollowed o r (IsLeft o place (OfRunOr xs r k.run.first k.run.last) r) l) (sym is)
+      subst (λ xs. IsLinkFollowed o r (IsLeft o place (OfRunOr xs r k.run.first k.run.last) r) l) (sym is)
       (followed_less o r (IsLeft o place (IsToldByRuns (drop n runs)) r)
       (IsLeft o place (OfRunOr (drop (n + 1) runs) r k.run.first k.run.last) r) l less w)
     where
@@ -351,7 +351,7 @@ module _ (o : Owner) (r place : ℕ) (l : Link) (runs : List RegionRun) (n : ℕ
 
   -- and once it's handed over, what is told behind it
   pub due_done : (last : ℕ) (rest : List RegionRun) → rest ≡ drop (n + 1) runs
-      → IsFollowed o r (IsLeft o place (OfRunOr rest r (last + 1) last) r) l
-      → IsFollowed o r (IsLeft o place (IsToldByRuns (drop (n + 1) runs)) r) l
+      → IsLinkFollowed o r (IsLeft o place (OfRunOr rest r (last + 1) last) r) l
+      → IsLinkFollowed o r (IsLeft o place (IsToldByRuns (drop (n + 1) runs)) r) l
   due_done last rest is w =
-      subst (λ xs. IsFollowed o r (IsLeft o place (IsToldByRuns xs) r) l) is (none_due_past o r place rest l last w)
+      subst (λ xs. IsLinkFollowed o r (IsLeft o place (IsToldByRuns xs) r) l) is (none_due_past o r place rest l last w)

@@ -5,7 +5,7 @@ use Rattle.nll_mail.specs.declared.growth.Growth.{Growth}
 use Rattle.nll_owner.specs.Following.{OfRun}
 use Rattle.nll_owner.specs.Logs.{IsTold}
 use Rattle.nll_owner.specs.RegionRuns.{IsToldByRuns}
-use Rattle.nll_owner.specs.declared.region_run.RegionRun.{RegionRun}
+use Rattle.nll_owner.specs.declared.region_runs.RegionRun.{RegionRun}
 use Rattle.fixpoint.proofs.ListLemmas.{contains_head, contains_tail, contains_cases}
 
 -- it holds, or it doesn't
@@ -37,10 +37,7 @@ some {X} P each (x ∷ xs) = go (each x) (some P each xs)
     go : Decided (P x) → Decided ((y : X) × Contains xs y × P y) → Decided ((y : X) × Contains (x ∷ xs) y × P y)
     go (inl p) d = inl (x, contains_head x xs, p)
     go (inr lacks) (inl w) = inl (w.0, contains_tail x xs w.0 w.1, w.2)
-    go (inr lacks) (inr never) = inr (λ w. ⊎_elim
-        (λ (same : x ≡ w.0). lacks (subst P (sym same) w.2))
-        (λ later. never (w.0, later, w.2))
-        (contains_cases x xs w.0 w.1))
+    go (inr lacks) (inr never) = grind (arith, contains_cases)
 
 pub told : (growths : List Growth) (r e : ℕ) → Decided (IsTold growths r e)
 told growths r e = ⊎_elim
@@ -57,10 +54,7 @@ told_by_runs runs r e = ⊎_elim
     (λ k. both _ _ (equal k.region r) (both _ _ (at_most k.run.first e) (at_most e k.run.last))) runs)
 
 pub of_run : (region first last r e : ℕ) → Decided (OfRun region first last r e)
-of_run region first last r e = ⊎_elim
-    (λ w. inl (w.0, w.1.0, w.1.1))
-    (λ lacks. inr (λ t. lacks (t.0, (t.1, t.2))))
-    (both _ _ (equal r region) (both _ _ (at_most first e) (at_most e last)))
+of_run region first last r e = grind (arith, both, equal, at_most)
 
 -- the test that goes by what was decided
 abbrev pub test_of : {P : ℕ → Type 0} → ((x : ℕ) → Decided (P x)) → ℕ → Bool

@@ -11,10 +11,10 @@ use Rattle.nll_problem.specs.Problem.{Problem, IsSound as IsSoundProblem}
 use Rattle.nll_core.specs.Search.{missing}
 use Rattle.nll_core.specs.Growing.{missing_pairs}
 use Rattle.nll_core.proofs.GrowingLemmas.{nothing_held}
-use Rattle.nll_cut.specs.Partition.{Cut, owner_of, reads, IsSound as IsSoundCut}
+use Rattle.nll_cut.specs.Partition.{Cut, owner_of, reads, IsSoundCut}
 use Rattle.nll_mail.specs.declared.growth.Growth.{Growth}
-use Rattle.nll_owner.specs.Owner.{received_from, Has, pair_count, IsSound, first_owner}
-use Rattle.nll_owner.specs.Keeping.{IsKept, AreSlotted, held_regions}
+use Rattle.nll_owner.specs.Owner.{received_from, Has, pair_count, IsSoundOwner, first_owner}
+use Rattle.nll_owner.specs.Keeping.{AreValuesKept, AreSlotted, held_regions}
 use Rattle.nll_owner.proofs.LogLemmas.{list_own, list_other}
 use Rattle.nll_owner.proofs.SlotLemmas.{held_short}
 use Rattle.nll_owner.proofs.OwnGrowthLemmas.{count}
@@ -24,32 +24,20 @@ use Rattle.nll_owner.proofs.OwnGrowthLemmas.{count}
 -- so many empty sets are one for each region that it holds
 pub first_slotted : (q : Problem) (c : Cut) (i n : ℕ) → n ≡ length (held_regions (first_owner q c i))
     → AreSlotted (first_owner q c i) (replicate n (replicate (element_count q.graph) false))
-first_slotted q c i n count = record {
-  slots = length-replicate n (replicate (element_count q.graph) false) ∙ count;
-  elements =
-      λ s low. ap length (get_or-replicate n s (replicate (element_count q.graph) false) [] (omega (arith, low, count)))
-      ∙ length-replicate {A = Bool} (element_count q.graph) false;
-}
+first_slotted q c i n count = grind (arith, length-replicate, count, get_or-replicate)
 
 module _ (q : Problem) (c : Cut) (i : ℕ) where
   no_growth : (g : Growth) → Contains [] g → ⊥
   no_growth g h = omega (arith, h.1)
 
   none_received : (j : ℕ) → received_from (first_owner q c i) j ≡ []
-  none_received j = ⊎_elim
-      (λ within. get_or-replicate c.owners j [] [] within)
-      (λ past. get_or_past (replicate c.owners []) j []
-      (omega (arith, past, length-replicate {A = List Growth} c.owners [])))
-      (cases_lt j c.owners)
+  none_received j = grind (arith, get_or-replicate, get_or_past, length-replicate, cases_lt)
 
   none_heard : (j : ℕ) (g : Growth) → Contains (received_from (first_owner q c i) j) g → ⊥
   none_heard j g h = no_growth g (subst (λ (xs : List Growth). Contains xs g) (none_received j) h)
 
   zero_at : (j : ℕ) → ◌≡◌ {A = ℕ} (get_or (replicate c.owners 0) j 0) 0
-  zero_at j = ⊎_elim
-      (λ within. get_or-replicate c.owners j 0 0 within)
-      (λ past. get_or_past (replicate c.owners 0) j 0 (omega (arith, past, length-replicate {A = ℕ} c.owners 0)))
-      (cases_lt j c.owners)
+  zero_at j = grind (arith, get_or-replicate, get_or_past, length-replicate, cases_lt)
 
   -- it has nothing
   pub has_nothing : (r e : ℕ) → Has (first_owner q c i) r e → ⊥
@@ -63,7 +51,7 @@ module _ (q : Problem) (c : Cut) (i : ℕ) where
 
   module _ (problem : IsSoundProblem q) (cut : IsSoundCut c) (regions : length c.list ≡ q.regions)
       (me : i < c.owners) where
-    pub first_sound : IsSound (first_owner q c i)
+    pub first_sound : IsSoundOwner (first_owner q c i)
     first_sound = record {
       problem = problem;
       cut = record { cut = cut; regions = regions };
@@ -92,7 +80,7 @@ module _ (q : Problem) (c : Cut) (i : ℕ) where
     }
 
     pub first_kept : (slots : List ℕ) → slots ≡ held_regions (first_owner q c i)
-        → IsKept (first_owner q c i) slots (replicate (length slots) (replicate (element_count q.graph) false))
+        → AreValuesKept (first_owner q c i) slots (replicate (length slots) (replicate (element_count q.graph) false))
     first_kept slots same = record {
       sound = first_sound;
       same_slots = same;
@@ -105,20 +93,7 @@ module _ (q : Problem) (c : Cut) (i : ℕ) where
     }
       where
         most : missing_pairs (replicate (length slots) (replicate (element_count q.graph) false)) ≤ pair_count q
-        most =
-            let rows = sum_by-replicate missing (length slots) (replicate (element_count q.graph) false) in
-            let row : missing (replicate (element_count q.graph) false) ≤ element_count q.graph =
-            omega (
-              arith,
-              count_by-le-length not (replicate (element_count q.graph) false),
-              length-replicate {A = Bool} (element_count q.graph) false,
-            ) in
-            let short : length slots ≤ q.regions =
-            omega (arith, held_short q.regions c i (reads q c i), ap length same) in
-            let all =
-            mul-le (length slots) (missing (replicate (element_count q.graph) false)) q.regions
-            (element_count q.graph) short row in
-            omega (arith, rows, all)
+        most = grind (arith, sum_by-replicate, count_by-le-length, length-replicate, held_short, mul-le)
 
 -- one more list is counted
 pub count_more : {V : Type 0} (f : V → List Growth) (lists : List V) (i : ℕ) (v : V) (count : ℕ) → i < length lists

@@ -8,7 +8,7 @@ use Rattle.nll_cut.specs.Partition.{Cut, owner_of}
 use Rattle.nll_mail.specs.declared.growth.Growth.{Growth}
 use Rattle.nll_owner.specs.Logs.{IsTold}
 use Rattle.nll_owner.specs.Owner.{Owner, Has, received_from}
-use Rattle.nll_owner.specs.Keeping.{IsKept, IsSlot, IsSlotIn}
+use Rattle.nll_owner.specs.Keeping.{AreValuesKept, IsSlot, IsSlotIn}
 use Rattle.nll_owner.specs.Holding.{Holding, HasSet, AreValuesOf}
 use Rattle.nll_owner.proofs.LogLemmas.{list_own}
 use Rattle.nll_owner.proofs.SlotLemmas.{own_held, slot_of, slot_region}
@@ -18,17 +18,10 @@ use Rattle.nll_owner.proofs.SlotLemmas.{own_held, slot_of, slot_region}
 -- a region has the set that stands at its slot
 pub set_at : (h : Holding) (s r : ℕ) → length h.sets ≡ length h.regions → IsSlotIn h.regions s r
     → HasSet h r (set_of h.sets s)
-set_at h s r same at = (
-  s,
-  slice_get_read h.regions (length h.regions) s r refl at.0 (sym at.1),
-  slice_get-get_or h.sets s [] (omega (arith, at.0, same)),
-)
+set_at h s r same at = grind (arith, slice_get_read, slice_get-get_or)
 
 slot_in : (h : Holding) (r : ℕ) (xs : List Bool) (has : HasSet h r xs) → IsSlotIn h.regions has.0 r
-slot_in h r xs has = (
-  slice_get_within h.regions has.0 r has.1,
-  get_or_from_slice_get h.regions has.0 r r has.1,
-)
+slot_in h r xs has = grind (arith, slice_get_within, get_or_from_slice_get)
 
 set_is : (h : Holding) (r : ℕ) (xs : List Bool) (has : HasSet h r xs) → set_of h.sets has.0 ≡ xs
 set_is h r xs has = get_or_from_slice_get h.sets has.0 xs [] has.2
@@ -39,7 +32,7 @@ own_told o r e own =
     let is = list_own o.cut o.me o.log (received_from o) r own in
     (λ h. subst (λ xs. IsTold xs r e) is h, λ h. subst (λ xs. IsTold xs r e) (sym is) h)
 
-module _ (o : Owner) (slots : List ℕ) (sets : List (List Bool)) (kept : IsKept o slots sets) where
+module _ (o : Owner) (slots : List ℕ) (sets : List (List Bool)) (kept : AreValuesKept o slots sets) where
   abbrev handed : Holding
   handed = record { regions = slots; sets = sets }
 
@@ -47,10 +40,7 @@ module _ (o : Owner) (slots : List ℕ) (sets : List (List Bool)) (kept : IsKept
   as_many = kept.shaped.slots ∙ sym (ap length kept.same_slots)
 
   pub kept_region : (r : ℕ) → Contains slots r → r < length o.cut.list
-  kept_region r h =
-      let at : IsSlot o h.0 r = subst (λ ys. IsSlotIn ys h.0 r) kept.same_slots (h.1, h.2) in
-      let low = slot_region o h.0 r at in
-      omega (arith, low, kept.sound.cut.regions)
+  kept_region r h = grind (arith, slot_region)
 
   slot_here : (r : ℕ) (xs : List Bool) (has : HasSet handed r xs) → IsSlot o has.0 r
   slot_here r xs has = subst (λ ys. IsSlotIn ys has.0 r) kept.same_slots (slot_in handed r xs has)

@@ -18,10 +18,10 @@ use Rattle.nll_cut.specs.Partition.{Cut, owner_of}
 use Rattle.nll_mail.specs.declared.growth.Growth.{Growth}
 use Rattle.nll_owner.specs.Logs.{IsTold, list_of}
 use Rattle.nll_owner.specs.Owner.{Owner, Has, received_from}
-use Rattle.nll_owner.specs.Keeping.{Grows, IsSlot, held_regions}
-use Rattle.nll_owner.specs.Following.{IsLinkOf, AreLinksOf, link_shape, constraint_of, Following, row_of, IsLeft, IsFollowed, IsFollowing, IsBehind}
+use Rattle.nll_owner.specs.Keeping.{OwnerGrows, IsSlot, held_regions}
+use Rattle.nll_owner.specs.Following.{IsLinkOf, AreLinksOf, link_shape, constraint_of, Following, links_of_slot, IsLeft, IsLinkFollowed, IsFollowing, IsLinkBehind}
 use Rattle.nll_owner.specs.RegionRuns.{IsToldByRuns}
-use Rattle.nll_owner.specs.declared.due.Due.{Due}
+use Rattle.nll_owner.specs.declared.link.Due.{Due}
 use Rattle.nll_owner.specs.declared.link.Link.{Link}
 use Rattle.nll_owner.proofs.LogLemmas.{list_own, list_other}
 use Rattle.fixpoint.proofs.ListLemmas.{contains_head, contains_tail, contains_cases}
@@ -99,12 +99,7 @@ same_count old row same = omega (arith, ap length same, length-map row link_shap
 module _ (P : Link → Type 0) (row : List Link) (n : ℕ) (m : Link) (within : n < length row) where
   pub before_next : ((k : ℕ) (x : Link) → k < n → get_or row k x ≡ x → P x) → P m → (k : ℕ) (x : Link) → k < n + 1
       → get_or (set row n m) k x ≡ x → P x
-  before_next before here k x low is = ⊎_elim
-      (λ early. before k x early (sym (get_or-set_other row n k m x (λ same. (let l = early in omega arith))) ∙ is))
-      (λ late.
-      let last : k ≡ n = omega arith in
-      subst P (sym (get_or-set_same row n m x within) ∙ (ap (λ j. get_or (set row n m) j x) (sym last) ∙ is)) here)
-      (cases_lt k n)
+  before_next before here k x low is = grind (arith, get_or-set_other, get_or-set_same, get_or, cases_lt)
 
   pub behind_next : ((k : ℕ) (x : Link) → n ≤ k → k < length row → get_or row k x ≡ x → P x) → (k : ℕ) (x : Link)
       → n + 1 ≤ k → k < length (set row n m) → get_or (set row n m) k x ≡ x → P x
@@ -135,10 +130,7 @@ module _ (g : Graph) (f : Frontier) (inside more due later : ℕ → Type 0)
       (cause y t.0)
 
   begun : (p : ℕ) → Contains f.starts (Point p) → there p → IsIn f.reached p
-  begun p start t = ⊎_elim
-      (λ i. w.asked p (Point p, start, reaches_first g there_before p (was_there p t i)))
-      t.1
-      (cause p t.0)
+  begun p start t = grind (arith, reaches_first, was_there)
 
   asked : (x : ℕ) → IsAskedFrom g there f.starts x → IsIn f.reached x
   asked x (All, every, t) = ⊎_elim (λ i. w.asked x (All, every, was_there x t i)) t.1 (cause x t.0)
@@ -153,7 +145,7 @@ module _ (g : Graph) (f : Frontier) (inside more due later : ℕ → Type 0)
 
 -- ---- the owner grows
 
-module _ (old new : Owner) (g : Grows old new) where
+module _ (old new : Owner) (g : OwnerGrows old new) where
   pub same_problem : new.problem ≡ old.problem
   same_problem = ap (λ (o : Owner). o.problem) g.others
 
@@ -227,7 +219,7 @@ module _ (old new : Owner) (g : Grows old new) where
       (λ x _ later. left_grows place due r x low later) w)
 
   pub followed_grows : (place : ℕ) (due : ℕ → ℕ → Type 0) (r : ℕ) (l : Link) → place ≤ length old.log
-      → IsFollowed old r (IsLeft old place due r) l → IsFollowed new r (IsLeft new place due r) l
+      → IsLinkFollowed old r (IsLeft old place due r) l → IsLinkFollowed new r (IsLeft new place due r) l
   followed_grows place due r l low w = record {
     whole = w.whole;
     fits = subst (λ (q : Problem). length l.frontier.reached ≤ element_count q.graph) (sym same_problem) w.fits;
@@ -247,7 +239,7 @@ module _ (old new : Owner) (g : Grows old new) where
     pursued = λ awake. pursued_grows place due r l low w.sound (w.pursued awake);
   }
 
-  pub behind_grows : (d : Due) (l : Link) → d.place ≤ length old.log → IsBehind old d l → IsBehind new d l
+  pub behind_grows : (d : Due) (l : Link) → d.place ≤ length old.log → IsLinkBehind old d l → IsLinkBehind new d l
   behind_grows d l low w = record {
     link = link_grows d.region l l refl w.link;
     followed = followed_grows d.place (IsToldByRuns d.runs.now) d.region l low w.followed;
@@ -257,6 +249,6 @@ module _ (old new : Owner) (g : Grows old new) where
   following_grows due f w = record {
     count = w.count ∙ ap (λ (o : Owner). length (held_regions o)) (sym g.others);
     within = omega (arith, w.within, grows_le old new g);
-    links = λ s r at. links_grow r (row_of f s) (w.links s r (slot_before s r at));
+    links = λ s r at. links_grow r (links_of_slot f s) (w.links s r (slot_before s r at));
     followed = λ s r l at h. followed_grows f.place due r l w.within (w.followed s r l (slot_before s r at) h);
   }

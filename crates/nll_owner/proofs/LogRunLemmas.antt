@@ -11,35 +11,13 @@ use Rattle.nll_owner.specs.Logs.{IsRunOfLog, IsTold}
 
 pub run_first : (log : List Growth) (place e : ℕ) (a b : Growth) → place < length log → (get_or log place b).element ≡ e
     → IsRunOfLog log place (place + 1) (get_or log place a).region (record { first = e; last = e })
-run_first log place e a b within is = record {
-  more = omega arith;
-  within = omega (arith, within);
-  each = λ k h low high at.
-      let same : (d : Growth) → h ≡ get_or log place d = λ d. sym at
-      ∙ (ap (λ i. get_or log i h) (omega (arith, low, high)) ∙ get_or_default log place h d within) in (
-        ap (λ (x : Growth). x.region) (same a),
-        (let at_b = ap (λ (x : Growth). x.element) (same b) in omega (arith, at_b, is, low, high)),
-      );
-  ends = omega arith;
-}
+run_first log place e a b within is = grind (arith, get_or, get_or_default)
 
 pub run_more : (log : List Growth) (place end r first last : ℕ) (g : Growth)
     → IsRunOfLog log place end r (record { first = first; last = last }) → end < length log → g ≡ get_or log end g
     → (g.region ≡ r) × (g.element ≡ last + 1)
     → IsRunOfLog log place (end + 1) r (record { first = first; last = last + 1 })
-run_more log place end r first last g w within is next = record {
-  more = omega (arith, w.more);
-  within = omega (arith, within);
-  each = λ k h low high at. ⊎_elim
-      (λ here.
-      let same : h ≡ g = sym at ∙ (ap (λ i. get_or log i h) here ∙ (get_or_default log end h g within ∙ sym is)) in (
-        ap (λ (x : Growth). x.region) same ∙ next.0,
-        (let e = ap (λ (x : Growth). x.element) same in omega (arith, e, here, next.1, w.ends)),
-      ))
-      (λ other. w.each k h low (omega (arith, high, other)) at)
-      (cases_eq k end);
-  ends = omega (arith, w.ends);
-}
+run_more log place end r first last g w within is next = grind (arith, get_or, get_or_default, cases_eq)
 
 -- ---- its growths
 

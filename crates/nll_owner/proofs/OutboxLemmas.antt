@@ -11,7 +11,7 @@ use Rattle.nll_mail.specs.declared.growth.Growth.{Growth}
 use Rattle.nll_problem.specs.Problem.{Problem}
 use Rattle.nll_owner.specs.Logs.{part}
 use Rattle.nll_owner.specs.Owner.{Owner, given_to, part_for, first_owner}
-use Rattle.nll_owner.specs.Keeping.{Grows}
+use Rattle.nll_owner.specs.Keeping.{OwnerGrows}
 use Rattle.nll_problem.specs.Limits.{most_owners}
 use Rattle.nll_owner.specs.Outboxes.{Outboxes, outboxes_of, queue_of, AreQueues, AreQueued, AreAllQueued, GotPlaces, TellsAs}
 use Rattle.nll_owner.proofs.OwnerLemmas.{get_at}
@@ -124,20 +124,7 @@ queued_longer o rest b queued = record {
 module _ (o n : Owner) (b : Outboxes) (problem : n.problem ≡ o.problem) (cut : n.cut ≡ o.cut)
     (given : n.given ≡ o.given) (log : n.log ≡ o.log) where
   same_queued : AreQueued o b → AreQueued n b
-  same_queued queued = record {
-    owners = queued.owners ∙ ap (λ (c : Cut). c.owners) (sym cut);
-    within = omega (arith, queued.within, ap length log);
-    enough =
-        λ j. subst (λ (x : ℕ × List Growth). x.0 ≤ length x.1)
-        (λ i. (get_or (sym given i) j 0, part (sym problem i) (sym cut i) j (take b.place (sym log i))))
-        (queued.enough j);
-    each = λ j h. subst (λ (x : List Growth × (ℕ × List Growth)). map (slice_get x.0) (queue_of b j)
-        ≡ map Some (drop x.1.0 x.1.1)) (λ i. (
-          sym log i,
-          (get_or (sym given i) j 0, part (sym problem i) (sym cut i) j (take b.place (sym log i))),
-        ))
-        (queued.each j (subst (λ (c : Cut). j < c.owners) cut h));
-  }
+  same_queued queued = grind (arith, get_or)
 
 -- ... or a longer one
 pub queued_begins : (o n : Owner) (b : Outboxes) → n.problem ≡ o.problem → n.cut ≡ o.cut → n.given ≡ o.given
@@ -150,7 +137,7 @@ pub all_queued_same : (o n : Owner) (b : Outboxes) → n.problem ≡ o.problem �
 all_queued_same o n b problem cut given log queued =
     (same_queued o n b problem cut given log queued.0, queued.1 ∙ ap length (sym log))
 
-pub queued_grows : (old new : Owner) (b : Outboxes) → Grows old new → AreQueued old b → AreQueued new b
+pub queued_grows : (old new : Owner) (b : Outboxes) → OwnerGrows old new → AreQueued old b → AreQueued new b
 queued_grows old new b grows queued =
     queued_begins old new b (ap (λ (o : Owner). o.problem) grows.others) (ap (λ (o : Owner). o.cut) grows.others)
     (ap (λ (o : Owner). o.given) grows.others) grows.begins.0 grows.begins.1 queued
@@ -178,11 +165,7 @@ module _ (o : Owner) (readers : List (List Bool)) (tells : TellsAs o readers) (o
   -- the growths between are of the region
   of_region : (g : Growth) → Contains middle g → g.region ≡ region
   of_region g h =
-      let short = length-take-le n (drop old.place o.log) (omega (arith, length-drop old.place o.log)) in
-      let there : get_or o.log (old.place + h.0) g ≡ g = sym (get_or-drop old.place o.log h.0 g)
-      ∙ (sym (get_or-take n (drop old.place o.log) h.0 g (omega (arith, h.1, short))) ∙ h.2) in
-      same (old.place + h.0) g (omega arith) (omega (arith, h.1, short))
-      (get_at o.log (old.place + h.0) g (omega (arith, h.1, short)) there)
+      grind (arith, length-take-le, length-drop, get_or, get_or-drop, get_or-take, same, get_at)
 
   front : take end o.log ≡ take old.place o.log ++ middle
   front =
@@ -241,21 +224,7 @@ module _ (o : Owner) (readers : List (List Bool)) (tells : TellsAs o readers) (o
       go false is = passed_by j in_queues is
 
   pub looked_through : AreQueued o new
-  looked_through = record {
-    owners = count ∙ queued.owners;
-    within = omega (arith, place);
-    enough =
-        λ j. subst (λ k. given_to o j ≤ length (part o.problem o.cut j (take k o.log))) (sym place)
-        (omega (
-          arith,
-          queued.enough j,
-          ap length (part_front j),
-          length-append (part o.problem o.cut j (take old.place o.log)) (part o.problem o.cut j middle),
-        ));
-    each = λ j h. subst (λ k. map (slice_get o.log) (queue_of new j)
-        ≡ map Some (drop (given_to o j) (part o.problem o.cut j (take k o.log)))) (sym place)
-        (each_new j (omega (arith, h, queued.owners)));
-  }
+  looked_through = grind (arith, part_front, length-append, each_new)
 
 -- ---- the log is given out
 
@@ -348,22 +317,10 @@ module _ (o : Owner) (b : Outboxes) (all : AreAllQueued o b) where
 
 pub queued_first : (q : Problem) (c : Cut) (i : ℕ)
     → AreAllQueued (first_owner q c i) (outboxes_of (replicate c.owners []) 0)
-queued_first q c i = (
-  record {
-    owners = length-replicate c.owners [];
-    within = omega arith;
-    enough = λ j. omega (arith, none_given j);
-    each = λ j h. ap (map (slice_get {X = Growth} [])) (get_or-replicate c.owners j [] [] h)
-        ∙ sym (ap (map Some) (nothing (given_to (first_owner q c i) j)));
-  },
-  refl,
-)
+queued_first q c i = grind (arith, length-replicate, none_given, get_or-replicate, nothing)
   where
     none_given : (j : ℕ) → ◌≡◌ {A = ℕ} (get_or (replicate c.owners 0) j 0) 0
-    none_given j = ⊎_elim
-        (λ within. get_or-replicate c.owners j 0 0 within)
-        (λ past. get_or_past (replicate c.owners 0) j 0 (omega (arith, past, length-replicate {A = ℕ} c.owners 0)))
-        (cases_lt j c.owners)
+    none_given j = grind (arith, get_or-replicate, get_or_past, length-replicate, cases_lt)
 
     nothing : (n : ℕ) → drop {A = Growth} n [] ≡ []
     nothing zero = refl
@@ -372,17 +329,10 @@ queued_first q c i = (
 -- ---- queues that get places
 
 pub none_queues : (n : ℕ) → n ≤ most_owners → AreQueues (outboxes_of (replicate n []) 0)
-none_queues n few = record {
-  few = omega (arith, few, length-replicate {A = List ℕ} n []);
-  short = λ j. omega (arith, ap length (nothing j));
-}
+none_queues n few = grind (arith, length-replicate, nothing)
   where
     nothing : (j : ℕ) → get_or (replicate {A = List ℕ} n []) j [] ≡ []
-    nothing j = ⊎_elim
-        (λ within. get_or-replicate n j [] [] within)
-        (λ past. get_or_past (replicate {A = List ℕ} n []) j []
-        (omega (arith, past, length-replicate {A = List ℕ} n [])))
-        (cases_lt j n)
+    nothing j = grind (arith, get_or-replicate, get_or_past, length-replicate, cases_lt)
 
 module _ (reads : ℕ → Bool) (places : List ℕ) (old : Outboxes) where
   -- the next one that reads got them
@@ -404,8 +354,4 @@ module _ (reads : ℕ → Bool) (places : List ℕ) (old : Outboxes) where
     where
       go : (j : ℕ) (b : Bool) → reads j ≡ b → length (queue_of new j) ≤ new.place
       go j false skipped = omega (arith, ap length (g.passed j skipped), old_queues.short j, place)
-      go j true is = ⊎_elim
-          (λ l. (let longer = ap length (g.got j l is) in
-          omega (arith, longer, length-append (queue_of old j) places, old_queues.short j, place)))
-          (λ above. omega (arith, ap length (g.left j above), old_queues.short j, place))
-          (cases_lt j below)
+      go j true is = grind (arith, length-append, cases_lt)

@@ -16,16 +16,16 @@ use Rattle.nll_problem.specs.declared.constraint.Constraint.{Constraint}
 use Rattle.nll_problem.proofs.AskLemmas.{asked_weaker}
 use Rattle.nll_cut.specs.Partition.{owner_of}
 use Rattle.nll_mail.specs.declared.growth.Growth.{Growth}
-use Rattle.nll_owner.specs.Logs.{IsWellFormed, part, IsToldBefore, IsWellSupported}
-use Rattle.nll_owner.specs.Owner.{Owner, IsNoted, received_from, list_in, Has, IsCalled, part_for, pair_count, IsSound}
-use Rattle.nll_owner.specs.Keeping.{IsKept, Grows, IsSlot, growth_at, growths}
+use Rattle.nll_owner.specs.Logs.{IsWellFormedLog, part, IsToldBefore, IsWellSupported}
+use Rattle.nll_owner.specs.Owner.{Owner, IsNoted, received_from, list_in, Has, IsCalled, part_for, pair_count, IsSoundOwner}
+use Rattle.nll_owner.specs.Keeping.{AreValuesKept, OwnerGrows, IsSlot, growth_at, growths}
 use Rattle.nll_owner.proofs.LogLemmas.{list_own, list_other}
 use Rattle.nll_owner.proofs.SlotLemmas.{slot_same, slots_apart, slotted_gains}
 use Rattle.nll_owner.proofs.OwnerLemmas.{IsIn, called_grows, has_grows, known_in, list_longer, supported_in}
 
 -- ---- an own region grows by an element
 
-module _ (o : Owner) (sound : IsSound o) (region element : ℕ) (own : owner_of o.cut region ≡ o.me)
+module _ (o : Owner) (sound : IsSoundOwner o) (region element : ℕ) (own : owner_of o.cut region ≡ o.me)
     (in_elements : element < element_count o.problem.graph)
     (lacks : Has o region element → ⊥) (asked : IsCalled o region element)
     (room : length o.log < pair_count o.problem) where
@@ -51,7 +51,7 @@ module _ (o : Owner) (sound : IsSound o) (region element : ℕ) (own : owner_of 
           omega arith)
           (cases_eq (owner_of o.cut b) o.me)
 
-  grown_well_formed : IsWellFormed o.cut o.me (o.log ++ growth ∷ [])
+  grown_well_formed : IsWellFormedLog o.cut o.me (o.log ++ growth ∷ [])
   grown_well_formed = record {
     own = λ g h. ⊎_elim (λ old. sound.well_formed.own g old)
         (λ is. subst (λ (g : Growth). owner_of o.cut g.region ≡ o.me) is own) (Contains-push_cases o.log growth g h);
@@ -93,7 +93,7 @@ module _ (o : Owner) (sound : IsSound o) (region element : ℕ) (own : owner_of 
       ⊎_elim (λ (a : Contains o.log h). inl (Contains-append_left o.log (growth ∷ []) h a))
       (λ (b : (j : ℕ) × Contains (received_from o j) h). inr b) k
 
-  grown_sound : IsSound grown
+  grown_sound : IsSoundOwner grown
   grown_sound = record {
     problem = sound.problem;
     cut = sound.cut;
@@ -138,7 +138,7 @@ module _ (o : Owner) (sound : IsSound o) (region element : ℕ) (own : owner_of 
 abbrev late : Owner → List Growth → ℕ → Owner
 late o log clock = record o { log = log; clock = clock }
 
-module _ (o : Owner) (sound : IsSound o) (region first count : ℕ) (own : owner_of o.cut region ≡ o.me)
+module _ (o : Owner) (sound : IsSoundOwner o) (region first count : ℕ) (own : owner_of o.cut region ≡ o.me)
     (in_elements : (k : ℕ) → k < count → first + k < element_count o.problem.graph)
     (lacks : (k : ℕ) → k < count → Has o region (first + k) → ⊥)
     (asked : (k : ℕ) → k < count → IsCalled o region (first + k))
@@ -154,12 +154,7 @@ module _ (o : Owner) (sound : IsSound o) (region first count : ℕ) (own : owner
   -- a growth of them is of the region and of one of the elements
   of_these : (n : ℕ) (g : Growth) → Contains (grown_by n) g
       → (g.region ≡ region) × (first ≤ g.element) × (g.element < first + n)
-  of_these n g h =
-      let within : h.0 < n = omega (arith, h.1, length-map-range_with_len (growth_at region first o.clock) 0 n) in
-      let is : growth_at region first o.clock h.0 ≡ g =
-      sym (get_or-map-range_with_len (growth_at region first o.clock) 0 n h.0 h.0 g within (omega arith)) ∙ h.2 in
-      let at = ap (λ (x : Growth). x.element) is in
-      (sym (ap (λ (x : Growth). x.region) is), omega (arith, at), omega (arith, at, within))
+  of_these n g h = grind (arith, length-map-range_with_len, get_or-map-range_with_len)
 
   -- what the owner has then it had, or it is of them
   had : (n b e : ℕ) → Has (after n) b e → Has o b e ⊎ ((b ≡ region) × (first ≤ e) × (e < first + n))
@@ -202,7 +197,7 @@ module _ (o : Owner) (sound : IsSound o) (region first count : ℕ) (own : owner
     refl,
   )
 
-  after_grows : (n : ℕ) → IsSound (after n) → Grows o (after n)
+  after_grows : (n : ℕ) → IsSoundOwner (after n) → OwnerGrows o (after n)
   after_grows n s = record { begins = (grown_by n, refl); others = refl; sound = s }
 
   -- one more
@@ -216,14 +211,15 @@ module _ (o : Owner) (sound : IsSound o) (region first count : ℕ) (own : owner
       ∙ ap (λ m. o.log ++ grown_by m) on in
       ap (λ xs. late o xs (o.clock + n + 1)) log ∙ ap (late o (o.log ++ grown_by (suc n))) (omega arith)
 
-  pub after_sound : (n : ℕ) → n ≤ count → IsSound (after n)
+  pub after_sound : (n : ℕ) → n ≤ count → IsSoundOwner (after n)
   after_sound zero low =
-      subst IsSound (ap (λ xs. late o xs o.clock) (sym (append-nil o.log)) ∙ ap (late o (o.log ++ [])) (omega arith))
+      subst IsSoundOwner (ap (λ xs. late o xs o.clock) (sym (append-nil o.log)) ∙ ap (late o (o.log
+      ++ [])) (omega arith))
       sound
   after_sound (suc n) low =
       let before = after_sound n (omega (arith, low)) in
       let within : n < count = omega (arith, low) in
-      subst IsSound (one_more n)
+      subst IsSoundOwner (one_more n)
       (grown_sound (after n) before region (first + n) own (in_elements n within)
       (λ h. ⊎_elim (lacks n within) (λ (new : (region ≡ region) × (first ≤ first + n) × (first + n < first + n)).
       omega (arith, new.2)) (had n region (first + n) h))
@@ -238,7 +234,8 @@ module _ (o : Owner) (sound : IsSound o) (region first count : ℕ) (own : owner
 
 -- ---- an own region grows by a run that it lacks
 
-module _ (o : Owner) (slots : List ℕ) (values then : List (List Bool)) (kept : IsKept o slots values) (region slot : ℕ)
+module _ (o : Owner) (slots : List ℕ) (values then : List (List Bool)) (kept : AreValuesKept o slots values)
+    (region slot : ℕ)
     (at : IsSlot o slot region) (gap : Run) (own : owner_of o.cut region ≡ o.me) (proper : gap.first ≤ gap.last)
     (in_elements : gap.last < element_count o.problem.graph) (asked : (x : ℕ) → IsWithin gap x → IsCalled o region x)
     (lacks : (x : ℕ) → IsWithin gap x → Has o region x → ⊥)
@@ -258,14 +255,14 @@ module _ (o : Owner) (slots : List ℕ) (values then : List (List Bool)) (kept :
   missing_then : missing_pairs then + count ≤ missing_pairs values
   missing_then = omega (arith, fewer (λ e own h. lacks e own ((kept.held slot region e at).0 h)), proper)
 
-  run_sound : IsSound run_grown
+  run_sound : IsSoundOwner run_grown
   run_sound =
       after_sound o kept.sound region gap.first count own
       (λ k low. (let l = (of_gap k low).1 in omega (arith, l, in_elements))) (λ k low. lacks _ (of_gap k low))
       (λ k low. asked _ (of_gap k low))
       (omega (arith, missing_then, kept.room)) count (omega arith)
 
-  pub run_grows : Grows o run_grown
+  pub run_grows : OwnerGrows o run_grown
   run_grows = record { begins = (growths region gap.first o.clock count, refl); others = refl; sound = run_sound }
 
   pub run_has : (x : ℕ) → IsWithin gap x → Has run_grown region x
@@ -283,7 +280,7 @@ module _ (o : Owner) (slots : List ℕ) (values then : List (List Bool)) (kept :
       (λ k low. lacks _ (of_gap k low)) (λ k low. asked _ (of_gap k low))
       (omega (arith, missing_then, kept.room)) count
 
-  pub run_kept : IsKept run_grown slots then
+  pub run_kept : AreValuesKept run_grown slots then
   run_kept = record {
     sound = run_sound;
     same_slots = kept.same_slots;

@@ -7,7 +7,7 @@ use Rattle.std.proofs.lemmas.List.{drop_all, drop_more, drop-set, drop-append-le
 use Rattle.std.proofs.lemmas.List.Concat.{flat_map-append, flat_map-cons}
 use Rattle.std.proofs.lemmas.List.FromFn.{length-range_with_len}
 use Rattle.nll_owner.specs.Outboxes.{IsQueue, places_of, queued}
-use Rattle.nll_owner.specs.declared.outbox.Places.{Places}
+use Rattle.nll_owner.specs.declared.outboxes.Places.{Places}
 
 -- numbers from one on, the first apart
 range_first : (a n : ℕ) → 0 < n → range_with_len a n ≡ a ∷ range_with_len (a + 1) (n - 1)
@@ -36,23 +36,17 @@ module _ (ranges : List Places) (at count : ℕ) (queue : IsQueue ranges at coun
       ∙ ap (λ xs. queued ranges at ++ xs) (append-nil (places_of range)))
 
   pub queue_push : IsQueue (ranges ++ range ∷ []) at (count + (range.end - range.first))
-  queue_push = record {
-    within = omega (arith, queue.within, length_push ranges range);
-    proper = λ k d h. ⊎_elim
-        (λ old. subst (λ (p : Places). p.first < p.end) (sym (get_or_append_left ranges (range ∷ []) d k old))
-        (queue.proper k d old))
-        (λ new. subst (λ (p : Places). p.first < p.end)
-        (sym (get_or_push ranges range d k (omega (arith, new, h, length_push ranges range)))) proper)
-        (cases_lt k (length ranges));
-    counted =
-        omega (
-          arith,
-          queue.counted,
-          ap length queued_push,
-          length-append (queued ranges at) (places_of range),
-          length-range_with_len range.first (range.end - range.first),
-        );
-  }
+  queue_push =
+      grind (
+        arith,
+        length_push,
+        get_or_append_left,
+        get_or_push,
+        cases_lt,
+        queued_push,
+        length-append,
+        length-range_with_len,
+      )
 
 -- the first place goes
 module _ (ranges : List Places) (at count : ℕ) (queue : IsQueue ranges at count) (range : Places)
@@ -75,16 +69,7 @@ module _ (ranges : List Places) (at count : ℕ) (queue : IsQueue ranges at coun
   first_place = ap (λ xs. slice_get xs 0) (split ∙ ap (λ xs. xs ++ queued ranges (at + 1)) first_apart)
 
   one_less : length (drop 1 (queued ranges at)) + 1 ≡ length (queued ranges at)
-  one_less =
-      omega (
-        arith,
-        ap length split,
-        ap length first_apart,
-        length-append (places_of range) (queued ranges (at + 1)),
-        ap length rest_is,
-        length-append (range_with_len (range.first + 1) (range.end - range.first - 1))
-            (queued ranges (at + 1)),
-      )
+  one_less = grind (arith, split, first_apart, length-append, rest_is)
 
   -- ... of a range that goes with it
   module _ (last : range.end ≤ range.first + 1) where
@@ -95,12 +80,7 @@ module _ (ranges : List Places) (at count : ℕ) (queue : IsQueue ranges at coun
         gone = omega (arith, last)
 
     pub queue_next : IsQueue ranges (at + 1) (count - 1)
-    queue_next =
-        record {
-          within = omega arith;
-          proper = queue.proper;
-          counted = omega (arith, queue.counted, ap length queued_next, one_less);
-        }
+    queue_next = grind (arith, queued_next, one_less)
 
   -- ... of one of which places are left
   module _ (more : range.first + 1 < range.end) where
@@ -108,21 +88,9 @@ module _ (ranges : List Places) (at count : ℕ) (queue : IsQueue ranges at coun
     shorter = record { first = range.first + 1; end = range.end }
 
     pub queued_shorter : queued (set ranges at shorter) at ≡ drop 1 (queued ranges at)
-    queued_shorter =
-        let same : range.end - (range.first + 1) ≡ range.end - range.first - 1 = omega arith in
-        ap (flat_map places_of) (drop-set ranges at shorter within)
-        ∙ (flat_map-cons places_of shorter (drop (at + 1) ranges)
-        ∙ (ap (λ n. range_with_len (range.first + 1) n ++ queued ranges (at + 1)) same ∙ sym rest_is))
+    queued_shorter = grind (arith, drop-set, flat_map-cons, rest_is)
 
     pub queue_shorter : IsQueue (set ranges at shorter) at (count - 1)
-    queue_shorter = record {
-      within = omega (arith, length-set ranges at shorter);
-      proper = λ k d h. ⊎_elim
-          (λ this. subst (λ i. (get_or (set ranges at shorter) i d).first < (get_or (set ranges at shorter) i d).end)
-          (sym this) (subst (λ (p : Places). p.first < p.end)
-          (sym (get_or-set_same ranges at shorter d within)) more))
-          (λ other. subst (λ (p : Places). p.first < p.end) (sym (get_or-set_other ranges at k shorter d other))
-          (queue.proper k d (omega (arith, h, length-set ranges at shorter))))
-          (cases_eq k at);
-      counted = omega (arith, queue.counted, ap length queued_shorter, one_less);
-    }
+    queue_shorter =
+        grind (arith, length-set, get_or, get_or-set_same, get_or-set_other, cases_eq, queued_shorter, one_less) steps
+        1000000

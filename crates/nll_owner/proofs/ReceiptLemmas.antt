@@ -11,15 +11,16 @@ use Rattle.nll_core.proofs.GrowingLemmas.{held_one, gains_one, tells_one}
 use Rattle.nll_cut.specs.Partition.{owner_of, reads}
 use Rattle.nll_cut.proofs.ReadLemmas.{reads_tells}
 use Rattle.nll_mail.specs.declared.growth.Growth.{Growth}
-use Rattle.nll_owner.specs.Owner.{Owner, IsNoted, received_from, list_in, Has, IsSound, Passes, with_growth}
-use Rattle.nll_owner.specs.Keeping.{IsKept, HasBeside, IsSlot, holds_region}
+use Rattle.nll_owner.specs.Owner.{Owner, IsNoted, received_from, list_in, Has, IsSoundOwner, Passes, with_growth}
+use Rattle.nll_owner.specs.Keeping.{AreValuesKept, HasBeside, IsSlot, holds_region}
 use Rattle.nll_owner.proofs.LogLemmas.{list_own, list_other}
 use Rattle.nll_owner.proofs.SlotLemmas.{slot_same, slots_apart, slotted_gains, read_held}
 use Rattle.nll_owner.proofs.OwnerLemmas.{IsIn, known_in, supported_in}
 
 -- ---- a growth is received
 
-module _ (o : Owner) (slots : List ℕ) (values : List (List Bool)) (kept : IsKept o slots values) (from : ℕ) (g : Growth)
+module _ (o : Owner) (slots : List ℕ) (values : List (List Bool)) (kept : AreValuesKept o slots values) (from : ℕ)
+    (g : Growth)
     (passes : Passes o.problem o.cut o.me from g) where
   owner : owner_of o.cut g.region ≡ from
   owner = passes.sender
@@ -140,7 +141,7 @@ module _ (o : Owner) (slots : List ℕ) (values : List (List Bool)) (kept : IsKe
       ⊎_elim (λ (a : Contains o.log h). inl a)
       (λ (b : (j : ℕ) × Contains (received_from o j) h). inr (b.0, received_more b.0 h b.1)) k
 
-  pub told_sound : IsSound told_of
+  pub told_sound : IsSoundOwner told_of
   told_sound = record {
     problem = kept.sound.problem;
     cut = kept.sound.cut;
@@ -204,7 +205,7 @@ module _ (o : Owner) (slots : List ℕ) (values : List (List Bool)) (kept : IsKe
         go true t = (let l = t.fewer refl in omega arith)
         go false t = subst (λ v. missing_pairs v ≤ missing_pairs values) (sym (t.same refl)) (omega arith)
 
-    pub told_kept : IsKept told_of slots (with_element values slot g.element)
+    pub told_kept : AreValuesKept told_of slots (with_element values slot g.element)
     told_kept = record {
       sound = told_sound;
       same_slots = kept.same_slots;

@@ -9,11 +9,7 @@ use Rattle.nll_owner.specs.Keeping.{HasAllBeside, HasBeside}
 -- ---- what the owner has
 
 pub beside_none : (o : Owner) → HasAllBeside [] o o
-beside_none o = record {
-  here = λ r e k. absurd (omega (arith, k.1.1));
-  kept = λ r e h. h;
-  cause = λ r e h. inl h;
-}
+beside_none o = grind arith
 
 pub beside_more : (old mid new : Owner) (gs : List Growth) (g : Growth) → HasAllBeside gs old mid → HasBeside g mid new
     → HasAllBeside (gs ++ g ∷ []) old new

@@ -10,8 +10,8 @@ use Rattle.nll_problem.specs.declared.constraint.Constraint.{Constraint}
 use Rattle.nll_problem.proofs.AskLemmas.{asked_weaker}
 use Rattle.nll_cut.specs.Partition.{Cut, owner_of}
 use Rattle.nll_mail.specs.declared.growth.Growth.{Growth}
-use Rattle.nll_owner.specs.Logs.{IsTold, IsToldBefore, IsCalledFor, IsWellFormed, IsWellSupported, IsSaturated, list_of, log_of, AreSound, AreSettled}
-use Rattle.nll_owner.specs.Owner.{Owner, IsSound, IsDone, Passes, list_in}
+use Rattle.nll_owner.specs.Logs.{IsTold, IsToldBefore, IsCalledFor, IsWellFormedLog, IsWellSupported, IsSaturated, list_of, log_of, AreSoundLogs, AreSettled}
+use Rattle.nll_owner.specs.Owner.{Owner, IsSoundOwner, IsDone, Passes, list_in}
 use Rattle.nll_owner.specs.Regions.{System, system_of, fact_of, rules, part_of, IsValid}
 use Rattle.nll_owner.specs.RegionsLawful.{one, read_region, regions_lawful}
 use Rattle.nll_owner.specs.declared.fact.Fact.{Fact}
@@ -63,45 +63,20 @@ module _ (q : Problem) (c : Cut) where
   pub called_to : (known : ℕ → ℕ → Type 0) (more : Fact → Bool)
       → ((r e : ℕ) → known r e → IsTrue (more (fact_of r e))) → (r e : ℕ) → IsCalledFor q known r e
       → rules.derives a more (fact_of r e)
-  called_to known more each r e h = ⊎_elim
-      inl
-      (λ (w : (k : Constraint) × Contains q.constraints k × (k.sup ≡ r) × IsAskedIn q.graph (known k.sub) k.at e).
-      inr (
-        w.0,
-        w.1,
-        w.2,
-        asked_weaker q.graph _ w.0.at (λ x. IsTrue (more (fact_of w.0.sub x))) (λ x t. each w.0.sub x t) e w.3,
-      ))
-      h
+  called_to known more each r e h = grind (arith, asked_weaker)
 
   pub called_from : (known : Fact → Bool) (more : ℕ → ℕ → Type 0)
       → ((r e : ℕ) → IsTrue (known (fact_of r e)) → more r e) → (r e : ℕ) → rules.derives a known (fact_of r e)
       → IsCalledFor q more r e
-  called_from known more each r e h = ⊎_elim
-      inl
-      (λ (w : (k : Constraint) × Contains q.constraints k × (k.sup ≡ r)
-      × IsAskedIn q.graph (λ x. IsTrue (known (fact_of k.sub x))) k.at e).
-      inr (w.0, w.1, w.2, asked_weaker q.graph _ w.0.at (more w.0.sub) (λ x t. each w.0.sub x t) e w.3))
-      h
+  called_from known more each r e h = grind (arith, asked_weaker)
 
   -- ---- one log
 
-  pub formed_to : (i : ℕ) (log : List Growth) → IsWellFormed c i log → logs.IsWellFormed rules a i log
-  formed_to i log h = record {
-    own = h.own;
-    once = λ k l d before low same. h.once k l d before low
-        (ap (λ (x : Fact). x.region) same, ap (λ (x : Fact). x.element) same);
-    rising = h.rising;
-    from_one = h.from_one;
-  }
+  pub formed_to : (i : ℕ) (log : List Growth) → IsWellFormedLog c i log → logs.IsWellFormed rules a i log
+  formed_to i log h = grind arith
 
-  pub formed_from : (i : ℕ) (log : List Growth) → logs.IsWellFormed rules a i log → IsWellFormed c i log
-  formed_from i log h = record {
-    own = h.own;
-    once = λ k l d before low same. h.once k l d before low (one _ _ same.0 same.1);
-    rising = h.rising;
-    from_one = h.from_one;
-  }
+  pub formed_from : (i : ℕ) (log : List Growth) → logs.IsWellFormed rules a i log → IsWellFormedLog c i log
+  formed_from i log h = grind arith
 
   pub supported_to : (list : ℕ → List Growth) (log : List Growth) → IsWellSupported q list log
       → logs.IsWellSupported rules a (λ f. list f.region) log
@@ -129,7 +104,7 @@ module _ (q : Problem) (c : Cut) where
 
   -- ---- all logs
 
-  pub sound_to : (all : List (List Growth)) (received : ℕ → ℕ → List Growth) → AreSound q c all received
+  pub sound_to : (all : List (List Growth)) (received : ℕ → ℕ → List Growth) → AreSoundLogs q c all received
       → logs.AreSound rules a all received
   sound_to all received h = record {
     counted = h.counted;
@@ -140,7 +115,7 @@ module _ (q : Problem) (c : Cut) where
   }
 
   pub sound_from : (all : List (List Growth)) (received : ℕ → ℕ → List Growth) → logs.AreSound rules a all received
-      → AreSound q c all received
+      → AreSoundLogs q c all received
   sound_from all received h = record {
     counted = h.counted;
     well_formed = λ i l. formed_from i (log_of all i) (h.well_formed i l);
@@ -171,7 +146,7 @@ module _ (q : Problem) (c : Cut) where
 
 -- ---- an owner
 
-pub part_sound : (o : Owner) → IsSound o → state.IsSound rules (part_of o)
+pub part_sound : (o : Owner) → IsSoundOwner o → state.IsSound rules (part_of o)
 part_sound o s = record {
   valid = (s.problem, s.cut);
   me = s.me;

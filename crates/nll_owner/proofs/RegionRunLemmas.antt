@@ -10,11 +10,11 @@ use Rattle.nll_sets.specs.declared.run.Run.{Run}
 use Rattle.nll_mail.specs.declared.growth.Growth.{Growth}
 use Rattle.nll_owner.specs.Logs.{IsRunOfLog, IsTold}
 use Rattle.nll_owner.specs.Owner.{Owner}
-use Rattle.nll_owner.specs.Keeping.{Grows}
+use Rattle.nll_owner.specs.Keeping.{OwnerGrows}
 use Rattle.nll_owner.specs.Following.{OfRunOr}
-use Rattle.nll_owner.specs.RegionRuns.{AddsRun, AreDue, AreHeld, IsInside, AreProper, IsToldByRuns, TellTheSame}
-use Rattle.nll_owner.specs.declared.due.Due.{Due}
-use Rattle.nll_owner.specs.declared.region_run.RegionRun.{RegionRun}
+use Rattle.nll_owner.specs.RegionRuns.{SaysRun, AreDue, AreHeld, IsInside, AreProper, IsToldByRuns, TellTheSame}
+use Rattle.nll_owner.specs.declared.link.Due.{Due}
+use Rattle.nll_owner.specs.declared.region_runs.RegionRun.{RegionRun}
 use Rattle.nll_owner.proofs.LinkingLemmas.{in_set, set_here, set_kept}
 use Rattle.nll_owner.proofs.LogRunLemmas.{run_has, run_proper, run_told}
 use Rattle.nll_owner.proofs.OwnerLemmas.{has_grows, grows_le, slot_still}
@@ -83,7 +83,7 @@ held_behind o runs n w = record {
   has = λ k h. w.has k (contains_dropped n runs k h);
 }
 
-module _ (old new : Owner) (g : Grows old new) (runs : List RegionRun) where
+module _ (old new : Owner) (g : OwnerGrows old new) (runs : List RegionRun) where
   pub held_grows : AreHeld old runs → AreHeld new runs
   held_grows w = record {
     proper = w.proper;
@@ -91,14 +91,9 @@ module _ (old new : Owner) (g : Grows old new) (runs : List RegionRun) where
     has = λ k h e own. has_grows old new g k.region e (w.has k h e own);
   }
 
-module _ (old new : Owner) (g : Grows old new) (d : Due) where
+module _ (old new : Owner) (g : OwnerGrows old new) (d : Due) where
   pub inside_grows : IsInside old d → IsInside new d
-  inside_grows w = record {
-    sound = g.sound;
-    steps = w.steps ∙ sym (ap (λ (o : Owner). o.problem.graph) g.others);
-    slot = slot_still old new g d.slot d.region w.slot;
-    place = omega (arith, w.place, grows_le old new g);
-  }
+  inside_grows w = grind (arith, slot_still, grows_le)
 
   pub due_grows : AreDue old d → AreDue new d
   due_grows w = record {
@@ -157,13 +152,7 @@ listed_more growths place end r run list are w = record {
 
 pub listed_all : (growths : List Growth) (place : ℕ) (list : List RegionRun) → length growths ≤ place
     → AreListed growths place list → TellTheSame growths list
-listed_all growths place list past w = record {
-  proper = w.proper;
-  each = λ r e t. subst (λ s. IsToldByRuns list s e) t.2
-      (subst (λ x. IsToldByRuns list t.0.region x) t.3
-      (w.each t.1.0 t.0 (let l = t.1.1 in omega (arith, l, past)) t.1.2));
-  cause = w.cause;
-}
+listed_all growths place list past w = grind arith
 
 -- in another order they tell the same
 pub told_permuted : (growths : List Growth) (old new : List RegionRun) → IsPermutation old new → TellTheSame growths old
@@ -177,7 +166,7 @@ told_permuted growths old new same w = record {
 -- ---- a run is put at the end of a list
 
 pub pushed : (run : RegionRun) (list : List RegionRun) → AreProper list → run.run.first ≤ run.run.last
-    → AddsRun run list (list ++ run ∷ [])
+    → SaysRun run list (list ++ run ∷ [])
 pushed run list before proper = record {
   proper = λ x h. ⊎_elim
       (before x)
@@ -223,7 +212,7 @@ module _ (run old new : RegionRun) (list : List RegionRun) (p : ℕ) (within : p
   old_proper : old.run.first ≤ old.run.last
   old_proper = before old old_there
 
-  pub joined : AddsRun run list (set list p new)
+  pub joined : SaysRun run list (set list p new)
   joined = record {
     proper = λ x h. ⊎_elim
         (λ (same : x ≡ new). subst (λ (y : RegionRun). y.run.first ≤ y.run.last) (sym same)
@@ -278,7 +267,7 @@ merged_none told list none = subst (AreMerged told 0) (sym none) (record {
 })
 
 pub merged_more : (told : List RegionRun) (place : ℕ) (run : RegionRun) (old new : List RegionRun) → place < length told
-    → get_or told place run ≡ run → AddsRun run old new → AreMerged told place old → AreMerged told (place + 1) new
+    → get_or told place run ≡ run → SaysRun run old new → AreMerged told place old → AreMerged told (place + 1) new
 merged_more told place run old new within is adds w = record {
   proper = adds.proper;
   each = λ n k low at e own. ⊎_elim

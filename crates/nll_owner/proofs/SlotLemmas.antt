@@ -8,7 +8,7 @@ use Rattle.std.proofs.lemmas.List.Elements.{filter-append}
 use Rattle.std.proofs.lemmas.List.FromFn.{length-range_with_len, get_or-range_with_len}
 use Rattle.nll_core.specs.Growing.{Gains}
 use Rattle.nll_cut.specs.Partition.{Cut, owner_of, reads}
-use Rattle.nll_owner.specs.Owner.{Owner, Has, IsSound, received_from}
+use Rattle.nll_owner.specs.Owner.{Owner, Has, IsSoundOwner, received_from}
 use Rattle.nll_owner.specs.Keeping.{holds_region, held_below, held_regions, IsSlot, IsSlotIn, AreSlotted}
 use Rattle.nll_owner.proofs.LogLemmas.{list_other}
 use Rattle.fixpoint.proofs.ListLemmas.{filter_from, filter_to}
@@ -16,10 +16,7 @@ use Rattle.fixpoint.proofs.ListLemmas.{filter_from, filter_to}
 -- ---- numbers that follow each other
 
 range_within : (a n x : ℕ) → Contains (range_with_len a n) x → (a ≤ x) × (x < a + n)
-range_within a n x h =
-    let low : h.0 < n = (let l = h.1 in omega (arith, l, length-range_with_len a n)) in
-    let is : x ≡ a + h.0 = sym h.2 ∙ get_or-range_with_len a n h.0 x low in
-    (omega (arith, is), omega (arith, is, low))
+range_within a n x h = grind (arith, length-range_with_len, get_or-range_with_len)
 
 range_has : (n x : ℕ) → x < n → Contains (range_with_len 0 n) x
 range_has n x low = (x, omega (arith, low, length-range_with_len 0 n), omega (arith, get_or-range_with_len 0 n x x low))
@@ -91,17 +88,7 @@ slot_same o s r q a b = sym a.1 ∙ (get_or_default (held_regions o) s r q a.0 �
 
 -- and a region has one slot
 pub slots_apart : (o : Owner) (s t r : ℕ) → IsSlot o s r → IsSlot o t r → s ≡ t
-slots_apart o s t r a b = ⊎_elim
-    (λ same. same)
-    (λ other. absurd (⊎_elim
-    (λ below. let l = held_ascends o.problem.regions o.cut o.me (reads o.problem o.cut o.me) s t r below b.0 in
-    omega (arith, l, a.1, b.1))
-    (λ above.
-    let l = held_ascends o.problem.regions o.cut o.me (reads o.problem o.cut o.me) t s r
-    (omega (arith, above, other)) a.0 in
-    omega (arith, l, a.1, b.1))
-    (cases_lt s t)))
-    (cases_eq s t)
+slots_apart o s t r a b = grind (arith, held_ascends, cases_lt, cases_eq)
 
 -- each region that is held has one
 pub slot_of : (o : Owner) (r : ℕ) → r < o.problem.regions
@@ -150,7 +137,7 @@ other_read o r h other =
     (filter_from (holds_region o.cut o.me (reads o.problem o.cut o.me)) (range_with_len 0 o.problem.regions) r h).1
 
 -- what the owner has is of regions that it holds
-pub has_held : (o : Owner) → IsSound o → (r e : ℕ) → Has o r e
+pub has_held : (o : Owner) → IsSoundOwner o → (r e : ℕ) → Has o r e
     → holds_region o.cut o.me (reads o.problem o.cut o.me) r ≡ true
 has_held o sound r e h = ⊎_elim
     (λ own. own_held o r own)

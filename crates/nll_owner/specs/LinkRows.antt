@@ -2,8 +2,8 @@
 -- this file.
 use Rattle.std.specs.Prelude.{List, [], ◌∷◌}
 use Rattle.nll_owner.specs.declared.link.Link.{Link}
-use Rattle.nll_owner.specs.declared.link_row.Links.{Links}
-use Rattle.nll_owner.specs.declared.link_row.Links.TheVariants as links
+use Rattle.nll_owner.specs.declared.link.Links.{Links}
+use Rattle.nll_owner.specs.declared.link.Links.TheVariants as links
 
 -- the links that read a region
 pub record Row : Type 0 where

@@ -8,7 +8,7 @@ use Rattle.nll_cut.specs.Partition.{reads}
 use Rattle.nll_cut.specs.Readers.{is_read}
 use Rattle.nll_owner.specs.Owner.{Owner, given_to}
 use Rattle.nll_owner.specs.Logs.{part}
-use Rattle.nll_owner.specs.declared.outbox.Places.{Places}
+use Rattle.nll_owner.specs.declared.outboxes.Places.{Places}
 
 -- ---- one queue
 

@@ -6,8 +6,9 @@ use Rattle.nll_problem.specs.Graph.{element_count}
 use Rattle.nll_problem.specs.Problem.{Problem, IsBase, IsSound as IsSoundProblem}
 use Rattle.nll_cut.specs.Partition.{Cut, owner_of, reads}
 use Rattle.nll_mail.specs.declared.growth.Growth.{Growth}
-use Rattle.nll_owner.specs.Logs.{IsWellFormed, IsWellSupported, IsSaturated, IsCutOf, IsTold}
-use Rattle.nll_owner.specs.Logs.{IsCalledFor, IsPrefix, list_of, part}
+pub use Rattle.fixpoint.specs.State.{with_growths, GotBeginning}
+use Rattle.nll_owner.specs.Logs.{IsWellFormedLog, IsWellSupported, IsSaturated, IsCutOf, IsTold}
+use Rattle.nll_owner.specs.Logs.{IsCalledFor, list_of, part}
 
 -- The owner `me` of a cut of the problem: its log; what it received from each owner; how many
 -- growths of each owner's part it gave to that owner; its clock, which is the highest rank so far;
@@ -64,11 +65,11 @@ abbrev pub IsNoted : Owner → Growth → Type 0
 IsNoted o g = Contains o.log g ⊎ ((j : ℕ) × Contains (received_from o j) g)
 
 -- What is true of an owner at every moment, even after a call of it was refused.
-pub record IsSound (o : Owner) : Type 0 where
+pub record IsSoundOwner (o : Owner) : Type 0 where
   pub problem : IsSoundProblem o.problem
   pub cut : IsCutOf o.problem o.cut
   pub me : o.me < o.cut.owners
-  pub well_formed : IsWellFormed o.cut o.me o.log
+  pub well_formed : IsWellFormedLog o.cut o.me o.log
   pub supported : IsWellSupported o.problem (list_in o) o.log
   pub based : o.loaded ≡ true → HasBases o
   -- its growths are of elements of the problem, and there are no more of them than pairs
@@ -106,22 +107,12 @@ pub record Passes (q : Problem) (c : Cut) (i j : ℕ) (g : Growth) : Type 0 wher
   pub rank : g.rank < 2 ^ 61
 
 -- it was loaded, or a call of it was refused
-abbrev pub IsReady : Owner → Type 0
-IsReady o = o.broken ≡ false → o.loaded ≡ true
+abbrev pub IsReadyOwner : Owner → Type 0
+IsReadyOwner o = o.broken ≡ false → o.loaded ≡ true
 
 -- the lists with one more growth from owner j
 abbrev pub with_growth : List (List Growth) → ℕ → Growth → List (List Growth)
 with_growth received j g = slice_set received j (slice_index_or received j [] ++ g ∷ [])
-
--- the lists with these growths from owner j appended
-abbrev pub with_growths : List (List Growth) → ℕ → List Growth → List (List Growth)
-with_growths received j gs = slice_set received j (slice_index_or received j [] ++ gs)
-
--- the new lists are the old ones with a prefix of these growths from owner j appended: none of
--- them, some or all
-abbrev pub GotBeginning : List (List Growth) → ℕ → List Growth → List (List Growth) → Type 0
-GotBeginning old j gs new =
-    (some : List Growth) × IsPrefix some gs × (new ≡ with_growths old j some)
 
 -- an owner that has done nothing yet
 abbrev pub first_owner : Problem → Cut → ℕ → Owner

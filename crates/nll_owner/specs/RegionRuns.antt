@@ -5,10 +5,10 @@ use Rattle.nll_sets.specs.Runs.{IsWithin}
 use Rattle.nll_sets.specs.declared.run.Run.{Run}
 use Rattle.nll_mail.specs.declared.growth.Growth.{Growth}
 use Rattle.nll_owner.specs.Logs.{IsTold}
-use Rattle.nll_owner.specs.Owner.{Owner, Has, IsSound}
+use Rattle.nll_owner.specs.Owner.{Owner, Has, IsSoundOwner}
 use Rattle.nll_owner.specs.Keeping.{IsSlot}
-use Rattle.nll_owner.specs.declared.due.Due.{Due}
-use Rattle.nll_owner.specs.declared.region_run.RegionRun.{RegionRun}
+use Rattle.nll_owner.specs.declared.link.Due.{Due}
+use Rattle.nll_owner.specs.declared.region_runs.RegionRun.{RegionRun}
 
 -- one of the runs says that the region r has e
 abbrev pub IsToldByRuns : List RegionRun → ℕ → ℕ → Type 0
@@ -26,7 +26,7 @@ pub record TellTheSame (growths : List Growth) (runs : List RegionRun) : Type 0 
   pub cause : (r e : ℕ) → IsToldByRuns runs r e → IsTold growths r e
 
 -- A list says what it said before and what a run says, and nothing else.
-pub record AddsRun (run : RegionRun) (old new : List RegionRun) : Type 0 where
+pub record SaysRun (run : RegionRun) (old new : List RegionRun) : Type 0 where
   pub proper : AreProper new
   pub kept : (r e : ℕ) → IsToldByRuns old r e → IsToldByRuns new r e
   pub here : (e : ℕ) → IsWithin run.run e → IsToldByRuns new run.region e
@@ -44,7 +44,7 @@ pub record AreHeld (o : Owner) (runs : List RegionRun) : Type 0 where
 -- The owner is sound and holds the region of what is due; the steps are those of its graph, and so
 -- much of its log was followed up.
 pub record IsInside (o : Owner) (d : Due) : Type 0 where
-  pub sound : IsSound o
+  pub sound : IsSoundOwner o
   pub steps : d.steps.now ≡ o.problem.graph
   pub slot : IsSlot o d.slot d.region
   pub place : d.place ≤ length o.log

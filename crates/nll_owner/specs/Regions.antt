@@ -68,5 +68,5 @@ part_of o = record {
 }
 
 -- what owner i gives up at the end has the values that its log says
-abbrev pub Yields : System → ℕ → List Growth → Holding → Type 0
-Yields a i log h = AreValuesOf a.problem a.cut i log h
+abbrev pub YieldsValues : System → ℕ → List Growth → Holding → Type 0
+YieldsValues a i log h = AreValuesOf a.problem a.cut i log h

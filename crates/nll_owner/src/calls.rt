@@ -2,9 +2,9 @@
 
 ghost use Rattle.std.specs.Prelude.{◌≡◌, ◌<◌, true, length, Contains, IfOk, OnOk, Err};
 ghost use Rattle.nll_mail.specs.declared.growth.Growth.{Growth};
-ghost use Rattle.nll_owner.specs.Owner.{IsSound, IsDone, Passes, with_growths, first_owner};
+ghost use Rattle.nll_owner.specs.Owner.{IsSoundOwner, IsDone, Passes, with_growths, first_owner};
 ghost use Rattle.nll_owner.specs.Tables.{AreTables};
-ghost use Rattle.nll_owner.specs.Keeping.{Grows, Receives};
+ghost use Rattle.nll_owner.specs.Keeping.{OwnerGrows, Receives};
 ghost use Rattle.nll_owner.specs.Following.{IsFollowing, Nothing};
 ghost use Rattle.nll_owner.specs.Outboxes.{AreQueued, AreAllQueued};
 ghost use Rattle.fixpoint.specs.declared.error.PartError.TheVariants.{Broken};
@@ -33,7 +33,7 @@ pub fn parts_of<'q>(
     requires tables { AreTables problem.now cut.now tables.now }
     requires me { me < cut.now.owners }
     ensures owner { IfOk result (λ parts. parts.0 ≡ first_owner problem.now cut.now me) }
-    ensures sound { IfOk result (λ parts. IsSound parts.0) }
+    ensures sound { IfOk result (λ parts. IsSoundOwner parts.0) }
     ensures following { IfOk result
         (λ parts. IsFollowing Nothing (first_owner problem.now cut.now me) parts.1) }
     ensures queued { IfOk result
@@ -55,11 +55,11 @@ pub fn load_all(
     outboxes: &mut Outboxes,
     tables: &Tables,
 ) -> Result<(), PartError>
-    requires sound { IsSound knowledge.old }
+    requires sound { IsSoundOwner knowledge.old }
     requires tables { AreTables knowledge.old.problem knowledge.old.cut tables.now }
     requires following { IsFollowing Nothing knowledge.old following.old }
     requires queued { AreQueued knowledge.old outboxes.old }
-    ensures grows { Grows knowledge.old knowledge.new }
+    ensures grows { OwnerGrows knowledge.old knowledge.new }
     ensures following { OnOk result (IsFollowing Nothing knowledge.new following.new) }
     ensures queued { OnOk result (AreAllQueued knowledge.new outboxes.new) }
     ensures done { OnOk result (IsDone knowledge.new) }
@@ -80,7 +80,7 @@ pub fn receive_and_queue(
     from: u16,
     growths: &[Growth],
 ) -> Result<(), PartError>
-    requires sound { IsSound knowledge.old }
+    requires sound { IsSoundOwner knowledge.old }
     requires tables { AreTables knowledge.old.problem knowledge.old.cut tables.now }
     requires loaded { knowledge.old.loaded ≡ true }
     requires following { IsFollowing Nothing knowledge.old following.old }

@@ -1,23 +1,25 @@
 //! How an owner follows up what it has, until nothing is left to do.
 
-ghost use Rattle.std.specs.Prelude.{◌≡◌, ◌<◌, ℕ, Contains, length, map, IfOk, OnOk};
+ghost use Rattle.std.specs.Prelude.{◌≡◌, ◌<◌, ℕ, Contains, length, map, IfOk, OnOk, ◌≤◌, drop};
+ghost use Rattle.std.specs.Prelude.{slice_index_or};
 ghost use Rattle.nll_problem.specs.Problem.{SameSet};
 ghost use Rattle.nll_mail.specs.declared.growth.Growth.{Growth};
 ghost use Rattle.nll_owner.specs.Logs.{IsTold};
-ghost use Rattle.nll_owner.specs.Owner.{IsSound, Has, first_owner};
-ghost use Rattle.nll_owner.specs.Keeping.{Grows, IsClosed, held_regions};
+ghost use Rattle.nll_owner.specs.Owner.{IsSoundOwner, Has, first_owner};
+ghost use Rattle.nll_owner.specs.Keeping.{OwnerGrows, IsClosedOwner, held_regions};
 ghost use Rattle.nll_owner.specs.Following.{IsFollowing, HasFollowed, Nothing, following_of};
+ghost use Rattle.nll_owner.specs.RegionRuns.{AreHeld, IsToldByRuns};
+ghost use Rattle.nll_owner.specs.declared.region_runs.RegionRun as spec;
 
 use crate::knowledge::Knowledge;
-use crate::link_row::LinkRow;
+use crate::link::{Due, LinkRow};
 use crate::link_table::links_of;
-use crate::region_runs::RegionRuns;
-use crate::rows::follow_runs;
+use crate::region_runs::{RegionRun, RegionRuns};
 use crate::slots::Slots;
 use nll_core::Steps;
 use nll_cut::Cut;
 use nll_mail::Growth;
-use nll_problem::{ConstraintIndex, Problem};
+use nll_problem::{ConstraintIndex, Problem, RegionId};
 use nll_sets::{Memory, Run};
 use std::alloc::Global;
 use std::marker::Model;
@@ -83,15 +85,15 @@ impl Following {
         steps: &Steps,
         growths: &[Growth],
     ) -> Result<(), Memory>
-        requires sound { IsSound knowledge.old }
+        requires sound { IsSoundOwner knowledge.old }
         requires steps { steps.now ≡ knowledge.old.problem.graph }
         requires regions { (g : Growth) → Contains growths.now g
             → g.region < knowledge.old.problem.regions }
         requires has { (r e : ℕ) → IsTold growths.now r e → Has knowledge.old r e }
         requires following { IsFollowing (IsTold growths.now) knowledge.old self.old }
-        ensures grows { Grows knowledge.old knowledge.new }
+        ensures grows { OwnerGrows knowledge.old knowledge.new }
         ensures followed { OnOk result (HasFollowed knowledge.new self.new) }
-        ensures closed { OnOk result (IsClosed knowledge.new) }
+        ensures closed { OnOk result (IsClosedOwner knowledge.new) }
     {
         self.runs.gather(growths)?;
         follow_runs(
@@ -112,12 +114,12 @@ impl Following {
     /// Each time a sort of the runs that the log says, and what each run newly reaches by each link
     /// (not proved).
     pub fn settle(&mut self, knowledge: &mut Knowledge, steps: &Steps) -> Result<(), Memory>
-        requires sound { IsSound knowledge.old }
+        requires sound { IsSoundOwner knowledge.old }
         requires steps { steps.now ≡ knowledge.old.problem.graph }
         requires following { IsFollowing Nothing knowledge.old self.old }
-        ensures grows { Grows knowledge.old knowledge.new }
+        ensures grows { OwnerGrows knowledge.old knowledge.new }
         ensures followed { OnOk result (HasFollowed knowledge.new self.new) }
-        ensures closed { OnOk result (IsClosed knowledge.new) }
+        ensures closed { OnOk result (IsClosedOwner knowledge.new) }
     {
         while self.place < knowledge.entries().len() {
             let end = knowledge.entries().len();
@@ -134,4 +136,60 @@ impl Following {
         }
         Ok(())
     }
+}
+
+/// Hands runs to the links that read their regions, and grows the own regions by what these newly
+/// reach. The log was followed up to an index; only contracts need it.
+pub fn follow_runs(
+    rows: &mut Vec<LinkRow>,
+    knowledge: &mut Knowledge,
+    steps: &Steps,
+    runs: &[RegionRun],
+    place: usize,
+    found: &mut Vec<Run>,
+) -> Result<(), Memory>
+    requires sound { IsSoundOwner knowledge.old }
+    requires steps { steps.now ≡ knowledge.old.problem.graph }
+    requires held { AreHeld knowledge.old runs.now }
+    requires following { IsFollowing (IsToldByRuns runs.now) knowledge.old
+        (following_of (map (λ row. row.items) rows.old.items) place) }
+    ensures grows { OwnerGrows knowledge.old knowledge.new }
+    ensures following { OnOk result (IsFollowing Nothing knowledge.new
+        (following_of (map (λ row. row.items) rows.new.items) place)) }
+{
+    let mut next = 0;
+    while next < runs.len() {
+        let rest = &runs[next..];
+        let region = rest[0].region;
+        let slot = knowledge.slot(region);
+        let count = count_of(region, rest);
+        let due = Due {
+            steps,
+            region,
+            slot,
+            runs: rest,
+            count,
+            place,
+        };
+        let row = &mut rows[slot.0 as usize];
+        row.advance(knowledge, &due, found)?;
+        next += count;
+    }
+    Ok(())
+}
+
+// How many runs are of the region of the first one, before one of another region.
+fn count_of(region: RegionId, runs: &[RegionRun]) -> usize
+    requires some { 0 < length runs.now }
+    requires first { (k : spec.RegionRun) → slice_index_or runs.now 0 k ≡ k → k.region ≡ region }
+    ensures some { 0 < result }
+    ensures bound { result ≤ length runs.now }
+    ensures same { (n : ℕ) (k : spec.RegionRun)
+        → n < result → slice_index_or runs.now n k ≡ k → k.region ≡ region }
+{
+    let mut count = 1;
+    while count < runs.len() && runs[count].region == region {
+        count += 1;
+    }
+    count
 }

@@ -1,9 +1,9 @@
 //! What an owner knows: its values and copies, its log, and what it received.
 
 ghost use Rattle.std.specs.Prelude.{◌≡◌, ◌⊎◌, ◌↔◌, ℕ, ◌+◌, ◌<◌, ◌≤◌, ◌^◌, true, false, max, []};
-ghost use Rattle.std.specs.Prelude.{Some, Contains, length, take, slice_get, slice_set};
-ghost use Rattle.std.specs.Prelude.{IsTrue, map, replicate, IfOk, OnOk, OnErr, IfSome, IfNone};
-ghost use Rattle.std.specs.Prelude.{min, ◌-◌, ◌++◌, vec_len, vec_capacity};
+ghost use Rattle.std.specs.Prelude.{Some, Contains, length, slice_get, slice_set, IsTrue, map};
+ghost use Rattle.std.specs.Prelude.{replicate, IfOk, OnOk, OnErr, min, ◌-◌, ◌++◌, vec_len};
+ghost use Rattle.std.specs.Prelude.{vec_capacity};
 ghost use Rattle.std.specs.List.{sum, sum_by};
 ghost use Rattle.nll_sets.specs.Runs.{IsInRuns, IsWithin};
 ghost use Rattle.nll_problem.specs.Graph.{element_count};
@@ -12,12 +12,13 @@ ghost use Rattle.nll_cut.specs.Partition.{owner_of, reads};
 ghost use Rattle.nll_mail.specs.declared.growth.Growth.{Growth};
 ghost use Rattle.nll_owner.specs.Logs.{part};
 ghost use Rattle.nll_owner.specs.Holding.{AreValuesOf};
-ghost use Rattle.nll_owner.specs.Owner.{IsSound, IsCalled, Has, HasBases, Passes};
-ghost use Rattle.nll_owner.specs.Owner.{part_for, given_to, received_from, with_growth};
-ghost use Rattle.nll_owner.specs.Owner.{first_owner, with_growths, GotBeginning};
-ghost use Rattle.nll_owner.specs.Keeping.{Grows, HasBeside, HasAllBeside, growths, IsSlot};
-ghost use Rattle.nll_owner.specs.Keeping.{held_regions, holds_region};
+ghost use Rattle.nll_owner.specs.Owner.{IsSoundOwner, IsCalled, Has, HasBases, Passes, part_for};
+ghost use Rattle.nll_owner.specs.Owner.{given_to, with_growth, first_owner, with_growths};
+ghost use Rattle.nll_owner.specs.Owner.{GotBeginning};
+ghost use Rattle.nll_owner.specs.Keeping.{OwnerGrows, HasBeside, HasAllBeside, growths, IsSlot};
+ghost use Rattle.nll_owner.specs.Keeping.{held_regions, holds_region, HasOwn, IsOfUniversal};
 ghost use Rattle.nll_owner.specs.Outboxes.{AreQueued, AreAllQueued, TellsAs};
+ghost use Rattle.nll_problem.specs.Problem.{IsBase};
 
 use crate::holding::Holding;
 use crate::outboxes::Outboxes;
@@ -57,14 +58,14 @@ pub struct Knowledge<'q> {
 impl<'q> Model for Knowledge<'q> {
     ghost use Rattle.std.specs.Prelude.{map};
     ghost use Rattle.nll_owner.specs.Owner as spec;
-    ghost use Rattle.nll_owner.specs.Keeping.{IsKept, owner_of_parts};
+    ghost use Rattle.nll_owner.specs.Keeping.{AreValuesKept, owner_of_parts};
 
     ghost Value = { spec.Owner };
 
     ghost view = { λ o. owner_of_parts o.problem.now o.cut.now o.me o.log.items
         (map (λ list. list.items) o.received.items) o.given.items o.clock o.loaded o.broken };
 
-    ghost invariant = { λ o. IsKept
+    ghost invariant = { λ o. AreValuesKept
         (owner_of_parts o.problem.now o.cut.now o.me o.log.items
         (map (λ list. list.items) o.received.items) o.given.items o.clock o.loaded o.broken)
         o.slots o.values };
@@ -83,7 +84,7 @@ impl<'q> Knowledge<'q> {
         requires slots { slots ≡ held_regions (first_owner problem.now cut.now me) }
         requires me { me < cut.now.owners }
         ensures owner { IfOk result (λ o. o ≡ first_owner problem.now cut.now me) }
-        ensures sound { IfOk result IsSound }
+        ensures sound { IfOk result IsSoundOwner }
     {
         let owners = cut.owners();
         let len = problem.points() + problem.universals();
@@ -107,13 +108,13 @@ impl<'q> Knowledge<'q> {
 
     /// Grows an own region by the elements of runs, which are called for.
     pub fn grow_runs(&mut self, region: RegionId, found: &[Run]) -> Result<(), Memory>
-        requires sound { IsSound self.old }
+        requires sound { IsSoundOwner self.old }
         requires own { owner_of self.old.cut region ≡ self.old.me }
         requires region { region < self.old.problem.regions }
         requires elements { let graph = self.old.problem.graph in
             (x : ℕ) → IsInRuns found.now x → x < element_count graph }
         requires called { (x : ℕ) → IsInRuns found.now x → IsCalled self.old region x }
-        ensures grows { Grows self.old self.new }
+        ensures grows { OwnerGrows self.old self.new }
         ensures covers { OnOk result ((x : ℕ) → IsInRuns found.now x → Has self.new region x) }
     {
         for run in found {
@@ -124,13 +125,13 @@ impl<'q> Knowledge<'q> {
 
     /// Grows an own region by the elements of a run, which are called for, where they are new.
     pub fn grow_run(&mut self, region: RegionId, run: Run) -> Result<(), Memory>
-        requires sound { IsSound self.old }
+        requires sound { IsSoundOwner self.old }
         requires own { owner_of self.old.cut region ≡ self.old.me }
         requires region { region < self.old.problem.regions }
         requires elements { let graph = self.old.problem.graph in
             (x : ℕ) → IsWithin run x → x < element_count graph }
         requires called { (x : ℕ) → IsWithin run x → IsCalled self.old region x }
-        ensures grows { Grows self.old self.new }
+        ensures grows { OwnerGrows self.old self.new }
         ensures covers { OnOk result ((x : ℕ) → IsWithin run x → Has self.new region x) }
     {
         if run.last < run.first {
@@ -153,7 +154,7 @@ impl<'q> Knowledge<'q> {
         requires elements { gap.last < element_count self.old.problem.graph }
         requires called { (x : ℕ) → IsWithin gap x → IsCalled self.old region x }
         requires lacks { (x : ℕ) → IsWithin gap x → Has self.old region x → ⊥ }
-        ensures grows { Grows self.old self.new }
+        ensures grows { OwnerGrows self.old self.new }
         ensures covers { OnOk result ((x : ℕ) → IsWithin gap x → Has self.new region x) }
     {
         let clock = self.clock;
@@ -174,7 +175,7 @@ impl<'q> Knowledge<'q> {
         }) }
         ensures has { OnOk result (HasBeside growth self.old self.new) }
         ensures err { OnErr result (self.new ≡ self.old) }
-        ensures sound { IsSound self.new }
+        ensures sound { IsSoundOwner self.new }
     {
         let clock = self.clock.max(growth.rank);
         let slot = self.slot(growth.region);
@@ -189,7 +190,7 @@ impl<'q> Knowledge<'q> {
     /// Inserts growths of one owner into the copies of their regions, and appends them to what was
     /// received.
     pub fn enter_all_received(&mut self, from: u16, growths: &[Growth]) -> Result<(), Memory>
-        requires sound { IsSound self.old }
+        requires sound { IsSoundOwner self.old }
         requires passes { let o = self.old in (g : Growth) → Contains growths.now g
             → Passes o.problem o.cut o.me from g }
         ensures others { self.new ≡ record self.old {
@@ -200,7 +201,7 @@ impl<'q> Knowledge<'q> {
             (self.new.received ≡ with_growths self.old.received from growths.now) }
         ensures perhaps { GotBeginning self.old.received from growths.now self.new.received }
         ensures has { OnOk result (HasAllBeside growths.now self.old self.new) }
-        ensures sound { IsSound self.new }
+        ensures sound { IsSoundOwner self.new }
     {
         for growth in growths {
             self.enter_received(from, *growth)?;
@@ -212,7 +213,7 @@ impl<'q> Knowledge<'q> {
     pub fn mark(&mut self, loaded: bool, broken: bool)
         requires { loaded ≡ true → HasBases self.old }
         ensures marks { self.new ≡ record self.old { loaded = loaded; broken = broken } }
-        ensures sound { IsSound self.new }
+        ensures sound { IsSoundOwner self.new }
     {
         self.loaded = loaded;
         self.broken = broken;
@@ -227,7 +228,7 @@ impl<'q> Knowledge<'q> {
         ensures given { self.new ≡ record self.old {
           given = slice_set self.old.given to (given_to self.old to + 1);
         } }
-        ensures sound { IsSound self.new }
+        ensures sound { IsSoundOwner self.new }
     {
         self.given[to as usize] += 1;
         self.log[place]
@@ -258,15 +259,7 @@ impl<'q> Knowledge<'q> {
         if element.0 >= self.problem.points() + self.problem.universals() {
             return false;
         }
-        self.reads_from(from, region)
-    }
-
-    // Whether another owner has a region that this one reads: of the regions of others, the owner
-    // holds those that it reads.
-    fn reads_from(&self, from: u16, region: RegionId) -> bool
-        ensures { IsTrue result ↔ ((owner_of self.now.cut region ≡ from)
-            × (reads self.now.problem self.now.cut self.now.me region ≡ true)) }
-    {
+        // Of the regions of others, the owner holds those that it reads.
         if from == self.me {
             return false;
         }
@@ -354,16 +347,6 @@ impl<'q> Knowledge<'q> {
         }
         count
     }
-
-    /// What was received from an owner, in the order of receipt.
-    pub fn received_from(&self, from: u16) -> &[Growth]
-        ensures { result.now ≡ received_from self.now from }
-    {
-        if from as usize >= self.received.len() {
-            return &self.log[..0];
-        }
-        &self.received[from as usize]
-    }
 }
 
 // Appends the growths of a region by this many elements to a log, which has room for them.
@@ -406,4 +389,63 @@ fn empty_lists(alloc: Global, count: u16) -> Result<Vec<Vec<Growth>>, Memory>
         lists.push(Vec::new(alloc))?;
     }
     Ok(lists)
+}
+
+impl<'q> Knowledge<'q> {
+    /// Enters the base elements of the own regions.
+    pub fn enter_bases(&mut self) -> Result<(), Memory>
+        requires sound { IsSoundOwner self.old }
+        ensures grows { OwnerGrows self.old self.new }
+        ensures covers { OnOk result (HasOwn (IsBase self.old.problem) self.old self.new) }
+    {
+        self.enter_universals()?;
+        self.enter_facts()?;
+        Ok(())
+    }
+
+    // Enters what the own universal regions hold from the start.
+    fn enter_universals(&mut self) -> Result<(), Memory>
+        requires sound { IsSoundOwner self.old }
+        ensures grows { OwnerGrows self.old self.new }
+        ensures covers { OnOk result
+            (HasOwn (IsOfUniversal self.old.problem) self.old self.new) }
+    {
+        let problem = self.problem;
+        let points = problem.points();
+        for number in 0..problem.universals() {
+            let region = RegionId(number);
+            if self.cut.owner_of(region) != self.me {
+                continue;
+            }
+            let all = Run {
+                first: 0,
+                last: points - 1,
+            };
+            self.grow_run(region, all)?;
+            let end = Run {
+                first: points + number,
+                last: points + number,
+            };
+            self.grow_run(region, end)?;
+        }
+        Ok(())
+    }
+
+    // Enters the base facts of the own regions, a run of them at a time.
+    fn enter_facts(&mut self) -> Result<(), Memory>
+        requires sound { IsSoundOwner self.old }
+        ensures grows { OwnerGrows self.old self.new }
+        ensures covers { OnOk result
+            (HasOwn (λ r e. Contains self.old.problem.bases (r, e)) self.old self.new) }
+    {
+        let problem = self.problem;
+        let runs = problem.base_runs();
+        for run in runs {
+            if self.cut.owner_of(run.region) != self.me {
+                continue;
+            }
+            self.grow_run(run.region, run.points())?;
+        }
+        Ok(())
+    }
 }

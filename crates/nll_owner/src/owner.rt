@@ -11,7 +11,8 @@ ghost use Rattle.nll_cut.specs.Partition.{owner_of};
 ghost use Rattle.nll_mail.specs.declared.growth.Growth.{Growth};
 ghost use Rattle.nll_owner.specs.Holding.{AreValuesOf};
 ghost use Rattle.nll_owner.specs.Logs.{IsPrefix, IsTold};
-ghost use Rattle.nll_owner.specs.Owner.{IsSound, IsDone, IsReady, Has, Passes, part_for, given_to};
+ghost use Rattle.nll_owner.specs.Owner.{IsSoundOwner, IsDone, IsReadyOwner, Has, Passes, part_for};
+ghost use Rattle.nll_owner.specs.Owner.{given_to};
 ghost use Rattle.nll_owner.specs.Owner.{received_from, with_growth, with_growths, GotBeginning};
 ghost use Rattle.nll_owner.specs.Owner.{first_owner};
 ghost use Rattle.nll_owner.specs.Held.{held};
@@ -77,7 +78,7 @@ impl<'q> Model for Owner<'q> {
 
     ghost view = { λ o. o.knowledge };
 
-    ghost invariant = { λ o. spec.IsSound o.knowledge
+    ghost invariant = { λ o. spec.IsSoundOwner o.knowledge
         × AreTables o.knowledge.problem o.knowledge.cut (held o.tables)
         × (o.knowledge.broken ≡ false → IsFollowing Nothing o.knowledge o.following
         × AreAllQueued o.knowledge o.outboxes) };
@@ -170,7 +171,7 @@ impl<'q> Owner<'q> {
         ensures err { OnErr result (self.new.broken ≡ true) }
         ensures broken { (result ≡ Err Broken) ↔ (self.old.broken ≡ true) }
         ensures unchanged { self.old.broken ≡ true → self.new ≡ self.old }
-        ensures sound { IsSound self.new }
+        ensures sound { IsSoundOwner self.new }
     {
         if self.knowledge.broken {
             return Err(PartError::Broken);
@@ -192,7 +193,7 @@ impl<'q> Owner<'q> {
     /// - `Broken`: an earlier call was refused; nothing has changed.
     /// - `Memory`: the growth may have been received, and the log may have grown.
     pub fn receive(&mut self, from: u16, growth: Growth) -> Result<(), PartError>
-        requires ready { IsReady self.old }
+        requires ready { IsReadyOwner self.old }
         requires passes { Passes self.old.problem self.old.cut self.old.me from growth }
         ensures begins { IsPrefix self.old.log self.new.log }
         ensures others { self.new ≡ record self.old {
@@ -210,7 +211,7 @@ impl<'q> Owner<'q> {
         ensures err { OnErr result (self.new.broken ≡ true) }
         ensures broken { (result ≡ Err Broken) ↔ (self.old.broken ≡ true) }
         ensures unchanged { self.old.broken ≡ true → self.new ≡ self.old }
-        ensures sound { IsSound self.new }
+        ensures sound { IsSoundOwner self.new }
     {
         self.receive_all(from, &[growth])
     }
@@ -227,7 +228,7 @@ impl<'q> Owner<'q> {
     /// for each run what it newly reaches; the same for what the own regions gain, again and again
     /// (not proved).
     pub fn receive_all(&mut self, from: u16, growths: &[Growth]) -> Result<(), PartError>
-        requires ready { IsReady self.old }
+        requires ready { IsReadyOwner self.old }
         requires passes { let o = self.old in (g : Growth) → Contains growths.now g
             → Passes o.problem o.cut o.me from g }
         ensures begins { IsPrefix self.old.log self.new.log }
@@ -245,7 +246,7 @@ impl<'q> Owner<'q> {
         ensures err { OnErr result (self.new.broken ≡ true) }
         ensures broken { (result ≡ Err Broken) ↔ (self.old.broken ≡ true) }
         ensures unchanged { self.old.broken ≡ true → self.new ≡ self.old }
-        ensures sound { IsSound self.new }
+        ensures sound { IsSoundOwner self.new }
     {
         if self.knowledge.broken {
             return Err(PartError::Broken);
@@ -295,7 +296,7 @@ impl<'q> Owner<'q> {
     /// How many owners there are.
     pub fn owners(&self) -> u16
         ensures value { result ≡ self.now.cut.owners }
-        ensures sound { IsSound self.now }
+        ensures sound { IsSoundOwner self.now }
     {
         self.knowledge.cut.owners()
     }
@@ -303,7 +304,7 @@ impl<'q> Owner<'q> {
     /// The number of this owner.
     pub fn me(&self) -> u16
         ensures value { result ≡ self.now.me }
-        ensures sound { IsSound self.now }
+        ensures sound { IsSoundOwner self.now }
     {
         self.knowledge.me
     }
@@ -333,7 +334,7 @@ impl<'q> Owner<'q> {
         ensures none { IfNone result ((self.new ≡ self.old)
             × (self.old.broken ≡ false → to < self.old.cut.owners
             → given_to self.old to ≡ length (part_for self.old to))) }
-        ensures sound { IsSound self.new }
+        ensures sound { IsSoundOwner self.new }
     {
         if self.knowledge.broken {
             return None;
@@ -348,7 +349,7 @@ impl<'q> Owner<'q> {
             × (slice_get (part_for self.now to) (given_to self.now to) ≡ Some growth)) }
         ensures none { IfNone result (self.now.broken ≡ false → to < self.now.cut.owners
             → given_to self.now to ≡ length (part_for self.now to)) }
-        ensures sound { IsSound self.now }
+        ensures sound { IsSoundOwner self.now }
     {
         if self.knowledge.broken {
             return None;
@@ -364,7 +365,7 @@ impl<'q> Owner<'q> {
             → given_to self.now to + result ≡ length (part_for self.now to) }
         ensures past { self.now.cut.owners ≤ to → result ≡ 0 }
         ensures broken { self.now.broken ≡ true → result ≡ 0 }
-        ensures sound { IsSound self.now }
+        ensures sound { IsSoundOwner self.now }
     {
         if self.knowledge.broken {
             return 0;
@@ -400,7 +401,7 @@ impl<'q> Owner<'q> {
         ensures log { result.now ≡ self.now.log }
         ensures short { length result.now < 2 ^ 37 }
         ensures ranks { (g : Growth) → Contains result.now g → g.rank ≤ most_rank }
-        ensures sound { IsSound self.now }
+        ensures sound { IsSoundOwner self.now }
     {
         self.knowledge.entries()
     }
@@ -431,8 +432,12 @@ impl<'q> Owner<'q> {
     /// What was received from an owner, in the order of receipt; nothing if it is no other owner.
     pub fn received(&self, from: u16) -> &[Growth]
         ensures received { result.now ≡ received_from self.now from }
-        ensures sound { IsSound self.now }
+        ensures sound { IsSoundOwner self.now }
     {
-        self.knowledge.received_from(from)
+        let knowledge = &self.knowledge;
+        if from as usize >= knowledge.received.len() {
+            return &knowledge.log[..0];
+        }
+        &knowledge.received[from as usize]
     }
 }

@@ -1,15 +1,21 @@
 //! What growths say, as few runs, region by region.
 
-ghost use Rattle.std.specs.Prelude.{◌≡◌, ◌+◌, ◌≤◌, List, [], IsTrue, OnOk};
+ghost use Rattle.std.specs.Prelude.{◌≡◌, ◌<◌, ◌^◌, ◌+◌, ◌↔◌, List, [], IsTrue, OnOk};
 ghost use Rattle.nll_mail.specs.declared.growth.Growth.{Growth};
-ghost use Rattle.nll_owner.specs.RegionRuns.{AddsRun, AreProper, TellTheSame};
+ghost use Rattle.nll_owner.specs.RegionRuns.{AreProper, TellTheSame};
 
-use crate::log_runs::run_at;
-use crate::region_run::RegionRun;
 use nll_mail::Growth;
-use nll_sets::Memory;
+use nll_problem::RegionId;
+use nll_sets::{Memory, Run};
 use std::alloc::Global;
 use std::marker::Model;
+
+/// A run of elements of a region.
+#[derive(Clone, Copy)]
+pub struct RegionRun {
+    pub region: RegionId,
+    pub run: Run,
+}
 
 /// What growths say, as runs by region and ascending; runs that touch are one. It is kept so that
 /// its memory is allocated once.
@@ -22,7 +28,7 @@ pub struct RegionRuns {
 
 impl Model for RegionRuns {
     ghost use Rattle.std.specs.Prelude.{List};
-    ghost use Rattle.nll_owner.specs.declared.region_run.RegionRun as spec;
+    ghost use Rattle.nll_owner.specs.declared.region_runs.RegionRun as spec;
 
     ghost Value = { List spec.RegionRun };
 
@@ -49,7 +55,8 @@ impl RegionRuns {
     {
         self.told.clear();
         list_runs(growths, &mut self.told)?;
-        self.told.sort_unstable_by_key(|told| order_of(told));
+        self.told.sort_unstable_by_key(|told| told.region.0 as u64 * (1 << 32)
+            + told.run.first as u64);
         self.list.clear();
         merge(&self.told, &mut self.list)
     }
@@ -62,11 +69,6 @@ impl RegionRuns {
     }
 }
 
-// The order of a run among others: by its region, then by its first element.
-fn order_of(run: &RegionRun) -> u64 {
-    run.region.0 as u64 * (1 << 32) + run.run.first as u64
-}
-
 // Fills an empty list with the runs of growths, in the order of the growths.
 fn list_runs(growths: &[Growth], list: &mut Vec<RegionRun>) -> Result<(), Memory>
     requires none { list.old.items ≡ [] }
@@ -74,14 +76,32 @@ fn list_runs(growths: &[Growth], list: &mut Vec<RegionRun>) -> Result<(), Memory
 {
     let mut place = 0;
     while place < growths.len() {
-        let (region, run, end) = run_at(growths, place);
+        let region = growths[place].region;
+        let element = growths[place].element;
+        let first = element.0;
+        let mut last = first;
+        let mut end = place + 1;
+        while end < growths.len() && is_next(&growths[end], region, last) {
+            last += 1;
+            end += 1;
+        }
+        let run = Run { first, last };
         list.push(RegionRun { region, run })?;
         place = end;
     }
     Ok(())
 }
 
-// Fills an empty list with runs; those that follow each other and touch are merged.
+// Whether a growth gives a region the element after a given one.
+fn is_next(growth: &Growth, region: RegionId, last: u32) -> bool
+    ensures tells { IsTrue result
+        ↔ ((growth.now.region ≡ region) × (growth.now.element ≡ last + 1)) }
+    ensures fits { IsTrue result → last + 1 < 2 ^ 32 }
+{
+    growth.region == region && growth.element.0.checked_sub(1) == Some(last)
+}
+
+// Fills an empty list with runs; one that goes on from the run before extends that.
 fn merge(told: &[RegionRun], list: &mut Vec<RegionRun>) -> Result<(), Memory>
     requires none { list.old.items ≡ [] }
     requires proper { AreProper told.now }
@@ -89,30 +109,15 @@ fn merge(told: &[RegionRun], list: &mut Vec<RegionRun>) -> Result<(), Memory>
         → TellTheSame growths list.new.items) }
 {
     for run in told {
-        push_run(list, *run)?;
+        let count = list.len();
+        if count > 0
+            && list[count - 1].region == run.region
+            && run.run.first as u64 == list[count - 1].run.last as u64 + 1
+        {
+            list[count - 1].run.last = run.run.last;
+        } else {
+            list.push(*run)?;
+        }
     }
     Ok(())
-}
-
-// Appends a run to a list: it extends the last run if it goes on from there.
-fn push_run(list: &mut Vec<RegionRun>, run: RegionRun) -> Result<(), Memory>
-    requires proper { AreProper list.old.items }
-    requires run { run.run.first ≤ run.run.last }
-    ensures { OnOk result (AddsRun run list.old.items list.new.items) }
-{
-    let count = list.len();
-    if count > 0 && goes_on(&list[count - 1], &run) {
-        list[count - 1].run.last = run.run.last;
-    } else {
-        list.push(run)?;
-    }
-    Ok(())
-}
-
-// Whether a run goes on from another one.
-fn goes_on(before: &RegionRun, run: &RegionRun) -> bool
-    ensures { IsTrue result → (before.now.region ≡ run.now.region)
-        × (run.now.run.first ≡ before.now.run.last + 1) }
-{
-    before.region == run.region && run.run.first.checked_sub(1) == Some(before.run.last)
 }

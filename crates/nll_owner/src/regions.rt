@@ -76,7 +76,7 @@ impl<'q> Analysis for Regions<'q> {
 
     ghost state = { spec.part_of };
 
-    ghost yields = { spec.Yields };
+    ghost yields = { spec.YieldsValues };
 
     fn part(&self, alloc: Global, me: u16) -> Result<Owner<'q>, Memory> {
         Owner::on(alloc, self.problem, self.cut, self.tables, me)

@@ -29,7 +29,7 @@ impl Model for Tables {
     ghost use Rattle.nll_owner.specs.Tables as spec;
     ghost use Rattle.nll_owner.specs.Tables.{tables_of};
 
-    ghost Value = { spec.Tables };
+    ghost Value = { spec.OwnerTables };
 
     ghost view = { λ tables. tables_of tables.steps tables.index tables.readers };
 }

@@ -2,7 +2,7 @@
 //! Each allocation is refused in turn from outside; with none refused the owners reach their
 //! values.
 ghost use Rattle.std.specs.Prelude.{◌≡◌, false, length};
-ghost use Rattle.nll_owner.specs.Owner.{IsReady, Passes};
+ghost use Rattle.nll_owner.specs.Owner.{IsReadyOwner, Passes};
 
 use nll_core::{BuildError, Problem};
 use nll_cut::{Cut, CutError};
@@ -52,7 +52,7 @@ fn load(owner: &mut Owner<'_>) -> Option<Ending>
 
 // Hands a growth to an owner. Answers how it ends, if that is refused.
 fn receive(owner: &mut Owner<'_>, from: u16, growth: Growth) -> Option<Ending>
-    requires ready { IsReady owner.old }
+    requires ready { IsReadyOwner owner.old }
     requires passes { Passes owner.old.problem owner.old.cut owner.old.me from growth }
 {
     let count = owner.log().len();

@@ -3,7 +3,7 @@ ghost use Rattle.std.specs.Prelude.{◌≡◌, ◌⊎◌, ◌<◌, ◌≤◌, �
 ghost use Rattle.std.specs.Prelude.{List, Some, map, length, string_bytes};
 ghost use Rattle.nll_report.specs.declared.messages.Refusal.{Refusal};
 ghost use Rattle.nll_report.specs.Refusal.{refusal_line, status_of};
-ghost use Rattle.nll_report.specs.Run.{IsRefused, IsRun};
+ghost use Rattle.nll_report.specs.Run.{IsRunRefused, IsRun};
 ghost use Rattle.nll_program_tests.specs.Known.{bytes_of, is_elsewhere, is_sheet, room_of};
 
 use crate::page::Page;
@@ -62,7 +62,7 @@ pub fn on_pages<R: AllocGlobal + Threads + Wait + Sync>(
     ensures printed { result < 2 → (bytes : List ℕ) × (bytes_of out.new ≡ bytes_of out.old ++ bytes)
         × IsRun (is_sheet sheet.now) (map string_bytes words.now) bytes result }
     ensures told { 2 ≤ result → (refusal : Refusal) × (status_of refusal ≡ result)
-        × (IsRefused (is_sheet sheet.now) (is_elsewhere sheet.now)
+        × (IsRunRefused (is_sheet sheet.now) (is_elsewhere sheet.now)
         (map string_bytes words.now) refusal ⊎ (refusal ≡ Refusal.CannotWrite))
         × ((bytes_of err.new ≡ bytes_of err.old ++ refusal_line refusal)
         ⊎ (room_of err.old < length (refusal_line refusal))) }

@@ -3,14 +3,14 @@ use Rattle.std.proofs.Common.{◌≡◌, ◌∙◌, ℕ, ◌<◌, ◌≤◌, Lis
 use Rattle.std.specs.List.{filter_map}
 use Rattle.std.specs.Option.{option_to_list}
 use Rattle.nll_problem.specs.Limits.{most_owners}
-use Rattle.nll_command_line.specs.CommandLine.{AsksPlainlyForHelp, IsLine}
+use Rattle.nll_command_line.specs.CommandLine.{AsksPlainlyForHelp, IsTaskLine}
 use Rattle.nll_command_line.specs.Grammar.{IsHelpFor, IsWordsError}
-use Rattle.nll_command_line.specs.Options.{Given, owners, deal, cut, mail, schedule, HasOptions, none, ends, other as plain_word, option, ArePlaced, no_words, unread, behind, AreRead, Said, Suits, owners_in}
+use Rattle.nll_command_line.specs.Options.{Given, owners, deal, cut, mail, schedule, HasOptions, none, ends, other as plain_word, option, ArePlaced, no_words, unread, behind, AreOptionsRead, SaidOptions, Suits, owners_in}
 use Rattle.nll_command_line.specs.declared.error.LineError.{LineError}
 use Rattle.nll_command_line.specs.declared.error.LineError.TheVariants as line
 use Rattle.nll_command_line.specs.declared.task.Task.{Task}
-use Rattle.nll_report.specs.Run.{Words, IsAsked, IsHelp, IsHelpOf, IsRefusalOf, IsRefused}
-use Rattle.nll_report.specs.Texts.{Holds, Lacks}
+use Rattle.nll_report.specs.Run.{Words, IsTaskAsked, IsHelp, IsHelpOf, IsRefusalOf, IsRunRefused}
+use Rattle.nll_report.specs.Texts.{HoldsAt, Lacks}
 use Rattle.nll_report.specs.declared.messages.Refusal.{Refusal}
 
 -- ---- the number of owners
@@ -44,7 +44,8 @@ lawful_placed _ _ _ no_words n ns e = cc
 lawful_placed _ _ _ (unread word rest begins) n ns e = cc
 lawful_placed _ _ _ (behind given word others rest plain h) n ns e = lawful_in given others rest h n ns e
 
-pub lawful_count : (words others : Words) (said : Said) → AreRead words others said → IfSome said.owners IsLawfulCount
+pub lawful_count : (words others : Words) (said : SaidOptions) → AreOptionsRead words others said
+    → IfSome said.owners IsLawfulCount
 lawful_count words others said read = at said.owners read.says.owners
   where
     at : (count : Option ℕ) → filter_map owners_in read.given ≡ option_to_list count → IfSome count IsLawfulCount
@@ -67,20 +68,22 @@ help_told words (line.Help text) bytes status h is = record {
 help_told words line.Usage bytes status h is = absurd is
 help_told words line.Memory bytes status h is = absurd is
 
-pub words_told : (holds : Holds) (lacks : Lacks) (words : Words) (e : LineError) (refusal : Refusal)
+pub words_told : (holds : HoldsAt) (lacks : Lacks) (words : Words) (e : LineError) (refusal : Refusal)
     → IsWordsError words e
-    → ((others : Words) (said : Said) → AreRead words others said → AsksPlainlyForHelp others → IsHelpFor others e)
-    → IsRefusalOf e refusal → IsRefused holds lacks words refusal
+    → ((others : Words) (said : SaidOptions) → AreOptionsRead words others said → AsksPlainlyForHelp others
+    → IsHelpFor others e)
+    → IsRefusalOf e refusal → IsRunRefused holds lacks words refusal
 words_told holds lacks words (line.Help text) refusal h help is = absurd is
 words_told holds lacks words line.Usage refusal h help is =
-    subst (IsRefused holds lacks words) (sym is) (λ others said read. ((h others said read).0, help others said read))
-words_told holds lacks words line.Memory refusal h help is = subst (IsRefused holds lacks words) (sym is) tt
+    subst (IsRunRefused holds lacks words) (sym is) (λ others said read.
+    ((h others said read).0, help others said read))
+words_told holds lacks words line.Memory refusal h help is = subst (IsRunRefused holds lacks words) (sym is) tt
 
 -- ---- words that are a line
 
-pub asked_line : (words : Words) (task : Task) (file : List ℕ) (said : Said)
-    → ((others : Words) × AreRead words others said × IsLine task file others × Suits task said)
-    → ((others : Words) (s : Said) → AreRead words others s → AsksPlainlyForHelp others → ⊥)
-    → IsAsked words task file said
+pub asked_line : (words : Words) (task : Task) (file : List ℕ) (said : SaidOptions)
+    → ((others : Words) × AreOptionsRead words others said × IsTaskLine task file others × Suits task said)
+    → ((others : Words) (s : SaidOptions) → AreOptionsRead words others s → AsksPlainlyForHelp others → ⊥)
+    → IsTaskAsked words task file said
 asked_line words task file said ok other =
     record { others = ok.0; read = ok.1; line = ok.2; suits = ok.3; other = other ok.0 said ok.1 }

@@ -7,11 +7,11 @@ use Rattle.std.proofs.lemmas.Option.{none-some}
 use Rattle.nll_problem.specs.Limits.{most_owners}
 use Rattle.nll_problem.specs.Problem.{Problem}
 use Rattle.nll_format.specs.Labels.{Labels}
-use Rattle.nll_format.specs.Text.{Format, IsFault, IsRefusal}
+use Rattle.nll_format.specs.Text.{Format, IsFaultOfText, IsRefusal}
 use Rattle.nll_format.specs.declared.error.TextError.{TextError}
 use Rattle.nll_format.specs.declared.error.TextKind.{TextKind}
 use Rattle.nll_format.specs.declared.error.TextKind.TheVariants as kind
-use Rattle.nll_cut.specs.Partition.{Answers, Cut, cut_of, list_error, may_be_count, stranger_error}
+use Rattle.nll_cut.specs.Partition.{AnswersCut, Cut, cut_of, list_error, may_be_count, stranger_error}
 use Rattle.nll_cut.specs.declared.error.CutError.{CutError}
 use Rattle.nll_cut.specs.declared.error.CutError.TheVariants as due
 use Rattle.nll_lists.specs.CutText.{cut}
@@ -21,12 +21,12 @@ use Rattle.nll_answer.specs.Running.{IsRunError}
 use Rattle.nll_answer.specs.declared.answers.Command.{Command}
 use Rattle.nll_answer.specs.declared.error.AnswerError.{AnswerError}
 use Rattle.nll_answer.specs.declared.error.AnswerError.TheVariants as answer
-use Rattle.nll_command_line.specs.Options.{Said}
+use Rattle.nll_command_line.specs.Options.{SaidOptions}
 use Rattle.nll_command_line.specs.declared.options.Deal.{Deal}
 use Rattle.nll_report.specs.Owners.{AsksForOwners, IsAskedCut, IsCutTextRefused, IsFileTold, IsOwnersRefused, IsWorkRefused, count_of, deal_of}
 use Rattle.nll_report.specs.Run.{AreOwnersRefused, IsAskedAnswer, IsFileAnswer, IsFileRefused}
 use Rattle.nll_report.specs.Refusal.{IsCutRefusal, cut_refusal_at, refusal_of}
-use Rattle.nll_report.specs.Texts.{Holds, Lacks}
+use Rattle.nll_report.specs.Texts.{HoldsAt, Lacks}
 use Rattle.nll_report.specs.declared.messages.Refusal.{Refusal}
 use Rattle.nll_report.specs.declared.messages.Refusal.TheVariants.{Text, Limit, Thread, Memory}
 
@@ -50,7 +50,7 @@ size_by false found e = absurd (none-some due.Length (sym e))
 
 -- a list that is taken has an owner for each region
 pub listed_ok : (regions count : ℕ) (list : List ℕ) (r : Result Cut CutError) → may_be_count count ≡ true
-    → Answers (list_error regions count list) r
+    → AnswersCut (list_error regions count list) r
     → IfOk r (λ c. c ≡ cut_of count list)
     → IfOk r (λ c. (list_error regions count list ≡ None) × (c ≡ cut_of count list) × (length c.list ≡ regions))
 listed_ok regions count list (Ok c) may none is = (
@@ -75,37 +75,6 @@ module _ {T : Type 0} (made : Result T CutError) (r : Result T Refusal) (ok : If
       at (Err e) (Ok value) ok err h = absurd err
       at (Err e) (Err f) ok err h = tt
 
--- ---- the fault of a text
-
-abbrev pub is_memory : TextKind → Bool
-is_memory kind.Memory = true
-is_memory other = false
-
--- the error of a text that doesn't tell of memory tells its fault
-pub fault_of : (format : Format) (text : List ℕ) (error : TextError) → IsRefusal (IsFault format text) error
-    → (k : TextKind) → is_memory k ≡ false → error.kind ≡ k → IsFault format text error.line k
-fault_of format text error refusal k other is = subst (IsFault format text error.line) is
-    (⊎_elim (λ wanting. absurd (true≢false
-    (sym (ap (λ (e : TextError). is_memory e.kind) wanting) ∙ ap is_memory is ∙ other))) (λ found. found) refusal)
-
--- ---- the text of a cut file
-
-module _ (regions count : ℕ) (text : List ℕ) where
-  -- it has a fault
-  module _ (error : TextError) (refusal : IsRefusal (IsFault cut text) error) where
-    told_in : (k : TextKind) → error.kind ≡ k → IsCutTextRefused regions count text (cut_refusal_at error.line k)
-    told_in kind.NotUtf8 is = fault_of cut text error refusal kind.NotUtf8 refl is
-    told_in kind.Header is = fault_of cut text error refusal kind.Header refl is
-    told_in kind.Syntax is = fault_of cut text error refusal kind.Syntax refl is
-    told_in kind.Unknown is = fault_of cut text error refusal kind.Unknown refl is
-    told_in kind.Duplicate is = fault_of cut text error refusal kind.Duplicate refl is
-    told_in kind.Range is = fault_of cut text error refusal kind.Range refl is
-    told_in kind.Shape is = fault_of cut text error refusal kind.Shape refl is
-    told_in kind.TypeSize is = fault_of cut text error refusal kind.TypeSize refl is
-    told_in (kind.Limit counted) is = fault_of cut text error refusal (kind.Limit counted) refl is
-    told_in kind.End is = fault_of cut text error refusal kind.End refl is
-    told_in kind.Memory is = refl
-
 -- ---- the file of a cut
 
 abbrev pub is_wanting : Refusal → Bool
@@ -115,7 +84,7 @@ is_wanting other = false
 -- ---- owners at work
 
 -- and so is why a run by the cut that is asked for is refused
-module _ (holds : Holds) (lacks : Lacks) (q : Problem) (count : ℕ) (how : Deal) (path : Option (List ℕ)) (c : Cut)
+module _ (holds : HoldsAt) (lacks : Lacks) (q : Problem) (count : ℕ) (how : Deal) (path : Option (List ℕ)) (c : Cut)
     (asked : IsAskedCut holds q.regions count how path c) where
   told_as_run : (e : AnswerError) → IsRunError e → IsWorkRefused holds lacks q count how path (refusal_of e)
   told_as_run (answer.Text error) h = absurd h
@@ -135,7 +104,7 @@ pub may_be_asked : (count : Option ℕ) (n : ℕ) → IfSome count (λ n. (0 < n
 may_be_asked None n lawful is = ap may_be_count is
 may_be_asked (Some count) n lawful is = ap may_be_count is ∙ may_be count lawful.0 lawful.1
 
-pub owners_told : (holds : Holds) (lacks : Lacks) (file : List ℕ) (said : Said) (n : ℕ) (deal : Deal)
+pub owners_told : (holds : HoldsAt) (lacks : Lacks) (file : List ℕ) (said : SaidOptions) (n : ℕ) (deal : Deal)
     (path : Option (List ℕ)) (e : Refusal)
     → n ≡ count_of said.owners → deal ≡ deal_of said.deal → path ≡ said.cut → AsksForOwners said.owners said.cut
     → IsFileRefused holds lacks file e ⊎ IsOwnersRefused holds lacks file n deal path e
@@ -151,7 +120,7 @@ owners_told holds lacks file said n deal path e is_count is_deal is_path asks = 
 
 -- ---- what a line's owners answer
 
-module _ (holds : Holds) (file : List ℕ) (command : Command) (said : Said) (report : List ℕ) (status : ℕ) where
+module _ (holds : HoldsAt) (file : List ℕ) (command : Command) (said : SaidOptions) (report : List ℕ) (status : ℕ) where
   abbrev pub Answered : Problem → Labels → Cut → Type 0
   Answered q labels _ = IsProblemAnswer command q labels report status
 

@@ -15,14 +15,14 @@ use Rattle.nll_report.specs.declared.messages.Refusal.TheVariants.{Usage, Cannot
 use Rattle.nll_command_line.specs.CommandLine.{AsksPlainlyForHelp, IsNoPlainLine, IsPlainLine}
 use Rattle.nll_command_line.specs.declared.task.Task.{Task}
 use Rattle.nll_command_line.specs.declared.task.Task.TheVariants.{Values, Check, Replay}
-use Rattle.nll_command_line.specs.Options.{ArePlaced, Given, Said, behind, no_words, unread}
+use Rattle.nll_command_line.specs.Options.{ArePlaced, Given, SaidOptions, behind, no_words, unread}
 use Rattle.nll_command_line.specs.declared.options.Deal.{Deal}
 use Rattle.nll_report.specs.Owners.{IsCutFileRefused, IsCutRefused, count_of, deal_of}
 use Rattle.nll_report.specs.Replays.{IsReplayRefused, IsScheduleRefused}
-use Rattle.nll_report.specs.Run.{Words, AreOwnersRefused, AreRefused, IsAsked, IsBegun, IsFileFault, IsFileRefused, IsLineRefused, IsRefused, IsRefusedBehindFile, IsRun, IsTaskRefused}
-use Rattle.nll_report.specs.Texts.{Holds, Lacks}
+use Rattle.nll_report.specs.Run.{Words, AreOwnersRefused, AreRefused, IsTaskAsked, IsPrintBegun, IsFileFault, IsFileRefused, IsLineRefused, IsRunRefused, IsRefusedBehindFile, IsRun, IsTaskRefused}
+use Rattle.nll_report.specs.Texts.{HoldsAt, Lacks}
 use Rattle.nll_report.proofs.OwnerLemmas.{is_wanting}
-use Rattle.nll_report.specs.Sink.{IsCut, MayRefuse}
+use Rattle.nll_report.specs.Sink.{IsCutShort, MayRefuse}
 
 -- no words at all are no plain line
 no_plain : IsNoPlainLine []
@@ -52,28 +52,28 @@ no_line others said read =
     )
 
 -- words that are lost, or refused memory, are refused as no words are
-pub lost_words : (holds : Holds) (lacks : Lacks) (refusal : Refusal) → (refusal ≡ Usage) ⊎ (refusal ≡ Memory)
-    → IsRefused holds lacks [] refusal
+pub lost_words : (holds : HoldsAt) (lacks : Lacks) (refusal : Refusal) → (refusal ≡ Usage) ⊎ (refusal ≡ Memory)
+    → IsRunRefused holds lacks [] refusal
 lost_words holds lacks refusal = ⊎_elim
-    (λ is. subst (IsRefused holds lacks []) (sym is) no_line)
-    (λ is. subst (IsRefused holds lacks []) (sym is) tt)
+    (λ is. subst (IsRunRefused holds lacks []) (sym is) no_line)
+    (λ is. subst (IsRunRefused holds lacks []) (sym is) tt)
 
 -- bytes of a run of which a sink took some only
-pub begun_by : (holds : Holds) (words : Words) (status : ℕ) (room : Option ℕ) (old new : Option (List ℕ))
+pub begun_by : (holds : HoldsAt) (words : Words) (status : ℕ) (room : Option ℕ) (old new : Option (List ℕ))
     (bytes slice : List ℕ) (written : ℕ) → IsRun holds words bytes status → slice ≡ bytes
-    → Appends old new (take written slice) → MayRefuse room (length slice) → IsBegun holds words room old new
+    → Appends old new (take written slice) → MayRefuse room (length slice) → IsPrintBegun holds words room old new
 begun_by holds words status room old new bytes slice written run is begun refused = record {
   bytes = bytes;
   status = status;
   run = run;
-  cut = subst (IsCut room old new) is cut_slice;
+  cut = subst (IsCutShort room old new) is cut_slice;
 }
   where
-    cut_slice : IsCut room old new slice
+    cut_slice : IsCutShort room old new slice
     cut_slice = record { count = written; begun = begun; refused = refused }
 
 -- neither a cut nor a schedule is why words are refused, or why standard output failed
-module _ (holds : Holds) (lacks : Lacks) (count : ℕ) (how : Deal) (refusal : Refusal)
+module _ (holds : HoldsAt) (lacks : Lacks) (count : ℕ) (how : Deal) (refusal : Refusal)
     (is : (refusal ≡ Usage) ⊎ (refusal ≡ CannotWrite)) where
   unwanted : (regions : ℕ) (path : Option (List ℕ)) → IsCutRefused holds lacks regions count path refusal → ⊥
   unwanted regions None h = ⊎_elim
@@ -108,8 +108,8 @@ module _ (holds : Holds) (lacks : Lacks) (count : ℕ) (how : Deal) (refusal : R
   unreplayed regions path schedule = ⊎_elim (unwanted regions path) (λ h. unscheduled schedule h.2)
 
 -- the refusal of what a line asks for
-module _ (holds : Holds) (lacks : Lacks) (words : Words) (file : List ℕ) (said : Said) where
-  line_refused : (task : Task) (asked : IsAsked words task file said) (refusal : Refusal)
+module _ (holds : HoldsAt) (lacks : Lacks) (words : Words) (file : List ℕ) (said : SaidOptions) where
+  line_refused : (task : Task) (asked : IsTaskAsked words task file said) (refusal : Refusal)
       → IsTaskRefused holds lacks task file said refusal
       → IsLineRefused holds lacks words refusal
   line_refused task asked refusal h = record { task = task; file = file; said = said; asked = asked; refused = h }
@@ -137,9 +137,9 @@ module _ (holds : Holds) (lacks : Lacks) (words : Words) (file : List ℕ) (said
       unreplayed holds lacks (count_of said.owners)
       (deal_of said.deal) refusal is h.2.problem.regions said.cut h.0 h.2.refused
 
-  pub line_told : (task : Task) (asked : IsAsked words task file said) (refusal : Refusal)
+  pub line_told : (task : Task) (asked : IsTaskAsked words task file said) (refusal : Refusal)
       → IsTaskRefused holds lacks task file said refusal
-      → IsRefused holds lacks words refusal
+      → IsRunRefused holds lacks words refusal
   line_told task asked Usage h = absurd (⊎_elim (λ none. none) (silent task Usage (inl refl)) h)
   line_told task asked (CannotRead other) h = line_refused task asked (CannotRead other) h
   line_told task asked (Text line kind) h = line_refused task asked (Text line kind) h
@@ -154,7 +154,7 @@ module _ (holds : Holds) (lacks : Lacks) (words : Words) (file : List ℕ) (said
 
 -- ---- a text that has no answer
 
-module _ (holds : Holds) (lacks : Lacks) (file text : List ℕ) (held : holds file text) where
+module _ (holds : HoldsAt) (lacks : Lacks) (file text : List ℕ) (held : holds file text) where
   a_fault : (line : ℕ) (k : TextKind) → IsTextFault text line k → IsFileFault holds file line k
   a_fault line k found = record { text = text; held = held; fault = found }
 
@@ -181,7 +181,8 @@ module _ (holds : Holds) (lacks : Lacks) (file text : List ℕ) (held : holds fi
   error_told answer.Memory h = tt
 
 -- the same, of a text by its path and its bytes
-pub answer_told : (holds : Holds) (lacks : Lacks) (path file slice text : List ℕ) (e : AnswerError) (refusal : Refusal)
+pub answer_told : (holds : HoldsAt) (lacks : Lacks) (path file slice text : List ℕ) (e : AnswerError)
+    (refusal : Refusal)
     → path ≡ file → slice ≡ text → refusal ≡ refusal_of e → holds path text → IsAnswerError slice e
     → IsFileRefused holds lacks file refusal
 answer_told holds lacks path file slice text e refusal at bytes is held h =

@@ -6,7 +6,7 @@ use Rattle.std.proofs.lemmas.List.{append-nil, take-append-drop, take-append-le,
 use Rattle.std.proofs.KnownBytes.{Appends-trans}
 use Rattle.std.specs.Io.KnownBytes.{Appends}
 use Rattle.std.specs.List.{flat_map}
-use Rattle.nll_report.specs.Sink.{IsCut, LeavesRoom, MayRefuse}
+use Rattle.nll_report.specs.Sink.{IsCutShort, LeavesRoom, MayRefuse}
 
 -- what stands before a piece, the piece, and what stands behind it
 around : {X : Type 0} (f : X → List ℕ) (pieces : List X) (i : ℕ) (d : X) → i < length pieces
@@ -36,7 +36,7 @@ first_behind done piece rest count within =
 cut_behind : (room left : Option ℕ) (old mid new : Option (List ℕ)) (done piece rest : List ℕ) (count : ℕ)
     → LeavesRoom room left (length done) → Appends old mid done
     → count ≤ length piece → Appends mid new (take count piece) → MayRefuse left (length piece)
-    → IsCut room old new ((done ++ piece) ++ rest)
+    → IsCutShort room old new ((done ++ piece) ++ rest)
 cut_behind room left old mid new done piece rest count leaves before within begun refused = record {
   count = length done + count;
   begun = subst (Appends old new) (sym (first_behind done piece rest count within))
@@ -58,13 +58,13 @@ pub cut_at : {X A E : Type 0} (r : Result A E) (f : X → List ℕ) (pieces : Li
     → i < length pieces → piece ≡ f (get_or pieces i d)
     → Appends old mid (flat_map f (take i pieces)) × LeavesRoom room left (length (flat_map f (take i pieces)))
     → count ≤ length piece → Appends mid new (take count piece) → MayRefuse left (length piece)
-    → OnErr r (IsCut room old new (flat_map f pieces))
+    → OnErr r (IsCutShort room old new (flat_map f pieces))
 cut_at r f pieces i d piece room left old mid new count inside is before within begun refused =
     let done = flat_map f (take i pieces) in
     let rest = flat_map f (drop (suc i) pieces) in
     let whole : flat_map f pieces ≡ (done ++ piece) ++ rest =
     around f pieces i d inside ∙ ap (λ part. (done ++ part) ++ rest) (sym is) in
-    on_err r (subst (IsCut room old new) (sym whole)
+    on_err r (subst (IsCutShort room old new) (sym whole)
     (cut_behind room left old mid new done piece rest count before.1 before.0 within begun refused))
 
 -- what was put, or cut, under another name of the bytes
@@ -73,5 +73,5 @@ pub put_as : {E : Type 0} (r : Result (Unit {0}) E) (old new : Option (List ℕ)
 put_as r old new bytes line is told = subst (λ b. OnOk r (Appends old new b)) (sym is) told
 
 pub cut_as : {E : Type 0} (r : Result (Unit {0}) E) (room : Option ℕ) (old new : Option (List ℕ)) (bytes line : List ℕ)
-    → line ≡ bytes → OnErr r (IsCut room old new bytes) → OnErr r (IsCut room old new line)
-cut_as r room old new bytes line is told = subst (λ b. OnErr r (IsCut room old new b)) (sym is) told
+    → line ≡ bytes → OnErr r (IsCutShort room old new bytes) → OnErr r (IsCutShort room old new line)
+cut_as r room old new bytes line is told = subst (λ b. OnErr r (IsCutShort room old new b)) (sym is) told

@@ -3,17 +3,17 @@
 use Rattle.std.specs.Prelude.{◌≡◌, ℕ, ◌/◌, ◌%◌, List, Option, None, Some, string_bytes}
 use Rattle.nll_problem.specs.Problem.{Problem}
 use Rattle.nll_format.specs.Labels.{Labels}
-use Rattle.nll_format.specs.Text.{IsFault}
+use Rattle.nll_format.specs.Text.{IsFaultOfText}
 use Rattle.nll_cut.specs.Partition.{Cut, Deals, IsBlockSize, cut_of, list_error}
 use Rattle.nll_cut.specs.declared.error.CutError.{CutError}
 use Rattle.nll_cut.specs.declared.error.CutError.TheVariants as due
-use Rattle.nll_lists.specs.CutText.{cut, Means}
+use Rattle.nll_lists.specs.CutText.{cut, MeansCut}
 use Rattle.nll_answer.specs.Texts.{IsMeaning}
 use Rattle.nll_command_line.specs.declared.options.Deal.{Deal}
 use Rattle.nll_command_line.specs.declared.options.Deal.TheVariants.{Round, Blocks}
 use Rattle.nll_command_line.specs.declared.options.MailKind.{MailKind}
 use Rattle.nll_command_line.specs.declared.options.MailKind.TheVariants.{Queue}
-use Rattle.nll_report.specs.Texts.{Holds, Lacks}
+use Rattle.nll_report.specs.Texts.{HoldsAt, Lacks}
 use Rattle.nll_report.specs.declared.messages.Refusal.{Refusal}
 use Rattle.nll_report.specs.declared.messages.Refusal.TheVariants.{CannotRead, CutText}
 use Rattle.nll_report.specs.declared.messages.Refusal.TheVariants.{CutLength, NoSuchOwner}
@@ -46,11 +46,11 @@ mail_of (Some kind) = kind
 -- owners
 abbrev pub IsTextCut : ℕ → ℕ → List ℕ → Cut → Type 0
 IsTextCut regions count text c =
-    (list : List ℕ) × Means text list × (list_error regions count list ≡ None)
+    (list : List ℕ) × MeansCut text list × (list_error regions count list ≡ None)
     × (c ≡ cut_of count list)
 
 -- a text of the cut file lists the owners of the cut
-abbrev pub IsListedCut : Holds → ℕ → ℕ → List ℕ → Cut → Type 0
+abbrev pub IsListedCut : HoldsAt → ℕ → ℕ → List ℕ → Cut → Type 0
 IsListedCut holds regions count path c =
     (text : List ℕ) × holds path text × IsTextCut regions count text c
 
@@ -61,19 +61,19 @@ IsDealtCut regions count Blocks c =
     (size : ℕ) × IsBlockSize regions count size × Deals regions count (λ r. r / size) c
 
 -- the cut is the one of the cut file; without one, the regions are assigned by a rule
-abbrev pub IsAskedCut : Holds → ℕ → ℕ → Deal → Option (List ℕ) → Cut → Type 0
+abbrev pub IsAskedCut : HoldsAt → ℕ → ℕ → Deal → Option (List ℕ) → Cut → Type 0
 IsAskedCut holds regions count how (Some path) c = IsListedCut holds regions count path c
 IsAskedCut holds regions count how None c = IsDealtCut regions count how c
 
 -- A text of the file means a problem.
-pub record IsFileMeaning (holds : Holds) (file : List ℕ) (problem : Problem) (labels : Labels)
+pub record IsFileMeaning (holds : HoldsAt) (file : List ℕ) (problem : Problem) (labels : Labels)
     : Type 0 where
   pub text : List ℕ
   pub held : holds file text
   pub meaning : IsMeaning text problem labels
 
 -- There is the cut of this many regions that is asked for, and what is reported holds of it.
-pub record HasAskedCut (holds : Holds) (regions count : ℕ) (how : Deal) (path : Option (List ℕ))
+pub record HasAskedCut (holds : HoldsAt) (regions count : ℕ) (how : Deal) (path : Option (List ℕ))
     (Told : Cut → Type 0) : Type 0 where
   pub cut : Cut
   pub asked : IsAskedCut holds regions count how path cut
@@ -81,7 +81,7 @@ pub record HasAskedCut (holds : Holds) (regions count : ℕ) (how : Deal) (path 
 
 -- A text of the file means a problem, there is the cut of its regions that is asked for, and what
 -- is reported holds of the problem, its labels and this cut.
-pub record IsFileTold (holds : Holds) (file : List ℕ) (count : ℕ) (how : Deal)
+pub record IsFileTold (holds : HoldsAt) (file : List ℕ) (count : ℕ) (how : Deal)
     (path : Option (List ℕ)) (Told : Problem → Labels → Cut → Type 0) : Type 0 where
   pub problem : Problem
   pub labels : Labels
@@ -94,19 +94,19 @@ pub record IsFileTold (holds : Holds) (file : List ℕ) (count : ℕ) (how : Dea
 -- owners.
 pub record IsNoCut (regions count : ℕ) (text : List ℕ) (why : CutError) : Type 0 where
   pub list : List ℕ
-  pub means : Means text list
+  pub means : MeansCut text list
   pub due : list_error regions count list ≡ Some why
 
 -- the refusal says the text's fault or why its list is no cut, or that memory was refused
 abbrev pub IsCutTextRefused : ℕ → ℕ → List ℕ → Refusal → Type 0
-IsCutTextRefused regions count text (CutText line kind) = IsFault cut text line kind
+IsCutTextRefused regions count text (CutText line kind) = IsFaultOfText cut text line kind
 IsCutTextRefused regions count text CutLength = IsNoCut regions count text due.Length
 IsCutTextRefused regions count text (NoSuchOwner index) =
     IsNoCut regions count text (due.NoSuchOwner index)
 IsCutTextRefused regions count text other = other ≡ Memory
 
 -- the refusal is true of a text of the cut file, or says that there is none
-abbrev pub IsCutFileRefused : Holds → Lacks → ℕ → ℕ → List ℕ → Refusal → Type 0
+abbrev pub IsCutFileRefused : HoldsAt → Lacks → ℕ → ℕ → List ℕ → Refusal → Type 0
 IsCutFileRefused holds lacks regions count path (CannotRead other) =
     (string_bytes other ≡ path) × lacks path
 IsCutFileRefused holds lacks regions count path Memory = Unit {0}
@@ -114,7 +114,7 @@ IsCutFileRefused holds lacks regions count path other =
     (text : List ℕ) × holds path text × IsCutTextRefused regions count text other
 
 -- the refusal says why there is no cut; without a cut file, memory was refused
-abbrev pub IsCutRefused : Holds → Lacks → ℕ → ℕ → Option (List ℕ) → Refusal → Type 0
+abbrev pub IsCutRefused : HoldsAt → Lacks → ℕ → ℕ → Option (List ℕ) → Refusal → Type 0
 IsCutRefused holds lacks regions count (Some path) refusal =
     IsCutFileRefused holds lacks regions count path refusal
 IsCutRefused holds lacks regions count None refusal = refusal ≡ Memory
@@ -123,7 +123,7 @@ IsCutRefused holds lacks regions count None refusal = refusal ≡ Memory
 
 -- the refusal is true of the cut or of the owners at work; that a thread couldn't be started says
 -- that the cut is there, and that memory was refused says nothing of the texts
-abbrev pub IsWorkRefused : Holds → Lacks → Problem → ℕ → Deal → Option (List ℕ) → Refusal
+abbrev pub IsWorkRefused : HoldsAt → Lacks → Problem → ℕ → Deal → Option (List ℕ) → Refusal
     → Type 0
 IsWorkRefused holds lacks q count how path Thread =
     (cut : Cut) × IsAskedCut holds q.regions count how path cut
@@ -133,7 +133,8 @@ IsWorkRefused holds lacks q count how path other =
 
 -- A text of the file means a problem, and the refusal is true of the cut of its regions or of the
 -- owners at work on it. So faults of the file come before those of the cut file.
-pub record IsOwnersRefused (holds : Holds) (lacks : Lacks) (file : List ℕ) (count : ℕ) (how : Deal)
+pub record IsOwnersRefused (holds : HoldsAt) (lacks : Lacks) (file : List ℕ) (count : ℕ)
+    (how : Deal)
     (path : Option (List ℕ)) (refusal : Refusal) : Type 0 where
   pub problem : Problem
   pub labels : Labels

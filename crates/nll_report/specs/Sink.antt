@@ -14,11 +14,11 @@ LeavesRoom (Some room) None count = ⊥
 LeavesRoom (Some room) (Some left) count = room ≤ left + count
 
 -- A sink that may refuse some of the bytes got a prefix of them.
-pub record IsCut (room : Option ℕ) (old new : Option (List ℕ)) (bytes : List ℕ) : Type 0 where
+pub record IsCutShort (room : Option ℕ) (old new : Option (List ℕ)) (bytes : List ℕ) : Type 0 where
   pub count : ℕ
   pub begun : Appends old new (take count bytes)
   pub refused : MayRefuse room (length bytes)
 
 -- a sink got all of the bytes, or it may refuse some and got a prefix of them
 abbrev pub IsPut : Option ℕ → Option (List ℕ) → Option (List ℕ) → List ℕ → Type 0
-IsPut room old new bytes = Appends old new bytes ⊎ IsCut room old new bytes
+IsPut room old new bytes = Appends old new bytes ⊎ IsCutShort room old new bytes

@@ -3,15 +3,15 @@
 use Rattle.std.specs.Prelude.{ℕ, List}
 
 -- which bytes may be held at a path
-abbrev pub Holds : Type 1
-Holds = List ℕ → List ℕ → Type 0
+abbrev pub HoldsAt : Type 1
+HoldsAt = List ℕ → List ℕ → Type 0
 
 -- at which paths a text may be missing
 abbrev pub Lacks : Type 1
 Lacks = List ℕ → Type 0
 
 -- any bytes may be held at any path
-abbrev pub holds_anything : Holds
+abbrev pub holds_anything : HoldsAt
 holds_anything path text = Unit {0}
 
 -- at any path a text may be missing

@@ -47,7 +47,7 @@ impl<R: Files + AllocGlobal> Texts for Disk<'_, R> {
     ghost lacks = { λ _. lacks_anything };
 
     fn get(&self, path: &str) -> Result<Vec<u8>, Unread> {
-        given(read_file(self.rt, path))
+        given(text_of(self.rt.alloc(), fs::open(self.rt, path)))
     }
 }
 
@@ -66,27 +66,16 @@ fn given(read: io::Result<Vec<u8>>) -> Result<Vec<u8>, Unread>
     }
 }
 
-fn read_file<R: Files + AllocGlobal>(rt: &R, path: &str) -> io::Result<Vec<u8>> {
-    text_of(rt.alloc(), fs::open(rt, path))
-}
-
-// The text of a file, or why it is not open.
+// The text of a file or a prefix of it, or why it is not open.
 fn text_of<F: Read + OpenFile + Drop>(alloc: Global, opened: io::Result<F>) -> io::Result<Vec<u8>>
     ensures text { IfOk opened (λ file. IfOk result (λ text.
         IfSome (F.remaining file) (λ bytes. text.items ≡ take read_limit bytes))) }
     ensures closed { IfErr opened (λ error. result ≡ Err error) }
 {
-    match opened {
-        Ok(file) => read_open(alloc, file),
-        Err(error) => Err(error),
-    }
-}
-
-// The bytes of a file, or a prefix of them.
-fn read_open<F: Read + OpenFile + Drop>(alloc: Global, file: F) -> io::Result<Vec<u8>>
-    ensures { IfOk result (λ text.
-        IfSome (F.remaining file) (λ bytes. text.items ≡ take read_limit bytes)) }
-{
+    let file = match opened {
+        Ok(file) => file,
+        Err(error) => return Err(error),
+    };
     let length = match file.metadata() {
         Ok(known) => known.len().min(READ_LIMIT),
         Err(_) => 0,

@@ -7,7 +7,7 @@ ghost use Rattle.nll_report.specs.declared.messages.Refusal.TheVariants.{CannotR
 ghost use Rattle.nll_report.specs.declared.messages.Refusal.TheVariants.{Limit, NoSuchOwner};
 ghost use Rattle.nll_report.specs.declared.messages.Refusal.TheVariants.{Memory, ScheduleText};
 ghost use Rattle.nll_report.specs.declared.messages.Refusal.TheVariants.{Text};
-ghost use Rattle.nll_report.specs.Sink.{IsCut};
+ghost use Rattle.nll_report.specs.Sink.{IsCutShort};
 
 use crate::error::Unwritten;
 use crate::sink::{Sink, put_pieces};
@@ -75,7 +75,8 @@ impl Refusal {
     pub fn print<S: Sink>(&self, to: &mut S) -> Result<(), Unwritten>
         ensures all { OnOk result
             (Appends (S.contents to.old) (S.contents to.new) (refusal_line self.now)) }
-        ensures cut { OnErr result (IsCut (S.room to.old) (S.contents to.old) (S.contents to.new)
+        ensures cut { OnErr result (IsCutShort (S.room to.old) (S.contents to.old)
+            (S.contents to.new)
             (refusal_line self.now)) }
     {
         match self {
@@ -98,7 +99,7 @@ impl Refusal {
 fn print_unread<S: Sink>(to: &mut S, path: &String) -> Result<(), Unwritten>
     ensures all { OnOk result
         (Appends (S.contents to.old) (S.contents to.new) (refusal_line (CannotRead path.now))) }
-    ensures cut { OnErr result (IsCut (S.room to.old) (S.contents to.old) (S.contents to.new)
+    ensures cut { OnErr result (IsCutShort (S.room to.old) (S.contents to.old) (S.contents to.new)
         (refusal_line (CannotRead path.now))) }
 {
     put_pieces(to, &["nllc: cannot read ", path.as_str(), "\n"])
@@ -108,7 +109,7 @@ fn print_unread<S: Sink>(to: &mut S, path: &String) -> Result<(), Unwritten>
 fn print_fault<S: Sink>(to: &mut S, line: u64, kind: TextKind) -> Result<(), Unwritten>
     ensures all { OnOk result
         (Appends (S.contents to.old) (S.contents to.new) (refusal_line (Text line kind))) }
-    ensures cut { OnErr result (IsCut (S.room to.old) (S.contents to.old) (S.contents to.new)
+    ensures cut { OnErr result (IsCutShort (S.room to.old) (S.contents to.old) (S.contents to.new)
         (refusal_line (Text line kind))) }
 {
     let mut digits = Buffer::new();
@@ -120,7 +121,7 @@ fn print_fault<S: Sink>(to: &mut S, line: u64, kind: TextKind) -> Result<(), Unw
 fn print_limit<S: Sink>(to: &mut S, kind: Kind) -> Result<(), Unwritten>
     ensures all { OnOk result
         (Appends (S.contents to.old) (S.contents to.new) (refusal_line (Limit kind))) }
-    ensures cut { OnErr result (IsCut (S.room to.old) (S.contents to.old) (S.contents to.new)
+    ensures cut { OnErr result (IsCutShort (S.room to.old) (S.contents to.old) (S.contents to.new)
         (refusal_line (Limit kind))) }
 {
     put_pieces(to, &["nllc: ", limit_text(kind), "\n"])
@@ -130,7 +131,7 @@ fn print_limit<S: Sink>(to: &mut S, kind: Kind) -> Result<(), Unwritten>
 fn print_cut_fault<S: Sink>(to: &mut S, line: u64, kind: TextKind) -> Result<(), Unwritten>
     ensures all { OnOk result
         (Appends (S.contents to.old) (S.contents to.new) (refusal_line (CutText line kind))) }
-    ensures cut { OnErr result (IsCut (S.room to.old) (S.contents to.old) (S.contents to.new)
+    ensures cut { OnErr result (IsCutShort (S.room to.old) (S.contents to.old) (S.contents to.new)
         (refusal_line (CutText line kind))) }
 {
     let mut digits = Buffer::new();
@@ -142,7 +143,7 @@ fn print_cut_fault<S: Sink>(to: &mut S, line: u64, kind: TextKind) -> Result<(),
 fn print_stranger<S: Sink>(to: &mut S, index: u32) -> Result<(), Unwritten>
     ensures all { OnOk result
         (Appends (S.contents to.old) (S.contents to.new) (refusal_line (NoSuchOwner index))) }
-    ensures cut { OnErr result (IsCut (S.room to.old) (S.contents to.old) (S.contents to.new)
+    ensures cut { OnErr result (IsCutShort (S.room to.old) (S.contents to.old) (S.contents to.new)
         (refusal_line (NoSuchOwner index))) }
 {
     let mut digits = Buffer::new();
@@ -154,7 +155,7 @@ fn print_stranger<S: Sink>(to: &mut S, index: u32) -> Result<(), Unwritten>
 fn print_schedule_fault<S: Sink>(to: &mut S, line: u64, kind: TextKind) -> Result<(), Unwritten>
     ensures all { OnOk result
         (Appends (S.contents to.old) (S.contents to.new) (refusal_line (ScheduleText line kind))) }
-    ensures cut { OnErr result (IsCut (S.room to.old) (S.contents to.old) (S.contents to.new)
+    ensures cut { OnErr result (IsCutShort (S.room to.old) (S.contents to.old) (S.contents to.new)
         (refusal_line (ScheduleText line kind))) }
 {
     let mut digits = Buffer::new();

@@ -272,20 +272,10 @@ fn taken(cut: Result<Cut, CutError>) -> Result<Cut, Refusal>
 {
     match cut {
         Ok(cut) => Ok(cut),
-        Err(error) => Err(refusal_of_cut(error)),
-    }
-}
-
-// The refusal of a cut.
-fn refusal_of_cut(error: CutError) -> Refusal
-    requires { error ≢ CutError.Owners }
-    ensures { IsCutRefusal error result }
-{
-    match error {
-        CutError::Owners => unreachable!(),
-        CutError::Length => Refusal::CutLength,
-        CutError::NoSuchOwner(index) => Refusal::NoSuchOwner(index),
-        CutError::Memory => Refusal::Memory,
+        Err(CutError::Owners) => unreachable!(),
+        Err(CutError::Length) => Err(Refusal::CutLength),
+        Err(CutError::NoSuchOwner(index)) => Err(Refusal::NoSuchOwner(index)),
+        Err(CutError::Memory) => Err(Refusal::Memory),
     }
 }
 

@@ -2,14 +2,14 @@
 ghost use Rattle.std.specs.Prelude.{◌≡◌, ◌⊎◌, ◌<◌, ◌≤◌, ℕ, List, map, option_map};
 ghost use Rattle.std.specs.Prelude.{IfErr, IfOk, IfSome, MatchResult, string_bytes};
 ghost use Rattle.std.specs.Io.KnownBytes.{Appends};
-ghost use Rattle.nll_command_line.specs.Options.{Suits, said_by};
+ghost use Rattle.nll_command_line.specs.Options.{Suits, options_said};
 ghost use Rattle.nll_problem.specs.Limits.{most_owners};
 ghost use Rattle.nll_report.specs.declared.messages.Refusal.{Refusal};
 ghost use Rattle.nll_report.specs.Refusal.{refusal_line, status_of};
-ghost use Rattle.nll_report.specs.Run.{AreOwnersRefused, IsAskedAnswer, IsBegun, IsFileAnswer};
+ghost use Rattle.nll_report.specs.Run.{AreOwnersRefused, IsAskedAnswer, IsPrintBegun, IsFileAnswer};
 ghost use Rattle.nll_report.specs.Run.{IsFileRefused, IsHelpOf, IsPrinted, IsRefusalOf};
-ghost use Rattle.nll_report.specs.Run.{IsRefused, IsRun, IsTaskAnswer, IsTaskRefused, Words};
-ghost use Rattle.nll_report.specs.Sink.{IsCut, IsPut};
+ghost use Rattle.nll_report.specs.Run.{IsRunRefused, IsRun, IsTaskAnswer, IsTaskRefused, Words};
+ghost use Rattle.nll_report.specs.Sink.{IsCutShort, IsPut};
 ghost use Rattle.nll_report.specs.Texts.{holds_anything, lacks_anything};
 
 use crate::disk::Disk;
@@ -60,15 +60,15 @@ pub fn drive<R: AllocGlobal + Threads + Wait + Sync, T: Texts, O: Sink, E: Sink>
         result (O.contents out.old) (O.contents out.new) }
     ensures refused { result ≡ 2 → out.new ≡ out.old }
     ensures begun { result ≡ 3 → (out.new ≡ out.old)
-        ⊎ IsBegun (T.holds texts.now) (map string_bytes words.now)
+        ⊎ IsPrintBegun (T.holds texts.now) (map string_bytes words.now)
         (O.room out.old) (O.contents out.old) (O.contents out.new) }
 
     // Standard error has a refusal of this status: it is true of the words and the texts, or
     // standard output refused some of the report or the help.
     ensures told { 2 ≤ result → (refusal : Refusal) × (status_of refusal ≡ result)
-        × (((out.new ≡ out.old) × IsRefused (T.holds texts.now) (T.lacks texts.now)
+        × (((out.new ≡ out.old) × IsRunRefused (T.holds texts.now) (T.lacks texts.now)
         (map string_bytes words.now) refusal)
-        ⊎ ((refusal ≡ Refusal.CannotWrite) × IsBegun (T.holds texts.now)
+        ⊎ ((refusal ≡ Refusal.CannotWrite) × IsPrintBegun (T.holds texts.now)
         (map string_bytes words.now) (O.room out.old) (O.contents out.old) (O.contents out.new)))
         × IsPut (E.room err.old) (E.contents err.old) (E.contents err.new)
         (refusal_line refusal) }
@@ -100,12 +100,12 @@ pub fn run_in_process<R: Env + Files + AllocGlobal + Threads + Wait + Sync, O: S
         × IsPrinted holds_anything words result (O.contents out.old) (O.contents out.new) }
     ensures refused { result ≡ 2 → out.new ≡ out.old }
     ensures begun { result ≡ 3 → (out.new ≡ out.old) ⊎ ((words : Words)
-        × IsBegun holds_anything words
+        × IsPrintBegun holds_anything words
         (O.room out.old) (O.contents out.old) (O.contents out.new)) }
     ensures told { 2 ≤ result → (words : Words) × (refusal : Refusal)
         × (status_of refusal ≡ result)
-        × (((out.new ≡ out.old) × IsRefused holds_anything lacks_anything words refusal)
-        ⊎ ((refusal ≡ Refusal.CannotWrite) × IsBegun holds_anything words
+        × (((out.new ≡ out.old) × IsRunRefused holds_anything lacks_anything words refusal)
+        ⊎ ((refusal ≡ Refusal.CannotWrite) × IsPrintBegun holds_anything words
         (O.room out.old) (O.contents out.old) (O.contents out.new)))
         × IsPut (E.room err.old) (E.contents err.old) (E.contents err.new)
         (refusal_line refusal) }
@@ -126,7 +126,7 @@ fn report<R: AllocGlobal + Threads + Wait + Sync, T: Texts>(
         IsRun (T.holds texts.now) (map string_bytes words.now) r.0.items r.1) }
     ensures status { IfOk result (λ r. r.1 ≤ 1) }
     ensures err { IfErr result
-        (IsRefused (T.holds texts.now) (T.lacks texts.now) (map string_bytes words.now)) }
+        (IsRunRefused (T.holds texts.now) (T.lacks texts.now) (map string_bytes words.now)) }
 {
     match line(rt.alloc(), words) {
         Ok(line) => answered(rt, line, texts),
@@ -152,12 +152,12 @@ fn answered<R: AllocGlobal + Threads + Wait + Sync, T: Texts>(
     texts: &T,
 ) -> Result<(Vec<u8>, u8), Refusal>
     requires owners { IfSome line.owners (λ n. (0 < n) × (n ≤ most_owners)) }
-    requires suits { Suits line.task (said_by line) }
+    requires suits { Suits line.task (options_said line) }
     ensures ok { IfOk result (λ r. IsTaskAnswer (T.holds texts.now) line.task
-        (string_bytes line.file) (said_by line) r.0.items r.1) }
+        (string_bytes line.file) (options_said line) r.0.items r.1) }
     ensures status { IfOk result (λ r. r.1 ≤ 1) }
     ensures err { IfErr result (IsTaskRefused (T.holds texts.now) (T.lacks texts.now)
-        line.task (string_bytes line.file) (said_by line)) }
+        line.task (string_bytes line.file) (options_said line)) }
 {
     match line.task {
         Task::Values => solved(rt, Command::Values, line, texts),
@@ -175,12 +175,12 @@ fn solved<R: AllocGlobal + Threads + Wait + Sync, T: Texts>(
 ) -> Result<(Vec<u8>, u8), Refusal>
     requires { IfSome line.owners (λ n. (0 < n) × (n ≤ most_owners)) }
     ensures ok { IfOk result (λ r. IsAskedAnswer (T.holds texts.now) command
-        (string_bytes line.file) (said_by line) r.0.items r.1) }
+        (string_bytes line.file) (options_said line) r.0.items r.1) }
     ensures status { IfOk result (λ r. r.1 ≤ 1) }
     ensures err { IfErr result (λ e.
         IsFileRefused (T.holds texts.now) (T.lacks texts.now) (string_bytes line.file) e
         ⊎ AreOwnersRefused (T.holds texts.now) (T.lacks texts.now) (string_bytes line.file)
-        (said_by line) e) }
+        (options_said line) e) }
 {
     let Line {
         task: _,

@@ -3,9 +3,9 @@ ghost use Rattle.std.specs.Prelude.{◌≡◌, ◌≢◌, ◌⊎◌, ◌<◌, �
 ghost use Rattle.std.specs.Prelude.{IfErr, IfOk, IfSome, string_bytes};
 ghost use Rattle.nll_problem.specs.Limits.{most_owners};
 ghost use Rattle.nll_cut.specs.Partition.{may_be_count};
-ghost use Rattle.nll_command_line.specs.Options.{said_by};
+ghost use Rattle.nll_command_line.specs.Options.{options_said};
 ghost use Rattle.nll_command_line.specs.declared.task.Task.TheVariants.{Replay};
-ghost use Rattle.nll_lists.specs.ScheduleText.{Means};
+ghost use Rattle.nll_lists.specs.ScheduleText.{MeansSchedule};
 ghost use Rattle.nll_report.specs.Refusal.{schedule_refusal_at};
 ghost use Rattle.nll_report.specs.Owners.{HasAskedCut};
 ghost use Rattle.nll_report.specs.Replays.{IsFileReplay, IsFileReplayRefused, IsListedReplay};
@@ -36,10 +36,10 @@ pub(crate) fn replayed<T: Texts>(
     requires owners { IfSome line.owners (λ n. (0 < n) × (n ≤ most_owners)) }
     requires given { line.schedule ≢ None }
     ensures ok { IfOk result (λ r. IsTaskAnswer (T.holds texts.now) Replay
-        (string_bytes line.file) (said_by line) r.0.items r.1) }
+        (string_bytes line.file) (options_said line) r.0.items r.1) }
     ensures status { IfOk result (λ r. r.1 ≤ 1) }
     ensures err { IfErr result (IsTaskRefused (T.holds texts.now) (T.lacks texts.now)
-        Replay (string_bytes line.file) (said_by line)) }
+        Replay (string_bytes line.file) (options_said line)) }
 {
     let Line {
         task: _,
@@ -152,7 +152,7 @@ fn listed_events<T: Texts>(
 
 // The events that a text lists. The text is freed as soon as it is read.
 fn events_of_text(alloc: Global, owners: u16, text: Vec<u8>) -> Result<Vec<Event>, Refusal>
-    ensures listed { IfOk result (λ events. Means owners text.items events.items) }
+    ensures listed { IfOk result (λ events. MeansSchedule owners text.items events.items) }
     ensures err { IfErr result (IsScheduleTextRefused owners text.items) }
 {
     let events = read_schedule(alloc, text.as_slice(), owners);

@@ -2,7 +2,7 @@
 ghost use Rattle.std.specs.Prelude.{◌≤◌, ℕ, List, None, Option, IfErr, OnErr, OnOk, length, take};
 ghost use Rattle.std.specs.Io.KnownBytes.{Appends};
 ghost use Rattle.std.specs.List.{flat_map};
-ghost use Rattle.nll_report.specs.Sink.{IsCut, LeavesRoom, MayRefuse};
+ghost use Rattle.nll_report.specs.Sink.{IsCutShort, LeavesRoom, MayRefuse};
 
 use crate::error::Unwritten;
 use crate::report_output::put;
@@ -53,7 +53,7 @@ impl<W: Write> Sink for W {
 pub(crate) fn put_pieces<S: Sink>(to: &mut S, pieces: &[&str]) -> Result<(), Unwritten>
     ensures all { OnOk result (Appends (S.contents to.old) (S.contents to.new)
         (flat_map (λ piece. piece.now) pieces.now)) }
-    ensures cut { OnErr result (IsCut (S.room to.old) (S.contents to.old) (S.contents to.new)
+    ensures cut { OnErr result (IsCutShort (S.room to.old) (S.contents to.old) (S.contents to.new)
         (flat_map (λ piece. piece.now) pieces.now)) }
 {
     for piece in pieces {

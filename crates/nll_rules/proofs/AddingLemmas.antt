@@ -20,7 +20,7 @@ use Rattle.nll_problem.specs.declared.error.BuildError.TheVariants.{PointRange, 
 use Rattle.nll_problem.specs.declared.error.Kind.TheVariants.{Constraints}
 use Rattle.nll_problem.proofs.BaseRunLemmas.{in_next}
 use Rattle.nll_problem.proofs.FactLemmas.{exact_equivalence, constraint_is, constraint_same, constraint_found, once_constraint_absent}
-use Rattle.nll_rules.specs.Adding.{AddsOutlives, AddsBases, AddsConstraints, Overflows, IsRefused, IsOfPair, IsOfPairs, IsOfPairsEverywhere, everywhere}
+use Rattle.nll_rules.specs.Adding.{AddsOutlives, AddsBases, AddsConstraints, Overflows, IsRoomRefused, IsOfPair, IsOfPairs, IsOfPairsEverywhere, everywhere}
 
 -- ---- lists
 
@@ -129,22 +129,14 @@ adds_fact c old new adds same = record { others = same; each = adds.each }
 -- what is refused behind some constraints is refused of all of which those are
 pub refused_after : (k l m : Constraint → Type 0) (old mid : Problem) (e : BuildError) → AddsConstraints k old mid
     → ((c : Constraint) → k c → m c) → ((c : Constraint) → l c → m c)
-    → IsRefused l mid e → IsRefused m old e
+    → IsRoomRefused l mid e → IsRoomRefused m old e
 refused_after k l m old mid e h first second = ⊎_elim inl (λ full. inr (full.0, over full.1))
   where
     over : Overflows l mid → Overflows m old
-    over o = (
-      o.0,
-      o.1,
-      o.2,
-      λ c there. ⊎_elim
-          (λ in_mid. ⊎_elim inl (λ y. inr (first c y)) ((h.each c).0 in_mid))
-          (λ y. inr (second c y))
-          (o.3 c there),
-    )
+    over o = grind arith
 
 pub refused_same : (k m : Constraint → Type 0) (q : Problem) (e : BuildError) → ((c : Constraint) → k c → m c)
-    → IsRefused k q e → IsRefused m q e
+    → IsRoomRefused k q e → IsRoomRefused m q e
 refused_same k m q e into = refused_after (λ c. ⊥) k m q q e (adds_none (λ c. ⊥) q (λ c f. f)) (λ c f. absurd f) into
 
 -- the first rows don't hold
@@ -161,21 +153,18 @@ among_test n (Point p) among = lt-ltb p n among
 -- a constraint that a problem has no room for, or memory
 pub refused_one : (q : Problem) (c : Constraint) (e : BuildError) → IsSound q → IsAmong q.graph.points c.at
     → c.sup < q.regions → c.sub < q.regions
-    → (constraint_error q c ≡ Some e) ⊎ ((constraint_error q c ≡ None) × (e ≡ Memory)) → IsRefused (λ d. c ≡ d) q e
+    → (constraint_error q c ≡ Some e) ⊎ ((constraint_error q c ≡ None) × (e ≡ Memory)) → IsRoomRefused (λ d. c ≡ d) q e
 refused_one q c e sound at sup sub answers =
     ⊎_elim (λ due. by (has_constraint q c) refl (is_full q) refl (sym past ∙ due)) (λ none. inl none.1) answers
   where
     past : constraint_error q c ≡ first_error ((not (has_constraint q c) && is_full q, Limit Constraints) ∷ [])
-    past =
-        passed (is_among q.graph.points c.at) (is_region q c.sup) (is_region q c.sub) PointRange RegionRange
-        ((not (has_constraint q c) && is_full q, Limit Constraints) ∷ [])
-        (among_test q.graph.points c.at at) (lt-ltb c.sup q.regions sup) (lt-ltb c.sub q.regions sub)
+    past = grind (arith, passed, among_test, lt-ltb)
 
     limit_is : Some (Limit Constraints) ≡ Some e → e ≡ Limit Constraints
     limit_is due = cc
 
     by : (h : Bool) → has_constraint q c ≡ h → (f : Bool) → is_full q ≡ f
-        → first_error ((not h && f, Limit Constraints) ∷ []) ≡ Some e → IsRefused (λ d. c ≡ d) q e
+        → first_error ((not h && f, Limit Constraints) ∷ []) ≡ Some e → IsRoomRefused (λ d. c ≡ d) q e
     by true there f full due = absurd cc
     by false absent false full due = absurd cc
     by false absent true full due =
@@ -217,10 +206,7 @@ made_is c pair p is at = ap (λ (x : ℕ × ℕ). at_point x p) (sym is)
 
 is_made : (points : List ℕ) (pair : ℕ × ℕ) (p : ℕ) (c : Constraint) → Contains points p → at_point pair p ≡ c
     → IsOfPair points pair c
-is_made points pair p c there is = (
-  ap (λ (d : Constraint). (d.sup, d.sub)) (sym is),
-  (p, there, ap (λ (d : Constraint). d.at) (sym is)),
-)
+is_made points pair p c there is = grind arith
 
 pub pair_none : (pair : ℕ × ℕ) (q : Problem) → AddsConstraints (IsOfPair [] pair) q q
 pair_none pair q = adds_none (IsOfPair [] pair) q (λ c h. nothing h.1.0 h.1.1)
@@ -240,7 +226,7 @@ pair_more front p pair old mid new =
 
 pub pair_refused : (points : List ℕ) (k p : ℕ) (pair : ℕ × ℕ) (old mid : Problem) (e : BuildError)
     → AddsConstraints (IsOfPair (take k points) pair) old mid → Contains points p
-    → IsRefused (λ c. at_point pair p ≡ c) mid e → IsRefused (IsOfPair points pair) old e
+    → IsRoomRefused (λ c. at_point pair p ≡ c) mid e → IsRoomRefused (IsOfPair points pair) old e
 pair_refused points k p pair old mid e before there =
     refused_after (IsOfPair (take k points) pair) (λ c. at_point pair p ≡ c) (IsOfPair points pair) old mid e before
     (λ c h. (h.0, (h.1.0, taken k points h.1.0 h.1.1, h.1.2))) (λ c is. is_made points pair p c there is)
@@ -263,7 +249,7 @@ pairs_more points front pair old mid new =
 
 pub pairs_refused : (points : List ℕ) (pairs : List (ℕ × ℕ)) (k : ℕ) (pair : ℕ × ℕ) (old mid : Problem) (e : BuildError)
     → AddsConstraints (IsOfPairs points (take k pairs)) old mid
-    → Contains pairs pair → IsRefused (IsOfPair points pair) mid e → IsRefused (IsOfPairs points pairs) old e
+    → Contains pairs pair → IsRoomRefused (IsOfPair points pair) mid e → IsRoomRefused (IsOfPairs points pairs) old e
 pairs_refused points pairs k pair old mid e before there =
     refused_after (IsOfPairs points (take k pairs)) (IsOfPair points pair) (IsOfPairs points pairs) old mid e before
     (λ c h. (taken k pairs (c.sup, c.sub) h.0, h.1)) (λ c h. (subst (Contains pairs) (sym h.0) there, h.1))
@@ -276,10 +262,7 @@ every_is c pair is at = ap everywhere (sym is)
 
 is_every : (pairs : List (ℕ × ℕ)) (pair : ℕ × ℕ) (c : Constraint) → Contains pairs pair → everywhere pair ≡ c
     → IsOfPairsEverywhere pairs c
-is_every pairs pair c there is = (
-  ap (λ (d : Constraint). d.at) (sym is),
-  subst (Contains pairs) (ap (λ (d : Constraint). (d.sup, d.sub)) is) there,
-)
+is_every pairs pair c there is = grind arith
 
 pub every_none : (q : Problem) → AddsConstraints (IsOfPairsEverywhere []) q q
 every_none q = adds_none (IsOfPairsEverywhere []) q (λ c h. nothing (c.sup, c.sub) h.1)
@@ -299,7 +282,8 @@ every_more front pair old mid new =
 
 pub every_refused : (pairs : List (ℕ × ℕ)) (k : ℕ) (pair : ℕ × ℕ) (old mid : Problem) (e : BuildError)
     → AddsConstraints (IsOfPairsEverywhere (take k pairs)) old mid
-    → Contains pairs pair → IsRefused (λ c. everywhere pair ≡ c) mid e → IsRefused (IsOfPairsEverywhere pairs) old e
+    → Contains pairs pair → IsRoomRefused (λ c. everywhere pair ≡ c) mid e
+    → IsRoomRefused (IsOfPairsEverywhere pairs) old e
 every_refused pairs k pair old mid e before there =
     refused_after (IsOfPairsEverywhere (take k pairs)) (λ c. everywhere pair ≡ c)
     (IsOfPairsEverywhere pairs) old mid e before

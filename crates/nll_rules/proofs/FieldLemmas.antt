@@ -91,14 +91,7 @@ pub argument_between : (before : List ℕ) (ts : TypeTrees) (rest : List ℕ) (k
     (before ++ (region_rows ts ++ rest))) ≡ region_row (argument ts k)
 argument_between before none rest k = drop-nil _
 argument_between before (more t ts) rest zero =
-    let n = length before in
-    let all = before ++ (region_row t ++ region_rows ts ++ rest) in
-    ap (λ (m : ℕ). drop n (take m all)) (first_start (n + row_length (shape_of t)) (shapes_of ts) 0)
-    ∙ drop-take n (row_length (shape_of t)) all
-    ∙ ap (take (row_length (shape_of t))) (drop-append_seam before (region_row t ++ region_rows ts ++ rest))
-    ∙ ap (λ (m : ℕ). take m (region_row t ++ region_rows ts ++ rest)) (row_length_of t)
-    ∙ ap (take (length (region_row t))) (append_assoc (region_row t) (region_rows ts) rest)
-    ∙ take-append_seam (region_row t) (region_rows ts ++ rest)
+    grind (arith, first_start, drop-take, drop-append_seam, row_length_of, append_assoc, take-append_seam)
 argument_between before (more t ts) rest (suc k) =
     let more' = before ++ region_row t in
     let long : length more' ≡ length before + row_length (shape_of t) =

@@ -18,7 +18,7 @@ use Rattle.nll_body.specs.declared.flat.FlatOperand.TheVariants.{Copy, Move}
 use Rattle.nll_body.specs.declared.flat.FlatSwitch.{FlatSwitch}
 use Rattle.nll_body.specs.declared.flat.Stmt.{Stmt}
 use Rattle.nll_body.specs.declared.flat.Stmt.TheVariants as flat
-use Rattle.nll_rules.specs.Asking.{Asks}
+use Rattle.nll_rules.specs.Asking.{AsksInAll}
 use Rattle.nll_rules.specs.Flows.{AddsMet, InputsAgree, PartsAgree, inputs_of, place_type, value_type, written_type}
 use Rattle.nll_rules.specs.Knowing.{IsAtHand, IsTypeOfRow, KnownTypes}
 use Rattle.nll_rules.specs.Pairs.{AddsPairs, AtOne, BothAsk, InputAsks, PartAsks}
@@ -92,11 +92,11 @@ called_is l s n c e there = ap (statement_in l) e ∙ ap (λ o. unwrap_or (optio
 
 -- a switch, and a `nop` where its number stands for nothing, ask nothing
 pub switched_asks : (k : KnownTypes) (n : ℕ) (x : ℕ × ℕ)
-    → Asks k.structs k.variables (meant_by k.shapes k.regions (statement_in k.lists (flat.Switch n))) x → ⊥
+    → AsksInAll k.structs k.variables (meant_by k.shapes k.regions (statement_in k.lists (flat.Switch n))) x → ⊥
 switched_asks k n x = each (slice_get k.lists.switches n)
   where
     each : (o : Option FlatSwitch)
-        → Asks k.structs k.variables
+        → AsksInAll k.structs k.variables
         (meant_by k.shapes k.regions (unwrap_or (option_map (switch_in k.lists) o) nop)) x → ⊥
     each None = asks_nothing k.structs k.variables nop x (⊎_elim (λ w. w.2) (λ h. h))
     each (Some s) =
@@ -120,7 +120,7 @@ module _ (k : KnownTypes) (m : FlatMake) where
   pub made_asks : (x : ℕ × ℕ)
       → (AtOne (PartAsks k.structs k.variables (written_type k m.ty) ops_of) x
       ⊎ BothAsk k.structs (Some (written_type k m.ty)) (place_type k m.place) x)
-      ↔ Asks k.structs k.variables (meant_by k.shapes k.regions (make_in k.lists m)) x
+      ↔ AsksInAll k.structs k.variables (meant_by k.shapes k.regions (make_in k.lists m)) x
   made_asks x = asks_make k.structs k.variables (path_in k.lists m.place) (written_type k m.ty) ops_of x
 
 module _ (k : KnownTypes) (c : FlatCall) where
@@ -149,11 +149,11 @@ module _ (k : KnownTypes) (c : FlatCall) where
   pub called_asks : (x : ℕ × ℕ)
       → ((AtOne (InputAsks k.structs k.variables args_of) x
       ⊎ BothAsk k.structs (Some (written_type k c.result)) (place_type k c.place) x) ⊎ Contains wheres_of x)
-      ↔ Asks k.structs k.variables (meant_by k.shapes k.regions (call_in k.lists c)) x
+      ↔ AsksInAll k.structs k.variables (meant_by k.shapes k.regions (call_in k.lists c)) x
   called_asks x =
       subst (λ (ws : List (ℕ × ℕ)). ((AtOne (InputAsks k.structs k.variables args_of) x
       ⊎ BothAsk k.structs (Some (written_type k c.result)) (place_type k c.place) x) ⊎ Contains wheres_of x)
-      ↔ Asks k.structs k.variables
+      ↔ AsksInAll k.structs k.variables
       (call (path_in k.lists c.place) args_of (written_type k c.result) ws c.target c.unwind) x) (pairs_seen wheres_of)
       (asks_call k.structs k.variables (path_in k.lists c.place) args_of (written_type k c.result) wheres_of c.target
       c.unwind x)

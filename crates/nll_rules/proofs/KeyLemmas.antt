@@ -57,22 +57,14 @@ abbrev same_row : TypeRow → TypeRow → Bool
 same_row = (derived_row.eq-value).it
 
 one_row : (x y : TypeRow) → same_row x y ≡ true → x ≡ y
-one_row x y h =
-    let e = and_true (x.shape == y.shape) ((x.first == y.first) && (x.count == y.count)) h in
-    let f = and_true (x.first == y.first) (x.count == y.count) e.1 in
-    ap (λ (n : ℕ). row n x.first x.count) (eqb-true x.shape y.shape e.0)
-    ∙ ap (λ (n : ℕ). row y.shape n x.count) (eqb-true x.first y.first f.0)
-    ∙ ap (λ (n : ℕ). row y.shape y.first n) (eqb-true x.count y.count f.1)
+one_row x y h = grind (arith, and_true, eqb-true)
 
 abbrev meeting : TypeRow → TypeRow → Meeting
 meeting a b = record { one = a; other = b }
 
 -- equal meetings are one
 pub same_meeting : (x y : Meeting) → (derived_meeting.eq-value).it x y ≡ true → x ≡ y
-same_meeting x y h =
-    let e = and_true (same_row x.one y.one) (same_row x.other y.other) h in
-    ap (λ (r : TypeRow). meeting r x.other) (one_row x.one y.one e.0)
-    ∙ ap (meeting y.one) (one_row x.other y.other e.1)
+same_meeting x y h = grind (arith, and_true, one_row)
 
 pub found_meeting : (es : List (Meeting × Vec (ℕ × ℕ))) (x : Meeting) (o : Option (Bor (Vec (ℕ × ℕ))))
     → option_copied o ≡ lookup ((derived_meeting.eq-value).it x) es → IfSome o (λ v. Contains es (x, v.now))
@@ -95,11 +87,7 @@ module _ {K V : Type 0} (same : K → K → Bool) (k : K) (v : V) where
     where
       by : (b : Bool) → same k e.0 ≡ b → (Contains (insert_entry same es k v) x → Contains es x ⊎ IsInserted x)
           → Contains (if b then (e.0, v) ∷ es else e ∷ insert_entry same es k v) x → Contains (e ∷ es) x ⊎ IsInserted x
-      by true is later h = ⊎_elim
-          (λ c. ⊎_elim (λ none. absurd (let l = none.1 in omega arith))
-          (λ s. inr (inr (ap (same k) (sym (ap (λ y. y.0) s)) ∙ is), ap (λ y. y.1) s))
-          (Contains-push_cases [] (e.0, v) x c))
-          (λ c. inl (Contains-append_right (e ∷ []) es x c)) (Contains-append_cases ((e.0, v) ∷ []) es x h)
+      by true is later h = grind arith
       by false is later h = ⊎_elim
           (λ c. inl (Contains-append_left (e ∷ []) es x c))
           (λ c. ⊎_elim (λ d. inl (Contains-append_right (e ∷ []) es x d)) inr (later c))

@@ -14,7 +14,7 @@ use Rattle.nll_body.specs.Statements.{Statement}
 use Rattle.nll_body.specs.Typing.{types_agree}
 use Rattle.nll_body.specs.declared.flat.Stmt.{Stmt}
 use Rattle.nll_body.specs.Bodies.{BodyText, StandsAt}
-use Rattle.nll_body.specs.Sound.{IsSound}
+use Rattle.nll_body.specs.Sound.{IsSoundBody}
 use Rattle.nll_body.specs.Typed.{IsTypedBody}
 use Rattle.nll_body.specs.declared.typed.TypedBody.{TypedBody}
 use Rattle.nll_rules.specs.Knowing.{IsAtHand, IsAvailable, IsOfBody, IsSameBody, IsTypeOfRow, KnownTypes, Learns, known_row}
@@ -26,41 +26,19 @@ use Rattle.nll_rules.proofs.StatementLemmas.{get_mapped}
 -- ---- what stays
 
 pub learns_then : (a b c : KnownTypes) → Learns a b → Learns b c → Learns a c
-learns_then a b c x y = record {
-  structs = y.structs ∙ x.structs;
-  shapes = y.shapes ∙ x.shapes;
-  regions = y.regions ∙ x.regions;
-  lists = y.lists ∙ x.lists;
-  variables = y.variables ∙ x.variables;
-  table = extends_then a.table b.table c.table x.table y.table;
-  made = (
-    x.made.0 ++ y.made.0,
-    y.made.1 ∙ ap (λ (rows : List ℕ). rows ++ y.made.0) x.made.1 ∙ append_assoc a.made x.made.0 y.made.0,
-  );
-}
+learns_then a b c x y = grind (arith, extends_then, append_assoc)
 
 -- a row that is there stays
 pub row_at_stays : (a b : KnownTypes) (c : TypeRow) → Learns a b → IsWholeRow (known_row a c) c
     → known_row b c ≡ known_row a c
-row_at_stays a b c l whole =
-    ap (λ (rows : List ℕ). row_in b.regions rows c) l.made.1
-    ∙ ap (λ (body : List ℕ). row_in body (a.made ++ l.made.0) c) l.regions
-    ∙ row_grown a.regions a.made l.made.0 c whole
+row_at_stays a b c l whole = grind (arith, row_grown)
 
 pub known_stays : (a b : KnownTypes) (c : TypeRow) → Learns a b → IsAvailable a c → IsAvailable b c
-known_stays a b c l h = record {
-  within = (let n = h.within in let m = l.table.longer in omega arith);
-  whole = ap length (row_at_stays a b c l h.whole) ∙ h.whole;
-}
+known_stays a b c l h = grind (arith, row_at_stays)
 
 -- a type at hand keeps its shape and its row
 pub row_stays : (a b : KnownTypes) (t : TypeTree) (c : TypeRow) → Learns a b → IsTypeOfRow a t c → IsTypeOfRow b t c
-row_stays a b t c l h = record {
-  within = (let n = h.within in let m = l.table.longer in omega arith);
-  shape = l.table.kept c.shape h.within ∙ h.shape;
-  row = row_at_stays a b c l h.whole ∙ h.row;
-  whole = ap length (row_at_stays a b c l h.whole) ∙ h.whole;
-}
+row_stays a b t c l h = grind (arith, row_at_stays)
 
 pub row_in_stays : (a b : KnownTypes) (o : Option TypeTree) (c : Option TypeRow) → Learns a b → IsAtHand a o c
     → IsAtHand b o c
@@ -70,10 +48,7 @@ row_in_stays a b (Some t) (Some c) l h = row_stays a b t c l h
 
 -- the shape and the row of a type at hand are there
 pub type_known : (k : KnownTypes) (t : TypeTree) (c : TypeRow) → IsTypeOfRow k t c → IsAvailable k c
-type_known k t c h = record {
-  within = h.within;
-  whole = h.whole;
-}
+type_known k t c h = grind arith
 
 pub known_at_hand : (k : KnownTypes) (o : Option TypeTree) (c : TypeRow) → IsAtHand k o (Some c) → IsAvailable k c
 known_at_hand k None c h = absurd (let e : Some c ≡ None = h in cc)
@@ -93,13 +68,7 @@ at_hand_known k o (Some c) h = known_at_hand k o c h
 -- ---- what is of a body
 
 pub learns_same : (a b : KnownTypes) → Learns a b → IsSameBody a b
-learns_same a b l = record {
-  structs = l.structs;
-  shapes = l.shapes;
-  regions = l.regions;
-  lists = l.lists;
-  variables = l.variables;
-}
+learns_same a b l = grind arith
 
 pub of_body_later : (body : BodyText) (a b : KnownTypes) → IsSameBody a b → IsOfBody body a → IsOfBody body b
 of_body_later body a b l h = record {
@@ -143,7 +112,7 @@ module _ (body : BodyText) (k : KnownTypes) (h : IsOfBody body k) where
 
 -- ---- what is known at first
 
-agree_each : (body : BodyText) (ns : List Node) (regions : List ℕ) (is : List (Statement ℕ Typed)) → IsSound body
+agree_each : (body : BodyText) (ns : List Node) (regions : List ℕ) (is : List (Statement ℕ Typed)) → IsSoundBody body
     → map (meant_by ns regions) is ≡ body.points
     → All (λ i. types_agree body.structs body.variables (meant_by ns regions i) ≡ true) is
 agree_each body ns regions is sound e k d l =
@@ -151,7 +120,7 @@ agree_each body ns regions is sound e k d l =
     sound.well_typed.agree k (meant_by ns regions (get_or is k d))
     (ap (λ (js : List (Statement ℕ TypeTree)). slice_get js k) (sym e) ∙ here)
 
-pub known_first : (body : BodyText) (t : TypedBody) (k : KnownTypes) → IsSound body → IsTypedBody body t
+pub known_first : (body : BodyText) (t : TypedBody) (k : KnownTypes) → IsSoundBody body → IsTypedBody body t
     → k.structs ≡ structs_of t.types.now.table.structs → k.shapes ≡ t.types.now.table.shapes
     → k.regions ≡ t.types.now.regions.items → k.lists ≡ t.points.now
     → k.variables ≡ map (tree_at t.types.now.table.shapes t.types.now.regions.items) t.variables.now

@@ -28,12 +28,7 @@ abbrev same : FieldKey → FieldKey → Bool
 same = (derived.eq-value).it
 
 same_key : (x y : FieldKey) → same x y ≡ true → x ≡ y
-same_key x y h =
-    let e = and_true (x.shape == y.shape) (x.place == y.place) h in
-    let a : x.shape ≡ y.shape = eqb-true x.shape y.shape e.0 in
-    let b : x.place ≡ y.place = eqb-true x.place y.place e.1 in
-    ap (λ (n : ℕ). let k : FieldKey = record { shape = n; place = x.place } in k) a
-    ∙ ap (λ (n : ℕ). let k : FieldKey = record { shape = y.shape; place = n } in k) b
+same_key x y h = grind (arith, and_true, eqb-true)
 
 pub found_entry : (es : List (FieldKey × FieldRow)) (x : FieldKey) (o : Option (Bor FieldRow))
     → option_copied o ≡ lookup (same x) es → IfSome o (λ f. Contains es (x, f.now))
@@ -47,11 +42,7 @@ field_later : (old new : List Node) (t : TypeTree) (o : Option TypeTree) (p : Op
     → IsFieldIn old t o p → IsFieldIn new t o p
 field_later old new t None p x h = h
 field_later old new t (Some u) None x h = absurd h
-field_later old new t (Some u) (Some f) x h = record {
-  within = (let longer = x.longer in let within = h.within in omega arith);
-  shape = x.kept f.shape h.within ∙ h.shape;
-  row = h.row;
-}
+field_later old new t (Some u) (Some f) x h = grind arith
 
 module _ (structs : List Struct) where
   pub no_fields : (ns : List Node) → AreFields structs ns []
@@ -88,13 +79,7 @@ row_kept : (old new : List Node) (body made more : List ℕ) (o : Option TypeTre
     → IsRowIn old body made o c → IsRowIn new body (made ++ more) o c
 row_kept old new body made more None c e h = h
 row_kept old new body made more (Some t) None e h = absurd h
-row_kept old new body made more (Some t) (Some c) e h =
-    let grown = row_grown body made more c h.whole in record {
-      within = (let longer = e.longer in let within = h.within in omega arith);
-      shape = e.kept c.shape h.within ∙ h.shape;
-      row = grown ∙ h.row;
-      whole = ap length grown ∙ h.whole;
-    }
+row_kept old new body made more (Some t) (Some c) e h = grind (arith, row_grown)
 
 pub no_uses : (structs : List Struct) (ns : List Node) (body made : List ℕ) → AreUses structs ns body made []
 no_uses structs ns body made = record { each = λ x f c. absurd (let l = c.1 in omega arith) }
@@ -179,10 +164,8 @@ pub kept_later : (structs : List Struct) (old new : List Node) (body made later 
     (uses : List (FieldUse × TypeRow)) (asked : List (Meeting × Vec (ℕ × ℕ))) → Extends old new
     → (more : List ℕ) × (later ≡ made ++ more) → AreUses structs old body made uses → AreMet structs old body made asked
     → AreUses structs new body later uses × AreMet structs new body later asked
-kept_later structs old new body made later uses asked e grown are met = rw grown.1 (
-  uses_later structs old new body made grown.0 uses e are,
-  met_later structs old new body made grown.0 asked e met,
-)
+kept_later structs old new body made later uses asked e grown are met =
+    grind (arith, uses_later, met_later)
 
 pub same_shapes : (ns : List Node) → Extends ns ns
 same_shapes ns = record { longer = omega arith; kept = λ i l. refl }

@@ -21,7 +21,7 @@ use Rattle.nll_types.proofs.ShapeLemmas.{behind_agrees, shape_at_of}
 use Rattle.nll_types.proofs.TableLemmas.{length_from}
 use Rattle.nll_rules.specs.Knowing.{AsksAt, IsFieldIn, IsTypeOfRow, KnownTypes, known_row}
 use Rattle.nll_rules.specs.Pairs.{AddsPairs}
-use Rattle.nll_rules.specs.Signs.{RowsAsk, signs}
+use Rattle.nll_rules.specs.Signs.{RowsAsk, row_signs_of}
 use Rattle.nll_rules.specs.Subtyping.{SubtypeAsks}
 use Rattle.nll_rules.specs.TypeRows.{AreSigns, AreSignsOf, IsRowIn, IsRowOf, IsUseRow, IsWholeRow, first_parts, row_from, row_in, row_length, starts_from}
 use Rattle.nll_rules.specs.declared.field_rows.UseRow.{UseRow}
@@ -82,10 +82,7 @@ written_row ns old new body made v n h e f is =
 
 pub no_signs : (structs : List Struct) (ns : List Node) (known : List (Option ShapeSigns)) → known ≡ []
     → AreSigns structs ns known
-no_signs structs ns known none k e found =
-    absurd (
-    let d : None ≡ Some (Some e) = ap (λ (xs : List (Option ShapeSigns)). slice_get xs k) (sym none) ∙ found in
-    cc)
+no_signs structs ns known none k e found = grind arith
 
 -- what is known of a shape has as many signs as the rows of its types have regions
 pub known_count : (structs : List Struct) (ns : List Node) (known : List (Option ShapeSigns)) (shape n : ℕ)
@@ -103,13 +100,15 @@ pub met_types : (k : KnownTypes) (t u : TypeTree) (one other : TypeRow) (old new
     new
     → AddsPairs (SubtypeAsks k.structs t u) old new
 met_types k t u one other old new h i same adds =
-    let is : signs k.structs Covariant (shape_in k.table other.shape) ≡ signs k.structs Covariant (shape_of t) =
-    ap (signs k.structs Covariant) (i.shape ∙ sym same) in
+    let is : row_signs_of k.structs Covariant (shape_in k.table other.shape) ≡ row_signs_of k.structs Covariant
+    (shape_of t) =
+    ap (row_signs_of k.structs Covariant) (i.shape ∙ sym same) in
     adds_same _ _ old new (λ x. swap (rows_asked k.structs t u x same))
-    (subst (λ (rs : List ℕ). AddsPairs (RowsAsk (signs k.structs Covariant (shape_of t)) (region_row t) rs) old new)
+    (subst (λ (rs : List ℕ). AddsPairs (RowsAsk (row_signs_of k.structs Covariant (shape_of t))
+    (region_row t) rs) old new)
     i.row
     (subst (λ (rs : List ℕ).
-    AddsPairs (RowsAsk (signs k.structs Covariant (shape_of t)) rs (known_row k other)) old new) h.row
+    AddsPairs (RowsAsk (row_signs_of k.structs Covariant (shape_of t)) rs (known_row k other)) old new) h.row
     (subst (λ (ss : List Sign). AddsPairs (RowsAsk ss (known_row k one) (known_row k other)) old new) is adds)))
 
 -- ---- references
@@ -118,10 +117,7 @@ met_types k t u one other old new h i same adds =
 pub reference_node : (ns : List Node) (i target : ℕ) (m : Bool) (node : Node) → i < length ns
     → shape_in ns i ≡ shape_over (shapes_in ns) node → IsOver i node → node ≡ nodes.Reference m target
     → (shape_in ns i ≡ reference_shape m (shape_in ns target)) × (target < length ns)
-reference_node ns i target m node l at over is =
-    let below : IsOver i (nodes.Reference m target) = subst (IsOver i) is over in
-    let first : target < i = below 0 (omega arith) in
-    (at ∙ ap (shape_over (shapes_in ns)) is, omega arith)
+reference_node ns i target m node l at over is = grind arith
 
 pub reference_row : (ns : List Node) (body made : List ℕ) (t : TypeTree) (c r : TypeRow) (m : Bool) (target q : ℕ)
     → IsRowOf ns body made t c → shape_in ns c.shape ≡ reference_shape m (shape_in ns target) → target < length ns
@@ -129,20 +125,7 @@ pub reference_row : (ns : List Node) (body made : List ℕ) (t : TypeTree) (c r 
     → row_in body made c ≡ row_in body made r ++ q ∷ []
     → (u : TypeTree) × (t ≡ reference q m u) × IsRowOf ns body made u r
 reference_row ns body made (reference p n u) c r m target q h is l at whole row =
-    let shape : reference_shape n (shape_of u) ≡ reference_shape m (shape_in ns target) = sym h.shape ∙ is in
-    let flag : n ≡ m = cc in
-    let behind : shape_of u ≡ shape_in ns target = cc in
-    let last = same_from_push (region_row u) (row_in body made r) p q (sym h.row ∙ row) in
-    let region : p ≡ q = last.1 in (
-      u,
-      cc,
-      record {
-        within = subst (λ (i : ℕ). i < length ns) (sym at) l;
-        shape = ap (shape_in ns) at ∙ sym behind;
-        row = sym last.0;
-        whole = whole;
-      },
-    )
+    grind (arith, same_from_push)
 reference_row ns body made int c r m target q h is l at whole row = absurd (let e = sym h.shape ∙ is in cc)
 reference_row ns body made (parameter k) c r m target q h is l at whole row = absurd (let e = sym h.shape ∙ is in cc)
 reference_row ns body made (tuple ts) c r m target q h is l at whole row = absurd (let e = sym h.shape ∙ is in cc)
@@ -220,7 +203,7 @@ pub template_is : (structs : List Struct) (ns : List Node) (shape s j n k : ℕ)
     → option_map (λ v. row_from row v.items) o ≡ option_map region_row (field_type structs j rs ts k))
     → option_map (λ v. row_from (region_row (named s rs ts)) v.items) o
     ≡ option_map region_row (field_type structs s rs ts k)
-template_is structs ns shape s j n k rs ts is e u o same node signs used row =
+template_is structs ns shape s j n k rs ts is e u o same node row_signs_of used row =
     row (region_row (named s rs ts)) rs ts (used (region_row (named s rs ts)) rs ts count begun refl)
     ∙ ap (λ (z : ℕ). option_map region_row (field_type structs z rs ts k)) own
   where
@@ -228,10 +211,10 @@ template_is structs ns shape s j n k rs ts is e u o same node signs used row =
     own = (let d : named_shape j n is ≡ shape_of (named s rs ts) = sym node ∙ sym same in cc)
 
     begun : e.starts.items ≡ starts_from 0 (shapes_of ts)
-    begun = signs.starts ∙ ap (λ (z : Shape). starts_from 0 (first_parts z)) (sym same)
+    begun = row_signs_of.starts ∙ ap (λ (z : Shape). starts_from 0 (first_parts z)) (sym same)
 
     count : length (region_row (named s rs ts)) ≡ length e.signs.items
-    count = sym (ap length signs.signs ∙ signs_length structs Covariant (shape_in ns shape)
+    count = sym (ap length row_signs_of.signs ∙ signs_length structs Covariant (shape_in ns shape)
         ∙ ap row_length (sym same) ∙ row_length_of (named s rs ts))
 
 -- with the shape of the field it is what is to be known of the field
@@ -252,11 +235,7 @@ made_field structs ns later new shape made s k rs ts o same x within is row =
         → IsFieldIn new (named s rs ts) p (option_map (λ v. record { shape = made; template = v }) o)
     there o None r d = absurd cc
     there None (Some v) r d = absurd cc
-    there (Some v) (Some z) r d = record {
-      within = (let longer = x.longer in omega arith);
-      shape = (let e : shape_of z ≡ shape_in later made = cc in x.kept made within ∙ sym e);
-      row = (let e : row_from (region_row (named s rs ts)) v.items ≡ region_row z = cc in e);
-    }
+    there (Some v) (Some z) r d = grind arith
 
 -- the type of a field, whose row is made of that of the struct
 pub field_row : (later : List Node) (body made : List ℕ) (t : TypeTree) (o : Option TypeTree) (row : List ℕ)
@@ -265,12 +244,7 @@ pub field_row : (later : List Node) (body made : List ℕ) (t : TypeTree) (o : O
     → c.count ≡ length (row_from row f.template.items) → row_in body made c ≡ row_from row f.template.items
     → IsRowIn later body made o (Some c)
 field_row later body made t None row c f is h shape count made_row = absurd (let e : Some f ≡ None = h in cc)
-field_row later body made t (Some u) row c f is h shape count made_row = record {
-  within = (let l = h.within in omega (arith, shape));
-  shape = ap (shape_in later) shape ∙ h.shape;
-  row = made_row ∙ ap (λ (qs : List ℕ). row_from qs f.template.items) (sym is) ∙ h.row;
-  whole = ap length made_row ∙ sym count;
-}
+field_row later body made t (Some u) row c f is h shape count made_row = grind (arith, count)
 
 -- ---- what is there
 

@@ -12,7 +12,7 @@ use Rattle.nll_types.specs.declared.parameter.Sign.TheVariants.{Covariant}
 use Rattle.nll_rules.specs.Knowing.{AsksAt, IsAvailable, IsTypeOfRow, KnownTypes, Learns, known_row}
 use Rattle.nll_rules.specs.Pairs.{AddsPairs}
 use Rattle.nll_rules.specs.Positions.{target_sign, times}
-use Rattle.nll_rules.specs.Signs.{RowsAsk, signs}
+use Rattle.nll_rules.specs.Signs.{RowsAsk, row_signs_of}
 use Rattle.nll_rules.specs.TypeRows.{row_length}
 use Rattle.nll_rules.specs.Subtyping.{IsAsked, SubtypeAsks}
 use Rattle.nll_rules.specs.declared.meetings.Meeting.{Meeting}
@@ -27,28 +27,12 @@ use Rattle.nll_rules.proofs.SubtypeLemmas.{asked_as, asked_of, some_is}
 -- ---- what stays
 
 pub learns_nothing : (k : KnownTypes) → Learns k k
-learns_nothing k = record {
-  structs = refl;
-  shapes = refl;
-  regions = refl;
-  lists = refl;
-  variables = refl;
-  table = same_shapes k.table;
-  made = ([], sym (append-nil k.made));
-}
+learns_nothing k = grind (arith, same_shapes, append-nil)
 
 -- where more is learnt, types whose rows are there ask what they asked
 pub asks_stay : (a b : KnownTypes) (m : Meeting) (x : ℕ × ℕ) → Learns a b → IsAvailable a m.one → IsAvailable a m.other
     → AsksAt b m x ↔ AsksAt a m x
-asks_stay a b m x l one other =
-    rw (
-      l.structs,
-      l.table.kept m.other.shape other.within,
-      row_at_stays a b m.one l one.whole,
-      row_at_stays a b
-          m.other l other.whole,
-    )
-    (λ h. h, λ h. h)
+asks_stay a b m x l one other = grind (arith, row_at_stays)
 
 -- ---- pairs that are kept
 
@@ -65,10 +49,7 @@ adds_listed kind old new list e is = rw e (record {
 -- what came into an empty list
 pub listed : (kind : ℕ × ℕ → Type 0) (list : List (ℕ × ℕ)) → AddsPairs kind [] list → (x : ℕ × ℕ)
     → Contains list x ↔ kind x
-listed kind list h x = (
-  λ c. ⊎_elim (λ none. absurd (let l = none.1 in omega arith)) (λ k. k) ((h.each x).0 c),
-  λ k. (h.each x).1 (inr k),
-)
+listed kind list h x = grind arith
 
 -- ---- the region of a reference
 
@@ -115,13 +96,13 @@ met_reference k r m t (reference q n u) target other old mid new h i same asks o
     inner = times Covariant (target_sign m)
 
     ss : List Sign
-    ss = signs k.structs Covariant (reference_shape m (shape_of t))
+    ss = row_signs_of k.structs Covariant (reference_shape m (shape_of t))
 
-    long : length (signs k.structs inner (shape_of t)) ≡ length (region_row t)
+    long : length (row_signs_of k.structs inner (shape_of t)) ≡ length (region_row t)
     long = signs_length k.structs inner (shape_of t) ∙ row_length_of t
 
     sign : slice_get ss (length (region_row t)) ≡ Some Covariant
-    sign = rw (← long) (get_last (signs k.structs inner (shape_of t)) Covariant)
+    sign = rw (← long) (get_last (row_signs_of k.structs inner (shape_of t)) Covariant)
 
     inside : shape_of t ≡ shape_of u
     inside = (let e = same in cc)
@@ -132,8 +113,8 @@ met_reference k r m t (reference q n u) target other old mid new h i same asks o
     swap : {A B : Type 0} → A ↔ B → B ↔ A
     swap e = (e.1, e.0)
 
-    is : signs k.structs Covariant (shape_in k.table other.shape) ≡ ss
-    is = ap (signs k.structs Covariant) (i.shape ∙ sym same)
+    is : row_signs_of k.structs Covariant (shape_in k.table other.shape) ≡ ss
+    is = ap (row_signs_of k.structs Covariant) (i.shape ∙ sym same)
 
     met : AddsPairs (RowsAsk ss (region_row t) (region_row u ++ q ∷ [])) old mid
     met = subst (λ (rs : List ℕ). AddsPairs (RowsAsk ss (region_row t) rs) old mid) i.row

@@ -48,10 +48,7 @@ below_more kind here n a b c is h k =
     now x p = (n, omega arith, (is x).0 p)
 
     later : (x : ℕ × ℕ) → AtOneBelow (n + 1) kind x → AtOneBelow n kind x ⊎ here x
-    later x p = ⊎_elim
-        (λ l. inl (p.0, l, p.2))
-        (λ l. let e : p.0 ≡ n = (let m = p.1 in omega arith) in inr ((is x).1 (subst (λ (k : ℕ). kind k x) e p.2)))
-        (cases_lt p.0 n)
+    later x p = grind (arith, cases_lt)
 
 pub below_all : (kind : ℕ → ℕ × ℕ → Type 0) (n : ℕ) (a b : List (ℕ × ℕ)) → ((k : ℕ) (x : ℕ × ℕ) → kind k x → k < n)
     → AddsPairs (AtOneBelow n kind) a b → AddsPairs (AtOne kind) a b

@@ -8,11 +8,11 @@ use Rattle.nll_problem.specs.declared.error.BuildError.{BuildError}
 use Rattle.nll_types.specs.Types.{TypeTree}
 use Rattle.nll_types.specs.Structs.{Struct}
 use Rattle.nll_body.specs.Statements.{Statement}
-use Rattle.nll_body.specs.Bodies.{BodyText, StandsAt, GoesOn}
-use Rattle.nll_rules.specs.Asking.{Asks}
+use Rattle.nll_body.specs.Bodies.{BodyText, StandsAt, IsFollowedBy}
+use Rattle.nll_rules.specs.Asking.{AsksInAll}
 use Rattle.nll_rules.specs.Pairs.{AddsPairs}
 use Rattle.nll_rules.specs.BodyProblem.{IsAskedAt, IsAskedSomewhere, IsAsserted, IsConstraint}
-use Rattle.nll_rules.specs.Adding.{AddsConstraints, AreAskedAt, IsRefused, IsOfPairs, IsAskedBefore}
+use Rattle.nll_rules.specs.Adding.{AddsConstraints, AreAskedAt, IsRoomRefused, IsOfPairs, IsAskedBefore}
 use Rattle.nll_rules.proofs.AddingLemmas.{only_new, adds_none, adds_same, adds_both, refused_after, refused_same}
 
 some_same : (i j : Statement ℕ TypeTree) → Some i ≡ Some j → i ≡ j
@@ -21,23 +21,23 @@ some_same i j e = cc
 -- the pairs that came to an empty list are what the statement asks, in the words of the body
 pub only_asked : (body : BodyText) (i : Statement ℕ TypeTree) (structs : List Struct) (variables : List TypeTree)
     (old new seen : List (ℕ × ℕ)) → structs ≡ body.structs → variables ≡ body.variables
-    → old ≡ [] → seen ≡ new → AddsPairs (Asks structs variables i) old new → (x : ℕ × ℕ)
-    → Contains seen x ↔ Asks body.structs body.variables i x
+    → old ≡ [] → seen ≡ new → AddsPairs (AsksInAll structs variables i) old new → (x : ℕ × ℕ)
+    → Contains seen x ↔ AsksInAll body.structs body.variables i x
 only_asked body i structs variables old new seen same_structs same_variables none same h x =
-    let each = only_new old new (Asks structs variables i) none h.each x in (
-      λ there. subst (λ (vs : List TypeTree). Asks body.structs vs i x) same_variables
-          (subst (λ (ss : List Struct). Asks ss variables i x) same_structs
+    let each = only_new old new (AsksInAll structs variables i) none h.each x in (
+      λ there. subst (λ (vs : List TypeTree). AsksInAll body.structs vs i x) same_variables
+          (subst (λ (ss : List Struct). AsksInAll ss variables i x) same_structs
           (each.0 (subst (λ (xs : List (ℕ × ℕ)). Contains xs x) same there))),
       λ asks. subst (λ (xs : List (ℕ × ℕ)). Contains xs x) (sym same) (each.1
-          (subst (λ (ss : List Struct). Asks ss variables i x) (sym same_structs)
-          (subst (λ (vs : List TypeTree). Asks body.structs vs i x) (sym same_variables) asks))),
+          (subst (λ (ss : List Struct). AsksInAll ss variables i x) (sym same_structs)
+          (subst (λ (vs : List TypeTree). AsksInAll body.structs vs i x) (sym same_variables) asks))),
     )
 
 -- and so are those of which each is kept once
 pub kept_asked : (body : BodyText) (i : Statement ℕ TypeTree) (structs : List Struct) (variables : List TypeTree)
     (old new once seen : List (ℕ × ℕ)) → structs ≡ body.structs → variables ≡ body.variables
-    → old ≡ [] → AddsPairs (Asks structs variables i) old new → SameSet new once → seen ≡ once → (x : ℕ × ℕ)
-    → Contains seen x ↔ Asks body.structs body.variables i x
+    → old ≡ [] → AddsPairs (AsksInAll structs variables i) old new → SameSet new once → seen ≡ once → (x : ℕ × ℕ)
+    → Contains seen x ↔ AsksInAll body.structs body.variables i x
 kept_asked body i structs variables old new once seen same_structs same_variables none h kept same x =
     let asks = only_asked body i structs variables old new new same_structs same_variables none refl h x in (
       λ there. asks.0 ((kept x).1 (subst (λ (xs : List (ℕ × ℕ)). Contains xs x) same there)),
@@ -72,7 +72,7 @@ module _ (body : BodyText) where
   ))
 
   pub before_refused : (n : ℕ) (old mid : Problem) (e : BuildError) → AddsConstraints (IsAskedBefore body n) old mid
-      → IsRefused (IsAskedAt body n) mid e → IsRefused (IsAskedSomewhere body) old e
+      → IsRoomRefused (IsAskedAt body n) mid e → IsRoomRefused (IsAskedSomewhere body) old e
   before_refused n old mid e before =
       refused_after (IsAskedBefore body n) (IsAskedAt body n) (IsAskedSomewhere body) old mid e before
       (λ c h. (h.0, h.2)) (λ c h. (n, h))
@@ -85,12 +85,12 @@ module _ (body : BodyText) where
       adds_both (IsAsserted body) (IsAskedSomewhere body) (IsConstraint body) old mid new
       (λ c. (⊎_elim inr inl, ⊎_elim inr inl))
 
-  pub asserted_refused : (q : Problem) (e : BuildError) → IsRefused (IsAsserted body) q e
-      → IsRefused (IsConstraint body) q e
+  pub asserted_refused : (q : Problem) (e : BuildError) → IsRoomRefused (IsAsserted body) q e
+      → IsRoomRefused (IsConstraint body) q e
   asserted_refused q e = refused_same (IsAsserted body) (IsConstraint body) q e (λ c h. inr h)
 
   pub asked_refused : (old mid : Problem) (e : BuildError) → AddsConstraints (IsAsserted body) old mid
-      → IsRefused (IsAskedSomewhere body) mid e → IsRefused (IsConstraint body) old e
+      → IsRoomRefused (IsAskedSomewhere body) mid e → IsRoomRefused (IsConstraint body) old e
   asked_refused old mid e before =
       refused_after (IsAsserted body) (IsAskedSomewhere body) (IsConstraint body) old mid e before (λ c h. inr h)
       (λ c h. inl h)
@@ -99,16 +99,16 @@ module _ (body : BodyText) where
 
 -- what one statement at the point asks is what stands there asks
 pub asked_pairs : (body : BodyText) (p : ℕ) (i : Statement ℕ TypeTree) (pairs : List (ℕ × ℕ)) → StandsAt body p i
-    → ((x : ℕ × ℕ) → Contains pairs x ↔ Asks body.structs body.variables i x) → AreAskedAt body p pairs
+    → ((x : ℕ × ℕ) → Contains pairs x ↔ AsksInAll body.structs body.variables i x) → AreAskedAt body p pairs
 asked_pairs body p i pairs at asks x = (
   λ h. (i, at, (asks x).0 h),
-  λ h. (asks x).1 (subst (λ (j : Statement ℕ TypeTree). Asks body.structs body.variables j x)
+  λ h. (asks x).1 (subst (λ (j : Statement ℕ TypeTree). AsksInAll body.structs body.variables j x)
       (some_same h.0 i (sym h.1 ∙ at)) h.2),
 )
 
 -- at the points that may come after it they are what it asks
 pub known_here : (body : BodyText) (p : ℕ) (next : List ℕ) (pairs : List (ℕ × ℕ))
-    → ((q : ℕ) → Contains next q ↔ GoesOn body p q) → AreAskedAt body p pairs
+    → ((q : ℕ) → Contains next q ↔ IsFollowedBy body p q) → AreAskedAt body p pairs
     → (c : Constraint) → IsOfPairs next pairs c ↔ IsAskedAt body p c
 known_here body p next pairs goes asked c = (
   λ h. let a = (asked (c.sup, c.sub)).0 h.0 in (a.0, a.1, (h.1.0, (goes h.1.0).0 h.1.1, h.1.2), a.2),

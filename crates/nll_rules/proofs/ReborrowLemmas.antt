@@ -138,26 +138,16 @@ of_option : (structs : List Struct) (ps : List Projection) (o : Option TypeTree)
     ↔ (RestsFrom structs ps (Some t) a ⊎ (Contains regions a × AllOpen structs ps (Some t))))
     → Contains (rests_of structs ps o regions) a
     ↔ (RestsFrom structs ps o a ⊎ (Contains regions a × AllOpen structs ps o))
-of_option structs ps None regions a each = (
-  λ c. inr (c, λ k b q h. absurd (no_type structs ps k b q h)),
-  ⊎_elim (λ w. absurd (no_type structs ps w.0 a w.1 w.2)) (λ c. c.0),
-)
+of_option structs ps None regions a each = grind (arith, no_type)
 of_option structs ps (Some t) regions a each = each t
 
 join : {L R F O C G N : Type 0} → L ↔ (R ⊎ (C × O)) → C ↔ (F ⊎ (N × G)) → L ↔ ((R ⊎ (F × O)) ⊎ (N × (G × O)))
-join u v = (
-  λ l. ⊎_elim (λ r. inl (inl r)) (λ c. ⊎_elim (λ f. inl (inr (f, c.1))) (λ n. inr (n.0, (n.1, c.1))) (v.0 c.0)) (u.0 l),
-  ⊎_elim (⊎_elim (λ r. u.1 (inl r)) (λ f. u.1 (inr (v.1 (inl f.0), f.1))))
-      (λ n. u.1 (inr (v.1 (inr (n.0, n.1.0)), n.1.1))),
-)
+join u v = grind arith
 
 rests_is : (structs : List Struct) (ps : List Projection) (t : TypeTree) (regions : List ℕ) (a : ℕ)
     → Contains (rests structs ps t regions) a
     ↔ (RestsFrom structs ps (Some t) a ⊎ (Contains regions a × AllOpen structs ps (Some t)))
-rests_is structs [] t regions a = (
-  λ c. inr (c, λ k b q h. absurd (no_projection structs (Some t) k b q h)),
-  ⊎_elim (λ w. absurd (no_projection structs (Some t) w.0 a w.1 w.2)) (λ c. c.0),
-)
+rests_is structs [] t regions a = grind (arith, no_projection)
 rests_is structs (p ∷ ps) t regions a =
     let behind_is =
     of_option structs ps (behind structs p t) (past p t regions) a
@@ -185,12 +175,7 @@ step : (structs : List Struct) (ps : List Projection) (n : ℕ) (d p : Projectio
     → rests structs (drop n ps) t regions
     ≡ unwrap_or (option_map (λ u. rests structs (drop (n + 1) ps) u (past p t regions)) (behind structs p t))
     (past p t regions)
-step structs ps n d p t regions l is =
-    let e : n + 1 ≡ suc n = omega arith in
-    ap (λ (z : List Projection). rests structs z t regions)
-    (drop-cons ps n d l ∙ ap (λ (z : Projection). z ∷ drop (suc n) ps) is)
-    ∙ ap (λ (z : ℕ). unwrap_or (option_map (λ u. rests structs (drop z ps) u (past p t regions)) (behind structs p t))
-    (past p t regions)) (sym e)
+step structs ps n d p t regions l is = grind (arith, drop-cons)
 
 pub step_none : (structs : List Struct) (ps : List Projection) (n : ℕ) (d p : Projection) (t : TypeTree)
     (regions : List ℕ) → n < length ps → get_or ps n d ≡ p
@@ -241,12 +226,8 @@ pub way_on : (structs : List Struct) (variables : List TypeTree) (place : PlaceP
     (t u : TypeTree) (regions new : List ℕ) → n < length place.projections → get_or place.projections n d ≡ p
     → Some u ≡ behind structs p t → new ≡ past p t regions → IsOnWay structs variables place n t regions
     → IsOnWay structs variables place (n + 1) u new
-way_on structs variables place n d p t u regions new l is there crossed w = record {
-  leads = sym (behind_step structs place.projections n d p t l is
-      ∙ ap (option_and_then (behind_all structs (drop (n + 1) place.projections))) (sym there)) ∙ w.leads;
-  rests = ap (λ (z : List ℕ). rests structs (drop (n + 1) place.projections) u z) crossed
-      ∙ (sym (step_on structs place.projections n d p t u regions l is (sym there)) ∙ w.rests);
-}
+way_on structs variables place n d p t u regions new l is there crossed w =
+    grind (arith, behind_step, there, step_on)
 
 pub way_stops : (structs : List Struct) (variables : List TypeTree) (place : PlacePath) (n : ℕ) (d p : Projection)
     (t : TypeTree) (regions new : List ℕ) → n < length place.projections → get_or place.projections n d ≡ p

@@ -13,13 +13,13 @@ use Rattle.nll_types.specs.declared.parameter.Sign.TheVariants.{Covariant, Contr
 use Rattle.nll_types.proofs.WellFormedLemmas.{place_good}
 use Rattle.nll_body.specs.Statements.{Statement, assign, borrow, make, read, live, dead, nop, goto, switch, drop, call, return, stop}
 use Rattle.nll_body.specs.Bodies.{BodyText, StandsAt}
-use Rattle.nll_body.specs.Sound.{IsSound}
+use Rattle.nll_body.specs.Sound.{IsSoundBody}
 use Rattle.nll_body.proofs.RangeLemmas.{region_within, part_good}
 use Rattle.nll_rules.specs.Positions.{Turn, own, target, part, region_argument, type_argument, input, output, HasRegionAt, times, sign_of}
 use Rattle.nll_rules.specs.Subtyping.{IsAsked, SubtypeAsks}
 use Rattle.nll_rules.specs.Reborrows.{RestsOn, prefix}
 use Rattle.nll_body.proofs.TypePairLemmas.{Meet, pairs_meet}
-use Rattle.nll_rules.specs.Asking.{AsksPair, Asks}
+use Rattle.nll_rules.specs.Asking.{AsksPair, AsksInAll}
 
 -- ---- lists
 
@@ -85,14 +85,11 @@ at_position t way r h = absurd h
 asked_below : (n : ℕ) (sign : Sign) (a b : ℕ) (x : ℕ × ℕ) → a < n → b < n → IsAsked sign a b x → (x.0 < n) × (x.1 < n)
 asked_below n Covariant a b x l m is = subst (λ (y : ℕ × ℕ). (y.0 < n) × (y.1 < n)) is (l, m)
 asked_below n Contravariant a b x l m is = subst (λ (y : ℕ × ℕ). (y.0 < n) × (y.1 < n)) is (m, l)
-asked_below n Invariant a b x l m h = ⊎_elim
-    (λ is. subst (λ (y : ℕ × ℕ). (y.0 < n) × (y.1 < n)) is (l, m))
-    (λ is. subst (λ (y : ℕ × ℕ). (y.0 < n) × (y.1 < n)) is (m, l))
-    h
+asked_below n Invariant a b x l m h = grind arith
 
 -- ---- statements
 
-module _ (body : BodyText) (sound : IsSound body) where
+module _ (body : BodyText) (sound : IsSoundBody body) where
   some_region : 0 < length body.names
   some_region = omega (arith, sound.some_universal, sound.all_universals)
 
@@ -177,16 +174,11 @@ module _ (body : BodyText) (sound : IsSound body) where
   pairs stop p at x h = absurd h
 
   subtype_below : (t u : TypeTree) → IsGood t → IsGood u → (x : ℕ × ℕ) → SubtypeAsks body.structs t u x → AreOfBody x
-  subtype_below t u good_t good_u x h =
-      let n = length body.names in
-      asked_below n (times Covariant (sign_of body.structs h.0)) h.1 h.2 x
-      (region_within body.structs n t good_t h.1 (at_position t h.0 h.1 h.3))
-      (region_within body.structs n u good_u h.2 (at_position u h.0 h.2 h.4))
-      h.5
+  subtype_below t u good_t good_u x h = grind (arith, asked_below, region_within, at_position)
 
   -- what stands at a point asks pairs of regions of the body
   pub asks_below : (p : ℕ) (i : Statement ℕ TypeTree) → StandsAt body p i → (x : ℕ × ℕ)
-      → Asks body.structs body.variables i x → (x.0 < length body.names) × (x.1 < length body.names)
+      → AsksInAll body.structs body.variables i x → (x.0 < length body.names) × (x.1 < length body.names)
   asks_below p i at x h = ⊎_elim
       (λ w. (let good = subtypes i p at w.0 w.1 ((pairs_meet body.structs body.variables i w.0 w.1).0 w.2) in
       subtype_below w.0 w.1 good.0 good.1 x w.3))

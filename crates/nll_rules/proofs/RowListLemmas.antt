@@ -57,34 +57,14 @@ further body made f c i j l = by (nat_lt f (length body)) refl
         → j ≤ length (take c (if b then drop f body else drop (f - length body) made))
         → take (j - i) (rest body made (min f (length body + length made) + i))
         ≡ take (j - i) (drop i (take c (if b then drop f body else drop (f - length body) made)))
-    by true is m =
-        let below = ltb-true f (length body) is in
-        let long : j ≤ length body - f = omega (arith, length-take c (drop f body), length-drop f body) in
-        at (omega arith)
-        ∙ ap (take (j - i)) (sym (cond_below (f + i) (length body) (drop (f + i) body)
-        (drop ((f + i) - length body) made) (omega arith)))
-        ∙ part_of_part body f c i j (omega arith) m
-    by false is m =
-        let above = ltb-false f (length body) is in
-        let long : j ≤ length made - (f - length body) =
-        omega (arith, length-take c (drop (f - length body) made), length-drop (f - length body) made) in
-        at (omega arith)
-        ∙ ap (take (j - i)) (sym (cond_above (f + i) (length body) (drop (f + i) body)
-        (drop ((f + i) - length body) made) (drop ((f - length body) + i) made) (omega arith)
-        (ap (λ (z : ℕ). drop z made) (omega arith))))
-        ∙ part_of_part made (f - length body) c i j (omega arith) m
+    by true is m = grind (arith, ltb-true, length-take, length-drop, at, cond_below, part_of_part)
+    by false is m = grind (arith, ltb-false, length-take, length-drop, at, cond_above, part_of_part)
 
 -- a part of a row is a row
 pub part_in : (body made : List ℕ) (shape : ℕ) (c : TypeRow) (i j : ℕ) → i ≤ j → j ≤ length (row_in body made c)
     → row_in body made (record { shape = shape; first = min c.first (length body + length made) + i; count = j - i })
     ≡ take (j - i) (drop i (row_in body made c))
-part_in body made shape c i j l m = ⊎_elim
-    (λ (h : i < j). further body made c.first c.count i j h m)
-    (λ (h : j ≤ i).
-    let none : j - i ≡ 0 = omega arith in
-    ap (λ (n : ℕ). take n (rest body made (min c.first (length body + length made) + i))) none
-    ∙ ap (λ (n : ℕ). take n (drop i (row_in body made c))) (sym none))
-    (cases_lt i j)
+part_in body made shape c i j l m = grind (arith, further, cases_lt)
 
 -- a part of a row has as many regions as there are places in it
 pub part_whole : (row : List ℕ) (i j : ℕ) → i ≤ j → j ≤ length row → length (take (j - i) (drop i row)) ≡ j - i

@@ -15,7 +15,7 @@ use Rattle.nll_types.specs.declared.parameter.Sign.{Sign}
 use Rattle.nll_types.specs.declared.parameter.Sign.TheVariants.{Covariant, Contravariant, Invariant}
 use Rattle.nll_rules.specs.Pairs.{AtOne}
 use Rattle.nll_rules.specs.Positions.{sign_or, target_sign, times}
-use Rattle.nll_rules.specs.Signs.{RowsAsk, all_signs, sign_row, signs}
+use Rattle.nll_rules.specs.Signs.{RowsAsk, all_signs, sign_row, row_signs_of}
 use Rattle.nll_rules.specs.Subtyping.{IsAsked, SubtypeAsks}
 use Rattle.nll_rules.specs.TypeRows.{AreSigns, AreSignsOf, row_length, rows_length, starts_from}
 use Rattle.nll_rules.specs.declared.row_signs.ShapeSigns.{ShapeSigns}
@@ -53,12 +53,12 @@ sign_row_length sign (suc n) = (let h = sign_row_length (λ k. sign (suc k)) n i
 module _ (structs : List Struct) where
   mutual
     -- a shape has as many signs as its rows have regions
-    pub signs_length : (outer : Sign) (s : Shape) → length (signs structs outer s) ≡ row_length s
+    pub signs_length : (outer : Sign) (s : Shape) → length (row_signs_of structs outer s) ≡ row_length s
     signs_length outer int_shape = refl
     signs_length outer (parameter_shape k) = refl
     signs_length outer (reference_shape m t) =
         let sign = times outer (target_sign m) in
-        omega (arith, signs_length sign t, length-append (signs structs sign t) (outer ∷ []))
+        omega (arith, signs_length sign t, length-append (row_signs_of structs sign t) (outer ∷ []))
     signs_length outer (tuple_shape ts) = all_signs_length (λ k. outer) ts
     signs_length outer (named_shape s n ts) =
         let sign : ℕ → Sign = λ k. times outer (sign_or (struct_at structs s).types k Invariant) in
@@ -75,7 +75,7 @@ module _ (structs : List Struct) where
           arith,
           all_signs_length sign ts,
           signs_length outer t,
-          length-append (all_signs structs sign ts) (signs structs outer t),
+          length-append (all_signs structs sign ts) (row_signs_of structs outer t),
         )
 
     pub all_signs_length : (sign : ℕ → Sign) (ts : ShapeList) → length (all_signs structs sign ts) ≡ rows_length ts
@@ -86,7 +86,7 @@ module _ (structs : List Struct) where
           arith,
           signs_length (sign 0) t,
           all_signs_length later ts,
-          length-append (signs structs (sign 0) t) (all_signs structs later ts),
+          length-append (row_signs_of structs (sign 0) t) (all_signs structs later ts),
         )
 
 -- ---- where rows begin
@@ -125,11 +125,7 @@ end_at ts k t e = rw add-one (end_from 0 ts k t e ∙ ap Some (omega arith))
 -- what is known of the shapes of a table is right of a table that extends it
 pub signs_later : (structs : List Struct) (old new : List Node) (known : List (Option ShapeSigns)) → Extends old new
     → AreSigns structs old known → AreSigns structs new known
-signs_later structs old new known x right k e is =
-    let here = right k e is in (
-      (let longer = x.longer in let within = here.0 in omega arith),
-      subst (λ (s : Shape). AreSignsOf structs s e) (sym (x.kept k here.0)) here.1,
-    )
+signs_later structs old new known x right k e is = grind arith
 
 -- and of one shape more
 pub signs_put : (structs : List Struct) (ns : List Node) (old new : List (Option ShapeSigns)) (shape : ℕ)
@@ -137,14 +133,7 @@ pub signs_put : (structs : List Struct) (ns : List Node) (old new : List (Option
     → ((k : ℕ) (e : ShapeSigns) → slice_get new k ≡ Some (Some e)
     → (slice_get old k ≡ Some (Some e)) ⊎ ((k ≡ shape) × (e ≡ made)))
     → AreSigns structs ns new
-signs_put structs ns old new shape made within of right each k e is = ⊎_elim
-    (λ h. right k e h)
-    (λ h. (
-      omega (arith, h.0),
-      subst (λ (s : ShapeSigns). AreSignsOf structs (shape_in ns k) s) (sym h.1)
-          (subst (λ (j : ℕ). AreSignsOf structs (shape_in ns j) made) (sym h.0) of),
-    ))
-    (each k e is)
+signs_put structs ns old new shape made within of right each k e is = grind arith
 
 none_added : {X : Type 0} (xs : List (Option X)) (k : ℕ) (e : X)
     → slice_get (xs ++ None ∷ []) k ≡ Some (Some e) ↔ slice_get xs k ≡ Some (Some e)
@@ -185,7 +174,7 @@ set_kept (z ∷ xs) (suc i) (suc k) x y h = set_kept xs i k x y h
 
 -- What a subtyping of types of one shape asks is what their rows ask.
 pub rows_asked : (structs : List Struct) (t u : TypeTree) (x : ℕ × ℕ) → shape_of t ≡ shape_of u
-    → SubtypeAsks structs t u x ↔ RowsAsk (signs structs Covariant (shape_of t)) (region_row t) (region_row u) x
+    → SubtypeAsks structs t u x ↔ RowsAsk (row_signs_of structs Covariant (shape_of t)) (region_row t) (region_row u) x
 rows_asked structs t u x e = rows_ask structs Covariant t u x e
 
 -- the regions at this place of two rows ask the pair
@@ -195,27 +184,16 @@ AskedAt ss rs qs k x = (a b : ℕ) × (s : Sign) × (slice_get rs k ≡ Some a) 
 
 pub asked_here : (ss : List Sign) (rs qs : List ℕ) (k a b : ℕ) (s : Sign) (x : ℕ × ℕ) → slice_get rs k ≡ Some a
     → slice_get qs k ≡ Some b → slice_get ss k ≡ Some s → IsAsked s a b x ↔ AskedAt ss rs qs k x
-asked_here ss rs qs k a b s x e f g = (
-  λ h. (a, b, s, e, f, g, h),
-  λ w. asked_as w.2 s a b x (some_is w.2 s (sym w.5 ∙ g))
-      (asked_of w.2 w.0 w.1 a b x (some_is w.0 a (sym w.3 ∙ e)) (some_is w.1 b (sym w.4 ∙ f)) w.6),
-)
+asked_here ss rs qs k a b s x e f g = grind (arith, asked_as, some_is, asked_of)
 
 -- what is asked is asked where both rows and the signs are
 pub asked_within : (ss : List Sign) (rs qs : List ℕ) (n k : ℕ) (x : ℕ × ℕ)
     → min (length ss) (min (length rs) (length qs)) ≤ n → AskedAt ss rs qs k x → k < n
-asked_within ss rs qs n k x l w =
-    let r = slice_get_within rs k w.0 w.3 in
-    let q = slice_get_within qs k w.1 w.4 in
-    let s = slice_get_within ss k w.2 w.5 in
-    omega arith
+asked_within ss rs qs n k x l w = grind (arith, slice_get_within)
 
 -- the rows ask what is asked at one of the places
 pub asked_rows : (ss : List Sign) (rs qs : List ℕ) (x : ℕ × ℕ) → AtOne (AskedAt ss rs qs) x ↔ RowsAsk ss rs qs x
-asked_rows ss rs qs x = (
-  λ w. (let y = w.1 in (w.0, y.0, y.1, y.2, y.3, y.4, y.5, y.6)),
-  λ w. (w.0, (w.1, w.2, w.3, w.4, w.5, w.6, w.7)),
-)
+asked_rows ss rs qs x = grind arith
 
 -- ---- signs that are appended one by one
 
@@ -235,38 +213,31 @@ sign_row_more sign n = rw add-one (sign_row_push sign n)
 module _ (structs : List Struct) where
   all_signs_push : (known : List Shape) (sign : ℕ → Sign) (is : List ℕ) (i : ℕ)
       → all_signs structs sign (all_at known (is ++ i ∷ []))
-      ≡ all_signs structs sign (all_at known is) ++ signs structs (sign (length is)) (at known i)
-  all_signs_push known sign [] i = append-nil (signs structs (sign 0) (at known i))
+      ≡ all_signs structs sign (all_at known is) ++ row_signs_of structs (sign (length is)) (at known i)
+  all_signs_push known sign [] i = append-nil (row_signs_of structs (sign 0) (at known i))
   all_signs_push known sign (j ∷ is) i =
       let later : ℕ → Sign = λ k. sign (suc k) in
-      ap (λ (ss : List Sign). signs structs (sign 0) (at known j) ++ ss) (all_signs_push known later is i)
-      ∙ sym (append_assoc (signs structs (sign 0) (at known j)) (all_signs structs later (all_at known is))
-      (signs structs (later (length is)) (at known i)))
+      ap (λ (ss : List Sign). row_signs_of structs (sign 0) (at known j) ++ ss) (all_signs_push known later is i)
+      ∙ sym (append_assoc (row_signs_of structs (sign 0) (at known j)) (all_signs structs later (all_at known is))
+      (row_signs_of structs (later (length is)) (at known i)))
 
   -- the signs of one part more
   pub all_signs_more : (known : List Shape) (sign : ℕ → Sign) (is : List ℕ) (k d : ℕ) → k < length is
       → all_signs structs sign (all_at known (take (k + 1) is))
-      ≡ all_signs structs sign (all_at known (take k is)) ++ signs structs (sign k) (at known (get_or is k d))
+      ≡ all_signs structs sign (all_at known (take k is)) ++ row_signs_of structs (sign k) (at known (get_or is k d))
   all_signs_more known sign is k d l =
       ap (λ (js : List ℕ). all_signs structs sign (all_at known js)) (take_more is k d l)
       ∙ all_signs_push known sign (take k is) (get_or is k d)
       ∙ ap (λ (n : ℕ). all_signs structs sign (all_at known (take k is))
-      ++ signs structs (sign n) (at known (get_or is k d))) (length-take-le k is (omega arith))
+      ++ row_signs_of structs (sign n) (at known (get_or is k d))) (length-take-le k is (omega arith))
 
   -- the signs of a struct's arguments, for these parameters
   pub named_signs : (outer : Sign) (s n : ℕ) (ts : ShapeList) (types regions : List Parameter)
       (first middle last : List Sign) → types ≡ (struct_at structs s).types → regions ≡ (struct_at structs s).regions
       → middle ≡ first ++ all_signs structs (λ k. times outer (sign_or types k Invariant)) ts
       → last ≡ middle ++ sign_row (λ k. times outer (sign_or regions k Invariant)) n
-      → last ≡ first ++ signs structs outer (named_shape s n ts)
-  named_signs outer s n ts types regions first middle last e f m l =
-      let both : List Parameter → List Parameter → List Sign = λ ps qs.
-      all_signs structs (λ k. times outer (sign_or ps k Invariant)) ts
-      ++ sign_row (λ k. times outer (sign_or qs k Invariant)) n in
-      appended_more first middle last (all_signs structs (λ k. times outer (sign_or types k Invariant)) ts)
-      (sign_row (λ k. times outer (sign_or regions k Invariant)) n) (signs structs outer (named_shape s n ts)) m l
-      (sym (ap (λ (ps : List Parameter). both ps regions) e
-      ∙ ap (λ (qs : List Parameter). both (struct_at structs s).types qs) f))
+      → last ≡ first ++ row_signs_of structs outer (named_shape s n ts)
+  named_signs outer s n ts types regions first middle last e f m l = grind (arith, appended_more)
 
 -- the places from a part on are its own and those from the next part on
 pub starts_more : (known : List Shape) (n : ℕ) (is : List ℕ) (k d : ℕ) → k < length is
@@ -279,6 +250,4 @@ pub starts_step : (known : List Shape) (starts started all : List ℕ) (n next k
     → starts ++ starts_from n (all_at known (drop k is)) ≡ all
     → started ++ starts_from next (all_at known (drop (k + 1) is)) ≡ all
 starts_step known starts started all n next k d is l s m h =
-    let rest : List ℕ = starts_from (n + row_length (at known (get_or is k d))) (all_at known (drop (k + 1) is)) in
-    rw (s, m) (append_assoc starts (n ∷ []) rest
-    ∙ ap (λ (ns : List ℕ). starts ++ ns) (sym (starts_more known n is k d l)) ∙ h)
+    grind (arith, get_or, append_assoc, starts_more)

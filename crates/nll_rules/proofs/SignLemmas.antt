@@ -10,7 +10,7 @@ use Rattle.nll_types.specs.declared.parameter.Sign.{Sign}
 use Rattle.nll_types.specs.declared.parameter.Sign.TheVariants.{Covariant, Contravariant, Invariant}
 use Rattle.nll_rules.specs.Pairs.{AtOne}
 use Rattle.nll_rules.specs.Positions.{sign_or, target_sign, times}
-use Rattle.nll_rules.specs.Signs.{RowsAsk, all_signs, sign_row, signs}
+use Rattle.nll_rules.specs.Signs.{RowsAsk, all_signs, sign_row, row_signs_of}
 use Rattle.nll_rules.specs.Subtyping.{IsAsked, SubtypeAsksBehind}
 use Rattle.nll_rules.proofs.SubtypeLemmas.{ArgumentAsks, asked_as, asked_of, asks_function, asks_named, asks_reference, asks_tuple, get_below, int_asks, parameter_asks, some_is, times_covariant}
 
@@ -112,7 +112,8 @@ joined as' bs cs ds l m = omega (arith, length-append as' bs, length-append cs d
 module _ (structs : List Struct) where
   mutual
     -- a type has as many signs as its row has regions
-    pub sign_count : (outer : Sign) (t : TypeTree) → length (signs structs outer (shape_of t)) ≡ length (region_row t)
+    pub sign_count : (outer : Sign) (t : TypeTree) → length (row_signs_of structs outer (shape_of t)) ≡ length
+        (region_row t)
     sign_count outer int = refl
     sign_count outer (parameter k) = refl
     sign_count outer (reference r m t) = joined _ _ _ _ (sign_count (times outer (target_sign m)) t) refl
@@ -128,8 +129,8 @@ module _ (structs : List Struct) where
 
   -- and so has each type of its shape
   other_count : (outer : Sign) (t u : TypeTree) → shape_of t ≡ shape_of u
-      → length (signs structs outer (shape_of t)) ≡ length (region_row u)
-  other_count outer t u e = ap (λ (s : Shape). length (signs structs outer s)) e ∙ sign_count outer u
+      → length (row_signs_of structs outer (shape_of t)) ≡ length (region_row u)
+  other_count outer t u e = ap (λ (s : Shape). length (row_signs_of structs outer s)) e ∙ sign_count outer u
 
   all_other_count : (sign : ℕ → Sign) (ts us : TypeTrees) → shapes_of ts ≡ shapes_of us
       → length (all_signs structs sign (shapes_of ts)) ≡ length (region_rows us)
@@ -147,16 +148,7 @@ module _ (structs : List Struct) where
 
   all_as : (f g : ℕ → Sign) (ts us : TypeTrees) (x : ℕ × ℕ) → ((k : ℕ) → f k ≡ g k) → AllAsk f ts us x
       → AllAsk g ts us x
-  all_as f g ts us x same w = (
-    w.0,
-    (let y = w.1 in (
-      y.0,
-      y.1,
-      y.2,
-      y.3,
-      subst (λ (s : Sign). SubtypeAsksBehind structs s y.0 y.1 x) (same w.0) y.4,
-    )),
-  )
+  all_as f g ts us x same w = grind arith
 
   all_none : (sign : ℕ → Sign) (us : TypeTrees) (x : ℕ × ℕ) → AllAsk sign none us x → ⊥
   all_none sign us x w = (let y = w.1 in let e : None ≡ Some y.0 = y.2 in cc)
@@ -164,10 +156,7 @@ module _ (structs : List Struct) where
   all_more : (sign : ℕ → Sign) (t u : TypeTree) (ts us : TypeTrees) (x : ℕ × ℕ)
       → AllAsk sign (more t ts) (more u us) x
       ↔ (SubtypeAsksBehind structs (sign 0) t u x ⊎ AllAsk (λ k. sign (suc k)) ts us x)
-  all_more sign t u ts us x = (
-    λ w. at w.0 w.1,
-    ⊎_elim (λ h. (0, (t, u, refl, refl, h))) (λ w. (suc w.0, w.1)),
-  )
+  all_more sign t u ts us x = grind (arith, at)
     where
       at : (k : ℕ) → TypesAsk sign (more t ts) (more u us) x k
           → SubtypeAsksBehind structs (sign 0) t u x ⊎ AllAsk (λ k. sign (suc k)) ts us x
@@ -214,7 +203,7 @@ module _ (structs : List Struct) where
     -- what a subtyping of types of one shape asks is what their rows ask
     pub rows_ask : (outer : Sign) (t u : TypeTree) (x : ℕ × ℕ) → shape_of t ≡ shape_of u
         → SubtypeAsksBehind structs outer t u x
-        ↔ RowsAsk (signs structs outer (shape_of t)) (region_row t) (region_row u) x
+        ↔ RowsAsk (row_signs_of structs outer (shape_of t)) (region_row t) (region_row u) x
     rows_ask outer int int x e = neither (int_asks structs outer int x) (rows_none [] [] x)
     rows_ask outer (parameter j) (parameter k) x e =
         neither (parameter_asks structs outer j (parameter k) x) (rows_none [] [] x)
@@ -223,11 +212,13 @@ module _ (structs : List Struct) where
         let inner : shape_of t ≡ shape_of u = cc in
         let sign = times outer (target_sign m) in
         subst (λ (z : Bool). SubtypeAsksBehind structs outer (reference q m t) (reference p z u) x
-        ↔ RowsAsk (signs structs sign (shape_of t) ++ outer ∷ []) (region_row t ++ q ∷ []) (region_row u ++ p ∷ []) x)
+        ↔ RowsAsk (row_signs_of structs sign (shape_of t) ++ outer ∷ []) (region_row t ++ q ∷ []) (region_row u ++ p
+        ∷ []) x)
         flag
         (both_ways (turned (asks_reference structs outer q p m t u x))
         (both_ways (swapped (rows_one outer q p x) (rows_ask sign t u x inner))
-        (rows_append (outer ∷ []) (q ∷ []) (p ∷ []) x (signs structs sign (shape_of t)) (region_row t) (region_row u)
+        (rows_append (outer ∷ []) (q ∷ []) (p ∷ []) x (row_signs_of structs sign (shape_of t)) (region_row t)
+        (region_row u)
         (sign_count sign t) (other_count sign t u inner))))
     rows_ask outer (tuple ts) (tuple us) x e =
         let inner : shapes_of ts ≡ shapes_of us = cc in
@@ -256,7 +247,7 @@ module _ (structs : List Struct) where
         let sign : ℕ → Sign = λ k. times outer Contravariant in
         both_ways (turned (asks_function structs outer ts us t u x))
         (both_ways (sums (all_rows_ask sign ts us x first) (rows_ask outer t u x last))
-        (rows_append (signs structs outer (shape_of t)) (region_row t) (region_row u) x
+        (rows_append (row_signs_of structs outer (shape_of t)) (region_row t) (region_row u) x
         (all_signs structs sign (shapes_of ts)) (region_rows ts) (region_rows us)
         (all_sign_count sign ts) (all_other_count sign ts us first)))
     rows_ask outer t u x e = absurd cc
@@ -271,7 +262,7 @@ module _ (structs : List Struct) where
         both_ways (all_more sign t u ts us x)
         (both_ways (sums (rows_ask (sign 0) t u x here) (all_rows_ask later ts us x rest))
         (rows_append (all_signs structs later (shapes_of ts)) (region_rows ts) (region_rows us) x
-        (signs structs (sign 0) (shape_of t)) (region_row t) (region_row u)
+        (row_signs_of structs (sign 0) (shape_of t)) (region_row t) (region_row u)
         (sign_count (sign 0) t) (other_count (sign 0) t u here)))
     all_rows_ask sign none (more u us) x e = absurd cc
     all_rows_ask sign (more t ts) none x e = absurd cc

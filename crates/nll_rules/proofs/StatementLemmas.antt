@@ -12,7 +12,7 @@ use Rattle.nll_body.proofs.TypePairLemmas.{Meet, pairs_meet}
 use Rattle.nll_rules.specs.Positions.{Turn, own, HasRegionAt}
 use Rattle.nll_rules.specs.Subtyping.{SubtypeAsks}
 use Rattle.nll_rules.specs.Reborrows.{RestsOn}
-use Rattle.nll_rules.specs.Asking.{AsksPair, Asks}
+use Rattle.nll_rules.specs.Asking.{AsksPair, AsksInAll}
 use Rattle.nll_rules.specs.Pairs.{AddsPairs, AtOne, BothAsk, PartAsks, InputAsks, OneOutlives}
 use Rattle.nll_rules.proofs.PairLemmas.{adds_same}
 use Rattle.nll_rules.proofs.SubtypeLemmas.{get_below}
@@ -28,23 +28,20 @@ AsksByForm structs variables i x =
     ((t u : TypeTree) × Meet structs variables i t u × SubtypeAsks structs t u x) ⊎ AsksPair structs variables i x
 
 asks_by_form : (structs : List Struct) (variables : List TypeTree) (i : Statement ℕ TypeTree) (x : ℕ × ℕ)
-    → AsksByForm structs variables i x ↔ Asks structs variables i x
-asks_by_form structs variables i x = (
-  ⊎_elim (λ w. inl (w.0, w.1, (pairs_meet structs variables i w.0 w.1).1 w.2, w.3)) inr,
-  ⊎_elim (λ w. inl (w.0, w.1, (pairs_meet structs variables i w.0 w.1).0 w.2, w.3)) inr,
-)
+    → AsksByForm structs variables i x ↔ AsksInAll structs variables i x
+asks_by_form structs variables i x = grind (arith, pairs_meet)
 
 both_ways : {A B C : Type 0} → A ↔ B → B ↔ C → A ↔ C
 both_ways f g = (λ a. g.0 (f.0 a), λ c. f.1 (g.1 c))
 
 -- what no types meet in, and asks no pair by itself, asks nothing
 pub asks_nothing : (structs : List Struct) (variables : List TypeTree) (i : Statement ℕ TypeTree) (x : ℕ × ℕ)
-    → (AsksByForm structs variables i x → ⊥) → Asks structs variables i x → ⊥
+    → (AsksByForm structs variables i x → ⊥) → AsksInAll structs variables i x → ⊥
 asks_nothing structs variables i x none h = none ((asks_by_form structs variables i x).1 h)
 
 pub asks_assign : (structs : List Struct) (variables : List TypeTree) (p : PlacePath) (op : Operand) (x : ℕ × ℕ)
     → BothAsk structs (operand_type structs variables op) (type_of structs variables p) x
-    ↔ Asks structs variables (assign p op) x
+    ↔ AsksInAll structs variables (assign p op) x
 asks_assign structs variables p op x = both_ways
     (λ b. inl (b.0, b.1, (b.2, b.3), b.4), ⊎_elim (λ w. (w.0, w.1, w.2.0, w.2.1, w.3)) (λ h. absurd h))
     (asks_by_form structs variables (assign p op) x)
@@ -57,10 +54,7 @@ no_region_in_int (turn ∷ way) r h = h
 -- a constant is an `int`
 pub constant_asks : (structs : List Struct) (other : Option TypeTree) (x : ℕ × ℕ) → BothAsk structs (Some int) other x
     → ⊥
-constant_asks structs other x b =
-    let w = b.4 in
-    no_region_in_int w.0 w.1
-    (subst (λ (t : TypeTree). HasRegionAt t w.0 w.1) (sym (some_is int b.0 b.2)) w.3)
+constant_asks structs other x b = grind (arith, no_region_in_int, some_is)
 
 inner_of : (r : ℕ) (m : Bool) (o : Option TypeTree) (t : TypeTree) → reference_to r m o ≡ Some t
     → (inner : TypeTree) × (o ≡ Some inner) × (t ≡ reference r m inner)
@@ -70,7 +64,7 @@ inner_of r m (Some inner) t e = (inner, refl, cc)
 pub asks_borrow : (structs : List Struct) (variables : List TypeTree) (p : PlacePath) (r : ℕ) (m : Bool) (q : PlacePath)
     (x : ℕ × ℕ)
     → (BothAsk structs (reference_to r m (type_of structs variables q)) (type_of structs variables p) x
-    ⊎ (RestsOn structs variables q x.0 × (x.1 ≡ r))) ↔ Asks structs variables (borrow p r m q) x
+    ⊎ (RestsOn structs variables q x.0 × (x.1 ≡ r))) ↔ AsksInAll structs variables (borrow p r m q) x
 asks_borrow structs variables p r m q x =
     both_ways (⊎_elim there inr, ⊎_elim back inr) (asks_by_form structs variables (borrow p r m q) x)
   where
@@ -94,7 +88,7 @@ outlives_rests structs variables q regions r a b rests =
 pub asks_make : (structs : List Struct) (variables : List TypeTree) (p : PlacePath) (made : TypeTree)
     (ops : List Operand) (x : ℕ × ℕ)
     → (AtOne (PartAsks structs variables made ops) x ⊎ BothAsk structs (Some made) (type_of structs variables p) x)
-    ↔ Asks structs variables (make p made ops) x
+    ↔ AsksInAll structs variables (make p made ops) x
 asks_make structs variables p made ops x = both_ways (
   ⊎_elim (λ w. (let k = w.1 in let b = k.2 in inl (b.0, b.1, inl (w.0, k.0, k.1, b.2, b.3), b.4)))
       (λ b. inl (b.0, b.1, inr (sym (some_is made b.0 b.2), b.3), b.4)),
@@ -105,7 +99,7 @@ asks_make structs variables p made ops x = both_ways (
 pub asks_call : (structs : List Struct) (variables : List TypeTree) (p : PlacePath) (args : List (Operand × TypeTree))
     (result : TypeTree) (wheres : List (ℕ × ℕ)) (b : ℕ) (unwind : Option ℕ) (x : ℕ × ℕ)
     → ((AtOne (InputAsks structs variables args) x ⊎ BothAsk structs (Some result) (type_of structs variables p) x)
-    ⊎ Contains wheres x) ↔ Asks structs variables (call p args result wheres b unwind) x
+    ⊎ Contains wheres x) ↔ AsksInAll structs variables (call p args result wheres b unwind) x
 asks_call structs variables p args result wheres b unwind x = both_ways (
   ⊎_elim (⊎_elim input (λ b. inl (b.0, b.1, inr (sym (some_is result b.0 b.2), b.3), b.4))) inr,
   ⊎_elim (λ w. inl (⊎_elim (λ k. inl (k.0, (k.1, w.1, k.2, (w.0, w.1, k.3, refl, w.3))))
@@ -114,15 +108,11 @@ asks_call structs variables p args result wheres b unwind x = both_ways (
   where
     input : AtOne (InputAsks structs variables args) x
         → AsksByForm structs variables (call p args result wheres b unwind) x
-    input w =
-        let k = w.1 in
-        let c = k.3 in
-        let e : k.1 ≡ c.1 = some_is k.1 c.1 c.3 in
-        inl (c.0, c.1, inl (w.0, k.0, k.2 ∙ ap (λ (u : TypeTree). Some (k.0, u)) e, c.2), c.4)
+    input w = grind (arith, some_is)
 
 -- no region stands in an `int`, so what is switched on asks nothing
 pub asks_switch : (structs : List Struct) (variables : List TypeTree) (op : Operand) (bs : List ℕ) (x : ℕ × ℕ)
-    → Asks structs variables (switch op bs) x → ⊥
+    → AsksInAll structs variables (switch op bs) x → ⊥
 asks_switch structs variables op bs x = asks_nothing structs variables (switch op bs) x
     (⊎_elim (λ w. (let b = w.3 in no_region_in_int b.0 b.2 (subst (λ (z : TypeTree). HasRegionAt z b.0 b.2) w.2.1 b.4)))
     (λ h. h))
@@ -134,12 +124,7 @@ pub part_at : (structs : List Struct) (variables : List TypeTree) (made : TypeTr
     (op : Operand) (x : ℕ × ℕ) → slice_get ops n ≡ Some op
     → BothAsk structs (operand_type structs variables op) (behind structs (Field n) made) x
     ↔ PartAsks structs variables made ops n x
-part_at structs variables made ops n op x e = (
-  λ h. (op, e, h),
-  λ p. subst (λ (z : Operand).
-      BothAsk structs (operand_type structs variables z) (behind structs (Field n) made) x)
-      (some_is p.0 op (sym p.1 ∙ e)) p.2,
-)
+part_at structs variables made ops n op x e = grind (arith, some_is)
 
 pub parts_within : (structs : List Struct) (variables : List TypeTree) (made : TypeTree) (ops : List Operand) (n k : ℕ)
     (x : ℕ × ℕ) → length ops ≤ n → PartAsks structs variables made ops k x → k < n
@@ -148,11 +133,7 @@ parts_within structs variables made ops n k x le p = (let l = get_below ops k p.
 pub input_at : (structs : List Struct) (variables : List TypeTree) (args : List (Operand × TypeTree)) (n : ℕ)
     (op : Operand) (u : TypeTree) (x : ℕ × ℕ) → slice_get args n ≡ Some (op, u)
     → BothAsk structs (operand_type structs variables op) (Some u) x ↔ InputAsks structs variables args n x
-input_at structs variables args n op u x e = (
-  λ h. (op, u, e, h),
-  λ p. (let d : (p.0, p.1) ≡ (op, u) = some_is (p.0, p.1) (op, u) (sym p.2 ∙ e) in
-      subst (λ (z : Operand × TypeTree). BothAsk structs (operand_type structs variables z.0) (Some z.1) x) d p.3),
-)
+input_at structs variables args n op u x e = grind (arith, some_is)
 
 pub inputs_within : (structs : List Struct) (variables : List TypeTree) (args : List (Operand × TypeTree)) (n k : ℕ)
     (x : ℕ × ℕ) → length args ≤ n → InputAsks structs variables args k x → k < n
@@ -162,11 +143,7 @@ inputs_within structs variables args n k x le p = (let l = get_below args k (p.0
 
 pub both_there : (structs : List Struct) (t u : TypeTree) (x : ℕ × ℕ)
     → SubtypeAsks structs t u x ↔ BothAsk structs (Some t) (Some u) x
-both_there structs t u x = (
-  λ h. (t, u, refl, refl, h),
-  λ b. subst (λ (z : TypeTree). SubtypeAsks structs z u x) (sym (some_is t b.0 b.2))
-      (subst (λ (z : TypeTree). SubtypeAsks structs b.0 z x) (sym (some_is u b.1 b.3)) b.4),
-)
+both_there structs t u x = grind (arith, some_is)
 
 -- the pairs that are appended are those
 pub adds_list : (old new pairs : List (ℕ × ℕ)) → new ≡ old ++ pairs → AddsPairs (Contains pairs) old new

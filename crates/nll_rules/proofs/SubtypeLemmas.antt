@@ -92,22 +92,8 @@ asks_reference structs outer q p m t u x = (⊎_elim here inside, λ w. back w.0
     back : (way : List Turn) (a b : ℕ) → HasRegionAt (reference q m t) way a → HasRegionAt (reference p m u) way b
         → IsAsked (times outer (sign_of structs way)) a b x
         → IsAsked outer q p x ⊎ SubtypeAsksBehind structs (times outer (target_sign m)) t u x
-    back (own ∷ way) a b h k ask =
-        inl (asked_of outer a b q p x (sym h.1) (sym k.1)
-        (asked_as (times outer (times Covariant (sign_of structs way))) outer a b x
-        (ap (λ (w : List Turn). times outer (sign_of structs w)) h.0 ∙ times_covariant outer) ask))
-    back (target n ∷ way) a b h k ask =
-        inr (
-          way,
-          a,
-          b,
-          h.1,
-          k.1,
-          asked_as (times outer (times (target_sign n) (sign_of structs way)))
-              (times (times outer (target_sign m)) (sign_of structs way)) a b x
-              (ap (λ (z : Bool). times outer (times (target_sign z) (sign_of structs way))) h.0
-              ∙ times_assoc outer (target_sign m) (sign_of structs way)) ask,
-        )
+    back (own ∷ way) a b h k ask = grind (arith, asked_of, asked_as, times_covariant)
+    back (target n ∷ way) a b h k ask = grind (arith, asked_as, times_assoc)
     back way a b h k ask = absurd h
 
 pub asks_tuple : (structs : List Struct) (outer : Sign) (ts us : TypeTrees) (x : ℕ × ℕ)
@@ -128,24 +114,7 @@ asks_tuple structs outer ts us x = (inside, λ w. back w.0 w.1 w.2 w.3 w.4 w.5)
 
     back : (way : List Turn) (a b : ℕ) → HasRegionAt (tuple ts) way a → HasRegionAt (tuple us) way b
         → IsAsked (times outer (sign_of structs way)) a b x → AtOne (TypeAsks structs [] Covariant outer ts us) x
-    back (part i ∷ way) a b h k ask = (
-      i,
-      (
-        h.0,
-        k.0,
-        h.1,
-        k.1,
-        (
-          way,
-          a,
-          b,
-          h.2,
-          k.2,
-          asked_as (times outer (sign_of structs way)) (times (times outer Covariant) (sign_of structs way)) a b x
-              (ap (λ (z : Sign). times z (sign_of structs way)) (sym (times_covariant outer))) ask,
-        ),
-      ),
-    )
+    back (part i ∷ way) a b h k ask = grind (arith, asked_as, times_covariant)
     back way a b h k ask = absurd h
 
 pub asks_named : (structs : List Struct) (outer : Sign) (s : ℕ) (rs qs : List ℕ) (ts us : TypeTrees) (x : ℕ × ℕ)
@@ -184,44 +153,8 @@ asks_named structs outer s rs qs ts us x = (⊎_elim here inside, λ w. back w.0
         → IsAsked (times outer (sign_of structs way)) a b x
         → AtOne (ArgumentAsks (struct_at structs s).regions outer rs qs) x
         ⊎ AtOne (TypeAsks structs (struct_at structs s).types Invariant outer ts us) x
-    back (region_argument n i ∷ way) a b h k ask =
-        inl (
-          i,
-          (
-            a,
-            b,
-            h.2,
-            k.2,
-            asked_as (times outer (times (sign_or (struct_at structs n).regions i Invariant) (sign_of structs way)))
-                (times outer (sign_or (struct_at structs s).regions i Invariant)) a b x
-                (ap (λ (w : List Turn). times outer
-                (times (sign_or (struct_at structs n).regions i Invariant) (sign_of structs w))) h.0
-                ∙ ap (times outer) (times_covariant (sign_or (struct_at structs n).regions i Invariant))
-                ∙ ap (λ (z : ℕ). times outer (sign_or (struct_at structs z).regions i Invariant)) h.1) ask,
-          ),
-        )
-    back (type_argument n i ∷ way) a b h k ask =
-        inr (
-          i,
-          (
-            h.0,
-            k.0,
-            h.2,
-            k.2,
-            (
-              way,
-              a,
-              b,
-              h.3,
-              k.3,
-              asked_as (times outer (times (sign_or (struct_at structs n).types i Invariant) (sign_of structs way)))
-                  (times (times outer (sign_or (struct_at structs s).types i Invariant)) (sign_of structs way)) a b x
-                  (ap (λ (z : ℕ). times outer (times (sign_or (struct_at structs z).types i Invariant)
-                  (sign_of structs way))) h.1 ∙ times_assoc outer (sign_or (struct_at structs s).types i Invariant)
-                  (sign_of structs way)) ask,
-            ),
-          ),
-        )
+    back (region_argument n i ∷ way) a b h k ask = grind (arith, asked_as, times_covariant)
+    back (type_argument n i ∷ way) a b h k ask = grind (arith, asked_as, times_assoc)
     back way a b h k ask = absurd h
 
 pub asks_function : (structs : List Struct) (outer : Sign) (ts us : TypeTrees) (t u : TypeTree) (x : ℕ × ℕ)
@@ -248,26 +181,7 @@ asks_function structs outer ts us t u x = (⊎_elim inside through, λ w. back w
     back : (way : List Turn) (a b : ℕ) → HasRegionAt (function ts t) way a → HasRegionAt (function us u) way b
         → IsAsked (times outer (sign_of structs way)) a b x
         → AtOne (TypeAsks structs [] Contravariant outer ts us) x ⊎ SubtypeAsksBehind structs outer t u x
-    back (input i ∷ way) a b h k ask =
-        inl (
-          i,
-          (
-            h.0,
-            k.0,
-            h.1,
-            k.1,
-            (
-              way,
-              a,
-              b,
-              h.2,
-              k.2,
-              asked_as (times outer (times Contravariant (sign_of structs way)))
-                  (times (times outer Contravariant) (sign_of structs way)) a b x
-                  (times_assoc outer Contravariant (sign_of structs way)) ask,
-            ),
-          ),
-        )
+    back (input i ∷ way) a b h k ask = grind (arith, asked_as, times_assoc)
     back (output ∷ way) a b h k ask = inr (way, a, b, h, k, ask)
     back way a b h k ask = absurd h
 

@@ -11,7 +11,7 @@ use Rattle.nll_problem.specs.declared.error.Kind.TheVariants.{Constraints}
 use Rattle.nll_body.specs.Bodies.{BodyText, IsGraphOf}
 use Rattle.nll_live.specs.Live.{IsBaseOf}
 use Rattle.nll_rules.specs.BodyProblem.{IsConstraint, IsProblemOf, HasTooMany, IsRuleError}
-use Rattle.nll_rules.specs.Adding.{AddsOutlives, AddsConstraints, IsRefused, IsRefusedFor, told_of}
+use Rattle.nll_rules.specs.Adding.{AddsOutlives, AddsConstraints, IsRoomRefused, IsRefusedFor, told_of}
 use Rattle.nll_rules.proofs.AddingLemmas.{nothing, only_new, no_more}
 
 -- the steps in front of the constraints, from the problem of a graph alone
@@ -80,7 +80,7 @@ module _ (body : BodyText) (graph : Graph) (counted known based : Problem)
         );
   }
 
-  pub whole_refused : (e : BuildError) → IsRefused (IsConstraint body) based e → IsRefusedFor body e
+  pub whole_refused : (e : BuildError) → IsRoomRefused (IsConstraint body) based e → IsRefusedFor body e
   whole_refused e = ⊎_elim inl (λ h. inr (
     h.0,
     (
@@ -132,29 +132,3 @@ pub not_too_many : (body : BodyText) (q : Problem) → IsProblemOf body q → Is
 not_too_many body q h sound many =
     let among = no_more many.0 q.constraints many.1 (λ c there. (h.constraints c).1 (many.3 c there)) in
     absurd (omega (arith, many.2, sound.constraint_limit, among))
-
--- ---- errors
-
-pub is_no_point_range : (body : BodyText) (e : BuildError) → IsRefusedFor body e → e ≡ PointRange → ⊥
-is_no_point_range body e h p = ⊎_elim
-    (λ m. (let d : Memory ≡ PointRange = sym m ∙ p in cc))
-    (λ l. (let d : Limit Constraints ≡ PointRange = sym l.0 ∙ p in cc))
-    h
-
-pub is_no_region_range : (body : BodyText) (e : BuildError) → IsRefusedFor body e → e ≡ RegionRange → ⊥
-is_no_region_range body e h p = ⊎_elim
-    (λ m. (let d : Memory ≡ RegionRange = sym m ∙ p in cc))
-    (λ l. (let d : Limit Constraints ≡ RegionRange = sym l.0 ∙ p in cc))
-    h
-
-not_memory : (kind : Kind) → Limit kind ≡ Memory → ⊥
-not_memory kind e = cc
-
-same_kind : (kind : Kind) → Limit kind ≡ Limit Constraints → kind ≡ Constraints
-same_kind kind e = cc
-
-pub told : (body : BodyText) (e : BuildError) → IsRefusedFor body e → IsRuleError body (told_of e)
-told body Memory h = tt
-told body (Limit kind) h = ⊎_elim (λ m. absurd (not_memory kind m)) (λ l. (same_kind kind l.0, l.1)) h
-told body PointRange h = tt
-told body RegionRange h = tt

@@ -16,7 +16,7 @@ use Rattle.nll_problem.specs.declared.error.Kind.TheVariants.{Constraints}
 use Rattle.nll_types.specs.Types.{TypeTree}
 use Rattle.nll_body.specs.Statements.{Statement}
 use Rattle.nll_body.specs.Bodies.{BodyText, IsGraphOf, StandsAt}
-use Rattle.nll_rules.specs.Asking.{Asks}
+use Rattle.nll_rules.specs.Asking.{AsksInAll}
 use Rattle.nll_rules.specs.BodyProblem.{IsAskedAt, HasTooMany}
 use Rattle.nll_rules.specs.declared.error.RuleError.{RuleError}
 use Rattle.nll_rules.specs.declared.error.RuleError.TheVariants as told
@@ -63,8 +63,8 @@ Overflows kind q = (some : List Constraint) × IsOnce some × (most_constraints 
 
 -- the error says that there is no room for all constraints of the kind, or that an allocation
 -- failed
-abbrev pub IsRefused : (Constraint → Type 0) → Problem → BuildError → Type 0
-IsRefused kind q e = (e ≡ Memory) ⊎ ((e ≡ Limit Constraints) × Overflows kind q)
+abbrev pub IsRoomRefused : (Constraint → Type 0) → Problem → BuildError → Type 0
+IsRoomRefused kind q e = (e ≡ Memory) ⊎ ((e ≡ Limit Constraints) × Overflows kind q)
 
 -- the error says that the body has too many constraints, or that an allocation failed
 abbrev pub IsRefusedFor : BodyText → BuildError → Type 0
@@ -95,8 +95,8 @@ abbrev pub IsAskedBefore : BodyText → ℕ → Constraint → Type 0
 IsAskedBefore body n c = (p : ℕ) × (p < n) × IsAskedAt body p c
 
 -- the pair is of regions of the problem
-abbrev pub AreRegions : ℕ × ℕ → Problem → Type 0
-AreRegions pair q = (pair.0 < q.regions) × (pair.1 < q.regions)
+abbrev pub IsPairOfRegions : ℕ × ℕ → Problem → Type 0
+IsPairOfRegions pair q = (pair.0 < q.regions) × (pair.1 < q.regions)
 
 -- ---- errors
 
@@ -110,7 +110,7 @@ told_of _ = told.Memory
 -- the statement at p asks the pair
 abbrev pub IsPairAskedAt : BodyText → ℕ → ℕ × ℕ → Type 0
 IsPairAskedAt body p x = (i : Statement ℕ TypeTree) × StandsAt body p i
-    × Asks body.structs body.variables i x
+    × AsksInAll body.structs body.variables i x
 
 -- the pairs are exactly those that the statement at p asks
 abbrev pub AreAskedAt : BodyText → ℕ → List (ℕ × ℕ) → Type 0

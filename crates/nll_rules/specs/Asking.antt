@@ -21,7 +21,7 @@ AsksPair structs variables (call p args result wheres b unwind) x = Contains whe
 AsksPair structs variables _ x = ⊥
 
 -- it asks the pair, by a subtyping or by itself
-abbrev pub Asks : List Struct → List TypeTree → Statement ℕ TypeTree → ℕ × ℕ → Type 0
-Asks structs variables i x =
+abbrev pub AsksInAll : List Struct → List TypeTree → Statement ℕ TypeTree → ℕ × ℕ → Type 0
+AsksInAll structs variables i x =
     ((t u : TypeTree) × AsksSubtype structs variables i t u × SubtypeAsks structs t u x)
     ⊎ AsksPair structs variables i x

@@ -12,20 +12,20 @@ use Rattle.nll_problem.specs.declared.constraint.Constraint.{Constraint}
 use Rattle.nll_problem.specs.declared.error.Kind.TheVariants.{Constraints}
 use Rattle.nll_types.specs.Types.{TypeTree}
 use Rattle.nll_body.specs.Statements.{Statement}
-use Rattle.nll_body.specs.Bodies.{BodyText, StandsAt, GoesOn, IsGraphOf}
+use Rattle.nll_body.specs.Bodies.{BodyText, StandsAt, IsFollowedBy, IsGraphOf}
 use Rattle.nll_live.specs.Live.{IsBaseOf}
-use Rattle.nll_rules.specs.Asking.{Asks}
+use Rattle.nll_rules.specs.Asking.{AsksInAll}
 use Rattle.nll_rules.specs.declared.error.RuleError.{RuleError}
 use Rattle.nll_rules.specs.declared.error.RuleError.TheVariants.{Limit, Memory}
 
 -- it is a point that may come after p
 abbrev pub IsNextTo : BodyText → ℕ → At → Type 0
-IsNextTo body p place = (q : ℕ) × GoesOn body p q × (place ≡ Point q)
+IsNextTo body p place = (q : ℕ) × IsFollowedBy body p q × (place ≡ Point q)
 
 -- the statement at p asks the constraint: its pair of regions, at a successor of p
 abbrev pub IsAskedAt : BodyText → ℕ → Constraint → Type 0
 IsAskedAt body p c = (i : Statement ℕ TypeTree) × StandsAt body p i × IsNextTo body p c.at
-    × Asks body.structs body.variables i (c.sup, c.sub)
+    × AsksInAll body.structs body.variables i (c.sup, c.sub)
 
 -- the statement at some point asks the constraint
 abbrev pub IsAskedSomewhere : BodyText → Constraint → Type 0

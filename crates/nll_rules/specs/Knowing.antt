@@ -14,7 +14,7 @@ use Rattle.nll_body.specs.Flat.{StatementLists, statements_in}
 use Rattle.nll_body.specs.Meant.{HasRows, meant_by}
 use Rattle.nll_body.specs.Typing.{types_agree}
 use Rattle.nll_body.specs.Bodies.{BodyText}
-use Rattle.nll_rules.specs.Signs.{RowsAsk, signs}
+use Rattle.nll_rules.specs.Signs.{RowsAsk, row_signs_of}
 use Rattle.nll_rules.specs.TypeRows.{IsRowIn, IsRowOf, IsWholeRow, row_from, row_in}
 use Rattle.nll_rules.specs.declared.fields.FieldKey.{FieldKey}
 use Rattle.nll_rules.specs.declared.fields.FieldRow.{FieldRow}
@@ -116,7 +116,7 @@ pub record AreUses (structs : List Struct) (ns : List Node) (body made : List �
 -- second's shape
 abbrev pub MeetingAsks : List Struct → List Node → List ℕ → List ℕ → Meeting → ℕ × ℕ → Type 0
 MeetingAsks structs ns body made m x =
-    RowsAsk (signs structs Covariant (shape_in ns m.other.shape))
+    RowsAsk (row_signs_of structs Covariant (shape_in ns m.other.shape))
     (row_in body made m.one) (row_in body made m.other) x
 
 -- The pairs are those that the rows of two types ask, which are there.

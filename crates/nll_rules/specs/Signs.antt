@@ -23,23 +23,23 @@ part_sign (Arguments outer ps) k = times outer (sign_or ps.now k Invariant)
 
 abbrev mutual
   -- The signs of the regions of a type of this shape, where the type itself has the first sign.
-  pub signs : List Struct → Sign → Shape → List Sign
-  signs structs outer int_shape = []
-  signs structs outer (parameter_shape k) = []
-  signs structs outer (reference_shape m t) =
-      signs structs (times outer (target_sign m)) t ++ outer ∷ []
-  signs structs outer (tuple_shape ts) = all_signs structs (λ k. outer) ts
-  signs structs outer (named_shape s n ts) =
+  pub row_signs_of : List Struct → Sign → Shape → List Sign
+  row_signs_of structs outer int_shape = []
+  row_signs_of structs outer (parameter_shape k) = []
+  row_signs_of structs outer (reference_shape m t) =
+      row_signs_of structs (times outer (target_sign m)) t ++ outer ∷ []
+  row_signs_of structs outer (tuple_shape ts) = all_signs structs (λ k. outer) ts
+  row_signs_of structs outer (named_shape s n ts) =
       all_signs structs (λ k. times outer (sign_or (struct_at structs s).types k Invariant)) ts
       ++ sign_row (λ k. times outer (sign_or (struct_at structs s).regions k Invariant)) n
-  signs structs outer (function_shape ts t) =
-      all_signs structs (λ k. times outer Contravariant) ts ++ signs structs outer t
+  row_signs_of structs outer (function_shape ts t) =
+      all_signs structs (λ k. times outer Contravariant) ts ++ row_signs_of structs outer t
 
   -- those of types of these shapes, each of which has the sign of its place
   pub all_signs : List Struct → (ℕ → Sign) → ShapeList → List Sign
   all_signs structs sign no_shape = []
   all_signs structs sign (more_shapes t ts) =
-      signs structs (sign 0) t ++ all_signs structs (λ k. sign (suc k)) ts
+      row_signs_of structs (sign 0) t ++ all_signs structs (λ k. sign (suc k)) ts
 
 -- the regions at one place of two rows ask the pair, by the sign at that place
 abbrev pub RowsAsk : List Sign → List ℕ → List ℕ → ℕ × ℕ → Type 0

@@ -13,7 +13,7 @@ use Rattle.nll_types.specs.Shapes.{shape_of}
 use Rattle.nll_types.specs.Table.{shape_in}
 use Rattle.nll_types.specs.declared.node.Node.{Node}
 use Rattle.nll_types.specs.declared.parameter.Sign.TheVariants.{Covariant}
-use Rattle.nll_rules.specs.Signs.{signs}
+use Rattle.nll_rules.specs.Signs.{row_signs_of}
 use Rattle.nll_rules.specs.declared.field_rows.UseRow.{UseRow}
 use Rattle.nll_rules.specs.declared.row_signs.ShapeSigns.{ShapeSigns}
 use Rattle.nll_rules.specs.declared.type_row.RowLists.{RowLists}
@@ -51,7 +51,7 @@ starts_from n (more_shapes t ts) = n ∷ starts_from (n + row_length t) ts
 -- The signs are those of the shape's row, and the places those where the rows of its first parts
 -- begin.
 pub record AreSignsOf (structs : List Struct) (s : Shape) (e : ShapeSigns) : Type 0 where
-  pub signs : e.signs.items ≡ signs structs Covariant s
+  pub signs : e.signs.items ≡ row_signs_of structs Covariant s
   pub starts : e.starts.items ≡ starts_from 0 (first_parts s)
 
 -- what is known of the shapes of these numbers, as far as something is known, is right
@@ -105,8 +105,8 @@ row_in body made c = take c.count
     else drop (c.first - length body) made)
 
 -- the row, in the lists as the code keeps them
-abbrev pub row_of : RowLists → TypeRow → List ℕ
-row_of lists c = row_in lists.body.now lists.made.items c
+abbrev pub row_in_lists : RowLists → TypeRow → List ℕ
+row_in_lists lists c = row_in lists.body.now lists.made.items c
 
 -- the lists have as many regions of the row as it has
 abbrev pub IsWholeRow : List ℕ → TypeRow → Type 0

@@ -1,24 +1,20 @@
 //! What a statement or terminator asks.
 
-ghost use Rattle.std.specs.Prelude.{◌≡◌, [], All, Bool, IfSome, OnOk, Option, Some, map, true};
+ghost use Rattle.std.specs.Prelude.{◌≡◌, Bool, IfSome, OnOk, Option, Some, true};
 ghost use Rattle.nll_types.specs.Operands.{reference_to};
-ghost use Rattle.nll_types.specs.Places.{behind};
 ghost use Rattle.nll_types.specs.Rows.{HasRow};
 ghost use Rattle.nll_types.specs.Types.{TypeTree};
-ghost use Rattle.nll_types.specs.declared.place.Projection.TheVariants.{Field as field};
-ghost use Rattle.nll_body.specs.Flat.{argument_in, call_in, make_in, operand_in, path_in};
-ghost use Rattle.nll_body.specs.Flat.{statement_in};
+ghost use Rattle.nll_body.specs.Flat.{call_in, make_in, path_in, statement_in};
 ghost use Rattle.nll_body.specs.Meant.{HasRows, meant_by};
 ghost use Rattle.nll_body.specs.Statements as spec;
 ghost use Rattle.nll_body.specs.Typing.{types_agree};
-ghost use Rattle.nll_rules.specs.Asking.{Asks};
-ghost use Rattle.nll_rules.specs.Flows.{AddsMet, InputsAgree, PartsAgree, inputs_of};
-ghost use Rattle.nll_rules.specs.Flows.{place_type, value_type, written_type};
+ghost use Rattle.nll_rules.specs.Asking.{AsksInAll};
+ghost use Rattle.nll_rules.specs.Flows.{AddsMet, place_type, value_type, written_type};
 ghost use Rattle.nll_rules.specs.Knowing.{IsAtHand, IsAvailable, Learns};
-ghost use Rattle.nll_rules.specs.Pairs.{AddsPairs, AtOne, InputAsks, OneOutlives, PartAsks};
+ghost use Rattle.nll_rules.specs.Pairs.{AddsPairs, OneOutlives};
 
 use crate::known::Known;
-use crate::meetings::Pairs;
+use crate::meetings::{Meeting, Pairs, ask_own};
 use crate::type_row::TypeRow;
 use nll_body::{FlatCall, FlatMake, FlatOperand, Stmt};
 use nll_problem::RegionId;
@@ -32,18 +28,6 @@ use std::alloc::Global;
 pub(crate) struct Asked {
     pub(crate) pairs: Pairs,
     pub(crate) crossed: Vec<RegionId>,
-}
-
-impl Asked {
-    /// Nothing is asked.
-    pub(crate) fn new(alloc: Global) -> Asked
-        ensures { result.pairs.items ≡ [] }
-    {
-        Asked {
-            pairs: Vec::new(alloc),
-            crossed: Vec::new(alloc),
-        }
-    }
 }
 
 // Appends, for each of these regions, that it outlives this one.
@@ -76,31 +60,13 @@ impl<'a> Known<'a> {
         match one {
             Some(one) => match other {
                 Some(other) => {
-                    self.ask(alloc, one, other, pairs)?;
+                    self.ask_meeting(alloc, Meeting { one, other }, pairs)?;
                     Ok(())
                 }
                 None => Ok(()),
             },
             None => Ok(()),
         }
-    }
-
-    // Appends what a value of this type asks that flows into a place.
-    fn ask_into(
-        &mut self,
-        alloc: Global,
-        one: Option<TypeRow>,
-        place: u32,
-        asked: &mut Asked,
-    ) -> Result<(), Memory>
-        requires { IfSome one (IsAvailable self.old) }
-        ensures learns { Learns self.old self.new }
-        ensures asked { OnOk result ((o : Option TypeTree) → IsAtHand self.old o one
-            → AddsMet self.old o (place_type self.old place)
-            asked.old.pairs.items asked.new.pairs.items) }
-    {
-        let other = self.walk(alloc, place, &mut asked.crossed)?;
-        self.meet(alloc, one, other, &mut asked.pairs)
     }
 
     // Appends what an operand asks that flows into a value of this type.
@@ -128,28 +94,6 @@ impl<'a> Known<'a> {
         }
     }
 
-    // Appends what an operand asks that flows into a place.
-    fn ask_assign(
-        &mut self,
-        alloc: Global,
-        place: u32,
-        operand: FlatOperand,
-        asked: &mut Asked,
-    ) -> Result<(), Memory>
-        ensures learns { Learns self.old self.new }
-        ensures asked { OnOk result (AddsMet self.old (value_type self.old operand)
-            (place_type self.old place) asked.old.pairs.items asked.new.pairs.items) }
-    {
-        match operand {
-            FlatOperand::Const => Ok(()),
-            FlatOperand::Copy(from) | FlatOperand::Move(from) => {
-                let one = self.walk(alloc, from, &mut asked.crossed)?;
-                self.ask_into(alloc, one, place, asked)?;
-                Ok(())
-            }
-        }
-    }
-
     // Appends what a reference of a region, `mut` or not, to a value of the first type asks that
     // flows into a value of the second, where both are there.
     fn meet_reference(
@@ -170,7 +114,9 @@ impl<'a> Known<'a> {
         match target {
             Some(target) => match other {
                 Some(other) => {
-                    self.ask_reference(alloc, region, target, other, pairs)?;
+                    let meeting = Meeting { one: target, other };
+                    self.ask_meeting(alloc, meeting, pairs)?;
+                    ask_own(region, self.lists.row(other), pairs)?;
                     Ok(())
                 }
                 None => Ok(()),
@@ -192,7 +138,7 @@ impl<'a> Known<'a> {
         ensures learns { Learns self.old self.new }
         ensures asked { OnOk result ((m : Bool) → types_agree self.old.structs self.old.variables
             (spec.borrow (path_in self.old.lists place) region m (path_in self.old.lists borrowed))
-            ≡ true → AddsPairs (Asks self.old.structs self.old.variables
+            ≡ true → AddsPairs (AsksInAll self.old.structs self.old.variables
             (spec.borrow (path_in self.old.lists place) region m (path_in self.old.lists borrowed)))
             asked.old.pairs.items asked.new.pairs.items) }
     {
@@ -202,49 +148,6 @@ impl<'a> Known<'a> {
         self.meet_reference(alloc, region, target, other, &mut asked.pairs)
     }
 
-    // Appends what the operands ask of which a type is made.
-    fn ask_parts(
-        &mut self,
-        alloc: Global,
-        made: Typed,
-        operands: &[FlatOperand],
-        asked: &mut Asked,
-    ) -> Result<(), Memory>
-        requires row { HasRow self.old.shapes self.old.regions made }
-        requires agree { PartsAgree self.old.structs self.old.variables
-            (written_type self.old made) (map (operand_in self.old.lists) operands.now) }
-        ensures learns { Learns self.old self.new }
-        ensures asked { OnOk result (AddsPairs
-            (AtOne (PartAsks self.old.structs self.old.variables (written_type self.old made)
-            (map (operand_in self.old.lists) operands.now)))
-            asked.old.pairs.items asked.new.pairs.items) }
-    {
-        for place in 0..operands.len() {
-            self.ask_part(alloc, made, operands[place], place, asked)?;
-        }
-        Ok(())
-    }
-
-    // Appends what the operand at a place asks of which a type is made.
-    fn ask_part(
-        &mut self,
-        alloc: Global,
-        made: Typed,
-        operand: FlatOperand,
-        place: usize,
-        asked: &mut Asked,
-    ) -> Result<(), Memory>
-        requires { HasRow self.old.shapes self.old.regions made }
-        ensures learns { Learns self.old self.new }
-        ensures asked { OnOk result (AddsMet self.old (value_type self.old operand)
-            (behind self.old.structs (field place) (written_type self.old made))
-            asked.old.pairs.items asked.new.pairs.items) }
-    {
-        let row = self.written(alloc, made)?;
-        let other = self.part(alloc, row, place)?;
-        self.ask_from(alloc, operand, other, asked)
-    }
-
     // Appends what making a tuple or struct of operands, for a place, asks.
     fn ask_make(&mut self, alloc: Global, make: &FlatMake, asked: &mut Asked) -> Result<(), Memory>
         requires row { HasRow self.old.shapes self.old.regions make.now.ty }
@@ -252,54 +155,17 @@ impl<'a> Known<'a> {
             (meant_by self.old.shapes self.old.regions (make_in self.old.lists make.now)) ≡ true }
         ensures learns { Learns self.old self.new }
         ensures asked { OnOk result (AddsPairs
-            (Asks self.old.structs self.old.variables
+            (AsksInAll self.old.structs self.old.variables
             (meant_by self.old.shapes self.old.regions (make_in self.old.lists make.now)))
             asked.old.pairs.items asked.new.pairs.items) }
     {
         let operands = self.statements().operands(make.operands);
-        self.ask_parts(alloc, make.ty, operands, asked)?;
-        self.ask_result(alloc, make.ty, make.place, asked)
-    }
-
-    // Appends what an operand for a parameter of a type asks.
-    fn ask_input(
-        &mut self,
-        alloc: Global,
-        argument: (FlatOperand, Typed),
-        asked: &mut Asked,
-    ) -> Result<(), Memory>
-        requires { HasRow self.old.shapes self.old.regions argument.1 }
-        ensures learns { Learns self.old self.new }
-        ensures asked { OnOk result (AddsMet self.old (value_type self.old argument.0)
-            (Some (written_type self.old argument.1))
-            asked.old.pairs.items asked.new.pairs.items) }
-    {
-        let (operand, ty) = argument;
-        let other = self.written(alloc, ty)?;
-        self.ask_from(alloc, operand, Some(other), asked)
-    }
-
-    // Appends what the operands of a call ask.
-    fn ask_inputs(
-        &mut self,
-        alloc: Global,
-        arguments: &[(FlatOperand, Typed)],
-        asked: &mut Asked,
-    ) -> Result<(), Memory>
-        requires rows { All (HasRow self.old.shapes self.old.regions)
-            (map (λ a. a.1) (map (argument_in self.old.lists) arguments.now)) }
-        requires agree { InputsAgree self.old.structs self.old.variables
-            (inputs_of self.old arguments.now) }
-        ensures learns { Learns self.old self.new }
-        ensures asked { OnOk result (AddsPairs
-            (AtOne (InputAsks self.old.structs self.old.variables
-            (inputs_of self.old arguments.now)))
-            asked.old.pairs.items asked.new.pairs.items) }
-    {
-        for place in 0..arguments.len() {
-            self.ask_input(alloc, arguments[place], asked)?;
+        for place in 0..operands.len() {
+            let row = self.written(alloc, make.ty)?;
+            let other = self.part(alloc, row, place)?;
+            self.ask_from(alloc, operands[place], other, asked)?;
         }
-        Ok(())
+        self.ask_result(alloc, make.ty, make.place, asked)
     }
 
     // Appends what a value of a type asks that flows into a place.
@@ -316,7 +182,8 @@ impl<'a> Known<'a> {
             (place_type self.old place) asked.old.pairs.items asked.new.pairs.items) }
     {
         let one = self.written(alloc, ty)?;
-        self.ask_into(alloc, Some(one), place, asked)
+        let other = self.walk(alloc, place, &mut asked.crossed)?;
+        self.meet(alloc, Some(one), other, &mut asked.pairs)
     }
 
     // Appends what a call asks.
@@ -327,12 +194,17 @@ impl<'a> Known<'a> {
             (meant_by self.old.shapes self.old.regions (call_in self.old.lists call.now)) ≡ true }
         ensures learns { Learns self.old self.new }
         ensures asked { OnOk result (AddsPairs
-            (Asks self.old.structs self.old.variables
+            (AsksInAll self.old.structs self.old.variables
             (meant_by self.old.shapes self.old.regions (call_in self.old.lists call.now)))
             asked.old.pairs.items asked.new.pairs.items) }
     {
         let statements = self.statements();
-        self.ask_inputs(alloc, statements.arguments(call.arguments), asked)?;
+        let arguments = statements.arguments(call.arguments);
+        for place in 0..arguments.len() {
+            let (operand, ty) = arguments[place];
+            let other = self.written(alloc, ty)?;
+            self.ask_from(alloc, operand, Some(other), asked)?;
+        }
         self.ask_result(alloc, call.result, call.place, asked)?;
         let wheres = statements.pairs(call.wheres);
         asked.pairs.extend_from_slice(wheres)?;
@@ -361,14 +233,15 @@ impl<'a> Known<'a> {
             (statement_in self.old.lists statement.now)) ≡ true }
         ensures learns { Learns self.old self.new }
         ensures asked { OnOk result (AddsPairs
-            (Asks self.old.structs self.old.variables
+            (AsksInAll self.old.structs self.old.variables
             (meant_by self.old.shapes self.old.regions
             (statement_in self.old.lists statement.now)))
             asked.old.pairs.items asked.new.pairs.items) }
     {
         match *statement {
             Stmt::Assign(place, operand) => {
-                self.ask_assign(alloc, place, operand, asked)?;
+                let other = self.walk(alloc, place, &mut asked.crossed)?;
+                self.ask_from(alloc, operand, other, asked)?;
                 Ok(())
             }
             Stmt::Borrow(place, region, _, borrowed) => {

@@ -1,8 +1,7 @@
 //! The problem of a body.
 
-ghost use Rattle.std.specs.Prelude.{◌≡◌, ◌↔◌, ◌<◌, ℕ, [], length, Contains, IfErr, IfOk, OnOk};
+ghost use Rattle.std.specs.Prelude.{◌≡◌, ◌<◌, IfErr, IfOk, OnOk};
 ghost use Rattle.nll_problem.specs.Problem.{IsSound, SameProblem};
-ghost use Rattle.nll_live.specs.Live.{IsBaseOf};
 ghost use Rattle.nll_rules.specs.Adding.{IsBareOf, IsRefusedFor};
 ghost use Rattle.nll_rules.specs.BodyProblem.{HasTooMany, IsProblemOf, IsRuleError};
 
@@ -35,24 +34,14 @@ pub fn problem_of(alloc: Global, body: &Body) -> Result<Problem, RuleError>
     ensures err { IfErr result (IsRuleError body.now) }
 {
     match ProblemBuilder::of_graph(alloc, body.graph()) {
-        Ok(builder) => filled(alloc, body, builder),
+        Ok(mut builder) => match fill(alloc, body, &mut builder) {
+            Ok(()) => Ok(finished(builder)),
+            Err(error) => {
+                drop(builder);
+                Err(told_of(error))
+            }
+        },
         Err(_) => Err(RuleError::Memory),
-    }
-}
-
-// The problem of a body, of that of its graph alone.
-fn filled(alloc: Global, body: &Body, mut builder: ProblemBuilder) -> Result<Problem, RuleError>
-    requires { IsBareOf body.now builder }
-    ensures ok { IfOk result (IsProblemOf body.now) }
-    ensures few { IfOk result (λ _. HasTooMany body.now → ⊥) }
-    ensures err { IfErr result (IsRuleError body.now) }
-{
-    match fill(alloc, body, &mut builder) {
-        Ok(()) => Ok(finished(builder)),
-        Err(error) => {
-            drop(builder);
-            Err(told_of(error))
-        }
     }
 }
 
@@ -82,24 +71,10 @@ fn fill(alloc: Global, body: &Body, builder: &mut ProblemBuilder) -> Result<(), 
     let _ = body.points();
     add_regions(builder, body.universals(), body.regions());
     add_outlives(builder, body.outlives())?;
-    add_live(alloc, body, builder)?;
+    {
+        let live = live_runs(alloc, body)?;
+        add_bases(builder, live.as_slice())?;
+    }
     add_constraints(alloc, body, builder)?;
     Ok(())
-}
-
-// Adds the base elements that the liveness of variables gives regions, where there are none.
-fn add_live(alloc: Global, body: &Body, builder: &mut ProblemBuilder) -> Result<(), BuildError>
-    requires points { builder.old.graph.points ≡ length body.now.points }
-    requires regions { builder.old.regions ≡ length body.now.names }
-    requires none { builder.old.bases ≡ [] }
-    ensures others { OnOk result (builder.new ≡ record builder.old { bases = builder.new.bases }) }
-    ensures each { OnOk result
-        ((r p : ℕ) → Contains builder.new.bases (r, p) ↔ IsBaseOf body.now r p) }
-    ensures err { IfErr result (λ e. e ≡ BuildError.Memory) }
-{
-    let live = live_runs(alloc, body)?;
-    let told = add_bases(builder, live.as_slice());
-    // Early drop.
-    drop(live);
-    told
 }

@@ -4,17 +4,17 @@
 ghost use Rattle.std.specs.Prelude.{◌≡◌, ◌<◌, ℕ, Contains, IfErr, OnOk, length};
 ghost use Rattle.nll_problem.specs.At.{IsAmong};
 ghost use Rattle.nll_problem.specs.Problem.{SameSet};
-ghost use Rattle.nll_body.specs.Sound.{IsSound};
-ghost use Rattle.nll_rules.specs.Adding.{AddsConstraints, AreAskedAt, AreRegions};
-ghost use Rattle.nll_rules.specs.Adding.{IsOfPair, IsOfPairs, IsOfPairsEverywhere, IsRefused};
+ghost use Rattle.nll_body.specs.Sound.{IsSoundBody};
+ghost use Rattle.nll_rules.specs.Adding.{AddsConstraints, IsPairOfRegions};
+ghost use Rattle.nll_rules.specs.Adding.{IsOfPairs, IsOfPairsEverywhere, IsRoomRefused};
 ghost use Rattle.nll_rules.specs.Knowing.{IsOfBody};
 ghost use Rattle.nll_rules.specs.BodyProblem.{IsAskedAt, IsAskedSomewhere, IsConstraint};
 
 use crate::asking::Asked;
 use crate::known::Known;
+use crate::meetings::Pairs;
 use nll_body::Body;
 use nll_problem::{At, BuildError, Constraint, ProblemBuilder, RegionId};
-use nll_sets::Memory;
 use std::alloc::Global;
 
 // As many pairs are kept as they are, even if some are there twice.
@@ -29,21 +29,29 @@ pub(crate) fn add_constraints(
     requires points { builder.old.graph.points ≡ length body.now.points }
     requires regions { builder.old.regions ≡ length body.now.names }
     ensures ok { OnOk result (AddsConstraints (IsConstraint body.now) builder.old builder.new) }
-    ensures err { IfErr result (IsRefused (IsConstraint body.now) builder.old) }
+    ensures err { IfErr result (IsRoomRefused (IsConstraint body.now) builder.old) }
 {
     // Clause call: the body is sound.
     let _ = body.points();
     add_everywhere(builder, body.asserts())?;
-    add_asked(alloc, body, builder)?;
-    Ok(())
+    let mut known = Known::new(alloc, body.typed())?;
+    let mut asked = Asked {
+        pairs: Vec::new(alloc),
+        crossed: Vec::new(alloc),
+    };
+    let told = add_points(alloc, body, &mut known, &mut asked, builder);
+    // Early drop.
+    drop(known);
+    drop(asked);
+    told
 }
 
 // Adds these pairs of regions, the first of which must hold what the second holds, at all points.
 fn add_everywhere(builder: &mut ProblemBuilder, pairs: &[(u32, u32)]) -> Result<(), BuildError>
-    requires { (x : ℕ × ℕ) → Contains pairs.now x → AreRegions x builder.old }
+    requires { (x : ℕ × ℕ) → Contains pairs.now x → IsPairOfRegions x builder.old }
     ensures ok { OnOk result
         (AddsConstraints (IsOfPairsEverywhere pairs.now) builder.old builder.new) }
-    ensures err { IfErr result (IsRefused (IsOfPairsEverywhere pairs.now) builder.old) }
+    ensures err { IfErr result (IsRoomRefused (IsOfPairsEverywhere pairs.now) builder.old) }
 {
     for pair in pairs {
         let (sup, sub) = (RegionId(pair.0), RegionId(pair.1));
@@ -51,24 +59,6 @@ fn add_everywhere(builder: &mut ProblemBuilder, pairs: &[(u32, u32)]) -> Result<
         add_constraint(builder, Constraint { sup, sub, at })?;
     }
     Ok(())
-}
-
-// Adds the constraints that the statements of a body ask.
-fn add_asked(alloc: Global, body: &Body, builder: &mut ProblemBuilder) -> Result<(), BuildError>
-    requires sound { IsSound body.now }
-    requires points { builder.old.graph.points ≡ length body.now.points }
-    requires regions { builder.old.regions ≡ length body.now.names }
-    ensures ok { OnOk result
-        (AddsConstraints (IsAskedSomewhere body.now) builder.old builder.new) }
-    ensures err { IfErr result (IsRefused (IsAskedSomewhere body.now) builder.old) }
-{
-    let mut known = Known::new(alloc, body.typed())?;
-    let mut asked = Asked::new(alloc);
-    let told = add_points(alloc, body, &mut known, &mut asked, builder);
-    // Early drop.
-    drop(known);
-    drop(asked);
-    told
 }
 
 // Adds the constraints that the statement at each point asks. The list is scratch space.
@@ -84,7 +74,7 @@ fn add_points(
     requires regions { builder.old.regions ≡ length body.now.names }
     ensures ok { OnOk result
         (AddsConstraints (IsAskedSomewhere body.now) builder.old builder.new) }
-    ensures err { IfErr result (IsRefused (IsAskedSomewhere body.now) builder.old) }
+    ensures err { IfErr result (IsRoomRefused (IsAskedSomewhere body.now) builder.old) }
 {
     for point in 0..body.points() {
         add_next(alloc, body, point, known, asked, builder)?;
@@ -101,66 +91,31 @@ fn add_next(
     asked: &mut Asked,
     builder: &mut ProblemBuilder,
 ) -> Result<(), BuildError>
-    requires sound { IsSound body.now }
+    requires sound { IsSoundBody body.now }
     requires known { IsOfBody body.now known.old }
     requires point { point < length body.now.points }
     requires points { builder.old.graph.points ≡ length body.now.points }
     requires regions { builder.old.regions ≡ length body.now.names }
     ensures known { IsOfBody body.now known.new }
     ensures ok { OnOk result (AddsConstraints (IsAskedAt body.now point) builder.old builder.new) }
-    ensures err { IfErr result (IsRefused (IsAskedAt body.now point) builder.old) }
+    ensures err { IfErr result (IsRoomRefused (IsAskedAt body.now point) builder.old) }
 {
-    find_asked(alloc, body, point, known, asked)?;
-    add_known(body, point, asked.pairs.as_slice(), builder)
+    asked.pairs.clear();
+    known.make_room(alloc);
+    known.asks(alloc, known.statements().at(point as usize), asked)?;
+    keep_once(&mut asked.pairs);
+    add_pairs(builder, body.graph().next_of(point), asked.pairs.as_slice())?;
+    Ok(())
 }
 
 // Keeps each pair once, where there are many.
-fn keep_once(pairs: &mut Vec<(RegionId, RegionId)>)
+fn keep_once(pairs: &mut Pairs)
     ensures { SameSet pairs.old.items pairs.new.items }
 {
     if pairs.len() > FEW {
         pairs.sort_unstable();
         pairs.dedup();
     }
-}
-
-// Leaves in the list the pairs that the statement at a point asks.
-fn find_asked(
-    alloc: Global,
-    body: &Body,
-    point: u32,
-    known: &mut Known<'_>,
-    asked: &mut Asked,
-) -> Result<(), Memory>
-    requires known { IsOfBody body.now known.old }
-    requires point { point < length body.now.points }
-    ensures known { IsOfBody body.now known.new }
-    ensures asked { OnOk result (AreAskedAt body.now point asked.new.pairs.items) }
-{
-    asked.pairs.clear();
-    known.make_room(alloc);
-    known.asks(alloc, known.statements().at(point as usize), asked)?;
-    keep_once(&mut asked.pairs);
-    Ok(())
-}
-
-// Adds the constraints of these pairs, which the statement at a point asks.
-fn add_known(
-    body: &Body,
-    point: u32,
-    pairs: &[(RegionId, RegionId)],
-    builder: &mut ProblemBuilder,
-) -> Result<(), BuildError>
-    requires sound { IsSound body.now }
-    requires point { point < length body.now.points }
-    requires asked { AreAskedAt body.now point pairs.now }
-    requires points { builder.old.graph.points ≡ length body.now.points }
-    requires regions { builder.old.regions ≡ length body.now.names }
-    ensures ok { OnOk result (AddsConstraints (IsAskedAt body.now point) builder.old builder.new) }
-    ensures err { IfErr result (IsRefused (IsAskedAt body.now point) builder.old) }
-{
-    add_pairs(builder, body.graph().next_of(point), pairs)?;
-    Ok(())
 }
 
 // Adds these pairs of regions, the first of which must outlive the second, at these points.
@@ -170,33 +125,17 @@ fn add_pairs(
     pairs: &[(RegionId, RegionId)],
 ) -> Result<(), BuildError>
     requires points { (p : ℕ) → Contains points.now p → p < builder.old.graph.points }
-    requires regions { (x : ℕ × ℕ) → Contains pairs.now x → AreRegions x builder.old }
+    requires regions { (x : ℕ × ℕ) → Contains pairs.now x → IsPairOfRegions x builder.old }
     ensures ok { OnOk result
         (AddsConstraints (IsOfPairs points.now pairs.now) builder.old builder.new) }
-    ensures err { IfErr result (IsRefused (IsOfPairs points.now pairs.now) builder.old) }
+    ensures err { IfErr result (IsRoomRefused (IsOfPairs points.now pairs.now) builder.old) }
 {
     for pair in pairs {
-        add_pair(builder, points, *pair)?;
-    }
-    Ok(())
-}
-
-// Adds a pair of regions at these points.
-fn add_pair(
-    builder: &mut ProblemBuilder,
-    points: &[u32],
-    pair: (RegionId, RegionId),
-) -> Result<(), BuildError>
-    requires points { (p : ℕ) → Contains points.now p → p < builder.old.graph.points }
-    requires regions { AreRegions pair builder.old }
-    ensures ok { OnOk result
-        (AddsConstraints (IsOfPair points.now pair) builder.old builder.new) }
-    ensures err { IfErr result (IsRefused (IsOfPair points.now pair) builder.old) }
-{
-    let (sup, sub) = pair;
-    for point in points {
-        let at = At::Point(*point);
-        add_constraint(builder, Constraint { sup, sub, at })?;
+        let (sup, sub) = *pair;
+        for point in points {
+            let at = At::Point(*point);
+            add_constraint(builder, Constraint { sup, sub, at })?;
+        }
     }
     Ok(())
 }
@@ -207,7 +146,7 @@ fn add_constraint(builder: &mut ProblemBuilder, constraint: Constraint) -> Resul
     requires sup { constraint.sup < builder.old.regions }
     requires sub { constraint.sub < builder.old.regions }
     ensures ok { OnOk result (AddsConstraints (λ c. constraint ≡ c) builder.old builder.new) }
-    ensures err { IfErr result (IsRefused (λ c. constraint ≡ c) builder.old) }
+    ensures err { IfErr result (IsRoomRefused (λ c. constraint ≡ c) builder.old) }
 {
     // Clause call: no constraint is there twice.
     let _ = builder.constraints();

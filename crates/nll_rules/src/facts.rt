@@ -1,10 +1,8 @@
 //! The facts of a body that are known before its statements ask anything.
 
-ghost use Rattle.std.specs.Prelude.{◌≡◌, ◌+◌, ◌<◌, ◌≤◌, IfErr, OnOk};
-ghost use Rattle.nll_problem.specs.Answers.{AddsFact};
+ghost use Rattle.std.specs.Prelude.{◌≡◌, ◌<◌, ◌≤◌, IfErr, OnOk};
 ghost use Rattle.nll_problem.specs.BaseRuns.{AddsRun, IsProper};
 ghost use Rattle.nll_problem.specs.Limits.{most_regions};
-ghost use Rattle.nll_problem.specs.Problem.{IsUniversal};
 ghost use Rattle.nll_rules.specs.Adding.{AddsBases, AddsOutlives, AreOfPoints, AreOfUniversals};
 
 use nll_problem::{BaseRun, BuildError, ProblemBuilder, RegionId};
@@ -17,19 +15,10 @@ pub(crate) fn add_regions(builder: &mut ProblemBuilder, universals: u32, count: 
     ensures { builder.new ≡ record builder.old { regions = count } }
 {
     for number in universals as usize..count {
-        add_region(builder, number);
-    }
-}
-
-// Adds the region of the next number.
-fn add_region(builder: &mut ProblemBuilder, number: usize)
-    requires next { builder.old.regions ≡ number }
-    requires room { number < most_regions }
-    ensures { builder.new ≡ record builder.old { regions = number + 1 } }
-{
-    match builder.region() {
-        Ok(_) => {}
-        Err(_) => unreachable!(),
+        match builder.region() {
+            Ok(_) => {}
+            Err(_) => unreachable!(),
+        }
     }
 }
 
@@ -43,21 +32,8 @@ pub(crate) fn add_outlives(
     ensures err { IfErr result (λ e. e ≡ BuildError.Memory) }
 {
     for fact in facts {
-        add_fact(builder, *fact)?;
+        builder.outlives(RegionId(fact.0), RegionId(fact.1))?;
     }
-    Ok(())
-}
-
-// Adds an outlives fact.
-fn add_fact(builder: &mut ProblemBuilder, fact: (u32, u32)) -> Result<(), BuildError>
-    requires longer { IsUniversal builder.old fact.0 }
-    requires shorter { IsUniversal builder.old fact.1 }
-    ensures ok { OnOk result (AddsFact builder.old.outlives builder.new.outlives fact) }
-    ensures others { builder.new ≡ record builder.old { outlives = builder.new.outlives } }
-    ensures err { IfErr result (λ e. e ≡ BuildError.Memory) }
-{
-    let (longer, shorter) = fact;
-    builder.outlives(RegionId(longer), RegionId(shorter))?;
     Ok(())
 }
 

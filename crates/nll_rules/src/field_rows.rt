@@ -1,15 +1,17 @@
 //! Where the regions of a struct's field are in the row of the struct.
 
-ghost use Rattle.std.specs.Prelude.{◌≡◌, ◌++◌, ℕ, List, OnOk, length, map};
+ghost use Rattle.std.specs.Prelude.{◌≡◌, ◌++◌, ℕ, IfOk, List, OnOk, length, map, option_map};
+ghost use Rattle.nll_types.specs.Declarations.{structs_of};
 ghost use Rattle.nll_types.specs.Rows.{region_row, region_rows};
-ghost use Rattle.nll_types.specs.Structs.{put_in, put_in_all, region_in};
+ghost use Rattle.nll_types.specs.Structs.{field_type, put_in, put_in_all, region_in};
 ghost use Rattle.nll_types.specs.Types.{TypeTrees};
 ghost use Rattle.nll_types.specs.Views.{tree, trees};
 ghost use Rattle.nll_rules.specs.TypeRows.{IsUseRow, argument_row, own_row, row_from};
 
 use nll_problem::RegionId;
 use nll_sets::Memory;
-use nll_types::Ty;
+use nll_types::{Structs, Ty};
+use std::alloc::Global;
 
 /// The row of a use of a struct: the rows of its type arguments, one after another, and then its
 /// region arguments.
@@ -55,17 +57,10 @@ impl<'a> UseRow<'a> {
     }
 }
 
-/// Appends to a template what makes the row of a field's type, as it is declared, of the row of
-/// each use of its struct.
-///
-/// # Cost
-/// Linear in the field's type as it is declared, and in what is appended (not proved).
+// Appends to a template what makes the row of a field's type, as it is declared, of the row of
+// each use of its struct.
 #[cycle(field_rows)]
-pub(crate) fn push_field(
-    ty: &Ty,
-    arguments: &UseRow<'_>,
-    template: &mut Vec<usize>,
-) -> Result<(), Memory>
+fn push_field(ty: &Ty, arguments: &UseRow<'_>, template: &mut Vec<usize>) -> Result<(), Memory>
     ensures { OnOk result ((row rs : List ℕ) (ts : TypeTrees) → IsUseRow arguments.now row rs ts
         → row_from row template.new.items
         ≡ row_from row template.old.items ++ region_row (put_in rs ts (tree ty.now))) }
@@ -121,4 +116,30 @@ fn push_regions(
         template.push(arguments.region(*region))?;
     }
     Ok(())
+}
+
+/// The template of a field of a struct, where it has the field: it makes the field's row of the row
+/// of each use of the struct.
+///
+/// # Cost
+/// Linear in the field's type as it is declared, and in what is made (not proved).
+pub(crate) fn field_template(
+    alloc: Global,
+    structs: &Structs,
+    named: usize,
+    arguments: &UseRow<'_>,
+    place: usize,
+) -> Result<Option<Vec<usize>>, Memory>
+    ensures { IfOk result (λ o. (row rs : List ℕ) (ts : TypeTrees)
+        → IsUseRow arguments.now row rs ts → option_map (λ v. row_from row v.items) o
+        ≡ option_map region_row (field_type (structs_of structs.now) named rs ts place)) }
+{
+    match structs.field(named, place) {
+        Some(ty) => {
+            let mut template = Vec::new(alloc);
+            push_field(ty, arguments, &mut template)?;
+            Ok(Some(template))
+        }
+        None => Ok(None),
+    }
 }

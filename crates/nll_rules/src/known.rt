@@ -1,11 +1,11 @@
 //! What is known of the types of a body.
 
-ghost use Rattle.std.specs.Prelude.{◌≡◌, ◌<◌, ◌↔◌, ℕ, All, Bool, Contains, IfOk, IfSome, List};
-ghost use Rattle.std.specs.Prelude.{MatchOption, OnOk, length, map, option_map, slice_get};
+ghost use Rattle.std.specs.Prelude.{◌≡◌, ◌<◌, ◌↔◌, ℕ, All, Contains, IfOk, IfSome, List};
+ghost use Rattle.std.specs.Prelude.{MatchOption, OnOk, length, map, option_map};
 ghost use Rattle.nll_types.specs.Declarations.{structs_of};
 ghost use Rattle.nll_types.specs.Places.{behind};
 ghost use Rattle.nll_types.specs.Rows.{HasRow, region_row, tree_at};
-ghost use Rattle.nll_types.specs.Shapes.{behind_shape, reference_shape, shape_of};
+ghost use Rattle.nll_types.specs.Shapes.{behind_shape, shape_of};
 ghost use Rattle.nll_types.specs.Structs.{field_type};
 ghost use Rattle.nll_types.specs.Table.{shape_in};
 ghost use Rattle.nll_types.specs.Types.{TypeTree, TypeTrees, named, reference, tuple, type_at};
@@ -13,13 +13,12 @@ ghost use Rattle.nll_types.specs.declared.place.Projection.TheVariants.{Field as
 ghost use Rattle.nll_rules.specs.Knowing.{AsksAt, IsAtHand, IsFieldIn, IsFieldOfUse, IsAvailable};
 ghost use Rattle.nll_rules.specs.Knowing.{IsRightField, IsSameBody, IsTypeOfRow, Learns};
 ghost use Rattle.nll_rules.specs.Pairs.{AddsPairs};
-ghost use Rattle.nll_rules.specs.Subtyping.{SubtypeAsks};
-ghost use Rattle.nll_rules.specs.TypeRows.{form, row_from, row_length};
+ghost use Rattle.nll_rules.specs.TypeRows.{form, row_from};
 
+use crate::field_rows::{UseRow, field_template};
 use crate::fields::{FieldKey, FieldRow, FieldUse};
 use crate::meetings::{Meeting, Pairs};
-use crate::part_rows::{field_template, tuple_part, use_row};
-use crate::reborrow::ask_own;
+use crate::part_rows::tuple_part;
 use crate::row_signs::{SignTable, ask_rows};
 use crate::type_row::{RowLists, TypeRow};
 use indexmap::IndexMap;
@@ -41,11 +40,11 @@ const FEW_REGIONS: usize = 32;
 /// asked that met. Each is found once, while there is room.
 #[derive(Drop)]
 pub(crate) struct Known<'a> {
-    body: TypedBody<'a>,
+    pub(crate) body: TypedBody<'a>,
     shapes: Shapes,
     fields: IndexMap<FieldKey, FieldRow>,
     signs: SignTable,
-    lists: RowLists<'a>,
+    pub(crate) lists: RowLists<'a>,
     uses: IndexMap<FieldUse, TypeRow>,
     asked: IndexMap<Meeting, Pairs>,
     // How many pairs are kept.
@@ -117,7 +116,9 @@ impl<'a> Known<'a> {
             body,
             shapes,
             fields: IndexMap::new(alloc),
-            signs: SignTable::new(alloc),
+            signs: SignTable {
+                known: Vec::new(alloc),
+            },
             lists,
             uses: IndexMap::new(alloc),
             asked: IndexMap::new(alloc),
@@ -147,20 +148,6 @@ impl<'a> Known<'a> {
         self.body.points
     }
 
-    // Makes the signs of a shape, where they aren't known, and answers how many there are.
-    fn learn(&mut self, alloc: Global, shape: usize) -> Result<usize, Memory>
-        requires { shape < length self.old.table }
-        ensures learns { Learns self.old self.new }
-        ensures count { IfOk result (λ n. n ≡ row_length (shape_in self.old.table shape)) }
-    {
-        let structs = self.body.types.table.structs();
-        self.signs.learn(alloc, structs, &self.shapes, shape)?;
-        match self.signs.get(shape) {
-            Some(known) => Ok(known.signs.len()),
-            None => unreachable!(),
-        }
-    }
-
     /// A type that is written, or that of a variable.
     pub(crate) fn written(&mut self, alloc: Global, ty: Typed) -> Result<TypeRow, Memory>
         requires { HasRow self.old.shapes self.old.regions ty }
@@ -170,29 +157,15 @@ impl<'a> Known<'a> {
     {
         // The invariant holds.
         let _ = &self.body;
-        let count = self.learn(alloc, ty.shape)?;
-        Ok(TypeRow {
-            shape: ty.shape,
-            first: ty.first,
-            count,
-        })
-    }
-
-    /// The type of a variable, where it is declared.
-    pub(crate) fn variable(
-        &mut self,
-        alloc: Global,
-        variable: u32,
-    ) -> Result<Option<TypeRow>, Memory>
-        ensures learns { Learns self.old self.new }
-        ensures row { IfOk result (IsAtHand self.new (slice_get self.old.variables variable)) }
-    {
-        match self.body.variables.get(variable as usize).copied() {
-            Some(ty) => {
-                let row = self.written(alloc, ty)?;
-                Ok(Some(row))
-            }
-            None => Ok(None),
+        let structs = self.body.types.table.structs();
+        self.signs.learn(alloc, structs, &self.shapes, ty.shape)?;
+        match self.signs.get(ty.shape) {
+            Some(known) => Ok(TypeRow {
+                shape: ty.shape,
+                first: ty.first,
+                count: known.signs.len(),
+            }),
+            None => unreachable!(),
         }
     }
 
@@ -275,7 +248,14 @@ impl<'a> Known<'a> {
         let structs = self.body.types.table.structs();
         self.signs.learn(alloc, structs, &self.shapes, shape)?;
         let arguments = match self.signs.get(shape) {
-            Some(known) => use_row(known.starts.as_slice(), known.signs.len()),
+            Some(known) => {
+                let starts = known.starts.as_slice();
+                UseRow {
+                    count: known.signs.len(),
+                    starts,
+                    regions: starts.last().copied().unwrap_or(0),
+                }
+            }
             None => unreachable!(),
         };
         let Node::Named(named, _, _) = self.shapes.node(shape) else {
@@ -476,8 +456,8 @@ impl<'a> Known<'a> {
         self.add_pairs(meeting, pairs, asked)
     }
 
-    // Appends what two types ask that meet. Of large types it is found once.
-    fn ask_meeting(
+    /// Appends what two types ask that meet. Of large types it is found once.
+    pub(crate) fn ask_meeting(
         &mut self,
         alloc: Global,
         meeting: Meeting,
@@ -499,47 +479,5 @@ impl<'a> Known<'a> {
             }
             None => self.ask_first(alloc, meeting, asked),
         }
-    }
-
-    /// Appends what two types of one shape ask of which the first must be a subtype of the second.
-    pub(crate) fn ask(
-        &mut self,
-        alloc: Global,
-        one: TypeRow,
-        other: TypeRow,
-        asked: &mut Pairs,
-    ) -> Result<(), Memory>
-        requires one { IsAvailable self.old one }
-        requires other { IsAvailable self.old other }
-        ensures learns { Learns self.old self.new }
-        ensures asked { OnOk result ((t u : TypeTree)
-            → IsTypeOfRow self.old t one → IsTypeOfRow self.old u other → shape_of t ≡ shape_of u
-            → AddsPairs (SubtypeAsks self.old.structs t u) asked.old.items asked.new.items) }
-    {
-        self.ask_meeting(alloc, Meeting { one, other }, asked)
-    }
-
-    /// Appends what a reference of a region, `mut` or not, to a value of the first type asks that
-    /// flows into a value of the second, where the reference has its shape.
-    pub(crate) fn ask_reference(
-        &mut self,
-        alloc: Global,
-        region: RegionId,
-        target: TypeRow,
-        other: TypeRow,
-        asked: &mut Pairs,
-    ) -> Result<(), Memory>
-        requires target { IsAvailable self.old target }
-        requires other { IsAvailable self.old other }
-        ensures learns { Learns self.old self.new }
-        ensures asked { OnOk result ((m : Bool) (t u : TypeTree)
-            → IsTypeOfRow self.old t target → IsTypeOfRow self.old u other
-            → reference_shape m (shape_of t) ≡ shape_of u
-            → AddsPairs (SubtypeAsks self.old.structs (reference region m t) u)
-            asked.old.items asked.new.items) }
-    {
-        let meeting = Meeting { one: target, other };
-        self.ask_meeting(alloc, meeting, asked)?;
-        ask_own(region, self.lists.row(other), asked)
     }
 }

@@ -3,7 +3,7 @@
 //! text.
 //!
 //! Reading order: `sign`, `row_signs`, `type_row`, `field_rows`, `part_rows`, `fields`, `meetings`
-//! say what types at hand are; `reborrow`, `known`, `walk`, `asking` say what a statement asks;
+//! say what types at hand are; `known`, `walk`, `asking` say what a statement asks;
 //! `error`, `body_problem`, `facts`, `constraints`, `laws` put the problem together. The
 //! definitions are in specs/.
 #![tactic(auto)]
@@ -19,7 +19,6 @@ mod known;
 mod laws;
 mod meetings;
 mod part_rows;
-mod reborrow;
 mod row_signs;
 mod sign;
 mod type_row;

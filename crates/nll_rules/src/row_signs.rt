@@ -1,8 +1,8 @@
 //! The signs of the regions in a type's row, which its shape has, and where in a row the rows of
 //! parts are.
 
-ghost use Rattle.std.specs.Prelude.{◌≡◌, ◌<◌, ◌++◌, ◌↔◌, ℕ, [], length, MatchOption};
-ghost use Rattle.std.specs.Prelude.{IfOk, OnOk, Some, slice_get};
+ghost use Rattle.std.specs.Prelude.{◌≡◌, ◌<◌, ◌++◌, ◌↔◌, ℕ, length, MatchOption};
+ghost use Rattle.std.specs.Prelude.{OnOk, Some, slice_get};
 ghost use Rattle.nll_types.specs.Declarations.{structs_of};
 ghost use Rattle.nll_types.specs.Table.{AreBelow, all_at, shape_in, shapes_in};
 ghost use Rattle.nll_types.specs.declared.parameter.Sign.TheVariants.{Covariant, Invariant};
@@ -11,8 +11,7 @@ ghost use Rattle.nll_rules.specs.Positions.{sign_or, times};
 ghost use Rattle.nll_rules.specs.Signs as spec;
 ghost use Rattle.nll_rules.specs.Signs.{RowsAsk, part_sign};
 ghost use Rattle.nll_rules.specs.Subtyping.{IsAsked};
-ghost use Rattle.nll_rules.specs.TypeRows.{AreKnown, AreSigns, AreSignsOf, first_parts};
-ghost use Rattle.nll_rules.specs.TypeRows.{starts_from};
+ghost use Rattle.nll_rules.specs.TypeRows.{AreKnown, AreSigns, first_parts, starts_from};
 ghost use Rattle.nll_rules.specs.declared.row_signs.ShapeSigns.{ShapeSigns as shape_signs};
 
 use crate::meetings::Pairs;
@@ -143,7 +142,7 @@ fn push_signs(
 ) -> Result<(), Memory>
     requires { shape < length shapes.now }
     ensures { OnOk result (signs.new.items ≡ signs.old.items
-        ++ spec.signs (structs_of structs.now) outer (shape_in shapes.now shape)) }
+        ++ spec.row_signs_of (structs_of structs.now) outer (shape_in shapes.now shape)) }
 {
     match shapes.node(shape) {
         Node::Int | Node::Parameter(_) => Ok(()),
@@ -213,7 +212,7 @@ fn push_top(
 ) -> Result<(), Memory>
     requires { shape < length shapes.now }
     ensures signs { OnOk result (made.new.signs.items ≡ made.old.signs.items
-        ++ spec.signs (structs_of structs.now) Covariant (shape_in shapes.now shape)) }
+        ++ spec.row_signs_of (structs_of structs.now) Covariant (shape_in shapes.now shape)) }
     ensures starts { OnOk result (made.new.starts.items ≡ made.old.starts.items
         ++ starts_from (length made.old.signs.items) (first_parts (shape_in shapes.now shape))) }
 {
@@ -240,24 +239,6 @@ fn push_top(
     }
 }
 
-// What is known of a shape.
-fn signs_of(
-    alloc: Global,
-    structs: &Structs,
-    shapes: &Shapes,
-    shape: usize,
-) -> Result<ShapeSigns, Memory>
-    requires { shape < length shapes.now }
-    ensures { IfOk result (AreSignsOf (structs_of structs.now) (shape_in shapes.now shape)) }
-{
-    let mut made = ShapeSigns {
-        signs: Vec::new(alloc),
-        starts: Vec::new(alloc),
-    };
-    push_top(structs, shapes, shape, &mut made)?;
-    Ok(made)
-}
-
 // Lengthens a list of what is known until it has a place for a shape. Nothing more is known.
 fn make_place(known: &mut Vec<Option<ShapeSigns>>, shape: usize) -> Result<(), Memory>
     ensures within { OnOk result (shape < length known.new.items) }
@@ -277,15 +258,6 @@ pub(crate) struct SignTable {
 }
 
 impl SignTable {
-    /// No sign is known.
-    pub(crate) fn new(alloc: Global) -> SignTable
-        ensures { result.known.items ≡ [] }
-    {
-        SignTable {
-            known: Vec::new(alloc),
-        }
-    }
-
     /// What is known of a shape.
     pub(crate) fn get(&self, shape: usize) -> Option<&ShapeSigns>
         ensures found { MatchOption result (AreKnown self.now.known.items shape → ⊥)
@@ -318,7 +290,11 @@ impl SignTable {
             return Ok(());
         }
         make_place(&mut self.known, shape)?;
-        let made = signs_of(alloc, structs, shapes, shape)?;
+        let mut made = ShapeSigns {
+            signs: Vec::new(alloc),
+            starts: Vec::new(alloc),
+        };
+        push_top(structs, shapes, shape, &mut made)?;
         self.known[shape] = Some(made);
         Ok(())
     }

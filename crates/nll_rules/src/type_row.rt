@@ -2,7 +2,7 @@
 
 ghost use Rattle.std.specs.Prelude.{◌≡◌, ◌≤◌, ◌-◌, ◌++◌, ◌∷◌, [], ℕ, IfOk, MatchOption};
 ghost use Rattle.std.specs.Prelude.{OnErr, OnOk, drop, length, take};
-ghost use Rattle.nll_rules.specs.TypeRows.{IsWholeRow, row_of};
+ghost use Rattle.nll_rules.specs.TypeRows.{IsWholeRow, row_in_lists};
 
 use nll_problem::RegionId;
 use nll_sets::Memory;
@@ -26,7 +26,7 @@ pub(crate) struct RowLists<'a> {
 impl<'a> RowLists<'a> {
     // What is from a place on in the list of that place.
     fn from(&self, place: usize) -> &[RegionId]
-        ensures { (n : ℕ) → take n result.now ≡ row_of self.now
+        ensures { (n : ℕ) → take n result.now ≡ row_in_lists self.now
             (record { shape = 0; first = place; count = n }) }
     {
         let body = self.body.len();
@@ -40,7 +40,7 @@ impl<'a> RowLists<'a> {
 
     /// The row of a type.
     pub(crate) fn row(&self, ty: TypeRow) -> &[RegionId]
-        ensures { result.now ≡ row_of self.now ty }
+        ensures { result.now ≡ row_in_lists self.now ty }
     {
         let list = self.from(ty.first);
         &list[..ty.count.min(list.len())]
@@ -49,9 +49,9 @@ impl<'a> RowLists<'a> {
     /// The type of this shape whose row is this part of the row.
     pub(crate) fn slice(&self, ty: TypeRow, from: usize, end: usize, shape: usize) -> TypeRow
         ensures shape { result.shape ≡ shape }
-        ensures row { from ≤ end → end ≤ length (row_of self.now ty)
-            → (row_of self.now result
-            ≡ take (end - from) (drop from (row_of self.now ty)))
+        ensures row { from ≤ end → end ≤ length (row_in_lists self.now ty)
+            → (row_in_lists self.now result
+            ≡ take (end - from) (drop from (row_in_lists self.now ty)))
             × (result.count ≡ end - from) }
     {
         let count = self.row(ty).len();
@@ -66,11 +66,11 @@ impl<'a> RowLists<'a> {
 
     /// The last region of the row, and the type of this shape whose row is what is before it.
     pub(crate) fn split_last(&self, ty: TypeRow, shape: usize) -> Option<(RegionId, TypeRow)>
-        ensures { MatchOption result (row_of self.now ty ≡ [])
+        ensures { MatchOption result (row_in_lists self.now ty ≡ [])
             (λ r. (r.1.shape ≡ shape)
-            × IsWholeRow (row_of self.now r.1) r.1
-            × (row_of self.now ty
-            ≡ row_of self.now r.1 ++ r.0 ∷ [])) }
+            × IsWholeRow (row_in_lists self.now r.1) r.1
+            × (row_in_lists self.now ty
+            ≡ row_in_lists self.now r.1 ++ r.0 ∷ [])) }
     {
         let row = self.row(ty);
         let count = row.len();
@@ -88,7 +88,7 @@ impl<'a> RowLists<'a> {
         ensures err { OnErr result (self.new.made.items ≡ self.old.made.items) }
         ensures shape { IfOk result (λ r. r.shape ≡ shape) }
         ensures row { IfOk result (λ r. (r.count ≡ length row.now)
-            × (row_of self.new r ≡ row.now)) }
+            × (row_in_lists self.new r ≡ row.now)) }
     {
         let first = self.body.len() + self.made.len();
         self.made.extend_from_slice(row)?;

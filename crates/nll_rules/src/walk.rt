@@ -1,6 +1,6 @@
 //! The types of places, and the references on which a reborrow of a place rests.
 
-ghost use Rattle.std.specs.Prelude.{◌≡◌, ◌↔◌, ◌<◌, ℕ, length, Contains, IfOk, OnOk};
+ghost use Rattle.std.specs.Prelude.{◌≡◌, ◌↔◌, ◌<◌, ℕ, length, slice_get, Contains, IfOk, OnOk};
 ghost use Rattle.nll_types.specs.Places.{behind, type_of};
 ghost use Rattle.nll_types.specs.Types.{TypeTree};
 ghost use Rattle.nll_body.specs.Flat.{path_in};
@@ -16,6 +16,20 @@ use nll_types::Projection;
 use std::alloc::Global;
 
 impl<'a> Known<'a> {
+    // The type of a variable, where it is declared.
+    fn variable(&mut self, alloc: Global, variable: u32) -> Result<Option<TypeRow>, Memory>
+        ensures learns { Learns self.old self.new }
+        ensures row { IfOk result (IsAtHand self.new (slice_get self.old.variables variable)) }
+    {
+        match self.body.variables.get(variable as usize).copied() {
+            Some(ty) => {
+                let row = self.written(alloc, ty)?;
+                Ok(Some(row))
+            }
+            None => Ok(None),
+        }
+    }
+
     // Takes one projection from a type. A dereference goes through a reference: behind a shared one
     // nothing rests on what was before.
     fn step(

@@ -1,5 +1,5 @@
 -- The outcome of a run of the regions' parts, in the words of regions.
-use Rattle.std.proofs.Common.{◌≡◌, ◌↔◌, ℕ, ◌<◌, Bool, List, [], Result, Ok, Err, IfOk, arith}
+use Rattle.std.proofs.Common.{◌↔◌, ℕ, Bool, List, [], arith}
 use Rattle.std.proofs.lemmas.Option.{slice_get-get_or}
 use Rattle.mail.specs.declared.mail.Mail as Mail
 use Rattle.run.specs.Outcome as generic
@@ -9,14 +9,14 @@ use Rattle.nll_cut.specs.Partition.{Cut, owner_of}
 use Rattle.nll_mail.specs.declared.growth.Growth.{Growth}
 use Rattle.nll_owner.specs.Holding.{Holding}
 use Rattle.nll_owner.specs.Logs.{IsTold, log_of, part}
-use Rattle.nll_owner.specs.Regions.{Yields, system_of, fact_of, rules}
+use Rattle.nll_owner.specs.Regions.{YieldsValues, system_of, fact_of, rules}
 use Rattle.nll_owner.proofs.RegionLemmas.{same_least, told_to, told_from, sound_from}
 use Rattle.nll_run.specs.Holdings.{HaveValuesOf, holding_of}
-use Rattle.nll_run.specs.Outcome.{IsOutcome, SayLeast}
+use Rattle.nll_run.specs.Outcome.{IsRunOutcome, SayLeast}
 
 module _ {M S R C P : Type 0} (mail : Mail.Ghosts M Growth S R C P) (q : Problem) (c : Cut)
     (logs : List (List Growth)) (holdings : List Holding) (posts : List P)
-    (o : generic.IsOutcome rules Yields mail (system_of q c) logs holdings posts) where
+    (o : generic.IsOutcome rules YieldsValues mail (system_of q c) logs holdings posts) where
   pub have_values : HaveValuesOf q c logs holdings
   have_values = record {
     logs_counted = o.sound.counted;
@@ -35,7 +35,7 @@ module _ {M S R C P : Type 0} (mail : Mail.Ghosts M Growth S R C P) (q : Problem
 
   pub is_outcome : (values : List (List Bool)) → IsShaped q values
       → ((r e : ℕ) → IsHeld values r e ↔ IsTold (log_of logs (owner_of c r)) r e)
-      → IsOutcome mail q c values logs posts
+      → IsRunOutcome mail q c values logs posts
   is_outcome values shaped held = record {
     delivered = record {
       pairs = o.delivered.pairs;
@@ -56,8 +56,3 @@ module _ {M S R C P : Type 0} (mail : Mail.Ghosts M Growth S R C P) (q : Problem
     );
     logged = say_least;
   }
-
--- what is true is true of what an Ok holds
-pub if_ok : {T E : Type 0} {P : Type 0} (r : Result T E) → P → IfOk r (λ _. P)
-if_ok (Ok x) p = p
-if_ok (Err e) p = tt

@@ -7,12 +7,12 @@ use Rattle.nll_core.specs.Values.{IsHeld, IsShaped}
 use Rattle.nll_cut.specs.Partition.{Cut, owner_of}
 use Rattle.nll_mail.specs.declared.growth.Growth.{Growth}
 use Rattle.mail.specs.declared.mail.Mail as Mail
-use Rattle.nll_owner.specs.Logs.{AreSound, IsTold, log_of, part}
+use Rattle.nll_owner.specs.Logs.{AreSoundLogs, IsTold, log_of, part}
 use Rattle.run.specs.Delivery.{IsPair, IsPairBefore}
 
 -- There is a settled mailbox for each ordered pair of owners, and no other; what was sent through
 -- it is the part of the sender's log that the receiver reads; and all of it was received.
-pub record AreDelivered {P : Type 0} (ends : P → ℕ × ℕ) (sent received : P → List Growth)
+pub record AreGrowthsDelivered {P : Type 0} (ends : P → ℕ × ℕ) (sent received : P → List Growth)
     (q : Problem) (c : Cut) (logs : List (List Growth)) (posts : List P) : Type 0 where
   pub pairs : (pair : ℕ × ℕ) → Contains (map ends posts) pair ↔ IsPair c.owners pair
   pub whole_part :
@@ -26,8 +26,8 @@ SayLeast q c logs =
 
 -- the growth's rank is one above that of a growth which is in the log of owner i, or in what i
 -- received from another
-abbrev pub ComesNext : Problem → Cut → List (List Growth) → ℕ → Growth → Type 0
-ComesNext q c grown i g =
+abbrev pub RanksNext : Problem → Cut → List (List Growth) → ℕ → Growth → Type 0
+RanksNext q c grown i g =
     (h : Growth)
     × (Contains (log_of grown i) h
     ⊎ ((j : ℕ) × (j < c.owners) × (j ≢ i) × Contains (part q c i (log_of grown j)) h))
@@ -39,21 +39,22 @@ ComesNext q c grown i g =
 pub record AreRanked (q : Problem) (c : Cut) (grown : List (List Growth)) : Type 0 where
   pub next :
       (i : ℕ) (g : Growth) → i < c.owners → Contains (log_of grown i) g → 1 < g.rank
-      → ComesNext q c grown i g
+      → RanksNext q c grown i g
   pub low : (i : ℕ) (g : Growth) → i < c.owners → Contains (log_of grown i) g → g.rank < 2 ^ 37
 
 -- Each owner received from each other exactly the growths of the regions that it reads, once each
 -- and in the order in which they grew, and none was left in a mailbox. The values are the least.
-pub record IsOutcome {M S R C P : Type 0} (mail : Mail.Ghosts M Growth S R C P) (q : Problem)
+pub record IsRunOutcome {M S R C P : Type 0} (mail : Mail.Ghosts M Growth S R C P) (q : Problem)
     (c : Cut) (values : List (List Bool)) (grown : List (List Growth)) (posts : List P)
     : Type 0 where
   -- a settled mailbox for each ordered pair of different owners, and no other, by sender and then
   -- by receiver; the sender's part for the receiver was sent through it, and all of it was received
-  pub delivered : AreDelivered mail.post_ends mail.post_sent mail.post_received q c grown posts
+  pub delivered : AreGrowthsDelivered mail.post_ends mail.post_sent mail.post_received q c grown
+      posts
   pub in_order : AllPairs IsPairBefore (map mail.post_ends posts)
   pub none_left : (p : P) → Contains posts p → mail.post_rest p ≡ []
   -- each owner's log is well-formed, and well-supported by it and what the owner received
-  pub sound : AreSound q c grown (λ i j. part q c i (log_of grown j))
+  pub sound : AreSoundLogs q c grown (λ i j. part q c i (log_of grown j))
   -- no rank is left out, and none reaches 2^37
   pub ranked : AreRanked q c grown
   -- the values are the least, and the log of each region's owner says the same

@@ -1,13 +1,12 @@
 //! One run, from the problem to its outcome.
 
-ghost use Rattle.std.specs.Prelude.{◌≡◌, ◌<◌, ℕ, Bool, true, length, map, Err, IfOk, Ok, OnErr};
+ghost use Rattle.std.specs.Prelude.{◌≡◌, ◌<◌, ℕ, Bool, true, length, map, Err, IfOk, Ok};
 ghost use Rattle.nll_owner.specs.Logs.{IsCutOf};
-ghost use Rattle.nll_owner.specs.Regions.{Yields, rules, system_of};
-ghost use Rattle.nll_owner.specs.Tables.{AreTables};
+ghost use Rattle.nll_owner.specs.Regions.{YieldsValues, rules, system_of};
 ghost use Rattle.nll_problem.specs.Problem.{IsSound};
-ghost use Rattle.nll_run.specs.Outcome.{IsOutcome};
+ghost use Rattle.nll_run.specs.Outcome.{IsRunOutcome};
 ghost use Rattle.run.specs.Outcome as generic;
-ghost use Rattle.run.specs.declared.error.RunError.TheVariants.{Thread, Memory};
+ghost use Rattle.run.specs.declared.error.RunError.TheVariants.{Thread};
 
 use crate::outcome::Outcome;
 use crate::values::values_of;
@@ -47,7 +46,7 @@ pub fn run<M: ThreadMail<Growth>, L: ThreadLedger, G: ThreadGate, R: Threads + W
     gate: &G,
 ) -> Result<Outcome<M::Post>, RunError>
     requires { length cut.now.list ≡ problem.now.regions }
-    ensures ok { IfOk result (λ o. IsOutcome M.Mail problem.now cut.now o.values
+    ensures ok { IfOk result (λ o. IsRunOutcome M.Mail problem.now cut.now o.values
         (map (λ list. list.items) o.grown.items) o.posts.items) }
 {
     let permit = AlwaysStart;
@@ -79,7 +78,7 @@ pub fn run_with<
     permit: &P,
 ) -> Result<Outcome<M::Post>, RunError>
     requires { length cut.now.list ≡ problem.now.regions }
-    ensures ok { IfOk result (λ o. IsOutcome M.Mail problem.now cut.now o.values
+    ensures ok { IfOk result (λ o. IsRunOutcome M.Mail problem.now cut.now o.values
         (map (λ list. list.items) o.grown.items) o.posts.items) }
     ensures permitted { IfOk result (λ _. (owner : ℕ) → owner < cut.now.owners
         → P.permits permit.now owner true) }
@@ -98,7 +97,8 @@ pub fn run_with<
     outcome
 }
 
-// What comes of a run, by what came of its parts.
+// What comes of a run, by what came of its parts: the values are taken out of what the owners gave
+// up.
 fn conclude<M: ThreadMail<Growth>>(
     alloc: Global,
     problem: &Problem,
@@ -107,40 +107,19 @@ fn conclude<M: ThreadMail<Growth>>(
 ) -> Result<Outcome<M::Post>, RunError>
     requires problem { IsSound problem.now }
     requires cut { IsCutOf problem.now cut.now }
-    requires ran { IfOk ran (λ o. generic.IsOutcome rules Yields M.Mail
+    requires ran { IfOk ran (λ o. generic.IsOutcome rules YieldsValues M.Mail
         (system_of problem.now cut.now) (map (λ list. list.items) o.grown.items) o.yields.items
         o.posts.items) }
-    ensures ok { IfOk result (λ o. IsOutcome M.Mail problem.now cut.now o.values
+    ensures ok { IfOk result (λ o. IsRunOutcome M.Mail problem.now cut.now o.values
         (map (λ list. list.items) o.grown.items) o.posts.items) }
     ensures ran { IfOk result (λ _. (o : _) × (ran.entry ≡ Ok o)) }
     ensures thread { result ≡ Err Thread → ran.entry ≡ Err Thread }
-{
-    match ran {
-        Ok(outcome) => assemble::<M>(alloc, problem, cut, outcome),
-        Err(error) => Err(error),
-    }
-}
-
-// Takes the values out of what the owners gave up.
-fn assemble<M: ThreadMail<Growth>>(
-    alloc: Global,
-    problem: &Problem,
-    cut: &Cut,
-    outcome: RunOfParts<Regions<'_>, M::Post>,
-) -> Result<Outcome<M::Post>, RunError>
-    requires problem { IsSound problem.now }
-    requires cut { IsCutOf problem.now cut.now }
-    requires outcome { generic.IsOutcome rules Yields M.Mail (system_of problem.now cut.now)
-        (map (λ list. list.items) outcome.grown.items) outcome.yields.items outcome.posts.items }
-    ensures ok { IfOk result (λ o. IsOutcome M.Mail problem.now cut.now o.values
-        (map (λ list. list.items) o.grown.items) o.posts.items) }
-    ensures memory { OnErr result (result ≡ Err Memory) }
 {
     let RunOfParts {
         yields,
         grown,
         posts,
-    } = outcome;
+    } = ran?;
     let mut holdings = yields;
     let values = values_of(alloc, problem, cut, &mut holdings);
     drop(holdings);

@@ -1,6 +1,6 @@
 //! What is judged where types meet in a statement.
 ghost use Rattle.std.specs.Prelude.{◌≡◌, ◌<◌, ◌∷◌, [], ℕ, IfOk, length};
-ghost use Rattle.nll_types.specs.Rows.{numbers_of};
+ghost use Rattle.nll_types.specs.Rows.{shape_numbers};
 ghost use Rattle.nll_types.specs.Table.{AreBelow};
 ghost use Rattle.nll_body.specs.Flat.{statement_in};
 ghost use Rattle.nll_body.specs.Statements.{types_written};
@@ -66,7 +66,7 @@ fn add_meeting(
     place: Place,
 ) -> Result<Stmt, Memory>
     ensures { IfOk result (λ s. (n : ℕ) → first.shape < n
-        → AreBelow n (numbers_of (types_written (statement_in statements.new s)))) }
+        → AreBelow n (shape_numbers (types_written (statement_in statements.new s)))) }
 {
     let whole = Place::Whole(0);
     match meeting {

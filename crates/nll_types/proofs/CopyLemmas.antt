@@ -16,10 +16,7 @@ alike : (known : List Shape) (m n : Node) → derived.by_variants m n
     → (shape_over known n ≡ shape_over known m) × (parts_of n ≡ parts_of m)
 alike known nodes.Int nodes.Int h = (refl, refl)
 alike known (nodes.Parameter i) (nodes.Parameter j) h = (let e : j ≡ i = h in (cc, refl))
-alike known (nodes.Reference a i) (nodes.Reference b j) h =
-    let e : b ≡ a = h.0 in
-    let f : j ≡ i = h.1 in
-    (cc, cc)
+alike known (nodes.Reference a i) (nodes.Reference b j) h = grind arith
 alike known (nodes.Tuple a) (nodes.Tuple b) h =
     let e : b.items ≡ a.items = each_same a.items b.items h.0 in
     (cc, e)
@@ -55,10 +52,7 @@ module _ (ns ms : List Node) (copies : AllZip derived.by_variants ns ms) where
             let here = AllZip-get_or derived.by_variants ns ms i nodes.Int nodes.Int copies (omega arith) in
             subst (λ (ps : List ℕ). (k : ℕ) → k < length ps → slice_index ps k < i) (sym (alike [] _ _ here).1)
             (h.table i (omega arith));
-        one = λ i j a b e.
-            let same = ap (λ (known : List Shape). at known i) (sym copied_shapes) ∙ e
-            ∙ ap (λ (known : List Shape). at known j) copied_shapes in
-            h.one i j (omega arith) (omega arith) same;
+        one = grind (arith, copied_shapes);
         counted = h.counted ∙ l;
         measured = λ i b. h.measured i (omega arith)
             ∙ ap (λ (known : List Shape). min (most_nodes + 1) (shape_nodes (at known i))) (sym copied_shapes);

@@ -22,25 +22,11 @@ abbrev OwnSources : Struct → List ℕ → TypeTrees → ℕ → Type 0
 OwnSources d rs ts r = (d.has_drop ≡ true) × (IsKeptRegion d.regions rs ts r ⊎ IsInKept d.types rs ts r)
 
 own_to : (d : Struct) (rs : List ℕ) (ts : TypeTrees) (r : ℕ) → IsOwnDropRegion d rs ts r → OwnSources d rs ts r
-own_to d rs ts r o = (
-  o.0,
-  ⊎_elim
-      (λ h. inl (h.0, h.2, get_or_from_slice_get rs h.0 r 0 h.1))
-      (λ h. inr (h.0, h.3, subst (λ z. HasRegion z r) (sym (argument_there ts h.0 h.1 h.2)) h.4)) o.1,
-)
+own_to d rs ts r o = grind (arith, get_or_from_slice_get, argument_there)
 
 own_from : (d : Struct) (rs : List ℕ) (ts : TypeTrees) (r : ℕ) → length rs ≡ length d.regions → OwnSources d rs ts r
     → IsOwnDropRegion d rs ts r
-own_from d rs ts r count o = (
-  o.0,
-  ⊎_elim
-      (λ h. let l : h.0 < length rs = (let k = h.1 in let m = slice_get_within d.regions h.0 k.0 k.1 in omega arith) in
-      inl (h.0, slice_get-get_or rs h.0 0 l ∙ ap Some h.2, h.1))
-      (λ h. ⊎_elim
-      (λ e. inr (h.0, argument ts h.0, e, h.1, h.2))
-      (λ e. absurd (subst (λ z. HasRegion z r) e h.2))
-      (argument_cases ts h.0)) o.1,
-)
+own_from d rs ts r count o = grind (arith, slice_get_within, slice_get-get_or, argument_cases)
 
 -- ---- a struct
 

@@ -50,11 +50,7 @@ pub drop_of_named : (structs : List Struct) (s : ℕ) (rs : List ℕ) (ts : Type
     → IsDropRegion structs (named s rs ts) r
     → IsOwnDropRegion (struct_at structs s) rs ts r
     ⊎ ((k : ℕ) × (u : TypeTree) × (field_type structs s rs ts k ≡ Some u) × IsDropRegion structs u r)
-drop_of_named structs s rs ts r ([], n, qs, us, l, o) = inl
-    (let en : n ≡ s = cc in let eq : qs ≡ rs = cc in let eu : us ≡ ts = cc in
-    subst (λ z. IsOwnDropRegion (struct_at structs z) rs ts r) en
-    (subst (λ z. IsOwnDropRegion (struct_at structs n) z ts r) eq
-    (subst (λ z. IsOwnDropRegion (struct_at structs n) qs z r) eu o)))
+drop_of_named structs s rs ts r ([], n, qs, us, l, o) = grind arith
 drop_of_named structs s rs ts r (x ∷ way, n, qs, us, (d, l), o) = inr (d.0, x, d.1, (way, n, qs, us, l, o))
 
 -- ---- what lists of sources have got
@@ -192,10 +188,7 @@ below_all structs get wanted n a b within x = adds_as structs _ _ a b
 argument_wanted : (structs : List Struct) (rs : List ℕ) (ts us : TypeTrees) (k r : ℕ)
     → HasRegion (argument (put_in_all rs ts us) k) r
     → (u : TypeTree) × (type_at us k ≡ Some u) × HasRegion (put_in rs ts u) r
-argument_wanted structs rs ts us k r h =
-    let i = subst (λ z. HasRegion z r) (argument_put rs ts us k) h in
-    ⊎_elim (λ e. (argument us k, e, i)) (λ e. absurd (subst (λ z. HasRegion (put_in rs ts z) r) e i))
-    (argument_cases us k)
+argument_wanted structs rs ts us k r h = grind (arith, argument_put, argument_cases)
 
 argument_dropped : (structs : List Struct) (rs : List ℕ) (ts us : TypeTrees) (k r : ℕ)
     → IsDropRegion structs (argument (put_in_all rs ts us) k) r

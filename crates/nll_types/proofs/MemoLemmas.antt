@@ -19,12 +19,7 @@ and_true true b h = (refl, h)
 and_true false b h = absurd (let e : false ≡ true = h in cc)
 
 pub same_use : (x y : FieldUse) → (derived.eq-value).it x y ≡ true → x ≡ y
-same_use x y h =
-    let e = and_true (x.shape == y.shape) (x.place == y.place) h in
-    let a : x.shape ≡ y.shape = eqb-true x.shape y.shape e.0 in
-    let b : x.place ≡ y.place = eqb-true x.place y.place e.1 in
-    ap (λ (n : ℕ). let f : FieldUse = record { shape = n; place = x.place } in f) a
-    ∙ ap (λ (n : ℕ). let f : FieldUse = record { shape = y.shape; place = n } in f) b
+same_use x y h = grind (arith, and_true, eqb-true)
 
 -- also where the table has grown
 pub remembered_stay : (structs : List Struct) (old new : List Node) (fields : List (FieldUse × ℕ))

@@ -2,7 +2,7 @@
 use Rattle.std.proofs.Common.{◌≡◌, ℕ, zero, suc, ◌<◌, List, [], ◌∷◌, length, map, get_or, refl, ◌∙◌, arith, Some}
 use Rattle.std.specs.Prelude.{slice_get}
 use Rattle.nll_types.specs.Types.{TypeTree}
-use Rattle.nll_types.specs.Rows.{numbers_of}
+use Rattle.nll_types.specs.Rows.{shape_numbers}
 use Rattle.nll_types.specs.Shapes.{shape_of}
 use Rattle.nll_types.specs.Table.{Extends, AreBelow, shape_in}
 use Rattle.nll_types.specs.Tables.{HaveShapes}
@@ -37,7 +37,7 @@ shape_later old new i t e b h = e.kept i b ∙ h
 abbrev pub no_variable : Typed
 no_variable = record { shape = 0; first = 0 }
 
-pub variable_below : (n : ℕ) (vs : List Typed) (k : ℕ) → AreBelow n (numbers_of vs) → k < length vs
+pub variable_below : (n : ℕ) (vs : List Typed) (k : ℕ) → AreBelow n (shape_numbers vs) → k < length vs
     → (get_or vs k no_variable).shape < n
 variable_below n [] k b l = absurd (omega arith)
 variable_below n (v ∷ vs) zero b l = b 0 (omega arith)
@@ -45,15 +45,15 @@ variable_below n (v ∷ vs) (suc k) b l = variable_below n vs k (λ j m. b (suc 
 
 -- a variable has a type, and the type has the variable's shape
 pub variable_there : (ns : List Node) (vs : List Typed) (ts : List TypeTree) (k : ℕ)
-    → HaveShapes ns (numbers_of vs) ts → k < length vs
+    → HaveShapes ns (shape_numbers vs) ts → k < length vs
     → (t : TypeTree) × (slice_get ts k ≡ Some t) × (shape_in ns (get_or vs k no_variable).shape ≡ shape_of t)
 variable_there ns [] ts k h l = absurd (omega arith)
 variable_there ns (v ∷ vs) [] k h l =
-    absurd (let z : shape_in ns v.shape ∷ map (shape_in ns) (numbers_of vs) ≡ [] = h in cc)
+    absurd (let z : shape_in ns v.shape ∷ map (shape_in ns) (shape_numbers vs) ≡ [] = h in cc)
 variable_there ns (v ∷ vs) (t ∷ ts) zero h l =
-    let z : shape_in ns v.shape ∷ map (shape_in ns) (numbers_of vs) ≡ shape_of t ∷ map shape_of ts = h in
+    let z : shape_in ns v.shape ∷ map (shape_in ns) (shape_numbers vs) ≡ shape_of t ∷ map shape_of ts = h in
     (t, refl, cc)
 variable_there ns (v ∷ vs) (t ∷ ts) (suc k) h l =
-    let z : shape_in ns v.shape ∷ map (shape_in ns) (numbers_of vs) ≡ shape_of t ∷ map shape_of ts = h in
-    let rest : map (shape_in ns) (numbers_of vs) ≡ map shape_of ts = cc in
+    let z : shape_in ns v.shape ∷ map (shape_in ns) (shape_numbers vs) ≡ shape_of t ∷ map shape_of ts = h in
+    let rest : map (shape_in ns) (shape_numbers vs) ≡ map shape_of ts = cc in
     variable_there ns vs ts k rest (omega arith)

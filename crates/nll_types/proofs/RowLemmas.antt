@@ -10,7 +10,7 @@ use Rattle.nll_types.specs.Structs.{Struct, IsWellFormed, AreWellFormed}
 use Rattle.nll_types.specs.Shapes.{Shape, shape_of, shapes_of}
 use Rattle.nll_types.specs.Table.{Extends, AreBelow}
 use Rattle.nll_types.specs.Tables.{HaveShapes}
-use Rattle.nll_types.specs.Rows.{region_row, region_rows, filled, all_filled, tree_at, IsTyped, HasRow, numbers_of}
+use Rattle.nll_types.specs.Rows.{region_row, region_rows, filled, all_filled, tree_at, IsTyped, HasRow, shape_numbers}
 use Rattle.nll_types.specs.declared.node.Node.{Node}
 use Rattle.nll_types.specs.declared.typed.Typed.{Typed}
 
@@ -64,14 +64,14 @@ module _ (ns : List Node) (regions : List ℕ) where
 
   -- the shapes of types that have rows
   pub have_shapes : (vs : List Typed) → All (HasRow ns regions) vs
-      → HaveShapes ns (numbers_of vs) (map (tree_at ns regions) vs)
+      → HaveShapes ns (shape_numbers vs) (map (tree_at ns regions) vs)
   have_shapes [] h = refl
   have_shapes (v ∷ vs) h =
       let here = (h 0 v (omega arith)).shape in
       let rest = have_shapes vs (λ k d l. h (suc k) d (omega arith)) in
       cc
 
-  pub below_rows : (vs : List Typed) → All (HasRow ns regions) vs → AreBelow (length ns) (numbers_of vs)
+  pub below_rows : (vs : List Typed) → All (HasRow ns regions) vs → AreBelow (length ns) (shape_numbers vs)
   below_rows [] h k l = absurd (omega arith)
   below_rows (v ∷ vs) h zero l = (h 0 v (omega arith)).within
   below_rows (v ∷ vs) h (suc k) l = below_rows vs (λ j d m. h (suc j) d (omega arith)) k (omega arith)

@@ -27,30 +27,18 @@ argument_past known (x ∷ is) zero h = absurd (omega arith)
 argument_past known (x ∷ is) (suc i) h = argument_past known is i (omega arith)
 
 pub extends_same : (a : List Node) → Extends a a
-extends_same a = record {
-  longer = omega arith;
-  kept = λ i l. refl;
-}
+extends_same a = grind arith
 
 pub extends_then : (a b c : List Node) → Extends a b → Extends b c → Extends a c
-extends_then a b c x y = record {
-  longer = (let p = x.longer in let q = y.longer in omega arith);
-  kept = λ i h. y.kept i (let p = x.longer in omega arith) ∙ x.kept i h;
-}
+extends_then a b c x y = grind arith
 
 -- a table that stays as it is
 pub grows_same : (t : Tables) → AddsShapes t t
-grows_same t = record {
-  structs = refl;
-  extends = extends_same t.shapes;
-}
+grows_same t = grind (arith, extends_same)
 
 -- a table that grows twice
 pub grows_then : (a b c : Tables) → AddsShapes a b → AddsShapes b c → AddsShapes a c
-grows_then a b c x y = record {
-  structs = y.structs ∙ x.structs;
-  extends = extends_then a.shapes b.shapes c.shapes x.extends y.extends;
-}
+grows_then a b c x y = grind (arith, extends_then)
 
 pub below_more : (m n : ℕ) (is : List ℕ) → m ≤ n → AreBelow m is → AreBelow n is
 below_more m n is h b = λ k l. (let x = b k l in omega arith)

@@ -95,11 +95,7 @@ at_node ns table i h =
     (at_from [] ns (λ j b. subst (λ (z : ℕ). IsOver z (get_or ns j nodes.Int)) (omega arith) (table j b)) i h)
 
 pub extends_push : (ns : List Node) (n : Node) → Extends ns (ns ++ n ∷ [])
-extends_push ns n = record {
-  longer = omega (arith, length-append ns (n ∷ []));
-  kept = λ i h. rw (shapes_push [] ns n)
-      (get_or_append_left (shapes_in ns) (shape_over (shapes_in ns) n ∷ []) int i (omega (arith, length_from [] ns)));
-}
+extends_push ns n = grind (arith, length-append, shapes_push, get_or_append_left, length_from)
 
 pub extends_same : (ns : List Node) → Extends ns ns
 extends_same ns = record { longer = omega arith; kept = λ i h. refl }
@@ -229,12 +225,7 @@ pub kept_push : (ns : List Node) (counts : List ℕ) (n : Node) → IsShapeTable
 kept_push ns counts n kept one over = record {
   one = one;
   table = table_push ns n kept.table over;
-  counted =
-      (let c = kept.counted in omega (
-        arith,
-        length-append ns (n ∷ []),
-        length-append counts (size_over counts n ∷ []),
-      ));
+  counted = grind (arith, length-append);
   measured = λ i h. ⊎_elim
       (λ b. get_or_append_left counts (size_over counts n ∷ []) 0 i (let c = kept.counted in omega arith)
       ∙ kept.measured i b ∙ ap (λ (s : Shape). min (most_nodes + 1) (count_nodes s))

@@ -71,11 +71,7 @@ pub record IsOnWay (structs : List Struct) (first now : List Node) (ps : List Pr
 
 pub way_starts : (structs : List Struct) (first : List Node) (ps : List Projection) (from : ℕ) → from < length first
     → IsOnWay structs first first ps 0 from from true
-way_starts structs first ps from h = record {
-  within = h;
-  same = refl;
-  told = refl;
-}
+way_starts structs first ps from h = grind arith
 
 next_is : (ps : List Projection) (n : ℕ) (d : Projection) → n < length ps → drop n ps ≡ get_or ps n d ∷ drop (n + 1) ps
 next_is ps n d l =
@@ -96,10 +92,7 @@ step_shapes structs ps n d s o l e =
 step_small : (structs : List Struct) (ps : List Projection) (n : ℕ) (d : Projection) (s u : Shape) → n < length ps
     → Some u ≡ behind_shape structs (get_or ps n d) s
     → small_shapes structs (drop n ps) s ≡ (is_small_shape s && small_shapes structs (drop (n + 1) ps) u)
-step_small structs ps n d s u l e =
-    ap (λ (z : List Projection). small_shapes structs z s) (next_is ps n d l)
-    ∙ ap (λ (o : Option Shape). is_small_shape s && unwrap_or
-    (option_map (small_shapes structs (drop (n + 1) ps)) o) true) (sym e)
+step_small structs ps n d s u l e = grind (arith, next_is)
 
 -- one projection more is taken
 pub way_on : (structs : List Struct) (first now next : List Node) (ps : List Projection) (n from number m : ℕ)
@@ -110,10 +103,7 @@ pub way_on : (structs : List Struct) (first now next : List Node) (ps : List Pro
 way_on structs first now next ps n from number m d small l way within to = record {
   within = within;
   same = way.same ∙ step_shapes structs ps n d (shape_in now number) (Some (shape_in next m)) l to;
-  told = way.told ∙ ap (λ (b : Bool). small && b)
-      (step_small structs ps n d (shape_in now number) (shape_in next m) l to)
-      ∙ and_assoc small (is_small_shape (shape_in now number))
-      (small_shapes structs (drop (n + 1) ps) (shape_in next m));
+  told = grind (arith, step_small, and_assoc);
 }
 
 -- no type is behind the next projection
@@ -123,9 +113,7 @@ pub way_ends : (structs : List Struct) (first now : List Node) (ps : List Projec
     → None ≡ behind_shape structs (get_or ps n d) (shape_in now number)
     → shape_of t ≡ shape_in first from → None ≡ option_map shape_of (behind_all structs ps t)
 way_ends structs first now ps n from number d small t l way ends e =
-    sym (behind_all_agrees structs ps t ∙ ap (behind_shapes structs ps) e ∙ way.same
-    ∙ ap (λ (z : List Projection). behind_shapes structs z (shape_in now number)) (drop-cons ps n d l)
-    ∙ ap (option_and_then (behind_shapes structs (drop (suc n) ps))) (sym ends))
+    grind (arith, behind_all_agrees, drop-cons)
 
 -- all projections are taken
 pub way_at : (structs : List Struct) (first now : List Node) (ps : List Projection) (n from number : ℕ) (small : Bool)

@@ -4,7 +4,7 @@ use Rattle.std.specs.Prelude.{◌≡◌, ◌⊎◌, ℕ, suc, Bool, IsTrue, List
 use Rattle.std.specs.Prelude.{Some}
 use Rattle.nll_types.specs.Types.{TypeTrees, HasRegion}
 use Rattle.nll_types.specs.Structs.{region_in, argument}
-use Rattle.nll_types.specs.DropRegions.{IsKept}
+use Rattle.nll_types.specs.DropRegions.{MustHoldAtDrop}
 use Rattle.nll_types.specs.declared.parameter.Parameter.{Parameter}
 use Rattle.nll_types.specs.declared.source.Source.{Source}
 use Rattle.nll_types.specs.declared.source.Source.TheVariants.{Region, AnyOf, DropOf}
@@ -21,11 +21,11 @@ IsSourceRegion sources qs rs ts r =
 
 -- r is the argument for a region parameter that isn't marked
 abbrev pub IsKeptRegion : List Parameter → List ℕ → TypeTrees → ℕ → Type 0
-IsKeptRegion parameters rs ts r = (k : ℕ) × IsKept parameters k × (region_in rs (suc k) ≡ r)
+IsKeptRegion parameters rs ts r = (k : ℕ) × MustHoldAtDrop parameters k × (region_in rs (suc k) ≡ r)
 
 -- r is written in the argument for a type parameter that isn't marked
 abbrev pub IsInKept : List Parameter → List ℕ → TypeTrees → ℕ → Type 0
-IsInKept parameters rs ts r = (k : ℕ) × IsKept parameters k × HasRegion (argument ts k) r
+IsInKept parameters rs ts r = (k : ℕ) × MustHoldAtDrop parameters k × HasRegion (argument ts k) r
 
 -- the regions of argument k of a struct with these sources are required
 abbrev pub WantsWritten : List Source → Bool → Bool → ℕ → Type 0

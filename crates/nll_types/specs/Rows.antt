@@ -69,5 +69,5 @@ abbrev pub HasRow : List Node → List ℕ → Typed → Type 0
 HasRow ns regions v = IsTyped ns regions v (tree_at ns regions v)
 
 -- the numbers of the shapes of types
-abbrev pub numbers_of : List Typed → List ℕ
-numbers_of vs = map (λ v. v.shape) vs
+abbrev pub shape_numbers : List Typed → List ℕ
+shape_numbers vs = map (λ v. v.shape) vs

@@ -2,7 +2,7 @@
 
 ghost use Rattle.std.specs.Prelude.{◌≡◌, ◌<◌, ◌-◌, ◌^◌, ◌↔◌, ◌++◌, ◌∷◌, [], List, IsTrue};
 ghost use Rattle.std.specs.Prelude.{OnOk, IfOk, length, true};
-ghost use Rattle.nll_types.specs.DropRegions.{IsKept};
+ghost use Rattle.nll_types.specs.DropRegions.{MustHoldAtDrop};
 ghost use Rattle.nll_types.specs.Structs.{Struct, HasGoodFields};
 ghost use Rattle.nll_types.specs.Declarations.{declared, structs_of};
 ghost use Rattle.nll_types.specs.Sources.{AddsSources, AreSourcesOf};
@@ -20,7 +20,7 @@ use std::alloc::Global;
 // Whether the struct's own drop needs the argument for the parameter at the place.
 fn is_kept(parameters: &[Parameter], place: usize) -> bool
     requires { place < length parameters.now }
-    ensures { IsTrue result ↔ IsKept parameters.now place }
+    ensures { IsTrue result ↔ MustHoldAtDrop parameters.now place }
 {
     !parameters[place].may_dangle
 }

@@ -23,8 +23,8 @@ pub data IsReached (a : Graph) : ℕ → Type 0 where
 -- The rules by which owners find it out. A node is a number of 32 bits. An owner reads a node that
 -- isn't its own if an edge leads from there to one that is. A node follows if it's a root, or if
 -- an edge leads to it from a known node.
-abbrev pub rules : Rules Graph ℕ (Growth ℕ)
-rules = record {
+abbrev pub rules_of_reach : Rules Graph ℕ (Growth ℕ)
+rules_of_reach = record {
   valid = λ a. (0 < a.owners) × (a.owners ≤ 64);
   parts = λ a. a.owners;
   owner = λ a x. x % a.owners;
@@ -38,14 +38,14 @@ rules = record {
 }
 
 -- the owner of a node sees those from which edges lead to it
-sees : (a : Graph) (x y : ℕ) → Contains (ends a x) y → Sees rules a (y % a.owners) x
+sees : (a : Graph) (x y : ℕ) → Contains (ends a x) y → Sees rules_of_reach a (y % a.owners) x
 sees a x y edge = ⊎_elim inl
     (λ other. inr (any_to _ (ends a x) y edge
     (and_both _ _ ((not_same _ _).0 other) (eq-eqb _ _ refl))))
     (cases_eq (x % a.owners) (y % a.owners))
 
 -- the rules keep the laws
-pub reach_lawful : AreLawful rules
+pub reach_lawful : AreLawful rules_of_reach
 reach_lawful = record {
   local = λ a ok known more y each.
       ⊎_elim inl (λ w. inr (w.0, w.1, each w.0 (sees a w.0 y w.1) w.2));
@@ -53,6 +53,6 @@ reach_lawful = record {
   others = λ a ok i x read.
       (mod-lt x ok.0, (not_same _ i).1 (both _ _ (any_from _ (ends a x) read).2).0);
   few = λ a ok. ok;
-  few_facts = λ a ok. few_numbers rules a (λ x low. low);
+  few_facts = λ a ok. few_numbers rules_of_reach a (λ x low. low);
   same_tells = λ x y. (eqb-true x y, eq-eqb x y);
 }

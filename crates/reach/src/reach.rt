@@ -4,7 +4,7 @@ ghost use Rattle.std.specs.Prelude.{◌≡◌, ◌↔◌, ℕ, List};
 ghost use Rattle.std.specs.BTreeSet.{contains};
 ghost use Rattle.std.specs.Ordering.{nat_cmp};
 ghost use Rattle.fixpoint.specs.Logs.{AreSound, AreSettled, IsTold, log_of};
-ghost use Rattle.reach.specs.Reach.{IsReached, ends, reach_lawful, rules as reach_rules};
+ghost use Rattle.reach.specs.Reach.{IsReached, ends, reach_lawful, rules_of_reach as reach_rules};
 ghost use Rattle.reach.specs.declared.Graph.{Graph as TheGraph};
 ghost use Rattle.fixpoint.specs.declared.growth.Growth.{Growth as TheGrowth};
 

@@ -3,7 +3,7 @@
 ghost use Rattle.std.specs.Prelude.{◌≡◌, ◌<◌, ◌≤◌, ℕ, Bool, true, [], map, slice_get};
 ghost use Rattle.std.specs.Prelude.{Some, Err, IfOk, vec_len, vec_capacity};
 ghost use Rattle.std.specs.VecDeque.{deque_len};
-ghost use Rattle.fixpoint.specs.Limits.{most_owners};
+ghost use Rattle.fixpoint.specs.Limits.{most_parts};
 ghost use Rattle.fixpoint.specs.Logs.{log_of};
 ghost use Rattle.worker.specs.Finishing.{IsFresh, Leaves, WasMade, WasStarted, FinishedAs};
 ghost use Rattle.worker.specs.Mailboxes.{through};
@@ -117,7 +117,7 @@ fn prepare<A: Analysis, M: Mail<A::Growth>, L: Ledger>(
     ledger: &L,
     owners: u16,
 ) -> Result<(L::Book, VecDeque<Worker<A, M, L>>), Memory>
-    requires owners { (0 < owners) × (owners ≤ most_owners) }
+    requires owners { (0 < owners) × (owners ≤ most_parts) }
     ensures book { IfOk result (λ p. L.owner_count p.0 ≡ owners) }
     ensures count { IfOk result (λ p. deque_len p.1 ≡ owners) }
     ensures table { IfOk result (λ p. IsTable (AreEnds (AreNewEnds M.Mail) M.ends) owners owners

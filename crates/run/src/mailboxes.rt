@@ -53,22 +53,6 @@ pub fn make_rows<A: Analysis, M: Mail<A::Growth>>(
     Ok(rows)
 }
 
-// The two ends of a new mailbox from one owner to another; from an owner to itself there is none.
-fn make_ends<T, M: Mail<T>>(
-    alloc: Global,
-    mail: &M,
-    from: u16,
-    to: u16,
-) -> Result<(Option<M::S>, Option<M::R>), Memory>
-    ensures { IfOk result (λ both. AreEnds (AreNewEnds M.Mail) M.ends from to both.0 both.1) }
-{
-    if from == to {
-        return Ok((None, None));
-    }
-    let (sender, receiver) = mail.pair(alloc, from, to)?;
-    Ok((Some(sender), Some(receiver)))
-}
-
 // One sender for each other owner; the receivers are appended to the columns.
 fn make_row<A: Analysis, M: Mail<A::Growth>>(
     alloc: Global,
@@ -86,7 +70,14 @@ fn make_row<A: Analysis, M: Mail<A::Growth>>(
         senders: Vec::with_capacity(alloc, owners as usize)?,
     };
     for to in 0..owners {
-        let (sender, receiver) = make_ends::<A::Growth, M>(alloc, mail, from, to)?;
+        // From an owner to itself there is no mailbox.
+        let ends = if from == to {
+            (None, None)
+        } else {
+            let (sender, receiver) = mail.pair(alloc, from, to)?;
+            (Some(sender), Some(receiver))
+        };
+        let (sender, receiver) = ends;
         row.senders.push_reserved(sender);
         columns[to as usize].push(receiver)?;
     }

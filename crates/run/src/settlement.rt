@@ -6,7 +6,7 @@ ghost use Rattle.fixpoint.specs.Logs.{log_of};
 ghost use Rattle.run.specs.Delivery.{IsPairBefore};
 ghost use Rattle.worker.specs.Mailboxes.{through};
 ghost use Rattle.run.specs.Table.{AreEnds, IsTable, list_at};
-ghost use Rattle.run.specs.Settling.{ArePostsOf, AddsPost, AddsPosts, ComeBefore, InRows};
+ghost use Rattle.run.specs.Settling.{ArePostsOf, AddsPosts, ComeBefore, InRows};
 ghost use Rattle.run.specs.Settling.{AreNext, InRow, LosesFirsts, sent_by, got_by};
 
 use mail::Mail;
@@ -72,27 +72,13 @@ fn settle_row<T, M: Mail<T>>(
         let Some(receiver) = columns[to as usize].pop_front() else {
             unreachable!()
         };
-        settle_ends::<T, M>(closed, receiver, posts)?;
+        // From an owner to itself there is no mailbox.
+        if let Some(sender) = closed {
+            let Some(taker) = receiver else {
+                unreachable!()
+            };
+            posts.push(M::settle(sender, taker))?;
+        }
     }
-    Ok(())
-}
-
-// Settles the mailbox that has these ends; from an owner to itself there is none.
-fn settle_ends<T, M: Mail<T>>(
-    closed: Option<M::Closed>,
-    receiver: Option<M::R>,
-    posts: &mut Vec<M::Post>,
-) -> Result<(), Memory>
-    requires ends { (i j : ℕ) × AreEnds M.closes M.ends i j closed receiver }
-    ensures { OnOk result
-        (AddsPost M.Mail closed receiver posts.old.items posts.new.items) }
-{
-    let Some(closed) = closed else {
-        return Ok(());
-    };
-    let Some(receiver) = receiver else {
-        unreachable!()
-    };
-    posts.push(M::settle(closed, receiver))?;
     Ok(())
 }

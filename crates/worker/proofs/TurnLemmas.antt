@@ -11,7 +11,7 @@ use Rattle.worker.specs.declared.tally.Tally.{Tally}
 use Rattle.fixpoint.specs.Sums.{sum_to}
 use Rattle.worker.specs.Hearing.{IsGivenUp}
 use Rattle.worker.specs.Tallies.{HasGrown, IsCounted, due_of, given_of}
-use Rattle.worker.specs.Turning.{IsWorking, HasTaken, IsAtRest, HasTakenAll, ComesTo, GoesOn}
+use Rattle.worker.specs.Turning.{IsWorking, HasTaken, IsAtRest, HasTakenAll, ComesTo, WorkerGoesOn}
 use Rattle.fixpoint.specs.Finishing.{HasStray}
 use Rattle.worker.specs.Mailboxes.{AreAllEmpty}
 use Rattle.fixpoint.proofs.SumLemmas.{sum_same, sum_le, sum_zero}
@@ -270,7 +270,7 @@ module _ {A F G : Type 0} (rules : Rules A F G) where
 
   -- what is counted where the worker needn't end
   pub counted_still : (o : State A G) (taken : List (List G)) (owed cleared : ℕ) (t : Tally) (heard : Heard)
-      → GoesOn heard → ComesTo rules o taken owed cleared t heard → IsCounted rules o t
+      → WorkerGoesOn heard → ComesTo rules o taken owed cleared t heard → IsCounted rules o t
   counted_still o taken owed cleared t Nothing goes came = came.counted
   counted_still o taken owed cleared t Growths goes came = came.counted
   counted_still o taken owed cleared t Stray goes came = absurd goes

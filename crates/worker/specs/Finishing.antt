@@ -4,7 +4,7 @@ use Rattle.std.specs.Prelude.{◌≡◌, ◌≢◌, ℕ, ◌<◌, ◌≤◌, tru
 use Rattle.std.specs.Prelude.{Bool, Option}
 use Rattle.mail.specs.declared.mail.Mail as Mail
 use Rattle.ledger.specs.declared.ledger.Ledger as Ledger
-use Rattle.fixpoint.specs.Limits.{most_owners}
+use Rattle.fixpoint.specs.Limits.{most_parts}
 use Rattle.fixpoint.specs.Rules.{Rules}
 use Rattle.fixpoint.specs.Logs.{log_of}
 use Rattle.fixpoint.specs.State.{State}
@@ -90,7 +90,7 @@ module _ {L B H E : Type 0} (ledger : Ledger.Ghosts L B H E) where
     pub record IsGiven (owners : ℕ) (book : B) (i : ℕ) (share : H) (senders : List (Option S))
         (receivers : List (Option R)) (kept : List (Option C)) (room : ℕ) : Type 0 where
       pub me_in : i < owners
-      pub few : owners ≤ most_owners
+      pub few : owners ≤ most_parts
       pub fresh : IsFresh book i share
       pub ends : HasEnds i senders
       pub posts : AreAllEmpty owners (map (through mail.sent) senders)

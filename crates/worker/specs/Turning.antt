@@ -17,11 +17,11 @@ use Rattle.worker.specs.declared.inbox.Heard.{Heard}
 use Rattle.worker.specs.declared.inbox.Heard.TheVariants.{Nothing, Growths, Stray, Memory}
 
 -- the worker needn't end now
-abbrev pub GoesOn : Heard → Type 0
-GoesOn Nothing = Unit {0}
-GoesOn Growths = Unit {0}
-GoesOn Stray = ⊥
-GoesOn Memory = ⊥
+abbrev pub WorkerGoesOn : Heard → Type 0
+WorkerGoesOn Nothing = Unit {0}
+WorkerGoesOn Growths = Unit {0}
+WorkerGoesOn Stray = ⊥
+WorkerGoesOn Memory = ⊥
 
 module _ {A F G : Type 0} (rules : Rules A F G) where
   -- Exactly what was given to each owner was posted to it.

@@ -6,7 +6,7 @@ ghost use Rattle.std.specs.Prelude.{IfOk, OnOk, false, None};
 ghost use Rattle.fixpoint.specs.State.{IsSound, part_for, given_to};
 ghost use Rattle.worker.specs.Mailboxes.{Alike, Both, HasEnds, Stays, through};
 ghost use Rattle.worker.specs.Tallies.{given_of};
-ghost use Rattle.worker.specs.Turning.{HasPosted, HasGivenOn, HasGivenMore, GoesOn, ComesTo};
+ghost use Rattle.worker.specs.Turning.{HasPosted, HasGivenOn, HasGivenMore, WorkerGoesOn, ComesTo};
 
 use crate::inbox::Heard;
 use crate::tally::Tally;
@@ -54,36 +54,6 @@ fn post_part<A: Analysis, M: Mail<A::Growth>>(
     Ok(posted)
 }
 
-// Like `post_part`, for the sender that leads to this owner: there is none from an owner to itself.
-fn post_to<A: Analysis, M: Mail<A::Growth>>(
-    part: &mut A::Part,
-    senders: &mut Vec<Option<M::S>>,
-    to: u16,
-    most: u64,
-) -> Result<u64, PostError<A::Growth>>
-    requires sound { IsSound A.rules (A.state part.old) }
-    requires whole { (A.state part.old).broken ≡ false }
-    requires to { to < A.rules.parts (A.state part.old).system }
-    requires ends { HasEnds (A.state part.old).me senders.old.items }
-    requires posts { HasPosted A.rules (A.state part.old) (map (through M.sent) senders.old.items) }
-    ensures posts { HasPosted A.rules (A.state part.new) (map (through M.sent) senders.new.items) }
-    ensures many { M.is_bounded ≡ false → OnOk result
-        (HasGivenOn A.rules most to (A.state part.old) (A.state part.new)) }
-    ensures count { IfOk result (λ posted. given_to (A.state part.new) to
-        ≡ given_to (A.state part.old) to + posted) }
-    ensures others { A.state part.new
-        ≡ record (A.state part.old) { given = (A.state part.new).given } }
-    ensures other_given { (j : ℕ) → j ≢ to
-        → given_to (A.state part.new) j ≡ given_to (A.state part.old) j }
-    ensures pairs { Alike (Both (Stays M.Mail)) senders.old.items senders.new.items }
-    ensures sound { IsSound A.rules (A.state part.new) }
-{
-    match &mut senders[to as usize] {
-        Some(sender) => post_part::<A, M>(part, sender, to, most),
-        None => Ok(0),
-    }
-}
-
 // Posts what isn't given yet, to all owners that read it and whose mailboxes aren't full: to each
 // at most the number for one time. Returns how many that were.
 fn post_all<A: Analysis, M: Mail<A::Growth>>(
@@ -108,7 +78,11 @@ fn post_all<A: Analysis, M: Mail<A::Growth>>(
 {
     let mut count = 0;
     for to in 0..A::owners(part) {
-        let posted = post_to::<A, M>(part, senders, to, most)?;
+        let posted = match &mut senders[to as usize] {
+            Some(sender) => post_part::<A, M>(part, sender, to, most)?,
+            // None leads from an owner to itself.
+            None => 0,
+        };
         count += posted;
     }
     Ok(count)
@@ -132,7 +106,7 @@ pub fn share_out<A: Analysis, M: Mail<A::Growth>>(
     ensures comes { (taken : List (List A.Growth)) (owed cleared : ℕ)
         → ComesTo A.rules (A.state part.old) taken owed cleared tally.old heard
         → ComesTo A.rules (A.state part.new) taken owed cleared tally.new result }
-    ensures many { M.is_bounded ≡ false → GoesOn result
+    ensures many { M.is_bounded ≡ false → WorkerGoesOn result
         → HasGivenMore A.rules most (A.rules.parts (A.state part.old).system)
         (A.state part.old) (A.state part.new) }
     ensures others { A.state part.new

@@ -1,6 +1,6 @@
 //! Running jobs, each in a thread of its own.
 
-ghost use Rattle.std.specs.Prelude.{◌≡◌, ◌+◌, ◌≤◌, ◌⊎◌, true, IfErr, IfOk, []};
+ghost use Rattle.std.specs.Prelude.{◌≡◌, ◌+◌, ◌≤◌, true, IfErr, IfOk, []};
 ghost use Rattle.std.specs.VecDeque.{deque_len, deque_capacity};
 ghost use Rattle.worker.specs.declared.job.Start.TheVariants.{Made, Failed};
 ghost use Rattle.worker.specs.Jobs.{AllOf, AlikeFrom, Becomes};
@@ -95,7 +95,10 @@ fn run_each<'s, 'x: 's, S: Sync + 'x, J: Job<S> + 'x, P: Permit, R: Threads + Wa
         Some(job) => {
             let start = start_one::<S, J, P, R>(scope, crew, permit, number, job);
             let mut finished = run_each::<S, J, P, R>(scope, crew, permit, number + 1, jobs, room);
-            finished.push_front_reserved(join::<S, J, R>(crew, start));
+            finished.push_front_reserved(match start {
+                Ok(handle) => finish::<S, J, R>(crew, handle.join(crew.rt)),
+                Err(done) => done,
+            });
             finished
         }
     }
@@ -155,19 +158,5 @@ fn finish<S, J: Job<S>, R: Wait>(crew: &Crew<'_, S, R>, back: Back<S, J>) -> J::
     match back {
         Ok(done) => done,
         Err(job) => job.run(crew.rt, crew.site, Start::Failed),
-    }
-}
-
-// What one job returns, once its thread has ended.
-fn join<S, J: Job<S>, R: Threads + Wait>(crew: &Crew<'_, S, R>, start: Started<S, J>) -> J::Done
-    requires { IfOk start (λ h. (h.promise.site.value ≡ crew.now.site.now)
-        × J.is_ready crew.now.site.now h.promise.job.value) }
-    ensures joined { IfOk start (λ h. J.comes crew.now.site.now h.promise.job.value Made result
-        ⊎ J.comes crew.now.site.now h.promise.job.value Failed result) }
-    ensures over { IfErr start (λ d. result ≡ d) }
-{
-    match start {
-        Ok(handle) => finish::<S, J, R>(crew, handle.join(crew.rt)),
-        Err(done) => done,
     }
 }

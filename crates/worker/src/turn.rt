@@ -1,6 +1,6 @@
 //! A worker's turns.
 
-ghost use Rattle.std.specs.Prelude.{◌≡◌, ◌+◌, ◌<◌, ◌≤◌, List, map};
+ghost use Rattle.std.specs.Prelude.{◌≡◌, List, map};
 ghost use Rattle.fixpoint.specs.State.{IsSound, first_state};
 ghost use Rattle.worker.specs.Mailboxes.{AreAllEmpty, through};
 ghost use Rattle.worker.specs.Finishing.{IsFresh, IsOpenStill};
@@ -46,40 +46,6 @@ pub fn first_turn<A: Analysis, L: Ledger, G: Gate>(
     Heard::Growths
 }
 
-// A turn, if one of the mailboxes has growths: the part receives them, at most as many as a turn
-// may receive, and the book is kept of them.
-fn turn<A: Analysis, M: Mail<A::Growth>, L: Ledger, G: Gate>(
-    pace: &Pace<'_, G>,
-    account: &mut Account<'_, L>,
-    part: &mut A::Part,
-    inbox: &mut Inbox<A, M>,
-    from: u16,
-) -> Heard
-    requires from { from < A.rules.parts (A.state part.old).system }
-    requires book { L.belongs account.old.book.now account.old.share }
-    requires rests { let a = account.old in IsAtRest A.rules (A.state part.old)
-        (map (through M.received) inbox.old.receivers.items)
-        (L.owed a.share) (L.cleared a.share) a.tally }
-    ensures stays { StaysAtWork A.rules L.Ledger M.Mail (A.state part.old) (A.state part.new)
-        account.old.book.now account.old.share account.new.book.now account.new.share
-        inbox.old.receivers.items inbox.new.receivers.items }
-    ensures comes { let a = account.new in ComesTo A.rules (A.state part.new)
-        (map (through M.received) inbox.new.receivers.items)
-        (L.owed a.share) (L.cleared a.share) a.tally result }
-    ensures most { L.cleared account.new.share ≤ L.cleared account.old.share + pace.now.taken }
-{
-    let turn = account.tally.turns + 1;
-    match hear_from::<A, M, G>(pace, turn, part, inbox, from) {
-        Heard::Nothing => Heard::Nothing,
-        Heard::Stray => Heard::Stray,
-        Heard::Memory => Heard::Memory,
-        Heard::Growths => {
-            keep_book::<A, L>(account, part, inbox.batch.len() as u64);
-            Heard::Growths
-        }
-    }
-}
-
 /// One look into each mailbox, or up to the first growth if a turn receives at most one. With each
 /// turn it begins at the next owner. Returns whether the part received growths, or why the worker
 /// has to end.
@@ -105,10 +71,11 @@ pub fn round<A: Analysis, M: Mail<A::Growth>, L: Ledger, G: Gate>(
     let mut any = false;
     for step in 0..owners {
         let from = ((first + step as u64) % owners as u64) as u16;
-        let heard = turn::<A, M, L, G>(pace, account, part, inbox, from);
-        match heard {
+        let turn = account.tally.turns + 1;
+        match hear_from::<A, M, G>(pace, turn, part, inbox, from) {
             Heard::Nothing => {}
             Heard::Growths => {
+                keep_book::<A, L>(account, part, inbox.batch.len() as u64);
                 if pace.taken == 1 {
                     return Heard::Growths;
                 }

@@ -9,18 +9,16 @@ ghost use Rattle.nll_problem.specs.declared.at.At.{At as places};
 ghost use Rattle.nll_sets.specs.Runs.{IsWithin};
 ghost use Rattle.nll_core.specs.Lines.{IsJump};
 ghost use Rattle.nll_core.specs.Search.{IsIn};
-ghost use Rattle.nll_core.specs.Walking.{AreIn, Grows, IsLedTo};
-ghost use Rattle.nll_core.specs.Frontiers.{GoesOn, IsAskedFrom, ListsNew, ReachesFrom};
+ghost use Rattle.nll_core.specs.Walking.{AreIn, GrowsByRuns, IsLedTo};
+ghost use Rattle.nll_core.specs.Frontiers.{FrontierGoesOn, IsAskedFrom, ListsNew, ReachesFrom};
 ghost use Rattle.nll_core.specs.Frontiers.{IsIdle, ResumesPoints, WalksOn};
 
 use crate::frontiers::landings::Landings;
-use crate::frontiers::places::Places;
-use crate::frontiers::points::Points;
+use crate::frontiers::places::{Places, Points};
 use crate::frontiers::steps::Steps;
 use crate::lines::Lines;
 use crate::satisfaction::is_empty;
-use crate::stretches::{enter, spread};
-use crate::tail_copy::fill_from;
+use crate::stretches::{enter, fill_from, spread};
 use nll_sets::{Element, ElementSet, Memory, Run, RunSet};
 
 /// Goes on with what constraints ask for from a run of the set inside which they ask, and fills an
@@ -44,7 +42,7 @@ pub fn resume(
     requires none { found.old.items ≡ [] }
     ensures width { OnOk result (length reached.new ≡ length reached.old) }
     ensures after { OnOk result
-        (GoesOn steps.now seen.now run starts.now reached.old reached.new) }
+        (FrontierGoesOn steps.now seen.now run starts.now reached.old reached.new) }
     ensures found { OnOk result (ListsNew reached.old reached.new [] found.new.items) }
 {
     if starts.has_all() {
@@ -177,7 +175,7 @@ fn enter_next(
     requires width { lines.now.points ≤ length reached.old }
     requires part { AreIn seen.now part }
     requires inside { (x : ℕ) → IsIn reached.old x → IsIn seen.now x }
-    ensures grows { OnOk result (Grows lines.now seen.now
+    ensures grows { OnOk result (GrowsByRuns lines.now seen.now
         (IsLedTo lines.now seen.now reached.old)
         reached.old reached.new found.old.items found.new.items) }
     ensures covers { OnOk result ((x : ℕ) → IsIn reached.old x → IsNext lines.now x (x + 1)
@@ -186,7 +184,9 @@ fn enter_next(
     let _points = lines.points();
     let mut from = part.first.saturating_sub(1);
     while let Some(last) = next_end(reached, from, part.last) {
-        enter_behind(lines, seen, reached, found, last)?;
+        if lines.line_end(last) > last {
+            enter_point(lines, seen, reached, found, last + 1)?;
+        }
         from = last + 1;
     }
     Ok(())
@@ -211,31 +211,6 @@ fn next_end(reached: &RunSet, from: u32, limit: u32) -> Option<u32>
     }
 }
 
-// Enters the point after a reached one, where its line leads there.
-fn enter_behind(
-    lines: &Lines,
-    seen: &RunSet,
-    reached: &mut RunSet,
-    found: &mut Vec<Run>,
-    point: u32,
-) -> Result<(), Memory>
-    requires point { point + 1 < lines.now.points }
-    requires width { lines.now.points ≤ length reached.old }
-    requires reached { IsIn reached.old point }
-    requires here { IsIn seen.now point }
-    requires seen { IsIn seen.now (point + 1) }
-    ensures grows { OnOk result (Grows lines.now seen.now
-        (IsLedTo lines.now seen.now reached.old)
-        reached.old reached.new found.old.items found.new.items) }
-    ensures covers { OnOk result
-        (IsNext lines.now point (point + 1) → IsIn reached.new (point + 1)) }
-{
-    if lines.line_end(point) > point {
-        enter_point(lines, seen, reached, found, point + 1)?;
-    }
-    Ok(())
-}
-
 // Enters the points of a run from which walks go.
 fn enter_starts(
     lines: &Lines,
@@ -248,7 +223,7 @@ fn enter_starts(
     requires points { part.last < lines.now.points }
     requires width { lines.now.points ≤ length reached.old }
     requires part { AreIn seen.now part }
-    ensures grows { OnOk result (Grows lines.now seen.now
+    ensures grows { OnOk result (GrowsByRuns lines.now seen.now
         (ReachesFrom lines.now (IsIn seen.now) starts.now)
         reached.old reached.new found.old.items found.new.items) }
     ensures covers { OnOk result
@@ -282,7 +257,7 @@ fn enter_landings(
     requires width { lines.now.points ≤ length reached.old }
     requires part { AreIn seen.now part }
     requires inside { (x : ℕ) → IsIn reached.old x → IsIn seen.now x }
-    ensures grows { OnOk result (Grows lines.now seen.now
+    ensures grows { OnOk result (GrowsByRuns lines.now seen.now
         (IsLedTo lines.now seen.now reached.old)
         reached.old reached.new found.old.items found.new.items) }
     ensures covers { OnOk result ((x t : ℕ) → IsIn reached.old x → IsJump lines.now x t
@@ -308,7 +283,7 @@ fn enter_point(
     requires point { point < lines.now.points }
     requires width { lines.now.points ≤ length reached.old }
     requires seen { IsIn seen.now point }
-    ensures grows { OnOk result (Grows lines.now seen.now
+    ensures grows { OnOk result (GrowsByRuns lines.now seen.now
         (Reaches lines.now (IsIn seen.now) point)
         reached.old reached.new found.old.items found.new.items) }
     ensures covers { OnOk result (IsIn reached.new point) }
@@ -334,22 +309,15 @@ fn has_return(lines: &Lines, landings: &Landings, reached: &RunSet) -> bool
     };
     let returns = landings.landing_in(ends);
     if returns.len() > reached.runs() {
-        return has_return_within(landings, reached);
+        for run in reached.as_runs() {
+            if landings.has_return_in(*run) {
+                return true;
+            }
+        }
+        return false;
     }
     for landing in returns {
         if reached.has(Element(landing.from)) {
-            return true;
-        }
-    }
-    false
-}
-
-// Like `has_return`, by looking at the reached runs.
-fn has_return_within(landings: &Landings, reached: &RunSet) -> bool
-    ensures { (result ≡ true) ↔ ((x : ℕ) × IsIn reached.now x × IsReturn landings.now x) }
-{
-    for run in reached.as_runs() {
-        if landings.has_return_in(*run) {
             return true;
         }
     }

@@ -1,7 +1,7 @@
 //! How a frontier goes on once one more element is in the set inside which its constraints ask.
 
 ghost use Rattle.std.specs.Prelude.{◌≡◌, ◌⊎◌, ◌↔◌, ℕ, ◌≤◌, ◌<◌, true, false, length, OnOk, OnErr};
-ghost use Rattle.nll_problem.specs.Graph.{element_count, IsNext, IsReturn, IsStep};
+ghost use Rattle.nll_problem.specs.Graph.{element_count, IsNext, IsStep};
 ghost use Rattle.nll_core.specs.Search.{IsIn, IsStepInside};
 ghost use Rattle.nll_core.specs.Frontiers.{AppendsNew, IsAskedFrom, IsWithout, StepsOn};
 
@@ -58,24 +58,16 @@ fn is_next(graph: &Graph, element: Element, reached: &RunSet) -> bool
 {
     let points = graph.points();
     if element.0 >= points {
-        return has_return(graph, reached);
+        for point in graph.returns() {
+            if reached.has(Element(*point)) {
+                return true;
+            }
+        }
+        return false;
     }
     let before = element.0.saturating_sub(1);
     is_next_of(graph, reached, before, points, element.0)
         || is_next_of(graph, reached, 0, before, element.0)
-}
-
-// Whether a return point is reached.
-fn has_return(graph: &Graph, reached: &RunSet) -> bool
-    requires { element_count graph.now ≤ length reached.now }
-    ensures { (result ≡ true) ↔ ((x : ℕ) × IsIn reached.now x × IsReturn graph.now x) }
-{
-    for point in graph.returns() {
-        if reached.has(Element(*point)) {
-            return true;
-        }
-    }
-    false
 }
 
 // Whether a point is a successor of a reached one, among those from one number up to another.
@@ -90,23 +82,12 @@ fn is_next_of(graph: &Graph, reached: &RunSet, from: u32, to: u32, point: u32) -
         if found.0 >= to {
             return false;
         }
-        if is_successor(graph, found.0, point) {
-            return true;
+        for successor in graph.next_of(found.0) {
+            if *successor == point {
+                return true;
+            }
         }
         next = found.0 + 1;
-    }
-    false
-}
-
-// Whether a point is a successor of another one.
-fn is_successor(graph: &Graph, from: u32, point: u32) -> bool
-    requires { from < graph.now.points }
-    ensures { (result ≡ true) ↔ IsNext graph.now from point }
-{
-    for next in graph.next_of(from) {
-        if *next == point {
-            return true;
-        }
     }
     false
 }

@@ -1,7 +1,7 @@
 //! The jumps of a graph by where they land.
 
-ghost use Rattle.std.specs.Prelude.{◌≡◌, ◌↔◌, ◌≤◌, ◌<◌, ℕ, Contains, AllPairs, length, OnOk, IfOk};
-ghost use Rattle.std.specs.Prelude.{◌⊎◌, ◌+◌, ◌^◌, slice_index, slice_index_or, true};
+ghost use Rattle.std.specs.Prelude.{◌≡◌, ◌↔◌, ◌≤◌, ◌<◌, ℕ, Contains, AllPairs, length, IfOk};
+ghost use Rattle.std.specs.Prelude.{◌+◌, ◌^◌, slice_index, slice_index_or, true};
 ghost use Rattle.nll_problem.specs.Graph.{IsReturn};
 ghost use Rattle.nll_sets.specs.Runs.{IsWithin};
 ghost use Rattle.nll_core.specs.Lines.{AreReturns, IsJump, IsLandingStart};
@@ -145,27 +145,17 @@ fn sorted_landings(alloc: Global, lines: &Lines) -> Result<Vec<Landing>, Memory>
 {
     let mut list = Vec::new(alloc);
     for point in 0..lines.points() {
-        push_landings(lines, point, &mut list)?;
+        let run = Run {
+            first: point,
+            last: point,
+        };
+        for target in lines.jumps(run) {
+            list.push(Landing {
+                to: *target,
+                from: point,
+            })?;
+        }
     }
     list.sort_unstable_by_key(|landing| landing.to);
     Ok(list)
-}
-
-// Appends the jumps of a point to a list.
-fn push_landings(lines: &Lines, point: u32, list: &mut Vec<Landing>) -> Result<(), Memory>
-    requires { point < lines.now.points }
-    ensures { OnOk result ((l : Landing) → Contains list.new.items l
-        ↔ (Contains list.old.items l ⊎ (IsJump lines.now l.from l.to × (l.from ≡ point)))) }
-{
-    let run = Run {
-        first: point,
-        last: point,
-    };
-    for target in lines.jumps(run) {
-        list.push(Landing {
-            to: *target,
-            from: point,
-        })?;
-    }
-    Ok(())
 }

@@ -1,6 +1,6 @@
 //! What owners use beside the solver: frontiers, which go on from what was found before.
 //!
-//! Reading order: `points`, `landings`, `steps`, `places`, `continuation`;
+//! Reading order: `landings`, `steps`, `places`, `continuation`;
 //! `element_growth`, `frontier`.
 
 mod continuation;
@@ -8,7 +8,6 @@ mod element_growth;
 mod frontier;
 mod landings;
 mod places;
-mod points;
 mod steps;
 
 pub use frontier::Frontier;

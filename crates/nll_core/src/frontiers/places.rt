@@ -1,16 +1,79 @@
 //! Where the constraints of a frontier hold.
 
-ghost use Rattle.std.specs.Prelude.{◌≡◌, ◌↔◌, ◌<◌, [], ◌∷◌, ◌++◌, Contains, IsTrue, OnOk, OnErr};
+ghost use Rattle.std.specs.Prelude.{◌≡◌, ◌↔◌, ◌<◌, [], ◌∷◌, ◌++◌, Contains, IsTrue, OnOk, OnErr, ℕ};
+ghost use Rattle.std.specs.Prelude.{◌≤◌, IfSome, IfNone};
 ghost use Rattle.nll_problem.specs.At.{at_rank};
 ghost use Rattle.nll_problem.specs.declared.at.At.{At as places};
+ghost use Rattle.nll_core.specs.Frontiers.{as_places, IsAscending};
 ghost use Rattle.nll_problem.specs.declared.at.At.TheVariants as ats;
-ghost use Rattle.nll_core.specs.Frontiers.{as_places};
 
-use crate::frontiers::points::Points;
 use nll_problem::At;
 use nll_sets::Memory;
 use std::alloc::Global;
 use std::marker::Model;
+
+/// Points, ascending, at least one, borrowed.
+#[derive(Drop)]
+pub struct Points<'p> {
+    first: u32,
+    others: &'p [u32],
+}
+
+impl<'p> Model for Points<'p> {
+    ghost use Rattle.std.specs.Prelude.{List, ℕ, ◌∷◌};
+    ghost use Rattle.nll_core.specs.Frontiers.{IsAscending};
+
+    ghost Value = { List ℕ };
+
+    ghost view = { λ p. p.first ∷ p.others.now };
+
+    ghost invariant = { λ p. IsAscending (p.first ∷ p.others.now) };
+}
+
+impl<'p> Points<'p> {
+    /// A point, and those after it.
+    pub fn of(first: u32, others: &'p [u32]) -> Points<'p>
+        requires { IsAscending (first ∷ others.now) }
+        ensures { result ≡ first ∷ others.now }
+    {
+        Points { first, others }
+    }
+
+    /// The least point from one number up to another.
+    pub fn next_in(&self, from: u32, last: u32) -> Option<u32>
+        ensures some { IfSome result (λ s. Contains self.now s × (from ≤ s) × (s ≤ last)) }
+        ensures least { IfSome result (λ s. (x : ℕ) → Contains self.now x → from ≤ x → s ≤ x) }
+        ensures none { IfNone result ((x : ℕ) → Contains self.now x → from ≤ x → last < x) }
+    {
+        if from > last {
+            return None;
+        }
+        let Some(start) = self.next_from(from) else {
+            return None;
+        };
+        if start > last {
+            return None;
+        }
+        Some(start)
+    }
+
+    // The least point that isn't below a number.
+    fn next_from(&self, from: u32) -> Option<u32>
+        ensures some { IfSome result (λ s. Contains self.now s × (from ≤ s)) }
+        ensures least { IfSome result (λ s. (x : ℕ) → Contains self.now x → from ≤ x → s ≤ x) }
+        ensures none { IfNone result ((x : ℕ) → Contains self.now x → x < from) }
+    {
+        if from <= self.first {
+            return Some(self.first);
+        }
+        let at = self.others.partition_point(|point| *point < from);
+        if at < self.others.len() {
+            Some(self.others[at])
+        } else {
+            None
+        }
+    }
+}
 
 /// All points, or points, ascending: all points come first. There is at least one place.
 #[derive(Drop)]
@@ -24,11 +87,11 @@ pub struct Places {
 impl Model for Places {
     ghost use Rattle.std.specs.Prelude.{List};
     ghost use Rattle.nll_problem.specs.declared.at.At.{At as places};
-    ghost use Rattle.nll_core.specs.Frontiers.{behind, Ascend};
+    ghost use Rattle.nll_core.specs.Frontiers.{behind_place, Ascend};
 
     ghost Value = { List places };
 
-    ghost view = { λ p. behind p.first p.others.items };
+    ghost view = { λ p. behind_place p.first p.others.items };
 
     ghost invariant = { λ p. Ascend p.first p.others.items };
 }

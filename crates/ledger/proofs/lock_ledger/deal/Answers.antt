@@ -1,7 +1,7 @@
 use Rattle.std.proofs.Common.{◌≡◌, ◌+◌, ◌<◌, [], ◌∷◌, length, length-append, sym, ap, ◌∙◌, subst, arith, rules}
 use Rattle.crossbeam_queue.specs.Passes.{view, IsPassOf, Pass}
 use Rattle.ledger.specs.LockShares.{IsNew}
-use Rattle.ledger.specs.Shares.{parts_of}
+use Rattle.ledger.specs.Shares.{parts_of_share}
 use Rattle.ledger.specs.declared.figures.Figures.{Figures}
 use Rattle.ledger.specs.declared.lock_rule.Known.{Known}
 use Rattle.ledger.specs.declared.lock_rule.State.{State}
@@ -41,7 +41,7 @@ returns-clause-shares g c =
     let end : c.loop-number.number + 1 ≡ book.owners =
     omega (arith, c.loop-number-test.false, c.loop-number.auto.number-end, book.few.0) in
     let number : share.account.number ≡ c.loop-number.number = omega (arith, is.0, end) in
-    let parts : (view share.pass).figures.parts ≡ parts_of book.owners share.account.number =
+    let parts : (view share.pass).figures.parts ≡ parts_of_share book.owners share.account.number =
     ap (λ (p : Pass State Known). (view p).figures.parts) pass ∙ (ap (λ (y : Figures). y.parts) inv.rest
     ∙ (omega (arith, end, book.few.1) ∙ sym (parts_last book.owners share.account.number (omega (arith, number, end)))))
     in

@@ -1,6 +1,6 @@
 use Rattle.std.proofs.Common.{◌≡◌, ◌+◌, ◌<◌, [], ◌∷◌, length, length-append, sym, ap, ◌∙◌, subst, arith, rules}
 use Rattle.atomic_table.specs.Table.{Me}
-use Rattle.ledger.specs.Shares.{parts_of}
+use Rattle.ledger.specs.Shares.{parts_of_share}
 use Rattle.ledger.specs.WordShares.{IsNewShare}
 use Rattle.ledger.specs.declared.figures.Figures.{Figures}
 use Rattle.ledger.proofs.ShareLemmas.{each_pushed, parts_last}
@@ -40,7 +40,7 @@ returns-clause-shares c =
     let end : c.loop-number.number + 1 ≡ book.owners =
     omega (arith, c.loop-number-test.false, c.loop-number.auto.number-end, book.few.0) in
     let number : share.account.number ≡ c.loop-number.number = omega (arith, is.0, end) in
-    let parts : share.seat.me.0.parts ≡ parts_of book.owners share.account.number =
+    let parts : share.seat.me.0.parts ≡ parts_of_share book.owners share.account.number =
     ap (λ p. p.me.0.parts) seat ∙ (ap (λ (m : Me (Unit {0}) Figures). m.0.parts) inv.rest
     ∙ (omega (arith, end, book.few.1) ∙ sym (parts_last book.owners share.account.number (omega (arith, number, end)))))
     in

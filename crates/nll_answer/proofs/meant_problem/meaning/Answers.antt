@@ -1,9 +1,28 @@
-use Rattle.std.proofs.Common.{sym, ◌∙◌}
+use Rattle.std.proofs.Common.{inr, sym, ◌∙◌}
 use Rattle.std.proofs.lemmas.Bool.{false≢true}
+use Rattle.std.proofs.lemmas.Result.{err_from_is_err_and, IfOk-weaker, IfErr-weaker}
+use Rattle.nll_answer.proofs.MeaningLemmas.{as_mir, as_body, named}
 use Rattle.nll_answer.proofs.meant_problem.meaning.Goals as goal
-
-pub mir_meaning-requires : goal.mir_meaning-requires
-mir_meaning-requires c = c.is_mir.ensures.0 c.if-is_mir.true
 
 pub facts_meaning-requires : goal.facts_meaning-requires
 facts_meaning-requires c = λ of. false≢true (sym c.if-is_mir.false ∙ c.is_mir.ensures.1 of)
+
+pub returns-in_err-body-clause-err : goal.returns-in_err-body-clause-err
+returns-in_err-body-clause-err c =
+    let p = err_from_is_err_and c.from_residual.result c.from_residual.ensures.1 in
+    rw (p.1, p.2) (as_mir c.args.text.now _ (c.is_mir.ensures.0 c.if-is_mir.true) c.in_err-body.ensures.err)
+
+pub returns-in_ok-body-clause-ok : goal.returns-in_ok-body-clause-ok
+returns-in_ok-body-clause-ok c =
+    IfOk-weaker c.facts_of_body.result _ _
+    (λ q h. inr (c.in_ok-body.body, c.in_ok-body.ensures.ok, h)) c.facts_of_body.ensures.ok
+
+pub returns-in_ok-body-clause-named : goal.returns-in_ok-body-clause-named
+returns-in_ok-body-clause-named c =
+    IfOk-weaker c.facts_of_body.result _ _
+    (λ q h. named c.in_ok-body.body q.problem q.labels h) c.facts_of_body.ensures.ok
+
+pub returns-in_ok-body-clause-err : goal.returns-in_ok-body-clause-err
+returns-in_ok-body-clause-err c =
+    IfErr-weaker c.facts_of_body.result _ _
+    (λ e wrong. as_body c.args.text.now c.in_ok-body.body e c.in_ok-body.ensures.ok wrong) c.facts_of_body.ensures.err

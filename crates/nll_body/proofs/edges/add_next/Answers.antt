@@ -3,7 +3,7 @@ use Rattle.std.proofs.lemmas.Bool.{false≢true}
 use Rattle.std.proofs.lemmas.Result.{on_ok_weaker}
 use Rattle.nll_body.specs.Effects.{targets}
 use Rattle.nll_body.specs.Flat.{statement_in}
-use Rattle.nll_body.specs.Edges.{LeadsTo}
+use Rattle.nll_body.specs.Edges.{LeadsToBlock}
 use Rattle.nll_body.specs.Making.{AddsEdges}
 use Rattle.nll_body.specs.Statements.{is_terminator}
 use Rattle.nll_body.proofs.PointLemmas.{other_point, return_point, statement_edge, targets_listed, terminator_edges}
@@ -43,7 +43,7 @@ add_targets-requires-clause-blocks c =
 pub add_targets-requires-clause-starts : goal.add_targets-requires-clause-starts
 add_targets-requires-clause-starts c =
     let d = (goal.at.add_targets-requires-clause-starts c).After-as_slice in
-    λ q h. c.requires.ends q (inr (subst (λ bs. LeadsTo c.args.starts.now bs q) (listed d) h))
+    λ q h. c.requires.ends q (inr (subst (λ bs. LeadsToBlock c.args.starts.now bs q) (listed d) h))
 
 pub add_targets-requires-clause-room : goal.add_targets-requires-clause-room
 add_targets-requires-clause-room c =

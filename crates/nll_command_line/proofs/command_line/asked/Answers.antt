@@ -2,7 +2,7 @@ use Rattle.std.proofs.Common.{◌≡◌, ◌∙◌, true, map, sym, ap, subst, t
 use Rattle.std.proofs.lemmas.Result.{IfOk-weaker}
 use Rattle.clap.specs.Words.{HasKind, fault_of, is_simple, is_simple_and_free, kind_of, subcommand_of, subcommand_rows_of, takes}
 use Rattle.clap.specs.declared.error.kind.ErrorKind.TheVariants.{OutOfMemory}
-use Rattle.nll_command_line.specs.Grammar.{IsTold, line_of_matches, program}
+use Rattle.nll_command_line.specs.Grammar.{IsErrorTold, line_of_matches, program}
 use Rattle.nll_command_line.proofs.GrammarLemmas.{is_simple-program, is_simple_and_free-program, plain_result}
 use Rattle.nll_command_line.proofs.HelpLemmas.{help_alone_is_not_taken, help_given, help_is_not_taken}
 use Rattle.nll_command_line.proofs.LineErrorLemmas.{matches_without_line, memory_told, words_without_matches}
@@ -38,14 +38,14 @@ returns-in-Err c =
     let kinds = c.in-Err.ensures.kinds (ap is_simple_and_free app_is ∙ is_simple_and_free-program) in
     let passes : takes program texts ≡ true → kind_of c.in-Err.error ≡ OutOfMemory =
     λ h. c.in-Err.ensures.passes (ap (λ a. takes a texts) app_is ∙ h) in
-    let told = subst (λ k. IsTold texts k c.refusal-refusal.result) c.kind.ensures c.refusal-refusal.ensures in
+    let told = subst (λ k. IsErrorTold texts k c.refusal-refusal.result) c.kind.ensures c.refusal-refusal.ensures in
     let refused = words_without_matches texts c.refusal-refusal.result (kind_of c.in-Err.error)
     (subst (λ a. HasKind (fault_of a texts) c.in-Err.error) app_is kinds) passes told in
     record {
       ok = tt;
       plain = λ task file h.
           memory_told texts c.refusal-refusal.result
-          (subst (λ k. IsTold texts k c.refusal-refusal.result) (passes (takes-plain task file texts h)) told);
+          (subst (λ k. IsErrorTold texts k c.refusal-refusal.result) (passes (takes-plain task file texts h)) told);
       help = λ h. help_given texts c.refusal-refusal.result h refused;
       taken = λ ok asks. true≢false (sym ok);
       err = refused;

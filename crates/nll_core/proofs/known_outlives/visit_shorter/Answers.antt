@@ -3,7 +3,7 @@ use Rattle.std.proofs.lemmas.Bool.{cases_eq}
 use Rattle.std.proofs.lemmas.List.{get_or_default}
 use Rattle.nll_sets.specs.ElementSet.{flag}
 use Rattle.nll_core.specs.Outliving.{IsShorterOf}
-use Rattle.nll_core.specs.Search.{Adds}
+use Rattle.nll_core.specs.Search.{AddsOfKind}
 use Rattle.nll_core.proofs.SearchLemmas.{adds_append, adds_weaker}
 use Rattle.nll_core.proofs.known_outlives.visit_shorter.Goals as goal
 use Rattle.nll_core.proofs.known_outlives.visit_shorter.Goals.{After-fact-item}
@@ -23,7 +23,7 @@ loop-fact-preserved g c =
     let facts = c.args.facts.now in
     let fact = c.fact-item.result in
     let contained = listed g (goal.at.loop-fact-preserved g c).After-fact-item in
-    let step : Adds (IsShorterOf facts) c.loop-fact.search c.visit.new.self =
+    let step : AddsOfKind (IsShorterOf facts) c.loop-fact.search c.visit.new.self =
     adds_weaker _ _ (λ x h. (
       fact.0,
       subst (λ (y : ℕ). Contains {X = ℕ × ℕ} facts (fact.0, y))

@@ -1,7 +1,7 @@
 use Rattle.std.proofs.Common.{Bool, List, refl, subst, sym, arith}
 use Rattle.nll_problem.specs.Walks.{Reaches}
 use Rattle.nll_core.specs.Search.{IsIn}
-use Rattle.nll_core.specs.Walking.{Grows}
+use Rattle.nll_core.specs.Walking.{GrowsByRuns}
 use Rattle.nll_sets.specs.Runs.{IsRunFrom}
 use Rattle.nll_sets.specs.declared.run.Run.{Run}
 use Rattle.nll_core.proofs.WalkingLemmas.{grows_stretch, line_closed, stretch_of}
@@ -10,7 +10,7 @@ use Rattle.nll_core.proofs.stretches.enter_run.Goals as goal
 use Rattle.nll_core.proofs.stretches.enter_run.Goals.{In_ok-push}
 
 grows : (c : In_ok-push) (sub : List Bool) → IsRunFrom sub c.args.point c.args.inside
-    → Grows c.args.lines.now sub (Reaches c.args.lines.now (IsIn sub) c.args.point) c.args.reached.now
+    → GrowsByRuns c.args.lines.now sub (Reaches c.args.lines.now (IsIn sub) c.args.point) c.args.reached.now
     c.insert_run.new.self c.args.todo.now.items c.push.new.self.items
 grows c sub from =
     let graph = c.args.lines.now in
@@ -20,7 +20,7 @@ grows c sub from =
     c.min-last.ensures refl c.min.ensures
     (omega (arith, c.points-points.ensures.sound.point_limit, c.points-points.ensures.value))
     in
-    subst (λ (items : List Run). Grows graph sub
+    subst (λ (items : List Run). GrowsByRuns graph sub
     (Reaches graph (IsIn sub) c.args.point) c.args.reached.now c.insert_run.new.self c.args.todo.now.items items)
     (sym c.in_ok-push.ensures.items)
     (grows_stretch graph sub c.args.reached.now c.insert_run.new.self c.args.todo.now.items c.args.point run s

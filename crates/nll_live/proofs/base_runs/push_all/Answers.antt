@@ -1,7 +1,7 @@
 use Rattle.std.proofs.Common.{ℕ, List, Contains, subst, arith}
 use Rattle.std.proofs.lemmas.List.{take_all}
 use Rattle.nll_sets.specs.Runs.{IsInRuns}
-use Rattle.nll_live.specs.BaseRuns.{Gains}
+use Rattle.nll_live.specs.BaseRuns.{GainsRuns}
 use Rattle.nll_live.proofs.BaseRunLemmas.{regions_step}
 use Rattle.nll_live.proofs.base_runs.push_all.Goals as goal
 
@@ -12,6 +12,6 @@ loop-region-preserved c =
 
 pub returns : goal.returns
 returns c =
-    subst (λ (xs : List ℕ). Gains (λ r p. Contains xs r × IsInRuns c.args.runs.now p) c.args.base_runs.now.items
+    subst (λ (xs : List ℕ). GainsRuns (λ r p. Contains xs r × IsInRuns c.args.runs.now p) c.args.base_runs.now.items
     c.loop-region.base_runs.items) (take_all c.loop-region.region-index c.args.regions.now (omega arith))
     c.loop-region.invariant

@@ -1,8 +1,9 @@
 use Rattle.std.proofs.Common.{Contains, take}
 use Rattle.nll_sets.specs.Runs.{IsInRuns}
-use Rattle.nll_live.specs.BaseRuns.{Gains}
+use Rattle.nll_live.specs.BaseRuns.{GainsRuns}
 use Rattle.nll_live.proofs.base_runs.push_all.Given as goal
 
 abbrev pub invariant-loop-region : goal.invariant-loop-region
 invariant-loop-region l =
-    Gains (λ r p. Contains (take l.region-index l.regions) r × IsInRuns l.runs p) l.fn.base_runs.items l.base_runs.items
+    GainsRuns (λ r p. Contains (take l.region-index l.regions) r
+    × IsInRuns l.runs p) l.fn.base_runs.items l.base_runs.items

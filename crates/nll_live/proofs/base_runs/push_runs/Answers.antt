@@ -1,5 +1,5 @@
 use Rattle.std.proofs.Common.{◌≡◌, refl, subst, arith}
-use Rattle.nll_live.specs.BaseRuns.{Gains}
+use Rattle.nll_live.specs.BaseRuns.{GainsRuns}
 use Rattle.nll_live.proofs.BaseRunLemmas.{IsInFirst, runs_step}
 use Rattle.nll_live.proofs.base_runs.push_runs.Goals as goal
 
@@ -10,5 +10,5 @@ loop-run-preserved c =
 
 pub returns : goal.returns
 returns c =
-    subst (λ n. Gains (λ r p. (c.args.region ≡ r) × IsInFirst c.args.runs.now n p) c.args.base_runs.now.items
+    subst (λ n. GainsRuns (λ r p. (c.args.region ≡ r) × IsInFirst c.args.runs.now n p) c.args.base_runs.now.items
     c.loop-run.base_runs.items) (omega arith) c.loop-run.invariant

@@ -2,7 +2,7 @@ use Rattle.std.proofs.Common.{◌≡◌, ◌<◌, ◌∙◌, ℕ, length, map, C
 use Rattle.std.proofs.lemmas.List.{length-map}
 use Rattle.nll_problem.specs.Rows.{row_at}
 use Rattle.nll_live.specs.Live.{IsLive}
-use Rattle.nll_live.specs.Kinds.{AsksFor, IsWanted, KeepsAt}
+use Rattle.nll_live.specs.Kinds.{AsksFor, IsWantedOfType, KeepsAt}
 use Rattle.nll_live.proofs.AskLemmas.{asked_of, asked_to_step, asked_to_last, declared, kept_within}
 use Rattle.nll_live.proofs.GatheringLemmas.{listed_within}
 use Rattle.nll_live.proofs.VectorLemmas.{row_here}
@@ -47,7 +47,7 @@ loop-variable-preserved c =
       fresh = c.in_ok-push_found.ensures.fresh;
       asked = asked_to_step (AsksFor c.args.kind body) c.args.base_runs.now.items x c.loop-variable.base_runs.items
           c.push_found.new.base_runs.items c.loop-variable.invariant.asked
-          (asked_of body x c.as_slice.result.now (IsWanted c.args.kind body) (IsLive body (Contains list) x)
+          (asked_of body x c.as_slice.result.now (IsWantedOfType c.args.kind body) (IsLive body (Contains list) x)
           (IsLive body (KeepsAt c.args.kind body x) x)
           c.loop-variable.base_runs.items c.push_found.new.base_runs.items within
           (rw c.as_slice.ensures.value c.in_ok-regions.ensures)

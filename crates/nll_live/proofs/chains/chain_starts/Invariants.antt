@@ -1,6 +1,6 @@
 use Rattle.nll_problem.specs.Graph.{IsNext}
-use Rattle.nll_live.specs.Chains.{AreStarts}
+use Rattle.nll_live.specs.Chains.{HaveStarts}
 use Rattle.nll_live.proofs.chains.chain_starts.Given as goal
 
 abbrev pub invariant-loop-point : goal.invariant-loop-point
-invariant-loop-point l = AreStarts (IsNext l.previous) l.point l.starts.items
+invariant-loop-point l = HaveStarts (IsNext l.previous) l.point l.starts.items

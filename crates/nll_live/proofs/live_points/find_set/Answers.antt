@@ -3,10 +3,10 @@ use Rattle.std.specs.Prelude.{slice_index}
 use Rattle.std.proofs.lemmas.List.{length-map}
 use Rattle.std.proofs.lemmas.List.Elements.{Contains-get_or}
 use Rattle.nll_problem.specs.Rows.{row_at}
-use Rattle.nll_body.specs.Bodies.{GoesOn}
-use Rattle.nll_live.specs.Chains.{AreStarts}
+use Rattle.nll_body.specs.Bodies.{IsFollowedBy}
+use Rattle.nll_live.specs.Chains.{HaveStarts}
 use Rattle.nll_live.specs.Lows.{AreDefinitions}
-use Rattle.nll_live.specs.Marks.{IsCovered}
+use Rattle.nll_live.specs.Marks.{IsUnderMark}
 use Rattle.nll_live.proofs.MarkLemmas.{contains_moved, covered_moved}
 use Rattle.nll_live.proofs.SetLemmas.{if_ok}
 use Rattle.nll_live.proofs.VectorLemmas.{row_here}
@@ -36,7 +36,7 @@ search_back-requires-clause-search c =
     record {
       shown = c.requires.ways.shown;
       starts =
-          subst (AreStarts (GoesOn body) (length body.points)) (sym c.as_slice-starts.ensures.value) ways.chains;
+          subst (HaveStarts (IsFollowedBy body) (length body.points)) (sym c.as_slice-starts.ensures.value) ways.chains;
       definitions =
           subst (AreDefinitions body c.args.variable) (sym (definitions_are d))
           (ways.defined.each c.args.variable (omega (arith, c.requires.variable, ways.defined.counted)));
@@ -48,14 +48,14 @@ search_back-requires-clause-ends c =
 
 -- the sorted points cover what the room's do
 covered : (c : After-as_slice-2) (p : ℕ)
-    → IsCovered c.as_slice.result.now c.as_slice-2.result.now p
-    ↔ IsCovered c.search_back.new.room.heights.items c.search_back.new.room.lows.items p
+    → IsUnderMark c.as_slice.result.now c.as_slice-2.result.now p
+    ↔ IsUnderMark c.search_back.new.room.heights.items c.search_back.new.room.lows.items p
 covered c p =
     let heights = c.search_back.new.room.heights.items in
     let lows = c.search_back.new.room.lows.items in
-    subst (λ (hs : List ℕ). IsCovered hs c.as_slice-2.result.now p ↔ IsCovered heights lows p)
+    subst (λ (hs : List ℕ). IsUnderMark hs c.as_slice-2.result.now p ↔ IsUnderMark heights lows p)
     (sym c.as_slice.ensures.value)
-    (subst (λ (xs : List ℕ). IsCovered heights xs p ↔ IsCovered heights lows p) (sym c.as_slice-2.ensures.value)
+    (subst (λ (xs : List ℕ). IsUnderMark heights xs p ↔ IsUnderMark heights lows p) (sym c.as_slice-2.ensures.value)
     (covered_moved heights lows c.sort_unstable.new.self.items c.sort_unstable.ensures.permutation p))
 
 pub set_of-requires-clause-proper : goal.set_of-requires-clause-proper

@@ -3,7 +3,7 @@ use Rattle.std.specs.Prelude.{slice_index}
 use Rattle.std.proofs.lemmas.List.{take_all}
 use Rattle.std.proofs.lemmas.List.Elements.{Contains-get_or}
 use Rattle.nll_sets.specs.ElementSet.{flag}
-use Rattle.nll_live.specs.Marks.{IsCovered}
+use Rattle.nll_live.specs.Marks.{IsUnderMark}
 use Rattle.nll_live.proofs.SetLemmas.{covers_first, covers_step}
 use Rattle.nll_live.proofs.live_points.set_of.Goals as goal
 
@@ -32,5 +32,5 @@ loop-low-preserved c =
 
 pub returns-clause-each : goal.returns-clause-each
 returns-clause-each c =
-    λ p. subst (λ (xs : List ℕ). (flag c.loop-low.set p ≡ true) ↔ IsCovered c.args.heights.now xs p)
+    λ p. subst (λ (xs : List ℕ). (flag c.loop-low.set p ≡ true) ↔ IsUnderMark c.args.heights.now xs p)
     (take_all c.loop-low.low-index c.args.lows.now (omega arith)) (c.loop-low.invariant.each p)

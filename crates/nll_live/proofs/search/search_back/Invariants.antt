@@ -1,7 +1,7 @@
 use Rattle.std.proofs.Common.{ℕ, ◌+◌, ◌-◌, ◌<◌, Contains, length}
 use Rattle.std.specs.Prelude.{slice_index}
 use Rattle.nll_live.specs.Lows.{IsLow}
-use Rattle.nll_live.specs.Marks.{IsReached, AreFound, ReachesMore, unmarked}
+use Rattle.nll_live.specs.Marks.{IsUnderNewMark, AreFound, ReachesMore, unmarked}
 use Rattle.nll_live.proofs.SearchLemmas.{Searching}
 use Rattle.nll_live.proofs.search.search_back.Given as goal
 
@@ -12,7 +12,8 @@ invariant-loop-point l = record {
       l.fn.room.marks.items l.fn.room.heights.items l.fn.room.lows.items l.room.marks.items l.room.heights.items
       l.room.lows.items;
   found : AreFound l.room.marks.items l.room.heights.items l.turn l.room.lows.items;
-  all : (k : ℕ) → k < l.point-index → IsReached l.room.marks.items l.room.heights.items l.turn (slice_index l.ends k);
+  all : (k : ℕ) → k < l.point-index → IsUnderNewMark l.room.marks.items l.room.heights.items l.turn
+      (slice_index l.ends k);
 }
 
 abbrev pub invariant-loop-place : goal.invariant-loop-place

@@ -5,7 +5,7 @@ use Rattle.std.proofs.lemmas.Bool.{false≢true}
 use Rattle.std.proofs.lemmas.List.Elements.{Contains-get_or}
 use Rattle.nll_live.specs.Live.{DefinesAt, GoesOnUndefined}
 use Rattle.nll_live.specs.Lows.{IsLow}
-use Rattle.nll_live.specs.Marks.{IsReached}
+use Rattle.nll_live.specs.Marks.{IsUnderNewMark}
 use Rattle.nll_live.proofs.MarkLemmas.{reaches_append, reaches_weaker, reached_kept, at_each}
 use Rattle.nll_live.proofs.SearchLemmas.{going_on, going_within}
 use Rattle.nll_live.proofs.search.visit_previous.Goals as goal
@@ -67,7 +67,7 @@ returns-clause-reaches c =
 pub returns-clause-all : goal.returns-clause-all
 returns-clause-all c =
     λ p h. at_each (λ p. (DefinesAt c.args.search.now.body.now c.args.search.now.variable p → ⊥)
-    → IsReached c.loop-before.room.marks.items c.loop-before.room.heights.items c.args.turn p)
+    → IsUnderNewMark c.loop-before.room.marks.items c.loop-before.room.heights.items c.args.turn p)
     c.previous_of-points.result.now
     (λ k below. c.loop-before.invariant.all k (omega arith)) p
     ((going_on c.args.search.now.body.now c.args.search.now.previous.now c.requires.search.shown c.args.point

@@ -15,18 +15,6 @@ returns-in-Assert c = rw c.in-Assert.is c.assert_line.ensures
 pub returns-in-Blocks : goal.returns-in-Blocks
 returns-in-Blocks c = rw c.in-Blocks.is c.blocks_line.ensures
 
-pub returns-in-Block : goal.returns-in-Block
-returns-in-Block c = rw c.in-Block.is c.block_line.ensures
-
-pub returns-in-Live : goal.returns-in-Live
-returns-in-Live c = rw c.in-Live.is c.live_line.ensures
-
-pub returns-in-Dead : goal.returns-in-Dead
-returns-in-Dead c = rw c.in-Dead.is c.dead_line.ensures
-
-pub returns-in-Goto : goal.returns-in-Goto
-returns-in-Goto c = rw c.in-Goto.is c.goto_line.ensures
-
 pub returns-in-Drop : goal.returns-in-Drop
 returns-in-Drop c = rw c.in-Drop.is c.drop_line.ensures
 
@@ -41,3 +29,15 @@ returns-in-Read c = rw c.in-Read.is c.read_line.ensures
 
 pub returns-in-Switch : goal.returns-in-Switch
 returns-in-Switch c = rw c.in-Switch.is c.switch_line.ensures
+
+pub returns-in-None : goal.returns-in-None
+returns-in-None c = rw c.in-Block.is c.in-None.ensures
+
+pub returns-in-None-variable_at : goal.returns-in-None-variable_at
+returns-in-None-variable_at c = rw c.in-Live.is c.in-None-variable_at.ensures
+
+pub returns-in-None-variable_at-2 : goal.returns-in-None-variable_at-2
+returns-in-None-variable_at-2 c = rw c.in-Dead.is c.in-None-variable_at-2.ensures
+
+pub returns-in-None-block_at : goal.returns-in-None-block_at
+returns-in-None-block_at c = rw c.in-Goto.is c.in-None-block_at.ensures

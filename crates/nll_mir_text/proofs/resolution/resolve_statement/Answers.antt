@@ -3,7 +3,7 @@ use Rattle.nll_body.specs.Statements.{read}
 use Rattle.nll_body.proofs.FlatLemmas.{places_grow}
 use Rattle.nll_mir_text.specs.Resolution.{scope_of}
 use Rattle.nll_mir_text.specs.ResolvedStatements.{as_written}
-use Rattle.nll_mir_text.proofs.ResolvedLemmas.{adds_same, grows_same, put, IsPut}
+use Rattle.nll_mir_text.proofs.ResolvedLemmas.{adds_same, flat_of, grows_same, made_resolved, put, IsPut}
 use Rattle.nll_mir_text.proofs.resolution.resolve_statement.Goals as goal
 use Rattle.nll_mir_text.proofs.resolution.resolve_statement.Goals.{in-Assign+in_ok-made-in-Assign, in-Borrow+in-Some+in_ok-made-in-Borrow, in-Read+in_ok-add_place-in-Read, in-Live, in-Dead, in-Nop, in-Goto, in-Switch+in_ok-made-in-Switch, in-Drop-default-default-None, in-Drop-default-default-Some, in-Return, in-Stop}
 
@@ -69,3 +69,11 @@ returns-clause-made c = (is_put c).of
 
 pub returns-clause-fits : goal.returns-clause-fits
 returns-clause-fits c = (is_put c).fits c.args.fits.now
+
+pub returns-in-Make-clause-made : goal.returns-in-Make-clause-made
+returns-in-Make-clause-made c =
+    rw c.in-Make.is (flat_of (scope_of c.args.scope.now) _ _ _ _ _
+    (made_resolved (scope_of c.args.scope.now) _ c.in-Make.make.value c.in-Some-2.ty
+    (rw c.deref.ensures at (rw c.in-Some-2.is at c.in_ok-ty-in-Make.ensures.resolved)))
+    (rw c.deref-in-Make-2.ensures at (rw c.deref-in-Make.ensures at (rw c.as_slice-operands.ensures.value at
+    c.in_ok-add_make-in-Make.ensures.flat))))

@@ -1,7 +1,7 @@
 use Rattle.std.proofs.Common.{◌+◌, refl, sym, subst, ◌∙◌, arith}
 use Rattle.std.proofs.lemmas.List.{take_rest}
 use Rattle.nll_core.proofs.SearchLemmas.{flag_within}
-use Rattle.nll_owner.specs.Following.{IsFollowed, IsLeft, OfRunOr}
+use Rattle.nll_owner.specs.Following.{IsLinkFollowed, IsLeft, OfRunOr}
 use Rattle.nll_owner.proofs.OwnerLemmas.{grows_none, grows_append, slot_still}
 use Rattle.nll_owner.proofs.RegionRunLemmas.{inside_grows}
 use Rattle.nll_owner.proofs.AdvanceLemmas.{awoken, due_from, none_due_from}
@@ -51,7 +51,7 @@ hand_run-requires-clause-link c =
 
 pub hand_run-requires-clause-followed : goal.hand_run-requires-clause-followed
 hand_run-requires-clause-followed c =
-    subst (λ xs. IsFollowed c.loop-part.knowledge c.args.due.now.region
+    subst (λ xs. IsLinkFollowed c.loop-part.knowledge c.args.due.now.region
     (IsLeft c.loop-part.knowledge c.args.due.now.place
     (OfRunOr xs c.args.due.now.region c.in-Some.part.first 4294967295) c.args.due.now.region) c.loop-part.link)
     (sym (take_rest c.args.due.now.runs.now c.args.due.now.count))
@@ -79,7 +79,7 @@ loop-part-preserved c = record {
   same = c.hand_run.ensures.same ∙ c.loop-part.invariant.same;
   awake = c.hand_run.ensures.awake;
   followed =
-      subst (λ xs. IsFollowed c.hand_run.new.knowledge c.args.due.now.region
+      subst (λ xs. IsLinkFollowed c.hand_run.new.knowledge c.args.due.now.region
       (IsLeft c.hand_run.new.knowledge c.args.due.now.place
       (OfRunOr xs c.args.due.now.region (c.in-Some.part.last + 1) 4294967295) c.args.due.now.region)
       c.hand_run.new.link)

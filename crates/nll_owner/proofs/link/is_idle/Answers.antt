@@ -1,7 +1,7 @@
 use Rattle.std.proofs.Common.{arith}
 use Rattle.std.proofs.lemmas.List.{get_or_default}
 use Rattle.nll_core.specs.Frontiers.{IsIdle}
-use Rattle.nll_owner.specs.declared.region_run.RegionRun.{RegionRun}
+use Rattle.nll_owner.specs.declared.region_runs.RegionRun.{RegionRun}
 use Rattle.nll_owner.proofs.RegionRunLemmas.{at_next}
 use Rattle.nll_owner.proofs.link.is_idle.Goals as goal
 

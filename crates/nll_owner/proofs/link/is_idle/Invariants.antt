@@ -1,6 +1,6 @@
 use Rattle.std.proofs.Common.{◌≡◌, ℕ, ◌<◌, get_or}
 use Rattle.nll_core.specs.Frontiers.{IsIdle}
-use Rattle.nll_owner.specs.declared.region_run.RegionRun.{RegionRun}
+use Rattle.nll_owner.specs.declared.region_runs.RegionRun.{RegionRun}
 use Rattle.nll_owner.proofs.link.is_idle.Given as goal
 
 abbrev pub invariant-loop-number : goal.invariant-loop-number

@@ -1,13 +1,13 @@
 use Rattle.std.proofs.Common.{inl, inr, string_bytes}
 use Rattle.std.proofs.lemmas.Result.{IfErr-weaker, IfOk-weaker, MatchResult-weaker}
-use Rattle.nll_command_line.specs.Options.{said_by}
+use Rattle.nll_command_line.specs.Options.{options_said}
 use Rattle.nll_report.proofs.LineLemmas.{asked_line, help_told, lawful_count, words_told}
 use Rattle.nll_report.proofs.RunLemmas.{line_told}
 use Rattle.nll_report.proofs.program.report.Goals as goal
 
 pub answered-requires-clause-owners : goal.answered-requires-clause-owners
 answered-requires-clause-owners g c = λ κs bounds. let ok = c.in-Ok.ensures.ok in
-    lawful_count _ ok.0 (said_by c.in-Ok.line) ok.1
+    lawful_count _ ok.0 (options_said c.in-Ok.line) ok.1
 
 pub returns-in-Ok-clause-ok : goal.returns-in-Ok-clause-ok
 returns-in-Ok-clause-ok g c =
@@ -15,7 +15,7 @@ returns-in-Ok-clause-ok g c =
     (λ r h. inl (record {
       task = c.in-Ok.line.task;
       file = string_bytes c.in-Ok.line.file;
-      said = said_by c.in-Ok.line;
+      said = options_said c.in-Ok.line;
       asked = asked_line _ _ _ _ c.in-Ok.ensures.ok c.in-Ok.ensures.help;
       answer = h;
     }))

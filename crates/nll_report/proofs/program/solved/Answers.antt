@@ -1,6 +1,6 @@
 use Rattle.std.proofs.Common.{ap, inl, option_map, string_bytes}
 use Rattle.std.proofs.lemmas.Result.{IfErr-weaker, IfOk-weaker}
-use Rattle.nll_command_line.specs.Options.{said_by}
+use Rattle.nll_command_line.specs.Options.{options_said}
 use Rattle.nll_report.proofs.OwnerLemmas.{may_be_asked, one_answers, owners_answer, owners_told}
 use Rattle.nll_report.proofs.program.solved.Goals as goal
 
@@ -13,7 +13,7 @@ returns-in-Some-clause-ok g c =
     let asked = c.in-Some.ensures in
     IfOk-weaker c.answered_by_owners.result _ _
     (λ r h. owners_answer (g.T.Texts.holds c.args.texts.now) (string_bytes c.args.line.file) c.args.command
-    (said_by c.args.line) r.0.items r.1 _ _ _ asked.1 asked.2 (ap (option_map string_bytes) asked.3) h)
+    (options_said c.args.line) r.0.items r.1 _ _ _ asked.1 asked.2 (ap (option_map string_bytes) asked.3) h)
     c.answered_by_owners.ensures.ok
 
 pub returns-in-Some-clause-err : goal.returns-in-Some-clause-err
@@ -21,7 +21,7 @@ returns-in-Some-clause-err g c =
     let asked = c.in-Some.ensures in
     IfErr-weaker c.answered_by_owners.result _ _
     (λ e h. owners_told (g.T.Texts.holds c.args.texts.now) (g.T.Texts.lacks c.args.texts.now)
-    (string_bytes c.args.line.file) (said_by c.args.line)
+    (string_bytes c.args.line.file) (options_said c.args.line)
     _ _ _ e asked.1 asked.2 (ap (option_map string_bytes) asked.3) asked.0 h)
     c.answered_by_owners.ensures.err
 
@@ -30,7 +30,7 @@ returns-in-None-clause-ok g c =
     let none = c.in-None.ensures in
     IfOk-weaker c.answered_by_one.result _ _
     (λ r h. one_answers (g.T.Texts.holds c.args.texts.now) (string_bytes c.args.line.file) c.args.command
-    (said_by c.args.line) r.0.items r.1 none.0 (ap (option_map string_bytes) none.1) h)
+    (options_said c.args.line) r.0.items r.1 none.0 (ap (option_map string_bytes) none.1) h)
     c.answered_by_one.ensures.ok
 
 pub returns-in-None-clause-err : goal.returns-in-None-clause-err

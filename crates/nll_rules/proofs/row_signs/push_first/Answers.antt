@@ -2,7 +2,7 @@ use Rattle.std.proofs.Common.{◌≡◌, ◌+◌, ◌∙◌, ◌∷◌, ◌++◌
 use Rattle.nll_types.specs.Declarations.{structs_of}
 use Rattle.nll_types.specs.Shapes.{Shape}
 use Rattle.nll_types.specs.Table.{at, shapes_in}
-use Rattle.nll_rules.specs.Signs.{part_sign, signs}
+use Rattle.nll_rules.specs.Signs.{part_sign, row_signs_of}
 use Rattle.nll_rules.specs.TypeRows.{row_length}
 use Rattle.nll_rules.proofs.RowSignLemmas.{all_signs_more, appended_more, signs_length, starts_step}
 use Rattle.nll_rules.proofs.row_signs.push_first.Goals as goal
@@ -20,7 +20,7 @@ loop-place-preserved c =
     ap length c.in_ok-push_signs.ensures
     ∙ omega (
       arith,
-      length-append before.items (signs structs c.at.result part),
+      length-append before.items (row_signs_of structs c.at.result part),
       signs_length structs c.at.result part,
     ) in
     record {

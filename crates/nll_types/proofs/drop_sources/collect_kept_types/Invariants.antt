@@ -2,7 +2,7 @@ use Rattle.std.proofs.Common.{List}
 use Rattle.std.specs.Prelude.{slice_get}
 use Rattle.nll_types.specs.Types.{HasRegion}
 use Rattle.nll_types.specs.Structs.{Struct, argument}
-use Rattle.nll_types.specs.DropRegions.{IsKept}
+use Rattle.nll_types.specs.DropRegions.{MustHoldAtDrop}
 use Rattle.nll_types.specs.Sources.{AddsSources}
 use Rattle.nll_types.proofs.DropLemmas.{IsWantedBelow}
 use Rattle.nll_types.proofs.drop_sources.collect_kept_types.Given as goal
@@ -10,4 +10,4 @@ use Rattle.nll_types.proofs.drop_sources.collect_kept_types.Given as goal
 abbrev pub invariant-loop-place : goal.invariant-loop-place
 invariant-loop-place l = (all : List Struct)
     → AddsSources all (IsWantedBelow (slice_get l.parameters)
-    (λ k p rs ts r. IsKept l.parameters k × (HasRegion (argument ts k) r)) l.place) l.fn.out.keys l.out.keys
+    (λ k p rs ts r. MustHoldAtDrop l.parameters k × (HasRegion (argument ts k) r)) l.place) l.fn.out.keys l.out.keys

@@ -2,7 +2,7 @@ use Rattle.std.proofs.Common.{◌≡◌, ◌<◌, ◌∙◌, ℕ, List, Bool, tr
 use Rattle.std.specs.Prelude.{IsTrue, not, ◌↔◌}
 use Rattle.std.proofs.lemmas.Bool.{true≢false, false≢true}
 use Rattle.std.proofs.lemmas.Option.{slice_get-get_or, get_or_from_slice_get}
-use Rattle.nll_types.specs.DropRegions.{IsKept}
+use Rattle.nll_types.specs.DropRegions.{MustHoldAtDrop}
 use Rattle.nll_types.specs.declared.parameter.Parameter.{Parameter}
 use Rattle.nll_types.proofs.drop_sources.is_kept.Goals as goal
 
@@ -11,7 +11,7 @@ turned true = (λ h. absurd (false≢true h), λ e. absurd (true≢false e))
 turned false = (λ h. refl, λ e. refl)
 
 kept_at : (ps : List Parameter) (k : ℕ) (d : Parameter) → k < length ps
-    → IsTrue (not (get_or ps k d).may_dangle) ↔ IsKept ps k
+    → IsTrue (not (get_or ps k d).may_dangle) ↔ MustHoldAtDrop ps k
 kept_at ps k d l = (
   λ h. (get_or ps k d, slice_get-get_or ps k d l, (turned (get_or ps k d).may_dangle).0 h),
   λ w. (turned (get_or ps k d).may_dangle).1

@@ -4,7 +4,7 @@ use Rattle.std.proofs.Math.Seq.{take-length}
 use Rattle.std.proofs.lemmas.Result.{IfOk-weaker}
 use Rattle.nll_types.specs.Structs.{put_in}
 use Rattle.nll_types.specs.declared.ty.Ty.{Ty}
-use Rattle.nll_types.specs.Views.{tree, trees, row_of}
+use Rattle.nll_types.specs.Views.{tree, trees, row_of_trees}
 use Rattle.nll_types.proofs.FailLemmas.{failed}
 use Rattle.nll_types.proofs.ViewLemmas.{tree_int, tree_parameter}
 use Rattle.nll_types.proofs.PuttingLemmas.{argument_past, argument_view, put_all}
@@ -14,7 +14,7 @@ pub put_in_all-returns : goal.put_in_all-returns
 put_in_all-returns t c =
     let whole : c.loop-part.part-index ≡ length c.args.parts.now = omega arith in
     let i = rw (whole, take-length c.args.parts.now) at c.loop-part.invariant.0 in
-    ap row_of i ∙ put_all c.args.regions.now (trees c.args.types.now) c.args.parts.now
+    ap row_of_trees i ∙ put_all c.args.regions.now (trees c.args.types.now) c.args.parts.now
 
 pub put_in-returns-in-Int : goal.put_in-returns-in-Int
 put_in-returns-in-Int t c = rw (ap tree c.in-Int.is ∙ tree_int) tree_int

@@ -1,6 +1,6 @@
 use Rattle.std.proofs.Common.{refl, subst, sym, arith}
 use Rattle.worker.specs.Mailboxes.{Stays, Both}
-use Rattle.worker.specs.Turning.{GoesOn}
+use Rattle.worker.specs.Turning.{WorkerGoesOn}
 use Rattle.worker.proofs.ListLemmas.{alike_refl, both_refl}
 use Rattle.worker.proofs.TurnLemmas.{comes_given, counted_on, counted_still, were_waiting}
 use Rattle.worker.proofs.PostLemmas.{none_more}
@@ -29,9 +29,9 @@ returns-then-tally-eq0-clause-many g c = λ unbounded goes.
 pub overflow_sub-tally : goal.overflow_sub-tally
 overflow_sub-tally g c =
     let came = c.requires.came in
-    let goes : GoesOn c.args.heard = elim c.match-heard.branch [
-      | in-Growths w ↦ subst GoesOn (sym w.in-Growths.is) tt
-      | in-Nothing w ↦ subst GoesOn (sym w.in-Nothing.is) tt
+    let goes : WorkerGoesOn c.args.heard = elim c.match-heard.branch [
+      | in-Growths w ↦ subst WorkerGoesOn (sym w.in-Growths.is) tt
+      | in-Nothing w ↦ subst WorkerGoesOn (sym w.in-Nothing.is) tt
     ] in
     were_waiting g.A.Rules.rules (g.A.Analysis.state c.args.part.now) (g.A.Analysis.state c.post_all.new.part)
     c.in-Ok.posted c.post_all.ensures.others c.post_all.ensures.sound c.in-Ok.ensures.count c.args.tally.now
@@ -43,9 +43,9 @@ returns-in-Ok-clause-comes g c = λ taken owed cleared came.
     let p = c.post_all.ensures in
     let old = g.A.Analysis.state c.args.part.now in
     let new = g.A.Analysis.state c.post_all.new.part in
-    let goes : GoesOn c.args.heard = elim c.match-heard.branch [
-      | in-Growths w ↦ subst GoesOn (sym w.in-Growths.is) tt
-      | in-Nothing w ↦ subst GoesOn (sym w.in-Nothing.is) tt
+    let goes : WorkerGoesOn c.args.heard = elim c.match-heard.branch [
+      | in-Growths w ↦ subst WorkerGoesOn (sym w.in-Growths.is) tt
+      | in-Nothing w ↦ subst WorkerGoesOn (sym w.in-Nothing.is) tt
     ] in
     let was =
     counted_still g.A.Rules.rules old taken owed cleared c.args.tally.now c.args.heard goes came in

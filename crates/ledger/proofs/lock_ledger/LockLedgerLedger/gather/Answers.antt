@@ -1,7 +1,7 @@
 use Rattle.std.proofs.Common.{◌≡◌, ◌+◌, ◌∷◌, [], List, length, vec_len, sym, ap, ◌∙◌, subst, arith, rules}
 use Rattle.crossbeam_queue.specs.Passes.{view}
 use Rattle.ledger.specs.LockShares.{lock_kind}
-use Rattle.ledger.specs.Shares.{Adding, parts_of}
+use Rattle.ledger.specs.Shares.{Adding, parts_of_share}
 use Rattle.ledger.specs.declared.figures.Figures.{Figures}
 use Rattle.ledger.specs.declared.lock_book.LockLeft.{LockLeft}
 use Rattle.ledger.specs.declared.lock_rule.Known.{Known}
@@ -24,7 +24,7 @@ loop-left-init g c =
       some = omega (arith, size);
       adding =
           adding_first lock_kind last rest all popped
-          (last_parts owners (length rest) (view last.pass).figures.parts (own.0.1 ∙ ap (parts_of owners) own.1)
+          (last_parts owners (length rest) (view last.pass).figures.parts (own.0.1 ∙ ap (parts_of_share owners) own.1)
           (size ∙ c.requires.count) c.args.book.few.1);
       owed = sym (ap (λ (y : Figures). y.owed) last.knows);
       cleared = sym (ap (λ (y : Figures). y.cleared) last.knows);
@@ -79,7 +79,7 @@ loop-left-preserved g c =
     (let p = ap length popped in let q = split_size rest [] left in omega (arith, p, q)) in
     let own = c.requires.each (length rest) left (at_rest all rest inv.split.0 left split) in
     let part =
-    next_part owners (length rest) (view left.pass).figures.parts (own.0.1 ∙ ap (parts_of owners) own.1)
+    next_part owners (length rest) (view left.pass).figures.parts (own.0.1 ∙ ap (parts_of_share owners) own.1)
     (omega (arith, size, inv.some, c.requires.count)) in
     let adding =
     subst (λ (xs : List LockLeft). Adding lock_kind (view c.loop-left.pass).figures xs all) popped inv.adding in

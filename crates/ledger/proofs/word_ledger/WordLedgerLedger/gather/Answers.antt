@@ -1,6 +1,6 @@
 use Rattle.std.proofs.Common.{◌≡◌, ◌+◌, ◌∷◌, [], List, length, vec_len, sym, ap, ◌∙◌, subst, arith, rules}
 use Rattle.atomic_table.specs.Table.{Me}
-use Rattle.ledger.specs.Shares.{Adding, parts_of}
+use Rattle.ledger.specs.Shares.{Adding, parts_of_share}
 use Rattle.ledger.specs.WordShares.{word_kind}
 use Rattle.ledger.specs.declared.figures.Figures.{Figures}
 use Rattle.ledger.specs.declared.word_book.WordLeft.{WordLeft}
@@ -22,7 +22,7 @@ loop-left-init c =
       some = omega (arith, size);
       adding =
           adding_first word_kind last rest all popped
-          (last_parts owners (length rest) last.seat.me.0.parts (own.0.1 ∙ ap (parts_of owners) own.1)
+          (last_parts owners (length rest) last.seat.me.0.parts (own.0.1 ∙ ap (parts_of_share owners) own.1)
           (size ∙ c.requires.count) c.args.book.few.1);
       owed = sym (ap (λ (y : Figures). y.owed) last.knows);
       cleared = sym (ap (λ (y : Figures). y.cleared) last.knows);
@@ -77,7 +77,7 @@ loop-left-preserved c =
     (let p = ap length popped in let q = split_size rest [] left in omega (arith, p, q)) in
     let own = c.requires.each (length rest) left (at_rest all rest inv.split.0 left split) in
     let part =
-    next_part owners (length rest) left.seat.me.0.parts (own.0.1 ∙ ap (parts_of owners) own.1)
+    next_part owners (length rest) left.seat.me.0.parts (own.0.1 ∙ ap (parts_of_share owners) own.1)
     (omega (arith, size, inv.some, c.requires.count)) in
     let adding = subst (λ (xs : List WordLeft). Adding word_kind c.loop-left.seat.me.0 xs all) popped inv.adding in
     let now = ap (λ (m : Me (Unit {0}) Figures). m.0) c.join_seat.ensures.2 in record {

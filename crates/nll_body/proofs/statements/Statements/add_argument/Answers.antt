@@ -1,7 +1,7 @@
 use Rattle.std.proofs.Common.{subst, sym}
 use Rattle.nll_types.specs.Operands.{operand_of}
 use Rattle.nll_types.specs.declared.typed.Typed.{Typed}
-use Rattle.nll_body.specs.Within.{AddsPlaces, AreWithin, Grows, IsFlatOperand}
+use Rattle.nll_body.specs.Within.{AddsPlaces, AreWithin, ListsGrow, IsFlatOperand}
 use Rattle.nll_body.specs.declared.flat.FlatOperand.{FlatOperand}
 use Rattle.nll_body.specs.contracts.statements.Statements.{the_view}
 use Rattle.nll_body.proofs.FlatLemmas.{places_grow}
@@ -39,5 +39,5 @@ returns-clause-grows c =
 
 pub returns-in_err-push-clause-grows : goal.returns-in_err-push-clause-grows
 returns-in_err-push-clause-grows c =
-    rw c.in_err-push.ensures.items (subst (Grows c.args.self.now) (sym c.self-2.view_is)
+    rw c.in_err-push.ensures.items (subst (ListsGrow c.args.self.now) (sym c.self-2.view_is)
     (places_grow _ _ c.add_operand.ensures.places))

@@ -1,6 +1,6 @@
 use Rattle.std.proofs.Common.{◌≡◌, ◌∙◌, ap, length, rules, subst, sym}
 use Rattle.nll_types.specs.Operands.{operand_of}
-use Rattle.nll_body.specs.Within.{IsFlatOperand, IsListed}
+use Rattle.nll_body.specs.Within.{IsFlatOperand, IsListedSlice}
 use Rattle.nll_body.specs.contracts.statements.Statements.{the_view}
 use Rattle.nll_body.proofs.AddedLemmas.{is_switch, within_switch}
 use Rattle.nll_body.proofs.statements.Statements.add_switch.Goals as goal
@@ -11,7 +11,7 @@ operand_is c =
     subst (λ l. IsFlatOperand l (operand_of c.args.operand.now) c.in_ok-operand.operand) (sym c.self.view_is)
     c.in_ok-operand.ensures.operand
 
-blocks_are : (c : goal.In_ok-push) → IsListed c.self.inside.blocks.items c.args.blocks.now c.in_ok-blocks.blocks
+blocks_are : (c : goal.In_ok-push) → IsListedSlice c.self.inside.blocks.items c.args.blocks.now c.in_ok-blocks.blocks
 blocks_are c =
     let same : c.self.inside.blocks.items ≡ c.add_blocks.new.self.blocks =
     ap (λ l. l.blocks) c.self.view_is ∙ ap (λ l. l.blocks) c.add_operand.ensures.places.others in

@@ -1,8 +1,9 @@
-use Rattle.std.proofs.Common.{◌≡◌, get_or, refl, sym, ap, subst, ◌∙◌, inr, arith}
-use Rattle.std.proofs.lemmas.Bool.{false≢true}
+use Rattle.std.proofs.Common.{◌≡◌, get_or, refl, sym, ap, subst, ◌∙◌, ⊎_elim, inr, arith}
+use Rattle.std.proofs.lemmas.Bool.{cases_lt, false≢true}
 use Rattle.std.proofs.lemmas.List.{get_or_default}
 use Rattle.nll_problem.specs.Graph.{Graph}
 use Rattle.nll_sets.specs.ElementSet.{flag}
+use Rattle.nll_sets.specs.Runs.{no_run, IsWithin}
 use Rattle.nll_core.specs.Lines.{IsJump}
 use Rattle.nll_core.specs.declared.frontiers.landings.Landing.{Landing}
 use Rattle.nll_core.proofs.ResumeLemmas.{no_landing, landing_at, jump_from, jump_return}
@@ -30,6 +31,24 @@ returns-then-has c =
       ),
       λ _. refl,
     )
+
+pub loop-run-preserved : goal.loop-run-preserved
+loop-run-preserved c = λ k x below within back. ⊎_elim
+    (λ earlier. c.loop-run.invariant k x earlier within back)
+    (λ here.
+    let same : k ≡ c.loop-run.run-index = omega (arith, below, here) in
+    let inside = subst (λ i. IsWithin (get_or c.as_runs-run-items.result.now i no_run) x) same within in
+    absurd (false≢true (sym c.if-has_return_in.false ∙ c.has_return_in.ensures.1 (x, inside, back))))
+    (cases_lt k c.loop-run.run-index)
+
+pub returns-then-returns-runs : goal.returns-then-returns-runs
+returns-then-returns-runs c = (
+  λ h. absurd (false≢true h),
+  λ w.
+      let i = (c.as_runs-run-items.ensures.make_up w.0).1 w.1 in
+      absurd (c.loop-run.invariant i.0 w.0 (omega (arith, i.1, c.loop-run-test.false)) (i.2, i.3)
+      (rw (← c.requires.landings) at w.2)),
+)
 
 pub returns : goal.returns
 returns c = (

@@ -3,7 +3,7 @@ use Rattle.std.proofs.lemmas.Bool.{false≢true}
 use Rattle.std.proofs.lemmas.Result.{on_ok_weaker}
 use Rattle.nll_problem.specs.declared.at.At.{At}
 use Rattle.nll_sets.specs.declared.run.Run.{Run}
-use Rattle.nll_core.specs.Frontiers.{GoesOn, ListsNew}
+use Rattle.nll_core.specs.Frontiers.{FrontierGoesOn, ListsNew}
 use Rattle.nll_core.proofs.ListingLemmas.{lists_gaps}
 use Rattle.nll_core.proofs.SearchLemmas.{flag_within}
 use Rattle.nll_core.proofs.FrontierLemmas.{asked_walks, goes_by_walks, goes_whole, points_among}
@@ -54,7 +54,8 @@ resume_walks-requires-clause-before c =
 
 pub returns-clause-after : goal.returns-clause-after
 returns-clause-after c = on_ok_weaker c.resume_walks.result
-    (λ w. subst (λ (starts : List At). GoesOn c.args.steps.now c.args.seen.now c.args.run starts c.args.reached.now
+    (λ w. subst (λ (starts : List At). FrontierGoesOn c.args.steps.now c.args.seen.now c.args.run starts
+    c.args.reached.now
     c.resume_walks.new.reached) (sym c.points-points.ensures)
     (goes_by_walks c.args.steps.now c.args.seen.now c.args.run c.points-points.result c.args.reached.now
     c.resume_walks.new.reached w))

@@ -1,13 +1,18 @@
-use Rattle.std.proofs.Common.{sym, subst, ⊎_elim, ◌≡◌, ◌∙◌, arith}
+use Rattle.std.proofs.Common.{Contains, sym, subst, ⊎_elim, ◌≡◌, ◌∙◌, arith}
 use Rattle.std.proofs.lemmas.Bool.{cases_lt, false≢true}
+use Rattle.std.proofs.lemmas.List.Elements.{Contains-get_or}
 use Rattle.nll_problem.specs.Graph.{IsNext}
+use Rattle.nll_core.proofs.SearchLemmas.{contains_at}
 use Rattle.nll_core.proofs.frontiers.element_growth.is_next_of.Goals as goal
 
-pub returns-then-is_successor-clause-yes : goal.returns-then-is_successor-clause-yes
-returns-then-is_successor-clause-yes c = λ _. (
+pub returns-then-successor-point-clause-yes : goal.returns-then-successor-point-clause-yes
+returns-then-successor-point-clause-yes c = λ _. (
   c.found.inside.0,
   rw c.found.view_is c.in-Some.ensures.found,
-  c.is_successor.ensures.0 c.if-is_successor.true,
+  (c.next_of-successor-items.ensures.each c.args.point).0
+      (subst (Contains c.next_of-successor-items.result.now) c.if-successor-point.true
+      (Contains-get_or c.next_of-successor-items.result.now c.loop-successor.successor-index 0
+      c.loop-successor-test.true)),
 )
 
 pub loop-found-preserved : goal.loop-found-preserved
@@ -17,7 +22,9 @@ loop-found-preserved c = λ x low high here next. ⊎_elim
     (λ before. false≢true (sym (c.in-Some.ensures.least x from (omega (arith, before, c.found.view_is))) ∙ here))
     (λ past.
     let same : x ≡ c.found.inside.0 = omega (arith, past, high) in
-    false≢true (sym c.if-is_successor.false
-    ∙ c.is_successor.ensures.1 (subst (λ y. IsNext c.args.graph.now y c.args.point) same next)))
+    let there = (c.next_of-successor-items.ensures.each c.args.point).1
+    (subst (λ y. IsNext c.args.graph.now y c.args.point) same next) in
+    c.loop-successor.invariant there.0 (omega (arith, there.1, c.loop-successor-test.false))
+    (contains_at c.next_of-successor-items.result.now c.args.point there))
     (cases_lt x c.found.inside.0))
     (cases_lt x c.loop-found.next)

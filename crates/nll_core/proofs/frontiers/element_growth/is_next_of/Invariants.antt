@@ -1,4 +1,4 @@
-use Rattle.std.proofs.Common.{ℕ, ◌≤◌, ◌<◌, ◌-◌}
+use Rattle.std.proofs.Common.{◌≡◌, ℕ, ◌≤◌, ◌<◌, ◌-◌, get_or}
 use Rattle.nll_problem.specs.Graph.{IsNext}
 use Rattle.nll_core.specs.Search.{IsIn}
 use Rattle.nll_core.proofs.frontiers.element_growth.is_next_of.Given as goal
@@ -8,3 +8,6 @@ invariant-loop-found l = (x : ℕ) → l.from ≤ x → x < l.next → IsIn l.re
 
 abbrev pub decreases-loop-found : goal.decreases-loop-found
 decreases-loop-found l = l.to - l.next
+
+abbrev pub invariant-loop-successor : goal.invariant-loop-successor
+invariant-loop-successor l = (k : ℕ) → k < l.successor-index → get_or l.successor-items k 0 ≡ l.point → ⊥

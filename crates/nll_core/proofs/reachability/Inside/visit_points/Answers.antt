@@ -1,7 +1,7 @@
 use Rattle.std.proofs.Common.{Contains, slice_index, subst, sym, refl, arith}
 use borrow.Author.Count.{below_more}
 use Rattle.std.proofs.lemmas.List.Elements.{Contains-get_or}
-use Rattle.nll_core.specs.Search.{IsIn, Within, Adds}
+use Rattle.nll_core.specs.Search.{IsIn, Within, AddsOfKind}
 use Rattle.nll_core.proofs.SearchLemmas.{adds_append, adds_weaker, covers_contained}
 use Rattle.nll_core.proofs.reachability.Inside.visit_points.Goals as goal
 
@@ -9,7 +9,7 @@ pub loop-point-preserved : goal.loop-point-preserved
 loop-point-preserved g c =
     let set = g.S.ElementSet.flags c.args.self.now.set.now in
     let points = c.args.points.now in
-    let step : Adds (Within set (Contains points)) c.loop-point.search c.visit.new.search =
+    let step : AddsOfKind (Within set (Contains points)) c.loop-point.search c.visit.new.search =
     adds_weaker _ _ (λ x h. (
       subst (Contains points) (sym h.0)
           (Contains-get_or points c.loop-point.point-index 0 c.loop-point-test.true),

@@ -1,13 +1,13 @@
 use Rattle.std.proofs.Common.{⊎_elim, arith}
 use Rattle.std.proofs.lemmas.Bool.{cases_eq}
-use Rattle.nll_core.specs.Search.{IsInRange, Within, Adds}
+use Rattle.nll_core.specs.Search.{IsInRange, Within, AddsOfKind}
 use Rattle.nll_core.proofs.SearchLemmas.{adds_append, adds_weaker}
 use Rattle.nll_core.proofs.reachability.Inside.visit_range.Goals as goal
 
 pub loop-number-preserved : goal.loop-number-preserved
 loop-number-preserved g c =
     let set = g.S.ElementSet.flags c.args.self.now.set.now in
-    let step : Adds (Within set (IsInRange c.args.from c.args.to)) c.loop-number.search c.visit.new.search =
+    let step : AddsOfKind (Within set (IsInRange c.args.from c.args.to)) c.loop-number.search c.visit.new.search =
     adds_weaker _ _ (λ x h. ((omega (arith, h.0), omega (arith, h.0)), h.1)) _ _ c.in_ok-visit.ensures.adds in
     record {
       adds = adds_append (Within set (IsInRange c.args.from c.args.to)) _ _ _ c.loop-number.invariant.adds step;

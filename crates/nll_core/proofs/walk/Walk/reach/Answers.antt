@@ -3,7 +3,7 @@ use Rattle.std.proofs.lemmas.Bool.{false_from_ne_true}
 use Rattle.std.proofs.lemmas.List.{length-replicate}
 use Rattle.std.proofs.lemmas.Result.{on_ok_weaker}
 use Rattle.nll_sets.specs.ElementSet.{flag}
-use Rattle.nll_core.specs.Walking.{Grows, IsLedFrom, FillsFrom}
+use Rattle.nll_core.specs.Walking.{GrowsByRuns, IsLedFrom, FillsFrom}
 use Rattle.nll_sets.specs.declared.run.Run.{Run}
 use Rattle.nll_core.proofs.SearchLemmas.{none_in_empty}
 use Rattle.nll_core.proofs.LedWalkLemmas.{reached_points, reached_ends, start_inside, start_listed, led_asks}
@@ -20,11 +20,11 @@ nothing c x = false_from_ne_true _
     (subst (λ flags. flag flags x ≡ true) c.clear.ensures h))
 
 -- what was entered, from an empty list
-entered : (c : In_ok-enter_all) → Grows c.args.lines.now c.args.sub.now
+entered : (c : In_ok-enter_all) → GrowsByRuns c.args.lines.now c.args.sub.now
     (IsLedFrom c.args.lines.now c.args.sub.now c.args.pair.now) c.clear.new.self c.enter_all.new.reached
     [] c.enter_all.new.todo.items
 entered c =
-    subst (λ (items : List Run). Grows c.args.lines.now c.args.sub.now
+    subst (λ (items : List Run). GrowsByRuns c.args.lines.now c.args.sub.now
     (IsLedFrom c.args.lines.now c.args.sub.now c.args.pair.now) c.clear.new.self c.enter_all.new.reached items
     c.enter_all.new.todo.items) c.clear-2.ensures.items c.in_ok-enter_all.ensures.grows
 

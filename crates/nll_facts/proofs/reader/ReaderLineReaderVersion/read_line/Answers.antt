@@ -4,7 +4,7 @@ use Rattle.nll_format.specs.Text.{of_form, at_form}
 use Rattle.nll_format.specs.Reading.{skips, reads}
 use Rattle.nll_format.proofs.LinesLemmas.{takes_in, turns_down}
 use Rattle.nll_format.proofs.ListingLemmas.{passes, formless}
-use Rattle.nll_facts.specs.FactsReading.{Adds, SameSaid}
+use Rattle.nll_facts.specs.FactsReading.{AddsFacts, SameSaid}
 use Rattle.nll_facts.specs.FactsText.{facts}
 use Rattle.nll_facts.proofs.FormLemmas.{form_utf8, form_kept, texts_in}
 use Rattle.nll_facts.proofs.SaidLemmas.{adds_said, same_fault}
@@ -33,14 +33,15 @@ returns-in_err-accept-clause-refused c =
 pub returns-clause-taken : goal.returns-clause-taken
 returns-clause-taken c =
     let form = c.in-Some.ensures in
-    takes_in (facts c.args.version.now) SameSaid same_fault Adds adds_said _ _ _
+    takes_in (facts c.args.version.now) SameSaid same_fault AddsFacts adds_said _ _ _
     (reads _ (of_form _ (form_utf8 _ _ form) (form_kept _ _ form)
     (form, sym c.is_of_version.ensures ∙ c.if-not-is_of_version.false) c.in_ok-accept.ensures.taken.fine)
     c.in_ok-accept.ensures.taken.adds)
 
 pub returns-in_default-clause-taken : goal.returns-in_default-clause-taken
 returns-in_default-clause-taken c =
-    on_ok_weaker c.pass_over.result (λ h. takes_in (facts c.args.version.now) SameSaid same_fault Adds adds_said _ _ _
+    on_ok_weaker c.pass_over.result (λ h. takes_in (facts c.args.version.now) SameSaid same_fault AddsFacts adds_said _
+    _ _
     (skips (passes (facts c.args.version.now) _ _ h) refl)) c.pass_over.ensures.ok
 
 pub returns-in_default-clause-refused : goal.returns-in_default-clause-refused

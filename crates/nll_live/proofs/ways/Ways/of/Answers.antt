@@ -1,17 +1,17 @@
 use Rattle.std.proofs.Common.{ℕ, subst}
 use Rattle.nll_problem.specs.Graph.{IsNext}
-use Rattle.nll_live.specs.Chains.{AreStarts}
+use Rattle.nll_live.specs.Chains.{HaveStarts}
 use Rattle.nll_live.proofs.ChainLemmas.{starts_of_body}
 use Rattle.nll_live.proofs.ways.Ways.of.Goals as goal
 
-pub returns-in-Ok-clause-ways : goal.returns-in-Ok-clause-ways
-returns-in-Ok-clause-ways c = record {
+pub returns-clause-ways : goal.returns-clause-ways
+returns-clause-ways c = record {
   shown = c.requires;
   ways =
       record {
         chains = starts_of_body c.args.body.now c.args.previous.now c.in_ok-starts.starts.items c.requires
-            (subst (λ (n : ℕ). AreStarts (IsNext c.args.previous.now) n c.in_ok-starts.starts.items)
+            (subst (λ (n : ℕ). HaveStarts (IsNext c.args.previous.now) n c.in_ok-starts.starts.items)
             c.points.ensures.value c.in_ok-starts.ensures);
-        defined = c.in-Ok.ensures;
+        defined = c.in_ok-definitions.ensures;
       };
 }

@@ -27,10 +27,10 @@ pub returns-in-Assert-clause-refused : goal.returns-in-Assert-clause-refused
 returns-in-Assert-clause-refused c = rw c.in-Assert.is c.add_assert.ensures.refused
 
 pub returns-in-Let-clause-taken : goal.returns-in-Let-clause-taken
-returns-in-Let-clause-taken c = rw c.in-Let.is c.add_variable-taken.ensures.taken
+returns-in-Let-clause-taken c = rw c.in-Let.is c.add_variable.ensures.taken
 
 pub returns-in-Let-clause-refused : goal.returns-in-Let-clause-refused
-returns-in-Let-clause-refused c = rw c.in-Let.is c.add_variable-taken.ensures.refused
+returns-in-Let-clause-refused c = rw c.in-Let.is c.add_variable.ensures.refused
 
 pub returns-in-Blocks-clause-taken : goal.returns-in-Blocks-clause-taken
 returns-in-Blocks-clause-taken c = rw c.in-Blocks.is c.set_blocks.ensures.taken
@@ -46,10 +46,10 @@ pub returns-in-Block-clause-refused : goal.returns-in-Block-clause-refused
 returns-in-Block-clause-refused c = rw c.in-Block.is c.add_block.ensures.refused
 
 pub returns-in-At-clause-taken : goal.returns-in-At-clause-taken
-returns-in-At-clause-taken c = rw c.in-At.is c.add_statement-taken.ensures.taken
+returns-in-At-clause-taken c = rw c.in-At.is c.add_statement.ensures.taken
 
 pub returns-in-At-clause-refused : goal.returns-in-At-clause-refused
-returns-in-At-clause-refused c = rw c.in-At.is c.add_statement-taken.ensures.refused
+returns-in-At-clause-refused c = rw c.in-At.is c.add_statement.ensures.refused
 
 pub returns-in-End-clause-taken : goal.returns-in-End-clause-taken
 returns-in-End-clause-taken c = rw c.in-End.is c.end.ensures.taken

@@ -1,86 +1,141 @@
-use Rattle.std.proofs.Common.{◌≡◌, ℕ, List, [], ◌∷◌, ◌++◌, length, map, not, ap, refl, sym, ◌∙◌, subst, arith}
+use Rattle.std.proofs.Common.{◌≡◌, ℕ, ◌+◌, List, [], ◌∷◌, ◌++◌, length, map, not, ap, refl, sym, ◌∙◌, subst, arith}
 use Rattle.std.specs.Prelude.{All}
+use Rattle.std.proofs.lemmas.Result.{err_from_is_err_and}
 use Rattle.std.proofs.lemmas.List.{length-append, map_push}
 use Rattle.std.proofs.lemmas.List.Elements.{All-push}
+use Rattle.nll_types.specs.Rows.{tree_at}
+use Rattle.nll_types.specs.Tables.{AddsShapes, Tables}
 use Rattle.nll_types.specs.Types.{TypeTree}
 use Rattle.nll_types.specs.declared.typed.Typed.{Typed}
+use Rattle.nll_types.proofs.RowLemmas.{below_rows, have_shapes}
 use Rattle.nll_body.specs.Exits.{edge_count}
 use Rattle.nll_body.specs.Flat.{statement_in, statements_in}
 use Rattle.nll_body.specs.Meant.{HasRows}
 use Rattle.nll_body.specs.Statements.{Statement}
-use Rattle.nll_body.specs.Typed.{meant as meant_with}
+use Rattle.nll_body.specs.Typed.{meant_statement as meant_with}
+use Rattle.nll_body.specs.declared.judgement.Judgement.{Judgement}
+use Rattle.nll_format.specs.declared.error.TextKind.{TextKind}
 use Rattle.nll_mir_grammar.specs.MirForms.{at_point}
+use Rattle.nll_mir_grammar.specs.WrittenTypes.{WrittenName, WrittenType}
 use Rattle.nll_mir_text.specs.MirSteps.{statement_meant}
-use Rattle.nll_mir_text.specs.MirReading.{said_by, scope_in, IsAdmitted, IsTaken}
+use Rattle.nll_mir_text.specs.MirReading.{said_by, scope_in, IsReady, IsRefused, IsTaken}
+use Rattle.nll_mir_text.specs.ResolvedStatements.{IsOfPoint}
 use Rattle.nll_mir_text.specs.declared.groups.Group.TheVariants.{Blocks}
 use Rattle.nll_mir_text.specs.declared.reader.Reader.{Reader}
-use Rattle.nll_mir_text.proofs.PointLemmas.{point_said, edges_more, edges_resolved}
+use Rattle.nll_mir_text.proofs.GrownLemmas.{adds_table, grown, is_grown, placed_grown, said_grown}
+use Rattle.nll_mir_text.proofs.PointLemmas.{point_judged, point_said, edges_more, edges_resolved}
 use Rattle.nll_mir_text.proofs.reader.Reader.add_resolved.Goals as goal
 
-pub push-requires : goal.push-requires
-push-requires c = rw c.in_ok-admitted.ensures.points c.requires.within
+-- the reader with more shapes says what it said
+module _ (r : Reader) (t : Tables) (grows : AddsShapes r.variables.types.table t) (ready : IsReady r) where
+  abbrev later : Reader
+  later = grown r (record r.variables.types { table = t }) r.points.statements
+
+  said : said_by later ≡ said_by r
+  said = said_grown r _ r.points.statements (adds_table r.variables.types t grows) refl ready
+
+  refused_before : (i : Statement WrittenName WrittenType) (kind : TextKind)
+      → IsRefused (said_by later) (at_point i) kind
+      → IsRefused (said_by r) (at_point i) kind
+  refused_before i kind h = subst (λ s. IsRefused s (at_point i) kind) said h
+
+  of_later : (i : Statement WrittenName WrittenType) (j : Judgement) → IsOfPoint (said_by r) i j
+      → IsOfPoint (said_by later) i j
+  of_later i j h = subst (λ s. IsOfPoint s i j) (sym said) h
+
+pub judge_statement-requires-clause-variables : goal.judge_statement-requires-clause-variables
+judge_statement-requires-clause-variables c =
+    rw c.as_slice.ensures.value (below_rows _ _ _ c.requires.ready.rows.variables)
+
+pub judge_statement-requires-clause-written : goal.judge_statement-requires-clause-written
+judge_statement-requires-clause-written c = below_rows _ _ _ c.requires.rows
+
+pub admit-requires-clause-ready : goal.admit-requires-clause-ready
+admit-requires-clause-ready c =
+    let adds = adds_table c.args.self.now.variables.types _ c.in_ok-judged.ensures.grows in
+    (is_grown c.args.self.now _ _ adds refl c.requires.ready).ready
+
+pub returns-in_err-admit-clause-refused : goal.returns-in_err-admit-clause-refused
+returns-in_err-admit-clause-refused c =
+    let p = err_from_is_err_and c.from_residual-in_err-admit.result c.from_residual-in_err-admit.ensures.1 in
+    rw (p.1, p.2) (λ i placed.
+    let r = c.args.self.now in
+    let ready = c.requires.ready in
+    let e = rw c.as_slice.ensures.value at c.in_ok-judged.ensures in
+    let tree = tree_at r.variables.types.table.shapes r.variables.types.regions.items in
+    let judged = e.judged _ (λ (r : ℕ). r) tree (have_shapes _ _ _ ready.rows.variables)
+    (have_shapes _ _ _ c.requires.rows) in
+    let placed_later = placed_grown r _ (adds_table r.variables.types _ e.grows) ready i c.args.statement c.args.fits
+    placed in
+    refused_before r _ e.grows ready i _
+    (c.in_err-admit.ensures.refused i c.args.fits placed_later (of_later r _ e.grows ready i _
+    (point_judged r i c.args.statement c.args.fits placed c.in_ok-judged.judged _ refl refl refl e.declared judged))))
 
 pub returns-clause-taken : goal.returns-clause-taken
-returns-clause-taken c = λ i before.
-    let old = c.admit.new.self in
+returns-clause-taken c = λ i placed.
+    let r = c.args.self.now in
+    let e = rw c.as_slice.ensures.value at c.in_ok-judged.ensures in
+    let tree = tree_at r.variables.types.table.shapes r.variables.types.regions.items in
+    let judged = e.judged _ (λ (r : ℕ). r) tree (have_shapes _ _ _ c.requires.ready.rows.variables)
+    (have_shapes _ _ _ c.requires.rows) in
+    let adds = adds_table r.variables.types _ e.grows in
+    let old = later r _ e.grows c.requires.ready in
+    let p = placed_grown r _ adds c.requires.ready i c.args.statement c.args.fits placed in
+    let h = c.in_ok-admit.ensures.admitted i c.args.fits p (of_later r _ e.grows c.requires.ready i _
+    (point_judged r i c.args.statement c.args.fits placed c.in_ok-judged.judged _ refl refl refl e.declared judged)) in
     let s = said_by old in
-    let told = c.in_ok-admitted.ensures.admitted i before in
-    let h : IsAdmitted s i c.in_ok-admitted.admitted old =
-    subst (λ s. IsAdmitted s i c.in_ok-admitted.admitted old) (sym told.0.same) told.0 in
-    let placed = told.1 in
-    let r = h.ready in
+    let ready = h.ready in
     let types = old.variables.types in
     let kept = statements_in old.points.statements in
     let k = statement_in old.points.statements c.args.statement in
     let new = statements_in c.push.new.self in
-    let e = c.in_ok-push.ensures.ok in
+    let pushed = c.in_ok-push.ensures.ok in
     let stand : map (meant_with types) new ≡ s.points ++ statement_meant s i ∷ [] =
-    ap (map (meant_with types)) e
+    ap (map (meant_with types)) pushed
     ∙ (map_push (meant_with types) kept k
-    ∙ ap (λ (m : Statement ℕ TypeTree). s.points ++ m ∷ []) placed.of.of.meant) in
+    ∙ ap (λ (m : Statement ℕ TypeTree). s.points ++ m ∷ []) p.of.of.meant) in
     let more : edge_count new ≡ edge_count (kept ++ k ∷ []) =
-    ap (λ (is : List (Statement ℕ Typed)). edge_count is) e in
-    let counted : c.in_ok-admitted.admitted.edges ≡ edge_count new =
+    ap (λ (is : List (Statement ℕ Typed)). edge_count is) pushed in
+    let counted : old.points.edges + c.in_ok-exits.exits.edges ≡ edge_count new =
     omega (
       arith,
-      r.edges,
+      ready.edges,
       h.counted,
       more,
       edges_more kept k,
-      edges_resolved (scope_in old.regions old.structs) i types k placed.of.of,
+      edges_resolved (scope_in old.regions old.structs) i types k p.of.of,
     ) in
-    let points =
-    All-push (HasRows types.table.shapes types.regions.items) kept k r.rows.points placed.of.of.rows in
+    let points = All-push (HasRows types.table.shapes types.regions.items) kept k ready.rows.points p.of.of.rows in
     let taken : Reader = record old {
       reached = Blocks;
       points = record old.points {
         statements = c.push.new.self;
-        edges = c.in_ok-admitted.admitted.edges;
-        owes = not c.in_ok-admitted.admitted.ends;
+        edges = old.points.edges + c.in_ok-exits.exits.edges;
+        owes = not c.in_ok-exits.exits.ends;
       };
     } in
-    subst (λ s. IsTaken s (at_point i) taken) told.0.same record {
+    subst (λ s. IsTaken s (at_point i) taken) (said r _ e.grows c.requires.ready) record {
       fine = h.fine;
       says = point_said s i _ _ _ _ refl refl stand (ap not h.ends);
       ready = record {
-        static = r.static;
-        universals = r.universals;
-        few_universals = r.few_universals;
-        few_regions = r.few_regions;
-        no_parameter = r.no_parameter;
-        named_structs = r.named_structs;
-        counted_kinds = r.counted_kinds;
-        kinds = r.kinds;
-        few_structs = r.few_structs;
-        few_variables = r.few_variables;
+        static = ready.static;
+        universals = ready.universals;
+        few_universals = ready.few_universals;
+        few_regions = ready.few_regions;
+        no_parameter = ready.no_parameter;
+        named_structs = ready.named_structs;
+        counted_kinds = ready.counted_kinds;
+        kinds = ready.kinds;
+        few_structs = ready.few_structs;
+        few_variables = ready.few_variables;
         rows = record {
-          variables = r.rows.variables;
-          points = subst (All (HasRows types.table.shapes types.regions.items)) (sym e) points;
+          variables = ready.rows.variables;
+          points = subst (All (HasRows types.table.shapes types.regions.items)) (sym pushed) points;
         };
-        few_blocks = r.few_blocks;
+        few_blocks = ready.few_blocks;
         no_start = λ h. absurd (omega (arith, h));
-        starts = r.starts;
-        few_points = omega (arith, ap length e, length-append kept (k ∷ []), h.few);
+        starts = ready.starts;
+        few_points = omega (arith, ap length pushed, length-append kept (k ∷ []), h.few);
         edges = counted;
         few_edges = h.few_edges;
       };

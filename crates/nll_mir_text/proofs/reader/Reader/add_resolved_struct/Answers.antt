@@ -1,4 +1,4 @@
-use Rattle.std.proofs.Common.{◌≡◌, ◌∙◌, Bool, false, true, sym, refl, ap, inr, map, arith}
+use Rattle.std.proofs.Common.{◌≡◌, ◌∙◌, Bool, false, true, List, [], ◌∷◌, ◌++◌, None, sym, refl, ap, inr, map, arith}
 use Rattle.std.proofs.lemmas.List.{length-map}
 use Rattle.nll_types.specs.Declarations as kept
 use Rattle.nll_types.specs.Shapes.{shape_of, shapes_of, tuple_shape}
@@ -7,19 +7,23 @@ use Rattle.nll_types.specs.declared.typed.Typed.{Typed}
 use Rattle.nll_mir_grammar.specs.TypeTexts.{written}
 use Rattle.nll_mir_grammar.specs.Lines.{parameter_of}
 use Rattle.nll_mir_grammar.specs.Tuples.{IsTuple, parts}
+use Rattle.nll_mir_grammar.specs.declared.line.ParameterText.{ParameterText}
 use Rattle.nll_mir_grammar.specs.declared.line.StructText.{StructText}
 use Rattle.nll_mir_text.specs.Naming.{Scope, all_meant, has_arguments, is_known, meant}
 use Rattle.nll_mir_text.specs.Resolution.{IsResolved}
 use Rattle.nll_mir_text.specs.ToldTypes.{are_known, have_arguments}
-use Rattle.nll_mir_text.specs.MirFaults.{redeclares}
+use Rattle.nll_mir_text.specs.MirFaults.{first_fault, redeclares}
 use Rattle.nll_mir_text.specs.MirSaid.{scope_inside}
-use Rattle.nll_mir_text.specs.MirReading.{said_by}
-use Rattle.nll_mir_text.specs.StructLines.{AreOwn, own_scope}
+use Rattle.nll_mir_text.specs.MirReading.{said_by, struct_form}
+use Rattle.nll_mir_text.specs.StructLines.{AreOwn, is_region_parameter, own_scope}
 use Rattle.nll_mir_text.specs.declared.own_names.OwnNames.{OwnNames}
 use Rattle.nll_mir_text.specs.declared.reader.Reader.{Reader}
 use Rattle.nll_mir_text.proofs.OwnLemmas.{own_known, own_scope_is}
+use Rattle.nll_types.proofs.RowLemmas.{tree_is}
+use Rattle.nll_mir_text.proofs.StructLineLemmas.{fields_are, few_declared, good_declared, taken}
 use Rattle.nll_mir_text.proofs.StructLemmas.{struct_duplicate, struct_unfit, struct_too_large, no_struct_fault, once_each}
 use Rattle.nll_mir_text.proofs.reader.Reader.add_resolved_struct.Goals as goal
+use Rattle.nll_mir_text.proofs.reader.Reader.add_resolved_struct.Goals.{In_ok-declaration}
 
 -- the names in the fields of a struct line are known
 known : (r : Reader) (own : OwnNames) (text : StructText) (i : Typed)
@@ -90,20 +94,10 @@ returns-then-not-has_small_parts-clause-refused c =
     (parts (written text.fields)) c.requires.due.order n.known n.once (n.fits ∙ c.if-not-fits.false)
     (sym ((rw c.shapes.ensures at c.has_small_parts.ensures) _ n.shape) ∙ c.if-not-has_small_parts.true))
 
-pub declare_struct-requires-clause-due : goal.declare_struct-requires-clause-due
-declare_struct-requires-clause-due c = c.requires.due
-
-pub declare_struct-requires-clause-own : goal.declare_struct-requires-clause-own
-declare_struct-requires-clause-own c = c.requires.own
-
-pub declare_struct-requires-clause-fields : goal.declare_struct-requires-clause-fields
-declare_struct-requires-clause-fields c = c.requires.fields
-
-pub declare_struct-requires-clause-tuple : goal.declare_struct-requires-clause-tuple
-declare_struct-requires-clause-tuple c = c.requires.tuple
-
-pub declare_struct-requires-clause-fine : goal.declare_struct-requires-clause-fine
-declare_struct-requires-clause-fine c =
+-- nothing is wrong with it
+fine : (c : In_ok-declaration)
+    → first_fault (said_by c.args.self.now) (struct_form c.args.text.now) ≡ None
+fine c =
     let r = c.args.self.now in
     let text = c.args.text.now in
     let n = is_new r c.args.own.now text c.args.fields c.args.fits c.requires.own c.requires.tuple
@@ -120,5 +114,34 @@ declare_struct-requires-clause-fine c =
       length-map r.variables.types.table.structs kept.declared,
     ))
 
+pub declare-requires-clause-fields : goal.declare-requires-clause-fields
+declare-requires-clause-fields c =
+    let e = c.in_ok-declaration.ensures in
+    good_declared c.args.self.now c.args.own.now c.args.text.now c.requires.due c.requires.own
+    (fine (goal.at.declare-requires-clause-fields c).In_ok-declaration)
+    c.in_ok-declaration.declaration e.regions e.types e.has_drop
+    (e.fields _ (fields_are _ _ _ c.requires.tuple (tree_is _ _ c.args.fields _ c.requires.fields.typed)))
+
+pub declare-requires-clause-few : goal.declare-requires-clause-few
+declare-requires-clause-few c =
+    let e = c.in_ok-declaration.ensures in
+    few_declared c.args.self.now c.args.own.now c.args.text.now c.requires.due c.requires.own
+    (fine (goal.at.declare-requires-clause-few c).In_ok-declaration)
+    c.in_ok-declaration.declaration e.regions e.types e.has_drop
+    (e.fields _ (fields_are _ _ _ c.requires.tuple (tree_is _ _ c.args.fields _ c.requires.fields.typed)))
+
 pub returns-clause-taken : goal.returns-clause-taken
-returns-clause-taken c = c.in_ok-declare_struct.ensures
+returns-clause-taken c =
+    let e = c.in_ok-declaration.ensures in
+    let d = c.in_ok-declare.ensures in
+    let kinds =
+    c.in_ok-kinds.ensures ∙ ap (λ (ps : List ParameterText). map is_region_parameter (map parameter_of ps))
+    c.as_slice-parameters.ensures.value in
+    taken c.args.self.now c.args.own.now c.args.text.now c.requires.due c.requires.own
+    (fine (goal.at.returns-clause-taken c).In_ok-declaration)
+    c.in_ok-declaration.declaration e.regions e.types e.has_drop
+    (e.fields _ (fields_are _ _ _ c.requires.tuple (tree_is _ _ c.args.fields _ c.requires.fields.typed)))
+    c.declare.new.self c.add.new.self d.ok d.shapes c.in_ok-add.ensures.names
+    (c.in_ok-add.ensures.kinds ∙ ap (λ (ks : List Bool).
+    map (λ xs. xs.items) c.args.self.now.structs.kinds.items ++ ks ∷ []) kinds)
+    c.in_ok-add.ensures.none

@@ -8,30 +8,30 @@ use Rattle.nll_mir_text.proofs.FormLemmas.{form_utf8, form_kept, texts_in, few_p
 use Rattle.nll_mir_text.proofs.TextLemmas.{takes_in, turns_down}
 use Rattle.nll_mir_text.proofs.reader.ReaderLineReaderVersion.read_line.Goals as goal
 
-pub take-requires-clause-texts : goal.take-requires-clause-texts
-take-requires-clause-texts c = let form = rw c.in-Some.is at c.in_ok-form.ensures in texts_in _ _ form.0
+pub accept-taken-requires-clause-texts : goal.accept-taken-requires-clause-texts
+accept-taken-requires-clause-texts c = let form = rw c.in-Some.is at c.in_ok-form.ensures in texts_in _ _ form.0
 
-pub take-requires-clause-few : goal.take-requires-clause-few
-take-requires-clause-few c =
+pub accept-taken-requires-clause-few : goal.accept-taken-requires-clause-few
+accept-taken-requires-clause-few c =
     let form = rw c.in-Some.is at c.in_ok-form.ensures in few_parameters_in _ _ c.requires.short form.0
 
 pub returns-in-Some-clause-ready : goal.returns-in-Some-clause-ready
-returns-in-Some-clause-ready c = on_ok_weaker c.take.result (λ told. told.ready) c.take.ensures.taken
+returns-in-Some-clause-ready c = on_ok_weaker c.accept-taken.result (λ told. told.ready) c.accept-taken.ensures.taken
 
 pub returns-in-Some-clause-taken : goal.returns-in-Some-clause-taken
 returns-in-Some-clause-taken c =
     let form = rw c.in-Some.is at c.in_ok-form.ensures in
-    on_ok_weaker c.take.result
+    on_ok_weaker c.accept-taken.result
     (λ told. takes_in c.args.version.now _ _ _
     (reads _ (of_form _ (form_utf8 _ _ form.0) (form_kept _ _ form.0) form told.fine) told.says))
-    c.take.ensures.taken
+    c.accept-taken.ensures.taken
 
 pub returns-in-Some-clause-refused : goal.returns-in-Some-clause-refused
 returns-in-Some-clause-refused c =
     let form = rw c.in-Some.is at c.in_ok-form.ensures in
-    IfErr-weaker c.take.result _ _ (λ kind refused. turns_down c.args.version.now _ _ kind
+    IfErr-weaker c.accept-taken.result _ _ (λ kind refused. turns_down c.args.version.now _ _ kind
     (⊎_elim inl (λ fault. inr (at_form _ _ (form_utf8 _ _ form.0) (form_kept _ _ form.0) form fault)) refused))
-    c.take.ensures.refused
+    c.accept-taken.ensures.refused
 
 pub returns-in-None-clause-taken : goal.returns-in-None-clause-taken
 returns-in-None-clause-taken c =

@@ -1,6 +1,6 @@
 use Rattle.std.proofs.Common.{◌≡◌, ap, ◌∙◌, subst, arith}
 use Rattle.nll_owner.specs.Owner.{Owner}
-use Rattle.nll_model.specs.Working.{Fills}
+use Rattle.nll_model.specs.Working.{FillsLanes}
 use Rattle.nll_model.proofs.FillLemmas.{fills_none, fills_more}
 use Rattle.nll_model.proofs.seat.Seat.fill.Goals as goal
 
@@ -31,7 +31,7 @@ pub returns : goal.returns
 returns c =
     let end : c.loop-to.to ≡ c.args.owners = omega (arith, c.loop-to-test.false, c.loop-to.auto.to-end) in
     record {
-      fills = subst (Fills c.args.self.now _) end c.loop-to.invariant;
+      fills = subst (FillsLanes c.args.self.now _) end c.loop-to.invariant;
       owner = c.loop-to.invariant.owner;
       sound = c.loop-to.invariant.sound;
     }

@@ -1,9 +1,9 @@
-use Rattle.nll_model.specs.Working.{Fills}
+use Rattle.nll_model.specs.Working.{FillsLanes}
 use Rattle.nll_model.proofs.seat.Seat.fill.Given as goal
 
 abbrev pub invariant-loop-to : goal.invariant-loop-to
 invariant-loop-to l =
-    Fills l.fn.self (record {
+    FillsLanes l.fn.self (record {
       owner = l.self-inside.owner;
       item = l.self-inside.item;
       left = l.self-inside.left;

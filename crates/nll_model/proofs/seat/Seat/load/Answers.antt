@@ -2,7 +2,7 @@ use Rattle.std.proofs.Common.{refl, sym, ap, ◌∙◌, subst}
 use Rattle.nll_owner.specs.Owner.{Owner}
 use Rattle.nll_model.specs.declared.seat.Item.TheVariants.{Fresh}
 use Rattle.nll_model.specs.State.{Seat}
-use Rattle.nll_model.specs.Events.{Turns}
+use Rattle.nll_model.specs.Events.{TakesTurn}
 use Rattle.nll_model.proofs.FillLemmas.{turned}
 use Rattle.nll_model.proofs.seat.Seat.load.Goals as goal
 
@@ -30,10 +30,10 @@ returns-clause-turns c =
     refl refl done ok.2 ok.1 (rw (← c.self.view_is) at c.requires.none_fresh)
     ((rw (← c.self.view_is) at c.requires.owners) ∙ sym (ap (λ (o : Owner). o.cut.owners) c.load.ensures.others))
     c.in_ok-fill.ensures.fills in
-    subst (λ (s : Seat). Turns s (record {
+    subst (λ (s : Seat). TakesTurn s (record {
       owner = c.self-2.inside.owner;
       item = Fresh;
       left = c.self-2.inside.left;
       lanes = c.self-2.inside.lanes.items;
     })) c.self.view_is
-    (subst (λ (s : Seat). Turns old (record s { item = Fresh })) (sym c.self-2.view_is) all)
+    (subst (λ (s : Seat). TakesTurn old (record s { item = Fresh })) (sym c.self-2.view_is) all)

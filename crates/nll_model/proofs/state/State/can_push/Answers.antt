@@ -1,6 +1,6 @@
 use Rattle.std.proofs.Common.{◌≢◌, ◌<◌, length, get_or, sym, ap, ◌∙◌, arith}
 use Rattle.nll_owner.proofs.OwnerLemmas.{get_at}
-use Rattle.nll_model.specs.State.{State, IsAt}
+use Rattle.nll_model.specs.State.{WorldState, IsAt}
 use Rattle.nll_model.proofs.StateLemmas.{lanes_is}
 use Rattle.nll_model.proofs.PossibleLemmas.{no_push, may_push}
 use Rattle.nll_model.proofs.state.State.can_push.Goals as goal
@@ -12,7 +12,7 @@ two c = c.are_two.ensures.0 c.if-not-are_two.false
 
 at : (c : After-index) → IsAt c.args.self.now c.args.i c.index.result.now
 at c = get_at c.args.self.now.seats c.args.i c.index.result.now (two c).1
-    (sym (c.index.ensures ∙ ap (λ (w : State). get_or w.seats c.args.i c.index.result.now) c.self.view_is))
+    (sym (c.index.ensures ∙ ap (λ (w : WorldState). get_or w.seats c.args.i c.index.result.now) c.self.view_is))
 
 within : (c : After-index) → c.args.j < length c.index.result.now.lanes
 within c =

@@ -1,5 +1,5 @@
 use Rattle.std.proofs.Common.{◌≡◌, ◌+◌, ◌≤◌, ℕ, get_or, slice_set, ap, ◌∙◌, arith}
-use Rattle.nll_model.specs.State.{Seat, State}
+use Rattle.nll_model.specs.State.{Seat, WorldState}
 use Rattle.nll_model.specs.Events.{owed_seat, fresh_count}
 use Rattle.nll_model.proofs.StateLemmas.{seat_is, owe_small}
 use Rattle.nll_problem.specs.Problem.{Problem}
@@ -12,7 +12,7 @@ use Rattle.nll_model.proofs.state.State.owe.Goals.{After-index_mut}
 
 is : (c : After-index_mut) → c.index_mut.result.now ≡ c.requires.possible.0
 is c = seat_is c.args.self.now c.args.i c.requires.possible.0 c.index_mut.result.now c.requires.possible.1
-    (c.index_mut.ensures.value ∙ ap (λ (w : State). get_or w.seats c.args.i c.index_mut.result.now) c.self.view_is)
+    (c.index_mut.ensures.value ∙ ap (λ (w : WorldState). get_or w.seats c.args.i c.index_mut.result.now) c.self.view_is)
 
 small : (c : After-index_mut) → c.args.self.now.balance + fresh_count c.requires.possible.0 ≤ 2251799813685248
 small c =
@@ -27,7 +27,7 @@ owe-requires c =
 pub overflow_add-self : goal.overflow_add-self
 overflow_add-self c =
     let d = (goal.at.overflow_add-self c).After-index_mut in
-    let e = ap fresh_count (is d) in let n = ap (λ (w : State). w.balance) c.self.view_is in
+    let e = ap fresh_count (is d) in let n = ap (λ (w : WorldState). w.balance) c.self.view_is in
     omega (arith, e, n, small d, c.in_ok-count.ensures.count)
 
 pub returns-clause-does : goal.returns-clause-does
@@ -39,7 +39,7 @@ returns-clause-does c =
       s,
       c.requires.possible.1,
       c.requires.possible.2,
-      ap (λ (w : State). record {
+      ap (λ (w : WorldState). record {
         seats = slice_set w.seats c.args.i c.owe.new.self;
         balance = w.balance + c.in_ok-count.count;
       }) c.self.view_is

@@ -1,5 +1,5 @@
 use Rattle.std.proofs.Common.{◌≡◌, get_or, slice_set, ap, ◌∙◌}
-use Rattle.nll_model.specs.State.{Seat, State}
+use Rattle.nll_model.specs.State.{Seat, WorldState}
 use Rattle.nll_model.proofs.StateLemmas.{seat_is}
 use Rattle.nll_problem.specs.Problem.{Problem}
 use Rattle.nll_cut.specs.Partition.{Cut}
@@ -11,7 +11,7 @@ use Rattle.nll_model.proofs.state.State.push.Goals.{After-index_mut}
 
 is : (c : After-index_mut) → c.index_mut.result.now ≡ c.requires.possible.0
 is c = seat_is c.args.self.now c.args.i c.requires.possible.0 c.index_mut.result.now c.requires.possible.2
-    (c.index_mut.ensures.value ∙ ap (λ (w : State). get_or w.seats c.args.i c.index_mut.result.now) c.self.view_is)
+    (c.index_mut.ensures.value ∙ ap (λ (w : WorldState). get_or w.seats c.args.i c.index_mut.result.now) c.self.view_is)
 
 pub returns-in_err-push-clause-orderly : goal.returns-in_err-push-clause-orderly
 returns-in_err-push-clause-orderly c =

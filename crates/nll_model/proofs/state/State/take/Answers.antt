@@ -1,20 +1,20 @@
 use Rattle.std.proofs.Common.{◌≡◌, ℕ, [], length, get_or, slice_set, sym, ap, ◌∙◌, subst, arith}
-use Rattle.nll_owner.specs.Owner.{IsSound, Passes, with_growth}
-use Rattle.nll_model.specs.State.{Seat, State, with_lane, lane_to}
-use Rattle.nll_model.specs.Events.{Turns}
+use Rattle.nll_owner.specs.Owner.{IsSoundOwner, Passes, with_growth}
+use Rattle.nll_model.specs.State.{Seat, WorldState, with_lane, lane_to}
+use Rattle.nll_model.specs.Events.{TakesTurn}
 use Rattle.nll_model.proofs.StateLemmas.{seat_is, place_in, owners_is, lanes_is, seats_few, none_fresh, other_is, passes, taken_is, taken_orderly}
 use Rattle.nll_problem.specs.Problem.{Problem}
 use Rattle.nll_cut.specs.Partition.{Cut}
 use Rattle.nll_owner.proofs.ReceiptLemmas.{on_err_always}
 use Rattle.nll_model.specs.Soundness.{IsOrderly}
-use Rattle.nll_model.specs.Working.{GoesOn, IsGrowthFrom}
+use Rattle.nll_model.specs.Working.{OwnerGoesOn, IsGrowthFrom}
 use Rattle.nll_model.proofs.state.State.take.Goals as goal
 use Rattle.nll_model.proofs.state.State.take.Goals.{After-index_mut, After-index_mut-in-Some}
 
 giver : (c : After-index_mut) → c.index_mut.result.now ≡ c.requires.possible.1
 giver c =
     seat_is c.args.self.now c.args.j c.requires.possible.1 c.index_mut.result.now c.requires.possible.5
-    (c.index_mut.ensures.value ∙ ap (λ (w : State). get_or w.seats c.args.j c.index_mut.result.now) c.self.view_is)
+    (c.index_mut.ensures.value ∙ ap (λ (w : WorldState). get_or w.seats c.args.j c.index_mut.result.now) c.self.view_is)
 
 taker : (c : After-index_mut-in-Some) → c.index_mut-in-Some.result.now ≡ c.requires.possible.0
 taker c =
@@ -23,12 +23,12 @@ taker c =
     c.requires.possible.5
     c.take.new.self c.index_mut-in-Some.result.now
     (c.index_mut-in-Some.ensures.value ∙ ap
-    (λ (w : State). get_or (slice_set w.seats c.args.j c.take.new.self) c.args.i c.index_mut-in-Some.result.now)
+    (λ (w : WorldState). get_or (slice_set w.seats c.args.j c.take.new.self) c.args.i c.index_mut-in-Some.result.now)
     c.self.view_is)
 
 pub overflow_cast-owners : goal.overflow_cast-owners
 overflow_cast-owners c =
-    let n = ap (λ (w : State). length w.seats) c.self.view_is in
+    let n = ap (λ (w : WorldState). length w.seats) c.self.view_is in
     let few =
     seats_few c.requires.sound.0 c.requires.sound.1 c.args.self.now c.requires.sound.2 c.args.i
     c.requires.possible.0 c.requires.possible.3 in
@@ -36,7 +36,7 @@ overflow_cast-owners c =
 
 pub index_mut-requires : goal.index_mut-requires
 index_mut-requires c =
-    let n = ap (λ (w : State). length w.seats) c.self.view_is in
+    let n = ap (λ (w : WorldState). length w.seats) c.self.view_is in
     omega (
       arith,
       n,
@@ -58,7 +58,7 @@ take-requires c =
 
 pub index_mut-requires-in-Some : goal.index_mut-requires-in-Some
 index_mut-requires-in-Some c =
-    let n = ap (λ (w : State). length w.seats) c.self.view_is in
+    let n = ap (λ (w : WorldState). length w.seats) c.self.view_is in
     omega (
       arith,
       n,
@@ -69,7 +69,7 @@ index_mut-requires-in-Some c =
 pub receive-requires-clause-sound : goal.receive-requires-clause-sound
 receive-requires-clause-sound c =
     let d = (goal.at.receive-requires-clause-sound c).After-index_mut-in-Some in
-    subst (λ (s : Seat). IsSound s.owner) (sym (taker d))
+    subst (λ (s : Seat). IsSoundOwner s.owner) (sym (taker d))
     (c.requires.sound.2.seats c.args.i c.requires.possible.0 c.requires.possible.3).sound
 
 pub receive-requires-clause-whole : goal.receive-requires-clause-whole
@@ -96,7 +96,7 @@ receive-requires-clause-passes c =
 pub receive-requires-clause-owners : goal.receive-requires-clause-owners
 receive-requires-clause-owners c =
     let d = (goal.at.receive-requires-clause-owners c).After-index_mut-in-Some in
-    let n = ap (λ (w : State). length w.seats) c.self.view_is in
+    let n = ap (λ (w : WorldState). length w.seats) c.self.view_is in
     let o = owners_is c.requires.sound.0 c.requires.sound.1 c.args.self.now c.requires.sound.2 c.args.i
     c.requires.possible.0 c.requires.possible.3 in
     let e = ap (λ (s : Seat). s.owner.cut.owners) (taker d) in
@@ -105,7 +105,7 @@ receive-requires-clause-owners c =
 pub receive-requires-clause-lanes : goal.receive-requires-clause-lanes
 receive-requires-clause-lanes c =
     let d = (goal.at.receive-requires-clause-lanes c).After-index_mut-in-Some in
-    let n = ap (λ (w : State). length w.seats) c.self.view_is in
+    let n = ap (λ (w : WorldState). length w.seats) c.self.view_is in
     let o = lanes_is c.requires.sound.0 c.requires.sound.1 c.args.self.now c.requires.sound.2 c.args.i
     c.requires.possible.0 c.requires.possible.3 in
     let e = ap (λ (s : Seat). length s.lanes) (taker d) in
@@ -145,10 +145,10 @@ returns-clause-does c =
       c.requires.possible.4.2,
       c.requires.possible.5,
       first,
-      subst (λ (x : Seat). Turns x t) (taker d) c.in_ok-receive-in-Some.ensures.turns,
+      subst (λ (x : Seat). TakesTurn x t) (taker d) c.in_ok-receive-in-Some.ensures.turns,
       subst (λ (x : Seat). t.owner.received ≡ with_growth x.owner.received c.args.j c.in-Some.growth)
           (taker d) c.in_ok-receive-in-Some.ensures.received,
-      ap (λ (w : State). record {
+      ap (λ (w : WorldState). record {
         seats = slice_set (slice_set w.seats c.args.j c.take.new.self) c.args.i t;
         balance = w.balance;
       }) c.self.view_is
@@ -166,7 +166,7 @@ returns-in_err-receive-in-Some-clause-orderly c =
     c.in-Some.ensures.2 ∙ ap (λ (x : Seat).
     with_lane x c.args.i (record (lane_to x c.args.i) { box = c.in-Some.ensures.0 })) (giver e) in
     let on =
-    subst (λ (x : Seat). GoesOn (IsGrowthFrom c.args.j c.in-Some.growth) x.owner c.receive.new.self.owner)
+    subst (λ (x : Seat). OwnerGoesOn (IsGrowthFrom c.args.j c.in-Some.growth) x.owner c.receive.new.self.owner)
     (taker d) c.receive.ensures.goes_on in
     let all : (q : Problem) (f : Cut) → IsOrderly q f c.args.self.now
     → IsOrderly q f (record {
@@ -175,7 +175,7 @@ returns-in_err-receive-in-Some-clause-orderly c =
       balance =
           c.self.inside.balance;
     }) = λ q f orderly.
-    subst (λ (w : State). IsOrderly q f
+    subst (λ (w : WorldState). IsOrderly q f
     (record {
       seats = slice_set (slice_set w.seats c.args.j c.take.new.self) c.args.i c.receive.new.self;
       balance = w.balance;

@@ -6,7 +6,7 @@ use Rattle.nll_cut.specs.Partition.{Cut, owner_of}
 use Rattle.nll_owner.specs.Logs.{IsTold}
 use Rattle.nll_owner.specs.Owner.{Owner}
 use Rattle.nll_owner.proofs.OwnerLemmas.{get_at}
-use Rattle.nll_model.specs.State.{State, IsAt}
+use Rattle.nll_model.specs.State.{WorldState, IsAt}
 use Rattle.nll_model.specs.Soundness.{IsSoundSeat}
 use Rattle.nll_model.proofs.SaysLemmas.{AreSaid, said_more, said_all}
 use Rattle.nll_model.proofs.state.State.values.Goals as goal
@@ -22,7 +22,8 @@ at c =
     subst (λ i. IsAt c.args.self.now i c.index.result.now) o
     (get_at c.args.self.now.seats c.owner_of.result c.index.result.now
     (omega (arith, o, owned, c.requires.sound.count))
-    (sym (c.index.ensures ∙ ap (λ (w : State). get_or w.seats c.owner_of.result c.index.result.now) c.self.view_is)))
+    (sym (c.index.ensures ∙ ap (λ (w : WorldState). get_or w.seats c.owner_of.result c.index.result.now)
+    c.self.view_is)))
 
 seat : (c : After-owner-owner)
     → IsSoundSeat c.args.problem.now c.args.cut.now (owner_of c.args.cut.now c.loop-number.number) c.index.result.now

@@ -1,11 +1,24 @@
-use Rattle.std.proofs.Common.{◌<◌, rules}
+use Rattle.std.proofs.Common.{◌<◌, arith}
+use Rattle.nll_problem.specs.Answers.{AddsFact}
+use Rattle.nll_problem.specs.Bases.{distinct}
+use Rattle.nll_problem.proofs.BaseLemmas.{adds_distinct, distinct_once}
 use Rattle.nll_problem.proofs.ProblemLemmas.{sound_outlives}
 use Rattle.nll_problem.proofs.builder.ProblemBuilder.outlives.Goals as goal
 
 pub invariant_of-self-2 : goal.invariant_of-self-2
 invariant_of-self-2 c =
-    let longer : c.args.longer < c.args.self.now.graph.universals = search rules in
-    let shorter : c.args.shorter < c.args.self.now.graph.universals = search rules in
-    sound_outlives _ c.self.invariant _ c.args.longer c.args.shorter
-    (λ x. (c.in_ok-insert.ensures.ok.each x).0) c.in_ok-insert.ensures.once
-    (rw (← c.self.view_is) at longer) (rw (← c.self.view_is) at shorter)
+    let adds : AddsFact (distinct c.self.inside.outlives.items) (distinct c.push.new.self.items)
+    (c.args.longer, c.args.shorter) =
+    rw c.in_ok-push.ensures.items (adds_distinct c.self.inside.outlives.items (c.args.longer, c.args.shorter)) in
+    let longer : c.args.longer < c.self.inside.graph.universals = omega arith in
+    let shorter : c.args.shorter < c.self.inside.graph.universals = omega arith in (
+      sound_outlives _ c.self.invariant.0 _ c.args.longer c.args.shorter (λ x. (adds.each x).0)
+          (distinct_once c.push.new.self.items) longer shorter,
+      c.self.invariant.1,
+      c.self.invariant.2,
+    )
+
+pub returns-clause-ok : goal.returns-clause-ok
+returns-clause-ok c =
+    rw (← c.self.view_is, c.in_ok-push.ensures.items)
+    (adds_distinct c.self.inside.outlives.items (c.args.longer, c.args.shorter))

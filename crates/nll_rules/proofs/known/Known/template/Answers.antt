@@ -1,7 +1,10 @@
-use Rattle.std.proofs.Common.{ap, ◌∙◌, sym}
+use Rattle.std.proofs.Common.{ℕ, Option, ap, ◌∙◌, sym}
+use Rattle.std.specs.Prelude.{unwrap_or}
+use Rattle.std.proofs.lemmas.Option.{unwrap_or-slice_get}
 use Rattle.std.proofs.lemmas.Result.{IfOk-weaker}
 use Rattle.nll_types.specs.Declarations.{structs_of}
 use Rattle.nll_types.specs.Table.{shape_over, shapes_in}
+use Rattle.nll_rules.proofs.FieldLemmas.{is_use_row}
 use Rattle.nll_rules.proofs.KnownLemmas.{template_is}
 use Rattle.nll_rules.proofs.known.Known.template.Goals as goal
 
@@ -11,9 +14,11 @@ returns-clause-row c = rw (← c.self.view_is) (IfOk-weaker c.field_template.res
     let ns = c.self.inside.shapes in
     let known = c.in-Some.known.now in
     let right = rw c.structs-structs.ensures at c.learn.ensures.right in
-    template_is structs ns c.args.shape s c.in-Named.named _ c.args.place rs ts _ known c.use_row-arguments.result o
+    template_is structs ns c.args.shape s c.in-Named.named _ c.args.place rs ts _ known _ o
     same (c.node.ensures.at ∙ ap (shape_over (shapes_in ns)) c.in-Named.is)
     (right c.args.shape known c.in-Some.ensures.found).1
-    (λ row rs ts count begun is. c.use_row-arguments.ensures row rs ts
-    (count ∙ sym (c.len.ensures ∙ known.signs.ok.0)) (c.as_slice.ensures.value ∙ begun) is)
+    (λ row rs ts count begun is. is_use_row _ row rs ts 0 (count ∙ sym (c.len.ensures ∙ known.signs.ok.0)) is
+    (c.as_slice-starts.ensures.value ∙ begun)
+    (c.unwrap_or.ensures ∙ ap (λ (o : Option ℕ). unwrap_or o 0) (c.copied.ensures ∙ c.last.ensures.value)
+    ∙ unwrap_or-slice_get c.as_slice-starts.result.now _ 0))
     (rw c.structs-structs.ensures at row)) c.field_template.ensures)

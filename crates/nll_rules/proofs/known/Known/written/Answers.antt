@@ -1,19 +1,20 @@
-use Rattle.std.proofs.Common.{subst, arith}
+use Rattle.std.proofs.Common.{◌∙◌, subst, arith}
+use Rattle.nll_types.proofs.TableLemmas.{extends_same}
+use Rattle.nll_types.specs.Declarations.{structs_of}
 use Rattle.nll_types.specs.Table.{Extends}
 use Rattle.nll_rules.specs.Knowing.{KnownTypes}
-use Rattle.nll_rules.proofs.KnownLemmas.{written_row}
+use Rattle.nll_rules.proofs.KnownLemmas.{known_count, written_row}
 use Rattle.nll_rules.proofs.known.Known.written.Goals as goal
 
-pub learn-requires : goal.learn-requires
-learn-requires c =
-    let e = subst (λ (k : KnownTypes). Extends k.shapes k.table) c.self.view_is c.self.invariant.1 in
-    let l = e.longer in let w = c.requires.within in omega arith
+pub learn-requires-clause-within : goal.learn-requires-clause-within
+learn-requires-clause-within c =
+    let l = c.self.invariant.1.longer in
+    let w = (rw (← c.self.view_is) at c.requires).within in omega arith
 
 pub returns-clause-row : goal.returns-clause-row
-returns-clause-row c =
-    let k = c.args.self.now in
-    let e = subst (λ (k : KnownTypes). Extends k.shapes k.table) c.self.view_is c.self.invariant.1 in
-    let learns = c.learn.ensures.learns in
-    rw learns.regions (written_row k.shapes k.table c.learn.new.self.table k.regions c.learn.new.self.made c.args.ty
-    c.in_ok-count.count
-    c.requires e learns.table c.in_ok-count.ensures.count)
+returns-clause-row c = rw (← c.self.view_is) (
+    let k = c.self.inside in
+    let count = known_count (structs_of c.structs-structs.result.now) _ _ c.args.ty.shape c.len.result _
+    c.learn.ensures.right c.in-Some.ensures.found (c.len.ensures ∙ c.in-Some.known.now.signs.ok.0) in
+    written_row k.body.types.now.table.shapes k.shapes k.shapes k.body.types.now.regions.items k.lists.made.items
+    c.args.ty c.len.result (rw (← c.self.view_is) at c.requires) c.self.invariant.1 (extends_same k.shapes) count)

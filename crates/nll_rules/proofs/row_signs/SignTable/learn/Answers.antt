@@ -1,5 +1,7 @@
 use Rattle.std.proofs.Common.{⊎_elim, inl, inr, Some}
 use Rattle.nll_types.specs.Declarations.{structs_of}
+use Rattle.nll_types.specs.Table.{shape_in}
+use Rattle.nll_rules.specs.TypeRows.{AreSignsOf}
 use Rattle.nll_rules.proofs.RowSignLemmas.{found_one, set_here, set_kept, set_other, signs_put}
 use Rattle.nll_rules.proofs.SubtypeLemmas.{some_is}
 use Rattle.nll_rules.proofs.row_signs.SignTable.learn.Goals as goal
@@ -11,23 +13,29 @@ returns-then-is_some-clause-known c =
 
 pub returns-clause-right : goal.returns-clause-right
 returns-clause-right c =
-    signs_put (structs_of c.args.structs.now) c.args.shapes.now _ _ c.args.shape c.in_ok-made.made c.requires.within
-    c.in_ok-made.ensures c.requires.right (λ k e h. ⊎_elim
+    let right : AreSignsOf (structs_of c.args.structs.now) (shape_in c.args.shapes.now c.args.shape)
+    c.push_top.new.made =
+    record {
+      signs = rw c.new.ensures.items at c.in_ok-push_top.ensures.signs;
+      starts = rw (c.new-2.ensures.items, c.new.ensures.items) at c.in_ok-push_top.ensures.starts;
+    } in
+    signs_put (structs_of c.args.structs.now) c.args.shapes.now _ _ c.args.shape c.push_top.new.made c.requires.within
+    right c.requires.right (λ k e h. ⊎_elim
     (λ p. inl ((c.make_place.ensures.same k e).0 p))
-    (λ p. inr (p.0, some_is e c.in_ok-made.made p.1))
-    (set_other c.make_place.new.known.items c.args.shape k (Some c.in_ok-made.made) (Some e) h))
+    (λ p. inr (p.0, some_is e c.push_top.new.made p.1))
+    (set_other c.make_place.new.known.items c.args.shape k (Some c.push_top.new.made) (Some e) h))
 
 pub returns-clause-known : goal.returns-clause-known
 returns-clause-known c = (
-  c.in_ok-made.made,
-  set_here c.make_place.new.known.items c.args.shape (Some c.in_ok-made.made) c.in_ok-make_place.ensures.within,
+  c.push_top.new.made,
+  set_here c.make_place.new.known.items c.args.shape (Some c.push_top.new.made) c.in_ok-make_place.ensures.within,
 )
 
 pub returns-clause-kept : goal.returns-clause-kept
 returns-clause-kept c k h = ⊎_elim
     (λ p. (h.0, p))
-    (λ p. (c.in_ok-made.made, p))
-    (set_kept c.make_place.new.known.items c.args.shape k (Some c.in_ok-made.made) (Some h.0)
+    (λ p. (c.push_top.new.made, p))
+    (set_kept c.make_place.new.known.items c.args.shape k (Some c.push_top.new.made) (Some h.0)
     ((c.make_place.ensures.same k h.0).1 h.1))
 
 pub returns-in_err-make_place-clause-right : goal.returns-in_err-make_place-clause-right
@@ -36,8 +44,8 @@ returns-in_err-make_place-clause-right c k e h = c.requires.right k e ((c.make_p
 pub returns-in_err-make_place-clause-kept : goal.returns-in_err-make_place-clause-kept
 returns-in_err-make_place-clause-kept c k h = (h.0, (c.make_place.ensures.same k h.0).1 h.1)
 
-pub returns-in_err-made-clause-right : goal.returns-in_err-made-clause-right
-returns-in_err-made-clause-right c k e h = c.requires.right k e ((c.make_place.ensures.same k e).0 h)
+pub returns-in_err-push_top-clause-right : goal.returns-in_err-push_top-clause-right
+returns-in_err-push_top-clause-right c k e h = c.requires.right k e ((c.make_place.ensures.same k e).0 h)
 
-pub returns-in_err-made-clause-kept : goal.returns-in_err-made-clause-kept
-returns-in_err-made-clause-kept c k h = (h.0, (c.make_place.ensures.same k h.0).1 h.1)
+pub returns-in_err-push_top-clause-kept : goal.returns-in_err-push_top-clause-kept
+returns-in_err-push_top-clause-kept c k h = (h.0, (c.make_place.ensures.same k h.0).1 h.1)

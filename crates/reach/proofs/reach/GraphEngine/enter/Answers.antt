@@ -1,6 +1,6 @@
 use Rattle.std.proofs.Common.{Contains, inl, inr, ⊎_elim, subst, sym, rules}
 use Rattle.keeper.proofs.OwnLemmas.{finds_more}
-use Rattle.reach.specs.Reach.{ends, reach_lawful, rules as reach_rules}
+use Rattle.reach.specs.Reach.{ends, reach_lawful, rules_of_reach as reach_rules}
 use Rattle.reach.proofs.reach.GraphEngine.enter.Goals as goal
 
 pub returns-clause-found : goal.returns-clause-found

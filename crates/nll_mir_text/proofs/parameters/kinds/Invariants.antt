@@ -1,9 +1,0 @@
-use Rattle.std.proofs.Common.{◌≡◌, ◌++◌, map, drop}
-use Rattle.nll_mir_grammar.specs.Lines.{parameter_of}
-use Rattle.nll_mir_text.specs.StructLines.{is_region}
-use Rattle.nll_mir_text.proofs.parameters.kinds.Given as goal
-
-abbrev pub invariant-loop-parameter : goal.invariant-loop-parameter
-invariant-loop-parameter l =
-    l.kinds.items ++ map is_region (map parameter_of (drop l.parameter-index l.parameters))
-    ≡ map is_region (map parameter_of l.parameters)
