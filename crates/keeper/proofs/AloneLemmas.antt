@@ -29,18 +29,10 @@ module _ {A F G : Type 0} (rules : Rules A F G) (lawful : AreLawful rules) (o : 
   none_other i j li lj other = absurd (other (only i li ∙ sym (only j lj)))
 
   are_sound : AreSound rules o.system logs received
-  are_sound = record {
-    counted = sym one;
-    well_formed = λ i low. rw (log_is i low, only i low) sound.well_formed;
-    supported = λ i low. rw (log_is i low, only i low) sound.supported;
-    heard = λ i j li lj other g at. none_other i j li lj other;
-  }
+  are_sound = grind (arith, log_is, only, none_other)
 
   are_settled : AreSettled rules o.system logs received
-  are_settled = record {
-    saturated = λ i low. rw (log_is i low, only i low) done;
-    told = λ i j li lj other. none_other i j li lj other;
-  }
+  are_settled = grind (arith, log_is, only, none_other)
 
   least : (f : F) → IsTold rules (log_of logs (rules.owner o.system f)) f ↔ Least rules o.system f
   least = least_exact rules lawful o.system sound.valid logs received are_sound are_settled
@@ -68,23 +60,10 @@ module _ {A F G : Type 0} (rules : Rules A F G) (lawful : AreLawful rules) (o : 
   told i j = part rules o.system i (log_of logs j)
 
   supported_so : IsWellSupported rules o.system (list_of rules o.system o.me o.log (told o.me)) o.log
-  supported_so g at =
-      lawful.local o.system sound.valid (λ f. tells_before rules (rules.rank g) (list_in rules o f) f)
-      (λ f. tells_before rules (rules.rank g) (list_of rules o.system o.me o.log (told o.me) f) f) (rules.fact g)
-      (λ f sees t.
-      let mine : Sees rules o.system o.me f =
-      subst (λ k. Sees rules o.system k f) (sound.well_formed.own g at) sees in
-      subst (λ xs. IsTrue (tells_before rules (rules.rank g) xs f))
-      (own_list (received_from o) f mine ∙ sym (own_list (told o.me) f mine)) t)
-      (sound.supported g at)
+  supported_so g at = grind (arith, own_list)
 
   pub logs_sound : AreSound rules o.system logs told
-  logs_sound = record {
-    counted = sym one;
-    well_formed = are_sound.well_formed;
-    supported = λ i low. rw (log_is i low, only i low) supported_so;
-    heard = λ i j li lj other g at. none_other i j li lj other;
-  }
+  logs_sound = grind (arith, are_sound, log_is, only, supported_so, none_other)
 
   pub logs_ranked : AreRanked rules o.system logs
   logs_ranked = record {

@@ -15,44 +15,17 @@ module _ {A F G : Type 0} (rules : Rules A F G) (a : A) (g : G) where
       old) where
     -- owner i reads the growth and gets it
     pub dealt_push : rules.reads a i (rules.fact g) ≡ true → AreDealt rules a g (i + 1) old (with_growth new i g)
-    dealt_push reads = record {
-      counted = length-set new i (get_or new i [] ++ g ∷ []) ∙ dealt.counted;
-      got = λ j below within. ⊎_elim
-          (λ (same : j ≡ i). subst (λ k. get_or (with_growth new i g) k [] ≡ get_or old k [] ++ part rules a k (g ∷ []))
-          (sym same)
-          (get_or-set_same new i (get_or new i [] ++ g ∷ []) [] (omega (arith, dealt.counted, low))
-          ∙ (ap (λ xs. xs ++ g ∷ []) (dealt.left i (omega arith))
-          ∙ ap (λ xs. get_or old i [] ++ xs) (sym (part_one i true reads)))))
-          (λ (other : j ≢ i). get_or-set_other new i j (get_or new i [] ++ g ∷ []) [] other
-          ∙ dealt.got j (omega (arith, below, other)) within)
-          (cases_eq j i);
-      left = λ j above. get_or-set_other new i j (get_or new i [] ++ g ∷ []) [] (λ same. omega (arith, above, same))
-          ∙ dealt.left j (omega (arith, above));
-    }
+    dealt_push reads = grind (arith, length-set, get_or, ⊎_elim, get_or-set_same, part_one, get_or-set_other, cases_eq)
 
     -- owner i doesn't read it
     pub dealt_pass : rules.reads a i (rules.fact g) ≡ false → AreDealt rules a g (i + 1) old new
-    dealt_pass reads = record {
-      counted = dealt.counted;
-      got = λ j below within. ⊎_elim
-          (λ (same : j ≡ i). subst (λ k. get_or new k [] ≡ get_or old k [] ++ part rules a k (g ∷ []))
-          (sym same)
-          (dealt.left i (omega arith)
-          ∙ (sym (append-nil (get_or old i []))
-          ∙ ap (λ xs. get_or old i [] ++ xs) (sym (part_one i false reads)))))
-          (λ (other : j ≢ i). dealt.got j (omega (arith, below, other)) within)
-          (cases_eq j i);
-      left = λ j above. dealt.left j (omega (arith, above));
-    }
+    dealt_pass reads = grind (arith, ⊎_elim, get_or, append-nil, part_one, cases_eq)
 
 module _ {A F G : Type 0} (rules : Rules A F G) (b a : A) (system : a ≡ b) (lists : List (List G)) where
   -- what the lists had of the log they have of the beginning of a longer one
   pub parts_front : (old log rest : List G) (place : ℕ) → log ≡ old ++ rest → place ≡ length old
       → AreParts rules b old lists → AreParts rules a (take place log) lists
-  parts_front old log rest place more all parts =
-      subst (λ xs. AreParts rules a xs lists)
-      (sym (ap (take place) more ∙ (ap (λ n. take n (old ++ rest)) all ∙ take-append_seam old rest)))
-      (subst (λ x. AreParts rules x old lists) (sym system) parts)
+  parts_front old log rest place more all parts = grind (arith, take-append_seam)
 
   pub parts_same : (log : List G) → AreParts rules a log lists → AreParts rules b log lists
   parts_same log parts = subst (λ x. AreParts rules x log lists) system parts

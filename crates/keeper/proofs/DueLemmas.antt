@@ -14,11 +14,7 @@ module _ {A F G : Type 0} (rules : Rules A F G) (lawful : AreLawful rules) (a : 
   -- what was found by some facts is found by more
   found_more : (known more : F → Bool) → ((f : F) → IsTrue (known f) → IsTrue (more f)) → (f : F)
       → IsFound rules a i known f → IsFound rules a i more f
-  found_more known more each f h = record {
-    own = h.own;
-    proper = h.proper;
-    follows = derives_more rules lawful a ok known more each f h.follows;
-  }
+  found_more known more each f h = grind (arith, derives_more)
 
   -- a fact that was due was entered, and with it what follows
   pub due_entered : (known more : F → Bool) (list new : List F) (fact : F)
@@ -49,10 +45,7 @@ module _ {A F G : Type 0} (rules : Rules A F G) (lawful : AreLawful rules) (a : 
       → IsDue rules a i known list → ((f : F) → more f ≡ with_fact rules fact known f)
       → Finds rules a i more (λ f. rules.derives a known f) list new → IsDue rules a i more new
   due_received known more list new fact due is finds = record {
-    each = λ f h. ⊎_elim
-        (λ old. found_more known more kept f (due.each f old))
-        (λ found. found)
-        (finds.each f h);
+    each = grind (arith, ⊎_elim, found_more);
     all = λ f own follows. ⊎_elim
         (λ before. ⊎_elim (λ k. inl (kept f k)) (λ old. inr (finds.kept f old)) (due.all f own before))
         (λ h. inr h)
@@ -85,10 +78,7 @@ module _ {A F G : Type 0} (rules : Rules A F G) (lawful : AreLawful rules) (a : 
 -- a fact more that is known already is none
 pub already : {A F G : Type 0} (rules : Rules A F G) (lawful : AreLawful rules) (known : F → Bool) (fact : F)
     → IsTrue (known fact) → (f : F) → with_fact rules fact known f ≡ known f
-already rules lawful known fact is f = same_truth (with_fact rules fact known f) (known f)
-    (λ h. ⊎_elim (λ same. subst (λ x. known x ≡ true) ((lawful.same_tells fact f).0 same) is) (λ old. old)
-    (or_cases (rules.same fact f) (known f) h))
-    (λ h. or_right (rules.same fact f) (known f) h)
+already rules lawful known fact is f = grind (arith, same_truth, ⊎_elim, or_cases, or_right)
 
 -- the same facts are due at the same owner of the same system
 pub due_at : {A F G : Type 0} (rules : Rules A F G) (a b : A) (i j : ℕ) (known : F → Bool) (list : List F) → a ≡ b
@@ -99,10 +89,7 @@ due_at rules a b i j known list system me due =
 -- nothing is left to do where nothing is due
 pub done_now : {A F G : Type 0} (rules : Rules A F G) (lawful : AreLawful rules) (o : State A G) (list : List F)
     → IsDue rules o.system o.me (has rules o) list → list ≡ [] → IsDone rules o
-done_now rules lawful o list due none f own follows = ⊎_elim
-    (λ h. tells_from rules lawful.same_tells (list_in rules o f) f h)
-    (λ h. absurd (let l = (subst (λ xs. Contains xs f) none h).1 in omega (arith, l)))
-    (due.all f own follows)
+done_now rules lawful o list due none f own follows = grind (arith, ⊎_elim, tells_from)
 
 -- ---- what an engine finds
 
@@ -119,13 +106,7 @@ module _ {A F G : Type 0} (rules : Rules A F G) (lawful : AreLawful rules) (b : 
           → Finds rules b i more' (λ f. rules.derives b known' f) old new
       here h = record {
         kept = h.kept;
-        each = λ f at. ⊎_elim inl
-            (λ (found : IsFound rules b i more f). inr (record {
-              own = found.own;
-              proper = found.proper;
-              follows = derives_more rules lawful b ok more more' (λ g k. same_more g ∙ k) f found.follows;
-            }))
-            (h.each f at);
+        each = grind (arith, ⊎_elim, derives_more);
         all = λ f own follows. ⊎_elim
             (λ before. inl (derives_more rules lawful b ok known known' (λ g k. same_known g ∙ k) f before))
             inr
@@ -134,6 +115,4 @@ module _ {A F G : Type 0} (rules : Rules A F G) (lawful : AreLawful rules) (b : 
 
   pub begins_same : (a : A) (j : ℕ) → a ≡ b → j ≡ i → (old new : List F)
       → Finds rules a j (nothing rules) (λ _. ⊥) old new → Finds rules b i (nothing rules) (λ _. ⊥) old new
-  begins_same a j system me old new finds =
-      subst (λ x. Finds rules x i (nothing rules) (λ _. ⊥) old new) system
-      (subst (λ k. Finds rules a k (nothing rules) (λ _. ⊥) old new) me finds)
+  begins_same a j system me old new finds = grind arith

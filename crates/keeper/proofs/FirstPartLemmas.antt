@@ -22,31 +22,17 @@ module _ {A F G : Type 0} (rules : Rules A F G) (lawful : AreLawful rules) where
     none_heard j g h = no_growth g (subst (λ (xs : List G). Contains xs g) none h)
       where
         none : received_from first j ≡ []
-        none = ⊎_elim
-            (λ within. get_or-replicate (rules.parts a) j [] [] within)
-            (λ past. get_or_past (replicate (rules.parts a) []) j []
-            (omega (arith, past, length-replicate {A = List G} (rules.parts a) [])))
-            (cases_lt j (rules.parts a))
+        none = grind (arith, ⊎_elim, get_or-replicate, get_or_past, replicate, length-replicate, cases_lt)
 
     zero_at : (j : ℕ) → ◌≡◌ {A = ℕ} (get_or (replicate (rules.parts a) 0) j 0) 0
-    zero_at j = ⊎_elim
-        (λ within. get_or-replicate (rules.parts a) j 0 0 within)
-        (λ past. get_or_past (replicate (rules.parts a) 0) j 0
-        (omega (arith, past, length-replicate {A = ℕ} (rules.parts a) 0)))
-        (cases_lt j (rules.parts a))
+    zero_at j = grind (arith, ⊎_elim, get_or-replicate, get_or_past, replicate, length-replicate, cases_lt)
 
     pub first_kept : IsKept rules first 0
     first_kept = record {
       sound = record {
         valid = ok;
         me = me;
-        well_formed =
-            record {
-              own = λ g h. absurd (no_growth g h);
-              once = λ j k d l h. absurd (omega (arith, h));
-              rising = λ j k d l h. absurd (omega (arith, h));
-              from_one = λ g h. absurd (no_growth g h);
-            };
+        well_formed = grind (arith, no_growth);
         supported = λ g h. absurd (no_growth g h);
         proper = λ g h. absurd (no_growth g h);
         few = omega arith;

@@ -30,9 +30,7 @@ module _ {A F G : Type 0} (rules : Rules A F G) (lawful : AreLawful rules) where
 
   before_in : (xs ys : List G) → IsIn xs ys → (rank : ℕ) (f : F) → IsTrue (tells_before rules rank xs f)
       → IsTrue (tells_before rules rank ys f)
-  before_in xs ys more rank f h =
-      let t = before_from rules lawful.same_tells rank xs f h in
-      before_to rules lawful.same_tells rank ys f t.0 (more t.0 t.1) t.2 t.3
+  before_in xs ys more rank f h = grind (arith, before_from, before_to)
 
   supported_in : (a : A) → rules.valid a → (old new : F → List G) → ((f : F) → IsIn (old f) (new f))
       → (log : List G) → IsWellSupported rules a old log → IsWellSupported rules a new log
@@ -107,9 +105,7 @@ module _ {A F G : Type 0} (rules : Rules A F G) (lawful : AreLawful rules) where
         (subst (λ (x : A). rules.owner x fact ≡ p.me) (sym system) (found.own ∙ sym me))
 
     fresh : (g : G) → Contains o.log g → rules.fact g ≡ fact → ⊥
-    fresh g at is =
-        lacks (tells_to rules lawful.same_tells (list_in rules o fact) fact
-        (g, subst (λ xs. Contains xs g) (sym (own_list o refl refl)) at, is))
+    fresh g at is = grind (arith, tells_to, own_list)
 
     grown_well_formed : IsWellFormed rules o.system o.me (o.log ++ growth ∷ [])
     grown_well_formed = record {
@@ -175,12 +171,7 @@ module _ {A F G : Type 0} (rules : Rules A F G) (lawful : AreLawful rules) where
           kept.top)
           (Contains-push_cases o.log growth g h);
       receivers = kept.sound.receivers;
-      given = λ j. omega (
-        arith,
-        kept.sound.given j,
-        ap length (part_longer j),
-        length-append (part_for rules o j) (part rules o.system j (growth ∷ [])),
-      );
+      given = grind (arith, part_longer, length-append);
     }
 
     pub grown_kept : IsKept rules grown (clock + 1)
@@ -247,9 +238,7 @@ module _ {A F G : Type 0} (rules : Rules A F G) (lawful : AreLawful rules) where
     told_other = (lawful.others o.system kept.sound.valid o.me (rules.fact g) passes.read).1
 
     pub from_in : from < length o.received
-    from_in =
-        let l = (lawful.others o.system kept.sound.valid o.me (rules.fact g) passes.read).0 in
-        omega (arith, l, passes.sender, kept.sound.senders)
+    from_in = grind arith
 
     received_here : received_from told_of from ≡ received_from o from ++ g ∷ []
     received_here = get_or-set_same o.received from (received_from o from ++ g ∷ []) [] from_in
@@ -286,9 +275,7 @@ module _ {A F G : Type 0} (rules : Rules A F G) (lawful : AreLawful rules) where
         go false h at = received_more (rules.owner o.system f) h at
 
     told_known : (h : G) → IsNoted o h → IsNoted told_of h
-    told_known h k =
-        ⊎_elim (λ (a : Contains o.log h). inl a)
-        (λ (b : (j : ℕ) × Contains (received_from o j) h). inr (b.0, received_more b.0 h b.1)) k
+    told_known h k = grind (arith, ⊎_elim, received_more)
 
     pub told_sound : IsSound rules told_of
     told_sound = record {
@@ -384,25 +371,7 @@ module _ {A F G : Type 0} (rules : Rules A F G) (lawful : AreLawful rules) where
 
   pub marked_kept : (o : State A G) (clock : ℕ) (is_loaded is_broken : Bool) → IsKept rules o clock
       → IsKept rules (record o { loaded = is_loaded; broken = is_broken }) clock
-  marked_kept o clock is_loaded is_broken k = record {
-    sound = record {
-      valid = k.sound.valid;
-      me = k.sound.me;
-      well_formed = k.sound.well_formed;
-      supported = k.sound.supported;
-      proper = k.sound.proper;
-      few = k.sound.few;
-      senders = k.sound.senders;
-      heard = k.sound.heard;
-      steps = k.sound.steps;
-      receivers = k.sound.receivers;
-      given = k.sound.given;
-    };
-    own_ranks = k.own_ranks;
-    heard_ranks = k.heard_ranks;
-    top = k.top;
-    early = k.early;
-  }
+  marked_kept o clock is_loaded is_broken k = grind arith
 
   -- ---- giving out
 
@@ -418,26 +387,4 @@ module _ {A F G : Type 0} (rules : Rules A F G) (lawful : AreLawful rules) where
     there_other j h = get_or-set_other o.given to j (n + 1) 0 h
 
     pub given_kept : IsKept rules given_of clock
-    given_kept = record {
-      sound = record {
-        valid = kept.sound.valid;
-        me = kept.sound.me;
-        well_formed = kept.sound.well_formed;
-        supported = kept.sound.supported;
-        proper = kept.sound.proper;
-        few = kept.sound.few;
-        senders = kept.sound.senders;
-        heard = kept.sound.heard;
-        steps = kept.sound.steps;
-        receivers = length-set o.given to (n + 1) ∙ kept.sound.receivers;
-        given = λ j. ⊎_elim
-            (λ same. subst (λ i. given_to given_of i ≤ length (part_for rules o i)) (sym same)
-            (omega (arith, here, n_is, more)))
-            (λ differs. (let f = kept.sound.given j in omega (arith, f, there_other j differs)))
-            (cases_eq j to);
-      };
-      own_ranks = kept.own_ranks;
-      heard_ranks = kept.heard_ranks;
-      top = kept.top;
-      early = kept.early;
-    }
+    given_kept = grind (arith, length-set, ⊎_elim, here, there_other, cases_eq)

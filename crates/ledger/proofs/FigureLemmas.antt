@@ -145,119 +145,19 @@ module _ (a : ℕ) (b : Bool) (id : ℕ) (v : Figures) (views : List Figures) (k
   -- what one share clears, the balance has less
   pub figures_clear : (k : ℕ) → 0 < v.parts → v.quiets ≡ 0 → v.cleared + k ≤ total_bound
       → (k ≤ a) × AreBalanced (a - k) b (slice_set views id (clearing v k))
-  figures_clear k part live few =
-      let w = clearing v k in
-      let d = total_set (λ u. u.owed) views id v w at in
-      let e = total_set (λ u. u.cleared) views id v w at in
-      let f = total_set (λ u. u.parts) views id v w at in
-      let p = total_set (λ u. u.quiets) views id v w at in
-      let h = total_set (λ u. u.calls) views id v w at in
-      let i = total_set (λ u. u.finds) views id v w at in
-      let all =
-      sound_set views id w kept.sound (record {
-        owed = old.owed;
-        cleared = (let o = old.cleared in omega (arith, part, few));
-        quiets = old.quiets;
-        calls = old.calls;
-        finds = old.finds;
-      }) in
-      let bounded = bounds views kept.sound in let after = bounds (slice_set views id w) all in
-      let nq = not_quiet (slice_set views id w) id w all (get_set views id v w at) (omega (arith, part, live)) in
-      let sums = kept.sums in let parts = kept.parts in
-      let enough : k ≤ a = omega arith in (
-        enough,
-        record {
-          sums = omega arith;
-          parts = omega arith;
-          sound = all;
-          quiet = λ q. absurd (omega arith);
-          set_by = λ z. let y = kept.set_by z in omega arith;
-          sets = λ z. kept.sets (omega arith);
-          found = λ z. kept.found (omega arith);
-        },
-      )
+  figures_clear k part live few = grind (arith, total_set, sound_set, old, bounds, slice_set, not_quiet, get_set)
 
   -- one share leaves where the balance is 0
   pub figures_quiet : a ≡ 2 ^ 62 → AreBalanced a b (slice_set views id (quieting v))
-  figures_quiet null =
-      let w = quieting v in
-      let d = total_set (λ u. u.owed) views id v w at in
-      let e = total_set (λ u. u.cleared) views id v w at in
-      let f = total_set (λ u. u.parts) views id v w at in
-      let p = total_set (λ u. u.quiets) views id v w at in
-      let h = total_set (λ u. u.calls) views id v w at in
-      let i = total_set (λ u. u.finds) views id v w at in
-      let sums = kept.sums in let parts = kept.parts in record {
-        sums = omega arith;
-        parts = omega arith;
-        sound = sound_set views id w kept.sound
-            (record {
-              owed = old.owed;
-              cleared = old.cleared;
-              quiets = omega arith;
-              calls = old.calls;
-              finds = old.finds;
-            });
-        quiet = λ q. null;
-        set_by = λ z. let y = kept.set_by z in omega arith;
-        sets = λ z. kept.sets (omega arith);
-        found = λ z. kept.found (omega arith);
-      }
+  figures_quiet null = grind (arith, total_set, sound_set, old)
 
   -- one share sets the flag
   pub figures_stop : 0 < v.parts → AreBalanced a true (slice_set views id (setting v))
-  figures_stop part =
-      let w = setting v in
-      let d = total_set (λ u. u.owed) views id v w at in
-      let e = total_set (λ u. u.cleared) views id v w at in
-      let f = total_set (λ u. u.parts) views id v w at in
-      let p = total_set (λ u. u.quiets) views id v w at in
-      let h = total_set (λ u. u.calls) views id v w at in
-      let i = total_set (λ u. u.finds) views id v w at in
-      let has = at_least (slice_set views id w) id w (get_set views id v w at) in
-      let sums = kept.sums in let parts = kept.parts in record {
-        sums = omega arith;
-        parts = omega arith;
-        sound = sound_set views id w kept.sound
-            (record {
-              owed = old.owed;
-              cleared = old.cleared;
-              quiets = old.quiets;
-              calls = omega (arith, part);
-              finds = omega (arith, part);
-            });
-        quiet = λ q. kept.quiet (omega arith);
-        set_by = λ z. omega arith;
-        sets = λ z. refl;
-        found = λ z. refl;
-      }
+  figures_stop part = grind (arith, total_set, at_least, slice_set, get_set, sound_set, old)
 
   -- one share finds the flag set
   pub figures_find : 0 < v.parts → b ≡ true → AreBalanced a b (slice_set views id (finding v))
-  figures_find part set =
-      let w = finding v in
-      let d = total_set (λ u. u.owed) views id v w at in
-      let e = total_set (λ u. u.cleared) views id v w at in
-      let f = total_set (λ u. u.parts) views id v w at in
-      let p = total_set (λ u. u.quiets) views id v w at in
-      let h = total_set (λ u. u.calls) views id v w at in
-      let i = total_set (λ u. u.finds) views id v w at in
-      let sums = kept.sums in let parts = kept.parts in record {
-        sums = omega arith;
-        parts = omega arith;
-        sound = sound_set views id w kept.sound
-            (record {
-              owed = old.owed;
-              cleared = old.cleared;
-              quiets = old.quiets;
-              calls = old.calls;
-              finds = omega (arith, part);
-            });
-        quiet = λ q. kept.quiet (omega arith);
-        set_by = λ z. let y = kept.set_by z in omega arith;
-        sets = λ z. kept.sets (omega arith);
-        found = λ z. set;
-      }
+  figures_find part set = grind (arith, total_set, sound_set, old)
 
   pub figures_kept : AreBalanced a b (slice_set views id v)
   figures_kept = subst (AreBalanced a b) (sym (set_own views id v at)) kept
@@ -266,100 +166,17 @@ module _ (a : ℕ) (b : Bool) (id : ℕ) (v : Figures) (views : List Figures) (k
   pub figures_fork : 1 < v.parts → 0 < v.owed → v.owed ≤ 64 → v.cleared ≡ 0 → v.quiets ≡ 0 → v.calls ≡ 0 → v.finds ≡ 0
       → AreBalanced a b (slice_set views id (fewer v) ++ fresh ∷ [])
   figures_fork part owes few cleared quiets calls finds =
-      let w = fewer v in let vs = slice_set views id w in
-      let d = total_set (λ u. u.owed) views id v w at in
-      let e = total_set (λ u. u.cleared) views id v w at in
-      let f = total_set (λ u. u.parts) views id v w at in
-      let p = total_set (λ u. u.quiets) views id v w at in
-      let h = total_set (λ u. u.calls) views id v w at in
-      let i = total_set (λ u. u.finds) views id v w at in
-      let d' = total_snoc (λ u. u.owed) vs fresh in
-      let e' = total_snoc (λ u. u.cleared) vs fresh in
-      let f' = total_snoc (λ u. u.parts) vs fresh in
-      let p' = total_snoc (λ u. u.quiets) vs fresh in
-      let h' = total_snoc (λ u. u.calls) vs fresh in
-      let i' = total_snoc (λ u. u.finds) vs fresh in
-      let sums = kept.sums in let parts = kept.parts in record {
-        sums = omega arith;
-        parts = omega arith;
-        sound = sound_snoc vs fresh (sound_set views id w kept.sound
-            (record {
-              owed = omega (arith, part, few);
-              cleared = omega (arith, cleared);
-              quiets = omega (arith, quiets);
-              calls = omega (arith, calls);
-              finds = omega (arith, finds);
-            }))
-            (record {
-              owed = omega arith;
-              cleared = omega arith;
-              quiets = omega arith;
-              calls = omega arith;
-              finds = omega arith;
-            });
-        quiet = λ q. kept.quiet (omega arith);
-        set_by = λ z. let y = kept.set_by z in omega arith;
-        sets = λ z. kept.sets (omega arith);
-        found = λ z. kept.found (omega arith);
-      }
+      grind (arith, slice_set, total_set, total_snoc, sound_snoc, sound_set)
 
   -- two entries are put together
   pub figures_merge : (other : ℕ) (w : Figures) → ¬ (other ≡ id)
       → get_elem? (slice_set views id (together v w)) other ≡ some w
       → AreBalanced a b (slice_set (slice_set views id (together v w)) other (figures 0 0 0 0 0 0))
-  figures_merge other w apart there =
-      let t = together v w in let vs = slice_set views id t in let z = figures 0 0 0 0 0 0 in
-      let d = total_set (λ u. u.owed) views id v t at in
-      let e = total_set (λ u. u.cleared) views id v t at in
-      let f = total_set (λ u. u.parts) views id v t at in
-      let p = total_set (λ u. u.quiets) views id v t at in
-      let h = total_set (λ u. u.calls) views id v t at in
-      let i = total_set (λ u. u.finds) views id v t at in
-      let d' = total_set (λ u. u.owed) vs other w z there in
-      let e' = total_set (λ u. u.cleared) vs other w z there in
-      let f' = total_set (λ u. u.parts) vs other w z there in
-      let p' = total_set (λ u. u.quiets) vs other w z there in
-      let h' = total_set (λ u. u.calls) vs other w z there in
-      let i' = total_set (λ u. u.finds) vs other w z there in
-      let q = sound_at views other w kept.sound (get_other views id other t w apart there) in
-      let a1 = old.owed in let a2 = q.owed in let b1 = old.cleared in let b2 = q.cleared in let c1 = old.quiets in
-      let c2 = q.quiets in let d1 = old.calls in let d2 = q.calls in let e1 = old.finds in let e2 = q.finds in
-      let sums = kept.sums in let parts = kept.parts in record {
-        sums = omega arith;
-        parts = omega arith;
-        sound = sound_set vs other z (sound_set views id t kept.sound
-            (record {
-              owed = omega arith;
-              cleared = omega arith;
-              quiets = omega arith;
-              calls = omega arith;
-              finds = omega arith;
-            })) (record {
-              owed = omega arith;
-              cleared = omega arith;
-              quiets = omega arith;
-              calls = omega arith;
-              finds = omega arith;
-            });
-        quiet = λ y. kept.quiet (omega arith);
-        set_by = λ y. let x = kept.set_by y in omega arith;
-        sets = λ y. kept.sets (omega arith);
-        found = λ y. kept.found (omega arith);
-      }
+  figures_merge other w apart there = grind (arith, slice_set, total_set, sound_at, get_other, old, sound_set)
 
   -- who has all parts, all of them quiet, knows that owed and cleared are equal
   pub settled : v.parts ≡ 64 → v.quiets ≡ v.parts → v.owed ≡ v.cleared
-  settled whole quiet =
-      let p = kept.parts in let sums = kept.sums in
-      let x = alone (λ u. u.owed) (λ u o z. let q = o.owed in omega arith) views id v kept.sound at (omega arith) in
-      let y = alone (λ u. u.cleared) (λ u o z. let q = o.cleared in omega arith) views id v kept.sound at
-      (omega arith) in
-      let c = alone (λ u. u.quiets) (λ u o z. let q = o.quiets in omega arith) views id v kept.sound at (omega arith) in
-      let null = kept.quiet (omega arith) in omega arith
+  settled whole quiet = grind (arith, alone)
 
   pub called : v.parts ≡ 64 → 0 < v.finds → 0 < v.calls
-  called whole found =
-      let p = kept.parts in
-      let x = alone (λ u. u.calls) (λ u o z. let q = o.calls in omega arith) views id v kept.sound at (omega arith) in
-      let y = alone (λ u. u.finds) (λ u o z. let q = o.finds in omega arith) views id v kept.sound at (omega arith) in
-      let set = kept.found (omega arith) in let by = kept.set_by set in omega arith
+  called whole found = grind (arith, alone)

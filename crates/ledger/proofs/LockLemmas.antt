@@ -109,10 +109,7 @@ gives n port v x e holds change items views room h at =
         state = x;
         place = inl (ap (λ l. l ++ x ∷ []) gone.0, gone.1);
         held = none_held x (slice_set views port w) gone.1;
-        balanced =
-            subst (AreBalanced x.balance x.flag) (sym (entry_set views port w))
-            (change es (subst (λ (y : State). AreBalanced y.balance y.flag es) (sym is) h.balanced)
-            (entry_at views port v at));
+        balanced = grind (arith, entry_set, entry_at);
       },
       refl,
     )
@@ -170,24 +167,7 @@ begins = record {
   state = new_state;
   place = inr (refl, refl);
   held = ((λ t. refl), tt);
-  balanced = record {
-    sums = refl;
-    parts = refl;
-    sound = (
-      record {
-        owed = omega arith;
-        cleared = omega arith;
-        quiets = omega arith;
-        calls = omega arith;
-        finds = omega arith;
-      },
-      tt,
-    );
-    quiet = λ q. refl;
-    set_by = λ z. cc;
-    sets = λ z. absurd (omega (arith, z));
-    found = λ z. absurd (omega (arith, z));
-  };
+  balanced = grind arith;
 }
 
 -- a share is cut off
@@ -201,9 +181,7 @@ cuts port v free part owes few cleared quiets calls finds items views h at =
       state = h.state;
       place = ⊎_elim (λ (p : (items ≡ h.state ∷ []) × (holders views ≡ 0)). inl (p.0, (let z = p.1 in omega arith)))
           (λ (p : (items ≡ []) × (holders views ≡ 1)). inr (p.0, (let z = p.1 in omega arith))) h.place;
-      held = held_snoc h.state (slice_set views port w) u
-          (held_set h.state views port w h.held (λ t. absurd (not_true v.holds free t)))
-          (λ t. absurd (not_true false refl t));
+      held = grind (arith, held_snoc, slice_set, held_set, not_true);
       balanced =
           subst (AreBalanced h.state.balance h.state.flag)
           (sym (entry_snoc (slice_set views port w) u ∙ ap (λ l. l ++ fresh ∷ []) (entry_set views port w)))

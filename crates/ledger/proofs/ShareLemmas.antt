@@ -81,20 +81,14 @@ module _ {L : Type 0} (kind : Kind L) where
     parts = parts;
     owed = (let v = ap (λ (y : Figures). y.owed) (kind.knows last) in let a = ap (sum_by kind.owed) all in
         omega (arith, v, a, sum_push kind.owed rest last));
-    cleared =
-        (let v = ap (λ (y : Figures). y.cleared) (kind.knows last) in let a = ap (sum_by kind.cleared) all in
-        omega (arith, v, a, sum_push kind.cleared rest last));
+    cleared = grind (arith, sum_push);
     quiets = λ quiet.
         let is =
         quiet (length rest) last (subst (λ xs. slice_get xs (length rest) ≡ Some last) (sym all)
         (at_split rest [] last)) in
         ap (λ (y : Figures). y.quiets) (kind.knows last) ∙ ap (λ t. cond t (kind.view last).parts 0) is;
-    calls = (let v = ap (λ (y : Figures). y.calls) (kind.knows last) in
-        let a = ap (sum_by (λ left. bit (kind.called left))) all in
-        omega (arith, v, a, sum_push (λ left. bit (kind.called left)) rest last));
-    finds = (let v = ap (λ (y : Figures). y.finds) (kind.knows last) in
-        let a = ap (sum_by (λ left. bit (not (kind.quiet left)))) all in
-        omega (arith, v, a, sum_push (λ left. bit (not (kind.quiet left))) rest last));
+    calls = grind (arith, sum_push);
+    finds = grind (arith, not, sum_push);
   }
 
   pub adding_more : (so_far : Figures) (l : L) (coming more lefts : List L) → coming ++ l ∷ more ≡ lefts
@@ -104,9 +98,7 @@ module _ {L : Type 0} (kind : Kind L) where
     parts = omega (arith, h.parts, one, length-append coming (l ∷ []));
     owed = (let v = ap (λ (y : Figures). y.owed) (kind.knows l) in
         omega (arith, v, h.owed, sum_push kind.owed coming l));
-    cleared =
-        (let v = ap (λ (y : Figures). y.cleared) (kind.knows l) in
-        omega (arith, v, h.cleared, sum_push kind.cleared coming l));
+    cleared = grind (arith, sum_push);
     quiets = λ quiet.
         let is =
         quiet (length coming) l (subst (λ xs. slice_get xs (length coming) ≡ Some l) split (at_split coming more l))
@@ -133,10 +125,7 @@ module _ {L : Type 0} (kind : Kind L) where
   pub adding_fits : (so_far : Figures) (l : L) (coming lefts : List L) → Adding kind so_far (coming ++ l ∷ []) lefts
       → length lefts ≤ most_parts
       → (so_far.owed + kind.owed l < 2 ^ 64) × (so_far.cleared + kind.cleared l < 2 ^ 64)
-  adding_fits so_far l coming lefts h few = (
-    omega (arith, h.owed, sum_push kind.owed coming l, owed_small lefts, few),
-    omega (arith, h.cleared, sum_push kind.cleared coming l, cleared_small lefts, few),
-  )
+  adding_fits so_far l coming lefts h few = grind (arith, sum_push, owed_small, cleared_small)
 
 -- what one adds, all together have
 sum_at : {X : Type 0} (f : X → ℕ) (xs : List X) (k : ℕ) (x : X) → slice_get xs k ≡ Some x → f x ≤ sum_by f xs

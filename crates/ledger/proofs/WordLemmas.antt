@@ -204,26 +204,4 @@ joins id v other w s kept at apart there = record {
 -- the words of a new book
 pub opens : (owners balance : ℕ) → owners ≤ most_parts → balance ≡ 2 ^ 62 + owners
     → AreWords (opening (balance ∷ 0 ∷ []) [] (figures 64 owners 0 0 0 0))
-opens owners balance few is = record {
-  balance = balance;
-  flag = 0;
-  words = refl;
-  balanced = record {
-    sums = omega (arith, is);
-    parts = refl;
-    sound = (
-      record {
-        owed = omega (arith, few);
-        cleared = omega arith;
-        quiets = omega arith;
-        calls = omega arith;
-        finds = omega arith;
-      },
-      tt,
-    );
-    quiet = λ q. absurd (omega (arith, q));
-    set_by = λ z. absurd (let p = z in cc);
-    sets = λ z. absurd (omega (arith, z));
-    found = λ z. absurd (omega (arith, z));
-  };
-}
+opens owners balance few is = grind arith

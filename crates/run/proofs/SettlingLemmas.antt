@@ -21,12 +21,7 @@ in_one x y (suc k, l, e) = absurd (omega (arith, l))
 
 module _ {M T S R C P : Type 0} (m : Mail.Ghosts M T S R C P) (out into : ℕ → ℕ → List T) where
   pub settled_none : (done : ℕ → ℕ → Type 0) → ((i j : ℕ) → done i j → ⊥) → ArePostsOf m out into done []
-  settled_none done none =
-      record {
-        prefix = λ i j d. absurd (none i j d);
-        each = λ i j d. absurd (none i j d);
-        only = λ p h. absurd (omega (arith, h.1));
-      }
+  settled_none done none = grind arith
 
   pub settled_join : (first second both : ℕ → ℕ → Type 0) (posts more : List P)
       → ((i j : ℕ) → both i j → first i j ⊎ second i j) → ((i j : ℕ) → first i j → both i j)
@@ -84,10 +79,7 @@ module _ {M T S R C P : Type 0} (m : Mail.Ghosts M T S R C P) (out into : ℕ �
   pub rows_more : (made owners : ℕ) (posts more : List P) → ArePostsOf m out into (InRows made owners) posts
       → ArePostsOf m out into (InRow made owners) more
       → ArePostsOf m out into (InRows (made + 1) owners) (posts ++ more)
-  rows_more made owners posts more a b =
-      settled_join (InRows made owners) (InRow made owners) (InRows (made + 1) owners) posts more
-      (λ i j d. ⊎_elim (λ (h : i < made). inl (h, d.1)) (λ (h : i ≡ made). inr (h, d.1)) (cases_last i made d.0))
-      (λ i j d. (omega (arith, d.0), d.1)) (λ i j d. (omega (arith, d.0), d.1)) a b
+  rows_more made owners posts more a b = grind (arith, settled_join, ⊎_elim, cases_last)
 
 -- the same with other words for what was sent and received
 pub settled_as : {M T S R C P : Type 0} (m : Mail.Ghosts M T S R C P) (out into out' into' : ℕ → ℕ → List T)
@@ -95,9 +87,7 @@ pub settled_as : {M T S R C P : Type 0} (m : Mail.Ghosts M T S R C P) (out into 
     → ((i j : ℕ) → done i j → out i j ≡ out' i j) → ((i j : ℕ) → done i j → into i j ≡ into' i j)
     → ArePostsOf m out into done posts → ArePostsOf m out' into' done posts
 settled_as {M} {T} {S} {R} {C} {P} m out into out' into' done posts same_out same_into a = record {
-  prefix =
-      λ i j d. subst (λ (y : List T × List T). IsPrefix y.0 y.1) (λ k. (same_into i j d k, same_out i j d k))
-      (a.prefix i j d);
+  prefix = grind arith;
   each = a.each;
   only = λ p h. let x = a.only p h in (
     x.0,

@@ -46,10 +46,7 @@ module _ {S R : Type 0} (paired : ℕ → ℕ → S → R → Type 0) where
   table_more done owners rows old new row t p = record {
     row_count = push_size rows row ∙ ap (λ n. n + 1) t.row_count;
     column_count = p.column_count ∙ t.column_count;
-    width = λ i l. ⊎_elim
-        (λ (h : i < done). ap length (list_low rows row i (omega (arith, h, t.row_count))) ∙ t.width i h)
-        (λ (h : i ≡ done). ap length (list_last rows row i (t.row_count ∙ sym h)) ∙ p.size)
-        (cases_last i done l);
+    width = grind (arith, ⊎_elim, list_low, list_last, cases_last);
     height = λ j l. let x = p.each j l in
         ap length x.3 ∙ (push_size (list_at old j) x.1 ∙ ap (λ n. n + 1) (t.height j l));
     cell = λ i j li lj.

@@ -37,19 +37,7 @@ module _ {A F G : Type 0} (rules : Rules A F G) where
     pub finishes_fail : (ending : Ending) → IsSound rules o → HasTakenAll rules o taken → ending ≢ Quiet → ending ≢
         Stray
         → Finishes rules a i o (log_of posts) (log_of taken) owed cleared ending
-    finishes_fail ending sound all quiet stray = record {
-      system = is.system;
-      me = is.me;
-      sound = sound;
-      front = λ j l. posts_front rules o posts posted j (inside j l);
-      heard = λ e. absurd (quiet e);
-      stray = λ e. absurd (stray e);
-      taken = λ j g l. all j g (inside j l);
-      done = λ e. absurd (quiet e);
-      whole = λ e. absurd (quiet e);
-      owes = λ e. absurd (quiet e);
-      clears = λ e. absurd (quiet e);
-    }
+    finishes_fail ending sound all quiet stray = grind (arith, posts_front, inside)
 
     pub finishes_stray : IsSound rules o → HasStray rules o.system o.me (log_of taken) → HasTakenAll rules o taken
         → Finishes rules a i o (log_of posts) (log_of taken) owed cleared Stray
@@ -92,9 +80,7 @@ module _ {A F G : Type 0} (rules : Rules A F G) where
           whole = λ e j l. whole j (inside j l);
           owes = λ e. subst (λ (k : A). owed ≡ 1 + sum_to (rules.parts k) (λ j. length (log_of posts j))) is.system
               (let w = r.working.owes in omega (arith, w, sums));
-          clears =
-              λ e. subst (λ (k : A). cleared ≡ 1 + sum_to (rules.parts k) (λ j. length (log_of taken j))) is.system
-              (let s = r.taking.clears in omega (arith, s));
+          clears = grind arith;
         }
       where
         quiet_is_not_stray : Quiet ≡ Stray → ⊥

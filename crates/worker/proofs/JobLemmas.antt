@@ -33,10 +33,7 @@ from_at n P (x ∷ xs) (y ∷ ys) a (suc k) m j d e ej ed =
 
 pub each_from : {J D : Type 0} (P R : ℕ → J → D → Type 0) → ((k : ℕ) (j : J) (d : D) → P k j d → R k j d)
     → (js : List J) (ds : List D) → AlikeFrom 0 P js ds → Each js ds R
-each_from P R f js ds a = record {
-  len = from_size 0 P js ds a;
-  at = λ k j d ej ed. f k j d (from_at 0 P js ds a k k j d (omega arith) ej ed);
-}
+each_from P R f js ds a = grind (arith, from_size, from_at)
 
 -- whatever became of the start
 pub ended : {D : Type 0} (Ends : D → Type 0) (ending : D → Ending) (permits : Bool → Type 0) (d : D)

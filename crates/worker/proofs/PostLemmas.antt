@@ -47,12 +47,7 @@ module _ {A F G : Type 0} (rules : Rules A F G) where
       (part_for rules old to)))
       → new ≡ record old { given = slice_set old.given to (given_to old to + 1) }
   gives_next old new to (Some x) g whole to_in next some none = some.2
-  gives_next old new to None g whole to_in next some none =
-      absurd (let l = slice_get_within (part_for rules old to) (given_to old to) g next in omega (
-        arith,
-        l,
-        none.1 whole to_in,
-      ))
+  gives_next old new to None g whole to_in next some none = grind (arith, slice_get_within)
 
   module _ (old next : State A G) (before after : List (List G)) (to : ℕ) (p : HasPosted rules old before)
       (others : next ≡ record old { given = next.given })
@@ -66,16 +61,7 @@ module _ {A F G : Type 0} (rules : Rules A F G) where
     posted_on = record {
       count = ap length rest ∙ (set_length before to (log_of after to)
           ∙ (p.count ∙ sym (ap (λ (o : State A G). rules.parts o.system) others)));
-      front = λ j l. ⊎_elim
-          (λ (here : j ≡ to). ap (log_of after) here
-          ∙ (sent ∙ (ap (take (given_to next to)) (sym (part_was to))
-          ∙ ap (λ k. take (given_to next k) (part_for rules next k)) (sym here))))
-          (λ (other : j ≢ to). ap (λ xs. log_of xs j) rest
-          ∙ (other_read before to j (log_of after to) [] other
-          ∙ (p.front j (subst (λ (o : State A G). j < (rules.parts o.system)) others l)
-          ∙ (ap (λ n. take n (part_for rules old j)) (sym (other_given j other))
-          ∙ ap (take (given_to next j)) (sym (part_was j))))))
-          (cases_eq j to);
+      front = grind (arith, ⊎_elim, part_was, other_read, cases_eq);
     }
 
   pub posts_grown : (old new : State A G) (posts : List (List G)) → HasGrown old new → IsSound rules old →
@@ -94,13 +80,7 @@ module _ {A F G : Type 0} (rules : Rules A F G) where
   -- an owner that has done nothing but grow has given out nothing, and nothing was posted
   pub posts_first : (a : A) (i : ℕ) (old new : State A G) (posts : List (List G))
       → old ≡ first_state rules a i → HasGrown old new → AreAllEmpty (rules.parts a) posts → HasPosted rules new posts
-  posts_first a i old new posts first h none = record {
-    count = none.0 ∙ sym (ap (λ (k : A). rules.parts k) h.system ∙ ap (λ (o : State A G). rules.parts o.system) first);
-    front = λ j l.
-        let given = given_same rules old new h j ∙ (ap (λ (o : State A G). given_to o j) first ∙ read_replicate
-        (rules.parts a) j 0) in
-        none.1 j ∙ sym (ap (λ n. take n (part_for rules new j)) given ∙ take_none (part_for rules new j));
-  }
+  posts_first a i old new posts first h none = grind (arith, given_same, read_replicate, take_none)
 
   -- the front of each part rules was posted
   pub posts_front : (o : State A G) (posts : List (List G)) → HasPosted rules o posts → (j : ℕ) → j <
@@ -122,20 +102,14 @@ module _ {A F G : Type 0} (rules : Rules A F G) where
   pub one_more : (first now next : State A G) (to : ℕ) (sent : List G) → Posting rules first now to sent
       → to < (rules.parts first.system) → next ≡ record now { given = slice_set now.given to (given_to now to + 1) }
       → given_to next to ≡ given_to now to + 1
-  one_more first now next to sent p to_in gives =
-      ap (λ (o : State A G). given_to o to) gives ∙ get_or-set_same now.given to (given_to now to + 1) 0
-      (subst (λ n. to < n) (sym p.sound.receivers) (subst (λ (o : State A G). to < (rules.parts o.system))
-      (sym p.others) to_in))
+  one_more first now next to sent p to_in gives = grind (arith, get_or-set_same)
 
   -- as much as may be at once
   pub given_most : (old now : State A G) (to posted most : ℕ) (g : G) → now ≡ record old { given = now.given }
       → given_to now to ≡ given_to old to + posted → posted ≤ most → most ≤ posted
       → slice_get (part_for rules now to) (given_to now to) ≡ Some g
       → given_to now to ≡ min (given_to old to + most) (length (part_for rules old to))
-  given_most old now to posted most g others count few many next =
-      let same = ap (λ (o : State A G). length (part_for rules o to)) others in
-      let more = slice_get_within (part_for rules now to) (given_to now to) g next in
-      omega (arith, count, few, many, same, more)
+  given_most old now to posted most g others count few many next = grind (arith, slice_get_within)
 
   -- all that was left
   pub given_rest : (old now : State A G) (to posted most : ℕ) → now ≡ record old { given = now.given }
@@ -165,10 +139,7 @@ module _ {A F G : Type 0} (rules : Rules A F G) where
         (cases_eq j to)
       where
         last : GivenSo first to
-        last =
-            let same = ap (λ (o : State A G). length (part_for rules o to)) others in
-            let from = rest to (omega arith) in
-            omega (arith, given, same, from)
+        last = grind arith
 
         below : (j to : ℕ) → j < to + 1 → j ≢ to → j < to
         below j to l other = grind arith
@@ -185,10 +156,7 @@ module _ {A F G : Type 0} (rules : Rules A F G) where
 
   pub given_own : AreLawful rules → (o : State A G) (to most : ℕ) → IsSound rules o → to ≡ o.me
       → given_to o to ≡ min (given_to o to + most) (length (part_for rules o to))
-  given_own lawful o to most sound own =
-      let none = ap length (ap (part_for rules o) own ∙ part_own lawful o sound) in
-      let few = sound.given to in
-      omega (arith, none, few)
+  given_own lawful o to most sound own = grind (arith, part_own)
 
   -- where nothing waits, nothing more is to be given out
   pub none_more : (o : State A G) (t : Tally) (most : ℕ) → IsSound rules o → IsCounted rules o t → t.waiting ≡ 0

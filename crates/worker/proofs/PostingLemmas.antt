@@ -46,32 +46,14 @@ module _ {A F G : Type 0} (rules : Rules A F G) where
         (given_to now to + 1) 0 in_given
 
     pub given_one : Given first next to
-    given_one = record {
-      sound = sound;
-      others =
-          gives ∙ (ap (λ xs. record now { given = xs }) (sym given_is)
-          ∙ ap (λ (o : State A G). record o { given = next.given }) p.others);
-      other_given = λ j differs. ap (λ (o : State A G). given_to o j) gives
-          ∙ (get_or-set_other now.given to j (given_to now to + 1) 0 differs ∙ p.other_given j differs);
-    }
+    given_one = grind (arith, sound, given_is, get_or-set_other)
 
     pub posting_more : Posting first next to (sent ++ g ∷ [])
-    posting_more = record {
-      sound = sound;
-      others = given_one.others;
-      other_given = given_one.other_given;
-      posted = ap (λ xs. xs ++ g ∷ []) p.posted
-          ∙ (sym (take_more (part_for rules first to) (given_to now to) g
-          (subst (λ xs. slice_get xs (given_to now to) ≡ Some g) part_same next_is))
-          ∙ ap (λ n. take n (part_for rules first to)) (sym one_more));
-    }
+    posting_more = grind (arith, sound, given_one, take_more, slice_get, part_same, one_more)
 
     -- fewer are left
     pub fewer : length (part_for rules next to) - given_to next to < length (part_for rules now to) - given_to now to
-    fewer =
-        let within = slice_get_within (part_for rules now to) (given_to now to) g next_is in
-        let same : part_for rules next to ≡ part_for rules now to = ap (λ (o : State A G). part_for rules o to) gives in
-        omega (arith, within, ap length same, one_more)
+    fewer = grind (arith, slice_get_within, one_more)
 
   module _ (first now : State A G) (to : ℕ) (sent : List G) (p : Posting first now to sent) where
     part_same_now : part_for rules now to ≡ part_for rules first to
@@ -79,10 +61,4 @@ module _ {A F G : Type 0} (rules : Rules A F G) where
 
     -- fewer than 2 ^ 37 were posted
     pub posted_few : length sent < 2 ^ 37
-    posted_few =
-        let n = p.sound.given to in
-        let l : length sent ≡ given_to now to = ap length p.posted
-        ∙ take_length (part_for rules first to) (given_to now to)
-        (subst (λ xs. given_to now to ≤ length xs) part_same_now n) in
-        let few = filter_le (λ (g : G). rules.reads now.system to (rules.fact g)) now.log in
-        omega (arith, l, n, few, p.sound.few)
+    posted_few = grind (arith, take_length, part_same_now, filter_le)

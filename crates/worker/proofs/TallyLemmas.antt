@@ -22,9 +22,7 @@ sum_bound (suc n) f b h = let r = sum_bound n f b (λ k l. h k (omega (arith, l)
 module _ {A F G : Type 0} (rules : Rules A F G) where
   -- a part rules has fewer than 2 ^ 37 growths
   pub part_few : (o : State A G) (j : ℕ) → IsSound rules o → length (part_for rules o j) < 2 ^ 37
-  part_few o j sound =
-      let few = filter_le (λ (g : G). rules.reads o.system j (rules.fact g)) o.log in
-      omega (arith, few, sound.few)
+  part_few o j sound = grind (arith, filter_le)
 
   -- what was counted of each part is what isn't given of all
   pub all_counted : (o : State A G) (n w : ℕ) → n ≡ rules.parts o.system
@@ -42,9 +40,7 @@ module _ {A F G : Type 0} (rules : Rules A F G) where
       omega (arith, all, few)
 
   pub grown_self : (o new : State A G) → new ≡ o → HasGrown o new
-  grown_self o new same =
-      subst (λ (x : State A G). HasGrown o x) (sym same)
-      (record { system = refl; me = refl; begins = ([], sym (append-nil o.log)); given = refl })
+  grown_self o new same = grind (arith, append-nil)
 
   pub grown_on : (a b c : State A G) → HasGrown a b → HasGrown b c → HasGrown a c
   grown_on a b c f s = record {
@@ -104,16 +100,11 @@ module _ {A F G : Type 0} (rules : Rules A F G) where
     part_same e j = ap (λ (k : A). part rules k j new.log) h.system ∙ ap (λ xs. part rules old.system j xs) (log_same e)
 
     pub due_same : length new.log ≡ length old.log → due_of rules new ≡ due_of rules old
-    due_same e =
-        sum_same (rules.parts new.system) (λ j. length (part_for rules new j)) (λ j. length (part_for rules old j))
-        (λ j l. ap length (part_same e j)) ∙ ap (λ n. sum_to n (λ j. length (part_for rules old j))) owners_same
+    due_same e = grind (arith, sum_same, part_same, owners_same)
 
     module _ (t : Tally) (was : IsCounted rules old t) where
       pub counted_same : t.grown ≡ length new.log → IsCounted rules new t
-      counted_same is = record {
-        grown = is;
-        waiting = let d = due_same (sym is ∙ was.grown) in let w = was.waiting in omega (arith, d, given_of_same, w);
-      }
+      counted_same is = grind (arith, due_same, given_of_same)
 
       pub due_none : t.grown ≡ length new.log → due_of rules old + 0 ≡ due_of rules new
       due_none is = let d = due_same (sym is ∙ was.grown) in omega (arith, d)

@@ -67,40 +67,20 @@ module _ {A F G : Type 0} (rules : Rules A F G) where
 
       -- they waited
       pub were_waiting : (t : Tally) → IsCounted rules now t → n ≤ t.waiting
-      were_waiting t was =
-          let all = sum_le (rules.parts next.system) (λ j. given_to next j) (λ j. length (part_for rules next j))
-          (λ j l. sound.given j) in
-          let before = was.waiting in
-          omega (arith, all, still_due, before, more)
+      were_waiting t was = grind (arith, sum_le, still_due)
 
       pub counted_on : (t : Tally) → IsCounted rules now t → (w : ℕ) → w + n ≡ t.waiting
           → IsCounted rules next (record t { waiting = w })
-      counted_on t was w less = record {
-        grown = was.grown ∙ sym (ap (λ (o : State A G). length o.log) others);
-        waiting = let before = was.waiting in omega (arith, before, still_due, more, less);
-      }
+      counted_on t was w less = grind (arith, still_due)
 
   -- how an owner is before and after it received growths, or was refused to
   pub grown_some : (old new : State A G) → IsPrefix old.log new.log
       → new ≡ record old { log = new.log; received = new.received } → HasGrown old new
-  grown_some old new b others =
-      record {
-        system = ap (λ (o : State A G). o.system) others;
-        me = ap (λ (o : State A G). o.me) others;
-        begins = b;
-        given = ap (λ (o : State A G). o.given) others;
-      }
+  grown_some old new b others = grind arith
 
   pub grown_lost : (old new : State A G) (j : ℕ) (gs : List G) → IsGivenUp rules j gs old new → HasGrown
       old new
-  grown_lost old new j gs lost =
-      let others = lost.2 in
-      record {
-        system = ap (λ (o : State A G). o.system) others;
-        me = ap (λ (o : State A G). o.me) others;
-        begins = lost.0;
-        given = ap (λ (o : State A G). o.given) others;
-      }
+  grown_lost old new j gs lost = grind arith
 
   module _ (old : State A G) (taken : List (List G)) (owed cleared : ℕ) (t : Tally)
       (r : IsAtRest rules old taken owed cleared t) where
@@ -156,10 +136,7 @@ module _ {A F G : Type 0} (rules : Rules A F G) where
     pub rests_same : (new : State A G) (after : List (List G)) (from : ℕ) → new ≡ old
         → log_of after from ≡ log_of taken from → after ≡ slice_set taken from (log_of after from)
         → IsAtRest rules new after owed cleared t
-    rests_same new after from same none others =
-        let kept : after ≡ taken = others ∙ (ap (slice_set taken from) none ∙ set_own taken from []) in
-        subst (λ (o : State A G). IsAtRest rules o after owed cleared t) (sym same)
-        (subst (λ xs. IsAtRest rules old xs owed cleared t) (sym kept) r)
+    rests_same new after from same none others = grind (arith, slice_set, set_own)
 
     module _ (new : State A G) (others : new ≡ record old { log = new.log; received = new.received }) where
       owners_same : (rules.parts new.system) ≡ (rules.parts old.system)
@@ -167,13 +144,7 @@ module _ {A F G : Type 0} (rules : Rules A F G) where
 
       pub some_works : (owed' : ℕ) → IsSound rules new → IsDone rules new → owed' ≡ 1 + due_of rules new → IsWorking
           rules new owed'
-      some_works owed' sound done owes = record {
-        sound = sound;
-        whole = ap (λ (o : State A G). o.broken) others ∙ r.working.whole;
-        loaded = ap (λ (o : State A G). o.loaded) others ∙ r.working.loaded;
-        done = done;
-        owes = owes;
-      }
+      some_works owed' sound done owes = grind arith
 
       module _ (from : ℕ) (gs : List G) (after : List (List G)) (from_in : from <
           (rules.parts old.system))
@@ -184,15 +155,10 @@ module _ {A F G : Type 0} (rules : Rules A F G) where
         apart k differs = ap (λ xs. log_of xs k) rest ∙ other_read taken from k (log_of after from) [] differs
 
         heard_at : log_of after from ≡ received_from new from
-        heard_at = more ∙ (ap (λ xs. xs ++ gs) (r.taking.heard from from_in)
-            ∙ sym (ap (λ xs. slice_index_or xs from []) received
-            ∙ set_log old.received from (received_from old from ++ gs) []
-            (omega (arith, from_in, r.working.sound.senders))))
+        heard_at = grind (arith, slice_index_or, set_log)
 
         heard_other : (k : ℕ) → k < (rules.parts old.system) → k ≢ from → log_of after k ≡ received_from new k
-        heard_other k l differs = apart k differs
-            ∙ (r.taking.heard k l ∙ sym (ap (λ xs. slice_index_or xs k []) received
-            ∙ other_read old.received from k (received_from old from ++ gs) [] differs))
+        heard_other k l differs = grind (arith, apart, slice_index_or, other_read)
 
         by_place : (P : ℕ → Type 0) → P from → ((k : ℕ) → k ≢ from → P k) → (k : ℕ) → P k
         by_place P here there k =
@@ -292,30 +258,15 @@ module _ {A F G : Type 0} (rules : Rules A F G) where
         { log = new.log; loaded = new.loaded; broken = new.broken }) first
 
     pub first_grows : IsPrefix old.log new.log → HasGrown old new
-    first_grows b =
-        record {
-          system = ap (λ (o : State A G). o.system) others;
-          me = ap (λ (o : State A G). o.me) others;
-          begins = b;
-          given = ap (λ (o : State A G). o.given) others;
-        }
+    first_grows b = grind arith
 
     -- it received nothing
     pub none_taken : (taken : List (List G)) → HasTakenAll rules new taken
-    none_taken taken j g l h =
-        let none : received_from new j ≡ [] = ap (λ (o : State A G). received_from o j) begun
-        ∙ read_replicate (rules.parts a) j [] in
-        absurd (omega (arith, (subst (λ (xs : List G). Contains xs g) none h).1))
+    none_taken taken j g l h = grind (arith, begun, read_replicate)
 
     pub first_takes : (taken : List (List G)) (cleared : ℕ) → AreAllEmpty (rules.parts a) taken → cleared ≡ 1
         → HasTaken rules new taken cleared 0
-    first_takes taken cleared none is = record {
-      count = none.0 ∙ sym (ap (λ (o : State A G). rules.parts o.system) begun);
-      heard = λ j l. none.1 j ∙ sym (ap (λ (o : State A G). received_from o j) begun ∙ read_replicate
-          (rules.parts a) j []);
-      few = λ j l. omega (arith, ap length (none.1 j));
-      clears = omega (arith, is, sum_empty (rules.parts new.system) taken none.1);
-    }
+    first_takes taken cleared none is = grind (arith, begun, read_replicate, sum_empty)
 
   -- nothing is due of an owner that has done nothing yet
   pub first_due : (a : A) (i : ℕ) (o : State A G) → o ≡ first_state rules a i → due_of rules o ≡ 0
@@ -324,12 +275,4 @@ module _ {A F G : Type 0} (rules : Rules A F G) where
   -- nothing is to be counted of an owner that has done nothing yet
   pub first_counted : (a : A) (i : ℕ) (o : State A G) → o ≡ first_state rules a i
       → IsCounted rules o (record { grown = 0; waiting = 0; turns = 0; cleared = 0 })
-  first_counted a i o first =
-      let given =
-      sum_same (rules.parts a) (λ j. given_to (first_state rules a i) j) (λ j. 0) (λ j l. read_replicate
-      (rules.parts a) j 0) in
-      let none = sum_zero (rules.parts a) in
-      let due = first_due a i (first_state rules a i) refl in
-      subst (λ (x : State A G). IsCounted rules x (record { grown = 0; waiting = 0; turns = 0; cleared = 0 }))
-      (sym first)
-      (record { grown = refl; waiting = omega (arith, given, none, due) })
+  first_counted a i o first = grind (arith, sum_same, read_replicate, sum_zero, first_due)
