@@ -1,11 +1,11 @@
 -- The digits in front of bytes, and the number that the word bytes in front are.
-use Rattle.std.proofs.Common.{◌≡◌, ⊎_elim, ℕ, zero, suc, ◌<◌, ◌≤◌, true, false, List, [], ◌∷◌, ◌++◌, length, take, drop, get_or, refl, sym, ap, ◌∙◌, subst, arith}
+use Rattle.std.proofs.Common.{◌≡◌, ⊎_elim, ℕ, zero, suc, ◌<◌, ◌≤◌, true, false, List, [], ◌∷◌, ◌++◌, length, take, drop, min, get_or, refl, sym, ap, ◌∙◌, subst, arith}
 use Rattle.std.specs.Char.{is_ascii_digit}
 use Rattle.std.specs.Str.Parse.{AllDigits, digits_value}
 use Rattle.std.proofs.Math.Seq.{get_or-append_seam, drop-append_seam}
 use Rattle.std.proofs.lemmas.Bool.{false≢true, cases_lt}
 use Rattle.std.proofs.lemmas.Bool.Decides.{nat_tests}
-use Rattle.std.proofs.lemmas.List.{length-append, length-take, get_or-take, get_or_append_left, take-append-drop}
+use Rattle.std.proofs.lemmas.List.{length-append, length-take, get_or-take, get_or_append_left, take-append-drop, take_min}
 use Rattle.std.proofs.lemmas.Str.Parse.{digit_at}
 use Rattle.nll_text.specs.Number.{IsNumber, IsDigitFront}
 use Rattle.nll_text.specs.Tokens.{is_word_byte, first_passes}
@@ -29,6 +29,12 @@ take_less zero j xs le = refl
 take_less (suc i) zero xs le = absurd (omega arith)
 take_less (suc i) (suc j) [] le = refl
 take_less (suc i) (suc j) (x ∷ xs) le = ap (λ (ys : List ℕ). x ∷ ys) (take_less i j xs (omega arith))
+
+-- nine bytes, or all where there are fewer
+pub front_nine : (bytes : List ℕ) (count : ℕ) → count ≡ min (length bytes) 9 → take count bytes ≡ take 9 bytes
+front_nine bytes count is =
+    let same : count ≡ min 9 (length bytes) = omega (arith, is) in
+    ap (λ (i : ℕ). take i bytes) same ∙ take_min 9 bytes
 
 -- The word bytes in front are no number.
 abbrev pub IsNoNumber : List ℕ → Type 0

@@ -7,7 +7,7 @@ use Rattle.std.proofs.lemmas.List.Sums.{count_by-le-length, fails_before_first, 
 use Rattle.std.proofs.lemmas.List.Quantifiers.{position-Some}
 use Rattle.std.proofs.lemmas.Bool.{ltb-false, eqb-true, lt-ltb, le-ltb, false_from_ne_true, false≢true, cases_eq}
 use Rattle.std.specs.Prelude.{MatchOption, IfSome, slice_index}
-use Rattle.memchr.specs.Find.{IsFirstByte, IsFirst, Nowhere, Passes, places, places_from}
+use Rattle.memchr.specs.Find.{IsFirstByte, IsFirst, Nowhere, Passes, TakesFirst, places, places_from}
 use Rattle.std.proofs.lemmas.List.Elements.{All-head, All-tail}
 use Rattle.nll_text.specs.Lines.{lines_of, without_last_feed}
 
@@ -134,7 +134,7 @@ length-lines_of-le text =
 -- ---- the first line feed
 
 -- the first byte that passes a test stands at its position
-pub first_place : (test : ℕ → Bool) (bytes : List ℕ) (found : Option ℕ) → IsFirstByte test bytes found
+first_place : (test : ℕ → Bool) (bytes : List ℕ) (found : Option ℕ) → IsFirstByte test bytes found
     → found ≡ position test bytes
 first_place test bytes None nowhere =
     let none : position_or_len test bytes ≡ length bytes =
@@ -198,7 +198,7 @@ module _ (test : ℕ → Bool) (hay : List ℕ) where
       (let e : 0 + length hay ≡ length hay = omega arith in subst (λ (j : ℕ). IsFirst (Passes test hay) 0 j r) e h)
 
   -- the first of all places of bytes that pass is the first such place
-  pub first_yielded : (r : Option ℕ) (s later : List ℕ) → s ≡ places test hay
+  first_yielded : (r : Option ℕ) (s later : List ℕ) → s ≡ places test hay
       → MatchOption r ((s ≡ []) × (later ≡ [])) (λ k. s ≡ k ∷ later) → IsFirstByte test hay r
   first_yielded r s later e h = by r (e ∙ ap (places_from test hay 0) (omega arith)) h
     where
@@ -207,7 +207,12 @@ module _ (test : ℕ → Bool) (hay : List ℕ) where
       by None all none = from_start None (first_of 0 (length hay) None later (sym all ∙ none.0))
       by (Some k) all some = from_start (Some k) (first_of 0 (length hay) (Some k) later (sym all ∙ some))
 
-pub first_within : (test : ℕ → Bool) (hay : List ℕ) (r : Option ℕ) → IsFirstByte test hay r
-    → IfSome r (λ i. i < length hay)
-first_within test hay None h = tt
-first_within test hay (Some k) h = h.0.high
+-- the first place of a line feed among all is its position
+pub first_feed : (text : List ℕ) (r : Option ℕ) (s later : List ℕ) → s ≡ places is_feed text → TakesFirst s r later
+    → (position is_feed text ≡ r) × IfSome r (λ i. i < length text)
+first_feed text r s later e h =
+    let first = first_yielded is_feed text r s later e h in (sym (first_place is_feed text r first), within r first)
+  where
+    within : (found : Option ℕ) → IsFirstByte is_feed text found → IfSome found (λ i. i < length text)
+    within None f = tt
+    within (Some k) f = f.0.high

@@ -1,12 +1,11 @@
 //! The classes of bytes, and what of them is in front.
 
-ghost use Rattle.std.specs.Prelude.{◌≡◌, ◌↔◌, false, IsTrue};
-ghost use Rattle.std.specs.List.{prefix_len};
+ghost use Rattle.std.specs.Prelude.{◌≡◌, false};
 ghost use Rattle.nll_text.specs.Lines as lines;
 ghost use Rattle.nll_text.specs.Tokens as tokens;
 ghost use Rattle.nll_text.specs.Tokens.{first_passes};
 ghost use Rattle.nll_text.specs.LineTokens.{tokens_in};
-ghost use Rattle.nll_text.specs.Lexing.{SplitsWhile, is_no_blank};
+ghost use Rattle.nll_text.specs.Lexing.{SplitsWhile};
 
 // Each byte that words are made of is at the index of its own value, and a dot at every other
 // index.
@@ -28,7 +27,7 @@ fn is_word_byte(byte: u8) -> bool
 }
 
 // A space, a tab or a carriage return.
-fn is_blank(byte: u8) -> bool
+pub(crate) fn is_blank(byte: u8) -> bool
     ensures { result ≡ lines.is_blank byte }
 {
     matches!(byte, b' ' | b'\t' | b'\r')
@@ -54,22 +53,6 @@ pub(crate) fn is_arrow(byte: u8, behind: &[u8]) -> bool
     }
 }
 
-// Whether these are the same bytes. It is for short ones, as words are: it compares one byte after
-// another.
-pub(crate) fn same_bytes(bytes: &[u8], others: &[u8]) -> bool
-    ensures { IsTrue result ↔ (bytes.now ≡ others.now) }
-{
-    if bytes.len() != others.len() {
-        return false;
-    }
-    for place in 0..bytes.len() {
-        if bytes[place] != others[place] {
-            return false;
-        }
-    }
-    true
-}
-
 /// What follows the blanks at the front.
 pub fn behind_gap(line: &[u8]) -> &[u8]
     ensures cut { result.now ≡ lines.without_front_blanks line.now }
@@ -86,28 +69,10 @@ pub fn behind_gap(line: &[u8]) -> &[u8]
     rest
 }
 
-fn word_len(bytes: &[u8]) -> usize
-    ensures { result ≡ prefix_len tokens.is_word_byte bytes.now }
-{
-    bytes.iter().take_while(|byte| is_word_byte(**byte)).count()
-}
-
-fn run_len(bytes: &[u8]) -> usize
-    ensures { result ≡ prefix_len is_no_blank bytes.now }
-{
-    bytes.iter().take_while(|byte| !is_blank(**byte)).count()
-}
-
 // The word bytes at the front, possibly none, and the rest.
 pub(crate) fn split_word(bytes: &[u8]) -> (&[u8], &[u8])
     ensures { SplitsWhile tokens.is_word_byte bytes.now result.0.now result.1.now }
 {
-    bytes.split_at(word_len(bytes))
-}
-
-// The bytes before the first blank, possibly none, and the rest.
-pub(crate) fn split_run(bytes: &[u8]) -> (&[u8], &[u8])
-    ensures { SplitsWhile is_no_blank bytes.now result.0.now result.1.now }
-{
-    bytes.split_at(run_len(bytes))
+    let len = bytes.iter().take_while(|byte| is_word_byte(**byte)).count();
+    bytes.split_at(len)
 }

@@ -7,7 +7,7 @@ ghost use Rattle.nll_text.specs.Tokens.{IsGap, IsWord};
 ghost use Rattle.nll_text.specs.LineTokens.{tokens_in};
 ghost use Rattle.nll_text.specs.Grammars.{Begins, HasNone, IsNotNext, any_words, numbers, regions};
 
-use crate::bytes::{behind_gap, goes_on, is_arrow, same_bytes, split_word};
+use crate::bytes::{behind_gap, goes_on, is_arrow, split_word};
 use crate::number::number_in_front;
 
 /// What follows the sign, where it comes next.
@@ -42,8 +42,11 @@ pub fn after_word<'a>(line: &'a [u8], word: &[u8]) -> Option<&'a [u8]>
 {
     let core = behind_gap(line);
     let (front, rest) = core.split_at_checked(word.len())?;
-    if !same_bytes(front, word) {
-        return None;
+    // Words are short: their bytes are compared one after another.
+    for place in 0..word.len() {
+        if front[place] != word[place] {
+            return None;
+        }
     }
     if goes_on(rest) {
         return None;

@@ -3,7 +3,7 @@
 ghost use Rattle.std.specs.Prelude.{◌≡◌, ◌↔◌, ◌∷◌, [], IsTrue, MatchOption};
 ghost use Rattle.nll_text.specs.Header.{IsHeader, runs};
 
-use crate::bytes::{behind_gap, split_run};
+use crate::bytes::{behind_gap, is_blank};
 
 // The first run of a line, and what follows it.
 fn next_run(line: &[u8]) -> Option<(&[u8], &[u8])>
@@ -14,7 +14,8 @@ fn next_run(line: &[u8]) -> Option<(&[u8], &[u8])>
     if core.is_empty() {
         return None;
     }
-    Some(split_run(core))
+    let len = core.iter().take_while(|byte| !is_blank(**byte)).count();
+    Some(core.split_at(len))
 }
 
 /// Says whether a line is the header of this kind and version: these two runs, compared byte by

@@ -1,17 +1,9 @@
 //! A text, line by line.
 
-ghost use Rattle.std.specs.Prelude.{◌≡◌, ◌==◌, ◌∷◌, position, length, ◌<◌, IfSome};
+ghost use Rattle.std.specs.Prelude.{◌≡◌, ◌∷◌};
 ghost use Rattle.nll_text.specs.Lines.{lines_of, lines_left};
 
 use memchr::memchr_iter;
-
-// The index of the first line feed.
-fn first_line_feed(text: &[u8]) -> Option<usize>
-    ensures place { result ≡ position (λ b. b == 10) text.now }
-    ensures within { IfSome result (λ i. i < length text.now) }
-{
-    memchr_iter(b'\n', text).next()
-}
 
 /// Cuts off the first line of a text: the line, and the text of the lines after it, if any.
 ///
@@ -22,7 +14,7 @@ fn first_line_feed(text: &[u8]) -> Option<usize>
 pub fn next_line(text: &[u8]) -> (&[u8], Option<&[u8]>)
     ensures { lines_of text.now ≡ result.0.now ∷ lines_left result.1 }
 {
-    let Some(end) = first_line_feed(text) else {
+    let Some(end) = memchr_iter(b'\n', text).next() else {
         return (text, None);
     };
     let line = &text[..end];

@@ -1,21 +1,11 @@
 //! Numbers at the front of bytes.
 
-ghost use Rattle.std.specs.Prelude.{◌≡◌, ◌≤◌, ℕ, List, length, take, MatchOption};
+ghost use Rattle.std.specs.Prelude.{◌≡◌, ◌≤◌, ℕ, List, length, MatchOption};
 ghost use Rattle.nll_text.specs.Number.{IsDigitFront, IsNumber};
 ghost use Rattle.nll_text.specs.Tokens.{is_word_byte};
 ghost use Rattle.nll_text.specs.Lexing.{SplitsWhile};
 
 use crate::bytes::goes_on;
-
-// The first nine bytes, or all where there are fewer.
-fn front_nine(bytes: &[u8]) -> &[u8]
-    ensures { result.now ≡ take 9 bytes.now }
-{
-    if bytes.len() <= 9 {
-        return bytes;
-    }
-    &bytes[..9]
-}
 
 // The value of the digits at the front, and how many they are.
 fn digits_at(bytes: &[u8]) -> (u32, usize)
@@ -43,7 +33,7 @@ pub fn number_in_front(bytes: &[u8]) -> Option<(u32, &[u8])>
         (λ p. (word : List ℕ) × SplitsWhile is_word_byte bytes.now word p.1.now
         × IsNumber word p.0) }
 {
-    let (number, count) = digits_at(front_nine(bytes));
+    let (number, count) = digits_at(&bytes[..bytes.len().min(9)]);
     let (digits, rest) = bytes.split_at(count);
     let first = digits.first()?;
     if *first == b'0' && count > 1 {

@@ -8,16 +8,6 @@ use crate::bytes::behind_gap;
 use crate::error::NotUtf8;
 use std::str;
 
-// Blanks alone, or a remark after `#`.
-fn is_skipped(line: &[u8]) -> bool
-    ensures { result ≡ lines.is_skipped line.now }
-{
-    match behind_gap(line) {
-        [first, ..] => *first == b'#',
-        _ => true,
-    }
-}
-
 /// Whether a line is skipped: blanks alone, or a remark.
 ///
 /// # Errors
@@ -32,5 +22,8 @@ pub fn is_skipped_line(line: &[u8]) -> Result<bool, NotUtf8>
     let Ok(_) = str::from_utf8(line) else {
         return Err(NotUtf8);
     };
-    Ok(is_skipped(line))
+    match behind_gap(line) {
+        [first, ..] => Ok(*first == b'#'),
+        _ => Ok(true),
+    }
 }

@@ -5,8 +5,8 @@ use Rattle.std.proofs.lemmas.Bool.{cases_lt}
 use Rattle.std.proofs.lemmas.List.{length-map, length-append, get_or_append_left, map_push, take-append-le}
 use Rattle.std.proofs.lemmas.Option.{slice_get-get_or, slice_get_within, get_or_from_slice_get, slice_get-map}
 use Rattle.std.proofs.Math.Seq.{get_or-append_seam, take-length}
-use Rattle.nll_types.specs.Types.{TypeTree, TypeTrees, named, type_at, HasRegion}
-use Rattle.nll_types.specs.Structs.{Struct, no_struct, struct_at, argument, put_in, HasGoodFields, AreInOrder}
+use Rattle.nll_types.specs.Types.{TypeTree, TypeTrees, named, type_at}
+use Rattle.nll_types.specs.Structs.{Struct, no_struct, struct_at, put_in, HasGoodFields, AreInOrder}
 use Rattle.nll_types.specs.DropRegions.{IsOwnDropRegion, IsDropRegion}
 use Rattle.nll_types.specs.Sources.{OneYields, AreSourcesOf, IsWantedOfOne, AddsSources}
 use Rattle.nll_types.specs.Collecting.{IsKeptRegion, IsInKept}

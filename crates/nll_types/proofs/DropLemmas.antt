@@ -1,17 +1,32 @@
 -- Drop regions of each form of type, and the sources that they come from.
-use Rattle.std.proofs.Common.{◌≡◌, ℕ, ◌+◌, ◌<◌, List, [], ◌∷◌, ◌++◌, length, map, refl, sym, ap, ◌∙◌, subst, arith, Bool, true, false, ◌||◌, inl, inr, ⊎_elim, ◌⊎◌, ◌↔◌, Contains}
-use Rattle.std.proofs.lemmas.Bool.{cases_lt, false≢true}
+use Rattle.std.proofs.Common.{◌≡◌, ℕ, ◌+◌, ◌<◌, List, [], ◌∷◌, ◌++◌, length, map, refl, sym, ap, ◌∙◌, subst, arith, Bool, true, false, ◌||◌, inl, inr, ⊎_elim, ◌⊎◌, ◌↔◌, Contains, get_or, not}
+use Rattle.std.proofs.lemmas.Bool.{cases_lt, false≢true, true≢false}
 use Rattle.std.proofs.lemmas.List.{length-map}
 use Rattle.std.proofs.lemmas.Option.{slice_get-get_or, slice_get_within, get_or_from_slice_get}
 use Rattle.std.specs.Prelude.{slice_get, Option, Some, IsTrue}
 use Rattle.nll_types.specs.Types.{TypeTree, TypeTrees, int, reference, tuple, named, function, type_at, HasRegion, AnyHasRegion}
 use Rattle.nll_types.specs.Structs.{Struct, struct_at, field_type, region_in, argument, put_in, put_in_all}
-use Rattle.nll_types.specs.DropRegions.{IsOwnDropRegion, IsDropRegion}
+use Rattle.nll_types.specs.DropRegions.{IsOwnDropRegion, IsDropRegion, MustHoldAtDrop}
 use Rattle.nll_types.specs.Sources.{Yields, OneYields, AreSourcesOf, IsWantedOf, IsWantedOfOne, AddsSources}
 use Rattle.nll_types.specs.Collecting.{IsPutRegion, IsSourceRegion, WantsWritten, WantsDropped}
+use Rattle.nll_types.specs.declared.parameter.Parameter.{Parameter}
 use Rattle.nll_types.specs.declared.source.Source.{Source}
 use Rattle.nll_types.specs.declared.source.Source.TheVariants.{Region, AnyOf, DropOf}
 use Rattle.nll_types.proofs.PutLemmas.{region_twice, argument_put, argument_cases, argument_there, type_at_put, type_at_put_back, any_has, has_any, contains_mapped, contains_map}
+
+-- ---- the parameters whose arguments a struct's own drop needs
+
+turned : (b : Bool) → IsTrue (not b) ↔ (b ≡ false)
+turned true = (λ h. absurd (false≢true h), λ e. absurd (true≢false e))
+turned false = (λ h. refl, λ e. refl)
+
+pub kept_at : (ps : List Parameter) (k : ℕ) (d : Parameter) → k < length ps
+    → IsTrue (not (get_or ps k d).may_dangle) ↔ MustHoldAtDrop ps k
+kept_at ps k d l = (
+  λ h. (get_or ps k d, slice_get-get_or ps k d l, (turned (get_or ps k d).may_dangle).0 h),
+  λ w. (turned (get_or ps k d).may_dangle).1
+      (ap (λ (p : Parameter). p.may_dangle) (get_or_from_slice_get ps k w.0 d w.1) ∙ w.2),
+)
 
 -- ---- forms of type
 

@@ -1,6 +1,6 @@
 -- What is remembered of parts and fields stays right.
 use Rattle.std.proofs.Common.{◌≡◌, ℕ, ◌<◌, Bool, true, false, List, [], ◌∷◌, ◌++◌, length, Contains, refl, sym, ap, ◌∙◌, subst, arith, Some, None, ⊎_elim}
-use Rattle.std.specs.Prelude.{◌==◌, ◌&&◌, Option, IfSome}
+use Rattle.std.specs.Prelude.{◌&&◌, Option, IfSome}
 use Rattle.std.proofs.lemmas.Bool.{eqb-true}
 use Rattle.std.proofs.lemmas.Map.Views.{Contains-from_lookup}
 use Rattle.std.specs.Map.{lookup}

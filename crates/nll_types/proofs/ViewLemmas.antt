@@ -1,6 +1,10 @@
 -- What the tree of a type is, form by form.
-use Rattle.std.proofs.Common.{◌≡◌, ℕ, zero, suc, Bool, List, [], ◌∷◌, refl, sym, ap, ◌∙◌, slice_get, ◌<◌, length, Some, arith}
-use Rattle.std.specs.Prelude.{option_map}
+use Rattle.std.proofs.Common.{◌≡◌, ℕ, zero, suc, Bool, List, [], ◌∷◌, refl, sym, ap, ◌∙◌, slice_get, ◌<◌, length, Option, None, Some, arith}
+use Rattle.std.specs.Borrow.{Bor}
+use Rattle.std.specs.Prelude.{MatchOption, option_map}
+use Rattle.std.specs.Option.{option_copied}
+use Rattle.std.specs.Slice.{IsItemAt}
+use Rattle.std.proofs.lemmas.Option.{slice_get_past, slice_get_read}
 use Rattle.std.specs.Global.{Vec, Box}
 use Rattle.nll_types.specs.Types.{TypeTree, int, parameter, reference, tuple, named, function, type_at, type_count}
 use Rattle.nll_types.specs.Views.{tree, trees, layer}
@@ -35,6 +39,18 @@ type_at_trees (t ∷ ts) (suc k) = type_at_trees ts k
 
 pub type_at_item : (ts : List Ty) (k : ℕ) (t : Ty) → slice_get ts k ≡ Some t → type_at (trees ts) k ≡ Some (tree t)
 type_at_item ts k t e = type_at_trees ts k ∙ ap (option_map tree) e
+
+-- what a look-up at a place gives, copied
+pub copied_item : {X : Type 0} (xs : List X) (k : ℕ) (r : Option (Bor X)) → IsItemAt xs k r
+    → option_copied r ≡ slice_get xs k
+copied_item xs k None h = sym (slice_get_past xs k h.3)
+copied_item xs k (Some x) h = sym (slice_get_read xs _ k x.now refl h.3.0 h.1)
+
+-- the type that a look-up at a place gives
+pub type_got : (ts : List Ty) (k : ℕ) (r : Option (Bor Ty)) → IsItemAt ts k r
+    → MatchOption r (type_at (trees ts) k ≡ None) (λ t. type_at (trees ts) k ≡ Some (tree t.now))
+type_got ts k None h = type_at_trees ts k ∙ ap (option_map tree) (slice_get_past ts k h.3)
+type_got ts k (Some t) h = type_at_item ts k t.now (slice_get_read ts _ k t.now refl h.3.0 h.1)
 
 pub type_within : (ts : List Ty) (k : ℕ) (u : TypeTree) → type_at (trees ts) k ≡ Some u → k < length ts
 type_within [] k u e = absurd cc

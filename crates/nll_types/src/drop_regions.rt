@@ -1,6 +1,6 @@
 //! The regions of a type that liveness requires.
 
-ghost use Rattle.std.specs.Prelude.{◌≡◌, ◌≢◌, ◌↔◌, [], ℕ, IsTrue, IfOk};
+ghost use Rattle.std.specs.Prelude.{◌≢◌, ◌↔◌, ℕ, IsTrue, IfOk};
 ghost use Rattle.std.specs.Prelude.{Contains, AllPairs};
 ghost use Rattle.nll_types.specs.Types.{HasRegion};
 ghost use Rattle.nll_types.specs.Structs.{IsWellFormed};
@@ -18,31 +18,6 @@ use nll_problem::RegionId;
 use nll_sets::Memory;
 use std::alloc::Global;
 
-// Regions of a type, by way of its sources: there are none yet.
-fn find_by(
-    alloc: Global,
-    structs: &Structs,
-    ty: &Ty,
-    written: bool,
-    dropped: bool,
-    sources: &mut IndexSet<Source>,
-) -> Result<Vec<RegionId>, Memory>
-    requires good { (regions : ℕ) × IsWellFormed (structs_of structs.now) regions 0 (tree ty.now) }
-    requires empty { sources.old.keys ≡ [] }
-    ensures each { IfOk result (λ v. (r : ℕ) → Contains v.items r
-        ↔ IsWanted (structs_of structs.now) (IsTrue written) (IsTrue dropped) (tree ty.now) r) }
-    ensures once { IfOk result (λ v. AllPairs (λ q r. q ≢ r) v.items) }
-{
-    collect(structs, ty, written, dropped, sources)?;
-    let mut found = Vec::new(alloc);
-    for source in sources.as_slice() {
-        if let Source::Region(region) = source {
-            found.push(*region)?;
-        }
-    }
-    Ok(found)
-}
-
 // Regions of a type: those that are written in it, its drop regions, or both.
 fn find(
     alloc: Global,
@@ -57,10 +32,14 @@ fn find(
     ensures once { IfOk result (λ v. AllPairs (λ q r. q ≢ r) v.items) }
 {
     let mut sources = IndexSet::new(alloc);
-    let found = find_by(alloc, structs, ty, written, dropped, &mut sources);
-    // Early drop.
-    drop(sources);
-    found
+    collect(structs, ty, written, dropped, &mut sources)?;
+    let mut found = Vec::new(alloc);
+    for source in sources.as_slice() {
+        if let Source::Region(region) = source {
+            found.push(*region)?;
+        }
+    }
+    Ok(found)
 }
 
 impl Structs {

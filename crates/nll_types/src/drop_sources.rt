@@ -1,8 +1,7 @@
 //! Where the drop regions of a struct come from, by its declaration.
 
-ghost use Rattle.std.specs.Prelude.{◌≡◌, ◌<◌, ◌-◌, ◌^◌, ◌↔◌, ◌++◌, ◌∷◌, [], List, IsTrue};
-ghost use Rattle.std.specs.Prelude.{OnOk, IfOk, length, true};
-ghost use Rattle.nll_types.specs.DropRegions.{MustHoldAtDrop};
+ghost use Rattle.std.specs.Prelude.{◌<◌, ◌-◌, ◌^◌, ◌++◌, ◌∷◌, [], List};
+ghost use Rattle.std.specs.Prelude.{OnOk, IfOk, length};
 ghost use Rattle.nll_types.specs.Structs.{Struct, HasGoodFields};
 ghost use Rattle.nll_types.specs.Declarations.{declared, structs_of};
 ghost use Rattle.nll_types.specs.Sources.{AddsSources, AreSourcesOf};
@@ -17,14 +16,6 @@ use nll_problem::RegionId;
 use nll_sets::Memory;
 use std::alloc::Global;
 
-// Whether the struct's own drop needs the argument for the parameter at the place.
-fn is_kept(parameters: &[Parameter], place: usize) -> bool
-    requires { place < length parameters.now }
-    ensures { IsTrue result ↔ MustHoldAtDrop parameters.now place }
-{
-    !parameters[place].may_dangle
-}
-
 // Adds the region parameters that aren't marked.
 fn collect_kept_regions(parameters: &[Parameter], out: &mut IndexSet<Source>) -> Result<(), Memory>
     requires { length parameters.now < 2 ^ 32 - 1 }
@@ -32,7 +23,7 @@ fn collect_kept_regions(parameters: &[Parameter], out: &mut IndexSet<Source>) ->
         (IsKeptRegion parameters.now) out.old.keys out.new.keys) }
 {
     for place in 0..parameters.len() {
-        let kept = is_kept(parameters, place);
+        let kept = !parameters[place].may_dangle;
         add_where(kept, out, Source::Region(RegionId(place as u32 + 1)))?;
     }
     Ok(())
@@ -44,29 +35,10 @@ fn collect_kept_types(parameters: &[Parameter], out: &mut IndexSet<Source>) -> R
         (IsInKept parameters.now) out.old.keys out.new.keys) }
 {
     for place in 0..parameters.len() {
-        let kept = is_kept(parameters, place);
+        let kept = !parameters[place].may_dangle;
         add_where(kept, out, Source::AnyOf(place))?;
     }
     Ok(())
-}
-
-// Adds where the drop regions of the struct come from: its own drop, and its fields.
-fn collect_declaration(
-    structs: &Structs,
-    declaration: &Declaration,
-    out: &mut IndexSet<Source>,
-) -> Result<(), Memory>
-    requires fields { HasGoodFields (structs_of structs.now) (declared declaration.now) }
-    requires few { length declaration.now.regions.items < 2 ^ 32 - 1 }
-    requires empty { out.old.keys ≡ [] }
-    ensures { OnOk result (AreSourcesOf (structs_of structs.now ++ declared declaration.now ∷ [])
-        (length structs.now) out.new.keys) }
-{
-    if declaration.has_drop {
-        collect_kept_regions(declaration.regions.as_slice(), out)?;
-        collect_kept_types(declaration.types.as_slice(), out)?;
-    }
-    collect_parts(structs, declaration.fields.as_slice(), false, true, out)
 }
 
 /// Where the drop regions of the next struct come from.
@@ -81,6 +53,11 @@ pub(crate) fn sources_of(
         (structs_of structs.now ++ declared declaration.now ∷ []) (length structs.now) s.keys) }
 {
     let mut out = IndexSet::new(alloc);
-    collect_declaration(structs, declaration, &mut out)?;
+    if declaration.has_drop {
+        collect_kept_regions(declaration.regions.as_slice(), &mut out)?;
+        collect_kept_types(declaration.types.as_slice(), &mut out)?;
+    }
+    let fields = declaration.fields.as_slice();
+    collect_parts(structs, fields, false, true, &mut out)?;
     Ok(out)
 }

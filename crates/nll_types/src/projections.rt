@@ -34,14 +34,7 @@ pub fn part(
         ≡ behind_shape (structs_of structs.now) (field place) (shape_in shapes.old number)) }
 {
     match shapes.node(number) {
-        Node::Tuple(parts) => {
-            let parts = parts.as_slice();
-            if place < parts.len() {
-                Ok(Some(parts[place]))
-            } else {
-                Ok(None)
-            }
-        }
+        Node::Tuple(parts) => Ok(parts.get(place).copied()),
         Node::Named(named, _, arguments) => match structs.field(*named, place) {
             Some(ty) => {
                 let arguments = Vec::from_slice(alloc, arguments.as_slice())?;

@@ -164,34 +164,6 @@ impl Shapes {
         a == b
     }
 
-    // The number of the shape that a node makes of earlier ones, by a search for the node.
-    fn put(&mut self, node: Node) -> Result<usize, Memory>
-        requires { IsOver (length self.old) node }
-        ensures extends { Extends self.old self.new }
-        ensures within { IfOk result (λ i. i < length self.new) }
-        ensures at { IfOk result (λ i. shape_in self.new i ≡ shape_over (shapes_in self.old) node) }
-    {
-        intern(&mut self.nodes, &mut self.sizes, node)
-    }
-
-    // The number of the shape of an `int`.
-    fn add_int(&mut self) -> Result<usize, Memory>
-        ensures extends { Extends self.old self.new }
-        ensures within { IfOk result (λ i. i < length self.new) }
-        ensures at { IfOk result
-            (λ i. shape_in self.new i ≡ shape_over (shapes_in self.old) Node.Int) }
-    {
-        let known = self.int;
-        if known < self.len() {
-            if let Node::Int = self.node(known) {
-                return Ok(known);
-            }
-        }
-        let number = self.put(Node::Int)?;
-        self.int = number;
-        Ok(number)
-    }
-
     /// The number of the shape that a node makes of earlier ones. After an error each number has
     /// the shape that it had.
     pub fn add(&mut self, node: Node) -> Result<usize, Memory>
@@ -200,9 +172,15 @@ impl Shapes {
         ensures within { IfOk result (λ i. i < length self.new) }
         ensures at { IfOk result (λ i. shape_in self.new i ≡ shape_over (shapes_in self.old) node) }
     {
-        match node {
-            Node::Int => self.add_int(),
-            node => self.put(node),
+        let int = self.int;
+        let is_int = matches!(node, Node::Int);
+        if is_int && int < self.len() && matches!(self.node(int), Node::Int) {
+            return Ok(int);
         }
+        let number = intern(&mut self.nodes, &mut self.sizes, node)?;
+        if is_int {
+            self.int = number;
+        }
+        Ok(number)
     }
 }

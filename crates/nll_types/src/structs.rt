@@ -93,10 +93,9 @@ impl Structs {
     pub fn field_count(&self, number: usize) -> usize
         ensures { result ≡ type_count (struct_at (structs_of self.now) number).fields }
     {
-        if number < self.entries.len() {
-            self.entries[number].declaration.fields.len()
-        } else {
-            0
+        match self.entries.get(number) {
+            Some(entry) => entry.declaration.fields.len(),
+            None => 0,
         }
     }
 
@@ -107,15 +106,8 @@ impl Structs {
             (λ t. type_at (struct_at (structs_of self.now) number).fields place
             ≡ Some (tree t.now)) }
     {
-        if number >= self.entries.len() {
-            return None;
-        }
-        let fields = self.entries[number].declaration.fields.as_slice();
-        if place < fields.len() {
-            Some(&fields[place])
-        } else {
-            None
-        }
+        let entry = self.entries.get(number)?;
+        entry.declaration.fields.get(place)
     }
 
     // Where the drop regions of a struct come from.
@@ -123,11 +115,8 @@ impl Structs {
         ensures { MatchOption result (length self.now ≤ number)
             (λ s. AreSourcesOf (structs_of self.now) number s.now.keys) }
     {
-        if number < self.entries.len() {
-            Some(&self.entries[number].sources)
-        } else {
-            None
-        }
+        let entry = self.entries.get(number)?;
+        Some(&entry.sources)
     }
 
     /// Declares the next struct.
@@ -141,16 +130,12 @@ impl Structs {
         ensures ok { OnOk result (self.new ≡ self.old ++ declaration ∷ []) }
         ensures err { OnErr result (self.new ≡ self.old) }
     {
-        match sources_of(alloc, self, &declaration) {
-            Ok(sources) => {
-                let entry = Entry {
-                    declaration,
-                    sources,
-                };
-                self.entries.push(entry)?;
-                Ok(())
-            }
-            Err(memory) => Err(memory),
-        }
+        let sources = sources_of(alloc, self, &declaration)?;
+        let entry = Entry {
+            declaration,
+            sources,
+        };
+        self.entries.push(entry)?;
+        Ok(())
     }
 }

@@ -18,11 +18,7 @@ pub(crate) fn region_in(regions: &[RegionId], region: RegionId) -> RegionId
         return RegionId(0);
     }
     let place = (region.0 - 1) as usize;
-    if place < regions.len() {
-        regions[place]
-    } else {
-        RegionId(0)
-    }
+    regions.get(place).copied().unwrap_or(RegionId(0))
 }
 
 // What the regions of a field's type become.
@@ -46,13 +42,10 @@ pub fn put_in(alloc: Global, ty: &Ty, regions: &[RegionId], types: &[Ty]) -> Res
 {
     match ty {
         Ty::Int => Ok(Ty::Int),
-        Ty::Parameter(number) => {
-            if *number < types.len() {
-                copy(alloc, &types[*number])
-            } else {
-                Ok(Ty::Int)
-            }
-        }
+        Ty::Parameter(number) => match types.get(*number) {
+            Some(ty) => copy(alloc, ty),
+            None => Ok(Ty::Int),
+        },
         Ty::Reference(region, mutable, target) => {
             let target = Box::new(alloc, put_in(alloc, target, regions, types)?)?;
             Ok(Ty::Reference(region_in(regions, *region), *mutable, target))

@@ -1,6 +1,6 @@
 //! Types as trees, made of a shape and a row of regions.
 
-ghost use Rattle.std.specs.Prelude.{◌≡◌, ◌<◌, length, take, drop, slice_index_or, IfOk};
+ghost use Rattle.std.specs.Prelude.{◌≡◌, ◌<◌, length, take, drop, IfOk};
 ghost use Rattle.nll_types.specs.Rows.{filled, all_filled};
 ghost use Rattle.nll_types.specs.Table.{AreBelow, all_at, shape_in, shapes_in};
 ghost use Rattle.nll_types.specs.Views.{tree, trees};
@@ -11,19 +11,6 @@ use crate::ty::Ty;
 use nll_problem::RegionId;
 use nll_sets::Memory;
 use std::alloc::Global;
-
-// The region at a place, `'static` where there is none. The place is then the next one.
-fn take_region(regions: &[RegionId], at: &mut usize) -> RegionId
-    ensures region { result ≡ slice_index_or (drop at.old regions.now) 0 0 }
-    ensures rest { drop at.new regions.now ≡ drop 1 (drop at.old regions.now) }
-{
-    if *at >= regions.len() {
-        return RegionId(0);
-    }
-    let region = regions[*at];
-    *at += 1;
-    region
-}
 
 // The next regions, this many of them as far as there are so many. They are then passed.
 fn take_regions<'a>(regions: &'a [RegionId], count: usize, at: &mut usize) -> &'a [RegionId]
@@ -59,7 +46,8 @@ pub(crate) fn tree_of(
         Node::Parameter(number) => Ok(Ty::Parameter(*number)),
         Node::Reference(mutable, target) => {
             let target = Box::new(alloc, tree_of(alloc, shapes, *target, regions, at)?)?;
-            Ok(Ty::Reference(take_region(regions, at), *mutable, target))
+            let region = take_regions(regions, 1, at).first().copied();
+            Ok(Ty::Reference(region.unwrap_or(RegionId(0)), *mutable, target))
         }
         Node::Tuple(parts) => {
             let parts = trees_of(alloc, shapes, parts.as_slice(), regions, at)?;

@@ -1,7 +1,7 @@
 //! The shapes of types, with the shapes of arguments substituted.
 
 ghost use Rattle.std.specs.Prelude.{◌≡◌, ◌<◌, length, IfOk};
-ghost use Rattle.nll_types.specs.Shapes.{shape_of, shapes_of, argument_shape};
+ghost use Rattle.nll_types.specs.Shapes.{shape_of, shapes_of};
 ghost use Rattle.nll_types.specs.Shapes.{put_in_shape, put_in_shapes};
 ghost use Rattle.nll_types.specs.Table.{Extends, AreBelow, shape_in, shapes_in, all_at};
 ghost use Rattle.nll_types.specs.Views.{tree, trees};
@@ -11,23 +11,6 @@ use crate::shapes::Shapes;
 use crate::ty::Ty;
 use nll_sets::Memory;
 use std::alloc::Global;
-
-// The shape of the argument for a type parameter.
-fn argument(shapes: &mut Shapes, arguments: &[usize], number: usize) -> Result<usize, Memory>
-    ensures extends { Extends shapes.old shapes.new }
-    ensures within { IfOk result (λ i. i < length shapes.new) }
-    ensures at { IfOk result (λ i. AreBelow (length shapes.old) arguments.now
-        → shape_in shapes.new i
-        ≡ argument_shape (all_at (shapes_in shapes.old) arguments.now) number) }
-{
-    if number < arguments.len() {
-        let shape = arguments[number];
-        if shape < shapes.len() {
-            return Ok(shape);
-        }
-    }
-    shapes.add(Node::Int)
-}
 
 /// The number of the shape of a field's type, with the shapes of the type arguments substituted for
 /// its parameters. Of a type without parameters it is the shape of the type.
@@ -49,7 +32,10 @@ pub(crate) fn shape(
 {
     match ty {
         Ty::Int => shapes.add(Node::Int),
-        Ty::Parameter(number) => argument(shapes, arguments, *number),
+        Ty::Parameter(number) => match arguments.get(*number) {
+            Some(argument) if *argument < shapes.len() => Ok(*argument),
+            _ => shapes.add(Node::Int),
+        },
         Ty::Reference(_, mutable, target) => {
             let target = shape(alloc, shapes, target, arguments)?;
             shapes.add(Node::Reference(*mutable, target))

@@ -2,7 +2,7 @@ use Rattle.std.proofs.Common.{◌<◌, length, false, arith}
 use Rattle.std.specs.Prelude.{slice_get}
 use Rattle.std.proofs.lemmas.Option.{slice_get-get_or, slice_get_within}
 use Rattle.nll_types.specs.declared.parameter.Sign.TheVariants.{Covariant}
-use Rattle.nll_types.proofs.DropLemmas.{adds_as, below_none, below_more, below_all}
+use Rattle.nll_types.proofs.DropLemmas.{adds_as, below_none, below_more, below_all, kept_at}
 use Rattle.nll_types.proofs.drop_sources.collect_kept_types.Goals as goal
 
 pub loop-place-init : goal.loop-place-init
@@ -11,12 +11,13 @@ loop-place-init c = λ all. below_none all _ _ _
 pub loop-place-preserved : goal.loop-place-preserved
 loop-place-preserved c = λ all.
     let within : c.loop-place.place < length c.args.parameters.now = omega arith in
+    let kept = kept_at c.args.parameters.now c.loop-place.place (record { sign = Covariant; may_dangle = false }) within in
     below_more all (slice_get c.args.parameters.now) _ c.loop-place.place _ _ _ _
     (slice_get-get_or c.args.parameters.now c.loop-place.place (record { sign = Covariant; may_dangle = false }) within)
     (c.loop-place.invariant all)
     (adds_as all _ _ _ _
-    (λ rs ts r h. (c.is_kept-kept.ensures.0 h.0, h.1))
-    (λ rs ts r h. (c.is_kept-kept.ensures.1 h.0, h.1))
+    (λ rs ts r h. (kept.0 h.0, h.1))
+    (λ rs ts r h. (kept.1 h.0, h.1))
     (c.in_ok-add_where.ensures all))
 
 pub returns : goal.returns

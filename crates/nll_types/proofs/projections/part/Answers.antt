@@ -1,6 +1,6 @@
-use Rattle.std.proofs.Common.{◌∙◌, ap, sym, length, arith, Some}
-use Rattle.std.specs.Prelude.{option_map}
-use Rattle.std.proofs.lemmas.Option.{slice_get-get_or, slice_get_past}
+use Rattle.std.proofs.Common.{◌≡◌, ◌∙◌, ap, sym, length, arith, Some}
+use Rattle.std.specs.Prelude.{option_map, slice_get}
+use Rattle.nll_types.proofs.ViewLemmas.{copied_item}
 use Rattle.nll_types.specs.Shapes.{behind_shape, shape_of}
 use Rattle.nll_types.specs.Structs.{struct_at}
 use Rattle.nll_types.specs.Table.{at, shapes_in, shape_over, parts_of, AreBelow}
@@ -10,22 +10,14 @@ use Rattle.nll_types.proofs.ShapeLemmas.{shape_at_of}
 use Rattle.nll_types.proofs.ProjectLemmas.{shape_at_all}
 use Rattle.nll_types.proofs.projections.part.Goals as goal
 
-pub returns-then-place-parts-clause-at : goal.returns-then-place-parts-clause-at
-returns-then-place-parts-clause-at c =
+pub returns-in-Tuple-clause-at : goal.returns-in-Tuple-clause-at
+returns-in-Tuple-clause-at c =
     let known = shapes_in c.args.shapes.now in
     let parts = c.in-Tuple.parts.items in
-    let l = rw c.as_slice-parts.ensures.value at c.if-place-parts.true in
-    rw c.as_slice-parts.ensures.value
-    (ap (option_map (at known)) (sym (slice_get-get_or parts c.args.place 0 l)) ∙ shape_at_all known parts c.args.place
-    ∙ ap (behind_shape (structs_of c.args.structs.now) (Field c.args.place))
-    (sym (c.node.ensures.at ∙ ap (shape_over known) c.in-Tuple.is)))
-
-pub returns-else-place-parts-clause-at : goal.returns-else-place-parts-clause-at
-returns-else-place-parts-clause-at c =
-    let known = shapes_in c.args.shapes.now in
-    let parts = c.in-Tuple.parts.items in
-    let l = rw c.as_slice-parts.ensures.value at c.if-place-parts.false in
-    ap (option_map (at known)) (sym (slice_get_past parts c.args.place l)) ∙ shape_at_all known parts c.args.place
+    let read = rw c.deref.ensures.value at c.get.ensures.lookup in
+    let item : c.copied.result ≡ slice_get parts c.args.place =
+    c.copied.ensures ∙ copied_item parts c.args.place c.get.result read in
+    ap (option_map (at known)) item ∙ shape_at_all known parts c.args.place
     ∙ ap (behind_shape (structs_of c.args.structs.now) (Field c.args.place))
     (sym (c.node.ensures.at ∙ ap (shape_over known) c.in-Tuple.is))
 

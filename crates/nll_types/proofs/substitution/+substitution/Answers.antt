@@ -41,11 +41,12 @@ put_in_all-loop-part-preserved t c =
       omega arith,
     )
 
-pub put_in-returns-then-number-types : goal.put_in-returns-then-number-types
-put_in-returns-then-number-types t c = rw (ap tree c.in-Parameter.is ∙ tree_parameter _) (IfOk-weaker c.copy.result _ _
-    (λ u e. e ∙ ap tree c.index-types-number.is
-    ∙ argument_view c.args.types.now _ c.index-types-number.result c.if-number-types.true) c.copy.ensures)
+pub put_in-returns-in-Some : goal.put_in-returns-in-Some
+put_in-returns-in-Some t c =
+    let there = c.in-Some.ensures.lookup in
+    rw (ap tree c.in-Parameter.is ∙ tree_parameter _) (IfOk-weaker c.copy.result _ _
+    (λ u e. e ∙ ap tree there.1 ∙ argument_view c.args.types.now _ c.in-Some.ty.now there.3.0) c.copy.ensures)
 
-pub put_in-returns-else-number-types : goal.put_in-returns-else-number-types
-put_in-returns-else-number-types t c = rw (ap tree c.in-Parameter.is ∙ tree_parameter _)
-    (tree_int ∙ argument_past c.args.types.now _ c.if-number-types.false)
+pub put_in-returns-in-None : goal.put_in-returns-in-None
+put_in-returns-in-None t c = rw (ap tree c.in-Parameter.is ∙ tree_parameter _)
+    (tree_int ∙ argument_past c.args.types.now _ c.in-None.ensures.lookup.3)

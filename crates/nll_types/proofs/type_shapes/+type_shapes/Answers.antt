@@ -7,7 +7,8 @@ use Rattle.nll_types.specs.Types.{TypeTree}
 use Rattle.nll_types.specs.Views.{tree, trees}
 use Rattle.nll_types.specs.declared.node.Node.{Node}
 use Rattle.nll_types.proofs.ViewLemmas.{tree_int, tree_parameter, tree_reference, tree_tuple, tree_named, tree_function}
-use Rattle.nll_types.proofs.ShapingLemmas.{extends_same, extends_then, shaping_more, shaping_all, kept_at, below_more, over_function}
+use Rattle.nll_types.proofs.ShapingLemmas.{argument_at, argument_past, extends_same, extends_then, shaping_more, shaping_all, kept_at, below_more, over_function}
+use Rattle.nll_types.proofs.type_shapes.+type_shapes.Goals.{shape-in_default-via-in-Some+else-argument-len, shape-in_default-via-in_default}
 use Rattle.nll_types.proofs.type_shapes.+type_shapes.Goals as goal
 
 -- what the shape of a tree becomes, where the tree is another
@@ -21,10 +22,24 @@ pub shape-returns-in-Int-clause-at : goal.shape-returns-in-Int-clause-at
 shape-returns-in-Int-clause-at t c = IfOk-weaker c.add.result _ _ (λ i at. λ b.
     at ∙ put c.args.shapes.now c.args.arguments.now _ _ (ap tree c.in-Int.is ∙ tree_int)) c.add.ensures.at
 
-pub shape-returns-in-Parameter-clause-at : goal.shape-returns-in-Parameter-clause-at
-shape-returns-in-Parameter-clause-at t c = IfOk-weaker c.argument.result _ _ (λ i at. λ b.
-    at b ∙ put c.args.shapes.now c.args.arguments.now _ _ (ap tree c.in-Parameter.is ∙ tree_parameter _))
-    c.argument.ensures.at
+pub shape-returns-in-Some-clause-at : goal.shape-returns-in-Some-clause-at
+shape-returns-in-Some-clause-at t c = λ b.
+    let read = c.in-Some.ensures.lookup in
+    ap (shape_in c.args.shapes.now) (read.4 (omega arith) 0)
+    ∙ argument_at (shapes_in c.args.shapes.now) c.args.arguments.now c.in-Parameter.number read.3.0
+    ∙ put c.args.shapes.now c.args.arguments.now _ _ (ap tree c.in-Parameter.is ∙ tree_parameter _)
+
+pub shape-returns-in_default-clause-at : goal.shape-returns-in_default-clause-at
+shape-returns-in_default-clause-at t c = IfOk-weaker c.add-in_default.result _ _ (λ i at. λ b.
+    let past : length c.args.arguments.now ≤ c.in-Parameter.number = elim c.in_default.branch [
+      | shape-in_default-via-in-Some+else-argument-len w ↦
+          (let read = w.in-Some.ensures.lookup in
+          omega (arith, b c.in-Parameter.number read.3.0, read.4 (omega arith) 0, w.if-argument-len.false, w.len.ensures))
+      | shape-in_default-via-in_default w ↦ w.in_default.ensures.lookup.3
+    ] in
+    at ∙ argument_past (shapes_in c.args.shapes.now) c.args.arguments.now c.in-Parameter.number past
+    ∙ put c.args.shapes.now c.args.arguments.now _ _ (ap tree c.in-Parameter.is ∙ tree_parameter _))
+    c.add-in_default.ensures.at
 
 pub shape-returns-in_ok-target-in-Reference-clause-at : goal.shape-returns-in_ok-target-in-Reference-clause-at
 shape-returns-in_ok-target-in-Reference-clause-at t c = IfOk-weaker c.add-in-Reference.result _ _ (λ i at. λ b.
@@ -42,7 +57,7 @@ shape-returns-in_ok-parts-in-Tuple-clause-at t c = IfOk-weaker c.add-in-Tuple.re
 
 pub shape-returns-in_ok-types-in-Named-clause-at : goal.shape-returns-in_ok-types-in-Named-clause-at
 shape-returns-in_ok-types-in-Named-clause-at t c =
-    let count = c.len.ensures ∙ c.in-Named.regions.ok.0 in
+    let count = c.len-in-Named.ensures ∙ c.in-Named.regions.ok.0 in
     IfOk-weaker c.add-in-Named.result _ _ (λ i at. λ b.
     let types = (rw c.as_slice-in-Named.ensures.value at c.in_ok-types-in-Named.ensures.at) b in
     at ∙ (ap (λ k. named_shape c.in-Named.number k
@@ -144,12 +159,6 @@ shape-returns-in-Int-clause-extends t c = c.add.ensures.extends
 
 pub shape-returns-in-Int-clause-within : goal.shape-returns-in-Int-clause-within
 shape-returns-in-Int-clause-within t c = c.add.ensures.within
-
-pub shape-returns-in-Parameter-clause-extends : goal.shape-returns-in-Parameter-clause-extends
-shape-returns-in-Parameter-clause-extends t c = c.argument.ensures.extends
-
-pub shape-returns-in-Parameter-clause-within : goal.shape-returns-in-Parameter-clause-within
-shape-returns-in-Parameter-clause-within t c = c.argument.ensures.within
 
 pub shape-returns-in_ok-target-in-Reference-clause-within : goal.shape-returns-in_ok-target-in-Reference-clause-within
 shape-returns-in_ok-target-in-Reference-clause-within t c = c.add-in-Reference.ensures.within

@@ -1,4 +1,4 @@
-use Rattle.std.proofs.Common.{◌<◌, ◌∙◌, ap, sym, refl, length, map, arith}
+use Rattle.std.proofs.Common.{◌∙◌, ap, sym, refl, map}
 use Rattle.std.specs.Prelude.{option_map}
 use Rattle.std.proofs.lemmas.Option.{slice_get_read, slice_get-map}
 use Rattle.nll_types.specs.Types.{type_count}
@@ -8,16 +8,16 @@ use Rattle.nll_types.proofs.ViewLemmas.{count_trees}
 use Rattle.nll_types.proofs.DeclareLemmas.{get_mapped}
 use Rattle.nll_types.proofs.structs.Structs.field_count.Goals as goal
 
-pub returns-then-number-len : goal.returns-then-number-len
-returns-then-number-len c =
+pub returns-in-Some : goal.returns-in-Some
+returns-in-Some c =
     let entries = c.self.inside.entries.items in
-    let fields = c.index.result.now.declaration.fields in
-    let within : c.args.number < length entries = omega arith in
-    let item = slice_get_read entries _ c.args.number c.index.result.now refl within c.index.ensures in
+    let entry = c.in-Some.entry.now in
+    let fields = entry.declaration.fields in
+    let read = rw c.deref.ensures.value at c.in-Some.ensures.lookup in
+    let item = slice_get_read entries _ c.args.number entry refl read.3.0 read.1 in
     let there = slice_get-map (λ entry. entry.declaration) entries c.args.number
     ∙ ap (option_map (λ entry. entry.declaration)) item in
     let is =
-    get_mapped declared (map (λ entry. entry.declaration) entries) c.args.number c.index.result.now.declaration
-    no_struct there in
-    rw (← c.self.view_is) (c.len-then-number-len.ensures ∙ fields.ok.0 ∙ sym (count_trees fields.items)
+    get_mapped declared (map (λ entry. entry.declaration) entries) c.args.number entry.declaration no_struct there in
+    rw (← c.self.view_is) (c.len.ensures ∙ fields.ok.0 ∙ sym (count_trees fields.items)
     ∙ sym (ap (λ (z : Struct). type_count z.fields) is))
