@@ -164,7 +164,7 @@ impl<'q, E: Engine> Analysis for Keepers<'q, E> {
         if Self::unsent(part, to) == 0 {
             return None;
         }
-        let growth = Self::next_for(part, to)?;
+        let growth = part.boxes.lists[to as usize][part.book.given_to(to) as usize];
         part.book.give(to);
         Some(growth)
     }

@@ -1,12 +1,11 @@
 -- What values gain, insert after insert, and whether something new came.
-use Rattle.std.proofs.Common.{◌≡◌, ◌≢◌, ℕ, ◌<◌, ◌≤◌, Bool, true, false, not, ◌||◌, List, [], replicate, length, set, refl, sym, ap, ◌∙◌, subst, inl, inr, ⊎_elim, arith}
+use Rattle.std.proofs.Common.{◌≡◌, ◌≢◌, ℕ, ◌<◌, Bool, true, false, not, ◌||◌, List, [], replicate, length, set, refl, ap, ◌∙◌, inl, arith}
 use Rattle.std.proofs.lemmas.Bool.{cases_lt, cases_eq, false≢true, true≢false, not-false, not-true}
 use Rattle.std.proofs.lemmas.List.{get_or-set_other, get_or-set_same, length-set, set-get_or, get_or_past, get_or-replicate, length-replicate}
 use Rattle.std.proofs.lemmas.List.Sums.{sum_by-set}
 use Rattle.nll_sets.specs.ElementSet.{flag}
-use Rattle.nll_core.specs.Search.{missing}
 use Rattle.nll_core.specs.Values.{set_of, holds, IsHeld, with_element}
-use Rattle.nll_core.specs.Growing.{missing_pairs, Gains, Tells}
+use Rattle.nll_core.specs.Growing.{Gains, Tells}
 use Rattle.nll_core.proofs.SearchLemmas.{missing_one, none_in_empty}
 
 -- ---- one element more

@@ -1,5 +1,5 @@
 -- The worklist of regions: what visits keep, and that nothing is left at the end of a sweep that changed nothing.
-use Rattle.std.proofs.Common.{◌≡◌, ◌≢◌, ℕ, ◌+◌, ◌-◌, ◌<◌, ◌≤◌, Bool, true, false, eqb, Result, Ok, Err, IfOk, OnOk, ◌||◌, List, Contains, AllPairs, IsTrue, length, get_or, set, replicate, drop, slice_range, refl, sym, ap, ◌∙◌, subst, inl, inr, ⊎_elim, arith, length-take, length-drop, get_or-take, get_or-drop}
+use Rattle.std.proofs.Common.{◌≡◌, ◌≢◌, ℕ, ◌+◌, ◌-◌, ◌<◌, ◌≤◌, Bool, true, false, eqb, Result, Ok, Err, IfOk, OnOk, ◌||◌, List, Contains, AllPairs, IsTrue, length, get_or, set, replicate, drop, slice_range, refl, sym, ap, ◌∙◌, subst, inl, ⊎_elim, arith, length-take, length-drop, get_or-take, get_or-drop}
 use Rattle.std.proofs.lemmas.Bool.{cases_lt, cases_eq, false≢true, true≢false, cases_Bool, eqb-true, eqb-false}
 use Rattle.std.proofs.lemmas.List.{get_or-set_other, get_or-set_same, length-set, get_or_past, set-get_or, get_or_default, get_or-replicate}
 use Rattle.nll_sets.specs.ElementSet.{flag}

@@ -1,12 +1,9 @@
 //! What constraints of a pair of regions that hold at points ask for, by walks from these.
 
-ghost use Rattle.std.specs.Prelude.{◌≡◌, ℕ, ◌≤◌, ◌<◌, Contains, length, OnOk, IfOk, IfSome, IfNone};
+ghost use Rattle.std.specs.Prelude.{◌≡◌, ℕ, ◌≤◌, ◌<◌, length, OnOk, IfOk, IfSome, IfNone};
 ghost use Rattle.nll_problem.specs.Graph.{element_count};
-ghost use Rattle.nll_problem.specs.declared.constraint.Constraint as spec;
-ghost use Rattle.nll_core.specs.Search.{IsIn};
-ghost use Rattle.nll_core.specs.Walking.{GrowsByRuns, IsLineClosed, PointsAscend, AreAskedOf};
-ghost use Rattle.nll_core.specs.Walking.{AreAtPoints, IsLedFrom, NoneEverywhere, NoneInside};
-ghost use Rattle.nll_core.specs.Walking.{constraint_at, point_of};
+ghost use Rattle.nll_core.specs.Walking.{PointsAscend, AreAskedOf, AreAtPoints};
+ghost use Rattle.nll_core.specs.Walking.{NoneEverywhere, NoneInside, constraint_at, point_of};
 ghost use Rattle.nll_sets.specs.Runs.{first_of, last_of, IsRunFrom, IsWithin, MakeUp};
 
 use crate::lines::Lines;
@@ -49,7 +46,15 @@ impl Walk {
         self.reached.clear();
         self.todo.clear();
         let points = lines.points();
-        enter_all(lines, sub, &mut self.reached, &mut self.todo, pair)?;
+        // The points that are in `sub` are entered, except those that an earlier entry settles.
+        let mut place = 0;
+        let mut near = 0;
+        while let Some(found) = next_inside(sub, near, pair, place) {
+            let point = point_at(pair, found.place);
+            let next = enter(lines, found.run, &mut self.reached, &mut self.todo, point)?;
+            place = place_from(pair, found.place + 1, next);
+            near = found.near;
+        }
         let ends = spread(lines, sub, &mut self.reached, &mut self.todo)?;
         if !ends {
             return Ok(());
@@ -82,36 +87,6 @@ fn point_at(pair: &[Constraint], place: usize) -> u32
         At::All => unreachable!(),
         At::Point(point) => point,
     }
-}
-
-// Enters the points of the constraints that are in `sub`, except those that an earlier entry
-// settles.
-fn enter_all(
-    lines: &Lines,
-    sub: &RunSet,
-    reached: &mut RunSet,
-    todo: &mut Vec<Run>,
-    pair: &[Constraint],
-) -> Result<(), Memory>
-    requires points { AreAtPoints lines.now pair.now }
-    requires ascending { PointsAscend pair.now }
-    requires widths { lines.now.points ≤ length reached.old }
-    requires closed { IsLineClosed lines.now sub.now reached.old }
-    ensures grows { OnOk result (GrowsByRuns lines.now sub.now
-        (IsLedFrom lines.now sub.now pair.now)
-        reached.old reached.new todo.old.items todo.new.items) }
-    ensures covers { OnOk result ((c : spec.Constraint)
-        → Contains pair.now c → IsIn sub.now (point_of c) → IsIn reached.new (point_of c)) }
-{
-    let mut place = 0;
-    let mut near = 0;
-    while let Some(found) = next_inside(sub, near, pair, place) {
-        let point = point_at(pair, found.place);
-        let next = enter(lines, found.run, reached, todo, point)?;
-        place = place_from(pair, found.place + 1, next);
-        near = found.near;
-    }
-    Ok(())
 }
 
 // A constraint whose point is in the value, the run in which it is, and the index of this run.

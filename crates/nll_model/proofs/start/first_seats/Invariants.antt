@@ -1,6 +1,0 @@
-use Rattle.std.proofs.Common.{◌≡◌, length}
-use Rattle.nll_model.specs.Working.{AreFirst}
-use Rattle.nll_model.proofs.start.first_seats.Given as goal
-
-abbrev pub invariant-loop-me : goal.invariant-loop-me
-invariant-loop-me l = (length l.seats.items ≡ l.me) × AreFirst l.problem l.cut l.seats.items
