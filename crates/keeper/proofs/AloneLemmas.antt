@@ -1,8 +1,8 @@
 -- What the log of the only owner tells.
-use Rattle.std.proofs.Common.{◌≡◌, ◌↔◌, ℕ, ◌<◌, IsTrue, List, [], ◌∷◌, Contains, arith, refl, sym, ap, ◌∙◌, subst, inl, ⊎_elim}
+use Rattle.std.proofs.Common.{◌≡◌, ◌↔◌, ℕ, ◌<◌, List, [], ◌∷◌, Contains, arith, refl, sym, ap, ◌∙◌, subst, inl, ⊎_elim}
 use Rattle.fixpoint.specs.Rules.{Rules, AreLawful, Least, Sees}
-use Rattle.fixpoint.specs.Logs.{IsTold, IsWellSupported, AreSound, AreSettled, list_of, log_of, part, tells_before}
-use Rattle.fixpoint.specs.State.{State, IsSound, IsDone, list_in, received_from}
+use Rattle.fixpoint.specs.Logs.{IsTold, IsWellSupported, AreSound, AreSettled, list_of, log_of, part}
+use Rattle.fixpoint.specs.State.{State, IsSound, IsDone, received_from}
 use Rattle.fixpoint.specs.Finishing.{AreRanked}
 use Rattle.fixpoint.proofs.LawLemmas.{least_exact, in_range}
 use Rattle.fixpoint.proofs.LogLemmas.{list_own}

@@ -1,9 +1,9 @@
 -- What is due.
-use Rattle.std.proofs.Common.{◌≡◌, ⊎_elim, inl, inr, ℕ, Bool, true, false, ◌||◌, IsTrue, List, [], ◌∷◌, ◌++◌, Contains, refl, sym, ap, ◌∙◌, subst, arith}
+use Rattle.std.proofs.Common.{◌≡◌, ⊎_elim, inl, inr, ℕ, Bool, false, ◌||◌, IsTrue, List, [], ◌∷◌, ◌++◌, Contains, refl, sym, ap, ◌∙◌, subst, arith}
 use Rattle.std.proofs.lemmas.Bool.{false≢true}
 use Rattle.std.proofs.lemmas.List.Elements.{Contains-append_left, Contains-push_cases}
 use Rattle.fixpoint.specs.Rules.{Rules, AreLawful}
-use Rattle.fixpoint.specs.State.{State, IsDone, list_in}
+use Rattle.fixpoint.specs.State.{State, IsDone}
 use Rattle.fixpoint.proofs.LogLemmas.{tells_from}
 use Rattle.keeper.specs.Engine.{IsFound, Finds, with_fact, nothing}
 use Rattle.keeper.specs.Keeping.{IsDue, has}

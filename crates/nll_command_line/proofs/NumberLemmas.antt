@@ -13,10 +13,7 @@ own = numerals_by_value (AllDigits 10) tells_digits
 -- such a number begins with a digit that isn't 0
 pub begins : (n : ℕ) → 0 < n → n ≤ 64
     → (0 < length (decimal n)) × (49 ≤ get_or (decimal n) 0 0) × (get_or (decimal n) 0 0 ≤ 57)
-begins n some few =
-    let small : n < 2 ^ 64 = omega (arith, few) in
-    let there = decimal_nonempty n small in
-    (there, first_decimal n some small, (digit_at (decimal n) 0 (digits_decimal own n small) there).1)
+begins n some few = grind (arith, decimal_nonempty, first_decimal, digit_at, digits_decimal, own)
 
 -- what `parse` reads of bytes that begin so is a number that isn't 0, and they are that number
 pub is_printed : {E : Type 0} (bs : List ℕ) (r : Result ℕ E) (n : ℕ) → ParsesUnsigned 16 10 bs r → r ≡ Ok n

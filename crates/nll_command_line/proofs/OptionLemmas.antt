@@ -51,10 +51,7 @@ same {Y = Y} h given g ys nothing e =
 -- one of the kind gives its value
 more : {Y : Type 0} (h : Given → Option Y) (given : List Given) (g : Given) (y : Y) (o : Option Y) → h g ≡ Some y
     → o ≡ None → filter_map h given ≡ option_to_list o → filter_map h (given ++ g ∷ []) ≡ y ∷ []
-more h given g y o gives empty e =
-    let before : filter_map h given ≡ [] = e ∙ ap option_to_list empty in
-    let last : filter_map h (g ∷ []) ≡ y ∷ [] = rw gives refl in
-    filter_map-append h given (g ∷ []) ∙ (ap (λ xs. xs ++ filter_map h (g ∷ [])) before ∙ last)
+more h given g y o gives empty e = grind (arith, filter_map-append)
 
 -- two options of one kind give two values
 two : {Y : Type 0} (h : Given → Option Y) (given : List Given) (g : Given) (later : List Given) (y z : Y)
@@ -63,11 +60,7 @@ two : {Y : Type 0} (h : Given → Option Y) (given : List Given) (g : Given) (la
 two {Y = Y} h given g later y z o all gives there e f = at_most all (sym two_values ∙ f)
   where
     two_values : filter_map h (given ++ g ∷ later) ≡ y ∷ z ∷ filter_map h later
-    two_values =
-        let before : filter_map h given ≡ y ∷ [] = e ∙ ap option_to_list there in
-        let last : filter_map h (g ∷ later) ≡ z ∷ filter_map h later = rw gives refl in
-        filter_map-append h given (g ∷ later)
-        ∙ (ap (λ xs. xs ++ filter_map h (g ∷ later)) before ∙ ap (λ xs. y ∷ xs) last)
+    two_values = grind (arith, filter_map-append)
 
     at_most : (o : Option Y) → y ∷ z ∷ filter_map h later ≡ option_to_list o → ⊥
     at_most None e = cc
@@ -76,53 +69,23 @@ two {Y = Y} h given g later y z o all gives there e f = at_most all (sym two_val
 module _ (given : List Given) (said : SaidOptions) (s : SaysOptions given said) where
   pub more_owners : (n : ℕ) → said.owners ≡ None → SaysOptions (given ++ owners n
       ∷ []) (record said { owners = Some n })
-  more_owners n empty = record {
-    owners = more owners_in given (owners n) n said.owners refl empty s.owners;
-    deal = same deal_in given (owners n) _ refl s.deal;
-    cut = same cut_in given (owners n) _ refl s.cut;
-    mail = same mail_in given (owners n) _ refl s.mail;
-    schedule = same schedule_in given (owners n) _ refl s.schedule;
-  }
+  more_owners n empty = grind (arith, more, same)
 
   pub more_deal : (how : Deal) → said.deal ≡ None → SaysOptions (given ++ deal how
       ∷ []) (record said { deal = Some how })
-  more_deal how empty = record {
-    owners = same owners_in given (deal how) _ refl s.owners;
-    deal = more deal_in given (deal how) how said.deal refl empty s.deal;
-    cut = same cut_in given (deal how) _ refl s.cut;
-    mail = same mail_in given (deal how) _ refl s.mail;
-    schedule = same schedule_in given (deal how) _ refl s.schedule;
-  }
+  more_deal how empty = grind (arith, same, more)
 
   pub more_cut : (file : List ℕ) → said.cut ≡ None → SaysOptions (given ++ cut file
       ∷ []) (record said { cut = Some file })
-  more_cut file empty = record {
-    owners = same owners_in given (cut file) _ refl s.owners;
-    deal = same deal_in given (cut file) _ refl s.deal;
-    cut = more cut_in given (cut file) file said.cut refl empty s.cut;
-    mail = same mail_in given (cut file) _ refl s.mail;
-    schedule = same schedule_in given (cut file) _ refl s.schedule;
-  }
+  more_cut file empty = grind (arith, same, more)
 
   pub more_mail : (kind : MailKind) → said.mail ≡ None
       → SaysOptions (given ++ mail kind ∷ []) (record said { mail = Some kind })
-  more_mail kind empty = record {
-    owners = same owners_in given (mail kind) _ refl s.owners;
-    deal = same deal_in given (mail kind) _ refl s.deal;
-    cut = same cut_in given (mail kind) _ refl s.cut;
-    mail = more mail_in given (mail kind) kind said.mail refl empty s.mail;
-    schedule = same schedule_in given (mail kind) _ refl s.schedule;
-  }
+  more_mail kind empty = grind (arith, same, more)
 
   pub more_schedule : (file : List ℕ) → said.schedule ≡ None
       → SaysOptions (given ++ schedule file ∷ []) (record said { schedule = Some file })
-  more_schedule file empty = record {
-    owners = same owners_in given (schedule file) _ refl s.owners;
-    deal = same deal_in given (schedule file) _ refl s.deal;
-    cut = same cut_in given (schedule file) _ refl s.cut;
-    mail = same mail_in given (schedule file) _ refl s.mail;
-    schedule = more schedule_in given (schedule file) file said.schedule refl empty s.schedule;
-  }
+  more_schedule file empty = grind (arith, same, more)
 
   -- ---- an option that is there already, or of a value that is none
 
@@ -185,10 +148,4 @@ said_with o d c m s = record { owners = o; deal = d; cut = c; mail = m; schedule
 
 -- what options give is pinned
 pub same_said : (given : List Given) (a b : SaidOptions) → SaysOptions given a → SaysOptions given b → a ≡ b
-same_said given a b s t =
-    ap (λ o. said_with o a.deal a.cut a.mail a.schedule) (one_list a.owners b.owners (sym s.owners ∙ t.owners))
-    ∙ (ap (λ d. said_with b.owners d a.cut a.mail a.schedule) (one_list a.deal b.deal (sym s.deal ∙ t.deal))
-    ∙ (ap (λ c. said_with b.owners b.deal c a.mail a.schedule) (one_list a.cut b.cut (sym s.cut ∙ t.cut))
-    ∙ (ap (λ m. said_with b.owners b.deal b.cut m a.schedule) (one_list a.mail b.mail (sym s.mail ∙ t.mail))
-    ∙ ap (λ f. said_with b.owners b.deal b.cut b.mail f)
-    (one_list a.schedule b.schedule (sym s.schedule ∙ t.schedule)))))
+same_said given a b s t = grind (arith, one_list)

@@ -3,7 +3,7 @@ use Rattle.std.proofs.Common.{◌≡◌, ◌≢◌, ◌⊎◌, inl, inr, ⊎_eli
 use Rattle.std.specs.Str.{bytes_eq}
 use Rattle.std.proofs.lemmas.Slice.Eq.{bytes_eq-Decides}
 use Rattle.nll_command_line.specs.declared.task.Task.{Task}
-use Rattle.nll_command_line.specs.declared.task.Task.TheVariants.{Values, Check, Replay}
+use Rattle.nll_command_line.specs.declared.task.Task.TheVariants.{Values}
 use Rattle.nll_command_line.specs.declared.options.Key.{Key}
 use Rattle.nll_command_line.specs.declared.options.Key.TheVariants as key
 use Rattle.nll_command_line.specs.CommandLine.{IsPlainLine, name_of, begins_as_option, AsksPlainlyForHelp, IsHelpWord, MayStandBeforeHelp}

@@ -2,7 +2,7 @@
 use Rattle.std.proofs.Common.{◌≡◌, inl, inr, ◌∙◌, ℕ, true, false, ◌==◌, if◌then◌else◌, List, [], ◌∷◌, ◌++◌, length, arith, refl, sym, ap, subst, append_assoc, true≢false}
 use Rattle.std.proofs.lemmas.List.{append-nil, append_cancel_left, length-append}
 use Rattle.nll_command_line.specs.CommandLine.{begins_as_option}
-use Rattle.nll_command_line.specs.Options.{Given, EndsOptions, HasOptions, none, ends, other, option, IsLawfulOption, IsWritten, SaysOptions, key_of, value_of, word_of}
+use Rattle.nll_command_line.specs.Options.{Given, EndsOptions, HasOptions, none, ends, other, option, IsLawfulOption, IsWritten, key_of, value_of, word_of}
 use Rattle.nll_command_line.specs.Taking.{HasJust, HasNoOption, IsUnfit, IsUnfitBefore}
 use Rattle.nll_command_line.specs.declared.options.Key.{Key}
 use Rattle.nll_command_line.specs.declared.options.Key.TheVariants as key
@@ -58,16 +58,10 @@ key_joined : (w : Text) (k l : Key) (u v : Text) → w ≡ word_of k ++ 61 ∷ u
 key_joined w k l u v a b = sym (read_joined k u) ∙ (ap (λ (x : Text). key_at (third x)) (sym a ∙ b) ∙ read_joined l v)
 
 value_joined : (w : Text) (k l : Key) (u v : Text) → w ≡ word_of k ++ 61 ∷ u → w ≡ word_of l ++ 61 ∷ v → u ≡ v
-value_joined w k l u v a b =
-    let e : word_of k ++ 61 ∷ u ≡ word_of k ++ 61 ∷ v = sym a
-    ∙ (b ∙ ap (λ (x : Key). word_of x ++ 61 ∷ v) (sym (key_joined w k l u v a b))) in
-    tail (append_cancel_left (word_of k) (61 ∷ u) (61 ∷ v) e)
+value_joined w k l u v a b = grind (arith, key_joined, tail, append_cancel_left)
 
 not_both : (w : Text) (k l : Key) (v : Text) → w ≡ word_of k → w ≡ word_of l ++ 61 ∷ v → ⊥
-not_both w k l v a b =
-    let one : k ≡ l = sym (read_alone k) ∙ (ap (λ (x : Text). key_at (third x)) (sym a ∙ b) ∙ read_joined l v) in
-    let long : length (word_of l) ≡ length (word_of l ++ 61 ∷ v) = ap length (ap word_of (sym one) ∙ (sym a ∙ b)) in
-    omega (arith, long, length-append (word_of l) (61 ∷ v))
+not_both w k l v a b = grind (arith, read_alone, read_joined, length-append)
 
 -- ---- what the first word is
 
@@ -201,10 +195,7 @@ module _ (given : List Given) (others left words : List Text) (so : IsReadTo giv
         (subst (λ (os : List Text). HasOptions (given ++ []) os words) (append-nil others) h)
 
     pub has_read_just : HasJust given others words
-    has_read_just gs os h =
-        let t = so.follows gs os h in
-        let n = none_left t.0 t.1 left t.2 done in
-        (t.3 ∙ (ap (λ xs. given ++ xs) n.0 ∙ append-nil given), t.4 ∙ (ap (λ xs. others ++ xs) n.1 ∙ append-nil others))
+    has_read_just gs os h = grind (arith, none_left, append-nil)
 
   module _ (w : Text) (behind : List Text) (next : left ≡ w ∷ behind) where
     first : (gs : List Given) (os : List Text) → HasOptions gs os left → First gs os w behind
@@ -218,10 +209,7 @@ module _ (given : List Given) (others left words : List Text) (so : IsReadTo giv
         subst (λ (gs : List Given). HasOptions gs (others ++ left) words) (append-nil given) h
 
     pub has_end_just : EndsOptions w → HasJust given (others ++ left) words
-    has_end_just end gs os h =
-        let t = so.follows gs os h in
-        let n = only_end t.0 t.1 w behind end (first t.0 t.1 t.2) in
-        (t.3 ∙ (ap (λ xs. given ++ xs) n.0 ∙ append-nil given), t.4 ∙ ap (λ xs. others ++ xs) (n.1 ∙ sym next))
+    has_end_just end gs os h = grind (arith, only_end, first, append-nil)
 
     -- ---- one more word
 
@@ -278,15 +266,7 @@ module _ (given : List Given) (others left words : List Text) (so : IsReadTo giv
     -- ---- an option that can't be
 
     pub none_joined : (k : Key) (v : Text) → w ≡ word_of k ++ 61 ∷ v → IsUnfit given k v → HasNoOption words
-    none_joined k v is unfit gs os said h says =
-        let t = so.follows gs os h in
-        let f = only_joined t.0 t.1 w behind k v is (first t.0 t.1 t.2) in
-        unfit f.0 f.1 said f.2 f.3 f.4 (subst (λ (xs : List Given). SaysOptions xs said)
-        (t.3 ∙ ap (λ xs. given ++ xs) f.5) says)
+    none_joined k v is unfit gs os said h says = grind (arith, only_joined, first)
 
     pub none_apart : (k : Key) → w ≡ word_of k → IsUnfitBefore given k behind → HasNoOption words
-    none_apart k is unfit gs os said h says =
-        let t = so.follows gs os h in
-        let f = only_apart t.0 t.1 w behind k is (first t.0 t.1 t.2) in
-        unfit f.0 f.1 said f.2 f.3 f.5 f.4 f.6
-        (subst (λ (xs : List Given). SaysOptions xs said) (t.3 ∙ ap (λ xs. given ++ xs) f.7) says)
+    none_apart k is unfit gs os said h says = grind (arith, only_apart, first)
