@@ -5,7 +5,7 @@ use Rattle.std.proofs.lemmas.List.{append-nil}
 use Rattle.nll_problem.specs.Limits.{most_bytes}
 use Rattle.nll_text.specs.Lines.{lines_of}
 use Rattle.nll_format.specs.Text.{Format, IsFaulty, Says, HasFault, IsCut, IsFaultOfText, no_end}
-use Rattle.nll_format.specs.Lines.{AreShort, TakesIn, TurnsDown, IsAmidWith, LeavesLines, RefusesLeft}
+use Rattle.nll_format.specs.Lines.{AreShort, TakesIn, TurnsDown, IsAmidWith, RefusesBody}
 use Rattle.nll_format.specs.Reading.{ReadsLine, skips, reads}
 use Rattle.nll_format.specs.declared.error.TextError.{TextError}
 use Rattle.nll_format.specs.declared.error.TextKind.{TextKind}
@@ -50,6 +50,17 @@ pub body_short : (text header : List ℕ) (body : List (List ℕ)) → IsCut tex
 body_short text header body c = (subst AreShort c.cut (lines_short text c.short)).1
 
 -- ---- one line after another
+
+-- of all lines these were left, and now only those are
+abbrev LeavesLines : (format : Format) → (List format.Form → Type 0) → (List format.Form → Type 0)
+    → List (List ℕ) → List (List ℕ) → ℕ → ℕ → Type 0
+LeavesLines format Old New these those before number =
+    (all : List (List ℕ)) → IsAmidWith format Old all these before → IsAmidWith format New all those number
+
+-- the error refuses each text of the format that has, after its header, lines of which these are left
+abbrev RefusesLeft : (format : Format) → (List format.Form → Type 0) → List (List ℕ) → ℕ → TextError → Type 0
+RefusesLeft format Old these before error =
+    (all : List (List ℕ)) → IsAmidWith format Old all these before → RefusesBody format all error
 
 module _ (format : Format) where
   -- nothing is read yet

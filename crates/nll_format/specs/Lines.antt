@@ -47,20 +47,7 @@ abbrev pub IsAmidWith : (format : Format) → (List format.Form → Type 0) → 
 IsAmidWith format Held all left number =
     (forms : List format.Form) × IsAmid format all left forms number × Held forms
 
--- of all lines these were left, and now only those are
-abbrev pub LeavesLines : (format : Format) → (List format.Form → Type 0)
-    → (List format.Form → Type 0) → List (List ℕ) → List (List ℕ) → ℕ → ℕ → Type 0
-LeavesLines format Old New these those before number =
-    (all : List (List ℕ)) → IsAmidWith format Old all these before
-    → IsAmidWith format New all those number
-
 -- the error refuses each text of the format that has these lines after its header
 abbrev pub RefusesBody : Format → List (List ℕ) → TextError → Type 0
 RefusesBody format body error =
     (text : List ℕ) → IsHeaded format text body → IsRefusal (IsFaultOfText format text) error
-
--- like `RefusesBody`, but for all lines of which these are left
-abbrev pub RefusesLeft : (format : Format) → (List format.Form → Type 0) → List (List ℕ) → ℕ
-    → TextError → Type 0
-RefusesLeft format Old these before error =
-    (all : List (List ℕ)) → IsAmidWith format Old all these before → RefusesBody format all error

@@ -1,7 +1,7 @@
 //! The names that reports print.
 
-ghost use Rattle.std.specs.Prelude.{◌≡◌, ◌<◌, ◌≤◌, [], length, slice_index_or, take};
-ghost use Rattle.nll_format.specs.Labels.{AreFirstPoints, begun_blocks, blocks, numbers};
+ghost use Rattle.std.specs.Prelude.{◌≡◌, ◌<◌, [], length, slice_index_or};
+ghost use Rattle.nll_format.specs.Labels.{AreFirstPoints, blocks, numbers};
 ghost use Rattle.nll_format.specs.Labels.{point_name};
 
 use crate::names::Names;
@@ -111,16 +111,6 @@ fn name_in_block(starts: &[u32], point: u32) -> PointName
     requires { AreFirstPoints starts.now }
     ensures { result ≡ point_name (blocks starts.now) point }
 {
-    let block = blocks_begun(starts, point) - 1;
+    let block = starts.partition_point(|start| *start <= point) - 1;
     PointName::Block(block as u32, point - starts[block])
-}
-
-// How many blocks begin at a point or before it.
-fn blocks_begun(starts: &[u32], point: u32) -> usize
-    requires { AreFirstPoints starts.now }
-    ensures count { result ≡ length (begun_blocks starts.now point) }
-    ensures within { result ≤ length starts.now }
-    ensures front { begun_blocks starts.now point ≡ take result starts.now }
-{
-    starts.partition_point(|start| *start <= point)
 }

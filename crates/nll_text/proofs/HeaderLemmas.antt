@@ -6,8 +6,12 @@ use Rattle.std.proofs.lemmas.Bool.Decides.{nat_tests}
 use Rattle.nll_text.specs.Lines.{is_blank, without_front_blanks}
 use Rattle.nll_text.specs.Header.{runs}
 use Rattle.nll_text.specs.Tokens.{first_passes, IsGap}
-use Rattle.nll_text.specs.Lexing.{SplitsWhile, is_no_blank}
+use Rattle.nll_text.specs.Lexing.{SplitsWhile}
 use Rattle.nll_text.proofs.ByteLemmas.{Passes, splits_while}
+
+-- a byte that is no blank
+abbrev pub is_no_blank : ℕ → Bool
+is_no_blank b = not (is_blank b)
 
 not_true : (t : Bool) → not t ≡ true → t ≡ false
 not_true true e = absurd cc

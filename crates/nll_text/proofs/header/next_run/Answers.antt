@@ -6,9 +6,8 @@ use Rattle.std.proofs.lemmas.Iterator.Consumers.{count_from_yields_List}
 use Rattle.std.proofs.lemmas.Iterator.Search.{YieldsList-from_take_while}
 use Rattle.std.proofs.lemmas.List.Folds.{length-prefix_len}
 use borrow.Author.Tests.{tests}
-use Rattle.nll_text.specs.Lexing.{is_no_blank}
 use Rattle.nll_text.proofs.ByteLemmas.{positive, splits_while}
-use Rattle.nll_text.proofs.HeaderLemmas.{no_runs, first_run}
+use Rattle.nll_text.proofs.HeaderLemmas.{is_no_blank, no_runs, first_run}
 use Rattle.nll_text.proofs.header.next_run.Goals as goal
 
 pub returns-then-is_empty : goal.returns-then-is_empty
