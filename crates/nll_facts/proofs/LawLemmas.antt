@@ -1,5 +1,5 @@
 -- A facts text has one meaning or one fault.
-use Rattle.std.proofs.Common.{◌⊎◌, inl, inr, ⊎_elim, ◌≡◌, ℕ, true, List, Contains, refl, sym, ap, ◌∙◌, subst, arith}
+use Rattle.std.proofs.Common.{◌⊎◌, inl, inr, ⊎_elim, ◌≡◌, ℕ, true, List, Contains, sym, ap, ◌∙◌, subst, arith}
 use Rattle.std.proofs.lemmas.Bool.{cases_Bool, cases_eq, false≢true}
 use Rattle.nll_problem.specs.Problem.{Problem, SameProblem}
 use Rattle.nll_problem.proofs.SameLemmas.{same_problem, same_problem_back, same_problem_chain}
@@ -95,13 +95,7 @@ one_meaning_lem text problem other labels other_labels m n =
 -- what a text that fits means
 meaning : (version : Version) (text : List ℕ) (forms : List FactsForm) → IsText (facts version) text forms
     → MeansFacts text (problem_said forms) (labels_said forms)
-meaning version text forms fits = record {
-  version = version;
-  forms = forms;
-  fits = fits;
-  same_problem = same_problem (problem_said forms) (problem_said forms) refl;
-  same_labels = refl;
-}
+meaning version text forms fits = grind (arith, same_problem)
 
 pub some_meaning_or_fault_lem : (text : List ℕ)
     → ((problem : Problem) × (labels : Labels) × MeansFacts text problem labels)

@@ -47,15 +47,7 @@ same_fault s t h (next p q) =
     rw (h.reached, h.problem.points, edges_test s.problem t.problem h.problem.edges p q, h.edge_count) refl
 same_fault s t h (return p) = rw (h.reached, h.problem.points) refl
 same_fault s t h (base x p) = rw (h.reached, h.names, h.problem.points) refl
-same_fault s t h (constraint a b p) =
-    rw (
-      h.reached,
-      h.names,
-      h.problem.points,
-      constraints_test s.problem t.problem h.problem.constraints
-          (record { sup = number_of t.names a; sub = number_of t.names b; at = p }),
-      h.constraint_count,
-    ) refl
+same_fault s t h (constraint a b p) = grind (arith, constraints_test)
 same_fault s t h end = rw h.reached refl
 
 -- ---- one more fact
@@ -182,9 +174,7 @@ first_points r e = grind (arith, nat_tests)
 
 universals_alone : (forms : List FactsForm) → last_fact_group forms ≤ 2
     → facts_names_said forms ≡ facts_universals_said forms
-universals_alone forms h =
-    ap (λ xs. facts_universals_said forms ++ xs) (none_before further_fact_in 3 further_early forms (omega arith))
-    ∙ append-nil (facts_universals_said forms)
+universals_alone forms h = grind (arith, none_before, further_early, append-nil)
 
 abbrev points_said : List FactsForm → ℕ
 points_said forms = first_or_zero (filter_map points_in forms)
@@ -192,18 +182,8 @@ points_said forms = first_or_zero (filter_map points_in forms)
 bare_said : (forms : List FactsForm) → last_fact_group forms ≤ 2
     → problem_said forms ≡ bare (points_said forms) (length (facts_universals_said forms))
 bare_said forms h =
-    rw (
-      none_before edge_in 4 edge_early forms (omega arith),
-      none_before return_in 4 return_early forms (omega arith),
-      none_before (base_in (facts_names_said forms)) 4 (base_early (facts_names_said forms)) forms (omega arith),
-      none_before (constraint_in (facts_names_said forms)) 4 (constraint_early (facts_names_said forms)) forms
-          (omega arith),
-      none_before (outlives_fact_in (facts_universals_said forms)) 2 (outlives_early
-          (facts_universals_said forms)) forms h,
-      none_before further_fact_in 3 further_early forms (omega arith),
-      append-nil (filter_map universal_fact_in forms),
-    )
-    refl
+    grind (arith, none_before, edge_early, return_early, base_early, constraint_early, outlives_early, further_early,
+    append-nil)
 
 -- where the problem is the very one that is said
 exact : (forms : List FactsForm) (t : SaidFacts) → t.reached ≡ last_fact_group forms → t.names ≡ facts_names_said forms

@@ -1,6 +1,5 @@
 -- Texts of the two versions: which text is of which, and how a text is refused.
-use Rattle.std.proofs.Common.{◌≡◌, ℕ, ◌<◌, true, false, List, length, get_or, refl, sym, ap, ◌∙◌, subst, arith, inl, inr, ⊎_elim}
-use Rattle.std.specs.Prelude.{codes}
+use Rattle.std.proofs.Common.{◌≡◌, ℕ, ◌<◌, true, false, List, length, get_or, refl, sym, ◌∙◌, subst, arith, inl, inr, ⊎_elim}
 use Rattle.std.specs.Str.{IsUtf8}
 use Rattle.std.proofs.lemmas.Bool.{false≢true}
 use Rattle.nll_problem.specs.Limits.{most_bytes}
@@ -38,10 +37,7 @@ other_version version s line f kind utf8 kept form e other =
 -- ---- a text has one version
 
 headers_apart : (line : List ℕ) → IsFormatHeader (facts First) line → IsFormatHeader (facts Second) line → ⊥
-headers_apart line f s =
-    let e : codes "1" ≡ codes "2" = (let h = sym f ∙ s in cc) in
-    let n : 49 ≡ 50 = ap (λ (l : List ℕ). get_or l 0 0) e in
-    absurd (omega (arith, n))
+headers_apart line f s = grind (arith, get_or)
 
 pub first_line : (text : List ℕ) (one other : List ℕ) (b c : List (List ℕ)) → IsCut text one b → IsCut text other c
     → one ≡ other
@@ -49,9 +45,7 @@ first_line text one other b c h k = (let e = sym h.cut ∙ k.cut in cc)
 
 pub not_second : (text : List ℕ) (b c : List (List ℕ)) → IsHeaded (facts First) text b → IsHeaded (facts Second) text c
     → ⊥
-not_second text b c h k =
-    headers_apart k.header (subst (λ l. IsFormatHeader (facts First) l)
-    (first_line text h.header k.header b c h.cut k.cut) h.is_header) k.is_header
+not_second text b c h k = grind (arith, headers_apart, first_line)
 
 pub of_headed : (version : Version) (text : List ℕ) (body : List (List ℕ)) → IsHeaded (facts version) text body
     → IsFactsVersion text version
