@@ -182,8 +182,17 @@ points_said forms = first_or_zero (filter_map points_in forms)
 bare_said : (forms : List FactsForm) → last_fact_group forms ≤ 2
     → problem_said forms ≡ bare (points_said forms) (length (facts_universals_said forms))
 bare_said forms h =
-    grind (arith, none_before, edge_early, return_early, base_early, constraint_early, outlives_early, further_early,
-    append-nil)
+    grind (
+      arith,
+      none_before,
+      edge_early,
+      return_early,
+      base_early,
+      constraint_early,
+      outlives_early,
+      further_early,
+      append-nil,
+    )
 
 -- where the problem is the very one that is said
 exact : (forms : List FactsForm) (t : SaidFacts) → t.reached ≡ last_fact_group forms → t.names ≡ facts_names_said forms
