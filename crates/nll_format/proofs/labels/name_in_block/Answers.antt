@@ -12,8 +12,8 @@ front : (c : After-partition_point-block)
 front c =
     let parted = IsPartitionedBy-leb (λ start. start) _ c.args.point (not_falling _ c.requires.rise) in
     filter_front (λ start. leb start c.args.point) _ _ c.partition_point-block.ensures.bound
-    (IsPartitionPoint-from_clause (λ start. leb start c.args.point) _ _ c.partition_point-block.ensures.partitioned parted
-    (λ a r q k. search rules))
+    (IsPartitionPoint-from_clause (λ start. leb start c.args.point) _ _ c.partition_point-block.ensures.partitioned
+    parted (λ a r q k. search rules))
 
 count : (c : After-partition_point-block)
     → c.partition_point-block.result ≡ length (begun_blocks c.args.starts.now c.args.point)
@@ -32,7 +32,8 @@ last c =
     last_begun c.args.starts.now c.args.point c.partition_point-block.result (some c) (count c) (front c)
 
 low : (c : After-partition_point-block) → c.partition_point-block.result - 1 ≤ c.args.point
-low c = omega (arith, at_least c.args.starts.now c.requires.rise (c.partition_point-block.result - 1) (within c), last c)
+low c =
+    omega (arith, at_least c.args.starts.now c.requires.rise (c.partition_point-block.result - 1) (within c), last c)
 
 pub overflow_sub-block : goal.overflow_sub-block
 overflow_sub-block c = some (goal.at.overflow_sub-block c).After-partition_point-block

@@ -14,7 +14,8 @@ loop-place-preserved c = λ all.
     let there : c.loop-place.place + 1 ≡ suc c.loop-place.place = omega arith in
     let back : suc c.loop-place.place ≡ c.loop-place.place + 1 = omega arith in
     let within : c.loop-place.place < length c.args.parameters.now = omega arith in
-    let kept = kept_at c.args.parameters.now c.loop-place.place (record { sign = Covariant; may_dangle = false }) within in
+    let kept =
+    kept_at c.args.parameters.now c.loop-place.place (record { sign = Covariant; may_dangle = false }) within in
     below_more all (slice_get c.args.parameters.now) _ c.loop-place.place _ _ _ _
     (slice_get-get_or c.args.parameters.now c.loop-place.place (record { sign = Covariant; may_dangle = false }) within)
     (c.loop-place.invariant all)

@@ -11,7 +11,8 @@ loop-place-init c = λ all. below_none all _ _ _
 pub loop-place-preserved : goal.loop-place-preserved
 loop-place-preserved c = λ all.
     let within : c.loop-place.place < length c.args.parameters.now = omega arith in
-    let kept = kept_at c.args.parameters.now c.loop-place.place (record { sign = Covariant; may_dangle = false }) within in
+    let kept =
+    kept_at c.args.parameters.now c.loop-place.place (record { sign = Covariant; may_dangle = false }) within in
     below_more all (slice_get c.args.parameters.now) _ c.loop-place.place _ _ _ _
     (slice_get-get_or c.args.parameters.now c.loop-place.place (record { sign = Covariant; may_dangle = false }) within)
     (c.loop-place.invariant all)

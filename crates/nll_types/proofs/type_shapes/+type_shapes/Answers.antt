@@ -34,7 +34,8 @@ shape-returns-in_default-clause-at t c = IfOk-weaker c.add-in_default.result _ _
     let past : length c.args.arguments.now ≤ c.in-Parameter.number = elim c.in_default.branch [
       | shape-in_default-via-in-Some+else-argument-len w ↦
           (let read = w.in-Some.ensures.lookup in
-          omega (arith, b c.in-Parameter.number read.3.0, read.4 (omega arith) 0, w.if-argument-len.false, w.len.ensures))
+          let same = read.4 (omega arith) 0 in
+          omega (arith, b c.in-Parameter.number read.3.0, same, w.if-argument-len.false, w.len.ensures))
       | shape-in_default-via-in_default w ↦ w.in_default.ensures.lookup.3
     ] in
     at ∙ argument_past (shapes_in c.args.shapes.now) c.args.arguments.now c.in-Parameter.number past
