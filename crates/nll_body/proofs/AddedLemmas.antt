@@ -30,10 +30,7 @@ module _ {X : Type 0} where
   -- a slice at the end of a list
   pub listed_behind : (xs ys : List X) (s : Slice) → s.first ≡ length xs → s.count ≡ length ys
       → IsListedSlice (xs ++ ys) ys s
-  listed_behind xs ys s first count = (
-    rw (first, count, length-append) (omega arith),
-    rw (first, count) (ap (take (length ys)) (drop_at xs ys (length xs) refl) ∙ take_all (length ys) ys (omega arith)),
-  )
+  listed_behind xs ys s first count = grind (arith, length-append, drop_at, take_all)
 
   last_item : (xs : List X) (x : X) → slice_get (xs ++ x ∷ []) (length xs) ≡ Some x
   last_item [] x = refl
@@ -274,9 +271,4 @@ is_call l c n w last is =
 -- the statement or terminator at the next point
 pub pushed : (l : StatementLists) (s : Stmt) → AreWithin l → IsStatementIn l s
     → statements_in (with_point l s) ≡ statements_in l ++ statement_in l s ∷ []
-pushed l s w is =
-    let new = with_point l s in
-    let same = statement_same l new w (on_point l s) in
-    map_push (statement_in new) l.points s
-    ∙ (ap (λ ss. ss ++ statement_in new s ∷ []) (map_same (statement_in new) (statement_in l) same l.points w.points)
-    ∙ ap (λ x. statements_in l ++ x ∷ []) (same s is))
+pushed l s w is = grind (arith, statement_same, on_point, map_push, map_same)

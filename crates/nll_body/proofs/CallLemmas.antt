@@ -1,5 +1,5 @@
 -- What is judged of a call, put together.
-use Rattle.std.proofs.Common.{◌≡◌, ℕ, zero, suc, ◌<◌, arith, Bool, true, List, [], ◌∷◌, ◌++◌, map, refl, sym, ap, ◌∙◌, Option, Some, None}
+use Rattle.std.proofs.Common.{◌≡◌, ℕ, zero, suc, ◌<◌, arith, Bool, List, [], ◌∷◌, ◌++◌, map, refl, sym, ap, ◌∙◌, Option, Some, None}
 use Rattle.std.specs.Prelude.{◌&&◌}
 use Rattle.std.specs.List.{list_all, flat_map}
 use Rattle.std.proofs.lemmas.List.Folds.{list_all-append, list_all-map}
@@ -66,17 +66,7 @@ module _ {X : Type 0} (structs : List Struct) (types : List TypeTree) (op : X �
   pub call_small : ((list_all (small_prefixes structs types) (flat_map place_in (map op xs))
       && list_all is_small (map h xs)) && (is_small t && small_prefixes structs types p))
       ≡ types_are_small structs types (call p args t [] 0 None)
-  call_small =
-      let places = list_all (small_prefixes structs types) (flat_map place_in (map op xs)) in
-      let target = small_prefixes structs types p in
-      call_order places (list_all is_small (map h xs)) (is_small t) target
-      ∙ ap (λ (z : Bool). (z && (target && places)) && true)
-      (sym (list_all-append is_small (map h xs) (t ∷ []))
-      ∙ ap (λ (ts : List TypeTree). list_all is_small (ts ++ t ∷ []))
-      (sym (map_twice (λ x. (op x, h x)) (λ (a : Operand × TypeTree). a.1) xs)))
-      ∙ ap (λ (ops : List Operand). (list_all is_small (map (λ (a : Operand × TypeTree). a.1) args ++ t ∷ []) &&
-      (target && list_all (small_prefixes structs types) (flat_map place_in ops))) && true)
-      (sym (map_twice (λ x. (op x, h x)) (λ (a : Operand × TypeTree). a.0) xs))
+  call_small = grind (arith, map, call_order, list_all-append, map_twice)
 
 -- ---- operands and types of a call whose operands go by numbers
 

@@ -1,5 +1,5 @@
 -- What numbers stand for stays as it is where the lists go on.
-use Rattle.std.proofs.Common.{◌≡◌, ℕ, zero, suc, Bool, subst, ◌-◌, ◌<◌, ◌≤◌, true, false, nat_lt, List, [], ◌∷◌, ◌++◌, length, map, take, drop, refl, ap, ◌∙◌, All, arith}
+use Rattle.std.proofs.Common.{◌≡◌, ℕ, zero, suc, Bool, subst, ◌-◌, ◌<◌, ◌≤◌, true, false, nat_lt, List, [], ◌∷◌, ◌++◌, length, map, refl, ap, ◌∙◌, All, arith}
 use Rattle.std.specs.Prelude.{Option, Some, None, option_map, unwrap_or, slice_get}
 use Rattle.std.proofs.lemmas.Bool.Decides.{nat_tests}
 use Rattle.std.proofs.lemmas.List.{length-append, length-drop, take-append-le, drop-append-le}
@@ -32,10 +32,7 @@ module _ {X : Type 0} where
   slice_kept xs ys s p within = let l = longer xs ys p in omega arith
 
   slice_same : (xs ys : List X) (s : Slice) → IsPrefix xs ys → IsSlice xs s → sliced ys s ≡ sliced xs s
-  slice_same xs ys s p within =
-      ap (λ zs. sliced zs s) p.1
-      ∙ (ap (take s.count) (drop-append-le s.first xs p.0 (omega arith))
-      ∙ take-append-le s.count (drop s.first xs) p.0 (rw length-drop (omega arith)))
+  slice_same xs ys s p within = grind (arith, drop-append-le, take-append-le, length-drop)
 
   pub listed_kept : (xs ys zs : List X) (s : Slice) → IsPrefix xs ys → IsListedSlice xs zs s → IsListedSlice ys zs s
   listed_kept xs ys zs s p is = (slice_kept xs ys s p is.0, slice_same xs ys s p is.0 ∙ is.1)
@@ -94,17 +91,7 @@ grows_further l m n g h = record {
 pub places_grow : (l m : StatementLists) → AddsPlaces l m → ListsGrow l m
 places_grow l m a = rw a.others record {
   points = refl;
-  lists = record {
-    parts = a.parts;
-    projections = a.projections;
-    operands = prefix_same l.operands;
-    arguments = prefix_same l.arguments;
-    pairs = prefix_same l.pairs;
-    blocks = prefix_same l.blocks;
-    makes = prefix_same l.makes;
-    calls = prefix_same l.calls;
-    switches = prefix_same l.switches;
-  };
+  lists = grind (arith, prefix_same);
 }
 
 -- ---- what is within the lists stays as it is
@@ -161,9 +148,7 @@ module _ (old new : StatementLists) (w : AreWithin old) (g : ListsGoOn old new) 
 
       go : (b : Bool) → nat_lt n first_part ≡ b → path_in new n ≡ path_in old n
       go true is = rw is refl
-      go false is = rw is (ap (λ o. unwrap_or (option_map (part_in new) o) (whole n))
-          (item_same old.parts new.parts (n - first_part) g.parts (grind (arith, nat_tests)))
-          ∙ listed_part (slice_get old.parts (n - first_part)) refl)
+      go false is = grind (arith, item_same, nat_tests, listed_part)
 
   pub operand_same : (o : FlatOperand) → IsOperandIn old o → operand_in new o ≡ operand_in old o
   operand_same Const within = refl
@@ -198,16 +183,10 @@ module _ (old new : StatementLists) (w : AreWithin old) (g : ListsGoOn old new) 
       cc
 
   switch_same : (s : FlatSwitch) → IsSwitchIn old s → switch_in new s ≡ switch_in old s
-  switch_same s within =
-      let operand = operand_same s.operand within.0 in
-      let blocks = slice_same _ _ s.blocks g.blocks within.1 in
-      cc
+  switch_same s within = grind (arith, operand_same, slice_same)
 
   pub statement_same : (s : Stmt) → IsStatementIn old s → statement_in new s ≡ statement_in old s
-  statement_same (flat.Assign p o) within =
-      let place = place_same p within.0 in
-      let operand = operand_same o within.1 in
-      cc
+  statement_same (flat.Assign p o) within = grind (arith, place_same, operand_same)
   statement_same (flat.Borrow p r m q) within =
       let target = place_same p within.0 in
       let source = place_same q within.1 in

@@ -79,8 +79,5 @@ graph_shown body graph has = record {
     λ h. let found = (has.next p q).0 h in (found.1, found.2, found.3),
     λ h. (has.next p q).1 (slice_get_within body.points p h.0 h.1, h.0, h.1, h.2),
   );
-  returns = λ p. (
-    λ h. ((has.returns p).0 h).1,
-    λ h. (has.returns p).1 (slice_get_within body.points p return h, h),
-  );
+  returns = grind (arith, slice_get_within);
 }

@@ -1,5 +1,5 @@
 -- What a body of the code keeps is the body of its parts.
-use Rattle.std.proofs.Common.{◌≡◌, ◌<◌, ℕ, List, map, length, get_or, Some, slice_get, ap, refl, sym, ◌∙◌, subst, arith}
+use Rattle.std.proofs.Common.{◌≡◌, ◌<◌, ℕ, List, map, length, get_or, Some, slice_get, refl, sym, ◌∙◌, subst, arith}
 use Rattle.std.proofs.lemmas.List.{length-map}
 use Rattle.std.proofs.lemmas.Option.{get_or_from_slice_get, same_Some, slice_get_within, slice_get_read}
 use Rattle.nll_problem.specs.Graph.{Graph}
@@ -37,9 +37,7 @@ module _ (outlives asserts : List (ℕ × ℕ)) (types : BodyTypes) (variables :
   module _ (labels : Labels) (graph : Graph) (body : BodyText)
       (is : kept_body labels outlives asserts types variables points graph ≡ body) where
     variable_within : (x : ℕ) → x < length body.variables → x < length variables
-    variable_within x within =
-        let same = ap (λ (b : BodyText). length b.variables) is in
-        omega (arith, same, within, length-map variables (tree_at types.table.shapes types.regions.items))
+    variable_within x within = grind (arith, length-map)
 
     -- a type of the code is that of its variable
     pub typed : (x : ℕ) (v : Typed) → x < length body.variables → v ≡ get_or variables x v
@@ -71,6 +69,4 @@ one_type body x t u h k = same_Some t u (sym h ∙ k)
 -- it keeps to what is declared
 pub good_type : (body : BodyText) → IsSoundBody body → (x : ℕ) (t : TypeTree) → HasType body x t
     → IsWellFormed body.structs (length body.names) 0 t
-good_type body sound x t h =
-    subst (IsWellFormed body.structs (length body.names) 0) (get_or_from_slice_get body.variables x t t h)
-    (sound.types x t (slice_get_within body.variables x t h))
+good_type body sound x t h = grind (arith, get_or_from_slice_get, slice_get_within)

@@ -65,9 +65,7 @@ makes_count structs (parameter k) os h = absurd (let e : false ≡ true = h in c
 makes_count structs (reference r m t) os h = absurd (let e : false ≡ true = h in cc)
 makes_count structs (function ts t) os h = absurd (let e : false ≡ true = h in cc)
 makes_count structs (tuple ts) os h = ap Some (all_agree_count os ts h)
-makes_count structs (named s rs ts) os h =
-    ap Some (sym (count_put rs ts (struct_at structs s).fields)
-    ∙ all_agree_count os (put_in_all rs ts (struct_at structs s).fields) h)
+makes_count structs (named s rs ts) os h = grind (arith, count_put, all_agree_count)
 
 pub makes_not : (structs : List Struct) (t : TypeTree) (os : List (Option TypeTree))
     → (part_count structs t ≡ Some (length os) → ⊥) → makes os (parts_of_type structs t) ≡ false
@@ -175,23 +173,12 @@ module _ {X : Type 0} (op : X → Operand) (count : ℕ) (xs : List X) where
   pub declared_more : (k : ℕ) (x : X) (before one after whole : Bool) → k < length xs → x ≡ get_or xs k x
       → (before && left_declared k) ≡ whole → one ≡ have_variables count (place_in (op x)) → after ≡ (before && one)
       → (after && left_declared (k + 1)) ≡ whole
-  declared_more k x before one after whole l is far told a =
-      let rest = flat_map place_in (map op (drop (k + 1) xs)) in
-      ap (λ (z : Bool). z && left_declared (k + 1)) a
-      ∙ sym (and_assoc before one (left_declared (k + 1)))
-      ∙ ap (λ (z : Bool). before && (z && left_declared (k + 1))) told
-      ∙ ap (λ (z : Bool). before && z) (sym (variables_of_both count (place_in (op x)) rest))
-      ∙ ap (λ (z : List X). before && have_variables count (flat_map place_in (map op z)))
-      (sym (rest_next xs k x l is))
-      ∙ far
+  declared_more k x before one after whole l is far told a = grind (arith, map, and_assoc, variables_of_both, rest_next)
 
   -- all are
   pub declared_all : (k : ℕ) (judged whole : Bool) → length xs ≤ k → (judged && left_declared k) ≡ whole
       → judged ≡ whole
-  declared_all k judged whole l far =
-      sym (and_right_true judged)
-      ∙ (ap (λ (z : List X). judged && have_variables count (flat_map place_in (map op z))) (sym (drop_all k xs l))
-      ∙ far)
+  declared_all k judged whole l far = grind (arith, and_right_true, map, drop_all)
 
 -- ---- operands and parts, one after another
 
@@ -250,16 +237,7 @@ module _ {X : Type 0} (structs : List Struct) (types : List TypeTree) (op : X �
   pub parts_all : (xs : List X) (ts : TypeTrees) (k : ℕ) (j : Judgement) (f s : Bool) → length xs ≤ k
       → type_count ts ≡ length xs
       → IsSoFar j (left_fits xs ts k) (left_small xs ts k) f s → IsJudged f s j
-  parts_all xs ts k j f s l count far =
-      let a = drop_all k xs l in
-      let b = row_past ts k (omega arith) in
-      let fits : left_fits xs ts k ≡ true =
-      ap (λ (z : List X). all_agree (operand_types structs types (map op z)) (row_after k ts)) a
-      ∙ ap (λ (z : TypeTrees). all_agree [] z) b in
-      let small : left_small xs ts k ≡ true =
-      ap (λ (z : List X). list_all (small_prefixes structs types) (flat_map place_in (map op z))
-      && are_small (row_after k ts)) a ∙ ap (λ (z : TypeTrees). are_small z) b in
-      so_far_all j f s (so_far_as fits small far)
+  parts_all xs ts k j f s l count far = grind (arith, drop_all, row_past, map, so_far_all, so_far_as)
 
 -- ---- operands of a call
 
@@ -297,19 +275,9 @@ module _ {X : Type 0} (structs : List Struct) (types : List TypeTree) (op : X �
       → next.fits ≡ (j.fits && one.fits) → next.small ≡ (j.small && one.small)
       → IsSoFar next (rest_fits (drop (k + 1) xs)) (rest_small (drop (k + 1) xs)) f s
   arguments_more xs k x j one next f s l is far judged a b =
-      let d = rest_next xs k x l is in
-      let rest = flat_map place_in (map op (drop (k + 1) xs)) in
-      so_far_more j one next _ _ _ _ _ _ f s far judged (ap rest_fits d)
-      (ap rest_small d
-      ∙ ap (λ (z : Bool). z && (is_small (h x) && list_all is_small (map h (drop (k + 1) xs))))
-      (list_all-append (small_prefixes structs types) (place_in (op x)) rest)
-      ∙ and_swap (list_all (small_prefixes structs types) (place_in (op x)))
-      (list_all (small_prefixes structs types) rest) (is_small (h x)) (list_all is_small (map h (drop (k + 1) xs))))
-      a b
+      grind (arith, rest_next, map, so_far_more, list_all-append, and_swap)
 
   -- all operands are judged
   pub arguments_all : (xs : List X) (k : ℕ) (j : Judgement) (f s : Bool) → length xs ≤ k
       → IsSoFar j (rest_fits (drop k xs)) (rest_small (drop k xs)) f s → IsJudged f s j
-  arguments_all xs k j f s l far =
-      let a = drop_all k xs l in
-      so_far_all j f s (so_far_as (ap rest_fits a) (ap rest_small a) far)
+  arguments_all xs k j f s l far = grind (arith, drop_all, so_far_all, so_far_as)

@@ -86,18 +86,7 @@ return_point starts p i old mid new adds is returned same =
 -- any other point
 pub other_point : {R T : Type 0} (starts : List ℕ) (p : ℕ) (i : Statement R T) (old new : Graph)
     → AddsEdges starts p i old new → (i ≡ return → ⊥) → AddsPoint starts p i old new
-other_point starts p i old new adds isnt =
-    let before : new.returns ≡ old.returns = ap (λ (g : Graph). g.returns) adds.others in
-    record {
-      points = ap (λ (g : Graph). g.points) adds.others;
-      universals = ap (λ (g : Graph). g.universals) adds.others;
-      next = adds.next;
-      returns = λ r. (
-        λ h. inl (subst (λ xs. Contains xs r) before h),
-        λ h. ⊎_elim (λ there. subst (λ xs. Contains xs r) (sym before) there) (λ here. absurd (isnt here.1)) h,
-      );
-      counted = adds.counted;
-    }
+other_point starts p i old new adds isnt = grind (arith, ⊎_elim)
 
 -- the targets, put into an empty list
 pub targets_listed : {R T : Type 0} (i : Statement R T) (empty filled listed : List ℕ) → listed ≡ filled

@@ -88,9 +88,7 @@ module _ (structs : List Struct) (variables : List TypeTree) where
 
   no_parts : (os : List (Option TypeTree)) (t u : TypeTree) → Contains {X = Pair} ((None, None) ∷ []) (Some t, Some u)
       → ⊥
-  no_parts os t u w =
-      (let e : None ≡ Some t = (parts_equal None None (Some t) (Some u) (one_is (None, None) (Some t, Some u) w)).0 in
-      cc)
+  no_parts os t u w = grind (arith, parts_equal, one_is)
 
   some_parts : (os : List (Option TypeTree)) (ts : TypeTrees) (t u : TypeTree)
       → Contains (beside os ts) (Some t, Some u)
@@ -145,11 +143,7 @@ module _ (structs : List Struct) (variables : List TypeTree) where
   last_is : (made t u : TypeTree) (p : PlacePath)
       → Contains {X = Pair} ((Some made, type_of structs variables p) ∷ []) (Some t, Some u)
       ↔ ((t ≡ made) × (type_of structs variables p ≡ Some u))
-  last_is made t u p = (
-    λ w. (let e = parts_equal (Some made) (type_of structs variables p) (Some t) (Some u) (one_is _ _ w) in
-        (sym (some_is made t e.0), e.1)),
-    λ w. one_there _ _ (pair_equal (Some made) (type_of structs variables p) (Some t) (Some u) (ap Some (sym w.0)) w.1),
-  )
+  last_is made t u p = grind (arith, parts_equal, one_is, some_is, one_there, pair_equal)
 
   -- The types that meet are those of the pairs.
   pub pairs_meet : (i : Statement ℕ TypeTree) (t u : TypeTree)
@@ -159,13 +153,7 @@ module _ (structs : List Struct) (variables : List TypeTree) where
     λ w. one_there _ _ (pair_equal (operand_type structs variables op) (type_of structs variables p) (Some t)
         (Some u) w.0 w.1),
   )
-  pairs_meet (borrow p r m q) t u =
-      let made = reference_to r m (type_of structs variables q) in (
-        λ w. (let e = parts_equal made (type_of structs variables p) (Some t) (Some u) (one_is _ _ w) in
-            let i = inner_of r m (type_of structs variables q) t e.0 in (i.0, i.1, i.2, e.1)),
-        λ w. one_there _ _ (pair_equal made (type_of structs variables p) (Some t) (Some u)
-            (ap (reference_to r m) w.1 ∙ ap Some (sym w.2)) w.3),
-      )
+  pairs_meet (borrow p r m q) t u = grind (arith, parts_equal, one_is, inner_of, one_there, pair_equal)
   pairs_meet (make p made ops) t u =
       let os = operand_types structs variables ops in
       let parts = beside_parts os (parts_of_type structs made) in
@@ -182,12 +170,7 @@ module _ (structs : List Struct) (variables : List TypeTree) where
             (meets.1 (m.0, to_mapped (operand_type structs variables) ops m.0 m.1 m.2 ∙ ap Some m.3, m.4)))
             (λ m. Contains-append_right parts last (Some t, Some u) (written.1 m)),
       )
-  pairs_meet (switch op bs) t u = (
-    λ w. (let e = parts_equal (operand_type structs variables op) (Some int) (Some t) (Some u) (one_is _ _ w) in
-        (e.0, sym (some_is int u e.1))),
-    λ w. one_there _ _ (pair_equal (operand_type structs variables op) (Some int) (Some t) (Some u) w.0
-        (ap Some (sym w.1))),
-  )
+  pairs_meet (switch op bs) t u = grind (arith, parts_equal, one_is, some_is, one_there, pair_equal)
   pairs_meet (call p args result wheres b unwind) t u =
       let f : Operand × TypeTree → Pair = λ a. (operand_type structs variables a.0, Some a.1) in
       let inputs = map f args in
