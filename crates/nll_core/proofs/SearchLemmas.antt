@@ -101,10 +101,6 @@ visits_again s e old =
     subst (λ flags. Visits (λ x. x ≡ e) s (record { reached = flags; list = s.list })) (sym same)
     (record { adds = adds_none (λ x. x ≡ e) s; all = λ x is. subst (IsIn s.reached) (sym is) old })
 
--- a fact of the list says that some region outlives b
-abbrev pub IsShorterOf : List (ℕ × ℕ) → ℕ → Type 0
-IsShorterOf facts b = (a : ℕ) × Contains facts (a, b)
-
 -- ---- walks
 
 module _ (step : ℕ → ℕ → Type 0) where

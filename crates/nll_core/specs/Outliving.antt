@@ -6,6 +6,10 @@ use Rattle.nll_problem.specs.Faults.{IsEarlier, IsFault, IsKnown}
 use Rattle.nll_core.specs.Search.{IsIn}
 use Rattle.nll_core.specs.Values.{holds, IsHeld}
 
+-- a fact of the list says that some region outlives b
+abbrev pub IsShorterOf : List (ℕ × ℕ) → ℕ → Type 0
+IsShorterOf facts b = (a : ℕ) × Contains facts (a, b)
+
 -- the set has exactly the regions that a is known to outlive
 abbrev pub AreOutlived : Problem → ℕ → List Bool → Type 0
 AreOutlived q a outlived = (b : ℕ) → IsIn outlived b ↔ IsKnown q a b

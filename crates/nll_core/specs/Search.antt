@@ -25,6 +25,10 @@ HasAll kind flags = (x : ℕ) → kind x → IsIn flags x
 abbrev pub Within : List Bool → (ℕ → Type 0) → ℕ → Type 0
 Within set kind x = kind x × IsIn set x
 
+-- x is at least `from` and below `to`
+abbrev pub IsInRange : ℕ → ℕ → ℕ → Type 0
+IsInRange from to x = (from ≤ x) × (x < to)
+
 -- how many elements are not in the set
 abbrev pub missing : List Bool → ℕ
 missing flags = count_by not flags

@@ -1,9 +1,10 @@
 //! Which universal regions are known to outlive which.
 
-ghost use Rattle.std.specs.Prelude.{◌≡◌, ◌↔◌, ℕ, AllPairs, Contains, length, IfOk};
+ghost use Rattle.std.specs.Prelude.{◌≡◌, ◌↔◌, ℕ, ◌≤◌, ◌<◌, AllPairs, Contains, length, IfOk, OnOk};
 ghost use Rattle.nll_problem.specs.Problem.{IsUniversal, IsEarlier};
 ghost use Rattle.nll_problem.specs.Faults.{IsAbove};
-ghost use Rattle.nll_core.specs.Outliving.{AreOutlived};
+ghost use Rattle.nll_core.specs.Outliving.{IsShorterOf, AreOutlived};
+ghost use Rattle.nll_core.specs.Search.{Visits};
 
 use crate::search::{Relation, Search, search_from};
 use nll_problem::{Problem, RegionId};
@@ -32,17 +33,11 @@ impl<'a> Relation for Outliving<'a> {
         search: &mut Search<R>,
     ) -> Result<(), Memory> {
         if from.0 == 0 {
-            for number in 0..self.problem.universals() {
-                search.visit(Element(number))?;
-            }
-            return Ok(());
+            visit_below(self.problem.universals(), search)
+        } else {
+            let facts = self.problem.outlives_facts();
+            visit_shorter(facts_of(facts, RegionId(from.0)), search)
         }
-        let facts = facts_of(self.problem.outlives_facts(), RegionId(from.0));
-        for fact in facts {
-            let (_, shorter) = *fact;
-            search.visit(Element(shorter.0))?;
-        }
-        Ok(())
     }
 }
 
@@ -55,6 +50,32 @@ fn facts_of(facts: &[(RegionId, RegionId)], longer: RegionId) -> &[(RegionId, Re
     let rest = &facts[first..];
     let count = rest.partition_point(|fact| fact.0.0 <= longer.0);
     &rest[..count]
+}
+
+// Visits each element below a number.
+fn visit_below<R: ElementSet>(count: u32, search: &mut Search<R>) -> Result<(), Memory>
+    requires { count ≤ length search.old.reached }
+    ensures { OnOk result (Visits (λ x. x < count) search.old search.new) }
+{
+    for number in 0..count {
+        search.visit(Element(number))?;
+    }
+    Ok(())
+}
+
+// Visits the second region of each fact.
+fn visit_shorter<R: ElementSet>(
+    facts: &[(RegionId, RegionId)],
+    search: &mut Search<R>,
+) -> Result<(), Memory>
+    requires { (b : ℕ) → IsShorterOf facts.now b → b < length search.old.reached }
+    ensures { OnOk result (Visits (IsShorterOf facts.now) search.old search.new) }
+{
+    for fact in facts {
+        let (_, shorter) = *fact;
+        search.visit(Element(shorter.0))?;
+    }
+    Ok(())
 }
 
 /// The universal regions that one of them is known to outlive.

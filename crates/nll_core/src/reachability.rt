@@ -1,8 +1,9 @@
 //! The elements of a graph that walks from a point reach inside a set.
 
-ghost use Rattle.std.specs.Prelude.{◌≡◌, ◌≤◌, ◌<◌, length, IfOk, OnOk};
+ghost use Rattle.std.specs.Prelude.{◌≡◌, ◌≤◌, ◌<◌, Contains, length, IfOk, OnOk};
 ghost use Rattle.nll_problem.specs.Graph.{element_count};
-ghost use Rattle.nll_core.specs.Search.{IsStepInside, VisitsWithin, AreReached};
+ghost use Rattle.nll_core.specs.Search.{HoldsFrom, IsInRange, IsStepInside, VisitsWithin};
+ghost use Rattle.nll_core.specs.Search.{AreReached};
 
 use crate::search::{Relation, Search, search_from};
 use nll_problem::Graph;
@@ -30,6 +31,41 @@ impl<'a, S: ElementSet> Inside<'a, S> {
         }
         Ok(())
     }
+
+    // Visits the points of a list that are in the set.
+    fn visit_points<R: ElementSet>(
+        &self,
+        points: &[u32],
+        search: &mut Search<R>,
+    ) -> Result<(), Memory>
+        requires width { element_count self.now.graph.now ≤ length search.old.reached }
+        requires points { HoldsFrom 0 points.now (λ x. x < element_count self.now.graph.now) }
+        ensures { OnOk result
+            (VisitsWithin (S.flags self.now.set.now) (Contains points.now) search.old search.new) }
+    {
+        for point in points {
+            self.visit(Element(*point), search)?;
+        }
+        Ok(())
+    }
+
+    // Visits the elements from one up to another that are in the set.
+    fn visit_range<R: ElementSet>(
+        &self,
+        from: u32,
+        to: u32,
+        search: &mut Search<R>,
+    ) -> Result<(), Memory>
+        requires width { element_count self.now.graph.now ≤ length search.old.reached }
+        requires to { to ≤ element_count self.now.graph.now }
+        ensures { OnOk result
+            (VisitsWithin (S.flags self.now.set.now) (IsInRange from to) search.old search.new) }
+    {
+        for number in from..to {
+            self.visit(Element(number), search)?;
+        }
+        Ok(())
+    }
 }
 
 impl<'a, S: ElementSet> Relation for Inside<'a, S> {
@@ -50,14 +86,9 @@ impl<'a, S: ElementSet> Relation for Inside<'a, S> {
         if from.0 >= points {
             return Ok(());
         }
-        let next = self.graph.next_of(from.0);
-        for point in next {
-            self.visit(Element(*point), search)?;
-        }
+        self.visit_points(self.graph.next_of(from.0), search)?;
         if self.graph.is_return(from.0) {
-            for end in points..points + self.graph.universals() {
-                self.visit(Element(end), search)?;
-            }
+            self.visit_range(points, points + self.graph.universals(), search)?;
         }
         Ok(())
     }

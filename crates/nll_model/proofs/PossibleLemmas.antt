@@ -1,5 +1,5 @@
 -- Where an event is possible.
-use Rattle.std.proofs.Common.{◌≡◌, ◌≢◌, ◌↔◌, ℕ, ◌<◌, Bool, true, false, not, [], length, refl, sym, ap, ◌∙◌, arith}
+use Rattle.std.proofs.Common.{◌≡◌, ◌≢◌, ◌↔◌, ℕ, ◌<◌, Bool, true, false, not, List, [], ◌∷◌, length, refl, sym, ap, ◌∙◌, arith}
 use Rattle.std.specs.Prelude.{IsTrue}
 use Rattle.std.proofs.lemmas.Bool.{false≢true}
 use Rattle.std.proofs.lemmas.Option.{slice_get_within}
@@ -11,6 +11,11 @@ use Rattle.nll_model.specs.Events.{IsFreeOwner, IsPossible}
 use Rattle.nll_model.specs.Soundness.{IsSoundState}
 use Rattle.nll_model.proofs.LaneLemmas.{same_at}
 use Rattle.nll_model.proofs.StateLemmas.{lanes_is}
+
+-- a list without an element is the empty one
+pub no_items : {X : Type 0} (xs : List X) → length xs ≡ 0 → xs ≡ []
+no_items [] h = refl
+no_items (x ∷ xs) h = absurd (omega (arith, h))
 
 -- numbers of no two owners
 pub no_push : (q : Problem) (c : Cut) (w : WorldState) → IsSoundState q c w → (i j : ℕ) (b : Bool)

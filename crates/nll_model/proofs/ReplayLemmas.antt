@@ -13,7 +13,6 @@ use Rattle.nll_model.specs.declared.outcome.Step.{Step}
 use Rattle.nll_model.specs.declared.seat.Item.TheVariants.{Nothing}
 use Rattle.nll_model.specs.State.{Seat, WorldState, empty_lane, first_seat}
 use Rattle.nll_model.specs.Events.{Does, IsAnswerOf, AreSteps}
-use Rattle.nll_model.specs.Working.{AreFirst}
 use Rattle.nll_model.specs.Soundness.{IsLawful, IsOrderly}
 use Rattle.nll_model.proofs.StepsLemmas.{step_sound}
 use Rattle.nll_model.proofs.OrderlyLemmas.{sound_is_orderly}
@@ -37,6 +36,10 @@ is_first q c i s o n is owner count = is
     ∙ (ap (λ (p : Owner). record { owner = p; item = Nothing; left = false; lanes = replicate n empty_lane }) owner
     ∙ ap (λ (m : ℕ). record { owner = first_owner q c i; item = Nothing; left = false; lanes = replicate m empty_lane })
     count)
+
+-- the seats are those of owners that have done nothing yet
+abbrev pub AreFirst : Problem → Cut → List Seat → Type 0
+AreFirst q c seats = (i : ℕ) (s : Seat) → slice_get seats i ≡ Some s → s ≡ first_seat q c i
 
 get_push : {X : Type 0} (xs : List X) (x : X) (k : ℕ) (y : X) → slice_get (xs ++ x ∷ []) k ≡ Some y
     → (slice_get xs k ≡ Some y) ⊎ ((k ≡ length xs) × (x ≡ y))

@@ -1,13 +1,11 @@
 -- What the steps inside an event do to a lane and to a seat. Source: project's choice. Only private
 -- contracts cite this file.
 use Rattle.std.specs.Prelude.{◌≡◌, ◌⊎◌, ℕ, ◌<◌, ◌≤◌, Bool, true, false, List, [], ◌∷◌, ◌++◌, length}
-use Rattle.std.specs.Prelude.{drop, slice_get, Contains, Option, Some, None}
-use Rattle.nll_problem.specs.Problem.{Problem}
-use Rattle.nll_cut.specs.Partition.{Cut}
+use Rattle.std.specs.Prelude.{drop, Contains, Option, Some, None}
 use Rattle.nll_mail.specs.declared.growth.Growth.{Growth}
 use Rattle.nll_owner.specs.Logs.{IsPrefix}
 use Rattle.nll_owner.specs.Owner.{Owner, IsSoundOwner, part_for, given_to, received_from}
-use Rattle.nll_model.specs.State.{Lane, Seat, lane_to, with_lane, first_seat}
+use Rattle.nll_model.specs.State.{Lane, Seat, lane_to, with_lane}
 
 -- The first growth that is owed for went to the back of the box, or there is none.
 abbrev pub PushesOwed : Bool → Lane → Lane → Type 0
@@ -67,7 +65,3 @@ NoGrowth j g = ⊥
 -- the growth came from the owner
 abbrev pub IsGrowthFrom : ℕ → Growth → ℕ → Growth → Type 0
 IsGrowthFrom from growth j g = (j ≡ from) × (g ≡ growth)
-
--- the seats are those of owners that have done nothing yet
-abbrev pub AreFirst : Problem → Cut → List Seat → Type 0
-AreFirst q c seats = (i : ℕ) (s : Seat) → slice_get seats i ≡ Some s → s ≡ first_seat q c i

@@ -1,7 +1,7 @@
 //! The lane from one owner to another.
 
-ghost use Rattle.std.specs.Prelude.{◌≡◌, ◌≢◌, ℕ, ◌<◌, ◌++◌, ◌↔◌, false, length, drop, List, []};
-ghost use Rattle.std.specs.Prelude.{◌∷◌, OnOk, IfOk, IfSome, IfNone, IsTrue};
+ghost use Rattle.std.specs.Prelude.{◌≡◌, ◌≢◌, ℕ, ◌<◌, ◌++◌, false, length, drop, List, []};
+ghost use Rattle.std.specs.Prelude.{◌∷◌, OnOk, IfOk, IfSome, IfNone};
 ghost use Rattle.nll_mail.specs.declared.growth.Growth.{Growth};
 ghost use Rattle.nll_owner.specs.Owner.{IsSoundOwner, part_for, given_to};
 ghost use Rattle.nll_model.specs.State.{empty_lane};
@@ -81,7 +81,10 @@ impl Lane {
         ensures other_given { (j : ℕ) → j ≢ to → given_to owner.new j ≡ given_to owner.old j }
         ensures sound { IsSoundOwner owner.new }
     {
-        collect(owner, &mut self.fresh, to)
+        while let Some(growth) = owner.outgoing(to) {
+            self.fresh.push_back(growth)?;
+        }
+        Ok(())
     }
 
     // Makes what is fresh owed for. Returns how many growths that is.
@@ -115,36 +118,4 @@ impl Lane {
     {
         self.boxed.pop_front()
     }
-
-    // Whether nothing that is owed for waits to be sent.
-    pub(crate) fn has_sent(&self) -> bool
-        ensures { IsTrue result ↔ (self.now.out ≡ []) }
-    {
-        self.out.is_empty()
-    }
-
-    // Whether nothing is in the box.
-    pub(crate) fn is_taken(&self) -> bool
-        ensures { IsTrue result ↔ (self.now.box ≡ []) }
-    {
-        self.boxed.is_empty()
-    }
-}
-
-// Appends the part of the log that another owner reads and that wasn't given to it yet.
-fn collect(owner: &mut Owner<'_>, fresh: &mut VecDeque<Growth>, to: u16) -> Result<(), Memory>
-    requires sound { IsSoundOwner owner.old }
-    requires whole { owner.old.broken ≡ false }
-    requires to { to < owner.old.cut.owners }
-    ensures fresh { OnOk result (fresh.new.items
-        ≡ fresh.old.items ++ drop (given_to owner.old to) (part_for owner.old to)) }
-    ensures given { OnOk result (given_to owner.new to ≡ length (part_for owner.old to)) }
-    ensures others { owner.new ≡ record owner.old { given = owner.new.given } }
-    ensures other_given { (j : ℕ) → j ≢ to → given_to owner.new j ≡ given_to owner.old j }
-    ensures sound { IsSoundOwner owner.new }
-{
-    while let Some(growth) = owner.outgoing(to) {
-        fresh.push_back(growth)?;
-    }
-    Ok(())
 }

@@ -1,7 +1,7 @@
 //! The model of a run: owners, the boxes between them and the balance, one event after another.
 //!
-//! Reading order: `laws`, `error`, `event`, `outcome`, `lane`, `seat`, `state`, `start`,
-//! `world`, `schedule_replay`. The definitions are in specs/: `State` first, then `Events`,
+//! Reading order: `laws`, `error`, `event`, `outcome`, `lane`, `seat`, `state`, `world`,
+//! `schedule_replay`. The definitions are in specs/: `State` first, then `Events`,
 //! `Soundness`, `Replaying`.
 #![tactic(auto)]
 
@@ -12,7 +12,6 @@ mod laws;
 mod outcome;
 mod schedule_replay;
 mod seat;
-mod start;
 mod state;
 mod world;
 

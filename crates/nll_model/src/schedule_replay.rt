@@ -1,11 +1,9 @@
 //! The replay of a schedule.
 
-ghost use Rattle.std.specs.Prelude.{◌≡◌, ◌↔◌, ℕ, false, length, OnOk, IfOk, IfErr};
-ghost use Rattle.nll_core.specs.Values.{IsHeld, IsShaped};
+ghost use Rattle.std.specs.Prelude.{◌≡◌, false, length, OnOk, IfOk, IfErr};
 ghost use Rattle.nll_owner.specs.Tables.{AreTables};
 ghost use Rattle.fixpoint.specs.declared.error.PartError.TheVariants.{Memory as memory};
-ghost use Rattle.nll_model.specs.Events.{IsAnswerOf, AreSteps};
-ghost use Rattle.nll_model.specs.Soundness.{IsLawful, LogSays};
+ghost use Rattle.nll_model.specs.Events.{AreSteps};
 ghost use Rattle.nll_model.specs.Replaying.{IsReplay};
 ghost use Rattle.nll_model.specs.declared.error.ModelError.TheVariants.{Owner};
 
@@ -59,35 +57,15 @@ fn replay_on(
         Err(error) => return Err(ModelError::from(error)),
     };
     match take_all(alloc, &mut world, events) {
-        Ok(answers) => outcome_of(alloc, &world, answers),
+        Ok(answers) => match world.values(alloc) {
+            Ok(values) => Ok(Replay {
+                answers,
+                balance: world.balance(),
+                values,
+            }),
+            Err(error) => Err(ModelError::from(error)),
+        },
         Err(error) => Err(ModelError::Owner(error)),
-    }
-}
-
-// The outcome of a world.
-fn outcome_of(
-    alloc: Global,
-    world: &World,
-    answers: Vec<Option<Step>>,
-) -> Result<Replay, ModelError>
-    requires { world.now.broken ≡ false }
-    ensures answers { IfOk result (λ r. r.answers.items ≡ answers.items) }
-    ensures balance { IfOk result (λ r. r.balance ≡ world.now.state.balance) }
-    ensures shaped { IfOk result (λ r. IsShaped world.now.problem r.values) }
-    ensures held { IfOk result (λ r. (x e : ℕ)
-        → IsHeld r.values x e ↔ LogSays world.now.cut world.now.state x e) }
-    ensures lawful { IfOk result
-        (λ _. IsLawful world.now.problem world.now.cut world.now.state) }
-    ensures memory { IfErr result (λ error. error ≡ Owner memory) }
-{
-    let balance = world.balance();
-    match world.values(alloc) {
-        Ok(values) => Ok(Replay {
-            answers,
-            balance,
-            values,
-        }),
-        Err(error) => Err(ModelError::from(error)),
     }
 }
 
@@ -105,22 +83,12 @@ fn take_all(
 {
     let mut answers = Vec::new(alloc);
     for event in events {
-        let answer = answer_of(world, *event)?;
+        let answer = match world.step(*event) {
+            Ok(answer) => Some(answer),
+            Err(ModelError::NotNow) => None,
+            Err(ModelError::Owner(error)) => return Err(error),
+        };
         answers.push(answer)?;
     }
     Ok(answers)
-}
-
-// The answer of an event; none where it isn't possible.
-fn answer_of(world: &mut World, event: Event) -> Result<Option<Step>, OwnerError>
-    requires { world.old.broken ≡ false }
-    ensures step { IfOk result (λ answer. IsAnswerOf world.old.state event answer world.new.state) }
-    ensures others { OnOk result (world.new ≡ record world.old { state = world.new.state }) }
-    ensures memory { IfErr result (λ error. error ≡ memory) }
-{
-    match world.step(event) {
-        Ok(answer) => Ok(Some(answer)),
-        Err(ModelError::NotNow) => Ok(None),
-        Err(ModelError::Owner(error)) => Err(error),
-    }
 }

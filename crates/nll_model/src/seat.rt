@@ -117,27 +117,11 @@ impl<'q> Seat<'q> {
         ensures { IsTrue result ↔ HasSent self.now }
     {
         for lane in &self.lanes {
-            if !lane.has_sent() {
+            if !lane.out().is_empty() {
                 return false;
             }
         }
         true
-    }
-
-    // Whether nothing that is owed for waits to be sent to another owner.
-    pub(crate) fn has_sent_to(&self, to: u16) -> bool
-        requires { to < length self.now.lanes }
-        ensures { IsTrue result ↔ ((lane_to self.now to).out ≡ []) }
-    {
-        self.lanes[to as usize].has_sent()
-    }
-
-    // Whether the box for another owner is empty.
-    pub(crate) fn is_taken_by(&self, to: u16) -> bool
-        requires { to < length self.now.lanes }
-        ensures { IsTrue result ↔ ((lane_to self.now to).box ≡ []) }
-    {
-        self.lanes[to as usize].is_taken()
     }
 
     // ---- what events do

@@ -26,8 +26,8 @@ use std::marker::Model;
 /// The seats of all owners, and the balance.
 #[derive(Drop)]
 pub struct State<'q> {
-    seats: Vec<Seat<'q>>,
-    balance: u64,
+    pub seats: Vec<Seat<'q>>,
+    pub balance: u64,
 }
 
 impl<'q> Model for State<'q> {
@@ -39,27 +39,6 @@ impl<'q> Model for State<'q> {
 }
 
 impl<'q> State<'q> {
-    /// The state of these seats.
-    pub fn new(seats: Vec<Seat<'q>>, balance: u64) -> State<'q>
-        ensures { result ≡ record { seats = seats.entry.items; balance = balance } }
-    {
-        State { seats, balance }
-    }
-
-    /// The seats, in the order of the owners' numbers.
-    pub fn seats(&self) -> &[Seat<'q>]
-        ensures { result.now ≡ self.now.seats }
-    {
-        &self.seats
-    }
-
-    /// The balance.
-    pub fn balance(&self) -> u64
-        ensures { result ≡ self.now.balance }
-    {
-        self.balance
-    }
-
     /// The values that the logs say: of each region a copy of its owner's set.
     ///
     /// # Errors
@@ -135,7 +114,8 @@ impl<'q> State<'q> {
         if !self.are_two(i, j) || !self.seats[i as usize].is_free() {
             return false;
         }
-        !self.seats[j as usize].is_taken_by(i)
+        let lane = &self.seats[j as usize].lanes()[i as usize];
+        !lane.boxed().is_empty()
     }
 
     // Whether an owner works on an item of this kind.
@@ -156,7 +136,8 @@ impl<'q> State<'q> {
         if !self.are_two(i, j) {
             return false;
         }
-        !self.seats[i as usize].has_sent_to(j)
+        let lane = &self.seats[i as usize].lanes()[j as usize];
+        !lane.out().is_empty()
     }
 
     // Whether an owner may look at the balance.

@@ -14,7 +14,6 @@ use crate::error::ModelError;
 use crate::event::Event;
 use crate::outcome::Step;
 use crate::seat::Seat;
-use crate::start::first_seats;
 use crate::state::State;
 use nll_core::Values;
 use nll_cut::Cut;
@@ -89,7 +88,8 @@ impl<'q> World<'q> {
         World::of_tables(alloc, problem, cut, Some(tables))
     }
 
-    // A world in which no owner has done anything yet, on these tables, if there are some.
+    // A world in which no owner has done anything yet, on these tables. If there are none, each
+    // owner has tables of its own.
     fn of_tables(
         alloc: Global,
         problem: &'q Problem,
@@ -104,15 +104,24 @@ impl<'q> World<'q> {
         let owners = cut.owners();
         // Clause call: the problem is sound.
         let _regions = problem.regions();
-        match first_seats(alloc, problem, cut, tables) {
-            Ok(seats) => Ok(World {
-                problem,
-                cut,
-                state: State::new(seats, owners as u64),
-                broken: false,
-            }),
-            Err(error) => Err(error),
+        let mut seats = Vec::new(alloc);
+        for me in 0..owners {
+            let owner = match tables {
+                Some(lent) => nll_owner::Owner::on(alloc, problem, cut, lent, me)?,
+                None => nll_owner::Owner::new(alloc, problem, cut, me)?,
+            };
+            let seat = Seat::of(alloc, owner, owners)?;
+            seats.push(seat)?;
         }
+        Ok(World {
+            problem,
+            cut,
+            state: State {
+                seats,
+                balance: owners as u64,
+            },
+            broken: false,
+        })
     }
 
     /// Does what an event does, where it is possible.
@@ -159,7 +168,7 @@ impl<'q> World<'q> {
             → IsLawful self.now.problem self.now.cut self.now.state }
         ensures orderly { IsOrderly self.now.problem self.now.cut self.now.state }
     {
-        self.state.seats()
+        &self.state.seats
     }
 
     /// The balance: how much is under way.
@@ -168,7 +177,7 @@ impl<'q> World<'q> {
         ensures lawful { self.now.broken ≡ false
             → IsLawful self.now.problem self.now.cut self.now.state }
     {
-        self.state.balance()
+        self.state.balance
     }
 
     /// Whether a step was refused memory. The world takes no more steps then.
