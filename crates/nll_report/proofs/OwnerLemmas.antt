@@ -25,7 +25,7 @@ use Rattle.nll_command_line.specs.Options.{SaidOptions}
 use Rattle.nll_command_line.specs.declared.options.Deal.{Deal}
 use Rattle.nll_report.specs.Owners.{AsksForOwners, IsAskedCut, IsCutTextRefused, IsFileTold, IsOwnersRefused, IsWorkRefused, count_of, deal_of}
 use Rattle.nll_report.specs.Run.{AreOwnersRefused, IsAskedAnswer, IsFileAnswer, IsFileRefused}
-use Rattle.nll_report.specs.Refusal.{IsCutRefusal, cut_refusal_at, refusal_of}
+use Rattle.nll_report.specs.Refusal.{IsCutRefusal, refusal_of}
 use Rattle.nll_report.specs.Texts.{HoldsAt, Lacks}
 use Rattle.nll_report.specs.declared.messages.Refusal.{Refusal}
 use Rattle.nll_report.specs.declared.messages.Refusal.TheVariants.{Text, Limit, Thread, Memory}
