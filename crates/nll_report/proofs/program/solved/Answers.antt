@@ -1,7 +1,7 @@
 use Rattle.std.proofs.Common.{ap, inl, option_map, refl, string_bytes}
 use Rattle.std.proofs.lemmas.Result.{err_from_is_err_and, IfErr-weaker, IfOk-weaker}
 use Rattle.nll_command_line.specs.Options.{options_said}
-use Rattle.nll_report.proofs.OwnerLemmas.{may_be_asked, one_answers, owners_answer, owners_told}
+use Rattle.nll_report.proofs.OwnerLemmas.{may_be_asked, owners_answer, owners_told}
 use Rattle.nll_report.proofs.RunLemmas.{answer_told}
 use Rattle.nll_report.proofs.program.solved.Goals as goal
 
