@@ -51,6 +51,16 @@ refusal_of (answer.Run run.Thread) = Thread
 refusal_of (answer.Run run.Memory) = Memory
 refusal_of answer.Memory = Memory
 
+-- the refusal of a cut file for a fault at this line
+abbrev pub cut_refusal_at : ℕ → TextKind → Refusal
+cut_refusal_at line kind.Memory = Memory
+cut_refusal_at line other = CutText line other
+
+-- the refusal of a schedule for a fault at this line
+abbrev pub schedule_refusal_at : ℕ → TextKind → Refusal
+schedule_refusal_at line kind.Memory = Memory
+schedule_refusal_at line other = ScheduleText line other
+
 -- the refusal follows from why a list is no cut; a number of owners that isn't allowed is refused
 -- with the words already
 abbrev pub IsCutRefusal : CutError → Refusal → Type 0

@@ -9,7 +9,7 @@ ghost use Rattle.nll_report.specs.Owners.{AsksForOwners, HasAskedCut, IsAskedCut
 ghost use Rattle.nll_report.specs.Owners.{IsCutRefused, IsCutTextRefused, IsFileTold};
 ghost use Rattle.nll_report.specs.Owners.{IsOwnersRefused, IsTextCut, IsWorkRefused};
 ghost use Rattle.nll_report.specs.Owners.{count_of, deal_of, mail_of};
-ghost use Rattle.nll_report.specs.Refusal.{IsCutRefusal};
+ghost use Rattle.nll_report.specs.Refusal.{IsCutRefusal, cut_refusal_at};
 ghost use Rattle.nll_report.specs.Run.{IsFileRefused};
 
 use crate::file_text::{facts_of, without_text};
@@ -19,7 +19,7 @@ use nll_answer::{AnswerError, Command, answer_run};
 use nll_command_line::{Deal, MailKind};
 use nll_cut::{Cut, CutError};
 use nll_facts::Facts;
-use nll_format::TextKind;
+use nll_format::{TextError, TextKind};
 use nll_ledger::WordLedger;
 use nll_lists::read_cut;
 use nll_mail::{QueueMail, RingMail};
@@ -199,8 +199,7 @@ fn listed_cut(alloc: Global, regions: u32, count: u16, text: Vec<u8>) -> Result<
     drop(text);
     match list {
         Ok(list) => taken(Cut::from_list(alloc, regions, count, list.as_slice())),
-        Err(error) if error.kind == TextKind::Memory => Err(Refusal::Memory),
-        Err(error) => Err(Refusal::CutText(error.line, error.kind)),
+        Err(error) => Err(refusal_of_cut_text(error)),
     }
 }
 
@@ -216,5 +215,15 @@ fn taken(cut: Result<Cut, CutError>) -> Result<Cut, Refusal>
         Err(CutError::Length) => Err(Refusal::CutLength),
         Err(CutError::NoSuchOwner(index)) => Err(Refusal::NoSuchOwner(index)),
         Err(CutError::Memory) => Err(Refusal::Memory),
+    }
+}
+
+// The refusal of the text of a cut file.
+fn refusal_of_cut_text(error: TextError) -> Refusal
+    ensures { result ≡ cut_refusal_at error.line error.kind }
+{
+    match error.kind {
+        TextKind::Memory => Refusal::Memory,
+        kind => Refusal::CutText(error.line, kind),
     }
 }

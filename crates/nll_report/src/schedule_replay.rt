@@ -6,6 +6,7 @@ ghost use Rattle.nll_cut.specs.Partition.{may_be_count};
 ghost use Rattle.nll_command_line.specs.Options.{options_said};
 ghost use Rattle.nll_command_line.specs.declared.task.Task.TheVariants.{Replay};
 ghost use Rattle.nll_report.specs.Owners.{HasAskedCut};
+ghost use Rattle.nll_report.specs.Refusal.{schedule_refusal_at};
 ghost use Rattle.nll_report.specs.Replays.{IsFileReplay, IsFileReplayRefused, IsListedReplay};
 ghost use Rattle.nll_report.specs.Replays.{IsListedSchedule, IsReplayRefused, IsScheduleRefused};
 ghost use Rattle.nll_report.specs.Run.{IsFileRefused, IsTaskAnswer, IsTaskRefused};
@@ -18,7 +19,7 @@ use nll_answer::replay_text;
 use nll_command_line::Line;
 use nll_cut::Cut;
 use nll_facts::Facts;
-use nll_format::TextKind;
+use nll_format::{TextError, TextKind};
 use nll_lists::read_schedule;
 use nll_model::Event;
 use std::alloc::Global;
@@ -144,9 +145,18 @@ fn listed_events<T: Texts>(
     match texts.get(path.as_str()) {
         Ok(text) => match read_schedule(alloc, text.as_slice(), owners) {
             Ok(events) => Ok(events),
-            Err(error) if error.kind == TextKind::Memory => Err(Refusal::Memory),
-            Err(error) => Err(Refusal::ScheduleText(error.line, error.kind)),
+            Err(error) => Err(refusal_of_schedule(error)),
         },
         Err(unread) => Err(without_text(unread, path)),
+    }
+}
+
+// The refusal of the text of a schedule.
+fn refusal_of_schedule(error: TextError) -> Refusal
+    ensures { result ≡ schedule_refusal_at error.line error.kind }
+{
+    match error.kind {
+        TextKind::Memory => Refusal::Memory,
+        kind => Refusal::ScheduleText(error.line, kind),
     }
 }
