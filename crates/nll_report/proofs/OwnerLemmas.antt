@@ -1,20 +1,15 @@
 -- Which cut is asked for, and what is told where there is none.
-use Rattle.std.proofs.Common.{◌≡◌, ◌≢◌, ◌⊎◌, ℕ, ◌<◌, ◌≤◌, Bool, true, false, not, eqb, leb, ltb, List, Option, None, Some, Result, Ok, Err, IfOk, IfErr, IfSome, length, inl, inr, ⊎_elim, refl, sym, ap, ◌∙◌, subst}
+use Rattle.std.proofs.Common.{◌≡◌, ◌⊎◌, ℕ, ◌<◌, ◌≤◌, Bool, true, false, not, eqb, leb, ltb, List, Option, None, Some, Result, Ok, Err, IfOk, IfErr, IfSome, length, inl, inr, ⊎_elim, refl, sym, ap, ◌∙◌, subst}
 use Rattle.std.specs.Prelude.{IsErrAnd, nat_le, if◌then◌else◌}
 use Rattle.std.specs.List.{position}
-use Rattle.std.proofs.lemmas.Bool.{true≢false, eqb-true, lt-ltb, le-leb, and_from}
+use Rattle.std.proofs.lemmas.Bool.{eqb-true, lt-ltb, le-leb, and_from}
 use Rattle.std.proofs.lemmas.Option.{none-some}
 use Rattle.nll_problem.specs.Limits.{most_owners}
 use Rattle.nll_problem.specs.Problem.{Problem}
 use Rattle.nll_format.specs.Labels.{Labels}
-use Rattle.nll_format.specs.Text.{Format, IsFaultOfText, IsRefusal}
-use Rattle.nll_format.specs.declared.error.TextError.{TextError}
-use Rattle.nll_format.specs.declared.error.TextKind.{TextKind}
-use Rattle.nll_format.specs.declared.error.TextKind.TheVariants as kind
 use Rattle.nll_cut.specs.Partition.{AnswersCut, Cut, cut_of, list_error, may_be_count, stranger_error}
 use Rattle.nll_cut.specs.declared.error.CutError.{CutError}
 use Rattle.nll_cut.specs.declared.error.CutError.TheVariants as due
-use Rattle.nll_lists.specs.CutText.{cut}
 use Rattle.run.specs.declared.error.RunError.TheVariants as run
 use Rattle.nll_answer.specs.Answer.{IsProblemAnswer}
 use Rattle.nll_answer.specs.Running.{IsRunError}
@@ -23,12 +18,12 @@ use Rattle.nll_answer.specs.declared.error.AnswerError.{AnswerError}
 use Rattle.nll_answer.specs.declared.error.AnswerError.TheVariants as answer
 use Rattle.nll_command_line.specs.Options.{SaidOptions}
 use Rattle.nll_command_line.specs.declared.options.Deal.{Deal}
-use Rattle.nll_report.specs.Owners.{AsksForOwners, IsAskedCut, IsCutTextRefused, IsFileTold, IsOwnersRefused, IsWorkRefused, count_of, deal_of}
-use Rattle.nll_report.specs.Run.{AreOwnersRefused, IsAskedAnswer, IsFileAnswer, IsFileRefused}
-use Rattle.nll_report.specs.Refusal.{IsCutRefusal, cut_refusal_at, refusal_of}
+use Rattle.nll_report.specs.Owners.{AsksForOwners, IsAskedCut, IsFileTold, IsOwnersRefused, IsWorkRefused, count_of, deal_of}
+use Rattle.nll_report.specs.Run.{AreOwnersRefused, IsAskedAnswer, IsFileRefused}
+use Rattle.nll_report.specs.Refusal.{IsCutRefusal, refusal_of}
 use Rattle.nll_report.specs.Texts.{HoldsAt, Lacks}
 use Rattle.nll_report.specs.declared.messages.Refusal.{Refusal}
-use Rattle.nll_report.specs.declared.messages.Refusal.TheVariants.{Text, Limit, Thread, Memory}
+use Rattle.nll_report.specs.declared.messages.Refusal.TheVariants.{Memory}
 
 -- ---- so many owners as there may be
 
@@ -139,9 +134,3 @@ module _ (holds : HoldsAt) (file : List ℕ) (command : Command) (said : SaidOpt
         (subst (λ d. IsFileTold holds file n d said.cut Answered) is_deal
         (subst (λ p. IsFileTold holds file n deal p Answered) is_path h)),
   )
-
-  -- where there are none, the answer alone
-  pub one_answers : said.owners ≡ None → said.cut ≡ None
-      → IsFileAnswer holds command file report status → IsAskedAnswer holds command file said report status
-  one_answers no_count no_path h =
-      (h, λ asks. absurd (subst (AsksForOwners None) no_path (subst (λ n. AsksForOwners n said.cut) no_count asks)))

@@ -1,12 +1,10 @@
 //! The lines that the program writes on standard error, and their statuses.
-ghost use Rattle.std.specs.Prelude.{◌≡◌, OnErr, OnOk, Some};
+ghost use Rattle.std.specs.Prelude.{◌≡◌, ◌∷◌, ◌++◌, [], OnErr, OnOk, Some, codes};
+ghost use Rattle.std.specs.Fmt.{decimal};
 ghost use Rattle.std.specs.Io.KnownBytes.{Appends};
 ghost use Rattle.nll_report.specs.Refusal.{kind_text, limit_text, refusal_line, refusal_of};
 ghost use Rattle.nll_report.specs.Refusal.{refusal_of_text, refusal_text, status_of};
-ghost use Rattle.nll_report.specs.declared.messages.Refusal.TheVariants.{CannotRead, CutText};
-ghost use Rattle.nll_report.specs.declared.messages.Refusal.TheVariants.{Limit, NoSuchOwner};
-ghost use Rattle.nll_report.specs.declared.messages.Refusal.TheVariants.{Memory, ScheduleText};
-ghost use Rattle.nll_report.specs.declared.messages.Refusal.TheVariants.{Text};
+ghost use Rattle.nll_report.specs.declared.messages.Refusal.TheVariants.{Memory};
 ghost use Rattle.nll_report.specs.Sink.{IsCutShort};
 
 use crate::error::Unwritten;
@@ -81,13 +79,22 @@ impl Refusal {
     {
         match self {
             Refusal::Usage => put_pieces(to, &[USAGE, "\n"]),
-            Refusal::CannotRead(path) => print_unread(to, path),
-            Refusal::Text(line, kind) => print_fault(to, *line, *kind),
-            Refusal::Limit(kind) => print_limit(to, *kind),
-            Refusal::CutText(line, kind) => print_cut_fault(to, *line, *kind),
+            Refusal::CannotRead(path) => put_pieces(
+                to,
+                &["nllc: cannot read ", path.as_str(), "\n"],
+            ),
+            Refusal::Text(line, kind) => print_fault(to, "nllc: line ", *line, *kind),
+            Refusal::Limit(kind) => put_pieces(to, &["nllc: ", limit_text(*kind), "\n"]),
+            Refusal::CutText(line, kind) => print_fault(to, "nllc: cut line ", *line, *kind),
             Refusal::CutLength => put_pieces(to, &["nllc: cut: length", "\n"]),
-            Refusal::NoSuchOwner(index) => print_stranger(to, *index),
-            Refusal::ScheduleText(line, kind) => print_schedule_fault(to, *line, *kind),
+            Refusal::NoSuchOwner(index) => {
+                let mut digits = Buffer::new();
+                let index = digits.format(*index);
+                put_pieces(to, &["nllc: cut: no such owner at ", index, "\n"])
+            }
+            Refusal::ScheduleText(line, kind) => {
+                print_fault(to, "nllc: schedule line ", *line, *kind)
+            }
             Refusal::Thread => put_pieces(to, &["nllc: thread", "\n"]),
             Refusal::Memory => put_pieces(to, &["nllc: memory", "\n"]),
             Refusal::CannotWrite => put_pieces(to, &["nllc: cannot write", "\n"]),
@@ -95,75 +102,21 @@ impl Refusal {
     }
 }
 
-// Puts the line of a file that cannot be read.
-fn print_unread<S: Sink>(to: &mut S, path: &String) -> Result<(), Unwritten>
-    ensures all { OnOk result
-        (Appends (S.contents to.old) (S.contents to.new) (refusal_line (CannotRead path.now))) }
+// Puts the line of a text's fault: these words, the number of its line, and the kind.
+fn print_fault<S: Sink>(
+    to: &mut S,
+    words: &'static str,
+    line: u64,
+    kind: TextKind,
+) -> Result<(), Unwritten>
+    ensures all { OnOk result (Appends (S.contents to.old) (S.contents to.new)
+        ((words.now ++ decimal line ++ codes ": " ++ kind_text kind) ++ 10 ∷ [])) }
     ensures cut { OnErr result (IsCutShort (S.room to.old) (S.contents to.old) (S.contents to.new)
-        (refusal_line (CannotRead path.now))) }
-{
-    put_pieces(to, &["nllc: cannot read ", path.as_str(), "\n"])
-}
-
-// Puts the line of a text's fault.
-fn print_fault<S: Sink>(to: &mut S, line: u64, kind: TextKind) -> Result<(), Unwritten>
-    ensures all { OnOk result
-        (Appends (S.contents to.old) (S.contents to.new) (refusal_line (Text line kind))) }
-    ensures cut { OnErr result (IsCutShort (S.room to.old) (S.contents to.old) (S.contents to.new)
-        (refusal_line (Text line kind))) }
+        ((words.now ++ decimal line ++ codes ": " ++ kind_text kind) ++ 10 ∷ [])) }
 {
     let mut digits = Buffer::new();
     let line = digits.format(line);
-    put_pieces(to, &["nllc: line ", line, ": ", kind_text(kind), "\n"])
-}
-
-// Puts the line of a body that goes past a limit.
-fn print_limit<S: Sink>(to: &mut S, kind: Kind) -> Result<(), Unwritten>
-    ensures all { OnOk result
-        (Appends (S.contents to.old) (S.contents to.new) (refusal_line (Limit kind))) }
-    ensures cut { OnErr result (IsCutShort (S.room to.old) (S.contents to.old) (S.contents to.new)
-        (refusal_line (Limit kind))) }
-{
-    put_pieces(to, &["nllc: ", limit_text(kind), "\n"])
-}
-
-// Puts the line of a cut file's fault.
-fn print_cut_fault<S: Sink>(to: &mut S, line: u64, kind: TextKind) -> Result<(), Unwritten>
-    ensures all { OnOk result
-        (Appends (S.contents to.old) (S.contents to.new) (refusal_line (CutText line kind))) }
-    ensures cut { OnErr result (IsCutShort (S.room to.old) (S.contents to.old) (S.contents to.new)
-        (refusal_line (CutText line kind))) }
-{
-    let mut digits = Buffer::new();
-    let line = digits.format(line);
-    put_pieces(to, &["nllc: cut line ", line, ": ", kind_text(kind), "\n"])
-}
-
-// Puts the line of a list that names no owner at this index.
-fn print_stranger<S: Sink>(to: &mut S, index: u32) -> Result<(), Unwritten>
-    ensures all { OnOk result
-        (Appends (S.contents to.old) (S.contents to.new) (refusal_line (NoSuchOwner index))) }
-    ensures cut { OnErr result (IsCutShort (S.room to.old) (S.contents to.old) (S.contents to.new)
-        (refusal_line (NoSuchOwner index))) }
-{
-    let mut digits = Buffer::new();
-    let index = digits.format(index);
-    put_pieces(to, &["nllc: cut: no such owner at ", index, "\n"])
-}
-
-// Puts the line of a schedule's fault.
-fn print_schedule_fault<S: Sink>(to: &mut S, line: u64, kind: TextKind) -> Result<(), Unwritten>
-    ensures all { OnOk result
-        (Appends (S.contents to.old) (S.contents to.new) (refusal_line (ScheduleText line kind))) }
-    ensures cut { OnErr result (IsCutShort (S.room to.old) (S.contents to.old) (S.contents to.new)
-        (refusal_line (ScheduleText line kind))) }
-{
-    let mut digits = Buffer::new();
-    let line = digits.format(line);
-    put_pieces(
-        to,
-        &["nllc: schedule line ", line, ": ", kind_text(kind), "\n"],
-    )
+    put_pieces(to, &[words, line, ": ", kind_text(kind), "\n"])
 }
 
 impl From<AllocError> for Refusal {

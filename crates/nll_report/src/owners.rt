@@ -1,14 +1,14 @@
 //! The report that owners at work in threads find, and the cut of the regions among owners.
 ghost use Rattle.std.specs.Prelude.{◌≡◌, ◌≢◌, ◌⊎◌, ◌≤◌, true, length, option_map, string_bytes};
 ghost use Rattle.std.specs.Prelude.{Err, IfErr, IfOk, IsErrAnd, MatchOption, None, Ok, Some};
-ghost use Rattle.nll_cut.specs.Partition.{cut_of, list_error, may_be_count};
+ghost use Rattle.nll_cut.specs.Partition.{may_be_count};
 ghost use Rattle.nll_cut.specs.declared.error.CutError.{CutError};
 ghost use Rattle.nll_answer.specs.Answer.{IsProblemAnswer};
 ghost use Rattle.nll_answer.specs.Running.{IsRunError};
 ghost use Rattle.nll_report.specs.Owners.{AsksForOwners, HasAskedCut, IsAskedCut};
-ghost use Rattle.nll_report.specs.Owners.{IsCutFileRefused, IsCutRefused, IsCutTextRefused};
-ghost use Rattle.nll_report.specs.Owners.{IsDealtCut, IsFileTold, IsListedCut, IsOwnersRefused};
-ghost use Rattle.nll_report.specs.Owners.{IsTextCut, IsWorkRefused, count_of, deal_of, mail_of};
+ghost use Rattle.nll_report.specs.Owners.{IsCutRefused, IsCutTextRefused, IsFileTold};
+ghost use Rattle.nll_report.specs.Owners.{IsOwnersRefused, IsTextCut, IsWorkRefused};
+ghost use Rattle.nll_report.specs.Owners.{count_of, deal_of, mail_of};
 ghost use Rattle.nll_report.specs.Refusal.{IsCutRefusal, cut_refusal_at};
 ghost use Rattle.nll_report.specs.Run.{IsFileRefused};
 
@@ -22,7 +22,7 @@ use nll_facts::Facts;
 use nll_format::{TextError, TextKind};
 use nll_ledger::WordLedger;
 use nll_lists::read_cut;
-use nll_mail::{Growth, QueueMail, RingMail, ThreadMail};
+use nll_mail::{QueueMail, RingMail};
 use nll_run::NoGate;
 use std::alloc::Global;
 use std::sync::Wait;
@@ -148,37 +148,17 @@ fn told_by_cut<R: AllocGlobal + Threads + Wait + Sync>(
     ensures status { IfOk result (λ r. r.1 ≤ 1) }
     ensures err { IfErr result IsRunError }
 {
+    let alloc = rt.alloc();
     match mail {
-        MailKind::Queue => told_over(rt, command, facts, cut, &QueueMail::new(rt)),
-        MailKind::Ring => told_over(rt, command, facts, cut, &RingMail::new()),
+        MailKind::Queue => {
+            let mail = QueueMail::new(rt);
+            answer_run(rt, alloc, command, facts, cut, &mail, &WordLedger, &NoGate)
+        }
+        MailKind::Ring => {
+            let mail = RingMail::new();
+            answer_run(rt, alloc, command, facts, cut, &mail, &WordLedger, &NoGate)
+        }
     }
-}
-
-// Like `told_by_cut`, over these mailboxes.
-fn told_over<R: AllocGlobal + Threads + Wait + Sync, M: ThreadMail<Growth>>(
-    rt: &R,
-    command: Command,
-    facts: &Facts,
-    cut: &Cut,
-    mail: &M,
-) -> Result<(Vec<u8>, u8), AnswerError>
-    requires named { length facts.now.labels.names ≡ facts.now.problem.regions }
-    requires cut { length cut.now.list ≡ facts.now.problem.regions }
-    ensures ok { IfOk result (λ r.
-        IsProblemAnswer command facts.now.problem facts.now.labels r.0.items r.1) }
-    ensures status { IfOk result (λ r. r.1 ≤ 1) }
-    ensures err { IfErr result IsRunError }
-{
-    answer_run(
-        rt,
-        rt.alloc(),
-        command,
-        facts,
-        cut,
-        mail,
-        &WordLedger,
-        &NoGate,
-    )
 }
 
 /// The cut that is asked for, of this many regions.
@@ -197,47 +177,19 @@ pub(crate) fn asked_cut<T: Texts>(
 {
     let AskedCut { count, deal, path } = asked;
     match path {
-        Some(path) => listed_cut(alloc, regions, count, path, texts),
-        None => dealt_cut(alloc, regions, count, deal),
-    }
-}
-
-// The cut by which this many regions are assigned.
-fn dealt_cut(alloc: Global, regions: u32, count: u16, deal: Deal) -> Result<Cut, Refusal>
-    requires { may_be_count count ≡ true }
-    ensures regions { IfOk result (λ cut. length cut.list ≡ regions) }
-    ensures dealt { IfOk result (IsDealtCut regions count deal) }
-    ensures err { IfErr result (λ e. e ≡ Refusal.Memory) }
-{
-    match deal {
-        Deal::Round => taken(Cut::round(alloc, regions, count)),
-        Deal::Blocks => taken(Cut::blocks(alloc, regions, count)),
-    }
-}
-
-// The cut that a file lists.
-fn listed_cut<T: Texts>(
-    alloc: Global,
-    regions: u32,
-    count: u16,
-    path: String,
-    texts: &T,
-) -> Result<Cut, Refusal>
-    requires { may_be_count count ≡ true }
-    ensures regions { IfOk result (λ cut. length cut.list ≡ regions) }
-    ensures listed { IfOk result
-        (IsListedCut (T.holds texts.now) regions count (string_bytes path)) }
-    ensures err { IfErr result (IsCutFileRefused (T.holds texts.now) (T.lacks texts.now)
-        regions count (string_bytes path)) }
-{
-    match texts.get(path.as_str()) {
-        Ok(text) => cut_of_text(alloc, regions, count, text),
-        Err(unread) => Err(without_text(unread, path)),
+        Some(path) => match texts.get(path.as_str()) {
+            Ok(text) => listed_cut(alloc, regions, count, text),
+            Err(unread) => Err(without_text(unread, path)),
+        },
+        None => match deal {
+            Deal::Round => taken(Cut::round(alloc, regions, count)),
+            Deal::Blocks => taken(Cut::blocks(alloc, regions, count)),
+        },
     }
 }
 
 // The cut that a text lists. The text is freed as soon as it is read.
-fn cut_of_text(alloc: Global, regions: u32, count: u16, text: Vec<u8>) -> Result<Cut, Refusal>
+fn listed_cut(alloc: Global, regions: u32, count: u16, text: Vec<u8>) -> Result<Cut, Refusal>
     requires { may_be_count count ≡ true }
     ensures regions { IfOk result (λ cut. length cut.list ≡ regions) }
     ensures listed { IfOk result (IsTextCut regions count text.items) }
@@ -246,22 +198,9 @@ fn cut_of_text(alloc: Global, regions: u32, count: u16, text: Vec<u8>) -> Result
     let list = read_cut(alloc, text.as_slice());
     drop(text);
     match list {
-        Ok(list) => cut_of_list(alloc, regions, count, list),
+        Ok(list) => taken(Cut::from_list(alloc, regions, count, list.as_slice())),
         Err(error) => Err(refusal_of_cut_text(error)),
     }
-}
-
-// The cut of a list.
-fn cut_of_list(alloc: Global, regions: u32, count: u16, list: Vec<u16>) -> Result<Cut, Refusal>
-    requires { may_be_count count ≡ true }
-    ensures ok { IfOk result (λ cut. (list_error regions count list.items ≡ None)
-        × (cut ≡ cut_of count list.items) × (length cut.list ≡ regions)) }
-    ensures err { IfErr result (λ e. (e ≡ Refusal.Memory) ⊎ ((why : CutError)
-        × (list_error regions count list.items ≡ Some why) × IsCutRefusal why e)) }
-{
-    let cut = Cut::from_list(alloc, regions, count, list.as_slice());
-    drop(list);
-    taken(cut)
 }
 
 // The cut, or the refusal if there is none.

@@ -1,15 +1,15 @@
 //! The whole program, over whatever holds its files and takes its lines.
-ghost use Rattle.std.specs.Prelude.{◌≡◌, ◌⊎◌, ◌<◌, ◌≤◌, ℕ, List, map, option_map};
-ghost use Rattle.std.specs.Prelude.{IfErr, IfOk, IfSome, MatchResult, string_bytes};
-ghost use Rattle.std.specs.Io.KnownBytes.{Appends};
+ghost use Rattle.std.specs.Prelude.{◌≡◌, ◌⊎◌, ◌<◌, ◌≤◌, ℕ, List, map, string_bytes};
+ghost use Rattle.std.specs.Prelude.{IfErr, IfOk, IfSome, MatchResult};
 ghost use Rattle.nll_command_line.specs.Options.{Suits, options_said};
 ghost use Rattle.nll_problem.specs.Limits.{most_owners};
 ghost use Rattle.nll_report.specs.declared.messages.Refusal.{Refusal};
 ghost use Rattle.nll_report.specs.Refusal.{refusal_line, status_of};
-ghost use Rattle.nll_report.specs.Run.{AreOwnersRefused, IsAskedAnswer, IsPrintBegun, IsFileAnswer};
-ghost use Rattle.nll_report.specs.Run.{IsFileRefused, IsHelpOf, IsPrinted, IsRefusalOf};
-ghost use Rattle.nll_report.specs.Run.{IsRunRefused, IsRun, IsTaskAnswer, IsTaskRefused, Words};
-ghost use Rattle.nll_report.specs.Sink.{IsCutShort, IsPut};
+ghost use Rattle.nll_report.specs.Run.{AreOwnersRefused, IsAskedAnswer, IsFileRefused};
+ghost use Rattle.nll_report.specs.Run.{IsHelpOf, IsPrintBegun, IsPrinted, IsRefusalOf};
+ghost use Rattle.nll_report.specs.Run.{IsRun, IsRunRefused};
+ghost use Rattle.nll_report.specs.Run.{IsTaskAnswer, IsTaskRefused, Words};
+ghost use Rattle.nll_report.specs.Sink.{IsPut};
 ghost use Rattle.nll_report.specs.Texts.{holds_anything, lacks_anything};
 
 use crate::disk::Disk;
@@ -19,10 +19,10 @@ use crate::messages::Refusal;
 use crate::owners::{answered_by_owners, owners_asked};
 use crate::schedule_replay::replayed;
 use crate::sink::Sink;
-use crate::words::words_of;
+use crate::words::words_given;
 use nll_answer::{Command, answer_text};
 use nll_command_line::{Line, LineError, Task, line};
-use std::alloc::Global;
+use std::env;
 use std::rt::{Env, Files};
 use std::sync::Wait;
 use std::thread::Threads;
@@ -110,7 +110,7 @@ pub fn run_in_process<R: Env + Files + AllocGlobal + Threads + Wait + Sync, O: S
         × IsPut (E.room err.old) (E.contents err.old) (E.contents err.new)
         (refusal_line refusal) }
 {
-    match words_of(rt) {
+    match words_given(rt.alloc(), env::args(rt)) {
         Ok(words) => drive(rt, words.as_slice(), &Disk::new(rt), out, err),
         Err(lost) => tell(&lost, err),
     }
@@ -195,26 +195,10 @@ fn solved<R: AllocGlobal + Threads + Wait + Sync, T: Texts>(
     drop(schedule);
     match owners_asked(owners, deal, mail, cut) {
         Some(owners) => answered_by_owners(rt, command, file, owners, texts),
-        None => answered_by_one(rt.alloc(), command, file, texts),
-    }
-}
-
-// The answer to a command on the text of its file, found by one thread.
-fn answered_by_one<T: Texts>(
-    alloc: Global,
-    command: Command,
-    file: String,
-    texts: &T,
-) -> Result<(Vec<u8>, u8), Refusal>
-    ensures ok { IfOk result (λ r.
-        IsFileAnswer (T.holds texts.now) command (string_bytes file) r.0.items r.1) }
-    ensures status { IfOk result (λ r. r.1 ≤ 1) }
-    ensures err { IfErr result
-        (IsFileRefused (T.holds texts.now) (T.lacks texts.now) (string_bytes file)) }
-{
-    match texts.get(file.as_str()) {
-        Ok(text) => Ok(answer_text(alloc, command, text)?),
-        Err(unread) => Err(without_text(unread, file)),
+        None => match texts.get(file.as_str()) {
+            Ok(text) => Ok(answer_text(rt.alloc(), command, text)?),
+            Err(unread) => Err(without_text(unread, file)),
+        },
     }
 }
 

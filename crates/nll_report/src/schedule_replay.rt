@@ -5,12 +5,10 @@ ghost use Rattle.nll_problem.specs.Limits.{most_owners};
 ghost use Rattle.nll_cut.specs.Partition.{may_be_count};
 ghost use Rattle.nll_command_line.specs.Options.{options_said};
 ghost use Rattle.nll_command_line.specs.declared.task.Task.TheVariants.{Replay};
-ghost use Rattle.nll_lists.specs.ScheduleText.{MeansSchedule};
-ghost use Rattle.nll_report.specs.Refusal.{schedule_refusal_at};
 ghost use Rattle.nll_report.specs.Owners.{HasAskedCut};
+ghost use Rattle.nll_report.specs.Refusal.{schedule_refusal_at};
 ghost use Rattle.nll_report.specs.Replays.{IsFileReplay, IsFileReplayRefused, IsListedReplay};
-ghost use Rattle.nll_report.specs.Replays.{IsListedSchedule, IsReplayRefused};
-ghost use Rattle.nll_report.specs.Replays.{IsScheduleRefused, IsScheduleTextRefused};
+ghost use Rattle.nll_report.specs.Replays.{IsListedSchedule, IsReplayRefused, IsScheduleRefused};
 ghost use Rattle.nll_report.specs.Run.{IsFileRefused, IsTaskAnswer, IsTaskRefused};
 
 use crate::file_text::{facts_of, without_text};
@@ -145,21 +143,11 @@ fn listed_events<T: Texts>(
         owners (string_bytes path)) }
 {
     match texts.get(path.as_str()) {
-        Ok(text) => events_of_text(alloc, owners, text),
+        Ok(text) => match read_schedule(alloc, text.as_slice(), owners) {
+            Ok(events) => Ok(events),
+            Err(error) => Err(refusal_of_schedule(error)),
+        },
         Err(unread) => Err(without_text(unread, path)),
-    }
-}
-
-// The events that a text lists. The text is freed as soon as it is read.
-fn events_of_text(alloc: Global, owners: u16, text: Vec<u8>) -> Result<Vec<Event>, Refusal>
-    ensures listed { IfOk result (λ events. MeansSchedule owners text.items events.items) }
-    ensures err { IfErr result (IsScheduleTextRefused owners text.items) }
-{
-    let events = read_schedule(alloc, text.as_slice(), owners);
-    drop(text);
-    match events {
-        Ok(events) => Ok(events),
-        Err(error) => Err(refusal_of_schedule(error)),
     }
 }
 

@@ -1,7 +1,8 @@
-use Rattle.std.proofs.Common.{ap, inl, option_map, string_bytes}
-use Rattle.std.proofs.lemmas.Result.{IfErr-weaker, IfOk-weaker}
+use Rattle.std.proofs.Common.{ap, inl, option_map, refl, string_bytes}
+use Rattle.std.proofs.lemmas.Result.{err_from_is_err_and, IfErr-weaker, IfOk-weaker}
 use Rattle.nll_command_line.specs.Options.{options_said}
-use Rattle.nll_report.proofs.OwnerLemmas.{may_be_asked, one_answers, owners_answer, owners_told}
+use Rattle.nll_report.proofs.OwnerLemmas.{may_be_asked, owners_answer, owners_told}
+use Rattle.nll_report.proofs.RunLemmas.{answer_told}
 use Rattle.nll_report.proofs.program.solved.Goals as goal
 
 pub answered_by_owners-requires-after_bounds : goal.answered_by_owners-requires-after_bounds
@@ -25,13 +26,9 @@ returns-in-Some-clause-err g c =
     _ _ _ e asked.1 asked.2 (ap (option_map string_bytes) asked.3) asked.0 h)
     c.answered_by_owners.ensures.err
 
-pub returns-in-None-clause-ok : goal.returns-in-None-clause-ok
-returns-in-None-clause-ok g c =
-    let none = c.in-None.ensures in
-    IfOk-weaker c.answered_by_one.result _ _
-    (λ r h. one_answers (g.T.Texts.holds c.args.texts.now) (string_bytes c.args.line.file) c.args.command
-    (options_said c.args.line) r.0.items r.1 none.0 (ap (option_map string_bytes) none.1) h)
-    c.answered_by_one.ensures.ok
-
-pub returns-in-None-clause-err : goal.returns-in-None-clause-err
-returns-in-None-clause-err g c = IfErr-weaker c.answered_by_one.result _ _ (λ e h. inl h) c.answered_by_one.ensures.err
+pub returns-in_err-answer_text-in-Ok-clause-err : goal.returns-in_err-answer_text-in-Ok-clause-err
+returns-in_err-answer_text-in-Ok-clause-err g c =
+    let p = err_from_is_err_and c.from_residual.result c.from_residual.ensures.1 in
+    rw p.1 (inl (answer_told (g.T.Texts.holds c.args.texts.now)
+    (g.T.Texts.lacks c.args.texts.now) _ _ _ _ _ _ c.as_str.ensures.value refl p.2 c.in-Ok.ensures.held
+    c.in_err-answer_text-in-Ok.ensures.err))

@@ -1,4 +1,4 @@
-use Rattle.std.proofs.Common.{ap}
+use Rattle.std.proofs.Common.{ap, sym, codes, ◌∙◌, ◌++◌, ◌∷◌, []}
 use Rattle.nll_report.specs.Refusal.{refusal_line}
 use Rattle.nll_report.proofs.SinkLemmas.{cut_as, put_as}
 use Rattle.nll_report.proofs.messages.Refusal.print.Goals as goal
@@ -42,3 +42,17 @@ returns-in-Thread-clause-all g c =
 pub returns-in-Thread-clause-cut : goal.returns-in-Thread-clause-cut
 returns-in-Thread-clause-cut g c =
     cut_as c.put_pieces-in-Thread.result _ _ _ _ _ (ap refusal_line c.in-Thread.is) c.put_pieces-in-Thread.ensures.cut
+
+pub returns-in-CannotRead-clause-all : goal.returns-in-CannotRead-clause-all
+returns-in-CannotRead-clause-all g c =
+    put_as c.put_pieces-in-CannotRead.result _ _ _ _
+    (ap refusal_line c.in-CannotRead.is
+    ∙ ap (λ path. codes "nllc: cannot read " ++ path ++ 10 ∷ []) (sym c.as_str.ensures.value))
+    c.put_pieces-in-CannotRead.ensures.all
+
+pub returns-in-CannotRead-clause-cut : goal.returns-in-CannotRead-clause-cut
+returns-in-CannotRead-clause-cut g c =
+    cut_as c.put_pieces-in-CannotRead.result _ _ _ _ _
+    (ap refusal_line c.in-CannotRead.is
+    ∙ ap (λ path. codes "nllc: cannot read " ++ path ++ 10 ∷ []) (sym c.as_str.ensures.value))
+    c.put_pieces-in-CannotRead.ensures.cut

@@ -1,6 +1,6 @@
 use Rattle.std.proofs.lemmas.List.{append_assoc}
 use Rattle.nll_report.proofs.SinkLemmas.{cut_as, put_as}
-use Rattle.nll_report.proofs.messages.print_schedule_fault.Goals as goal
+use Rattle.nll_report.proofs.messages.print_fault.Goals as goal
 
 pub returns-clause-all : goal.returns-clause-all
 returns-clause-all g c =
