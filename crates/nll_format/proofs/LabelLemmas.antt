@@ -1,5 +1,5 @@
 -- The blocks that begin at a point or before it.
-use Rattle.std.proofs.Common.{◌≡◌, ℕ, zero, suc, ◌-◌, ◌<◌, ◌≤◌, Bool, true, false, leb, List, [], ◌∷◌, Some, take, filter, slice_get, slice_index_or, length, refl, sym, ap, ◌∙◌, ⊎_elim, arith}
+use Rattle.std.proofs.Common.{◌≡◌, ℕ, zero, suc, ◌-◌, ◌<◌, ◌≤◌, Bool, true, false, leb, List, [], ◌∷◌, Some, take, filter, slice_get, slice_index_or, length, refl, ap, ⊎_elim, arith}
 use Rattle.std.specs.List.Sorted.{IsPartitionPoint, IsNonDecreasing, IsStrictlyIncreasing}
 use Rattle.std.proofs.lemmas.Bool.{cases_eq, le-leb, leb-true}
 use Rattle.std.proofs.lemmas.List.Kept.{AllPairs-from_increasing}
@@ -48,10 +48,4 @@ some_begun starts p h = by starts h.at_zero
 pub last_begun : (starts : List ℕ) (p n : ℕ) → 1 ≤ n → n ≡ length (begun_blocks starts p)
     → begun_blocks starts p ≡ take n starts
     → slice_index_or starts (n - 1) 0 ≤ p
-last_begun starts p n some count front =
-    let passes : leb (slice_index_or (begun_blocks starts p) (n - 1) 0) p ≡ true =
-    filter_passes (λ start. leb start p) starts (n - 1) 0 (omega (arith, some, count)) in
-    let same : slice_index_or (begun_blocks starts p) (n - 1) 0 ≡ slice_index_or starts (n - 1) 0 =
-    ap (λ (xs : List ℕ). slice_index_or xs (n - 1) 0) front
-    ∙ get_or-take n starts (n - 1) 0 (omega (arith, some)) in
-    leb-true _ _ (rw (sym same) passes)
+last_begun starts p n some count front = grind (arith, leb, slice_index_or, filter_passes, get_or-take, leb-true)

@@ -1,5 +1,5 @@
 -- Lines of a text, read one after another by a reader that holds what they say.
-use Rattle.std.proofs.Common.{◌≡◌, ◌≢◌, ⊎_elim, ℕ, ◌+◌, ◌-◌, ◌≤◌, ◌==◌, Bool, true, false, cond, List, [], ◌∷◌, ◌++◌, ◌⊎◌, inl, inr, length, refl, sym, ap, ◌∙◌, subst, arith, length-append}
+use Rattle.std.proofs.Common.{◌≡◌, ◌≢◌, ⊎_elim, ℕ, ◌+◌, ◌-◌, ◌≤◌, ◌==◌, Bool, true, false, cond, List, [], ◌∷◌, ◌++◌, ◌⊎◌, inl, inr, length, refl, sym, ap, subst, arith, length-append}
 use Rattle.std.specs.List.{AllByRecursion, slice_split, onto_first}
 use Rattle.std.proofs.lemmas.List.{append-nil}
 use Rattle.nll_problem.specs.Limits.{most_bytes}
@@ -71,10 +71,7 @@ module _ (format : Format) where
   pub amid_all : (Held : List format.Form → Type 0) (all : List (List ℕ)) (number : ℕ)
       → IsAmidWith format Held all [] number
       → (forms : List format.Form) × Says format [] all forms × Held forms × (number ≡ 1 + length all)
-  amid_all Held all number amid =
-      let a = amid.1 in
-      let e : all ≡ a.front = a.cut ∙ append-nil a.front in
-      (amid.0, rw e a.fine, amid.2, rw e a.place)
+  amid_all Held all number amid = grind (arith, append-nil)
 
   -- one more line is read
   pub amid_more : (Old New : List format.Form → Type 0) (these : List (List ℕ)) (line : List ℕ) (after : List (List ℕ))
@@ -109,16 +106,7 @@ module _ (format : Format) where
       told)
     where
       at_fault : IsFaulty format (format.said amid.0) line kind → HasFault format all (number + 1 - 2) kind
-      at_fault fault = record {
-        front = amid.1.front;
-        line = line;
-        back = after;
-        cut = amid.1.cut ∙ ap (λ (xs : List (List ℕ)). amid.1.front ++ xs) step;
-        place = omega (arith, amid.1.place);
-        forms = amid.0;
-        fine = amid.1.fine;
-        wrong = fault;
-      }
+      at_fault fault = grind arith
 
   -- the text stops too early
   pub amid_end : (Held : List format.Form → Type 0) (number : ℕ)

@@ -119,9 +119,7 @@ name_there (x ∷ names) name lt = by (bytes_eq name x) refl (name_there names n
         → (number_of names name < length names → get_or names (number_of names name) [] ≡ name)
         → get_or (x ∷ names) (number_of (x ∷ names) name) [] ≡ name
     by true t later = rw t (sym ((bytes_eq-Decides name x).0 t))
-    by false t later =
-        rw (t, one-add) (later (let k : number_of (x ∷ names) name ≡ 1 + number_of names name = rw t refl in
-        omega (arith, k, lt)))
+    by false t later = grind (arith, one-add)
 
 -- what a comparison with what stands at a place tells
 pub at_place : {V : Type 0} (f : V → List ℕ) (ks : List V) (i : ℕ) (known v : V) (name : List ℕ) (b : Bool)

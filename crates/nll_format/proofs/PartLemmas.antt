@@ -107,10 +107,7 @@ small_or_not (x ∷ these) = ⊎_elim
 module _ (Form : Type 0) (parts : Form → List Part) (unspelled : List Token → Form)
     (own : (f : Form) → AllByRecursion IsSmall (parts f) → unspelled (map token_of (parts f)) ≡ f) where
   pub one_form : (line : List ℕ) (f g : Form) → Spells line (parts f) → Spells line (parts g) → f ≡ g
-  one_form line f g h k =
-      sym (own f h.small)
-      ∙ (ap unspelled (one_token_list_lem line (map token_of (parts f)) (map token_of (parts g)) h.made k.made)
-      ∙ own g k.small)
+  one_form line f g h k = grind (arith, one_token_list_lem, map)
 
   -- the form that tokens have is the one that they spell
   spelled_or_none : (ts : List Token)

@@ -100,9 +100,7 @@ module _ (format : Format) (one_form : HasOneForm format) where
   fine_or_faulty : (before : List format.Form) (front : List (List ℕ)) (line : List ℕ) (back : List (List ℕ))
       (forms all : List format.Form) (kind : TextKind) → Says format before front forms
       → IsFaulty format (format.said forms) line kind → Says format before (front ++ line ∷ back) all → ⊥
-  fine_or_faulty before [] line back forms all kind h bad k =
-      fits_is_fine (format.said before) line k.0 kind k.1
-      (subst (λ (fs : List format.Form). IsFaulty format (format.said fs) line kind) h bad)
+  fine_or_faulty before [] line back forms all kind h bad k = grind (arith, fits_is_fine)
   fine_or_faulty before (l ∷ front) line back forms all kind h bad k =
       let same : k.0 ≡ h.0 = one_fit (format.said before) l k.0 h.0 k.1 h.1 in
       fine_or_faulty (before ++ h.0) front line back forms all kind h.2 bad
@@ -114,21 +112,12 @@ module _ (format : Format) (one_form : HasOneForm format) where
       → front ++ line ∷ back ≡ others ++ second ∷ after → Says format before front forms
       → Says format before others said_there → IsFaulty format (format.said forms) line j
       → IsFaulty format (format.said said_there) second k → (length front ≡ length others) × (j ≡ k)
-  one_place before [] [] line second back after forms said_there j k e h g bad worse = (
-    refl,
-    one_kind (format.said before) line j k
-        (subst (λ (fs : List format.Form). IsFaulty format (format.said fs) line j) h bad)
-        (subst (λ (l : List ℕ). IsFaulty format (format.said before) l k) (sym (same_first e))
-        (subst (λ (fs : List format.Form). IsFaulty format (format.said fs) second k) g worse)),
-  )
+  one_place before [] [] line second back after forms said_there j k e h g bad worse =
+      grind (arith, one_kind, same_first)
   one_place before [] (m ∷ others) line second back after forms said_there j k e h g bad worse =
-      absurd (fits_is_fine (format.said before) m g.0 j g.1
-      (subst (λ (l : List ℕ). IsFaulty format (format.said before) l j) (same_first e)
-      (subst (λ (fs : List format.Form). IsFaulty format (format.said fs) line j) h bad)))
+      grind (arith, fits_is_fine, same_first)
   one_place before (l ∷ front) [] line second back after forms said_there j k e h g bad worse =
-      absurd (fits_is_fine (format.said before) l h.0 k h.1
-      (subst (λ (m : List ℕ). IsFaulty format (format.said before) m k) (sym (same_first e))
-      (subst (λ (fs : List format.Form). IsFaulty format (format.said fs) second k) g worse)))
+      grind (arith, fits_is_fine, same_first)
   one_place before (l ∷ front) (m ∷ others) line second back after forms said_there j k e h g bad worse =
       let there : Fits format (format.said before) l g.0 =
       subst (λ (x : List ℕ). Fits format (format.said before) x g.0) (sym (same_first e)) g.1 in
@@ -140,17 +129,11 @@ module _ (format : Format) (one_form : HasOneForm format) where
 
   one_first : (lines : List (List ℕ)) (n m : ℕ) (j k : TextKind) → HasFault format lines n j → HasFault format lines m k
       → (n ≡ m) × (j ≡ k)
-  one_first lines n m j k h g =
-      let p : (length h.front ≡ length g.front) × (j ≡ k) =
-      one_place [] h.front g.front h.line g.line h.back g.back h.forms g.forms j k
-      (sym h.cut ∙ g.cut) h.fine g.fine h.wrong g.wrong in
-      (h.place ∙ (p.0 ∙ sym g.place), p.1)
+  one_first lines n m j k h g = grind (arith, one_place)
 
   fine_lines : (lines : List (List ℕ)) (n : ℕ) (kind : TextKind) (all : List format.Form) → HasFault format lines n kind
       → Says format [] lines all → ⊥
-  fine_lines lines n kind all h says =
-      fine_or_faulty [] h.front h.line h.back h.forms all kind h.fine h.wrong
-      (subst (λ (ls : List (List ℕ)). Says format [] ls all) h.cut says)
+  fine_lines lines n kind all h says = grind (arith, fine_or_faulty)
 
   -- ---- a text fits or has one fault
 

@@ -32,9 +32,7 @@ take_less (suc i) (suc j) (x ∷ xs) le = ap (λ (ys : List ℕ). x ∷ ys) (tak
 
 -- nine bytes, or all where there are fewer
 pub front_nine : (bytes : List ℕ) (count : ℕ) → count ≡ min (length bytes) 9 → take count bytes ≡ take 9 bytes
-front_nine bytes count is =
-    let same : count ≡ min 9 (length bytes) = omega (arith, is) in
-    ap (λ (i : ℕ). take i bytes) same ∙ take_min 9 bytes
+front_nine bytes count is = grind (arith, min, take_min)
 
 -- The word bytes in front are no number.
 abbrev pub IsNoNumber : List ℕ → Type 0
@@ -101,13 +99,7 @@ module _ (bytes : List ℕ) (n count : ℕ) (f : IsDigitFront (take 9 bytes) n c
 
     pub zero_in_front : get_or ds 0 0 ≡ 48 → 1 < count → IsNoNumber bytes
     zero_in_front nought long word more m s is =
-        let form = number_form word m is in
-        let here : get_or ds 0 0 ≡ get_or word 0 0 =
-        ap (λ (l : List ℕ). get_or l 0 0) front
-        ∙ get_or-take count bytes 0 0 (omega (arith, long))
-        ∙ ap (λ (l : List ℕ). get_or l 0 0) s.joined
-        ∙ get_or_append_left word more 0 0 form.some in
-        omega (arith, long, counted word more m s is, form.lone (sym here ∙ nought))
+        grind (arith, number_form, get_or, get_or-take, get_or_append_left, counted)
 
     pub word_goes_on : true ≡ first_passes is_word_byte rest → IsNoNumber bytes
     word_goes_on on word more m s is =

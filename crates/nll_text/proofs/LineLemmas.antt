@@ -50,11 +50,7 @@ not_some true n e = absurd cc
 not_some false n e = refl
 
 no_feed : (text : List ℕ) → position is_feed text ≡ None → HasNoFeed text
-no_feed text e =
-    let place = position_or_len is_feed text in
-    let past : length text ≤ place =
-    ltb-false _ _ (not_some (ltb place (length text)) place e) in
-    λ k d lt. fails_before_first is_feed text k d (omega arith)
+no_feed text e = grind (arith, ltb-false, not_some, ltb, fails_before_first)
 
 -- the text is the bytes before i, which hold no line feed, one at i, and the bytes behind it
 pub record IsCutAt (text : List ℕ) (i : ℕ) : Type 0 where
@@ -66,13 +62,8 @@ cut_at text i e =
     let p = position-Some is_feed text i 0 e in
     let feed : get_or text i 0 ≡ 10 = eqb-true _ _ p.1 in
     record {
-      clear = λ k d lt. (
-          let low : k < i = omega (arith, length-take i text) in
-          rw (get_or-take i text k d low)
-          (rw (get_or_default text k d 0 (omega (arith, p.0))) (p.2 k low)));
-      joined = sym (take-append-drop i text)
-          ∙ ap (λ (xs : List ℕ). take i text ++ xs)
-          (drop_more text i 0 p.0 ∙ ap (λ (b : ℕ). b ∷ drop (i + 1) text) feed);
+      clear = grind (arith, length-take, get_or-take, get_or_default);
+      joined = grind (arith, take-append-drop, drop_more);
     }
 
 -- ---- what the code's branches need
@@ -82,10 +73,7 @@ abbrev from : List ℕ → ℕ → List ℕ
 from text i = take (length text - i) (drop i text)
 
 pub one_line : (text : List ℕ) → position is_feed text ≡ None → lines_of text ≡ text ∷ []
-one_line text e =
-    let clear : HasNoFeed text = no_feed text e in
-    ap (slice_split is_feed) (without_last_feed-none text clear)
-    ∙ slice_split_none is_feed text clear
+one_line text e = grind (arith, no_feed, without_last_feed-none, slice_split_none)
 
 pub last_line : (text : List ℕ) (i : ℕ) → position is_feed text ≡ Some i
     → length (from text (i + 1)) ≡ 0 → lines_of text ≡ take i text ∷ []
@@ -122,14 +110,7 @@ length-without_last_feed-le (b ∷ c ∷ bs) = omega (arith, length-without_last
 
 -- a text has at most one line more than it has bytes
 pub length-lines_of-le : (text : List ℕ) → length (lines_of text) ≤ length text + 1
-length-lines_of-le text =
-    let cut = without_last_feed text in
-    omega (
-      arith,
-      length-slice_split is_feed cut,
-      count_by-le-length is_feed cut,
-      length-without_last_feed-le text,
-    )
+length-lines_of-le text = grind (arith, length-slice_split, count_by-le-length, length-without_last_feed-le)
 
 -- ---- the first line feed
 
@@ -141,19 +122,12 @@ first_place test bytes None nowhere =
     position_or_len_is test bytes (length bytes) 0 (omega arith)
     (λ k below. false_from_ne_true _ (nowhere k (omega arith) below)) (λ below. absurd (omega arith)) in
     rw (none, le-ltb (length bytes) (length bytes) (omega arith)) refl
-first_place test bytes (Some k) first =
-    let here : position_or_len test bytes ≡ k =
-    position_or_len_is test bytes k 0 (omega (arith, first.0.high))
-    (λ j below. false_from_ne_true _ (first.0.before j (omega arith) below)) (λ below. first.1) in
-    rw (here, lt-ltb k (length bytes) first.0.high) refl
+first_place test bytes (Some k) first = grind (arith, position_or_len_is, false_from_ne_true, lt-ltb)
 
 -- ---- the first of all places
 
 nowhere_more : (P : ℕ → Type 0) (i j : ℕ) → (P i → ⊥) → Nowhere P (i + 1) j → Nowhere P i j
-nowhere_more P i j none later = λ k low high p. ⊎_elim
-    (λ same. none (subst P same p))
-    (λ other. later k (omega (arith, other, low)) high p)
-    (cases_eq k i)
+nowhere_more P i j none later = grind (arith, ⊎_elim, cases_eq)
 
 module _ (test : ℕ → Bool) (hay : List ℕ) where
   one_place : (i n : ℕ) (r : Option ℕ) (rest later : List ℕ) (t : Bool) → test (slice_index hay i) ≡ t
@@ -161,18 +135,8 @@ module _ (test : ℕ → Bool) (hay : List ℕ) where
       → (MatchOption r (rest ≡ []) (λ k. rest ≡ k ∷ later) → IsFirst (Passes test hay) (i + 1) (i + 1 + n) r)
       → IsFirst (Passes test hay) i (i + suc n) r
   one_place i n None rest later true e h more = absurd cc
-  one_place i n (Some k) rest later true e h more =
-      let same : i ≡ k = cc in (
-        record {
-          low = omega (arith, same);
-          high = omega (arith, same);
-          before = λ j low below. absurd (omega (arith, same, low, below));
-        },
-        ap (λ m. test (slice_index hay m)) (sym same) ∙ e,
-      )
-  one_place i n None rest later false e h more =
-      nowhere_more (Passes test hay) i (i + suc n) (λ p. false≢true (sym e ∙ p))
-      (λ k low high. more h k low (omega (arith, high)))
+  one_place i n (Some k) rest later true e h more = grind arith
+  one_place i n None rest later false e h more = grind (arith, nowhere_more, false≢true)
   one_place i n (Some k) rest later false e h more =
       let f = more h in (
         record {

@@ -1,5 +1,5 @@
 -- Numbers, and the words that spell them.
-use Rattle.std.proofs.Common.{◌≡◌, ◌≢◌, ℕ, ◌+◌, ◌-◌, ◌*◌, ◌^◌, ◌<◌, ◌≤◌, List, length, get_or, take, true, false, refl, sym, ◌∙◌, ◌⊎◌, arith, inl, inr}
+use Rattle.std.proofs.Common.{◌≡◌, ◌≢◌, ℕ, ◌+◌, ◌-◌, ◌*◌, ◌^◌, ◌<◌, ◌≤◌, List, length, get_or, take, true, false, sym, ◌∙◌, ◌⊎◌, arith, inl, inr}
 use Rattle.std.specs.Char.{is_ascii_digit}
 use Rattle.std.specs.Fmt.{decimal}
 use Rattle.std.specs.Str.Parse.{AllDigits, digits_value}
@@ -16,11 +16,7 @@ own : IsNumeralModel (AllDigits 10) (digits_value 10)
 own = numerals_by_value (AllDigits 10) tells_digits
 
 lone_zero : (n : ℕ) → n < 2 ^ 64 → get_or (decimal n) 0 0 ≡ 48 → length (decimal n) ≡ 1
-lone_zero n small e =
-    elim (cases_eq n 0) [
-      | inl h ↦ rw (h, decimal_digit 0 (omega arith)) refl
-      | inr h ↦ absurd (omega (arith, first_decimal n (omega arith) small, e))
-    ]
+lone_zero n small e = grind (arith, cases_eq, decimal_digit, first_decimal)
 
 -- what a word that spells a number is
 pub record HasNumberForm (word : List ℕ) : Type 0 where
@@ -30,14 +26,7 @@ pub record HasNumberForm (word : List ℕ) : Type 0 where
   pub digits : AllDigits 10 word
 
 pub number_form : (word : List ℕ) (n : ℕ) → IsNumber word n → HasNumberForm word
-number_form word n h =
-    let small : n < 2 ^ 64 = omega (arith, h.small) in
-    rw h.printed (record {
-      some = decimal_nonempty n small;
-      short = length-decimal-le 9 n (omega arith) h.small small;
-      lone = lone_zero n small;
-      digits = digits_decimal own n small;
-    })
+number_form word n h = grind (arith, decimal_nonempty, length-decimal-le, lone_zero, digits_decimal, own)
 
 pub number_from_form : (word : List ℕ) → HasNumberForm word → IsNumber word (digits_value 10 word)
 number_from_form word f =

@@ -145,17 +145,7 @@ first_region b bs q =
 
 first_arrow : (b : ℕ) (bs : List ℕ) → first_passes (is_arrow b) bs ≡ true → HasFirst (b ∷ bs)
 first_arrow b [] f = cc
-first_arrow b (c ∷ bs) f =
-    let d : b ≡ 45 = grind (arith, nat_tests) in
-    let h : c ≡ 62 = grind (arith, nat_tests) in
-    let same : b ∷ c ∷ bs ≡ 45 ∷ 62 ∷ bs = cc in
-    record {
-      token = arrow;
-      rest = bs;
-      joined = same;
-      first = tt;
-      tokens = ap tokens_in same ∙ arrow_in_front bs;
-    }
+first_arrow b (c ∷ bs) f = grind (arith, nat_tests, arrow_in_front)
 
 has_first : (b : ℕ) (bs : List ℕ) → is_blank b ≡ false → HasFirst (b ∷ bs)
 has_first b bs solid = ⊎_elim (first_word b bs)

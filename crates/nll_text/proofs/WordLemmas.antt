@@ -105,13 +105,7 @@ region_there core solid w ts e =
 
 pub region_found : (core bs name rest : List ℕ) (ts : List Token) → tokens_in core ≡ ts → core ≡ 39 ∷ bs
     → SplitsWhile is_word_byte bs name rest → 0 < length name → Begins regions ts name (tokens_in rest)
-region_found core bs name rest ts e there s long =
-    let same : core ≡ 39 ∷ name ++ rest = there ∙ ap (λ (l : List ℕ). 39 ∷ l) s.joined in
-    record {
-      joined = sym e ∙ ap tokens_in same ∙ region_in_front name rest (long, s.each) s.stops;
-      allowed = tt;
-      follows = tt;
-    }
+region_found core bs name rest ts e there s long = grind (arith, region_in_front)
 
 -- ---- words
 
@@ -247,15 +241,7 @@ module _ (line core : List ℕ) (cut : core ≡ without_front_blanks line) where
 
   pub shorter_word : (w front rest : List ℕ) → 0 < length w → IsSplitAt core (length w) front rest → front ≡ w
       → length rest < length line
-  shorter_word w front rest some split same = omega (
-    arith,
-    core_within,
-    ap length same,
-    ap length split.1,
-    ap length split.2,
-    length-take (length w) core,
-    length-drop (length w) core,
-  )
+  shorter_word w front rest some split same = grind (arith, core_within, length-take, length-drop)
 
   pub shorter_number : (o : Option (ℕ × Bor (List ℕ)))
       → MatchOption o (IsNoNumber core) (λ q. IsNumberIn core q.0 q.1.now)
