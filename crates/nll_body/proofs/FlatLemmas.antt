@@ -119,7 +119,7 @@ module _ (old new : StatementLists) (w : AreWithin old) (g : ListsGoOn old new) 
 
   pub statement_kept : (s : Stmt) → IsStatementIn old s → IsStatementIn new s
   statement_kept (flat.Assign p o) within = (place_kept p within.0, operand_kept o within.1)
-  statement_kept (flat.Borrow p r m q) within = (place_kept p within.0, place_kept q within.1)
+  statement_kept (flat.Borrow m p r q) within = (place_kept p within.0, place_kept q within.1)
   statement_kept (flat.Make n) within = let l = longer _ _ g.makes in omega arith
   statement_kept (flat.Read p) within = place_kept p within
   statement_kept (flat.Switch n) within = let l = longer _ _ g.switches in omega arith
@@ -187,7 +187,7 @@ module _ (old new : StatementLists) (w : AreWithin old) (g : ListsGoOn old new) 
 
   pub statement_same : (s : Stmt) → IsStatementIn old s → statement_in new s ≡ statement_in old s
   statement_same (flat.Assign p o) within = grind (arith, place_same, operand_same)
-  statement_same (flat.Borrow p r m q) within =
+  statement_same (flat.Borrow m p r q) within =
       let target = place_same p within.0 in
       let source = place_same q within.1 in
       cc

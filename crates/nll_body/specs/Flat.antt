@@ -84,7 +84,7 @@ listed meant xs n = unwrap_or (option_map meant (slice_get xs n)) nop
 -- a statement, with what its numbers stand for
 abbrev pub statement_in : StatementLists → Stmt → Statement ℕ Typed
 statement_in l (flat.Assign p op) = assign (path_in l p) (operand_in l op)
-statement_in l (flat.Borrow p r m q) = borrow (path_in l p) r m (path_in l q)
+statement_in l (flat.Borrow m p r q) = borrow (path_in l p) r m (path_in l q)
 statement_in l (flat.Make n) = listed (make_in l) l.makes n
 statement_in l (flat.Read p) = read (path_in l p)
 statement_in l (flat.Live x) = live x

@@ -47,7 +47,7 @@ IsSwitchIn l s = IsOperandIn l s.operand × IsSlice l.blocks s.blocks
 -- each number in the statement stands for something
 abbrev pub IsStatementIn : StatementLists → Stmt → Type 0
 IsStatementIn l (flat.Assign p op) = IsPlaceIn l p × IsOperandIn l op
-IsStatementIn l (flat.Borrow p r m q) = IsPlaceIn l p × IsPlaceIn l q
+IsStatementIn l (flat.Borrow m p r q) = IsPlaceIn l p × IsPlaceIn l q
 IsStatementIn l (flat.Make n) = n < length l.makes
 IsStatementIn l (flat.Read p) = IsPlaceIn l p
 IsStatementIn l (flat.Switch n) = n < length l.switches

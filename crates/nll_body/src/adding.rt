@@ -1,6 +1,7 @@
 //! Putting statements and terminators, and what they consist of, into the flat lists.
 
-ghost use Rattle.std.specs.Prelude.{◌≡◌, ◌<◌, ◌^◌, ◌++◌, ◌∷◌, [], IfOk, OnErr, OnOk, length, map};
+ghost use Rattle.std.specs.Prelude.{◌≡◌, ◌<◌, ◌≤◌, ◌^◌, ◌++◌, ◌∷◌, [], length, map};
+ghost use Rattle.std.specs.Prelude.{IfErr, IfOk, OnErr, OnOk};
 ghost use Rattle.nll_types.specs.Operands.{operand_of};
 ghost use Rattle.nll_types.specs.Places.{path_of};
 ghost use Rattle.nll_body.specs.Flat.{call_in, statement_in, statements_in};
@@ -22,6 +23,7 @@ use std::alloc::AllocError;
 fn next_number(count: usize) -> Result<u32, Memory>
     ensures number { IfOk result (λ n. n ≡ count) }
     ensures few { IfOk result (λ n. n < 2 ^ 31) }
+    ensures many { IfErr result (λ _. 2 ^ 31 ≤ count) }
 {
     if count < FIRST_PART as usize {
         Ok(count as u32)
@@ -192,7 +194,7 @@ impl Statements {
     {
         let target = self.add_place(target)?;
         let source = self.add_place(source)?;
-        Ok(Stmt::Borrow(target, region, mutable, source))
+        Ok(Stmt::Borrow(mutable, target, region, source))
     }
 
     /// Adds an assignment.

@@ -44,7 +44,7 @@ impl Statements {
     {
         match statement {
             Stmt::Assign(place, _) => Some(*place),
-            Stmt::Borrow(place, _, _, _) => Some(*place),
+            Stmt::Borrow(_, place, _, _) => Some(*place),
             Stmt::Make(number) => match self.make(*number) {
                 Some(make) => Some(make.place),
                 None => None,

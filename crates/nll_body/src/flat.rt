@@ -1,11 +1,12 @@
 //! Statements and terminators as a few numbers, and what their numbers stand for in lists.
 
-ghost use Rattle.std.specs.Prelude.{◌≡◌, IfOk};
+ghost use Rattle.std.specs.Prelude.{◌≡◌, ◌≤◌, ◌^◌, ◌⊎◌, IfErr, IfOk};
 
 use nll_problem::RegionId;
 use nll_sets::Memory;
 use nll_types::Typed;
 use std::alloc::AllocError;
+use std::mem::size_of;
 
 /// A part of a list: where it begins, and how many items it has.
 #[derive(Clone, Copy)]
@@ -22,6 +23,7 @@ impl Slice {
     pub fn of(first: usize, count: usize) -> Result<Slice, Memory>
         ensures first { IfOk result (λ s. s.first ≡ first) }
         ensures count { IfOk result (λ s. s.count ≡ count) }
+        ensures many { IfErr result (λ _. (2 ^ 32 ≤ first) ⊎ (2 ^ 32 ≤ count)) }
     {
         if first > u32::MAX as usize || count > u32::MAX as usize {
             return Err(Memory::from(AllocError));
@@ -87,8 +89,8 @@ pub struct FlatSwitch {
 pub enum Stmt {
     /// `PLACE = OP`
     Assign(u32, FlatOperand),
-    /// `PLACE = &'r PLACE`, or `&'r mut PLACE` where the third is true.
-    Borrow(u32, RegionId, bool, u32),
+    /// `PLACE = &'r PLACE`, or `&'r mut PLACE` where the first is true.
+    Borrow(bool, u32, RegionId, u32),
     /// `PLACE = make TYPE (OP, ..)`
     Make(u32),
     /// `read PLACE`
@@ -114,3 +116,5 @@ pub enum Stmt {
     /// `stop`
     Stop,
 }
+
+const _: () = prove!(size_of::<Stmt>() == 16);

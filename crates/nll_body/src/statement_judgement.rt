@@ -91,7 +91,7 @@ pub fn judge_statement(
             let target = find_place(alloc, table, places, *place)?;
             Ok(agree(table.shapes(), source, target))
         }
-        Stmt::Borrow(place, _, mutable, borrowed) => {
+        Stmt::Borrow(mutable, place, _, borrowed) => {
             let source = find_place(alloc, table, places, *borrowed)?;
             let target = find_place(alloc, table, places, *place)?;
             Ok(refers(table.shapes(), *mutable, source, target))

@@ -14,6 +14,14 @@ use std::marker::Model;
 /// # Shape
 /// 16 bytes a statement, and what its operands, types, pairs, blocks and projections take. The
 /// place of a whole variable takes nothing.
+///
+/// # Errors
+/// A call that adds something answers `Memory` where memory or numbers of 31 bits run out; the
+/// lists may have grown then, and what was in them stands.
+///
+/// # Cost
+/// Of a call that adds: linear in what it adds, over many calls; of one that looks up: constant
+/// (not proved).
 pub struct Statements {
     pub(crate) points: Vec<Stmt>,
     pub(crate) parts: Vec<PartPlace>,

@@ -244,7 +244,7 @@ impl<'a> Known<'a> {
                 self.ask_from(alloc, operand, other, asked)?;
                 Ok(())
             }
-            Stmt::Borrow(place, region, _, borrowed) => {
+            Stmt::Borrow(_, place, region, borrowed) => {
                 self.ask_borrow(alloc, place, region, borrowed, asked)?;
                 Ok(())
             }

@@ -200,7 +200,7 @@ pub fn write_flat(out: &mut Transcript, at: StatementAt<'_>) {
             out.say(" = ");
             write_flat_operand(out, at, *operand);
         }
-        Stmt::Borrow(place, region, mutable, source) => {
+        Stmt::Borrow(mutable, place, region, source) => {
             write_number(out, at, "_", *place);
             out.number(if *mutable { " = mut " } else { " = & " }, region.0, "|");
             write_number(out, at, "_", *source);

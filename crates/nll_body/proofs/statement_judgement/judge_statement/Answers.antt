@@ -46,7 +46,7 @@ returns-in_ok-target-in-Borrow-clause-judged c = rw c.in-Borrow.is (λ types f g
     let structs = structs_of c.args.table.now.structs in
     let borrowed = path_at c.args.places.now c.in-Borrow.borrowed in
     let place = path_at c.args.places.now c.in-Borrow.place in
-    let r = f c.in-Borrow.field-1 in
+    let r = f c.in-Borrow.field-2 in
     let first = c.in_ok-source-in-Borrow.ensures.found types h in
     let second =
     (rw c.find_place-in-Borrow.ensures.grows.structs at c.in_ok-target-in-Borrow.ensures.found) types

@@ -41,7 +41,7 @@ returns-in_ok-ask_from-in-Assign-clause-asked c =
 
 pub returns-in_ok-ask_borrow-in-Borrow-clause-asked : goal.returns-in_ok-ask_borrow-in-Borrow-clause-asked
 returns-in_ok-ask_borrow-in-Borrow-clause-asked c =
-    rw c.in-Borrow.is (c.in_ok-ask_borrow-in-Borrow.ensures.asked c.in-Borrow.field-2
+    rw c.in-Borrow.is (c.in_ok-ask_borrow-in-Borrow.ensures.asked c.in-Borrow.field-0
     (rw c.in-Borrow.is at c.requires.agree))
 
 pub returns-in-Switch-clause-asked : goal.returns-in-Switch-clause-asked
