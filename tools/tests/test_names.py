@@ -1,4 +1,4 @@
-"""Names of definitions: each stands in one crate, but for those that stood in several when this was written."""
+"""Names of definitions: each stands in one crate, so that a reader who looks one up finds one definition."""
 
 import collections
 import pathlib
@@ -8,12 +8,6 @@ import unittest
 sys.path.insert(0, str(pathlib.Path(__file__).resolve().parents[1]))
 
 import definitions  # noqa: E402
-
-# Names that stand in two crates or more. A reader who looks one up finds several definitions; so none may come to this list, and
-# one that is mended leaves it.
-KNOWN = """
-with_growth
-"""
 
 
 def clashes():
@@ -26,11 +20,7 @@ def clashes():
 
 class Names(unittest.TestCase):
     def test_a_name_stands_in_one_crate(self):
-        new = {name: found for name, found in clashes().items() if name not in KNOWN.split()}
-        self.assertEqual(new, {})
-
-    def test_the_list_has_no_name_that_is_mended(self):
-        self.assertEqual([name for name in KNOWN.split() if name not in clashes()], [])
+        self.assertEqual(clashes(), {})
 
 
 if __name__ == "__main__":

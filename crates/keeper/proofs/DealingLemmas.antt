@@ -5,7 +5,7 @@ use Rattle.std.proofs.lemmas.List.{get_or-set_same, get_or-set_other, length-set
 use Rattle.std.proofs.Math.Seq.{take-append_seam}
 use Rattle.fixpoint.specs.Rules.{Rules}
 use Rattle.fixpoint.specs.Logs.{part}
-use Rattle.keeper.specs.Keeping.{AreDealt, AreParts, with_growth}
+use Rattle.keeper.specs.Keeping.{AreDealt, AreParts, with_heard}
 
 module _ {A F G : Type 0} (rules : Rules A F G) (a : A) (g : G) where
   part_one : (j : ℕ) (b : Bool) → rules.reads a j (rules.fact g) ≡ b → part rules a j (g ∷ []) ≡ cond b (g ∷ []) []
@@ -14,7 +14,7 @@ module _ {A F G : Type 0} (rules : Rules A F G) (a : A) (g : G) where
   module _ (old new : List (List G)) (i : ℕ) (dealt : AreDealt rules a g i old new) (low : i < length
       old) where
     -- owner i reads the growth and gets it
-    pub dealt_push : rules.reads a i (rules.fact g) ≡ true → AreDealt rules a g (i + 1) old (with_growth new i g)
+    pub dealt_push : rules.reads a i (rules.fact g) ≡ true → AreDealt rules a g (i + 1) old (with_heard new i g)
     dealt_push reads = grind (arith, length-set, get_or, ⊎_elim, get_or-set_same, part_one, get_or-set_other, cases_eq)
 
     -- owner i doesn't read it

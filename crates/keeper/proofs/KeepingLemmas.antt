@@ -10,7 +10,7 @@ use Rattle.fixpoint.specs.Logs.{IsTold, IsWellFormed, IsWellSupported, tells, te
 use Rattle.fixpoint.specs.State.{State, IsSound, IsNoted, Passes, list_in, received_from, part_for, given_to}
 use Rattle.fixpoint.proofs.LogLemmas.{list_own, list_other, tells_from, tells_to, before_from, before_to}
 use Rattle.keeper.specs.Engine.{IsFound, with_fact}
-use Rattle.keeper.specs.Keeping.{IsKept, has, with_growth}
+use Rattle.keeper.specs.Keeping.{IsKept, has, with_heard}
 use Rattle.keeper.proofs.ListLemmas.{IsIn, or_cases, or_left, or_right, same_truth}
 
 -- ---- a part that goes on
@@ -232,7 +232,7 @@ module _ {A F G : Type 0} (rules : Rules A F G) (lawful : AreLawful rules) where
   module _ (o : State A G) (clock : ℕ) (kept : IsKept rules o clock) (from : ℕ) (g : G)
       (passes : Passes rules o.system o.me from g) where
     abbrev pub told_of : State A G
-    told_of = record o { received = with_growth o.received from g }
+    told_of = record o { received = with_heard o.received from g }
 
     told_other : rules.owner o.system (rules.fact g) ≢ o.me
     told_other = (lawful.others o.system kept.sound.valid o.me (rules.fact g) passes.read).1

@@ -21,8 +21,8 @@ kept_state a i list got gave is_loaded is_broken = record {
 }
 
 -- the lists with one more growth from owner j
-abbrev pub with_growth : {G : Type 0} → List (List G) → ℕ → G → List (List G)
-with_growth received j g = slice_set received j (slice_index_or received j [] ++ g ∷ [])
+abbrev pub with_heard : {G : Type 0} → List (List G) → ℕ → G → List (List G)
+with_heard received j g = slice_set received j (slice_index_or received j [] ++ g ∷ [])
 
 module _ {A F G : Type 0} (rules : Rules A F G) where
   -- whether the part knows the fact

@@ -7,7 +7,7 @@ ghost use Rattle.std.specs.Prelude.{OnOk, OnErr, IfOk, slice_set};
 ghost use Rattle.fixpoint.specs.State.{IsSound, Passes, first_state, part_for, given_to};
 ghost use Rattle.fixpoint.specs.Limits.{most_growths};
 ghost use Rattle.keeper.specs.Engine.{IsFound, with_fact};
-ghost use Rattle.keeper.specs.Keeping.{GrowsBy, has, with_growth};
+ghost use Rattle.keeper.specs.Keeping.{GrowsBy, has, with_heard};
 
 use crate::engine::Engine;
 use nll_sets::Memory;
@@ -87,7 +87,7 @@ impl<'q, E: Engine> Book<'q, E> {
     pub fn receive(&mut self, from: u16, growth: E::Growth) -> Result<(), Memory>
         requires { Passes E.rules self.old.system self.old.me from growth }
         ensures ok { OnOk result (self.new ≡ record self.old {
-          received = with_growth self.old.received from growth;
+          received = with_heard self.old.received from growth;
         }) }
         ensures has { OnOk result ((f : E.Fact) → has E.rules self.new f
             ≡ with_fact E.rules (E.rules.fact growth) (has E.rules self.old) f) }

@@ -1,6 +1,6 @@
 use Rattle.std.proofs.Common.{◌≡◌, ◌||◌, ◌∷◌, [], take, ap, sym, ◌∙◌, subst}
 use Rattle.fixpoint.specs.State.{Passes, with_growths}
-use Rattle.keeper.specs.Keeping.{IsDue, has, with_growth}
+use Rattle.keeper.specs.Keeping.{IsDue, has, with_heard}
 use Rattle.fixpoint.proofs.ReceivingLemmas.{got_all, got_next, got_none, with_more, take_next, received_on}
 use Rattle.keeper.proofs.DueLemmas.{due_at, due_same, due_received, already, finds_same}
 use Rattle.keeper.proofs.hear.hear_all.Goals as goal
@@ -78,7 +78,7 @@ loop-growth-preserved g c =
       others = received_on old o new inv.others
           (ok ∙ ap (λ lists. record o { received = lists }) (sym (ap (λ y. y.received) ok)));
       received = ap (λ y. y.received) ok
-          ∙ (ap (λ lists. with_growth lists c.args.from x) inv.received
+          ∙ (ap (λ lists. with_heard lists c.args.from x) inv.received
           ∙ (with_more old.received c.args.from (take i gs) x
           ∙ ap (with_growths old.received c.args.from)
           (sym (take_next gs i x c.loop-growth-test.true c.growth-item.is))));
