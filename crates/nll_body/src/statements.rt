@@ -16,8 +16,8 @@ use std::marker::Model;
 /// place of a whole variable takes nothing.
 ///
 /// # Errors
-/// A call that adds something answers `Memory` where memory or numbers of 31 bits run out; the
-/// lists may have grown then, and what was in them stands.
+/// A call that adds something answers `Memory` where memory runs out, or numbers: those of items
+/// have 31 bits, those of slices 32. The lists may have grown then, and what was in them stands.
 ///
 /// # Cost
 /// Of a call that adds: linear in what it adds, over many calls; of one that looks up: constant
