@@ -1,5 +1,5 @@
 -- What is known of fields is right.
-use Rattle.std.proofs.Common.{◌≡◌, ℕ, ◌<◌, Bool, Bor, true, List, [], ◌++◌, length, Contains, refl, sym, ap, ◌∙◌, subst, arith, Option, Some, None, ⊎_elim, ◌⊎◌}
+use Rattle.std.proofs.Common.{◌≡◌, ℕ, ◌<◌, Bool, Bor, true, List, [], ◌++◌, append-nil, length, Contains, refl, sym, ap, ◌∙◌, subst, arith, Option, Some, None, ⊎_elim, ◌⊎◌}
 use Rattle.std.specs.Prelude.{◌==◌, IfSome, option_copied}
 use Rattle.std.specs.Global.{Vec}
 use Rattle.std.specs.Map.{lookup}
@@ -11,7 +11,7 @@ use Rattle.nll_types.specs.Structs.{Struct, field_type}
 use Rattle.nll_types.specs.Table.{Extends}
 use Rattle.nll_types.specs.Types.{TypeTree, named}
 use Rattle.nll_types.specs.declared.node.Node.{Node}
-use Rattle.nll_rules.specs.Knowing.{AreFields, AreMet, AreUses, IsFieldIn, IsRightMeeting, IsRightField, IsUsedField}
+use Rattle.nll_rules.specs.Knowing.{AreFields, AreMet, AreUses, IsFieldIn, IsRightMeeting, IsRightField, IsUsedField, KnownTypes, Learns}
 use Rattle.nll_rules.specs.TypeRows.{IsRowIn}
 use Rattle.nll_rules.specs.contracts.fields.FieldUsePartialEq.TheImpl as derived_use
 use Rattle.nll_rules.specs.contracts.meetings.MeetingPartialEq.TheImpl as derived_meeting
@@ -169,3 +169,11 @@ kept_later structs old new body made later uses asked e grown are met =
 
 pub same_shapes : (ns : List Node) → Extends ns ns
 same_shapes ns = record { longer = omega arith; kept = λ i l. refl }
+
+-- what is known of the body is the same where rows were made
+pub learns_rows : (k : KnownTypes) (made more : List ℕ) → made ≡ k.made ++ more
+    → Learns k (record k { made = made })
+learns_rows k made more e = grind (arith, same_shapes)
+
+pub learns_none : (k : KnownTypes) → Learns k k
+learns_none k = learns_rows k k.made [] (sym (append-nil k.made))

@@ -1,7 +1,7 @@
-use Rattle.std.proofs.Common.{sym, ap, ◌∙◌, length, subst}
+use Rattle.std.proofs.Common.{[], append-nil, sym, ap, ◌∙◌, length, subst}
 use Rattle.nll_types.specs.Types.{named}
 use Rattle.nll_rules.specs.Knowing.{IsRightField, KnownTypes}
-use Rattle.nll_rules.proofs.KnownFieldLemmas.{fields_more, kept_later, same_shapes}
+use Rattle.nll_rules.proofs.KnownFieldLemmas.{fields_more, kept_later, learns_rows, same_shapes}
 use Rattle.nll_rules.proofs.KnownLemmas.{field_row}
 use Rattle.nll_rules.proofs.known.Known.add_field.Goals as goal
 
@@ -47,3 +47,13 @@ returns-clause-row c = rw (← c.self.view_is) (λ s rs ts is row.
     field_row c.self.inside.shapes _ c.add.new.self.made.items (named s rs ts) _ c.args.row.now c.in_ok-part.part
     c.args.field
     row (right.1 s rs ts is) lists.shape (lists.row.0 ∙ ap length made) (rw (lists.body, k.4) at lists.row.1 ∙ made))
+
+pub returns-in_err-part-clause-learns : goal.returns-in_err-part-clause-learns
+returns-in_err-part-clause-learns c =
+    rw (← c.self.view_is) (learns_rows _ _ [] (c.in_err-part.ensures.err ∙ sym (append-nil _)))
+
+pub returns-in_err-insert-clause-learns : goal.returns-in_err-insert-clause-learns
+returns-in_err-insert-clause-learns c = rw (← c.self.view_is) (learns_rows _ _ _ c.in_ok-part.ensures.ok)
+
+pub returns-clause-learns : goal.returns-clause-learns
+returns-clause-learns c = rw (← c.self.view_is) (learns_rows _ _ _ c.in_ok-part.ensures.ok)

@@ -1,4 +1,5 @@
 use Rattle.std.proofs.Common.{Some, sym, ◌∙◌}
+use Rattle.nll_rules.proofs.KnowingLemmas.{learns_then}
 use Rattle.nll_rules.proofs.KnownLemmas.{made_field, no_field}
 use Rattle.nll_rules.proofs.known.Known.make_field.Goals as goal
 
@@ -17,3 +18,12 @@ returns-in-Some-2-clause-field c s rs ts same =
     c.args.place rs ts (Some c.in-Some-2.template) same c.template.ensures.learns.table
     (rw c.in-Some.is at c.in_ok-made.ensures.within) (rw c.in-Some.is at c.in_ok-made.ensures.at)
     (row s rs ts (same ∙ sym (l.table.kept c.args.shape c.requires)))
+
+pub returns-in_err-template-clause-learns : goal.returns-in_err-template-clause-learns
+returns-in_err-template-clause-learns c = learns_then _ _ _ c.field_shape.ensures.learns c.template.ensures.learns
+
+pub returns-in-Some-2-clause-learns : goal.returns-in-Some-2-clause-learns
+returns-in-Some-2-clause-learns c = learns_then _ _ _ c.field_shape.ensures.learns c.template.ensures.learns
+
+pub returns-in-None-clause-learns : goal.returns-in-None-clause-learns
+returns-in-None-clause-learns c = learns_then _ _ _ c.field_shape.ensures.learns c.template.ensures.learns

@@ -1,6 +1,7 @@
-use Rattle.std.proofs.Common.{ap, ◌∙◌, length}
+use Rattle.std.proofs.Common.{[], ap, append-nil, ◌∙◌, length, sym}
 use Rattle.nll_types.specs.Types.{named}
-use Rattle.nll_rules.proofs.KnownFieldLemmas.{found_entry, kept_later, same_shapes}
+use Rattle.nll_rules.proofs.KnowingLemmas.{learns_then}
+use Rattle.nll_rules.proofs.KnownFieldLemmas.{found_entry, kept_later, learns_rows, same_shapes}
 use Rattle.nll_rules.proofs.KnownLemmas.{field_row}
 use Rattle.nll_rules.proofs.known.Known.make_part.Goals as goal
 
@@ -23,3 +24,13 @@ returns-in-Some-clause-row c = rw (← c.self.view_is) (λ s rs ts is row.
     field_row c.self.inside.shapes _ c.add.new.self.made.items (named s rs ts) _ c.args.row.now c.in_ok-part.part
     c.in-Some.known.now
     row (right.1 s rs ts is) lists.shape (lists.row.0 ∙ ap length made) (rw (lists.body, k.4) at lists.row.1 ∙ made))
+
+pub returns-in-Some-2-clause-learns : goal.returns-in-Some-2-clause-learns
+returns-in-Some-2-clause-learns c = learns_then _ _ _ c.make_field.ensures.learns c.add_field.ensures.learns
+
+pub returns-in_err-part-clause-learns : goal.returns-in_err-part-clause-learns
+returns-in_err-part-clause-learns c =
+    rw (← c.self.view_is) (learns_rows _ _ [] (c.in_err-part.ensures.err ∙ sym (append-nil _)))
+
+pub returns-in-Some-clause-learns : goal.returns-in-Some-clause-learns
+returns-in-Some-clause-learns c = rw (← c.self.view_is) (learns_rows _ _ _ c.in_ok-part.ensures.ok)

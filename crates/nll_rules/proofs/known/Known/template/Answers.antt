@@ -1,10 +1,11 @@
-use Rattle.std.proofs.Common.{ℕ, Option, ap, ◌∙◌, sym}
+use Rattle.std.proofs.Common.{ℕ, Option, ap, arith, ◌∙◌, sym}
 use Rattle.std.specs.Prelude.{unwrap_or}
 use Rattle.std.proofs.lemmas.Option.{unwrap_or-slice_get}
 use Rattle.std.proofs.lemmas.Result.{IfOk-weaker}
 use Rattle.nll_types.specs.Declarations.{structs_of}
 use Rattle.nll_types.specs.Table.{shape_over, shapes_in}
 use Rattle.nll_rules.proofs.FieldLemmas.{is_use_row}
+use Rattle.nll_rules.proofs.KnownFieldLemmas.{learns_none}
 use Rattle.nll_rules.proofs.KnownLemmas.{template_is}
 use Rattle.nll_rules.proofs.known.Known.template.Goals as goal
 
@@ -22,3 +23,13 @@ returns-clause-row c = rw (← c.self.view_is) (IfOk-weaker c.field_template.res
     (c.unwrap_or.ensures ∙ ap (λ (o : Option ℕ). unwrap_or o 0) (c.copied.ensures ∙ c.last.ensures.value)
     ∙ unwrap_or-slice_get c.as_slice-starts.result.now _ 0))
     (rw c.structs-structs.ensures at row)) c.field_template.ensures)
+
+pub returns-in_err-learn-clause-learns : goal.returns-in_err-learn-clause-learns
+returns-in_err-learn-clause-learns c = rw (← c.self.view_is) (learns_none _)
+
+pub returns-clause-learns : goal.returns-clause-learns
+returns-clause-learns c = rw (← c.self.view_is) (learns_none _)
+
+pub returns-in_default : goal.returns-in_default
+returns-in_default c =
+    record { learns = rw (← c.self.view_is) (learns_none _); row = grind arith }

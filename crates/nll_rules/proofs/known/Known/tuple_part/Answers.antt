@@ -1,5 +1,6 @@
-use Rattle.std.proofs.Common.{ap, ◌∙◌}
+use Rattle.std.proofs.Common.{ap, arith, ◌∙◌}
 use Rattle.nll_types.specs.Table.{shape_over, shapes_in}
+use Rattle.nll_rules.proofs.KnownFieldLemmas.{learns_none}
 use Rattle.nll_rules.proofs.KnownLemmas.{tuple_row}
 use Rattle.nll_rules.proofs.known.Known.tuple_part.Goals as goal
 
@@ -11,3 +12,13 @@ returns-clause-row c = rw (← c.self.view_is) (λ ts h.
     (c.node.ensures.at ∙ ap (shape_over (shapes_in ns)) c.in-Tuple.is) (rw c.in-Tuple.is at c.node.ensures.over)
     (c.as_slice-starts.ensures.value ∙ known.starts)
     (rw (c.as_slice.ensures.value, c.self.invariant.4) at c.tuple_part.ensures))
+
+pub returns-in_default : goal.returns-in_default
+returns-in_default c =
+    record { learns = rw (← c.self.view_is) (learns_none _); row = grind arith }
+
+pub returns-in_err-learn-clause-learns : goal.returns-in_err-learn-clause-learns
+returns-in_err-learn-clause-learns c = rw (← c.self.view_is) (learns_none _)
+
+pub returns-clause-learns : goal.returns-clause-learns
+returns-clause-learns c = rw (← c.self.view_is) (learns_none _)
