@@ -1,6 +1,7 @@
 -- What is judged of parts of a statement, put together.
-use Rattle.std.proofs.Common.{◌≡◌, ◌<◌, Bool, true, false, Option, List, [], ◌∷◌, ◌++◌, length, get_or, refl, sym, ap, ◌∙◌}
+use Rattle.std.proofs.Common.{◌≡◌, ◌<◌, Bool, true, false, Option, List, [], ◌∷◌, ◌++◌, length, get_or, refl, sym, ap, ◌∙◌, arith}
 use Rattle.std.specs.Prelude.{◌&&◌, option_map, unwrap_or}
+use Rattle.std.proofs.Math.Bool.{and-true, and-false, and_comm}
 use Rattle.std.proofs.lemmas.List.Folds.{list_all-append}
 use Rattle.nll_types.specs.Types.{TypeTree}
 use Rattle.nll_types.specs.Structs.{Struct}
@@ -16,10 +17,6 @@ use Rattle.nll_types.specs.declared.typed.Typed.{Typed}
 use Rattle.nll_types.proofs.NumberLemmas.{no_variable, variable_there}
 use Rattle.nll_body.proofs.MeetingLemmas.{small_agrees}
 use Rattle.nll_body.specs.Typing.{agree, pairs_agree}
-
-pub and_right_true : (a : Bool) → (a && true) ≡ a
-and_right_true true = refl
-and_right_true false = refl
 
 pub and_assoc : (x y z : Bool) → (x && (y && z)) ≡ ((x && y) && z)
 and_assoc true y z = refl
@@ -52,15 +49,15 @@ return_small structs ns vs ts h l =
 
 -- one pair
 pub one_agrees : (t u : Option TypeTree) → agree t u ≡ (pairs_agree ((t, u) ∷ []) && true)
-one_agrees t u = sym (and_right_true (agree t u)) ∙ sym (and_right_true (agree t u && true))
+one_agrees t u = sym (and-true (agree t u)) ∙ sym (and-true (agree t u && true))
 
 -- pairs, and that of what goes to the place that is written
 pub last_agrees : (pairs : List (Option TypeTree × Option TypeTree)) (t u : Option TypeTree)
     → (pairs_agree pairs && agree t u) ≡ (pairs_agree (pairs ++ (t, u) ∷ []) && true)
 last_agrees pairs t u =
-    ap (λ (z : Bool). pairs_agree pairs && z) (sym (and_right_true (agree t u)))
+    ap (λ (z : Bool). pairs_agree pairs && z) (sym (and-true (agree t u)))
     ∙ sym (list_all-append (λ (x : Option TypeTree × Option TypeTree). agree x.0 x.1) pairs ((t, u) ∷ []))
-    ∙ sym (and_right_true (pairs_agree (pairs ++ (t, u) ∷ [])))
+    ∙ sym (and-true (pairs_agree (pairs ++ (t, u) ∷ [])))
 
 -- ---- a row of parts
 
@@ -85,7 +82,7 @@ so_far_more j part next f s left_fits left_small rest_fits rest_small whole_fits
 
 pub so_far_all : (j : Judgement) (f s : Bool) → IsSoFar j true true f s → IsJudged f s j
 so_far_all j f s far =
-    record { fits = sym (and_right_true j.fits) ∙ far.agrees; fits_small = sym (and_right_true j.small) ∙ far.smalls }
+    record { fits = sym (and-true j.fits) ∙ far.agrees; fits_small = sym (and-true j.small) ∙ far.smalls }
 
 pub so_far_as : {j : Judgement} {a b c d f s : Bool} → a ≡ c → b ≡ d → IsSoFar j a b f s → IsSoFar j c d f s
 so_far_as {j} {a} {b} {c} {d} {f} {s} x y far = record {
@@ -101,38 +98,21 @@ pub target_first : (sources given target judged : Bool) → given ≡ (target &&
 target_first sources given target judged g j = j ∙ (ap (λ (z : Bool). sources && z) g ∙ swapped sources target)
   where
     swapped : (a b : Bool) → (a && (b && true)) ≡ (b && a)
-    swapped true true = refl
-    swapped true false = refl
-    swapped false true = refl
-    swapped false false = refl
-
-and_false : (a : Bool) → (a && false) ≡ false
-and_false true = refl
-and_false false = refl
+    swapped a b = grind (arith, and-true, and_comm)
 
 pub make_order : (places parts written target : Bool)
     → ((places && parts) && (written && target)) ≡ (((written && true) && (target && places)) && parts)
-make_order places parts true true = and_right_true (places && parts)
-make_order places parts true false = and_false (places && parts)
-make_order places parts false target = and_false (places && parts)
+make_order places parts true true = and-true (places && parts)
+make_order places parts true false = and-false (places && parts)
+make_order places parts false target = and-false (places && parts)
 
 pub call_order : (places inputs written target : Bool)
     → ((places && inputs) && (written && target)) ≡ (((inputs && (written && true)) && (target && places)) && true)
-call_order true true true true = refl
-call_order true true true false = refl
-call_order true true false target = refl
-call_order true false written target = refl
-call_order false true true true = refl
-call_order false true true false = refl
-call_order false true false target = refl
-call_order false false written target = refl
+call_order true inputs written target = grind (arith, and-true, and_assoc)
+call_order false inputs written target = grind (arith, and-false)
 
 pub borrow_order : (source target : Bool) → (source && target) ≡ ((true && (target && (source && true))) && true)
-borrow_order true true = refl
-borrow_order true false = refl
-borrow_order false true = refl
-borrow_order false false = refl
+borrow_order source target = grind (arith, and-true, and_comm)
 
 pub return_order : (place : Bool) → place ≡ ((true && (place && true)) && true)
-return_order true = refl
-return_order false = refl
+return_order place = grind (arith, and-true)

@@ -22,7 +22,8 @@ use Rattle.nll_types.specs.declared.place.Projection.TheVariants.{Field}
 use Rattle.nll_types.proofs.ShapeLemmas.{behind_agrees}
 use Rattle.nll_body.specs.TypePairs.{beside, beside_parts, operand_types, parts_of_type}
 use Rattle.nll_body.specs.Typing.{agree, pairs_agree, are_small}
-use Rattle.nll_body.proofs.JudgedLemmas.{and_assoc, and_right_true, and_swap, IsSoFar, so_far_more, so_far_all, so_far_as}
+use Rattle.std.proofs.Math.Bool.{and-true}
+use Rattle.nll_body.proofs.JudgedLemmas.{and_assoc, and_swap, IsSoFar, so_far_more, so_far_all, so_far_as}
 
 -- operands agree with the parts that stand beside them
 abbrev pub all_agree : List (Option TypeTree) → TypeTrees → Bool
@@ -178,7 +179,7 @@ module _ {X : Type 0} (op : X → Operand) (count : ℕ) (xs : List X) where
   -- all are
   pub declared_all : (k : ℕ) (judged whole : Bool) → length xs ≤ k → (judged && left_declared k) ≡ whole
       → judged ≡ whole
-  declared_all k judged whole l far = grind (arith, and_right_true, map, drop_all)
+  declared_all k judged whole l far = grind (arith, and-true, map, drop_all)
 
 -- ---- operands and parts, one after another
 

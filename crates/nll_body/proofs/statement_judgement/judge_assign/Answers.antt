@@ -1,20 +1,13 @@
-use Rattle.std.proofs.Common.{◌≡◌, Bool, true, false, refl}
-use Rattle.std.specs.Prelude.{◌&&◌}
-use Rattle.std.specs.List.{list_all}
+use Rattle.std.proofs.Common.{arith}
+use Rattle.std.proofs.Math.Bool.{and-true, and_comm}
 use Rattle.nll_types.specs.Declarations.{structs_of}
-use Rattle.nll_types.specs.Operands.{operand_type, place_in}
-use Rattle.nll_types.specs.Places.{type_of, small_prefixes}
+use Rattle.nll_types.specs.Operands.{operand_type}
+use Rattle.nll_types.specs.Places.{type_of}
 use Rattle.nll_types.proofs.NumberLemmas.{shapes_later}
 use Rattle.nll_body.specs.Judging.{operand_at, path_at}
 use Rattle.nll_body.proofs.MeetingLemmas.{found_later, judged_as}
 use Rattle.nll_body.proofs.JudgedLemmas.{one_agrees}
 use Rattle.nll_body.proofs.statement_judgement.judge_assign.Goals as goal
-
-assign_order : (source target : Bool) → (source && target) ≡ ((true && (target && source)) && true)
-assign_order true true = refl
-assign_order true false = refl
-assign_order false true = refl
-assign_order false false = refl
 
 pub returns-clause-judged : goal.returns-clause-judged
 returns-clause-judged c = λ types f g h w.
@@ -26,6 +19,6 @@ returns-clause-judged c = λ types f g h w.
     (rw c.find_operand.ensures.grows.structs at c.in_ok-target.ensures.found) types
     (shapes_later _ _ _ types c.find_operand.ensures.grows.extends c.requires.variables h) in
     judged_as (one_agrees (operand_type structs types operand) (type_of structs types place))
-    (assign_order (list_all (small_prefixes structs types) (place_in operand)) (small_prefixes structs types place))
+    (grind (arith, and-true, and_comm))
     ((rw c.shapes.ensures at c.agree.ensures.judged) _ _ _ _ (found_later _ _ _ _ _
     c.find_place.ensures.grows.extends c.in_ok-source.ensures.within first) second)
