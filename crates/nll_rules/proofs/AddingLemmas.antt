@@ -10,17 +10,18 @@ use Rattle.nll_problem.specs.At.{IsAmong, is_among}
 use Rattle.nll_problem.specs.declared.at.At.{At}
 use Rattle.nll_problem.specs.declared.at.At.TheVariants.{All, Point}
 use Rattle.nll_problem.specs.BaseRuns.{AddsRun}
-use Rattle.nll_problem.specs.Building.{first_error, same_constraint, is_region, has_constraint, is_full, constraint_error}
+use Rattle.nll_problem.specs.Building.{first_error, same_constraint, has_constraint, is_full, constraint_error}
 use Rattle.nll_problem.specs.Limits.{most_constraints}
 use Rattle.nll_problem.specs.Problem.{Problem, IsOnce, IsSound}
 use Rattle.nll_problem.specs.declared.base_run.BaseRun.{BaseRun}
 use Rattle.nll_problem.specs.declared.constraint.Constraint.{Constraint}
 use Rattle.nll_problem.specs.declared.error.BuildError.{BuildError}
-use Rattle.nll_problem.specs.declared.error.BuildError.TheVariants.{PointRange, RegionRange, Limit, Memory}
+use Rattle.nll_problem.specs.declared.error.BuildError.TheVariants.{Limit, Memory}
 use Rattle.nll_problem.specs.declared.error.Kind.TheVariants.{Constraints}
 use Rattle.nll_problem.proofs.BaseRunLemmas.{in_next}
 use Rattle.nll_problem.proofs.FactLemmas.{exact_equivalence, constraint_is, constraint_same, constraint_found, once_constraint_absent}
-use Rattle.nll_rules.specs.Adding.{AddsOutlives, AddsBases, AddsConstraints, Overflows, IsRoomRefused, IsOfPair, IsOfPairs, IsOfPairsEverywhere, everywhere}
+use Rattle.nll_rules.proofs.PairLemmas.{came_both, came_same}
+use Rattle.nll_rules.specs.Adding.{AddsOutlives, AddsBases, AddsConstraints, IsRoomRefused, IsOfPair, IsOfPairs, IsOfPairsEverywhere, everywhere}
 
 -- ---- lists
 
@@ -43,16 +44,12 @@ only_new {X} old new kind none each x = (
 grown : (old mid new front : List (ℕ × ℕ)) (x : ℕ × ℕ)
     → ((y : ℕ × ℕ) → Contains mid y ↔ (Contains old y ⊎ Contains front y)) → AddsFact mid new x
     → (y : ℕ × ℕ) → Contains new y ↔ (Contains old y ⊎ Contains (front ++ x ∷ []) y)
-grown old mid new front x each adds y = (
-  λ n. ⊎_elim
-      (λ m. ⊎_elim inl (λ f. inr (Contains-append_left front (x ∷ []) y f)) ((each y).0 m))
-      (λ is. inr (subst (Contains (front ++ x ∷ [])) is (Contains-push front x)))
-      ((adds.each y).0 n),
-  ⊎_elim
-      (λ o. (adds.each y).1 (inl ((each y).1 (inl o))))
-      (λ f. ⊎_elim (λ g. (adds.each y).1 (inl ((each y).1 (inr g)))) (λ is. (adds.each y).1 (inr is))
-      (Contains-push_cases front x y f)),
-)
+grown old mid new front x each adds y =
+    came_both (each y) (adds.each y) (
+      Contains-push_cases front x y,
+      ⊎_elim (Contains-append_left front (x ∷ []) y)
+          (λ is. subst (Contains (front ++ x ∷ [])) is (Contains-push front x)),
+    )
 
 pub outlives_none : (q : Problem) → AddsOutlives [] q q
 outlives_none q = record { others = refl; each = λ x. (inl, ⊎_elim (λ o. o) (λ n. absurd (nothing x n))) }
@@ -73,19 +70,7 @@ pub bases_more : (runs : List BaseRun) (n : ℕ) (run : BaseRun) → n < length 
     → new ≡ record mid { bases = new.bases } → AddsBases (take (n + 1) runs) old new
 bases_more runs n run within is old mid new front adds same = record {
   others = same ∙ ap (λ (q : Problem). record q { bases = new.bases }) front.others;
-  each = λ r p.
-      let next = in_next runs n run within is r p in (
-        λ h. ⊎_elim
-            (λ before. ⊎_elim inl (λ b. inr (next.1 (inl b))) ((front.each r p).0 before))
-            (λ own. inr (next.1 (inr own)))
-            ((adds.each r p).0 h),
-        ⊎_elim
-            (λ before. (adds.each r p).1 (inl ((front.each r p).1 (inl before))))
-            (λ b. ⊎_elim
-            (λ before. (adds.each r p).1 (inl ((front.each r p).1 (inr before))))
-            (λ own. (adds.each r p).1 (inr own))
-            (next.0 b)),
-      );
+  each = λ r p. came_both (front.each r p) (adds.each r p) (in_next runs n run within is r p);
 }
 
 -- ---- constraints, kind by kind
@@ -97,10 +82,7 @@ pub adds_same : (k l : Constraint → Type 0) (old new : Problem) → ((c : Cons
     → AddsConstraints k old new → AddsConstraints l old new
 adds_same k l old new same h = record {
   others = h.others;
-  each = λ c. (
-    λ n. ⊎_elim inl (λ y. inr ((same c).0 y)) ((h.each c).0 n),
-    ⊎_elim (λ o. (h.each c).1 (inl o)) (λ y. (h.each c).1 (inr ((same c).1 y))),
-  );
+  each = λ c. came_same (h.each c) (same c);
 }
 
 pub adds_both : (k l m : Constraint → Type 0) (old mid new : Problem) → ((c : Constraint) → m c ↔ (k c ⊎ l c))
@@ -108,15 +90,7 @@ pub adds_both : (k l m : Constraint → Type 0) (old mid new : Problem) → ((c 
     → AddsConstraints m old new
 adds_both k l m old mid new both h g = record {
   others = g.others ∙ ap (λ (q : Problem). record q { constraints = new.constraints }) h.others;
-  each = λ c. (
-    λ n. ⊎_elim
-        (λ o. ⊎_elim inl (λ y. inr ((both c).1 (inl y))) ((h.each c).0 o))
-        (λ y. inr ((both c).1 (inr y)))
-        ((g.each c).0 n),
-    ⊎_elim
-        (λ o. (g.each c).1 (inl ((h.each c).1 (inl o))))
-        (λ y. ⊎_elim (λ z. (g.each c).1 (inl ((h.each c).1 (inr z)))) (λ z. (g.each c).1 (inr z)) ((both c).0 y)),
-  );
+  each = λ c. came_both (h.each c) (g.each c) (both c);
 }
 
 pub adds_fact : (c : Constraint) (old new : Problem) → AddsFact old.constraints new.constraints c
@@ -130,10 +104,8 @@ adds_fact c old new adds same = record { others = same; each = adds.each }
 pub refused_after : (k l m : Constraint → Type 0) (old mid : Problem) (e : BuildError) → AddsConstraints k old mid
     → ((c : Constraint) → k c → m c) → ((c : Constraint) → l c → m c)
     → IsRoomRefused l mid e → IsRoomRefused m old e
-refused_after k l m old mid e h first second = ⊎_elim inl (λ full. inr (full.0, over full.1))
-  where
-    over : Overflows l mid → Overflows m old
-    over o = grind arith
+refused_after k l m old mid e h first second =
+    ⊎_elim inl (λ full. inr (full.0, (let o = full.1 in grind arith)))
 
 pub refused_same : (k m : Constraint → Type 0) (q : Problem) (e : BuildError) → ((c : Constraint) → k c → m c)
     → IsRoomRefused k q e → IsRoomRefused m q e

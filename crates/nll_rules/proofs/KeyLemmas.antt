@@ -1,5 +1,5 @@
 -- Equal keys of what is known, and what is there once an entry is inserted.
-use Rattle.std.proofs.Common.{◌≡◌, ◌∷◌, ◌⊎◌, ℕ, List, [], Bool, Bor, true, false, refl, ap, sym, ◌∙◌, arith, inl, inr, ⊎_elim, Option, Some, None, Contains}
+use Rattle.std.proofs.Common.{◌≡◌, ◌∷◌, ◌⊎◌, ℕ, List, [], Bool, Bor, true, false, refl, ap, sym, arith, inl, inr, ⊎_elim, Option, Some, None, Contains}
 use Rattle.std.specs.Global.{Vec}
 use Rattle.std.specs.Map.{lookup}
 use Rattle.std.specs.Prelude.{◌==◌, ◌&&◌, nat_eq, if◌then◌else◌, IfSome, option_copied}

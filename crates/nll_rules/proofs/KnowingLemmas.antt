@@ -1,5 +1,5 @@
 -- What is known of a body stays known, and is of the body.
-use Rattle.std.proofs.Common.{◌≡◌, ℕ, true, List, ◌++◌, append_assoc, length, map, get_or, sym, ap, ◌∙◌, subst, arith, Some, None, Option}
+use Rattle.std.proofs.Common.{◌≡◌, ℕ, true, List, append_assoc, map, get_or, sym, ap, ◌∙◌, subst, arith, Some, None, Option}
 use Rattle.std.specs.Prelude.{All, IfSome, slice_get}
 use Rattle.std.proofs.lemmas.Option.{get_or_from_slice_get, slice_get_within, slice_get-get_or}
 use Rattle.nll_types.specs.Declarations.{structs_of}
@@ -18,7 +18,7 @@ use Rattle.nll_body.specs.Sound.{IsSoundBody}
 use Rattle.nll_body.specs.Typed.{IsTypedBody}
 use Rattle.nll_body.specs.declared.typed.TypedBody.{TypedBody}
 use Rattle.nll_rules.specs.Knowing.{IsAtHand, IsAvailable, IsOfBody, IsSameBody, IsTypeOfRow, KnownTypes, Learns, known_row}
-use Rattle.nll_rules.specs.TypeRows.{IsWholeRow, row_in}
+use Rattle.nll_rules.specs.TypeRows.{IsWholeRow}
 use Rattle.nll_rules.specs.declared.type_row.TypeRow.{TypeRow}
 use Rattle.nll_rules.proofs.RowListLemmas.{row_grown}
 use Rattle.nll_rules.proofs.StatementLemmas.{get_mapped}

@@ -1,6 +1,6 @@
 -- What is known of fields is right.
-use Rattle.std.proofs.Common.{◌≡◌, ℕ, ◌<◌, Bool, Bor, true, List, [], ◌++◌, append-nil, length, Contains, refl, sym, ap, ◌∙◌, subst, arith, Option, Some, None, ⊎_elim, ◌⊎◌}
-use Rattle.std.specs.Prelude.{◌==◌, IfSome, option_copied}
+use Rattle.std.proofs.Common.{◌≡◌, ℕ, ◌<◌, Bool, Bor, true, List, [], ◌++◌, append-nil, length, Contains, refl, sym, ap, ◌∙◌, subst, arith, Option, Some, None, ⊎_elim}
+use Rattle.std.specs.Prelude.{IfSome, option_copied}
 use Rattle.std.specs.Global.{Vec}
 use Rattle.std.specs.Map.{lookup}
 use Rattle.std.proofs.lemmas.Bool.{eqb-true}
@@ -177,3 +177,7 @@ learns_rows k made more e = grind (arith, same_shapes)
 
 pub learns_none : (k : KnownTypes) → Learns k k
 learns_none k = learns_rows k k.made [] (sym (append-nil k.made))
+
+-- the fourth of seven facts, anew
+pub fourth_is : {A B C D E F G H : Type 0} → A × B × C × D × E × F × G → H → A × B × C × H × E × F × G
+fourth_is k h = (k.0, k.1, k.2, h, k.4, k.5, k.6)

@@ -1,12 +1,11 @@
 -- What types ask that meet.
 use Rattle.std.proofs.Common.{◌≡◌, ℕ, zero, suc, Bool, List, [], ◌∷◌, ◌++◌, length, Contains, refl, sym, ap, ◌∙◌, subst, arith, ◌↔◌, ◌⊎◌, ⊎_elim, inl, inr, Some}
 use Rattle.std.specs.Prelude.{slice_get}
-use Rattle.std.proofs.lemmas.List.{append-nil}
 use Rattle.std.proofs.lemmas.List.Elements.{Contains-append_cases, Contains-append_left, Contains-append_right}
 use Rattle.nll_types.specs.Rows.{region_row}
 use Rattle.nll_types.specs.Shapes.{reference_shape, shape_of}
 use Rattle.nll_types.specs.Table.{shape_in}
-use Rattle.nll_types.specs.Types.{TypeTree, int, parameter, reference, tuple, named, function}
+use Rattle.nll_types.specs.Types.{TypeTree, reference}
 use Rattle.nll_types.specs.declared.parameter.Sign.{Sign}
 use Rattle.nll_types.specs.declared.parameter.Sign.TheVariants.{Covariant}
 use Rattle.nll_rules.specs.Knowing.{AsksAt, IsAvailable, IsTypeOfRow, KnownTypes, Learns, known_row}
@@ -17,17 +16,13 @@ use Rattle.nll_rules.specs.TypeRows.{row_length}
 use Rattle.nll_rules.specs.Subtyping.{IsAsked, SubtypeAsks}
 use Rattle.nll_rules.specs.declared.meetings.Meeting.{Meeting}
 use Rattle.nll_rules.specs.declared.type_row.TypeRow.{TypeRow}
-use Rattle.nll_rules.proofs.KnownFieldLemmas.{same_shapes}
 use Rattle.nll_rules.proofs.KnowingLemmas.{row_at_stays}
-use Rattle.nll_rules.proofs.PairLemmas.{adds_append, adds_same}
+use Rattle.nll_rules.proofs.PairLemmas.{adds_append, adds_same, came_same}
 use Rattle.nll_rules.proofs.RowSignLemmas.{row_length_of, rows_asked, signs_length}
 use Rattle.nll_rules.proofs.SignLemmas.{get_left}
 use Rattle.nll_rules.proofs.SubtypeLemmas.{asked_as, asked_of, some_is}
 
 -- ---- what stays
-
-pub learns_nothing : (k : KnownTypes) → Learns k k
-learns_nothing k = grind (arith, same_shapes, append-nil)
 
 -- where more is learnt, types whose rows are there ask what they asked
 pub asks_stay : (a b : KnownTypes) (m : Meeting) (x : ℕ × ℕ) → Learns a b → IsAvailable a m.one → IsAvailable a m.other
@@ -40,10 +35,10 @@ asks_stay a b m x l one other = grind (arith, row_at_stays)
 pub adds_listed : (kind : ℕ × ℕ → Type 0) (old new list : List (ℕ × ℕ)) → new ≡ old ++ list
     → ((x : ℕ × ℕ) → Contains list x ↔ kind x) → AddsPairs kind old new
 adds_listed kind old new list e is = rw e (record {
-  each = λ x. (
-    λ c. ⊎_elim inl (λ d. inr ((is x).0 d)) (Contains-append_cases old list x c),
-    ⊎_elim (Contains-append_left old list x) (λ k. Contains-append_right old list x ((is x).1 k)),
-  );
+  each = λ x. came_same (
+    Contains-append_cases old list x,
+    ⊎_elim (Contains-append_left old list x) (Contains-append_right old list x),
+  ) (is x);
 })
 
 -- what came into an empty list
@@ -120,8 +115,4 @@ met_reference k r m t (reference q n u) target other old mid new h i same asks o
     met = subst (λ (rs : List ℕ). AddsPairs (RowsAsk ss (region_row t) rs) old mid) i.row
         (subst (λ (rs : List ℕ). AddsPairs (RowsAsk ss rs (known_row k other)) old mid) h.row
         (subst (λ (zs : List Sign). AddsPairs (RowsAsk zs (known_row k target) (known_row k other)) old mid) is asks))
-met_reference k r m t int target other old mid new h i same asks own = absurd cc
-met_reference k r m t (parameter j) target other old mid new h i same asks own = absurd cc
-met_reference k r m t (tuple ts) target other old mid new h i same asks own = absurd cc
-met_reference k r m t (named s rs ts) target other old mid new h i same asks own = absurd cc
-met_reference k r m t (function ts u) target other old mid new h i same asks own = absurd cc
+met_reference k r m t u target other old mid new h i same asks own = absurd cc

@@ -1,29 +1,25 @@
 -- Pairs that come into a list, kind by kind.
-use Rattle.std.proofs.Common.{◌≡◌, ℕ, ◌+◌, ◌<◌, List, arith, subst, ⊎_elim, inl, inr, ◌↔◌, ◌⊎◌}
+use Rattle.std.proofs.Common.{ℕ, ◌+◌, ◌<◌, List, arith, ⊎_elim, inl, inr, ◌↔◌, ◌⊎◌}
 use Rattle.std.proofs.lemmas.Bool.{cases_lt}
 use Rattle.nll_rules.specs.Pairs.{AddsPairs, AtOne}
+
+-- what came in two steps, or by other words
+pub came_both : {O M N P Q R : Type 0} → M ↔ (O ⊎ P) → N ↔ (M ⊎ Q) → R ↔ (P ⊎ Q) → N ↔ (O ⊎ R)
+came_both h k r = grind arith
+
+pub came_same : {O N P Q : Type 0} → N ↔ (O ⊎ P) → P ↔ Q → N ↔ (O ⊎ Q)
+came_same h s = grind arith
 
 pub adds_none : (kind : ℕ × ℕ → Type 0) (list : List (ℕ × ℕ)) → ((x : ℕ × ℕ) → kind x → ⊥) → AddsPairs kind list list
 adds_none kind list nothing = record { each = λ x. (inl, ⊎_elim (λ h. h) (λ k. absurd (nothing x k))) }
 
 pub adds_append : (p q : ℕ × ℕ → Type 0) (a b c : List (ℕ × ℕ)) → AddsPairs p a b → AddsPairs q b c
     → AddsPairs (λ x. p x ⊎ q x) a c
-adds_append p q a b c h k = record {
-  each = λ x. (
-    λ n. ⊎_elim (λ m. ⊎_elim inl (λ y. inr (inl y)) ((h.each x).0 m)) (λ y. inr (inr y)) ((k.each x).0 n),
-    ⊎_elim (λ o. (k.each x).1 (inl ((h.each x).1 (inl o))))
-        (⊎_elim (λ y. (k.each x).1 (inl ((h.each x).1 (inr y)))) (λ y. (k.each x).1 (inr y))),
-  );
-}
+adds_append p q a b c h k = record { each = λ x. came_both (h.each x) (k.each x) (λ r. r, λ r. r) }
 
 pub adds_same : (p q : ℕ × ℕ → Type 0) (a b : List (ℕ × ℕ)) → ((x : ℕ × ℕ) → p x ↔ q x) → AddsPairs p a b
     → AddsPairs q a b
-adds_same p q a b s h = record {
-  each = λ x. (
-    λ n. ⊎_elim inl (λ y. inr ((s x).0 y)) ((h.each x).0 n),
-    ⊎_elim (λ o. (h.each x).1 (inl o)) (λ y. (h.each x).1 (inr ((s x).1 y))),
-  );
-}
+adds_same p q a b s h = record { each = λ x. came_same (h.each x) (s x) }
 
 -- what comes second, or what comes first
 pub adds_swapped : (p q : ℕ × ℕ → Type 0) (a b c : List (ℕ × ℕ)) → AddsPairs p a b → AddsPairs q b c

@@ -15,7 +15,7 @@ use Rattle.nll_body.specs.Statements.{Statement, assign, borrow, make, read, liv
 use Rattle.nll_body.specs.Bodies.{BodyText, StandsAt}
 use Rattle.nll_body.specs.Sound.{IsSoundBody}
 use Rattle.nll_body.proofs.RangeLemmas.{region_within, part_good}
-use Rattle.nll_rules.specs.Positions.{Turn, own, target, part, region_argument, type_argument, input, output, HasRegionAt, times, sign_of}
+use Rattle.nll_rules.specs.Positions.{Turn, own, target, part, region_argument, type_argument, input, output, HasRegionAt}
 use Rattle.nll_rules.specs.Subtyping.{IsAsked, SubtypeAsks}
 use Rattle.nll_rules.specs.Reborrows.{RestsOn, prefix}
 use Rattle.nll_body.proofs.TypePairLemmas.{Meet, pairs_meet}

@@ -1,5 +1,5 @@
 -- The signs of rows, and where in a row the rows of its first parts begin.
-use Rattle.std.proofs.Common.{◌≡◌, ℕ, zero, suc, ◌+◌, ◌<◌, ◌≤◌, List, [], ◌∷◌, ◌++◌, length, length-append, append-nil, append_assoc, get_or, set, take, drop, refl, sym, ap, ◌∙◌, subst, add-one, arith, ⊎_elim, inl, inr, ◌↔◌, ◌⊎◌, Option, Some, None, Bool, true, false}
+use Rattle.std.proofs.Common.{◌≡◌, ℕ, zero, suc, ◌+◌, ◌<◌, ◌≤◌, List, [], ◌∷◌, ◌++◌, length, length-append, append-nil, append_assoc, get_or, set, take, drop, refl, sym, ap, ◌∙◌, add-one, arith, ⊎_elim, inl, inr, ◌↔◌, ◌⊎◌, Option, Some, None, Bool, true, false}
 use Rattle.std.specs.Prelude.{MatchOption, is_some, min, slice_get}
 use Rattle.std.proofs.lemmas.List.{length-take-le, take_more}
 use Rattle.std.proofs.lemmas.Option.{slice_get_within}
@@ -19,7 +19,7 @@ use Rattle.nll_rules.specs.Signs.{RowsAsk, all_signs, sign_row, row_signs_of}
 use Rattle.nll_rules.specs.Subtyping.{IsAsked, SubtypeAsks}
 use Rattle.nll_rules.specs.TypeRows.{AreSigns, AreSignsOf, row_length, rows_length, starts_from}
 use Rattle.nll_rules.specs.declared.row_signs.ShapeSigns.{ShapeSigns}
-use Rattle.nll_rules.proofs.SignLemmas.{rows_ask}
+use Rattle.nll_rules.proofs.SignLemmas.{rows_ask, sign_row_count}
 use Rattle.nll_rules.proofs.SubtypeLemmas.{asked_as, asked_of, some_is}
 
 -- what is there, where something is
@@ -46,10 +46,6 @@ mutual
   rows_length_of (more t ts) =
       omega (arith, row_length_of t, rows_length_of ts, length-append (region_row t) (region_rows ts))
 
-sign_row_length : (sign : ℕ → Sign) (n : ℕ) → length (sign_row sign n) ≡ n
-sign_row_length sign zero = refl
-sign_row_length sign (suc n) = (let h = sign_row_length (λ k. sign (suc k)) n in omega arith)
-
 module _ (structs : List Struct) where
   mutual
     -- a shape has as many signs as its rows have regions
@@ -63,31 +59,16 @@ module _ (structs : List Struct) where
     signs_length outer (named_shape s n ts) =
         let sign : ℕ → Sign = λ k. times outer (sign_or (struct_at structs s).types k Invariant) in
         let own : ℕ → Sign = λ k. times outer (sign_or (struct_at structs s).regions k Invariant) in
-        omega (
-          arith,
-          all_signs_length sign ts,
-          sign_row_length own n,
-          length-append (all_signs structs sign ts) (sign_row own n),
-        )
+        omega (arith, all_signs_length sign ts, sign_row_count own n, length-append {A = Sign})
     signs_length outer (function_shape ts t) =
         let sign : ℕ → Sign = λ k. times outer Contravariant in
-        omega (
-          arith,
-          all_signs_length sign ts,
-          signs_length outer t,
-          length-append (all_signs structs sign ts) (row_signs_of structs outer t),
-        )
+        omega (arith, all_signs_length sign ts, signs_length outer t, length-append {A = Sign})
 
     pub all_signs_length : (sign : ℕ → Sign) (ts : ShapeList) → length (all_signs structs sign ts) ≡ rows_length ts
     all_signs_length sign no_shape = refl
     all_signs_length sign (more_shapes t ts) =
         let later : ℕ → Sign = λ k. sign (suc k) in
-        omega (
-          arith,
-          signs_length (sign 0) t,
-          all_signs_length later ts,
-          length-append (row_signs_of structs (sign 0) t) (all_signs structs later ts),
-        )
+        omega (arith, signs_length (sign 0) t, all_signs_length later ts, length-append {A = Sign})
 
 -- ---- where rows begin
 

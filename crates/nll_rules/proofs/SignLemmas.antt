@@ -61,42 +61,27 @@ module _ (zs : List Sign) (cs ds : List ℕ) (x : ℕ × ℕ) where
   split (y ∷ ss) (r ∷ rs) (q ∷ qs) l m (suc k) a b s d e f h =
       ⊎_elim (λ w. inl (further y ss r q rs qs x w)) inr
       (split ss rs qs (omega arith) (omega arith) k a b s d e f h)
-  split [] (r ∷ rs) qs l m k a b s d e f h = absurd (omega arith)
-  split [] [] (q ∷ qs) l m k a b s d e f h = absurd (omega arith)
-  split (y ∷ ss) [] qs l m k a b s d e f h = absurd (omega arith)
-  split (y ∷ ss) (r ∷ rs) [] l m k a b s d e f h = absurd (omega arith)
+  split ss rs qs l m k a b s d e f h = absurd (omega arith)
 
   behind : (ss : List Sign) (rs qs : List ℕ) → length ss ≡ length rs → length ss ≡ length qs → RowsAsk zs cs ds x
       → RowsAsk (ss ++ zs) (rs ++ cs) (qs ++ ds) x
   behind [] [] [] l m w = w
   behind (y ∷ ss) (r ∷ rs) (q ∷ qs) l m w =
       further y (ss ++ zs) r q (rs ++ cs) (qs ++ ds) x (behind ss rs qs (omega arith) (omega arith) w)
-  behind [] (r ∷ rs) qs l m w = absurd (omega arith)
-  behind [] [] (q ∷ qs) l m w = absurd (omega arith)
-  behind (y ∷ ss) [] qs l m w = absurd (omega arith)
-  behind (y ∷ ss) (r ∷ rs) [] l m w = absurd (omega arith)
+  behind ss rs qs l m w = absurd (omega arith)
 
   rows_append : (ss : List Sign) (rs qs : List ℕ) → length ss ≡ length rs → length ss ≡ length qs
       → (RowsAsk ss rs qs x ⊎ RowsAsk zs cs ds x) ↔ RowsAsk (ss ++ zs) (rs ++ cs) (qs ++ ds) x
   rows_append ss rs qs l m = (
     ⊎_elim
-        (λ w. (
-          w.0,
-          w.1,
-          w.2,
-          w.3,
-          get_left rs cs w.0 w.1 w.4,
-          get_left qs ds w.0 w.2 w.5,
-          get_left ss zs w.0 w.3 w.6,
-          w.7,
-        ))
+        (λ w. (w.0, w.1, w.2, w.3, get_left rs cs _ _ w.4, get_left qs ds _ _ w.5, get_left ss zs _ _ w.6, w.7))
         (behind ss rs qs l m),
     λ w. split ss rs qs l m w.0 w.1 w.2 w.3 w.4 w.5 w.6 w.7,
   )
 
 -- ---- how many signs there are
 
-sign_row_count : (sign : ℕ → Sign) (n : ℕ) → length (sign_row sign n) ≡ n
+pub sign_row_count : (sign : ℕ → Sign) (n : ℕ) → length (sign_row sign n) ≡ n
 sign_row_count sign zero = refl
 sign_row_count sign (suc n) = (let h = sign_row_count (λ k. sign (suc k)) n in omega arith)
 
@@ -171,16 +156,8 @@ module _ (structs : List Struct) where
       → AtOne (ArgumentAsks parameters outer rs qs) x
       ↔ RowsAsk (sign_row (λ k. times outer (sign_or parameters k Invariant)) (length rs)) rs qs x
   arguments_ask parameters outer rs qs x = (
-    λ w. (let y = w.1 in (
-      w.0,
-      y.0,
-      y.1,
-      sign w.0,
-      y.2,
-      y.3,
-      sign_at sign (length rs) w.0 (get_below rs w.0 y.0 y.2),
-      y.4,
-    )),
+    λ w. (let y = w.1 in
+        (w.0, y.0, y.1, sign w.0, y.2, y.3, sign_at sign (length rs) w.0 (get_below rs w.0 y.0 y.2), y.4)),
     λ w. (
       w.0,
       (

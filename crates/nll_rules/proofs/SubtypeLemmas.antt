@@ -1,5 +1,5 @@
 -- What a subtyping asks, layer by layer.
-use Rattle.std.proofs.Common.{◌≡◌, ℕ, zero, suc, ◌<◌, List, [], ◌∷◌, length, refl, sym, ap, ◌∙◌, subst, arith, ⊎_elim, inl, inr, ◌↔◌, ◌⊎◌, Bool, Some}
+use Rattle.std.proofs.Common.{◌≡◌, ℕ, zero, suc, ◌<◌, List, [], ◌∷◌, length, refl, sym, ap, subst, arith, ⊎_elim, inr, ◌↔◌, ◌⊎◌, Bool, Some}
 use Rattle.std.specs.Prelude.{slice_get}
 use Rattle.nll_types.specs.Types.{TypeTree, TypeTrees, int, parameter, reference, tuple, named, function, type_at}
 use Rattle.nll_types.specs.Structs.{Struct, struct_at}
@@ -22,18 +22,13 @@ TypeAsks structs parameters other outer ts us k x =
     × SubtypeAsksBehind structs (times outer (sign_or parameters k other)) t u x
 
 times_assoc : (a b c : Sign) → times a (times b c) ≡ times (times a b) c
-times_assoc Covariant b c = refl
-times_assoc Contravariant Covariant c = refl
-times_assoc Contravariant Contravariant Covariant = refl
-times_assoc Contravariant Contravariant Contravariant = refl
-times_assoc Contravariant Contravariant Invariant = refl
-times_assoc Contravariant Invariant c = refl
-times_assoc Invariant b c = refl
+times_assoc a b c = grind arith
 
 pub times_covariant : (a : Sign) → times a Covariant ≡ a
-times_covariant Covariant = refl
-times_covariant Contravariant = refl
-times_covariant Invariant = refl
+times_covariant a = grind arith
+
+pub times_invariant : (a : Sign) → times a Invariant ≡ Invariant
+times_invariant a = grind arith
 
 -- where two signs are one, what is asked is one
 pub asked_as : (s t : Sign) (a b : ℕ) (x : ℕ × ℕ) → s ≡ t → IsAsked s a b x → IsAsked t a b x
@@ -67,27 +62,13 @@ pub asks_reference : (structs : List Struct) (outer : Sign) (q p : ℕ) (m : Boo
 asks_reference structs outer q p m t u x = (⊎_elim here inside, λ w. back w.0 w.1 w.2 w.3 w.4 w.5)
   where
     here : IsAsked outer q p x → SubtypeAsksBehind structs outer (reference q m t) (reference p m u) x
-    here a = (
-      own ∷ [],
-      q,
-      p,
-      (refl, refl),
-      (refl, refl),
-      asked_as outer (times outer Covariant) q p x (sym (times_covariant outer)) a,
-    )
+    here a = (own ∷ [], q, p, (refl, refl), (refl, refl), asked_as _ _ q p x (sym (times_covariant outer)) a)
 
     inside : SubtypeAsksBehind structs (times outer (target_sign m)) t u x
         → SubtypeAsksBehind structs outer (reference q m t) (reference p m u) x
-    inside w = (
-      target m ∷ w.0,
-      w.1,
-      w.2,
-      (refl, w.3),
-      (refl, w.4),
-      asked_as (times (times outer (target_sign m)) (sign_of structs w.0))
-          (times outer (times (target_sign m) (sign_of structs w.0))) w.1 w.2 x
-          (sym (times_assoc outer (target_sign m) (sign_of structs w.0))) w.5,
-    )
+    inside w =
+        let same = sym (times_assoc outer (target_sign m) (sign_of structs w.0)) in
+        (target m ∷ w.0, w.1, w.2, (refl, w.3), (refl, w.4), asked_as _ _ w.1 w.2 x same w.5)
 
     back : (way : List Turn) (a b : ℕ) → HasRegionAt (reference q m t) way a → HasRegionAt (reference p m u) way b
         → IsAsked (times outer (sign_of structs way)) a b x
@@ -102,15 +83,11 @@ asks_tuple structs outer ts us x = (inside, λ w. back w.0 w.1 w.2 w.3 w.4 w.5)
   where
     inside : AtOne (TypeAsks structs [] Covariant outer ts us) x
         → SubtypeAsksBehind structs outer (tuple ts) (tuple us) x
-    inside k = (let y = k.1 in let w = y.4 in (
-      part k.0 ∷ w.0,
-      w.1,
-      w.2,
-      (y.0, y.2, w.3),
-      (y.1, y.3, w.4),
-      asked_as (times (times outer Covariant) (sign_of structs w.0)) (times outer (sign_of structs w.0)) w.1 w.2 x
-          (ap (λ (z : Sign). times z (sign_of structs w.0)) (times_covariant outer)) w.5,
-    ))
+    inside k =
+        let y = k.1 in
+        let w = y.4 in
+        let same = ap (λ (z : Sign). times z (sign_of structs w.0)) (times_covariant outer) in
+        (part k.0 ∷ w.0, w.1, w.2, (y.0, y.2, w.3), (y.1, y.3, w.4), asked_as _ _ w.1 w.2 x same w.5)
 
     back : (way : List Turn) (a b : ℕ) → HasRegionAt (tuple ts) way a → HasRegionAt (tuple us) way b
         → IsAsked (times outer (sign_of structs way)) a b x → AtOne (TypeAsks structs [] Covariant outer ts us) x
@@ -125,29 +102,19 @@ asks_named structs outer s rs qs ts us x = (⊎_elim here inside, λ w. back w.0
   where
     here : AtOne (ArgumentAsks (struct_at structs s).regions outer rs qs) x
         → SubtypeAsksBehind structs outer (named s rs ts) (named s qs us) x
-    here k = (let y = k.1 in (
-      region_argument s k.0 ∷ [],
-      y.0,
-      y.1,
-      (refl, refl, y.2),
-      (refl, refl, y.3),
-      asked_as (times outer (sign_or (struct_at structs s).regions k.0 Invariant))
-          (times outer (times (sign_or (struct_at structs s).regions k.0 Invariant) Covariant)) y.0 y.1 x
-          (ap (times outer) (sym (times_covariant (sign_or (struct_at structs s).regions k.0 Invariant)))) y.4,
-    ))
+    here k =
+        let y = k.1 in
+        let same = ap (times outer) (sym (times_covariant (sign_or (struct_at structs s).regions k.0 Invariant))) in
+        (region_argument s k.0 ∷ [], y.0, y.1, (refl, refl, y.2), (refl, refl, y.3), asked_as _ _ y.0 y.1 x same y.4)
 
     inside : AtOne (TypeAsks structs (struct_at structs s).types Invariant outer ts us) x
         → SubtypeAsksBehind structs outer (named s rs ts) (named s qs us) x
-    inside k = (let y = k.1 in let w = y.4 in (
-      type_argument s k.0 ∷ w.0,
-      w.1,
-      w.2,
-      (y.0, refl, y.2, w.3),
-      (y.1, refl, y.3, w.4),
-      asked_as (times (times outer (sign_or (struct_at structs s).types k.0 Invariant)) (sign_of structs w.0))
-          (times outer (times (sign_or (struct_at structs s).types k.0 Invariant) (sign_of structs w.0))) w.1 w.2 x
-          (sym (times_assoc outer (sign_or (struct_at structs s).types k.0 Invariant) (sign_of structs w.0))) w.5,
-    ))
+    inside k =
+        let y = k.1 in
+        let w = y.4 in
+        let same = sym (times_assoc outer (sign_or (struct_at structs s).types k.0 Invariant) (sign_of structs w.0)) in
+        let asks = asked_as _ _ w.1 w.2 x same w.5 in
+        (type_argument s k.0 ∷ w.0, w.1, w.2, (y.0, refl, y.2, w.3), (y.1, refl, y.3, w.4), asks)
 
     back : (way : List Turn) (a b : ℕ) → HasRegionAt (named s rs ts) way a → HasRegionAt (named s qs us) way b
         → IsAsked (times outer (sign_of structs way)) a b x
@@ -164,16 +131,11 @@ asks_function structs outer ts us t u x = (⊎_elim inside through, λ w. back w
   where
     inside : AtOne (TypeAsks structs [] Contravariant outer ts us) x
         → SubtypeAsksBehind structs outer (function ts t) (function us u) x
-    inside k = (let y = k.1 in let w = y.4 in (
-      input k.0 ∷ w.0,
-      w.1,
-      w.2,
-      (y.0, y.2, w.3),
-      (y.1, y.3, w.4),
-      asked_as (times (times outer Contravariant) (sign_of structs w.0))
-          (times outer (times Contravariant (sign_of structs w.0))) w.1 w.2 x
-          (sym (times_assoc outer Contravariant (sign_of structs w.0))) w.5,
-    ))
+    inside k =
+        let y = k.1 in
+        let w = y.4 in
+        let same = sym (times_assoc outer Contravariant (sign_of structs w.0)) in
+        (input k.0 ∷ w.0, w.1, w.2, (y.0, y.2, w.3), (y.1, y.3, w.4), asked_as _ _ w.1 w.2 x same w.5)
 
     through : SubtypeAsksBehind structs outer t u x → SubtypeAsksBehind structs outer (function ts t) (function us u) x
     through w = (output ∷ w.0, w.1, w.2, w.3, w.4, w.5)

@@ -5,13 +5,10 @@ use Rattle.nll_problem.specs.Graph.{Graph}
 use Rattle.nll_problem.specs.Problem.{Problem, IsSound, SameProblem}
 use Rattle.nll_problem.specs.declared.constraint.Constraint.{Constraint}
 use Rattle.nll_problem.specs.declared.error.BuildError.{BuildError}
-use Rattle.nll_problem.specs.declared.error.BuildError.TheVariants.{PointRange, RegionRange, Limit, Memory}
-use Rattle.nll_problem.specs.declared.error.Kind.{Kind}
-use Rattle.nll_problem.specs.declared.error.Kind.TheVariants.{Constraints}
 use Rattle.nll_body.specs.Bodies.{BodyText, IsGraphOf}
 use Rattle.nll_live.specs.Live.{IsBaseOf}
-use Rattle.nll_rules.specs.BodyProblem.{IsConstraint, IsProblemOf, HasTooMany, IsRuleError}
-use Rattle.nll_rules.specs.Adding.{AddsOutlives, AddsConstraints, IsRoomRefused, IsRefusedFor, told_of}
+use Rattle.nll_rules.specs.BodyProblem.{IsConstraint, IsProblemOf, HasTooMany}
+use Rattle.nll_rules.specs.Adding.{AddsOutlives, AddsConstraints, IsRoomRefused, IsRefusedFor}
 use Rattle.nll_rules.proofs.AddingLemmas.{nothing, only_new, no_more}
 
 -- the steps in front of the constraints, from the problem of a graph alone

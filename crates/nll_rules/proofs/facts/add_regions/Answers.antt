@@ -1,5 +1,4 @@
-use Rattle.std.proofs.Common.{◌≡◌, ◌+◌, ℕ, ap, subst, ◌∙◌, arith}
-use Rattle.nll_problem.specs.Problem.{Problem}
+use Rattle.std.proofs.Common.{◌≡◌, ℕ, ap, subst, arith}
 use Rattle.nll_rules.proofs.facts.add_regions.Goals as goal
 
 pub loop-number-init : goal.loop-number-init

@@ -2,7 +2,7 @@ use Rattle.std.proofs.Common.{◌≡◌, ◌+◌, ◌∙◌, ◌∷◌, ◌++◌
 use Rattle.nll_types.specs.Declarations.{structs_of}
 use Rattle.nll_types.specs.Shapes.{Shape}
 use Rattle.nll_types.specs.Table.{at, shapes_in}
-use Rattle.nll_rules.specs.Signs.{part_sign, row_signs_of}
+use Rattle.nll_rules.specs.Signs.{part_sign}
 use Rattle.nll_rules.specs.TypeRows.{row_length}
 use Rattle.nll_rules.proofs.RowSignLemmas.{all_signs_more, appended_more, signs_length, starts_step}
 use Rattle.nll_rules.proofs.row_signs.push_first.Goals as goal
@@ -18,11 +18,7 @@ loop-place-preserved c =
     let begun : c.len.result ≡ length before.items = c.len.ensures ∙ before.ok.0 in
     let count : length c.push_signs.new.signs.items ≡ length before.items + row_length part =
     ap length c.in_ok-push_signs.ensures
-    ∙ omega (
-      arith,
-      length-append before.items (row_signs_of structs c.at.result part),
-      signs_length structs c.at.result part,
-    ) in
+    ∙ omega (arith, length-append before.items, signs_length structs c.at.result part) in
     record {
       signs = appended_more _ _ _ _ _ _ c.loop-place.invariant.signs (rw c.at.ensures at c.in_ok-push_signs.ensures)
           (all_signs_more structs known (part_sign c.args.kinds) is k 0 c.loop-place-test.true);

@@ -1,7 +1,7 @@
 use Rattle.std.proofs.Common.{sym, subst}
 use Rattle.nll_rules.specs.Knowing.{IsRightMeeting, KnownTypes}
-use Rattle.nll_rules.proofs.KnownFieldLemmas.{met_more}
-use Rattle.nll_rules.proofs.MeetingLemmas.{adds_listed, learns_nothing}
+use Rattle.nll_rules.proofs.KnownFieldLemmas.{learns_none, met_more}
+use Rattle.nll_rules.proofs.MeetingLemmas.{adds_listed}
 use Rattle.nll_rules.proofs.known.Known.add_pairs.Goals as goal
 
 pub invariant_of-self-2 : goal.invariant_of-self-2
@@ -30,7 +30,7 @@ invariant_of-self-2 c =
     )
 
 pub returns-clause-learns : goal.returns-clause-learns
-returns-clause-learns c = rw (← c.self.view_is) (learns_nothing _)
+returns-clause-learns c = rw (← c.self.view_is) (learns_none _)
 
 pub returns-clause-asked : goal.returns-clause-asked
 returns-clause-asked c =

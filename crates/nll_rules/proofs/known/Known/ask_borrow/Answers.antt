@@ -2,7 +2,7 @@ use Rattle.std.proofs.lemmas.Result.{on_ok_weaker}
 use Rattle.nll_body.specs.Flat.{path_in}
 use Rattle.nll_rules.specs.Flows.{place_type}
 use Rattle.nll_rules.proofs.AgreeLemmas.{borrow_agrees}
-use Rattle.nll_rules.proofs.KnowingLemmas.{at_hand_known, known_later, row_in_stays}
+use Rattle.nll_rules.proofs.KnowingLemmas.{at_hand_known, known_later, learns_then, row_in_stays}
 use Rattle.nll_rules.proofs.PairLemmas.{adds_same, adds_swapped}
 use Rattle.nll_rules.proofs.StatementLemmas.{asks_borrow, outlives_rests}
 use Rattle.nll_rules.proofs.known.Known.ask_borrow.Goals as goal
@@ -37,3 +37,10 @@ returns-clause-asked c =
     (borrow_agrees k.structs k.variables p r m q agrees) in
     adds_same _ _ _ _ (λ x. asks_borrow k.structs k.variables p r m q x) (adds_swapped _ _ _ _ _ rests met))
     c.meet_reference.ensures.asked
+
+pub returns-in_err-other-clause-learns : goal.returns-in_err-other-clause-learns
+returns-in_err-other-clause-learns c = learns_then _ _ _ c.walk.ensures.learns c.walk-2.ensures.learns
+
+pub returns-clause-learns : goal.returns-clause-learns
+returns-clause-learns c =
+    learns_then _ _ _ (learns_then _ _ _ c.walk.ensures.learns c.walk-2.ensures.learns) c.meet_reference.ensures.learns

@@ -1,4 +1,4 @@
-use Rattle.std.proofs.Common.{◌≤◌, All, Some, get_or, length, map, refl, arith}
+use Rattle.std.proofs.Common.{◌≤◌, Some, get_or, length, refl, arith}
 use Rattle.std.proofs.lemmas.List.Elements.{All-pop}
 use Rattle.std.proofs.lemmas.Option.{slice_get-get_or}
 use Rattle.nll_types.specs.Rows.{HasRow}

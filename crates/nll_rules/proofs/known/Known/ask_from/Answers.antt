@@ -1,5 +1,5 @@
 use Rattle.nll_rules.proofs.FlowLemmas.{of_place}
-use Rattle.nll_rules.proofs.KnowingLemmas.{at_hand_known, known_later, row_in_stays}
+use Rattle.nll_rules.proofs.KnowingLemmas.{at_hand_known, known_later, learns_then, row_in_stays}
 use Rattle.nll_rules.proofs.PairLemmas.{adds_none}
 use Rattle.nll_rules.proofs.StatementLemmas.{constant_asks}
 use Rattle.nll_rules.specs.Flows.{place_type}
@@ -27,3 +27,9 @@ returns-in_ok-meet-in-Copy-clause-asked c p other agrees =
     rw is ((rw l.structs at
     (c.in_ok-meet-in-Copy.ensures.asked (place_type k c.in-Copy.place) p c.in_ok-one-in-Copy.ensures.row later))
     (rw is at agrees))
+
+pub returns-in_ok-meet-in-Copy-clause-learns : goal.returns-in_ok-meet-in-Copy-clause-learns
+returns-in_ok-meet-in-Copy-clause-learns c = learns_then _ _ _ c.walk.ensures.learns c.meet.ensures.learns
+
+pub returns-in_err-meet-in-Copy-clause-learns : goal.returns-in_err-meet-in-Copy-clause-learns
+returns-in_err-meet-in-Copy-clause-learns c = learns_then _ _ _ c.walk.ensures.learns c.meet.ensures.learns

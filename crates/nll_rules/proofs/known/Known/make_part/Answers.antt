@@ -34,3 +34,9 @@ returns-in_err-part-clause-learns c =
 
 pub returns-in-Some-clause-learns : goal.returns-in-Some-clause-learns
 returns-in-Some-clause-learns c = rw (← c.self.view_is) (learns_rows _ _ _ c.in_ok-part.ensures.ok)
+
+pub invariant_of-self : goal.invariant_of-self
+invariant_of-self c =
+    let k = c.self.invariant in
+    let lists = c.in_err-part.ensures in
+    (k.0, k.1, k.2, k.3, lists.body ∙ k.4, rw (lists.body, lists.err) k.5, rw (lists.body, lists.err) k.6)

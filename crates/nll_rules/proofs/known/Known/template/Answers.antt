@@ -5,7 +5,7 @@ use Rattle.std.proofs.lemmas.Result.{IfOk-weaker}
 use Rattle.nll_types.specs.Declarations.{structs_of}
 use Rattle.nll_types.specs.Table.{shape_over, shapes_in}
 use Rattle.nll_rules.proofs.FieldLemmas.{is_use_row}
-use Rattle.nll_rules.proofs.KnownFieldLemmas.{learns_none}
+use Rattle.nll_rules.proofs.KnownFieldLemmas.{fourth_is, learns_none}
 use Rattle.nll_rules.proofs.KnownLemmas.{template_is}
 use Rattle.nll_rules.proofs.known.Known.template.Goals as goal
 
@@ -33,3 +33,12 @@ returns-clause-learns c = rw (← c.self.view_is) (learns_none _)
 pub returns-in_default : goal.returns-in_default
 returns-in_default c =
     record { learns = rw (← c.self.view_is) (learns_none _); row = grind arith }
+
+pub invariant_of-self : goal.invariant_of-self
+invariant_of-self c = fourth_is c.self.invariant (rw c.structs-structs.ensures at c.learn.ensures.right)
+
+pub invariant_of-self-2 : goal.invariant_of-self-2
+invariant_of-self-2 c = fourth_is c.self.invariant (rw c.structs-structs.ensures at c.learn.ensures.right)
+
+pub invariant_of-self-in_default : goal.invariant_of-self-in_default
+invariant_of-self-in_default c = fourth_is c.self.invariant (rw c.structs-structs.ensures at c.learn.ensures.right)

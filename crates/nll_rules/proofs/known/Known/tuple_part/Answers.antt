@@ -1,6 +1,6 @@
 use Rattle.std.proofs.Common.{ap, arith, ◌∙◌}
 use Rattle.nll_types.specs.Table.{shape_over, shapes_in}
-use Rattle.nll_rules.proofs.KnownFieldLemmas.{learns_none}
+use Rattle.nll_rules.proofs.KnownFieldLemmas.{fourth_is, learns_none}
 use Rattle.nll_rules.proofs.KnownLemmas.{tuple_row}
 use Rattle.nll_rules.proofs.known.Known.tuple_part.Goals as goal
 
@@ -22,3 +22,12 @@ returns-in_err-learn-clause-learns c = rw (← c.self.view_is) (learns_none _)
 
 pub returns-clause-learns : goal.returns-clause-learns
 returns-clause-learns c = rw (← c.self.view_is) (learns_none _)
+
+pub invariant_of-self : goal.invariant_of-self
+invariant_of-self c = fourth_is c.self.invariant (rw c.structs-structs.ensures at c.learn.ensures.right)
+
+pub invariant_of-self-2 : goal.invariant_of-self-2
+invariant_of-self-2 c = fourth_is c.self.invariant (rw c.structs-structs.ensures at c.learn.ensures.right)
+
+pub invariant_of-self-in_default : goal.invariant_of-self-in_default
+invariant_of-self-in_default c = fourth_is c.self.invariant (rw c.structs-structs.ensures at c.learn.ensures.right)
