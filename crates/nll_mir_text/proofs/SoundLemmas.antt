@@ -185,19 +185,7 @@ module _ (s : Said) (w : IsWell s) where
         plain = w.plain;
         asserted = w.asserted;
         declares = declares_late _ _ _ _ _ _ _ _ 9 w.declares (omega arith);
-        places = record {
-          some_block = λ _. p.some_block late;
-          none_yet = λ l. absurd (omega (arith, l));
-          begun = p.begun;
-          within = p.within;
-          rise = p.rise;
-          at_zero = p.at_zero;
-          whole = λ _. (done, enough);
-          few_points = p.few_points;
-          few_edges = p.few_edges;
-          goes_on = p.goes_on;
-          leads = p.leads;
-        };
+        places = grind arith;
         written = w.written;
       }
 

@@ -1,6 +1,6 @@
 -- A line of the head keeps what holds of what lines say.
-use Rattle.std.proofs.Common.{◌≡◌, ℕ, ◌<◌, ◌≤◌, Bool, true, List, [], ◌∷◌, ◌++◌, None, length, map, subst, ⊎_elim, arith, length-append}
-use Rattle.std.specs.Prelude.{◌&&◌}
+use Rattle.std.proofs.Common.{◌≡◌, ℕ, ◌+◌, ◌<◌, ◌≤◌, Bool, true, List, [], ◌∷◌, ◌++◌, None, length, map, subst, ⊎_elim, arith, length-append}
+use Rattle.std.specs.Prelude.{◌&&◌, All, Contains}
 use Rattle.std.specs.List.{list_any}
 use Rattle.std.proofs.lemmas.Bool.{and_parts, not-false, leb-false, ltb-true}
 use Rattle.std.proofs.lemmas.List.Elements.{All-push}
@@ -41,26 +41,14 @@ module _ (s : Said) (w : IsWell s) where
       let regions : length s.scope.regions < most_regions =
       leb-false most_regions (length s.scope.regions) no.regions in
       let d = w.declares in
+      let known : (x y : ℕ) → Contains s.outlives (x, y) → (x < s.universals + 1) × (y < s.universals + 1) =
+      λ x y c. (let k = d.known x y c in (omega (arith, k.0), omega (arith, k.1))) in
       record {
         plain = w.plain;
         asserted =
             asserted_more s.scope.regions (s.scope.regions ++ a ∷ []) s.asserts
             (omega (arith, length-append s.scope.regions (a ∷ []))) w.asserted;
-        declares = record {
-          some = omega arith;
-          few = omega (arith, few);
-          all = omega (arith, d.all, length-append s.scope.regions (a ∷ []));
-          few_names = omega (arith, regions, length-append s.scope.regions (a ∷ []));
-          few_variables = d.few_variables;
-          known = λ x y c. (let k = d.known x y c in (omega (arith, k.0), omega (arith, k.1)));
-          named = d.named;
-          counted = d.counted;
-          takes = d.takes;
-          order = d.order;
-          none_yet = λ _. d.none_yet (omega (arith, le));
-          keep = keeps_none _ _ _ _ _ _ _ _ (omega (arith, le)) d
-              (IsWellFormed s.structs (length (s.scope.regions ++ a ∷ [])) 0);
-        };
+        declares = grind (arith, length-append, keeps_none);
         places = places_early _ _ _ _ _ 1 w.places le (omega arith);
         written = written_early _ _ _ _ _ w.places (omega (arith, le)) (s.scope.regions ++ a ∷ []) s.structs;
       }
@@ -73,30 +61,19 @@ module _ (s : Said) (w : IsWell s) where
       and_parts (is_universal_in s a) (is_universal_in s b)
       (not-false (is_universal_in s a && is_universal_in s b) no.unknown) in
       let d = w.declares in
+      let known : (x y : ℕ) → Contains (says s (outlives a b)).outlives (x, y) → (x < s.universals) × (y < s.universals) =
+      λ x y c. ⊎_elim (d.known x y)
+      (λ same. subst (λ (p : ℕ × ℕ). (p.0 < s.universals) × (p.1 < s.universals)) same (
+        ltb-true (number_of s.scope.regions a) s.universals both.0,
+        ltb-true (number_of s.scope.regions b) s.universals both.1,
+      ))
+      (inserted (list_any (same_pair (number_of s.scope.regions a, number_of s.scope.regions b)) s.outlives)
+      s.outlives
+      (number_of s.scope.regions a, number_of s.scope.regions b) (x, y) c) in
       record {
         plain = w.plain;
         asserted = w.asserted;
-        declares = record {
-          some = d.some;
-          few = d.few;
-          all = d.all;
-          few_names = d.few_names;
-          few_variables = d.few_variables;
-          known = λ x y c. ⊎_elim (d.known x y)
-              (λ same. subst (λ (p : ℕ × ℕ). (p.0 < s.universals) × (p.1 < s.universals)) same (
-                ltb-true (number_of s.scope.regions a) s.universals both.0,
-                ltb-true (number_of s.scope.regions b) s.universals both.1,
-              ))
-              (inserted (list_any (same_pair (number_of s.scope.regions a, number_of s.scope.regions b)) s.outlives)
-              s.outlives
-              (number_of s.scope.regions a, number_of s.scope.regions b) (x, y) c);
-          named = d.named;
-          counted = d.counted;
-          takes = d.takes;
-          order = d.order;
-          none_yet = λ _. d.none_yet (omega (arith, le));
-          keep = d.keep;
-        };
+        declares = grind arith;
         places = places_early _ _ _ _ _ 2 w.places le (omega arith);
         written = written_early _ _ _ _ _ w.places (omega (arith, le)) s.scope.regions s.structs;
       }
@@ -113,21 +90,7 @@ module _ (s : Said) (w : IsWell s) where
         asserted =
             asserted_more s.scope.regions (s.scope.regions ++ x ∷ []) s.asserts
             (omega (arith, length-append s.scope.regions (x ∷ []))) w.asserted;
-        declares = record {
-          some = d.some;
-          few = d.few;
-          all = omega (arith, d.all, length-append s.scope.regions (x ∷ []));
-          few_names = omega (arith, regions, length-append s.scope.regions (x ∷ []));
-          few_variables = d.few_variables;
-          known = d.known;
-          named = d.named;
-          counted = d.counted;
-          takes = d.takes;
-          order = d.order;
-          none_yet = λ _. d.none_yet (omega (arith, le));
-          keep = keeps_none _ _ _ _ _ _ _ _ (omega (arith, le)) d
-              (IsWellFormed s.structs (length (s.scope.regions ++ x ∷ [])) 0);
-        };
+        declares = grind (arith, length-append, keeps_none);
         places = places_early _ _ _ _ _ 3 w.places le (omega arith);
         written = written_early _ _ _ _ _ w.places (omega (arith, le)) (s.scope.regions ++ x ∷ []) s.structs;
       }
@@ -151,20 +114,7 @@ module _ (s : Said) (w : IsWell s) where
             (inserted (list_any (same_pair (number_of s.scope.regions a, number_of s.scope.regions b)) s.asserts)
             s.asserts
             (number_of s.scope.regions a, number_of s.scope.regions b) (x, y) c);
-        declares = record {
-          some = d.some;
-          few = d.few;
-          all = d.all;
-          few_names = d.few_names;
-          few_variables = d.few_variables;
-          known = d.known;
-          named = d.named;
-          counted = d.counted;
-          takes = d.takes;
-          order = d.order;
-          none_yet = λ _. d.none_yet (omega (arith, le));
-          keep = d.keep;
-        };
+        declares = grind arith;
         places = places_early _ _ _ _ _ 4 w.places le (omega arith);
         written = written_early _ _ _ _ _ w.places (omega (arith, le)) s.scope.regions s.structs;
       }
@@ -216,24 +166,13 @@ module _ (s : Said) (w : IsWell s) where
       let has : has_arguments s.scope t ≡ true = not-false _ no.shape in
       let limit : length s.variables < most_variables = leb-false most_variables (length s.variables) no.variables in
       let d = w.declares in
+      let keep : All (IsWellFormed s.structs (length s.scope.regions) 0) (s.variables ++ meant s.scope t ∷ []) =
+      All-push (IsWellFormed s.structs (length s.scope.regions) 0) s.variables (meant s.scope t) d.keep
+      (unnamed t (well_formed s.scope s.structs d.takes d.named t known has)) in
       record {
         plain = w.plain;
         asserted = w.asserted;
-        declares = record {
-          some = d.some;
-          few = d.few;
-          all = d.all;
-          few_names = d.few_names;
-          few_variables = omega (arith, limit, length-append s.variables (meant s.scope t ∷ []));
-          known = d.known;
-          named = d.named;
-          counted = d.counted;
-          takes = d.takes;
-          order = d.order;
-          none_yet = λ l. absurd (omega (arith, l));
-          keep = All-push (IsWellFormed s.structs (length s.scope.regions) 0) s.variables (meant s.scope t) d.keep
-              (unnamed t (well_formed s.scope s.structs d.takes d.named t known has));
-        };
+        declares = grind (arith, length-append);
         places = places_early _ _ _ _ _ 6 w.places le (omega arith);
         written = written_early _ _ _ _ _ w.places (omega (arith, le)) s.scope.regions s.structs;
       }

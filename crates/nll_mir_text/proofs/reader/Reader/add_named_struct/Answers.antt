@@ -1,46 +1,25 @@
 use Rattle.std.proofs.Common.{◌∙◌, inr, map, refl, sym, ap, subst}
-use Rattle.std.proofs.lemmas.Result.{on_ok_weaker, IfErr-weaker}
+use Rattle.std.proofs.lemmas.Result.{on_ok_weaker}
 use Rattle.nll_mir_grammar.specs.TypeTexts.{written}
 use Rattle.nll_mir_grammar.specs.Lines.{parameter_of}
 use Rattle.nll_mir_grammar.specs.Tuples.{parts}
 use Rattle.nll_mir_text.specs.Naming.{is_known}
 use Rattle.nll_mir_text.specs.StructLines.{own_scope}
-use Rattle.nll_mir_text.specs.MirReading.{IsRefused, IsTaken, said_by, struct_form}
+use Rattle.nll_mir_text.specs.MirReading.{IsTaken, said_by, struct_form}
 use Rattle.nll_mir_text.proofs.GrownLemmas.{due_grown, is_grown}
-use Rattle.nll_mir_text.proofs.StructLineLemmas.{few_own}
 use Rattle.nll_mir_text.proofs.OwnLemmas.{own_known}
 use Rattle.nll_mir_text.proofs.StructLemmas.{struct_unknown}
 use Rattle.nll_mir_text.proofs.reader.Reader.add_named_struct.Goals as goal
 
-pub resolve-requires : goal.resolve-requires
-resolve-requires c = few_own c.args.self.now c.args.own.now c.args.text.now c.requires.due c.requires.own
-
 pub add_resolved_struct-requires-clause-due : goal.add_resolved_struct-requires-clause-due
 add_resolved_struct-requires-clause-due c =
     due_grown _ _ _ (is_grown c.args.self.now _ _ c.in_ok-fields.ensures.adds refl c.requires.due.ready) c.requires.due
-
-pub add_resolved_struct-requires-clause-fields : goal.add_resolved_struct-requires-clause-fields
-add_resolved_struct-requires-clause-fields c =
-    rw (c.as_slice.ensures.value, c.as_type-fields.ensures.value, c.in-Some.is) at c.in_ok-fields.ensures.resolved
-
-pub add_resolved_struct-requires-clause-tuple : goal.add_resolved_struct-requires-clause-tuple
-add_resolved_struct-requires-clause-tuple c = c.as_type-fields.ensures.tuple
-
-pub add_resolved_struct-requires-clause-fits : goal.add_resolved_struct-requires-clause-fits
-add_resolved_struct-requires-clause-fits c =
-    rw (c.as_slice.ensures.value, c.as_type-fields.ensures.value, c.in-Some.is) at c.in_ok-fields.ensures.fits
 
 pub returns-in-Some-clause-taken : goal.returns-in-Some-clause-taken
 returns-in-Some-clause-taken c = on_ok_weaker c.add_resolved_struct.result
     (subst (λ s. IsTaken s (struct_form c.args.text.now) c.add_resolved_struct.new.self)
     (is_grown c.args.self.now _ _ c.in_ok-fields.ensures.adds refl c.requires.due.ready).said)
     c.add_resolved_struct.ensures.taken
-
-pub returns-in-Some-clause-refused : goal.returns-in-Some-clause-refused
-returns-in-Some-clause-refused c = IfErr-weaker c.add_resolved_struct.result _ _
-    (λ kind. subst (λ s. IsRefused s (struct_form c.args.text.now) kind)
-    (is_grown c.args.self.now _ _ c.in_ok-fields.ensures.adds refl c.requires.due.ready).said)
-    c.add_resolved_struct.ensures.refused
 
 pub returns-in-None-clause-refused : goal.returns-in-None-clause-refused
 returns-in-None-clause-refused c =

@@ -1,31 +1,17 @@
-use Rattle.std.proofs.Common.{◌≡◌, false, inr, length, ap, subst, arith}
+use Rattle.std.proofs.Common.{subst}
 use Rattle.std.proofs.lemmas.Result.{on_ok_weaker, IfErr-weaker}
 use Rattle.nll_body.proofs.FlatLemmas.{statements_same}
 use Rattle.nll_mir_grammar.specs.MirForms.{at_point}
-use Rattle.nll_mir_text.specs.Naming.{Scope}
-use Rattle.nll_mir_text.specs.MirReading.{IsRefused, IsTaken, said_by}
-use Rattle.nll_mir_text.specs.ResolvedStatements.{as_written, has_names}
+use Rattle.nll_mir_text.specs.MirReading.{IsRefused, IsTaken}
+use Rattle.nll_mir_text.specs.ResolvedStatements.{as_written}
 use Rattle.nll_mir_text.proofs.GrownLemmas.{is_grown, placed_of}
-use Rattle.nll_mir_text.proofs.PointLemmas.{names_unknown, undeclared}
 use Rattle.nll_mir_text.proofs.reader.Reader.add_statement.Goals as goal
-
-pub resolve_statement-requires : goal.resolve_statement-requires
-resolve_statement-requires c =
-    omega (arith, ap (λ (s : Scope). length s.regions) c.scope_in-scope.ensures, c.requires.ready.few_regions)
 
 pub add_resolved-requires-clause-ready : goal.add_resolved-requires-clause-ready
 add_resolved-requires-clause-ready c =
     let e = c.in_ok-resolved.ensures in
     let same = statements_same _ _ c.call_counts.ensures.within e.grows.lists e.grows.points in
     (is_grown c.args.self.now _ _ e.adds same c.requires.ready).ready
-
-pub add_resolved-requires-clause-rows : goal.add_resolved-requires-clause-rows
-add_resolved-requires-clause-rows c =
-    let made = rw c.in-Some.is at c.in_ok-resolved.ensures.made in made.of.rows
-
-pub add_resolved-requires-clause-within : goal.add_resolved-requires-clause-within
-add_resolved-requires-clause-within c =
-    let made = rw c.in-Some.is at c.in_ok-resolved.ensures.made in made.within
 
 pub returns-in-Some-clause-taken : goal.returns-in-Some-clause-taken
 returns-in-Some-clause-taken c =
@@ -48,10 +34,3 @@ returns-in-Some-clause-refused c =
     (is_grown c.args.self.now _ _ e.adds same c.requires.ready).said
     (h i (placed_of c.args.self.now _ _ i _ _ e.adds same c.requires.ready c.requires.order e.made e.fits)))
     c.add_resolved.ensures.refused
-
-pub returns-in-None-clause-refused : goal.returns-in-None-clause-refused
-returns-in-None-clause-refused c =
-    let i = as_written c.args.statement.now in
-    inr (undeclared (said_by c.args.self.now) i c.requires.order (names_unknown (said_by c.args.self.now) i
-    (subst (λ (s : Scope). has_names s i ≡ false) c.scope_in-scope.ensures
-    (rw c.in-None.is at c.in_ok-resolved.ensures.made))))

@@ -1,19 +1,6 @@
 use Rattle.std.proofs.Common.{refl, ap, length, arith}
 use Rattle.nll_mir_text.proofs.reader.Reader.new.Goals as goal
 
-pub returns-clause-said : goal.returns-clause-said
-returns-clause-said c = rw (
-  c.in_ok-names.ensures,
-  c.new-2.ensures.empty,
-  c.new-3.ensures.empty,
-  c.empty.ensures,
-  c.new-4.ensures.items,
-  c.new-5.ensures.structs,
-  c.new-6.ensures.items,
-  c.new-7.ensures.items,
-  c.new-8.ensures,
-) refl
-
 pub returns-clause-ready : goal.returns-clause-ready
 returns-clause-ready c =
     record {
