@@ -8,13 +8,15 @@ use Rattle.nll_types.specs.declared.operand.Operand.{Operand as Written}
 use Rattle.nll_mir_grammar.specs.WrittenTypes.{WrittenName, WrittenType}
 use Rattle.nll_mir_grammar.specs.TypeTexts.{written}
 use Rattle.nll_mir_grammar.specs.declared.type_text.TypePiece.{TypePiece}
-use Rattle.nll_body.specs.Statements.{map_statement}
+use Rattle.nll_body.specs.Statements.{Statement, live, dead, nop, map_statement}
 use Rattle.nll_body.specs.CodeStatements.{statement_of}
 use Rattle.nll_body.specs.declared.statement.Statement.{Statement as Kept}
 use Rattle.nll_mir_grammar.specs.MirForms.{Form, universal, outlives, further, assert_line}
 use Rattle.nll_mir_grammar.specs.MirForms.{struct_line, variable, blocks, block, at_point, end}
 use Rattle.nll_mir_grammar.specs.MirForms.{WrittenParameter, region_parameter, type_parameter}
 pub use Rattle.nll_mir_grammar.specs.Tuples.{parts}
+use Rattle.nll_mir_grammar.specs.declared.light.Light.{Light}
+use Rattle.nll_mir_grammar.specs.declared.light.Light.TheVariants as lights
 use Rattle.nll_mir_grammar.specs.declared.line.Line.{Line}
 use Rattle.nll_mir_grammar.specs.declared.line.Line.TheVariants as lines
 use Rattle.nll_mir_grammar.specs.declared.line.ParameterText.{ParameterText}
@@ -39,6 +41,12 @@ parameter_of (parameters.Type n p) = type_parameter n.now p
 -- a statement of the code as the line at its point
 abbrev pub point_form : Kept (Bor (List ℕ)) (List TypePiece) → Form
 point_form s = at_point (map_statement (λ r. r.now) written (statement_of s))
+
+-- a statement of the code that names at most a variable
+abbrev pub statement_of_light : Light → Statement WrittenName WrittenType
+statement_of_light lights.Nop = nop
+statement_of_light (lights.Live x) = live x
+statement_of_light (lights.Dead x) = dead x
 
 -- a struct line of the code
 abbrev pub struct_form : StructText → Form

@@ -11,6 +11,7 @@ mod form_reader;
 mod fronts;
 mod keyword;
 mod laws;
+mod light;
 mod line;
 mod lines;
 mod lists;
@@ -28,6 +29,7 @@ mod words;
 
 pub use form_reader::line_of;
 pub use laws::{a_type_has_tokens, one_form, one_type_at_most};
+pub use light::{Light, light_line};
 pub use line::{Line, ParameterText, StructText, TupleText};
 pub use type_reader::type_at;
 pub use type_text::{TypePiece, TypeText};

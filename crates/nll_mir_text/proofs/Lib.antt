@@ -6,6 +6,7 @@ pub mod GoodFieldLemmas
 pub mod GroupLemmas
 pub mod GrownLemmas
 pub mod LawLemmas
+pub mod LightLemmas
 pub mod LineLemmas
 pub mod NeitherLemmas
 pub mod OwnLemmas
@@ -13,6 +14,7 @@ pub mod PointLemmas
 pub mod SaidLemmas
 pub mod ShapeLemmas
 pub mod SoundLemmas
+pub mod StandLemmas
 pub mod StructLemmas
 pub mod TextLemmas
 pub mod TypedLemmas

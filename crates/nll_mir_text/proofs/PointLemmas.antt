@@ -23,7 +23,7 @@ use Rattle.nll_body.specs.Written.{regions_written, variables_written}
 use Rattle.nll_body.specs.Exits.{edges_from, edge_count}
 use Rattle.nll_body.proofs.MapLemmas.{same_terminator, same_targets, same_edges, same_variables}
 use Rattle.nll_mir_text.specs.Naming.{Scope, is_name_among, is_known, meant}
-use Rattle.nll_body.specs.Flat.{statement_in}
+use Rattle.nll_body.specs.Flat.{statement_in, statements_in}
 use Rattle.nll_body.specs.declared.flat.Stmt.{Stmt}
 use Rattle.nll_body.specs.Typed.{meant_statement as meant_with}
 use Rattle.nll_body.specs.Typing.{types_agree, types_are_small}
@@ -194,3 +194,10 @@ edges_meant types (i ∷ is) =
       same_edges (λ r. r) (tree_at types.table.shapes types.regions.items) i,
       edges_meant types is,
     ) (sym (sum_by-cons edges_from i is)))
+
+-- as many points are said as there are statements
+pub counted : (r : Reader) → length (said_by r).points ≡ length (statements_in r.points.statements)
+counted r = length-map (statements_in r.points.statements) (meant_with r.variables.types)
+
+pub same_count : (r : Reader) → edge_count (said_by r).points ≡ edge_count (statements_in r.points.statements)
+same_count r = edges_meant r.variables.types (statements_in r.points.statements)

@@ -61,7 +61,8 @@ module _ (s : Said) (w : IsWell s) where
       and_parts (is_universal_in s a) (is_universal_in s b)
       (not-false (is_universal_in s a && is_universal_in s b) no.unknown) in
       let d = w.declares in
-      let known : (x y : ℕ) → Contains (says s (outlives a b)).outlives (x, y) → (x < s.universals) × (y < s.universals) =
+      let known : (x y : ℕ) → Contains (says s (outlives a b)).outlives (x, y)
+      → (x < s.universals) × (y < s.universals) =
       λ x y c. ⊎_elim (d.known x y)
       (λ same. subst (λ (p : ℕ × ℕ). (p.0 < s.universals) × (p.1 < s.universals)) same (
         ltb-true (number_of s.scope.regions a) s.universals both.0,

@@ -1,17 +1,18 @@
 //! Lines of the blocks, and the statements at points.
 
 ghost use Rattle.std.specs.Prelude.{◌≡◌, Bool, Some, IfErr, OnOk};
+ghost use Rattle.nll_mir_grammar.specs.Lines.{statement_of_light};
 ghost use Rattle.nll_mir_grammar.specs.MirForms as forms;
 ghost use Rattle.nll_mir_grammar.specs.WrittenTypes.{WrittenName, WrittenType};
 ghost use Rattle.nll_body.specs.Flat.{statement_in};
 ghost use Rattle.nll_body.specs.Meant.{HasRows};
 ghost use Rattle.nll_body.specs.Statements.{Statement as written_statement};
 ghost use Rattle.nll_body.specs.Within.{IsStatementIn};
-ghost use Rattle.nll_mir_text.specs.MirFaults.{first_fault};
-ghost use Rattle.nll_mir_text.specs.MirReading.{said_by, IsAdmitted, IsDue, IsReady};
+ghost use Rattle.nll_mir_text.specs.MirFaults.{first_fault, knows};
+ghost use Rattle.nll_mir_text.specs.MirReading.{said_by, scope_in, IsAdmitted, IsDue, IsReady};
 ghost use Rattle.nll_mir_text.specs.MirReading.{IsTaken, IsRefused};
 ghost use Rattle.nll_mir_text.specs.ResolvedLines.{IsPlaced};
-ghost use Rattle.nll_mir_text.specs.ResolvedStatements.{as_written, AreExits, IsOfPoint};
+ghost use Rattle.nll_mir_text.specs.ResolvedStatements.{as_written, AreExits, IsFlatOf, IsOfPoint};
 
 use crate::groups::Group;
 use crate::ranges::targets_are_blocks;
@@ -20,7 +21,7 @@ use crate::resolution::resolve_statement;
 use crate::tables::scope_in;
 use nll_body::{Exits, Judgement, Places, Statement, Stmt, judge_statement};
 use nll_format::TextKind;
-use nll_mir_grammar::TypeText;
+use nll_mir_grammar::{Light, TypeText};
 use nll_problem::{Kind, MAX_EDGES, MAX_POINTS};
 
 impl Reader {
@@ -118,6 +119,48 @@ impl Reader {
         self.points.statements.push(statement)?;
         self.points.edges += exits.edges;
         self.points.owes = !exits.ends;
+        self.reached = Group::Blocks;
+        Ok(())
+    }
+
+    // A light statement in the lists, and whether its variable is declared.
+    fn flat_light(&self, light: Light) -> (Stmt, bool)
+        ensures flat { IsFlatOf (scope_in self.now.regions self.now.structs)
+            (statement_of_light light) self.now.variables.types self.now.points.statements
+            result.0 }
+        ensures declared { result.1 ≡ knows (said_by self.now) (statement_of_light light) }
+    {
+        let count = self.variables.typed.len();
+        match light {
+            Light::Nop => (Stmt::Nop, true),
+            Light::Live(variable) => (Stmt::Live(variable), (variable as usize) < count),
+            Light::Dead(variable) => (Stmt::Dead(variable), (variable as usize) < count),
+        }
+    }
+
+    /// Adds a statement that names at most a variable at the next point.
+    pub(crate) fn add_light(&mut self, light: Light) -> Result<(), TextKind>
+        requires { IsReady self.old }
+        ensures taken { OnOk result (IsTaken (said_by self.old)
+            (forms.at_point (statement_of_light light)) self.new) }
+        ensures refused { IfErr result (IsRefused (said_by self.old)
+            (forms.at_point (statement_of_light light))) }
+    {
+        if !(self.is_in_body() & self.points.owes) {
+            return Err(TextKind::Syntax);
+        }
+        let (statement, declared) = self.flat_light(light);
+        if !declared {
+            return Err(TextKind::Unknown);
+        }
+        if self.points.statements.len() >= MAX_POINTS as usize {
+            return Err(TextKind::Limit(Kind::Points));
+        }
+        if self.points.edges >= MAX_EDGES {
+            return Err(TextKind::Limit(Kind::Edges));
+        }
+        self.points.statements.push(statement)?;
+        self.points.edges += 1;
         self.reached = Group::Blocks;
         Ok(())
     }

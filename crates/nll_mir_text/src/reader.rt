@@ -3,7 +3,7 @@
 ghost use Rattle.std.specs.Prelude.{◌≡◌, ◌↔◌, List, [], IsTrue, IfOk, IfErr, OnOk};
 ghost use Rattle.nll_mir_grammar.specs.MirForms.{Form};
 ghost use Rattle.nll_mir_grammar.specs.Lines.{form_of};
-ghost use Rattle.nll_mir_text.specs.MirFaults.{is_in_order};
+ghost use Rattle.nll_mir_text.specs.MirFaults.{is_in_body, is_in_order};
 ghost use Rattle.nll_mir_text.specs.MirSteps as steps;
 ghost use Rattle.nll_mir_text.specs.MirReading.{said_by, HoldsForms, IsReady, HasTexts};
 ghost use Rattle.nll_mir_text.specs.MirReading.{HasFewParameters, IsTaken, IsRefused};
@@ -15,7 +15,7 @@ use crate::tables::{Points, Regions, StructNames, Variables};
 use indexmap::IndexSet;
 use nll_body::{BodyParts, Statements};
 use nll_format::{LineReader, Names, TextKind, pass_over};
-use nll_mir_grammar::{Line, Version, line_of};
+use nll_mir_grammar::{Line, Version, light_line, line_of};
 use nll_sets::Memory;
 use nll_types::BodyTypes;
 use std::alloc::Global;
@@ -74,16 +74,21 @@ impl Reader {
         !self.reached.is_before(group)
     }
 
+    // Whether the `blocks` line is there, and no `end` line.
+    pub(crate) fn is_in_body(&self) -> bool
+        ensures { result ≡ is_in_body (said_by self.now) }
+    {
+        self.has_reached(Group::BlockCount) & !self.has_reached(Group::End)
+    }
+
     // Whether a line is in order.
     fn may_follow(&self, line: &Line<'_>) -> bool
         ensures { result ≡ is_in_order (said_by self.now) (form_of line.now) }
     {
-        // The `blocks` line is there, and no `end` line.
-        let in_body = self.has_reached(Group::BlockCount) & !self.has_reached(Group::End);
         match line {
             Line::Blocks(_) => self.reached.precedes(Group::BlockCount),
-            Line::Block(_) | Line::End => in_body & !self.points.owes,
-            Line::At(_) => in_body & self.points.owes,
+            Line::Block(_) | Line::End => self.is_in_body() & !self.points.owes,
+            Line::At(_) => self.is_in_body() & self.points.owes,
             _ => !group_of(line).is_before(self.reached),
         }
     }
@@ -152,6 +157,9 @@ impl<'a> LineReader<'a, Version> for Reader {
     ghost ready = { IsReady };
 
     fn read_line(&mut self, version: &Version, line: &'a [u8]) -> Result<(), TextKind> {
+        if let Some(light) = light_line(line) {
+            return self.add_light(light);
+        }
         match line_of(self.alloc, *version, line)? {
             Some(form) => {
                 let taken = self.accept(&form);

@@ -5,7 +5,7 @@ use super::rows::{Row, compare_rows, compare_text};
 use super::statement_text::write_statement;
 use super::transcript::Transcript;
 use super::written_types::{write_flag, write_pieces};
-use nll_mir_grammar::{Line, ParameterText, StructText, Version, line_of, one_form};
+use nll_mir_grammar::{Line, ParameterText, StructText, Version, light_line, line_of, one_form};
 use nll_sets::Memory;
 use nll_text::{one_token_list, tokens_make_a_line};
 use nll_types::{Parameter, Sign};
@@ -63,8 +63,12 @@ fn write_line(out: &mut Transcript, line: &Line<'_>) {
     }
 }
 
-/// Writes the form of a line in version 2, which has each form.
+/// Writes the form of a line in version 2, which has each form, and before it whether the line is
+/// told at a glance.
 pub fn write_form(out: &mut Transcript, line: &[u8]) {
+    if light_line(line).is_some() {
+        out.say("light ");
+    }
     match line_of(out.alloc, Version::Second, line) {
         Ok(Some(form)) => {
             write_line(out, &form);
@@ -134,11 +138,11 @@ _3 = make (T, int) (const, move _2.0) ~ _3 = make row|row|T|part|int|part|tuple|
 _3 = make () ~ none
 read _3.* ~ read _3.*
 read _3.- ~ none
-live _1 ~ live 1
+live _1 ~ light live 1
 live _1.0 ~ none
-dead _1 ~ dead 1
+dead _1 ~ light dead 1
 dead ~ none
-nop ~ nop
+nop ~ light nop
 nop nop ~ none
 goto bb2 ~ goto 2
 goto 2 ~ none
@@ -173,7 +177,7 @@ blocks 01 ~ none
 blocks 1_0 ~ none
 blocks +1 ~ none
 blocks 1a ~ none
-live _999999999 ~ live 999999999
+live _999999999 ~ light live 999999999
 live _1000000000 ~ none
 live _ ~ none
 live _00 ~ none
@@ -190,7 +194,7 @@ blocks 999999999x ~ none
 blocks 999999999_ ~ none
 blocks 999999999'a ~ none
 blocks 999999999; ~ none
-live _0 ~ live 0
+live _0 ~ light live 0
 live _007 ~ none
 live _7_ ~ none
 live _7x ~ none
@@ -265,9 +269,9 @@ _3=make\t(\rT\t)\r(\tconst\r,\tmove\r_2\t.\r0\t) ~ _3 = make row|row|T|part|tupl
 _3=make()() ~ _3 = make row|tuple|
 read\t_3\r.\t* ~ read _3.*
 read_3 ~ none
-live\t_1 ~ live 1
+live\t_1 ~ light live 1
 live_1 ~ none
-dead\r_1 ~ dead 1
+dead\r_1 ~ light dead 1
 goto\tbb2 ~ goto 2
 gotobb2 ~ none
 switch\tcopy\r_2\tbb1\rbb2 ~ switch copy _2 [1, 2]

@@ -1,29 +1,19 @@
-use Rattle.std.proofs.Common.{◌≡◌, ℕ, ◌+◌, List, [], ◌∷◌, ◌++◌, length, map, not, ap, refl, sym, ◌∙◌, subst, arith}
-use Rattle.std.specs.Prelude.{All}
+use Rattle.std.proofs.Common.{◌≡◌, ℕ, ◌+◌, not, ap, refl, sym, subst}
 use Rattle.std.proofs.lemmas.Result.{err_from_is_err_and}
-use Rattle.std.proofs.lemmas.List.{length-append, map_push}
-use Rattle.std.proofs.lemmas.List.Elements.{All-push}
 use Rattle.nll_types.specs.Rows.{tree_at}
 use Rattle.nll_types.specs.Tables.{AddsShapes, Tables}
-use Rattle.nll_types.specs.Types.{TypeTree}
-use Rattle.nll_types.specs.declared.typed.Typed.{Typed}
 use Rattle.nll_types.proofs.RowLemmas.{below_rows, have_shapes}
-use Rattle.nll_body.specs.Exits.{edge_count}
-use Rattle.nll_body.specs.Flat.{statement_in, statements_in}
-use Rattle.nll_body.specs.Meant.{HasRows}
 use Rattle.nll_body.specs.Statements.{Statement}
-use Rattle.nll_body.specs.Typed.{meant_statement as meant_with}
 use Rattle.nll_body.specs.declared.judgement.Judgement.{Judgement}
 use Rattle.nll_format.specs.declared.error.TextKind.{TextKind}
 use Rattle.nll_mir_grammar.specs.MirForms.{at_point}
 use Rattle.nll_mir_grammar.specs.WrittenTypes.{WrittenName, WrittenType}
-use Rattle.nll_mir_text.specs.MirSteps.{statement_meant}
-use Rattle.nll_mir_text.specs.MirReading.{said_by, scope_in, IsReady, IsRefused, IsTaken}
+use Rattle.nll_mir_text.specs.MirReading.{said_by, IsReady, IsRefused, IsTaken}
 use Rattle.nll_mir_text.specs.ResolvedStatements.{IsOfPoint}
-use Rattle.nll_mir_text.specs.declared.groups.Group.TheVariants.{Blocks}
 use Rattle.nll_mir_text.specs.declared.reader.Reader.{Reader}
 use Rattle.nll_mir_text.proofs.GrownLemmas.{adds_table, grown, is_grown, placed_grown, said_grown}
-use Rattle.nll_mir_text.proofs.PointLemmas.{point_judged, point_said, edges_more, edges_resolved}
+use Rattle.nll_mir_text.proofs.PointLemmas.{point_judged}
+use Rattle.nll_mir_text.proofs.StandLemmas.{stands}
 use Rattle.nll_mir_text.proofs.reader.Reader.add_resolved.Goals as goal
 
 -- the reader with more shapes says what it said
@@ -83,60 +73,6 @@ returns-clause-taken c = λ i placed.
     let p = placed_grown r _ adds c.requires.ready i c.args.statement c.args.fits placed in
     let h = c.in_ok-admit.ensures.admitted i c.args.fits p (of_later r _ e.grows c.requires.ready i _
     (point_judged r i c.args.statement c.args.fits placed c.in_ok-judged.judged _ refl refl refl e.declared judged)) in
-    let s = said_by old in
-    let ready = h.ready in
-    let types = old.variables.types in
-    let kept = statements_in old.points.statements in
-    let k = statement_in old.points.statements c.args.statement in
-    let new = statements_in c.push.new.self in
-    let pushed = c.in_ok-push.ensures.ok in
-    let stand : map (meant_with types) new ≡ s.points ++ statement_meant s i ∷ [] =
-    ap (map (meant_with types)) pushed
-    ∙ (map_push (meant_with types) kept k
-    ∙ ap (λ (m : Statement ℕ TypeTree). s.points ++ m ∷ []) p.of.of.meant) in
-    let more : edge_count new ≡ edge_count (kept ++ k ∷ []) =
-    ap (λ (is : List (Statement ℕ Typed)). edge_count is) pushed in
-    let counted : old.points.edges + c.in_ok-exits.exits.edges ≡ edge_count new =
-    omega (
-      arith,
-      ready.edges,
-      h.counted,
-      more,
-      edges_more kept k,
-      edges_resolved (scope_in old.regions old.structs) i types k p.of.of,
-    ) in
-    let points = All-push (HasRows types.table.shapes types.regions.items) kept k ready.rows.points p.of.of.rows in
-    let taken : Reader = record old {
-      reached = Blocks;
-      points = record old.points {
-        statements = c.push.new.self;
-        edges = old.points.edges + c.in_ok-exits.exits.edges;
-        owes = not c.in_ok-exits.exits.ends;
-      };
-    } in
-    subst (λ s. IsTaken s (at_point i) taken) (said r _ e.grows c.requires.ready) record {
-      fine = h.fine;
-      says = point_said s i _ _ _ _ refl refl stand (ap not h.ends);
-      ready = record {
-        static = ready.static;
-        universals = ready.universals;
-        few_universals = ready.few_universals;
-        few_regions = ready.few_regions;
-        no_parameter = ready.no_parameter;
-        named_structs = ready.named_structs;
-        counted_kinds = ready.counted_kinds;
-        kinds = ready.kinds;
-        few_structs = ready.few_structs;
-        few_variables = ready.few_variables;
-        rows = record {
-          variables = ready.rows.variables;
-          points = subst (All (HasRows types.table.shapes types.regions.items)) (sym pushed) points;
-        };
-        few_blocks = ready.few_blocks;
-        no_start = λ h. absurd (omega (arith, h));
-        starts = ready.starts;
-        few_points = omega (arith, ap length pushed, length-append kept (k ∷ []), h.few);
-        edges = counted;
-        few_edges = h.few_edges;
-      };
-    }
+    stands old i c.args.statement h.ready p.of h.fine h.few c.push.new.self _ _ c.in_ok-push.ensures.ok
+    (ap (λ n. old.points.edges + n) h.counted) h.few_edges (ap not h.ends) (said_by r)
+    (said r _ e.grows c.requires.ready)

@@ -6,15 +6,8 @@ use Rattle.nll_body.specs.Flat.{statements_in}
 use Rattle.nll_body.specs.Typed.{meant_statement as meant_with}
 use Rattle.nll_mir_text.specs.declared.reader.Reader.{Reader}
 use Rattle.nll_mir_text.specs.MirReading.{said_by, scope_in}
-use Rattle.nll_mir_text.proofs.PointLemmas.{undeclared, out_of_range, unfit, too_large, too_many_points, too_many_edges, no_fault, edges_meant, targets_are, edges_resolved, ends_resolved}
+use Rattle.nll_mir_text.proofs.PointLemmas.{undeclared, out_of_range, unfit, too_large, too_many_points, too_many_edges, no_fault, counted, same_count, targets_are, edges_resolved, ends_resolved}
 use Rattle.nll_mir_text.proofs.reader.Reader.admit.Goals as goal
-
--- as many points are said as there are statements
-counted : (r : Reader) → length (said_by r).points ≡ length (statements_in r.points.statements)
-counted r = length-map (statements_in r.points.statements) (meant_with r.variables.types)
-
-same_count : (r : Reader) → edge_count (said_by r).points ≡ edge_count (statements_in r.points.statements)
-same_count r = edges_meant r.variables.types (statements_in r.points.statements)
 
 pub returns-then-not-judgement-clause-refused : goal.returns-then-not-judgement-clause-refused
 returns-then-not-judgement-clause-refused c = λ i fits placed told.
