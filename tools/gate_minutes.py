@@ -31,9 +31,9 @@ from processes import Watch, crate_of, is_edit, seconds_of
 
 ROOT = pathlib.Path(__file__).resolve().parents[1]
 
-# Seconds of their checks on that machine: those of a run, 75 and 47, that was 2.70 times as slow by a third crate, which has
-# changed since.
-YARDSTICK = {"nll_sets": 27.8, "nll_cut": 17.4}
+# Seconds of their checks on that machine: those of a run of e0f91879, 59 and 28, beside one of 9bc15cf9, whose units are known
+# (docs/dev/GATE.md).
+YARDSTICK = {"nll_sets": 28.5, "nll_cut": 13.6}
 BUDGET = ROOT / "tools" / "gate_budget.csv"
 LAYER = re.compile(r"# ---- ([^:\n]*)")
 # Beyond this the yardstick's crates tell of different machines, so one of them isn't what it was.
