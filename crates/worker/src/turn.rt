@@ -1,6 +1,6 @@
 //! A worker's turns.
 
-ghost use Rattle.std.specs.Prelude.{◌≡◌, List, map};
+ghost use Rattle.std.specs.Prelude.{◌≡◌, ◌<◌, List, map};
 ghost use Rattle.fixpoint.specs.State.{IsSound, first_state};
 ghost use Rattle.worker.specs.Mailboxes.{AreAllEmpty, through};
 ghost use Rattle.worker.specs.Finishing.{IsFresh, IsOpenStill};
@@ -46,6 +46,21 @@ pub fn first_turn<A: Analysis, L: Ledger, G: Gate>(
     Heard::Growths
 }
 
+// The owner that comes so many behind another; behind the last comes owner 0. A division at each
+// look into a mailbox would be a twentieth of what a growth from owner to owner takes.
+fn owner_behind(first: u16, step: u16, owners: u16) -> u16
+    requires first { first < owners }
+    requires step { step < owners }
+    ensures { result < owners }
+{
+    let rest = owners - first;
+    if step < rest {
+        first + step
+    } else {
+        step - rest
+    }
+}
+
 /// One look into each mailbox, or up to the first growth if a turn receives at most one. With each
 /// turn it begins at the next owner. Returns whether the part received growths, or why the worker
 /// has to end.
@@ -67,10 +82,10 @@ pub fn round<A: Analysis, M: Mail<A::Growth>, L: Ledger, G: Gate>(
         (L.owed a.share) (L.cleared a.share) a.tally result }
 {
     let owners = A::owners(part);
-    let first = account.tally.turns % owners as u64;
+    let first = (account.tally.turns % owners as u64) as u16;
     let mut any = false;
     for step in 0..owners {
-        let from = ((first + step as u64) % owners as u64) as u16;
+        let from = owner_behind(first, step, owners);
         let turn = account.tally.turns + 1;
         match hear_from::<A, M, G>(pace, turn, part, inbox, from) {
             Heard::Nothing => {}

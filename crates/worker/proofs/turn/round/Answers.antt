@@ -8,11 +8,10 @@ use Rattle.worker.proofs.turn.round.Goals as goal
 use Rattle.worker.proofs.turn.round.Goals.{After-hear_from, in-Nothing, in-Growths+else-pace-eq1}
 
 low : (g : _) (c : After-hear_from g)
-    → (c.args.account.now.tally.turns % c.owners-owners.result + c.loop-step.step) % c.owners-owners.result
-    < g.A.Rules.rules.parts (g.A.Analysis.state c.loop-step.part).system
+    → c.owner_behind-from.result < g.A.Rules.rules.parts (g.A.Analysis.state c.loop-step.part).system
 low g c =
     let same = ap g.A.Rules.rules.parts c.loop-step.invariant.stays.grows.system in
-    omega (arith, c.loop-step-test.true, c.owners-owners.ensures.value, same)
+    omega (arith, c.owner_behind-from.ensures, c.owners-owners.ensures.value, same)
 
 pub loop-step-init : goal.loop-step-init
 loop-step-init g c = record {
