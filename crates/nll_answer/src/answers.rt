@@ -139,8 +139,7 @@ pub(crate) fn told_faults(
 
 // The faults of the least values.
 fn faults_of(alloc: Global, problem: &Problem) -> Result<Vec<(RegionId, RegionId)>, Memory>
-    ensures exact { IfOk result (λ found.
-        AreFaults problem.now (Least problem.now) found.items) }
+    ensures exact { IfOk result (λ found. AreFaults problem.now (Least problem.now) found.items) }
     ensures sound { IfOk result (λ _. IsSound problem.now) }
 {
     let values = solve(alloc, problem)?;
@@ -155,8 +154,7 @@ pub(crate) fn found_faults(
 ) -> Result<Vec<(RegionId, RegionId)>, Memory>
     requires shaped { IsShaped problem.now values }
     requires least { (r e : ℕ) → IsHeld values r e ↔ Least problem.now r e }
-    ensures exact { IfOk result (λ found.
-        AreFaults problem.now (Least problem.now) found.items) }
+    ensures exact { IfOk result (λ found. AreFaults problem.now (Least problem.now) found.items) }
     ensures sound { IfOk result (λ _. IsSound problem.now) }
 {
     // Clause call: the problem is sound.

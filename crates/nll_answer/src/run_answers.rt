@@ -69,8 +69,7 @@ fn told(
     requires shaped { IsShaped problem.now values }
     requires least { (r e : ℕ) → IsHeld values r e ↔ Least problem.now r e }
     requires named { length labels.now.names ≡ problem.now.regions }
-    ensures ok { IfOk result (λ r.
-        IsProblemAnswer command problem.now labels.now r.0.items r.1) }
+    ensures ok { IfOk result (λ r. IsProblemAnswer command problem.now labels.now r.0.items r.1) }
     ensures status { IfOk result (λ r. r.1 ≤ 1) }
 {
     match command {

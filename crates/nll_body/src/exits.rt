@@ -84,8 +84,7 @@ fn exit_count(number: u32, other: Option<u32>) -> usize
 
 // How many numbers these are, each counted once.
 fn distinct(alloc: Global, numbers: &[u32]) -> Result<usize, Memory>
-    ensures distinct { IfOk result
-        (λ n. n ≡ length (insert_all (λ b c. b == c) [] numbers.now)) }
+    ensures distinct { IfOk result (λ n. n ≡ length (insert_all (λ b c. b == c) [] numbers.now)) }
     ensures few { IfOk result (λ n. n < 2 ^ 63) }
 {
     match numbers {
@@ -105,8 +104,7 @@ fn distinct(alloc: Global, numbers: &[u32]) -> Result<usize, Memory>
 // Inserts numbers into an empty set, and answers how many it has then.
 fn insert_numbers(numbers: &[u32], known: &mut IndexSet<u32>) -> Result<usize, Memory>
     requires { known.old.keys ≡ [] }
-    ensures distinct { IfOk result
-        (λ n. n ≡ length (insert_all (λ b c. b == c) [] numbers.now)) }
+    ensures distinct { IfOk result (λ n. n ≡ length (insert_all (λ b c. b == c) [] numbers.now)) }
     ensures few { IfOk result (λ n. n < 2 ^ 63) }
 {
     for number in numbers {

@@ -29,8 +29,7 @@ fn judge_make(
 ) -> Result<Judgement, Memory>
     requires variables { AreBelow (length table.old.shapes)
         (shape_numbers places.now.variables.now) }
-    requires written { HasShapes table.old.shapes
-        (make_in places.now.statements.now make.now) }
+    requires written { HasShapes table.old.shapes (make_in places.now.statements.now make.now) }
     ensures grows { AddsShapes table.old table.new }
     ensures declared { IfOk result (λ j. j.declared
         ≡ are_declared places.now (make_in places.now.statements.now make.now)) }
@@ -52,8 +51,7 @@ fn judge_call(
 ) -> Result<Judgement, Memory>
     requires variables { AreBelow (length table.old.shapes)
         (shape_numbers places.now.variables.now) }
-    requires written { HasShapes table.old.shapes
-        (call_in places.now.statements.now call.now) }
+    requires written { HasShapes table.old.shapes (call_in places.now.statements.now call.now) }
     ensures grows { AddsShapes table.old table.new }
     ensures declared { IfOk result (λ j. j.declared
         ≡ are_declared places.now (call_in places.now.statements.now call.now)) }

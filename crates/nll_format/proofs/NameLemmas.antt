@@ -1,6 +1,6 @@
 -- The declared names, and the set that holds them.
-use Rattle.std.proofs.Common.{◌≡◌, ℕ, zero, suc, one-add, ◌+◌, ◌<◌, ◌≤◌, Bool, true, false, not, cond, List, [], ◌∷◌, ◌++◌, Option, Some, None, slice_get, length, get_or, refl, sym, ap, ◌∙◌, subst, map, ⊎_elim, arith, length-append}
-use Rattle.std.specs.Prelude.{◌||◌, ◌↔◌, nat_lt, position, MatchOption}
+use Rattle.std.proofs.Common.{◌≡◌, ℕ, zero, suc, one-add, ◌+◌, ◌-◌, ◌<◌, ◌≤◌, Bool, true, false, not, cond, List, [], ◌∷◌, ◌++◌, Option, Some, None, slice_get, length, get_or, refl, sym, ap, ◌∙◌, subst, map, ⊎_elim, arith, length-append}
+use Rattle.std.specs.Prelude.{◌||◌, ◌↔◌, nat_lt, position, take, decimal, IfSome, MatchOption}
 use Rattle.std.specs.List.{position_or_len, list_any, AllByRecursion, IsDistinct}
 use Rattle.std.specs.Str.{bytes_eq, IsUtf8}
 use Rattle.std.proofs.lemmas.Bool.{cases_lt, ltb-false, ltb-true, false≢true}
@@ -9,7 +9,8 @@ use Rattle.std.proofs.lemmas.Map.Keys.{IsDistinct-head, IsDistinct-tail}
 use Rattle.std.proofs.lemmas.List.{get_or_append_left, get_or_at, map_push, get_or-map, length-map}
 use Rattle.std.proofs.lemmas.List.Sums.{prefix_len-le-length}
 use Rattle.std.proofs.lemmas.Option.{get_or_from_slice_get, slice_get_cases}
-use Rattle.nll_format.specs.Names.{number_of, AreTexts}
+use Rattle.nll_format.specs.Names.{number_of, AreTexts, IsNumbered, HasPlace, IsSeries}
+use Rattle.nll_format.specs.declared.series.Series.{Series}
 
 bytes_eq_at : (xs ys : List ℕ) → xs ≡ ys → bytes_eq xs ys ≡ true
 bytes_eq_at xs ys e = (bytes_eq-Decides xs ys).1 e
@@ -133,3 +134,60 @@ at_place f ks i known v name b d lt is told =
           (sym here ∙ ap (λ (k : ℕ). get_or (map f ks) k []) (sym at.0)
           ∙ name_there (map f ks) name (omega (arith, at.0, at.1))),
     )
+
+-- ---- names that are numbered one after another
+
+-- a name with a place in the series, below the number of names, stands there
+pub place_in_series : {V : Type 0} (f : V → List ℕ) (ks : List V) (s : Series) (name : List ℕ) (i : ℕ)
+    → IsDistinct (same_name f) ks → IsSeries (map f ks) s → HasPlace (map f ks) s name i → i < length ks
+    → number_of (map f ks) name ≡ i
+place_in_series f ks s name i d all at lt =
+    place_of f ks i name d lt ((all i at.after (omega (arith, lt, length-map ks f))).numbered ∙ sym at.numbered)
+
+-- the same for what a search by the first name of the series answers
+pub place_numbers : {V : Type 0} (f : V → List ℕ) (ks : List V) (s : Series) (known v : V) (first name : List ℕ)
+    (o : Option ℕ) → IsDistinct (same_name f) ks → IsSeries (map f ks) s → s.at < length ks
+    → known ≡ get_or ks s.at v → first ≡ f known
+    → IfSome o (λ i. (s.at ≤ i) × IsNumbered s.front first name (s.number + (i - s.at)))
+    → IfSome o (λ i. i < length ks → number_of (map f ks) name ≡ i)
+place_numbers f ks s known v first name None d all lt is view at = tt
+place_numbers f ks s known v first name (Some i) d all lt is view at =
+    place_in_series f ks s name i d all (record {
+      begun = omega (arith, lt, length-map ks f);
+      after = at.0;
+      numbered = at.1 ∙ ap (λ xs. take s.front xs ++ decimal (s.number + (i - s.at)))
+          (view ∙ (ap f is ∙ sym (get_or-map f ks s.at v [] lt)));
+    })
+
+-- the name at an index of the names and one more
+pushed : (names : List (List ℕ)) (name : List ℕ) (i : ℕ) → i < length names
+    → get_or (names ++ name ∷ []) i [] ≡ get_or names i []
+pushed names name i lt = get_or_append_left names (name ∷ []) [] i lt
+
+-- a series goes on with the name that would be the next one
+pub series_on : (names : List (List ℕ)) (s : Series) (name : List ℕ) → IsSeries names s
+    → HasPlace names s name (length names) → IsSeries (names ++ name ∷ []) s
+series_on names s name all at i after lt = record {
+  begun = omega (arith, at.begun, length-append names (name ∷ []));
+  after = after;
+  numbered = rw (pushed names name s.at at.begun) (⊎_elim
+      (λ low. pushed names name i low ∙ (all i after low).numbered)
+      (λ high. let is : i ≡ length names = omega (arith, high, lt, length-append names (name ∷ [])) in
+      rw is (get_or_at names name [] [] (length names) (omega arith) ∙ at.numbered))
+      (cases_lt i (length names)));
+}
+
+-- a series begins with a name that has a number at its end
+pub series_of : (names : List (List ℕ)) (s : Series) (name : List ℕ) → s.at ≡ length names
+    → IsNumbered s.front name name s.number → IsSeries (names ++ name ∷ []) s
+series_of names s name at numbered i after lt =
+    let is : i ≡ s.at = omega (arith, at, after, lt, length-append names (name ∷ [])) in
+    let here : get_or (names ++ name ∷ []) s.at [] ≡ name = get_or_at names name [] [] s.at (omega (arith, at)) in
+    record {
+      begun = omega (arith, at, length-append names (name ∷ []));
+      after = after;
+      numbered = rw (is, here) (rw (sub_self s.at) numbered);
+    }
+  where
+    sub_self : (n : ℕ) → s.number + (n - n) ≡ s.number
+    sub_self n = omega arith

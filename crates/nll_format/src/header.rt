@@ -55,8 +55,7 @@ pub fn open_text<'a>(
     kind: &[u8],
     version: &[u8],
 ) -> Result<Option<&'a [u8]>, TextError>
-    ensures ok { IfOk result (λ body.
-        HasHeader kind.now version.now text.now (lines_left body)) }
+    ensures ok { IfOk result (λ body. HasHeader kind.now version.now text.now (lines_left body)) }
     ensures few { IfOk result (λ body. length (lines_left body) < 2 ^ 32) }
     ensures fault { IfErr result (IsUnopened kind.now version.now text.now) }
 {

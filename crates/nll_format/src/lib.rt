@@ -2,7 +2,7 @@
 //! the parts of lines, names and labels.
 //!
 //! Reading order: `limits`, `error`, `header`, `common_lines`, `line_reader`, `lines`, `arguments`,
-//! `name`, `names`, `labels`.
+//! `name`, `series`, `names`, `labels`.
 #![tactic(auto)]
 
 mod arguments;
@@ -15,6 +15,7 @@ mod line_reader;
 mod lines;
 mod name;
 mod names;
+mod series;
 
 pub use arguments::{nothing, number, region, region_number, two_numbers, two_regions};
 pub use common_lines::pass_over;

@@ -84,8 +84,7 @@ fn next_point(pairs: &[(RegionId, u32)], region: RegionId) -> u32
     requires small { AreSmall pairs.now }
     requires last { (r p : ℕ) → Contains pairs.now (r, p) → r ≤ region }
     ensures above { (p : ℕ) → Contains pairs.now (region, p) → p < result }
-    ensures reached { (p : ℕ) → p < result
-        → (q : ℕ) × (p ≤ q) × Contains pairs.now (region, q) }
+    ensures reached { (p : ℕ) → p < result → (q : ℕ) × (p ≤ q) × Contains pairs.now (region, q) }
 {
     if pairs.is_empty() {
         return 0;

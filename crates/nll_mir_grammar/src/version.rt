@@ -48,8 +48,7 @@ fn are_first_parameters(parameters: &[ParameterText<'_>]) -> bool
 
 // Whether the types of a call's parameters may be in a text of version 1.
 fn are_first_arguments(arguments: &[(Operand, TypeText<'_>)]) -> bool
-    ensures { result ≡ list_all (λ t. not (has_function t))
-        (map (λ a. written a.1) arguments.now) }
+    ensures { result ≡ list_all (λ t. not (has_function t)) (map (λ a. written a.1) arguments.now) }
 {
     for argument in arguments {
         if argument.1.has_function() {

@@ -58,8 +58,7 @@ impl Reader {
     // Refuses a statement with these exits that has a fault by what was judged of it.
     fn admit(&self, judgement: Judgement, exits: Exits, statement: &Stmt) -> Result<(), TextKind>
         requires ready { IsReady self.now }
-        requires exits { AreExits exits
-            (statement_in self.now.points.statements statement.now) }
+        requires exits { AreExits exits (statement_in self.now.points.statements statement.now) }
         ensures admitted { OnOk result ((i : written_statement WrittenName WrittenType)
             (fits : Bool) → IsPlaced self.now i statement.now fits
             → IsOfPoint (said_by self.now) i judgement

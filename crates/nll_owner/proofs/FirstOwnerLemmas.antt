@@ -1,5 +1,5 @@
 -- An owner that has done nothing yet.
-use Rattle.std.proofs.Common.{◌≡◌, ℕ, min, ◌+◌, ◌<◌, ◌≤◌, Bool, false, not, List, [], length, map, replicate, Contains, get_or, take, refl, sym, ap, ◌∙◌, subst, inl, ⊎_elim, arith}
+use Rattle.std.proofs.Common.{◌≡◌, ℕ, min, ◌+◌, ◌<◌, ◌≤◌, false, List, [], length, map, replicate, Contains, get_or, take, refl, sym, ap, ◌∙◌, subst, inl, ⊎_elim, arith}
 use Rattle.std.specs.List.{sum_by}
 use Rattle.std.proofs.lemmas.Bool.{cases_eq, cases_lt, false≢true}
 use Rattle.std.proofs.lemmas.List.{get_or-map, length-map, get_or-replicate, get_or_past, length-replicate}
@@ -8,10 +8,9 @@ use Rattle.std.proofs.lemmas.List.Folds.{sum_by-replicate}
 use Rattle.std.proofs.lemmas.Nat.{mul-le}
 use Rattle.nll_problem.specs.Graph.{element_count}
 use Rattle.nll_problem.specs.Problem.{Problem, IsSound as IsSoundProblem}
-use Rattle.nll_core.specs.Search.{missing}
 use Rattle.nll_core.specs.Growing.{missing_pairs}
 use Rattle.nll_core.proofs.GrowingLemmas.{nothing_held}
-use Rattle.nll_cut.specs.Partition.{Cut, owner_of, reads, IsSoundCut}
+use Rattle.nll_cut.specs.Partition.{Cut, owner_of, IsSoundCut}
 use Rattle.nll_mail.specs.declared.growth.Growth.{Growth}
 use Rattle.nll_owner.specs.Owner.{received_from, Has, pair_count, IsSoundOwner, first_owner}
 use Rattle.nll_owner.specs.Keeping.{AreValuesKept, AreSlotted, held_regions}

@@ -61,8 +61,7 @@ impl Following {
         requires cut { length cut.now.list ≡ problem.now.regions }
         requires index { SameSet index.now problem.now.constraints }
         requires slots { slots.now ≡ held_regions (first_owner problem.now cut.now me) }
-        ensures { IfOk result
-            (λ f. IsFollowing Nothing (first_owner problem.now cut.now me) f) }
+        ensures { IfOk result (λ f. IsFollowing Nothing (first_owner problem.now cut.now me) f) }
     {
         let rows = links_of(alloc, problem, cut, index, slots, me)?;
         Ok(Following {

@@ -1,6 +1,6 @@
 //! What an owner knows: its values and copies, its log, and what it received.
 
-ghost use Rattle.std.specs.Prelude.{◌≡◌, ◌⊎◌, ◌↔◌, ℕ, ◌+◌, ◌<◌, ◌≤◌, ◌^◌, true, false, max, []};
+ghost use Rattle.std.specs.Prelude.{◌≡◌, ◌⊎◌, ◌↔◌, ℕ, ◌+◌, ◌<◌, ◌≤◌, ◌^◌, true, false, []};
 ghost use Rattle.std.specs.Prelude.{Some, Contains, length, slice_get, slice_set, IsTrue, map};
 ghost use Rattle.std.specs.Prelude.{replicate, IfOk, OnOk, OnErr, min, ◌-◌, ◌++◌, vec_len};
 ghost use Rattle.std.specs.Prelude.{vec_capacity};
@@ -10,18 +10,19 @@ ghost use Rattle.nll_problem.specs.Graph.{element_count};
 ghost use Rattle.nll_core.specs.Search.{IsIn};
 ghost use Rattle.nll_cut.specs.Partition.{owner_of, reads};
 ghost use Rattle.nll_mail.specs.declared.growth.Growth.{Growth};
-ghost use Rattle.nll_owner.specs.Logs.{part};
+ghost use Rattle.nll_owner.specs.Logs.{part, IsRunOfLog};
 ghost use Rattle.nll_owner.specs.Holding.{AreValuesOf};
 ghost use Rattle.nll_owner.specs.Owner.{IsSoundOwner, IsCalled, Has, HasBases, Passes, part_for};
-ghost use Rattle.nll_owner.specs.Owner.{given_to, with_growth, first_owner, with_growths};
+ghost use Rattle.nll_owner.specs.Owner.{given_to, first_owner, with_growths};
 ghost use Rattle.nll_owner.specs.Owner.{GotBeginning};
-ghost use Rattle.nll_owner.specs.Keeping.{OwnerGrows, HasBeside, HasAllBeside, growths, IsSlot};
+ghost use Rattle.nll_owner.specs.Keeping.{OwnerGrows, IsLatest, HasAllBeside, growths, IsSlot};
 ghost use Rattle.nll_owner.specs.Keeping.{held_regions, holds_region, HasOwn, IsOfUniversal};
 ghost use Rattle.nll_owner.specs.Outboxes.{AreQueued, AreAllQueued, TellsAs};
 ghost use Rattle.nll_problem.specs.Problem.{IsBase};
 
 use crate::holding::Holding;
 use crate::outboxes::Outboxes;
+use crate::region_runs::{RegionRun, run_from};
 use crate::slots::{Slot, Slots};
 use nll_core::Values;
 use nll_cut::{Cut, Readers};
@@ -166,45 +167,48 @@ impl<'q> Knowledge<'q> {
         Ok(())
     }
 
-    // Inserts a growth into the copy of its region, and appends it to what was received.
-    fn enter_received(&mut self, from: u16, growth: Growth) -> Result<(), Memory>
-        requires { Passes self.old.problem self.old.cut self.old.me from growth }
+    // Inserts the growths of a run into the copy of their region, and appends them to what was
+    // received.
+    fn enter_run(&mut self, from: u16, growths: &[Growth], run: RegionRun) -> Result<(), Memory>
+        requires passes { let o = self.old in (g : Growth) → Contains growths.now g
+            → Passes o.problem o.cut o.me from g }
+        requires run { IsRunOfLog growths.now 0 (length growths.now) run.region run.run }
         ensures ok { OnOk result (self.new ≡ record self.old {
-          received = with_growth self.old.received from growth;
-          clock = max self.old.clock growth.rank;
+          clock = self.new.clock;
+          received = with_growths self.old.received from growths.now;
         }) }
-        ensures has { OnOk result (HasBeside growth self.old self.new) }
+        ensures has { OnOk result (HasAllBeside growths.now self.old self.new) }
         ensures err { OnErr result (self.new ≡ self.old) }
-        ensures sound { IsSoundOwner self.new }
+        ensures sound { OnOk result (IsSoundOwner self.new) }
     {
-        let clock = self.clock.max(growth.rank);
-        let slot = self.slot(growth.region);
+        let time = self.clock;
+        let slot = self.slot(run.region);
         let list = &mut self.received[from as usize];
-        make_room(list)?;
-        self.values.insert(slot, growth.element)?;
-        list.push_reserved(growth);
-        self.clock = clock;
+        make_room(list, growths.len())?;
+        self.values.insert_run(slot, run.run)?;
+        self.clock = push_all(list, growths, time);
         Ok(())
     }
 
-    /// Inserts growths of one owner into the copies of their regions, and appends them to what was
-    /// received.
+    /// Inserts growths of one owner into the copies of their regions, run by run, and appends them
+    /// to what was received.
     pub fn enter_all_received(&mut self, from: u16, growths: &[Growth]) -> Result<(), Memory>
         requires sound { IsSoundOwner self.old }
         requires passes { let o = self.old in (g : Growth) → Contains growths.now g
             → Passes o.problem o.cut o.me from g }
-        ensures others { self.new ≡ record self.old {
-          received = self.new.received;
-          clock = self.new.clock;
-        } }
+        ensures others { self.new
+            ≡ record self.old { received = self.new.received; clock = self.new.clock } }
         ensures received { OnOk result
             (self.new.received ≡ with_growths self.old.received from growths.now) }
         ensures perhaps { GotBeginning self.old.received from growths.now self.new.received }
         ensures has { OnOk result (HasAllBeside growths.now self.old self.new) }
         ensures sound { IsSoundOwner self.new }
     {
-        for growth in growths {
-            self.enter_received(from, *growth)?;
+        let mut place = 0;
+        while place < growths.len() {
+            let (run, end) = run_from(growths, place);
+            self.enter_run(from, &growths[place..end], run)?;
+            place = end;
         }
         Ok(())
     }
@@ -245,8 +249,7 @@ impl<'q> Knowledge<'q> {
 
     /// Whether the owner may receive a growth from another one.
     pub fn passes(&self, from: u16, growth: &Growth) -> bool
-        ensures { IsTrue result
-            ↔ Passes self.now.problem self.now.cut self.now.me from growth.now }
+        ensures { IsTrue result ↔ Passes self.now.problem self.now.cut self.now.me from growth.now }
     {
         let Growth {
             region,
@@ -312,8 +315,7 @@ impl<'q> Knowledge<'q> {
     /// Returns the log, and the values of the own regions.
     pub fn into_parts(self, alloc: Global) -> (Vec<Growth>, Holding)
         ensures log { result.0.items ≡ self.entry.log }
-        ensures values { let o = self.entry in
-            AreValuesOf o.problem o.cut o.me o.log result.1 }
+        ensures values { let o = self.entry in AreValuesOf o.problem o.cut o.me o.log result.1 }
     {
         let Knowledge {
             cut,
@@ -365,24 +367,38 @@ fn push_growths(log: &mut Vec<Growth>, region: RegionId, first: u32, count: u32,
     }
 }
 
-// Makes room for one more growth in a list. There are many such lists and they only grow, so it
-// makes room for a quarter of the list at once.
-fn make_room(list: &mut Vec<Growth>) -> Result<(), Memory>
+// Makes room for this many more growths in a list. There are many such lists and they only grow, so
+// it makes room for a quarter of the list at once.
+fn make_room(list: &mut Vec<Growth>, count: usize) -> Result<(), Memory>
     ensures items { list.new.items ≡ list.old.items }
-    ensures room { OnOk result (vec_len list.new + 1 ≤ vec_capacity list.new) }
+    ensures room { OnOk result (vec_len list.new + count ≤ vec_capacity list.new) }
 {
-    if list.len() < list.capacity() {
+    if count <= list.capacity() - list.len() {
         return Ok(());
     }
     let quarter = list.len() / 4;
-    list.reserve_exact(quarter.max(4))?;
+    list.reserve_exact(quarter.max(4).max(count))?;
     Ok(())
+}
+
+// Appends growths to a list, which has room for them. Returns the highest of their ranks and of a
+// time.
+fn push_all(list: &mut Vec<Growth>, growths: &[Growth], time: u64) -> u64
+    requires { vec_len list.old + length growths.now ≤ vec_capacity list.old }
+    ensures items { list.new.items ≡ list.old.items ++ growths.now }
+    ensures latest { IsLatest time growths.now result }
+{
+    let mut clock = time;
+    for growth in growths {
+        list.push_reserved(*growth);
+        clock = clock.max(growth.rank);
+    }
+    clock
 }
 
 // This many empty lists.
 fn empty_lists(alloc: Global, count: u16) -> Result<Vec<Vec<Growth>>, Memory>
-    ensures { IfOk result
-        (λ lists. map (λ list. list.items) lists.items ≡ replicate count []) }
+    ensures { IfOk result (λ lists. map (λ list. list.items) lists.items ≡ replicate count []) }
 {
     let mut lists = Vec::new(alloc);
     for _ in 0..count {
@@ -407,8 +423,7 @@ impl<'q> Knowledge<'q> {
     fn enter_universals(&mut self) -> Result<(), Memory>
         requires sound { IsSoundOwner self.old }
         ensures grows { OwnerGrows self.old self.new }
-        ensures covers { OnOk result
-            (HasOwn (IsOfUniversal self.old.problem) self.old self.new) }
+        ensures covers { OnOk result (HasOwn (IsOfUniversal self.old.problem) self.old self.new) }
     {
         let problem = self.problem;
         let points = problem.points();

@@ -49,8 +49,7 @@ impl LinkFrontier {
     /// Appends where a further constraint holds.
     pub fn add(&mut self, alloc: Global, at: At) -> Result<(), Memory>
         requires { (x : places) → Contains self.old.starts x → at_rank x < at_rank at }
-        ensures { OnOk result
-            (self.new ≡ record self.old { starts = self.old.starts ++ at ∷ [] }) }
+        ensures { OnOk result (self.new ≡ record self.old { starts = self.old.starts ++ at ∷ [] }) }
     {
         match &mut self.state {
             State::Kept(frontier) => frontier.add(alloc, at),

@@ -161,8 +161,7 @@ impl Outboxes {
     /// that region (not proved).
     pub fn take_up(&mut self, readers: &Readers, log: &[Growth]) -> Result<(), Memory>
         requires within { self.old.place ≤ length log.now }
-        requires owners { (j r : ℕ) → is_read readers.now j r ≡ true
-            → j < length self.old.queues }
+        requires owners { (j r : ℕ) → is_read readers.now j r ≡ true → j < length self.old.queues }
         ensures { OnOk result ((o : Owner) → o.log ≡ log.now → TellsAs o readers.now
             → AreQueued o self.old → AreAllQueued o self.new) }
     {
@@ -177,8 +176,7 @@ impl Outboxes {
     // Appends the indices up to the end to the queues of those that read a region.
     fn queue(&mut self, readers: &Readers, region: RegionId, end: usize) -> Result<(), Memory>
         requires place { self.old.place < end }
-        requires owners { (j r : ℕ) → is_read readers.now j r ≡ true
-            → j < length self.old.queues }
+        requires owners { (j r : ℕ) → is_read readers.now j r ≡ true → j < length self.old.queues }
         ensures count { length self.new.queues ≡ length self.old.queues }
         ensures place { self.new.place ≡ end }
         ensures got { OnOk result (GotPlaces (λ j. is_read readers.now j region)

@@ -267,8 +267,7 @@ impl<'q> Owner<'q> {
     /// Whether the owner may receive a growth from another one: whether it is of a region of that
     /// owner which this one reads, and of an element of the problem.
     pub fn passes(&self, from: u16, growth: &Growth) -> bool
-        ensures { IsTrue result
-            ↔ Passes self.now.problem self.now.cut self.now.me from growth.now }
+        ensures { IsTrue result ↔ Passes self.now.problem self.now.cut self.now.me from growth.now }
     {
         self.knowledge.passes(from, growth)
     }
@@ -422,8 +421,7 @@ impl<'q> Owner<'q> {
     /// A look at each region that the owner holds (not proved).
     pub fn into_parts(self, alloc: Global) -> (Vec<Growth>, Holding)
         ensures log { result.0.items ≡ self.entry.log }
-        ensures values { let o = self.entry in
-            AreValuesOf o.problem o.cut o.me o.log result.1 }
+        ensures values { let o = self.entry in AreValuesOf o.problem o.cut o.me o.log result.1 }
     {
         let Owner { knowledge, .. } = self;
         knowledge.into_parts(alloc)

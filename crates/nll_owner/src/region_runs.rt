@@ -1,7 +1,9 @@
 //! What growths say, as few runs, region by region.
 
 ghost use Rattle.std.specs.Prelude.{◌≡◌, ◌<◌, ◌^◌, ◌+◌, ◌↔◌, List, [], IsTrue, OnOk};
+ghost use Rattle.std.specs.Prelude.{length};
 ghost use Rattle.nll_mail.specs.declared.growth.Growth.{Growth};
+ghost use Rattle.nll_owner.specs.Logs.{IsRunOfLog};
 ghost use Rattle.nll_owner.specs.RegionRuns.{AreProper, TellTheSame};
 
 use nll_mail::Growth;
@@ -76,20 +78,29 @@ fn list_runs(growths: &[Growth], list: &mut Vec<RegionRun>) -> Result<(), Memory
 {
     let mut place = 0;
     while place < growths.len() {
-        let region = growths[place].region;
-        let element = growths[place].element;
-        let first = element.0;
-        let mut last = first;
-        let mut end = place + 1;
-        while end < growths.len() && is_next(&growths[end], region, last) {
-            last += 1;
-            end += 1;
-        }
-        let run = Run { first, last };
-        list.push(RegionRun { region, run })?;
+        let (run, end) = run_from(growths, place);
+        list.push(run)?;
         place = end;
     }
     Ok(())
+}
+
+/// The run that the growths from a place on begin with, and where the next one begins.
+pub fn run_from(growths: &[Growth], place: usize) -> (RegionRun, usize)
+    requires { place < length growths.now }
+    ensures { IsRunOfLog growths.now place result.1 result.0.region result.0.run }
+{
+    let region = growths[place].region;
+    let element = growths[place].element;
+    let first = element.0;
+    let mut last = first;
+    let mut end = place + 1;
+    while end < growths.len() && is_next(&growths[end], region, last) {
+        last += 1;
+        end += 1;
+    }
+    let run = Run { first, last };
+    (RegionRun { region, run }, end)
 }
 
 // Whether a growth gives a region the element after a given one.

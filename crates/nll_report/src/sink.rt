@@ -22,8 +22,7 @@ pub trait Sink {
     /// `Unwritten` if the sink takes only some of the bytes, or fails to flush.
     fn put(&mut self, bytes: &[u8]) -> Result<(), Unwritten>
         ensures all { OnOk result (Appends (contents self.old) (contents self.new) bytes.now) }
-        ensures left { OnOk result
-            (LeavesRoom (room self.old) (room self.new) (length bytes.now)) }
+        ensures left { OnOk result (LeavesRoom (room self.old) (room self.new) (length bytes.now)) }
         ensures within { IfErr result (λ e. e.written ≤ length bytes.now) }
         ensures first { IfErr result (λ e.
             Appends (contents self.old) (contents self.new) (take e.written bytes.now)) }

@@ -188,8 +188,7 @@ impl<'a> Known<'a> {
 
     // Appends what a call asks.
     fn ask_call(&mut self, alloc: Global, call: &FlatCall, asked: &mut Asked) -> Result<(), Memory>
-        requires rows { HasRows self.old.shapes self.old.regions
-            (call_in self.old.lists call.now) }
+        requires rows { HasRows self.old.shapes self.old.regions (call_in self.old.lists call.now) }
         requires agree { types_agree self.old.structs self.old.variables
             (meant_by self.old.shapes self.old.regions (call_in self.old.lists call.now)) ≡ true }
         ensures learns { Learns self.old self.new }

@@ -72,8 +72,7 @@ fn add_points(
     requires known { IsOfBody body.now known.old }
     requires points { builder.old.graph.points ≡ length body.now.points }
     requires regions { builder.old.regions ≡ length body.now.names }
-    ensures ok { OnOk result
-        (AddsConstraints (IsAskedSomewhere body.now) builder.old builder.new) }
+    ensures ok { OnOk result (AddsConstraints (IsAskedSomewhere body.now) builder.old builder.new) }
     ensures err { IfErr result (IsRoomRefused (IsAskedSomewhere body.now) builder.old) }
 {
     for point in 0..body.points() {

@@ -325,8 +325,7 @@ impl<'a> Known<'a> {
     ) -> Result<Option<TypeRow>, Memory>
         requires { IsRightField self.old.structs self.old.table key field }
         ensures learns { Learns self.old self.new }
-        ensures row { IfOk result
-            (IsFieldOfUse self.old self.new key.shape key.place row.now) }
+        ensures row { IfOk result (IsFieldOfUse self.old self.new key.shape key.place row.now) }
     {
         let made = field.of(alloc, row)?;
         let part = self.lists.add(field.shape, made.as_slice())?;

@@ -21,8 +21,7 @@ pub fn make_columns<T, M: Mail<T>>(
     alloc: Global,
     owners: u16,
 ) -> Result<Vec<Vec<Option<M::R>>>, Memory>
-    ensures { IfOk result (λ columns.
-        map (λ c. c.items) columns.items ≡ replicate owners []) }
+    ensures { IfOk result (λ columns. map (λ c. c.items) columns.items ≡ replicate owners []) }
 {
     let mut columns = Vec::new(alloc);
     for _ in 0..owners {

@@ -55,8 +55,7 @@ pub fn take_apart<A: Analysis, M: Mail<A::Growth>, L: Ledger>(
     ensures lefts { IfOk result (λ p. p.lefts.items ≡ map (λ d. d.left) finished.items) }
     ensures grown { IfOk result
         (λ p. map (λ l. l.items) p.grown.items ≡ map (λ d. d.log.items) finished.items) }
-    ensures yields { IfOk result
-        (λ p. p.yields.items ≡ map (λ d. d.yielded) finished.items) }
+    ensures yields { IfOk result (λ p. p.yields.items ≡ map (λ d. d.yielded) finished.items) }
     ensures rows { IfOk result
         (λ p. map (λ r. r.items) p.rows.items ≡ map (λ d. d.closed.items) finished.items) }
     ensures columns { IfOk result

@@ -42,8 +42,7 @@ pub fn count_new<A: Analysis>(part: &A::Part, tally: &mut Tally) -> u64
     ensures more { (before : State A A.Growth) → HasGrown before (A.state part.now)
         → IsCounted A.rules before tally.old
         → due_of A.rules before + result ≡ due_of A.rules (A.state part.now) }
-    ensures same { (tally.new.turns ≡ tally.old.turns)
-        × (tally.new.cleared ≡ tally.old.cleared) }
+    ensures same { (tally.new.turns ≡ tally.old.turns) × (tally.new.cleared ≡ tally.old.cleared) }
 {
     let grown = A::grown(part);
     if grown == tally.grown {

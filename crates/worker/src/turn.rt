@@ -1,6 +1,6 @@
 //! A worker's turns.
 
-ghost use Rattle.std.specs.Prelude.{◌≡◌, ◌<◌, List, map};
+ghost use Rattle.std.specs.Prelude.{◌≡◌, ◌+◌, ◌%◌, ◌<◌, List, map};
 ghost use Rattle.fixpoint.specs.State.{IsSound, first_state};
 ghost use Rattle.worker.specs.Mailboxes.{AreAllEmpty, through};
 ghost use Rattle.worker.specs.Finishing.{IsFresh, IsOpenStill};
@@ -25,8 +25,7 @@ pub fn first_turn<A: Analysis, L: Ledger, G: Gate>(
     part: &mut A::Part,
 ) -> Heard
     requires first { let o = A.state part.old in o ≡ first_state A.rules o.system o.me }
-    requires fresh { IsFresh L.Ledger account.old.book.now (A.state part.old).me
-        account.old.share }
+    requires fresh { IsFresh L.Ledger account.old.book.now (A.state part.old).me account.old.share }
     requires uncounted { account.old.tally ≡ none_counted }
     ensures grows { HasGrown (A.state part.old) (A.state part.new) }
     ensures sound { IsSound A.rules (A.state part.new) }
@@ -46,12 +45,13 @@ pub fn first_turn<A: Analysis, L: Ledger, G: Gate>(
     Heard::Growths
 }
 
-// The owner that comes so many behind another; behind the last comes owner 0. A division at each
-// look into a mailbox would be a twentieth of what a growth from owner to owner takes.
+// The owner that comes so many behind another; behind the last comes owner 0. It has no division,
+// which is slow, and would be there for each look into a mailbox.
 fn owner_behind(first: u16, step: u16, owners: u16) -> u16
     requires first { first < owners }
     requires step { step < owners }
-    ensures { result < owners }
+    ensures within { result < owners }
+    ensures behind { result ≡ (first + step) % owners }
 {
     let rest = owners - first;
     if step < rest {

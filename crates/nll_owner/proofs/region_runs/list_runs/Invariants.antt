@@ -1,5 +1,4 @@
 use Rattle.std.proofs.Common.{◌-◌, length}
-use Rattle.nll_owner.specs.Logs.{IsRunOfLog}
 use Rattle.nll_owner.proofs.RegionRunLemmas.{AreListed}
 use Rattle.nll_owner.proofs.region_runs.list_runs.Given as goal
 
@@ -8,9 +7,3 @@ invariant-loop-place l = AreListed l.growths l.place l.list.items
 
 abbrev pub decreases-loop-place : goal.decreases-loop-place
 decreases-loop-place l = length l.growths - l.place
-
-abbrev pub invariant-loop-end : goal.invariant-loop-end
-invariant-loop-end l = IsRunOfLog l.growths l.place l.end l.region (record { first = l.first; last = l.last })
-
-abbrev pub decreases-loop-end : goal.decreases-loop-end
-decreases-loop-end l = length l.growths - l.end

@@ -17,7 +17,7 @@ after c =
 pub invariant_of-self-2 : goal.invariant_of-self-2
 invariant_of-self-2 c =
     rw (after (goal.at.invariant_of-self-2 c).In_ok-insert)
-    (texts_push _ c.args.name.now c.self.invariant c.requires.text)
+    (texts_push _ c.args.name.now c.self.invariant.0 c.requires.text, c.series_with-series.ensures)
 
 pub returns-clause-ok : goal.returns-clause-ok
 returns-clause-ok c = rw (← c.self.view_is) (after (goal.at.returns-clause-ok c).In_ok-insert)

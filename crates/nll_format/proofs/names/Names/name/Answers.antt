@@ -7,7 +7,7 @@ pub unreachable-requires : goal.unreachable-requires
 unreachable-requires c =
     c.in-Err.ensures.cases.0 (subst IsUtf8
     (sym (c.as_slice.ensures ∙ name_at (λ name. name.items) c.self.inside.set.keys c.args.number c.index.result.now
-    c.index.ensures)) (c.self.invariant c.args.number (rw (← c.self.view_is) at c.requires)))
+    c.index.ensures)) (c.self.invariant.0 c.args.number (rw (← c.self.view_is) at c.requires)))
 
 pub returns : goal.returns
 returns c =

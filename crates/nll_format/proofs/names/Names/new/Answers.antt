@@ -14,4 +14,4 @@ pub invariant_of-result : goal.invariant_of-result
 unfolding lib.Utf8.encode
 invariant_of-result c =
     rw (after (goal.at.invariant_of-result c).In_ok-insert)
-    (texts_push [] (codes "static") (λ k low. absurd (omega (arith, low))) (codes "static", (refl, refl)))
+    (texts_push [] (codes "static") (λ k low. absurd (omega (arith, low))) (codes "static", (refl, refl)), tt)
