@@ -13,7 +13,7 @@ number_of names name = position_or_len (bytes_eq name) names
 abbrev pub AreTexts : List (List ℕ) → Type 0
 AreTexts names = (k : ℕ) → k < length names → IsUtf8 (slice_index_or names k [])
 
--- a name begins with this many bytes of another one, and the rest is a number
+-- a name begins with this many bytes of another one, and the rest is this number
 abbrev pub IsNumbered : ℕ → List ℕ → List ℕ → ℕ → Type 0
 IsNumbered front first name n = name ≡ take front first ++ decimal n
 

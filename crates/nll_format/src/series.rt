@@ -1,6 +1,7 @@
 //! Names that are numbered one after another.
 
-ghost use Rattle.std.specs.Prelude.{◌≡◌, ◌+◌, ◌-◌, ◌++◌, ◌≤◌, length, take, IfSome, decimal};
+ghost use Rattle.std.specs.Prelude.{◌≡◌, ◌↔◌, ◌+◌, ◌-◌, ◌++◌, ◌≤◌, length, take};
+ghost use Rattle.std.specs.Prelude.{IfSome, IsTrue, decimal};
 ghost use Rattle.nll_format.specs.Names.{IsNumbered};
 
 use nll_text::number_in_front;
@@ -40,6 +41,21 @@ fn len_of_front(name: &[u8]) -> usize {
     front
 }
 
+// Whether bytes are the same as others. They are few: they are compared one after another.
+fn are_same(bytes: &[u8], others: &[u8]) -> bool
+    ensures { IsTrue result ↔ (bytes.now ≡ others.now) }
+{
+    if bytes.len() != others.len() {
+        return false;
+    }
+    for place in 0..bytes.len() {
+        if bytes[place] != others[place] {
+            return false;
+        }
+    }
+    true
+}
+
 impl Series {
     /// The series that a name at an index begins, if a number is at its end.
     pub fn of(name: &[u8], at: usize) -> Option<Series>
@@ -56,7 +72,8 @@ impl Series {
             × IsNumbered s.front first.now name.now (s.number + (i - s.at))) }
     {
         let (bytes, number) = split(name, self.front)?;
-        if !first.starts_with(bytes) {
+        let (front, _) = first.split_at_checked(self.front)?;
+        if !are_same(bytes, front) {
             return None;
         }
         let step = number.checked_sub(self.number)?;
