@@ -88,8 +88,7 @@ pub comes_so : (s s' : State) (frames frames' : List Frame) (t t' : WrittenType)
     → (begun frames ++ complete s t) ++ map plain row ≡ begun frames' ++ complete s' t'
     → AreOpen (reverse os') frames' → IsFitting s' frames' → Steps s frames t ts s' frames' t' ts'
     → ComesTo s frames t ts s' ps' os' ts'
-comes_so s s' frames frames' t t' ts ts' ps ps' row os os' r put made are fits step =
-    grind (arith, map-append)
+comes_so s s' frames frames' t t' ts ts' ps ps' row os os' r put made are fits step = grind (arith, map-append)
 
 -- ---- the beginning of a type
 
@@ -227,8 +226,7 @@ read_behind q m frames t ps os r = grind (arith, append_assoc)
 
 -- Each type that is complete in these frames becomes a part of the innermost thing that was open, or completes it.
 abbrev Completes : (ps ps' : List TypePiece) (os os' : List Open) (s : State) → List Frame → Type 0
-Completes ps ps' os os' s frames =
-    (t : WrittenType) → AreRead Have frames t ps os → IsCompleted frames t os s ps' os'
+Completes ps ps' os os' s frames = (t : WrittenType) → AreRead Have frames t ps os → IsCompleted frames t os s ps' os'
 
 -- what a reference points to
 completes_behind : (ps ps' : List TypePiece) (os os' : List Open) (s : State) (q : WrittenName) (m : Bool)

@@ -72,8 +72,7 @@ comma other = sign 44 ∷ other
 real_listed : {A : Type 0} (f : A → List Token) (each : (a : A) → AreReal (f a)) (xs : List A)
     → AreReal (flat_map comma (map f xs))
 real_listed f each [] = tt
-real_listed f each (x ∷ xs) =
-    (refl, real_append (f x) (flat_map comma (map f xs)) (each x) (real_listed f each xs))
+real_listed f each (x ∷ xs) = (refl, real_append (f x) (flat_map comma (map f xs)) (each x) (real_listed f each xs))
 
 real_parted : {A : Type 0} (f : A → List Token) (each : (a : A) → AreReal (f a)) (xs : List A)
     → AreReal (parted (map f xs))
@@ -82,8 +81,7 @@ real_parted f each (x ∷ xs) = real_append (f x) (flat_map comma (map f xs)) (e
 
 real_parentheses : {A : Type 0} (f : A → List Token) (each : (a : A) → AreReal (f a)) (xs : List A)
     → AreReal (in_parentheses (map f xs))
-real_parentheses f each xs =
-    (refl, real_append (parted (map f xs)) (sign 41 ∷ []) (real_parted f each xs) (refl, tt))
+real_parentheses f each xs = (refl, real_append (parted (map f xs)) (sign 41 ∷ []) (real_parted f each xs) (refl, tt))
 
 real_projection : (p : Projection) → AreReal (spelled_projection p)
 real_projection Deref = (refl, (refl, tt))
@@ -156,8 +154,7 @@ real_statement c (assign p op) = real_append (spelled_place p) _ (real_place p) 
 real_statement c (borrow p r m q) =
     real_append (spelled_place p) _ (real_place p)
     (refl, (refl, (tt, real_append (mutability m) (spelled_place q) (real_mutability m) (real_place q))))
-real_statement c (make p t ops) =
-    grind (arith, real_append, real_place, real_type, real_parentheses, real_operand)
+real_statement c (make p t ops) = grind (arith, real_append, real_place, real_type, real_parentheses, real_operand)
 real_statement c (read p) = (tt, real_place p)
 real_statement c (live x) = (tt, (tt, tt))
 real_statement c (dead x) = (tt, (tt, tt))

@@ -156,8 +156,7 @@ no_copied ts mid e none (moved p) r b = behind_word (codes "copy") (codes "move"
 pub no_moved : (ts mid : List Token) → ts ≡ word (codes "move") ∷ mid → HasNone places mid → HasNone operands ts
 no_moved ts mid e none constant r b = behind_word (codes "move") (codes "const") ts _ _ e b.joined refl
 no_moved ts mid e none (copied p) r b = behind_word (codes "move") (codes "copy") ts _ _ e b.joined refl
-no_moved ts mid e none (moved p) r b =
-    behind_none places (word (codes "move")) ts mid e none p r (moved_place ts p r b)
+no_moved ts mid e none (moved p) r b = behind_none places (word (codes "move")) ts mid e none p r (moved_place ts p r b)
 
 pub operands_one : IsOne operands
 operands_one ts constant constant r s x y = (refl, tail_same _ _ _ _ (sym x.joined ∙ y.joined))

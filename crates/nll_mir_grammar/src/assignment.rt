@@ -21,8 +21,7 @@ use std::alloc::Global;
 // The borrow that goes to the place, after `&`: its region, whether it is `mut`, and the place
 // that is borrowed.
 fn borrowed<'a>(alloc: Global, place: Place, line: &'a [u8]) -> Read<'a, Line<'a>>
-    ensures { IfOk result
-        (λ o. (ts : List lex.Token) → ts ≡ lex.sign 38 ∷ tokens_in line.now
+    ensures { IfOk result (λ o. (ts : List lex.Token) → ts ≡ lex.sign 38 ∷ tokens_in line.now
         → MatchOption o (HasNone rights ts)
         (λ p. IsRightSide ts (path_of place) (form_of p.0) (tokens_in p.1.now))) }
 {
@@ -87,8 +86,7 @@ fn called<'a>(alloc: Global, place: Place, line: &'a [u8]) -> Read<'a, Line<'a>>
 
 /// The assignment at the front.
 pub fn assignment_at<'a>(alloc: Global, line: &'a [u8]) -> Read<'a, Line<'a>>
-    ensures { IfOk result
-        (λ o. MatchOption o (HasNone (line_grammars None) (tokens_in line.now))
+    ensures { IfOk result (λ o. MatchOption o (HasNone (line_grammars None) (tokens_in line.now))
         (λ p. IsLine (tokens_in line.now) (form_of p.0) (tokens_in p.1.now))) }
 {
     let Some((place, behind)) = place_at(alloc, line)? else {

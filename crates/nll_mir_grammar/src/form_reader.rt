@@ -26,8 +26,7 @@ use std::alloc::Global;
 
 // The line that begins with the keyword, after which the rest follows.
 fn line_behind<'a>(alloc: Global, keyword: Keyword, line: &'a [u8]) -> Read<'a, Line<'a>>
-    ensures { IfOk result
-        (λ o. MatchOption o (HasNone (tails keyword) (tokens_in line.now))
+    ensures { IfOk result (λ o. MatchOption o (HasNone (tails keyword) (tokens_in line.now))
         (λ p. IsBehind keyword (tokens_in line.now) (form_of p.0) (tokens_in p.1.now))) }
 {
     match keyword {

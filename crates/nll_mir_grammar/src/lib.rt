@@ -29,7 +29,7 @@ mod words;
 
 pub use form_reader::line_of;
 pub use laws::{a_type_has_tokens, one_form, one_type_at_most};
-pub use light::{Light, light_line};
+pub use light::{Light, light_block, light_line};
 pub use line::{Line, ParameterText, StructText, TupleText};
 pub use type_reader::type_at;
 pub use type_text::{TypePiece, TypeText};

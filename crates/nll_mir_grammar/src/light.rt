@@ -1,14 +1,14 @@
-//! Statements that name at most a variable: many lines of a text are such, and are told by their
-//! first bytes.
+//! Statements that name at most a variable, and lines that begin a block: many lines of a text are
+//! such, and are told by their first bytes.
 
 ghost use Rattle.std.specs.Prelude.{◌≡◌, ◌∷◌, [], IfSome};
 ghost use Rattle.nll_text.specs.LineTokens.{tokens_in};
-ghost use Rattle.nll_mir_grammar.specs.MirForms.{at_point, variable_word, IsShortNumber};
+ghost use Rattle.nll_mir_grammar.specs.MirForms.{at_point, block, variable_word, IsShortNumber};
 ghost use Rattle.nll_mir_grammar.specs.Lines.{statement_of_light};
 ghost use Rattle.nll_mir_grammar.specs.Versions.{HasFormIn};
 ghost use Rattle.nll_mir_grammar.specs.declared.version.Version.{Version as version};
 
-use crate::words::variable_at;
+use crate::words::{block_at, variable_at};
 use nll_text::{after_word, is_gap};
 
 /// A statement that names at most a variable.
@@ -52,4 +52,18 @@ pub fn light_line(line: &[u8]) -> Option<Light>
         }
         _ => None,
     }
+}
+
+/// The number of the block that a line begins, where the word `block` is at its front.
+///
+/// # Cost
+/// A few instructions for any other line (not proved).
+pub fn light_block(line: &[u8]) -> Option<u32>
+    ensures { IfSome result (λ n. (v : version) → HasFormIn v line.now (block n)) }
+{
+    let [b'b', ..] = line else {
+        return None;
+    };
+    let (number, rest) = block_at(after_word(line, b"block")?)?;
+    if is_gap(rest) { Some(number) } else { None }
 }

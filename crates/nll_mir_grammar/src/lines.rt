@@ -68,8 +68,7 @@ pub fn blocks_line<'a>(line: &'a [u8]) -> Option<(Line<'a>, &'a [u8])>
 
 /// After `let`.
 pub fn let_line<'a>(alloc: Global, line: &'a [u8]) -> Read<'a, Line<'a>>
-    ensures { IfOk result
-        (λ o. MatchOption o (HasNone (tails keyword.Let) (tokens_in line.now))
+    ensures { IfOk result (λ o. MatchOption o (HasNone (tails keyword.Let) (tokens_in line.now))
         (λ p. IsBehind keyword.Let (tokens_in line.now) (form_of p.0) (tokens_in p.1.now))) }
 {
     let Some((variable, behind)) = variable_at(line) else {
@@ -87,8 +86,7 @@ fn struct_behind<'a>(
     alloc: Global,
     line: &'a [u8],
 ) -> Read<'a, (Vec<ParameterText<'a>>, (bool, TupleText<'a>))>
-    ensures { IfOk result
-        (λ o. MatchOption o
+    ensures { IfOk result (λ o. MatchOption o
         (HasNone (pair parameter_lists (pair drop_marks tuples)) (tokens_in line.now))
         (λ p. Begins (pair parameter_lists (pair drop_marks tuples)) (tokens_in line.now)
         (map parameter_of p.0.0.items, (p.0.1.0, parts (written p.0.1.1))) (tokens_in p.1.now))) }
@@ -103,8 +101,7 @@ fn struct_behind<'a>(
 
 /// After `struct`.
 pub fn struct_line<'a>(alloc: Global, line: &'a [u8]) -> Read<'a, Line<'a>>
-    ensures { IfOk result
-        (λ o. MatchOption o (HasNone (tails keyword.Struct) (tokens_in line.now))
+    ensures { IfOk result (λ o. MatchOption o (HasNone (tails keyword.Struct) (tokens_in line.now))
         (λ p. IsBehind keyword.Struct (tokens_in line.now) (form_of p.0) (tokens_in p.1.now))) }
 {
     let Some((name, behind)) = name_at(line) else {

@@ -4,8 +4,7 @@ ghost use Rattle.std.specs.Prelude.{◌≡◌, [], ◌∷◌, ◌++◌, IfOk, Ma
 ghost use Rattle.nll_text.specs.Tokens as lex;
 ghost use Rattle.nll_text.specs.LineTokens.{tokens_in};
 ghost use Rattle.nll_text.specs.Grammars.{Begins, Grammar, HasNone};
-ghost use Rattle.nll_mir_grammar.specs.Grammars.{IsBefore, IsListable, Puts, commas};
-ghost use Rattle.nll_mir_grammar.specs.Grammars.{parentheses};
+ghost use Rattle.nll_mir_grammar.specs.Grammars.{IsBefore, IsListable, Puts, commas, parentheses};
 
 use crate::pairs::Read;
 use nll_sets::Memory;
@@ -104,8 +103,7 @@ pub fn list<'a, T: Listed<'a>>(alloc: Global, line: &'a [u8]) -> Read<'a, Vec<T>
 /// The values between `(` and `)`.
 pub fn values_in<'a, T: Listed<'a>>(alloc: Global, line: &'a [u8]) -> Read<'a, Vec<T>>
     requires { IsListable T.grammar (lex.sign 41) }
-    ensures { IfOk result
-        (λ o. MatchOption o (HasNone (parentheses T.grammar) (tokens_in line.now))
+    ensures { IfOk result (λ o. MatchOption o (HasNone (parentheses T.grammar) (tokens_in line.now))
         (λ p. Begins (parentheses T.grammar) (tokens_in line.now) (map T.meant p.0.items)
         (tokens_in p.1.now))) }
 {

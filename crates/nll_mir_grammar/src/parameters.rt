@@ -73,8 +73,7 @@ impl<'a> Listed<'a> for ParameterText<'a> {
 
 /// The parameters between `<` and `>`, or none.
 pub fn parameters_in<'a>(alloc: Global, line: &'a [u8]) -> Read<'a, Vec<ParameterText<'a>>>
-    ensures { IfOk result
-        (λ o. MatchOption o (HasNone parts.parameter_lists (tokens_in line.now))
+    ensures { IfOk result (λ o. MatchOption o (HasNone parts.parameter_lists (tokens_in line.now))
         (λ p. Begins parts.parameter_lists (tokens_in line.now) (map parameter_of p.0.items)
         (tokens_in p.1.now))) }
 {

@@ -37,8 +37,7 @@ fn projections_at<'a>(
     alloc: Global,
     line: &'a [u8],
 ) -> Result<(SmallVec<Projection, 3>, &'a [u8]), Memory>
-    ensures { IfOk result
-        (λ p. Begins (many parts.projections) (tokens_in line.now) p.0.items
+    ensures { IfOk result (λ p. Begins (many parts.projections) (tokens_in line.now) p.0.items
         (tokens_in p.1.now)) }
 {
     let mut projections = SmallVec::new(alloc);

@@ -27,8 +27,7 @@ pub fn drop_line<'a>(line: &'a [u8]) -> Option<(Line<'a>, &'a [u8])>
 
 /// After `read`.
 pub fn read_line<'a>(alloc: Global, line: &'a [u8]) -> Read<'a, Line<'a>>
-    ensures { IfOk result
-        (λ o. MatchOption o (HasNone (tails keyword.Read) (tokens_in line.now))
+    ensures { IfOk result (λ o. MatchOption o (HasNone (tails keyword.Read) (tokens_in line.now))
         (λ p. IsBehind keyword.Read (tokens_in line.now) (form_of p.0) (tokens_in p.1.now))) }
 {
     let Some((place, rest)) = place_at(alloc, line)? else {
@@ -39,8 +38,7 @@ pub fn read_line<'a>(alloc: Global, line: &'a [u8]) -> Read<'a, Line<'a>>
 
 /// After `switch`.
 pub fn switch_line<'a>(alloc: Global, line: &'a [u8]) -> Read<'a, Line<'a>>
-    ensures { IfOk result
-        (λ o. MatchOption o (HasNone (tails keyword.Switch) (tokens_in line.now))
+    ensures { IfOk result (λ o. MatchOption o (HasNone (tails keyword.Switch) (tokens_in line.now))
         (λ p. IsBehind keyword.Switch (tokens_in line.now) (form_of p.0) (tokens_in p.1.now))) }
 {
     let Some((operand, behind)) = operand_at(alloc, line)? else {

@@ -105,8 +105,7 @@ there_already row y x false e there = sym (or_none (is_name_among row x))
 
 names_old : (row names : List WrittenName) (y : WrittenName) → AreNamesOf row names → is_name_among names y ≡ true
     → AreNamesOf (row ++ y ∷ []) names
-names_old row names y h there =
-    grind (arith, false≢true, repeats_push, or_right, there_already, among_push)
+names_old row names y h there = grind (arith, false≢true, repeats_push, or_right, there_already, among_push)
 
 -- the names after one that is new or not
 names_more : (row names after : List WrittenName) (y : WrittenName) (new : Bool) → AreNamesOf row names

@@ -54,8 +54,7 @@ alone P x h (suc k) d l = absurd (omega (arith, l))
 pub flat_of : (s : Scope) (i : Statement WrittenName WrittenType) (types : BodyTypes) (lists : StatementLists)
     (flat : Stmt)
     (k : Statement ℕ Typed) → IsOfStatement s i types k → IsFlatStatement lists k flat → IsFlatOf s i types lists flat
-flat_of s i types lists flat k of is =
-    record { within = is.0; of = subst (IsOfStatement s i types) (sym is.1) of }
+flat_of s i types lists flat k of is = record { within = is.0; of = subst (IsOfStatement s i types) (sym is.1) of }
 
 -- what is made over numbers
 pub made_resolved : (s : Scope) (types : BodyTypes) (m : Make (List TypePiece)) (v : Typed)
@@ -76,5 +75,4 @@ pub put : (s : Scope) (i : Statement WrittenName WrittenType) (types : BodyTypes
     (k : Statement ℕ Typed) → ListsGrow old new → IsFlatStatement new k flat → has_names s i ≡ true
     → types_written k ≡ [] → types_written i ≡ []
     → meant_by types.table.shapes types.regions.items k ≡ meant_in s i → IsPut s i types old new flat
-put s i types old new flat k grows is known untyped unwritten meant =
-    grind (arith, flat_of, none, and-true)
+put s i types old new flat k grows is known untyped unwritten meant = grind (arith, flat_of, none, and-true)

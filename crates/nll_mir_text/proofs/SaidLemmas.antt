@@ -371,8 +371,7 @@ ended forms h = ended_rank forms (reached_at (said forms) End h)
 contains_rank : (forms : List Form) (f : Form) (k : ℕ) → k < length forms → get_or forms k f ≡ f
     → group f ≤ reached forms
 contains_rank [] f k h e = absurd (omega (arith, h))
-contains_rank (g ∷ forms) f zero h e =
-    subst (λ x. group x ≤ reached (g ∷ forms)) e (group_reached g forms)
+contains_rank (g ∷ forms) f zero h e = subst (λ x. group x ≤ reached (g ∷ forms)) e (group_reached g forms)
 contains_rank (g ∷ forms) f (suc k) h e =
     omega (arith, contains_rank forms f k (omega (arith, h)) e, reached_more g forms)
 

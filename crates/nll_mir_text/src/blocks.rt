@@ -41,6 +41,18 @@ impl Reader {
         Ok(())
     }
 
+    /// Begins a block, where a block may begin.
+    pub(crate) fn begin_block(&mut self, number: u32) -> Result<(), TextKind>
+        requires { IsReady self.old }
+        ensures taken { OnOk result (IsTaken (said_by self.old) (forms.block number) self.new) }
+        ensures refused { IfErr result (IsRefused (said_by self.old) (forms.block number)) }
+    {
+        if !(self.is_in_body() & !self.points.owes) {
+            return Err(TextKind::Syntax);
+        }
+        self.add_block(number)
+    }
+
     /// Ends the text.
     pub(crate) fn end(&mut self) -> Result<(), TextKind>
         requires { IsDue self.old forms.end }

@@ -78,11 +78,9 @@ pub fn declaration(
     fields: Typed,
 ) -> Result<Declaration, Memory>
     requires { fields.shape < length types.now.table.shapes }
-    ensures regions { IfOk result (λ d.
-        d.regions.items ≡ map (λ p. p.1)
+    ensures regions { IfOk result (λ d. d.regions.items ≡ map (λ p. p.1)
         (regions_in (map parameter_of text.now.parameters.items))) }
-    ensures types { IfOk result (λ d.
-        d.types.items ≡ map (λ p. p.1)
+    ensures types { IfOk result (λ d. d.types.items ≡ map (λ p. p.1)
         (types_in (map parameter_of text.now.parameters.items))) }
     ensures has_drop { IfOk result (λ d. d.has_drop ≡ text.now.has_drop) }
     ensures fields { IfOk result (λ d. (ts : TypeTrees)

@@ -15,7 +15,7 @@ use crate::tables::{Points, Regions, StructNames, Variables};
 use indexmap::IndexSet;
 use nll_body::{BodyParts, Statements};
 use nll_format::{LineReader, Names, TextKind, pass_over};
-use nll_mir_grammar::{Line, Version, light_line, line_of};
+use nll_mir_grammar::{Line, Version, light_block, light_line, line_of};
 use nll_sets::Memory;
 use nll_types::BodyTypes;
 use std::alloc::Global;
@@ -159,6 +159,9 @@ impl<'a> LineReader<'a, Version> for Reader {
     fn read_line(&mut self, version: &Version, line: &'a [u8]) -> Result<(), TextKind> {
         if let Some(light) = light_line(line) {
             return self.add_light(light);
+        }
+        if let Some(number) = light_block(line) {
+            return self.begin_block(number);
         }
         match line_of(self.alloc, *version, line)? {
             Some(form) => {

@@ -7,8 +7,7 @@ ghost use Rattle.nll_report.specs.declared.messages.Refusal.{Refusal};
 ghost use Rattle.nll_report.specs.Refusal.{refusal_line, status_of};
 ghost use Rattle.nll_report.specs.Run.{AreOwnersRefused, IsAskedAnswer, IsFileRefused};
 ghost use Rattle.nll_report.specs.Run.{IsHelpOf, IsPrintBegun, IsPrinted, IsRefusalOf};
-ghost use Rattle.nll_report.specs.Run.{IsRun, IsRunRefused};
-ghost use Rattle.nll_report.specs.Run.{IsTaskAnswer, IsTaskRefused, Words};
+ghost use Rattle.nll_report.specs.Run.{IsRun, IsRunRefused, IsTaskAnswer, IsTaskRefused, Words};
 ghost use Rattle.nll_report.specs.Sink.{IsPut};
 ghost use Rattle.nll_report.specs.Texts.{holds_anything, lacks_anything};
 
@@ -102,8 +101,7 @@ pub fn run_in_process<R: Env + Files + AllocGlobal + Threads + Wait + Sync, O: S
     ensures begun { result ≡ 3 → (out.new ≡ out.old) ⊎ ((words : Words)
         × IsPrintBegun holds_anything words
         (O.room out.old) (O.contents out.old) (O.contents out.new)) }
-    ensures told { 2 ≤ result → (words : Words) × (refusal : Refusal)
-        × (status_of refusal ≡ result)
+    ensures told { 2 ≤ result → (words : Words) × (refusal : Refusal) × (status_of refusal ≡ result)
         × (((out.new ≡ out.old) × IsRunRefused holds_anything lacks_anything words refusal)
         ⊎ ((refusal ≡ Refusal.CannotWrite) × IsPrintBegun holds_anything words
         (O.room out.old) (O.contents out.old) (O.contents out.new)))

@@ -5,7 +5,9 @@ use super::rows::{Row, compare_rows, compare_text};
 use super::statement_text::write_statement;
 use super::transcript::Transcript;
 use super::written_types::{write_flag, write_pieces};
-use nll_mir_grammar::{Line, ParameterText, StructText, Version, light_line, line_of, one_form};
+use nll_mir_grammar::{
+    Line, ParameterText, StructText, Version, light_block, light_line, line_of, one_form,
+};
 use nll_sets::Memory;
 use nll_text::{one_token_list, tokens_make_a_line};
 use nll_types::{Parameter, Sign};
@@ -66,7 +68,7 @@ fn write_line(out: &mut Transcript, line: &Line<'_>) {
 /// Writes the form of a line in version 2, which has each form, and before it whether the line is
 /// told at a glance.
 pub fn write_form(out: &mut Transcript, line: &[u8]) {
-    if light_line(line).is_some() {
+    if light_line(line).is_some() || light_block(line).is_some() {
         out.say("light ");
     }
     match line_of(out.alloc, Version::Second, line) {
@@ -126,7 +128,7 @@ let _3: &'p int ~ let 3 & p|int|
 let 3: int ~ none
 blocks 3 ~ blocks 3
 blocks 03 ~ none
-block bb0 ~ block 0
+block bb0 ~ light block 0
 block 0 ~ none
 _3 = copy _1.*.2 ~ _3 = copy _1.*.2
 _3.0 = const ~ _3.0 = const
@@ -252,7 +254,7 @@ let _3:&'p int ~ let 3 & p|int|
 let_3: int ~ none
 blocks\t3\r ~ blocks 3
 blocks3 ~ none
-block\rbb0 ~ block 0
+block\rbb0 ~ light block 0
 blockbb0 ~ none
 _3\t.\r0\t.\r*\t=\rmove\t_1\r.\t* ~ _3.0.* = move _1.*
 _3.0.*=move _1.* ~ _3.0.* = move _1.*

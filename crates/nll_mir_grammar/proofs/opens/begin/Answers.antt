@@ -23,8 +23,7 @@ pub returns-in-Name : goal.returns-in-Name
 returns-in-Name c = IfOk-weaker _ _ _ (λ s h. begun_name _ _ _ _ _ s c.in-Name.is h) c.put_empty-in-Name.ensures
 
 pub returns-in-Thunk : goal.returns-in-Thunk
-returns-in-Thunk c =
-    IfOk-weaker _ _ _ (λ s h. begun_thunk _ _ _ _ _ s c.in-Thunk.is h) c.open_row-in-Thunk.ensures
+returns-in-Thunk c = IfOk-weaker _ _ _ (λ s h. begun_thunk _ _ _ _ _ s c.in-Thunk.is h) c.open_row-in-Thunk.ensures
 
 pub returns-in-Function : goal.returns-in-Function
 returns-in-Function c =

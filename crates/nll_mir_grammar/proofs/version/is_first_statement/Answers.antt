@@ -8,8 +8,7 @@ use Rattle.nll_mir_grammar.proofs.VersionLemmas.{and_true, all_push, call_types}
 use Rattle.nll_mir_grammar.proofs.version.is_first_statement.Goals as goal
 
 pub returns-in-Make : goal.returns-in-Make
-returns-in-Make c =
-    rw c.in-Make.is (ap (λ b. not b) (rw c.deref.ensures at c.has_function.ensures) ∙ sym (and_true _))
+returns-in-Make c = rw c.in-Make.is (ap (λ b. not b) (rw c.deref.ensures at c.has_function.ensures) ∙ sym (and_true _))
 
 pub returns-then-not-are_first_arguments : goal.returns-then-not-are_first_arguments
 returns-then-not-are_first_arguments c =

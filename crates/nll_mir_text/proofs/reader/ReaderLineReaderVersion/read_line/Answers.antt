@@ -40,6 +40,22 @@ returns-in-Some-clause-refused c =
     IfErr-weaker c.add_light.result _ _ (turned_down _ _ _ (form c.args.version.now) c.args.self.now)
     c.add_light.ensures.refused
 
+pub returns-in-Some-light_block-clause-ready : goal.returns-in-Some-light_block-clause-ready
+returns-in-Some-light_block-clause-ready c =
+    on_ok_weaker c.begin_block.result (λ told. told.ready) c.begin_block.ensures.taken
+
+pub returns-in-Some-light_block-clause-taken : goal.returns-in-Some-light_block-clause-taken
+returns-in-Some-light_block-clause-taken c =
+    let form = rw c.in-Some-light_block.is at c.light_block.ensures in
+    on_ok_weaker c.begin_block.result (taken_in _ _ _ (form c.args.version.now) c.args.self.now c.begin_block.new.self)
+    c.begin_block.ensures.taken
+
+pub returns-in-Some-light_block-clause-refused : goal.returns-in-Some-light_block-clause-refused
+returns-in-Some-light_block-clause-refused c =
+    let form = rw c.in-Some-light_block.is at c.light_block.ensures in
+    IfErr-weaker c.begin_block.result _ _ (turned_down _ _ _ (form c.args.version.now) c.args.self.now)
+    c.begin_block.ensures.refused
+
 pub accept-taken-requires-clause-texts : goal.accept-taken-requires-clause-texts
 accept-taken-requires-clause-texts c = let form = rw c.in-Some-2.is at c.in_ok-form.ensures in texts_in _ _ form.0
 
