@@ -8,7 +8,7 @@ use Rattle.nll_body.specs.declared.judgement.Judgement.{Judgement}
 use Rattle.nll_format.specs.declared.error.TextKind.{TextKind}
 use Rattle.nll_mir_grammar.specs.MirForms.{at_point}
 use Rattle.nll_mir_grammar.specs.WrittenTypes.{WrittenName, WrittenType}
-use Rattle.nll_mir_text.specs.MirReading.{said_by, IsReady, IsRefused, IsTaken}
+use Rattle.nll_mir_text.specs.MirReading.{said_by, IsReady, IsRefused}
 use Rattle.nll_mir_text.specs.ResolvedStatements.{IsOfPoint}
 use Rattle.nll_mir_text.specs.declared.reader.Reader.{Reader}
 use Rattle.nll_mir_text.proofs.GrownLemmas.{adds_table, grown, is_grown, placed_grown, said_grown}

@@ -1,10 +1,5 @@
-use Rattle.std.proofs.Common.{◌≡◌, refl, sym, ◌∙◌, inr, length, arith}
-use Rattle.std.proofs.lemmas.List.{length-map}
+use Rattle.std.proofs.Common.{refl, sym, ◌∙◌, inr, arith}
 use Rattle.std.proofs.lemmas.Bool.{not-true, not-false}
-use Rattle.nll_body.specs.Exits.{edge_count}
-use Rattle.nll_body.specs.Flat.{statements_in}
-use Rattle.nll_body.specs.Typed.{meant_statement as meant_with}
-use Rattle.nll_mir_text.specs.declared.reader.Reader.{Reader}
 use Rattle.nll_mir_text.specs.MirReading.{said_by, scope_in}
 use Rattle.nll_mir_text.proofs.PointLemmas.{undeclared, out_of_range, unfit, too_large, too_many_points, too_many_edges, no_fault, counted, same_count, targets_are, edges_resolved, ends_resolved}
 use Rattle.nll_mir_text.proofs.reader.Reader.admit.Goals as goal
