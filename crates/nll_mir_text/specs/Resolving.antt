@@ -7,8 +7,9 @@ use Rattle.nll_format.specs.Names.{number_of}
 use Rattle.nll_sets.specs.Prefix.{IsPrefix}
 use Rattle.nll_types.specs.Types.{TypeTree, TypeTrees, int, parameter, reference, tuple, named}
 use Rattle.nll_types.specs.Types.{function}
-use Rattle.nll_types.specs.Shapes.{shape_of}
-use Rattle.nll_types.specs.Table.{AreBelow, shape_in}
+use Rattle.nll_types.specs.Shapes.{Shape, ShapeList, reference_shape, tuple_shape, named_shape}
+use Rattle.nll_types.specs.Shapes.{function_shape, shape_of}
+use Rattle.nll_types.specs.Table.{AreBelow, at, shape_in}
 use Rattle.nll_types.specs.Views.{row_of_trees}
 use Rattle.nll_types.specs.declared.node.Node.{Node}
 use Rattle.nll_types.specs.declared.body_types.BodyTypes.{BodyTypes}
@@ -17,6 +18,8 @@ use Rattle.nll_mir_grammar.specs.TypeTexts as written
 use Rattle.nll_mir_grammar.specs.TypeTexts.{make_int, begin_reference, begin_row, add_region}
 use Rattle.nll_mir_grammar.specs.TypeTexts.{add_type, make_tuple, make_named, make_function}
 use Rattle.nll_mir_text.specs.Naming.{Scope, is_name_among, kinds_taken, same_kinds}
+use Rattle.nll_mir_text.specs.declared.made.Head.{Head}
+use Rattle.nll_mir_text.specs.declared.made.Head.TheVariants as heads
 use Rattle.nll_mir_text.specs.declared.rows.Mark.{Mark}
 use Rattle.nll_mir_text.specs.declared.rows.Mark.TheVariants as marks
 use Rattle.nll_mir_text.specs.declared.type_resolution.Resolving.{Resolving}
@@ -197,6 +200,20 @@ KeepsRegions s rs (p ∷ ps) st = IsPrefix rs st.regions
     × KeepsRegions s rs ps (after_resolved s p st)
 
 -- ---- what the code keeps of it
+
+-- the shape of a head over the shapes of a row
+abbrev pub shape_with : List Shape → Head → ShapeList → Shape
+shape_with known (heads.Reference m t) row = reference_shape m (at known t)
+shape_with known heads.Tuple row = tuple_shape row
+shape_with known (heads.Named s n) row = named_shape s n row
+shape_with known (heads.Function t) row = function_shape row (at known t)
+
+-- the number in a head, where it is a shape's, is below this
+abbrev pub IsHeadBelow : ℕ → Head → Type 0
+IsHeadBelow n (heads.Reference m t) = t < n
+IsHeadBelow n heads.Tuple = Unit {0}
+IsHeadBelow n (heads.Named s k) = Unit {0}
+IsHeadBelow n (heads.Function t) = t < n
 
 -- There is a number for each of these types: that of its shape.
 pub record AreShaped (shapes : List Node) (ts : List TypeTree) (numbers : List ℕ) : Type 0 where

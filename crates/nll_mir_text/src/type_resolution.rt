@@ -2,8 +2,8 @@
 
 ghost use Rattle.std.specs.Prelude.{◌≡◌, ◌<◌, ◌&&◌, ◌++◌, ℕ, List, true, false, length, map};
 ghost use Rattle.std.specs.Prelude.{reverse, IfOk, IfSome, MatchOption, OnOk};
-ghost use Rattle.nll_types.specs.Shapes.{shape_of};
-ghost use Rattle.nll_types.specs.Table.{AreBelow, IsOver, shape_in, shape_over, shapes_in};
+ghost use Rattle.nll_types.specs.Shapes.{shape_of, shapes_of};
+ghost use Rattle.nll_types.specs.Table.{AreBelow, shape_in, shapes_in};
 ghost use Rattle.nll_types.specs.Grown.{AddsTypes};
 ghost use Rattle.nll_types.specs.Tables.{AddsShapes};
 ghost use Rattle.nll_types.specs.Types.{TypeTree};
@@ -12,12 +12,13 @@ ghost use Rattle.nll_mir_grammar.specs.TypeTexts.{make_function, make_named, pla
 ghost use Rattle.nll_mir_text.specs.Naming.{Scope as naming_scope, has_arguments, is_known};
 ghost use Rattle.nll_mir_text.specs.Resolution.{HasRoom, IsResolved, scope_of};
 ghost use Rattle.nll_mir_text.specs.Resolving as spec;
-ghost use Rattle.nll_mir_text.specs.Resolving.{IsAllResolved, IsOf, KeepsRegions, Resolves};
-ghost use Rattle.nll_mir_text.specs.Resolving.{ResolvingState};
-ghost use Rattle.nll_mir_text.specs.Resolving.{regions_around, run_pieces, type_completed};
-ghost use Rattle.nll_mir_text.specs.Resolving.{with_references, without_references};
+ghost use Rattle.nll_mir_text.specs.Resolving.{IsAllResolved, IsHeadBelow, IsOf, KeepsRegions};
+ghost use Rattle.nll_mir_text.specs.Resolving.{Resolves, ResolvingState};
+ghost use Rattle.nll_mir_text.specs.Resolving.{regions_around, run_pieces, shape_with};
+ghost use Rattle.nll_mir_text.specs.Resolving.{type_completed, types_inside, with_references};
+ghost use Rattle.nll_mir_text.specs.Resolving.{without_references, without_row};
 
-use crate::made::{Made, pop, pop_row, reference_to};
+use crate::made::{Head, Made, number_of, pop};
 use crate::rows::{Mark, Rows, are_of, newest_row, pop_reference, takes};
 use crate::scope::{Scope, find};
 use nll_mir_grammar::{TypePiece, TypeText};
@@ -53,38 +54,56 @@ fn put_around(types: &mut BodyTypes, rows: &mut Rows, target: usize) -> Result<u
 {
     let mut shape = target;
     while let Some((mutable, region)) = pop_reference(rows) {
-        shape = reference_to(&mut types.table, mutable, shape)?;
+        let head = Head::Reference(mutable, shape);
+        shape = number_of(*rows.allocator(), &mut types.table, head, &[shape])?;
         types.regions.push(region)?;
     }
     Ok(shape)
 }
 
 // A type is complete, and with it the references that wait for it.
-fn put_type(node: Node, types: &mut BodyTypes, made: &mut Resolving) -> Result<(), Memory>
-    requires node { IsOver (length types.old.table.shapes) node }
+fn put_shape(target: usize, types: &mut BodyTypes, made: &mut Resolving) -> Result<(), Memory>
+    requires target { target < length types.old.table.shapes }
     requires below { AreBelow (length types.old.table.shapes) made.old.shapes.items }
     ensures grows { AddsShapes types.old.table types.new.table }
     ensures below { OnOk result (AreBelow (length types.new.table.shapes) made.new.shapes.items) }
     ensures made { OnOk result ((st : ResolvingState) (t : TypeTree) → IsOf st types.old made.old
-        → shape_over (shapes_in types.old.table.shapes) node ≡ shape_of t
+        → shape_in types.old.table.shapes target ≡ shape_of t
         → IsOf (type_completed t st) types.new made.new) }
 {
-    let target = types.table.add(node)?;
     let shape = put_around(types, &mut made.rows, target)?;
     made.shapes.push(shape)?;
     Ok(())
 }
 
+// The type that a head makes of the newest row is complete.
+fn put_row(head: Head, types: &mut BodyTypes, made: &mut Resolving) -> Result<(), Memory>
+    requires head { IsHeadBelow (length types.old.table.shapes) head }
+    requires below { AreBelow (length types.old.table.shapes) made.old.shapes.items }
+    ensures grows { AddsShapes types.old.table types.new.table }
+    ensures below { OnOk result (AreBelow (length types.new.table.shapes) made.new.shapes.items) }
+    ensures made { OnOk result ((st : ResolvingState) (t : TypeTree) → IsOf st types.old made.old
+        → shape_with (shapes_in types.old.table.shapes) head (shapes_of (types_inside st))
+        ≡ shape_of t → IsOf (type_completed t (without_row st)) types.new made.new) }
+{
+    let newest = newest_row(made.rows.as_slice());
+    let start = newest.types.min(made.shapes.len());
+    let parts = &made.shapes.as_slice()[start..];
+    let target = number_of(*made.shapes.allocator(), &mut types.table, head, parts)?;
+    made.shapes.truncate(start);
+    made.rows.truncate(newest.place.saturating_sub(1));
+    put_shape(target, types, made)
+}
+
 // The function of the newest row, with the newest type as its result, is made.
-fn put_function(alloc: Global, types: &mut BodyTypes, made: &mut Resolving) -> Result<(), Memory>
+fn put_function(types: &mut BodyTypes, made: &mut Resolving) -> Result<(), Memory>
     requires below { AreBelow (length types.old.table.shapes) made.old.shapes.items }
     ensures grows { AddsShapes types.old.table types.new.table }
     ensures made { OnOk result ((s : naming_scope)
         → Resolves s make_function types.old made.old types.new made.new true) }
 {
     let output = pop(&mut types.table, &mut made.shapes)?;
-    let inputs = pop_row(alloc, &mut made.shapes, &mut made.rows)?;
-    put_type(Node::Function(inputs, output), types, made)
+    put_row(Head::Function(output), types, made)
 }
 
 // Appends the regions among arguments. Answers how many there are.
@@ -105,7 +124,6 @@ fn push_regions(arguments: &[Mark], regions: &mut Vec<RegionId>) -> Result<usize
 // What a name means is made, where the name is known: a type parameter in place of the newest row,
 // as it takes no arguments, or a struct with that row as its arguments.
 fn put_named(
-    alloc: Global,
     scope: &Scope<'_>,
     name: &[u8],
     types: &mut BodyTypes,
@@ -124,7 +142,8 @@ fn put_named(
         made.rows.truncate(row.place.saturating_sub(1));
         made.shapes.truncate(row.types);
         types.regions.truncate(row.regions);
-        put_type(Node::Parameter(number), types, made)?;
+        let target = types.table.add(Node::Parameter(number))?;
+        put_shape(target, types, made)?;
         return Ok(true);
     }
     let (number, known) = find(scope.structs, name);
@@ -133,14 +152,12 @@ fn put_named(
     }
     made.fits &= takes(scope, number, arguments);
     let count = push_regions(arguments, &mut types.regions)?;
-    let parts = pop_row(alloc, &mut made.shapes, &mut made.rows)?;
-    put_type(Node::Named(number, count, parts), types, made)?;
+    put_row(Head::Named(number, count), types, made)?;
     Ok(true)
 }
 
 // Resolves a piece. Answers whether the name in it, if there is one, is known.
 fn resolve_piece(
-    alloc: Global,
     scope: &Scope<'_>,
     piece: &TypePiece<'_>,
     types: &mut BodyTypes,
@@ -164,17 +181,17 @@ fn resolve_piece(
             made.rows.push(Mark::Region(RegionId(number as u32)))?;
             return Ok(known);
         }
-        TypePiece::Named(name) => return put_named(alloc, scope, name, types, made),
-        TypePiece::Int => put_type(Node::Int, types, made)?,
+        TypePiece::Named(name) => return put_named(scope, name, types, made),
+        TypePiece::Int => {
+            let target = types.table.add(Node::Int)?;
+            put_shape(target, types, made)?
+        }
         TypePiece::Row => made
             .rows
             .push(Mark::Row(made.shapes.len(), types.regions.len()))?,
         TypePiece::Part => made.rows.push(Mark::Part)?,
-        TypePiece::Tuple => {
-            let parts = pop_row(alloc, &mut made.shapes, &mut made.rows)?;
-            put_type(Node::Tuple(parts), types, made)?
-        }
-        TypePiece::Function => put_function(alloc, types, made)?,
+        TypePiece::Tuple => put_row(Head::Tuple, types, made)?,
+        TypePiece::Function => put_function(types, made)?,
     }
     Ok(true)
 }
@@ -182,7 +199,6 @@ fn resolve_piece(
 // Resolves pieces, one after another, up to a name that isn't known. Answers the shape of the type
 // that is made last.
 fn resolve_pieces(
-    alloc: Global,
     scope: &Scope<'_>,
     pieces: &[TypePiece<'_>],
     types: &mut BodyTypes,
@@ -202,7 +218,7 @@ fn resolve_pieces(
         → IsPrefix rs types.new.regions.items) }
 {
     for piece in pieces {
-        if !resolve_piece(alloc, scope, piece, types, made)? {
+        if !resolve_piece(scope, piece, types, made)? {
             return Ok(None);
         }
     }
@@ -237,7 +253,7 @@ pub fn resolve(
         rows: SmallVec::new(alloc),
         fits: true,
     };
-    let told = resolve_pieces(alloc, scope, text.pieces(), types, &mut made);
+    let told = resolve_pieces(scope, text.pieces(), types, &mut made);
     *fits &= made.fits;
     // Early drop.
     drop(made);
