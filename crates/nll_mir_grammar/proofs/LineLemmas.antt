@@ -10,21 +10,20 @@ use Rattle.nll_mir_grammar.specs.WrittenTypes.{WrittenName, WrittenType, HasName
 use Rattle.nll_types.specs.declared.operand.Operand.{Operand as Written}
 use Rattle.nll_mir_grammar.specs.TypeTexts.{written}
 use Rattle.nll_mir_grammar.specs.declared.type_text.TypePiece.{TypePiece}
-use Rattle.nll_mir_grammar.specs.Lines.{argument_of, form_of}
-use Rattle.nll_mir_grammar.specs.declared.line.Line.{Line}
+use Rattle.nll_mir_grammar.specs.Lines.{argument_of}
 use Rattle.nll_body.specs.Statements.{assign, borrow, make, read, live, dead, nop, goto, switch, drop, call, return, stop}
 use Rattle.nll_mir_grammar.specs.MirForms.{Form, universal, outlives, further, assert_line, struct_line, variable, blocks, block, at_point, end, spelled_form, IsWritable, IsWritableOperand, IsSpelled}
 use Rattle.nll_mir_grammar.specs.Versions.{is_of_version, IsSpelledIn}
 use Rattle.nll_mir_grammar.specs.declared.version.Version.{Version}
-use Rattle.nll_text.specs.Grammars.{Begins, HasNone, IsNotNext, any_words}
-use Rattle.nll_mir_grammar.specs.Grammars.{behind_token, pair}
+use Rattle.nll_text.specs.Grammars.{Begins, HasNone, any_words}
+use Rattle.nll_mir_grammar.specs.Grammars.{behind_token}
 use Rattle.nll_mir_grammar.specs.Parts.{places, operands, arguments, block_names, MayFollowOperand, MayFollowUnwind}
 use Rattle.nll_mir_grammar.specs.Kinds.{borrows, makes, signatures, value, borrowed, made, called, rights, tails, keyword_name, LineParts, line_grammars, lines, parts_of_form, IsLine, IsRightSide, IsBehind, HasNoKeyword}
 use Rattle.nll_mir_grammar.specs.declared.keyword.Keyword.{Keyword}
 use Rattle.nll_mir_grammar.specs.declared.keyword.Keyword.TheVariants as words
 use Rattle.nll_mir_grammar.proofs.GrammarLemmas.{append_nil, behind_found, behind_none, pair_found, pair_none_behind}
 use Rattle.nll_mir_grammar.proofs.PartLemmas.{no_projection_left, places_one}
-use Rattle.nll_mir_grammar.proofs.KindLemmas.{rights_join, no_value, lines_one, line_kind, line_kind_of, line_kind_of_name}
+use Rattle.nll_mir_grammar.proofs.KindLemmas.{rights_join, lines_one, line_kind, line_kind_of, line_kind_of_name}
 
 -- ---- right sides
 

@@ -1,6 +1,5 @@
 -- A line is made of the tokens of its bytes, where their signs are signs, as those of a form are.
 use Rattle.std.proofs.Common.{ℕ, Bool, true, false, List, [], ◌∷◌, ◌++◌, map, refl, sym, subst, Option, Some, None, arith}
-use Rattle.std.specs.Prelude.{MatchOption}
 use Rattle.std.specs.List.{flat_map}
 use Rattle.nll_text.specs.Tokens.{Token, region, arrow, sign}
 use Rattle.nll_types.specs.Places.{PlacePath}
@@ -15,10 +14,6 @@ use Rattle.nll_body.specs.Statements as statements
 use Rattle.nll_text.specs.LineTokens.{tokens_in}
 use Rattle.nll_mir_grammar.specs.WrittenTypes.{WrittenName, WrittenType, WrittenTypes, Arguments, int, reference, tuple, named, function, none, more, no_argument, region_argument, type_argument, mutability, spelled, spelled_parts, spelled_more_parts, spelled_arguments, spelled_more_arguments}
 use Rattle.nll_mir_grammar.specs.MirForms.{Form, outlives, assert_line, struct_line, variable, at_point, end, WrittenParameter, region_parameter, type_parameter, block_word, spelled_projection, spelled_place, spelled_operand, parted, in_parentheses, sign_token, dangling_mark, spelled_marks, spelled_parameter, spelled_parameters, drop_mark, spelled_exits, spelled_wheres, spelled_argument, spelled_statement, spelled_form, IsSpelled, HasForm}
-use Rattle.nll_mir_grammar.specs.Versions.{IsSpelledIn, HasFormIn}
-use Rattle.nll_mir_grammar.specs.Lines.{form_of}
-use Rattle.nll_mir_grammar.specs.declared.version.Version.{Version}
-use Rattle.nll_mir_grammar.specs.declared.line.Line.{Line}
 use Rattle.nll_text.proofs.TokenLemmas.{IsReal, AreReal, made_are_in, in_make}
 
 -- ---- the signs in a form are signs

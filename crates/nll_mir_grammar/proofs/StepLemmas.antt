@@ -1,7 +1,7 @@
 -- Steps through a type.
-use Rattle.std.proofs.Common.{◌≡◌, List, [], ◌∷◌, ◌++◌, refl, sym, ap, ◌∙◌, subst, append_assoc, ⊎_elim, inl, inr, arith}
+use Rattle.std.proofs.Common.{◌≡◌, List, [], ◌∷◌, ◌++◌, refl, sym, ap, ◌∙◌, subst, append_assoc, ⊎_elim, inr, arith}
 use Rattle.nll_text.specs.Tokens.{Token, region, arrow, sign}
-use Rattle.nll_mir_grammar.specs.WrittenTypes.{WrittenName, WrittenType, WrittenTypes, Arguments, int, reference, tuple, named, function, none, more, no_argument, region_argument, type_argument, mutability, spelled, spelled_parts, spelled_more_parts, spelled_arguments, spelled_more_arguments, HasNames, HaveNames, ArgumentsHaveNames, IsFree, BeginsWithType}
+use Rattle.nll_mir_grammar.specs.WrittenTypes.{WrittenName, WrittenType, WrittenTypes, Arguments, int, reference, tuple, named, function, none, more, no_argument, region_argument, type_argument, mutability, spelled, spelled_parts, spelled_more_parts, spelled_arguments, spelled_more_arguments, HaveNames, ArgumentsHaveNames, IsFree, BeginsWithType}
 use Rattle.nll_mir_grammar.specs.Reading.{HasNoType, IsTypeIn}
 use Rattle.nll_mir_grammar.specs.TypeTexts.{joined_arguments}
 use Rattle.nll_mir_grammar.specs.OpenTypes.{Frame, parts, arguments, inputs, output, joined_types, Closes, GoesInside, ReadsType, FramesGoOn, GoesOnWithRegion, Finishes, Steps, TypesGoOn, ResultGoesOn, IsStuck, IsNoFront}

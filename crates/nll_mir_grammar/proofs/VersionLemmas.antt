@@ -7,12 +7,10 @@ use Rattle.std.proofs.Math.Seq.{drop-cons}
 use Rattle.std.proofs.lemmas.List.{drop_all}
 use Rattle.nll_types.specs.Operands.{Operand}
 use Rattle.nll_types.specs.declared.operand.Operand.{Operand as Written}
-use Rattle.nll_mir_grammar.specs.Functions.{has_function, have_function}
 use Rattle.nll_mir_grammar.specs.WrittenTypes.{WrittenType}
 use Rattle.nll_mir_grammar.specs.TypeTexts.{written}
 use Rattle.nll_mir_grammar.specs.declared.type_text.TypePiece.{TypePiece}
 use Rattle.nll_body.specs.CodeStatements.{arguments_of}
-use Rattle.nll_mir_grammar.specs.Tuples.{parts, IsTuple}
 
 -- whether all of a row pass, of which the first ones did
 module _ {A B : Type 0} (f : A → B) (p : B → Bool) where
