@@ -12,7 +12,7 @@ use crate::lists::Listed;
 use crate::pairs::Read;
 use crate::words::variable_at;
 use nll_sets::Memory;
-use nll_text::{after_sign, number_at, word_at};
+use nll_text::{after_sign, after_word, number_at};
 use nll_types::{Operand, Place, Projection};
 use smallvec::SmallVec;
 use std::alloc::Global;
@@ -72,22 +72,22 @@ pub fn operand_at<'a>(alloc: Global, line: &'a [u8]) -> Read<'a, Operand>
     ensures { IfOk result (λ o. MatchOption o (HasNone parts.operands (tokens_in line.now))
         (λ p. Begins parts.operands (tokens_in line.now) (operand_of p.0) (tokens_in p.1.now))) }
 {
-    match word_at(line) {
-        Some((b"copy", behind)) => {
-            let Some((place, rest)) = place_at(alloc, behind)? else {
-                return Ok(None);
-            };
-            Ok(Some((Operand::Copy(place), rest)))
-        }
-        Some((b"move", behind)) => {
-            let Some((place, rest)) = place_at(alloc, behind)? else {
-                return Ok(None);
-            };
-            Ok(Some((Operand::Move(place), rest)))
-        }
-        Some((b"const", rest)) => Ok(Some((Operand::Const, rest))),
-        _ => Ok(None),
+    if let Some(behind) = after_word(line, b"copy") {
+        let Some((place, rest)) = place_at(alloc, behind)? else {
+            return Ok(None);
+        };
+        return Ok(Some((Operand::Copy(place), rest)));
     }
+    if let Some(rest) = after_word(line, b"const") {
+        return Ok(Some((Operand::Const, rest)));
+    }
+    let Some(behind) = after_word(line, b"move") else {
+        return Ok(None);
+    };
+    let Some((place, rest)) = place_at(alloc, behind)? else {
+        return Ok(None);
+    };
+    Ok(Some((Operand::Move(place), rest)))
 }
 
 impl<'a> Listed<'a> for Operand {
