@@ -18,7 +18,7 @@ use Rattle.nll_types.specs.declared.parameter.Sign.TheVariants.{Covariant, Contr
 use Rattle.nll_mir_grammar.specs.WrittenTypes.{WrittenName, WrittenType, WrittenTypes, tuple, spelled}
 use Rattle.nll_mir_grammar.specs.Reading.{HasNoType, IsTypeIn}
 use Rattle.nll_mir_grammar.specs.MirForms.{WrittenParameter, region_parameter, type_parameter, spelled_place, spelled_operand, dangling_mark, sign_token, block_word}
-use Rattle.nll_text.specs.Grammars.{Grammar, Begins, HasNone, IsNotNext, any_words, prefixed, regions}
+use Rattle.nll_text.specs.Grammars.{Grammar, Begins, HasNone, any_words, prefixed, regions}
 use Rattle.nll_mir_grammar.specs.Grammars.{IsOne, IsBefore, IsListable, behind_token, empty, pair, many, commas}
 use Rattle.nll_mir_grammar.specs.Parts.{names, variables, block_names, projections, places, operands, types, tuples, arguments, marks, parameter_marks, parameters, parameter_lists, bounds, bound_lists, block_lists, exits, MayFollowMark}
 use Rattle.nll_mir_grammar.proofs.GrammarLemmas.{pair_found, IsSolid, tail_same, head_same, signs_apart, signs_differ, behind_one, behind_none, Joins, pair_one, many_one, IsLoose}
@@ -132,20 +132,6 @@ moved_place : (ts : List Token) (p : PlacePath) (r : List Token) → Begins oper
     → Begins (behind_token (word (codes "move")) places) ts p r
 moved_place ts p r b = record { joined = b.joined; allowed = b.allowed; follows = b.follows }
 
--- the operand behind its word
-pub copied_found : (ts mid rest : List Token) (p : PlacePath) → ts ≡ word (codes "copy") ∷ mid
-    → Begins places mid p rest → Begins operands ts (copied p) rest
-copied_found ts mid rest p e b =
-    record { joined = e ∙ ap (λ l. word (codes "copy") ∷ l) b.joined; allowed = b.allowed; follows = b.follows }
-
-pub moved_found : (ts mid rest : List Token) (p : PlacePath) → ts ≡ word (codes "move") ∷ mid
-    → Begins places mid p rest → Begins operands ts (moved p) rest
-moved_found ts mid rest p e b =
-    record { joined = e ∙ ap (λ l. word (codes "move") ∷ l) b.joined; allowed = b.allowed; follows = b.follows }
-
-pub constant_found : (ts rest : List Token) → ts ≡ word (codes "const") ∷ rest → Begins operands ts constant rest
-constant_found ts rest e = record { joined = e; allowed = tt; follows = tt }
-
 -- no place stands behind the word
 pub no_copied : (ts mid : List Token) → ts ≡ word (codes "copy") ∷ mid → HasNone places mid → HasNone operands ts
 no_copied ts mid e none constant r b = behind_word (codes "copy") (codes "const") ts _ _ e b.joined refl
@@ -157,13 +143,6 @@ pub no_moved : (ts mid : List Token) → ts ≡ word (codes "move") ∷ mid → 
 no_moved ts mid e none constant r b = behind_word (codes "move") (codes "const") ts _ _ e b.joined refl
 no_moved ts mid e none (copied p) r b = behind_word (codes "move") (codes "copy") ts _ _ e b.joined refl
 no_moved ts mid e none (moved p) r b = behind_none places (word (codes "move")) ts mid e none p r (moved_place ts p r b)
-
--- where none of the three words comes next, no operand does
-pub no_operand_word : (ts : List Token) → IsNotNext (word (codes "copy")) ts → IsNotNext (word (codes "const")) ts
-    → IsNotNext (word (codes "move")) ts → HasNone operands ts
-no_operand_word ts c k m constant r b = k r b.joined
-no_operand_word ts c k m (copied p) r b = c _ b.joined
-no_operand_word ts c k m (moved p) r b = m _ b.joined
 
 pub operands_one : IsOne operands
 operands_one ts constant constant r s x y = (refl, tail_same _ _ _ _ (sym x.joined ∙ y.joined))

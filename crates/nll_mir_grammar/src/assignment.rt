@@ -14,7 +14,7 @@ use crate::place::{operand_at, place_at};
 use crate::right::{make_at, signature_at};
 use crate::words::mutability_at;
 use nll_body::{Call, Make, Statement};
-use nll_text::{after_sign, region_at, word_at};
+use nll_text::{after_sign, after_word, region_at, word_at};
 use nll_types::Place;
 use std::alloc::Global;
 
@@ -98,12 +98,14 @@ pub fn assignment_at<'a>(alloc: Global, line: &'a [u8]) -> Read<'a, Line<'a>>
     if let Some(behind) = after_sign(right, b'&') {
         return borrowed(alloc, place, behind);
     }
-    if let Some((operand, rest)) = operand_at(alloc, right)? {
-        return Ok(Some((Line::At(Statement::Assign(place, operand)), rest)));
+    if let Some(behind) = after_word(right, b"make") {
+        return made(alloc, place, behind);
     }
-    match word_at(right) {
-        Some((b"make", behind)) => made(alloc, place, behind),
-        Some((b"call", behind)) => called(alloc, place, behind),
-        _ => Ok(None),
+    if let Some(behind) = after_word(right, b"call") {
+        return called(alloc, place, behind);
     }
+    let Some((operand, rest)) = operand_at(alloc, right)? else {
+        return Ok(None);
+    };
+    Ok(Some((Line::At(Statement::Assign(place, operand)), rest)))
 }

@@ -1,4 +1,4 @@
-use Rattle.nll_mir_grammar.proofs.PartLemmas.{copied_found, moved_found, no_copied, no_moved, no_operand_word}
+use Rattle.nll_mir_grammar.proofs.PartLemmas.{no_copied, no_moved}
 use Rattle.nll_mir_grammar.proofs.place.operand_at.Goals as goal
 
 pub returns-in_default-2 : goal.returns-in_default-2
@@ -9,9 +9,3 @@ pub returns-in_default-3 : goal.returns-in_default-3
 returns-in_default-3 c =
     let none = rw c.in_default-3.is at c.in_ok-place-2.ensures in
     no_moved _ _ c.in-Some-after_word-2.ensures.begins none
-
-pub returns-in-Some : goal.returns-in-Some
-returns-in-Some c =
-    let found = rw c.in-Some-2.is at c.in_ok-place.ensures in
-    copied_found _ _ _ _ c.in-Some.ensures.begins found
-
