@@ -1,12 +1,12 @@
 //! How types begin.
 
-ghost use Rattle.std.specs.Prelude.{◌∷◌, MatchOption};
+ghost use Rattle.std.specs.Prelude.{◌≡◌, ◌∷◌, codes, MatchOption};
 ghost use Rattle.nll_text.specs.Tokens as lex;
 ghost use Rattle.nll_text.specs.LineTokens.{tokens_in};
 ghost use Rattle.nll_mir_grammar.specs.OpenTypes.{BeginsType, IsNoFront};
 
 use crate::words::{is_capital, mutability_at};
-use nll_text::{after_sign, region_at, word_at};
+use nll_text::{after_sign, after_word, region_at, word_at};
 
 /// How a type begins.
 #[derive(Clone, Copy)]
@@ -29,8 +29,9 @@ pub enum Front<'a> {
     Function,
 }
 
-// How a type begins whose first token is the word in front of these bytes.
+// How a type begins whose first token is the word in front of these bytes, which isn't `int`.
 fn word_front<'a>(word: &'a [u8], behind: &'a [u8]) -> Option<(Front<'a>, &'a [u8])>
+    requires { word.now ≡ codes "int" → ⊥ }
     ensures { MatchOption result (IsNoFront (lex.word word.now ∷ tokens_in behind.now))
         (λ p. BeginsType p.0 (lex.word word.now ∷ tokens_in behind.now) (tokens_in p.1.now)) }
 {
@@ -41,7 +42,6 @@ fn word_front<'a>(word: &'a [u8], behind: &'a [u8]) -> Option<(Front<'a>, &'a [u
         };
     }
     match word {
-        b"int" => Some((Front::Int, behind)),
         b"fn" => {
             let inner = after_sign(behind, b'(')?;
             match after_sign(inner, b')') {
@@ -53,11 +53,14 @@ fn word_front<'a>(word: &'a [u8], behind: &'a [u8]) -> Option<(Front<'a>, &'a [u
     }
 }
 
-/// How a type begins here, and what follows.
+/// How a type begins here, and what follows. Most types are `int`.
 pub fn front_at(line: &[u8]) -> Option<(Front<'_>, &[u8])>
     ensures { MatchOption result (IsNoFront (tokens_in line.now))
         (λ p. BeginsType p.0 (tokens_in line.now) (tokens_in p.1.now)) }
 {
+    if let Some(behind) = after_word(line, b"int") {
+        return Some((Front::Int, behind));
+    }
     if let Some(behind) = after_sign(line, b'&') {
         let (region, behind) = region_at(behind)?;
         let (is_mut, rest) = mutability_at(behind);
