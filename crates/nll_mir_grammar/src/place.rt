@@ -5,7 +5,6 @@ ghost use Rattle.nll_types.specs.Places.{path_of};
 ghost use Rattle.nll_types.specs.Operands.{Operand as spec, operand_of};
 ghost use Rattle.nll_text.specs.LineTokens.{tokens_in};
 ghost use Rattle.nll_text.specs.Grammars.{Begins, HasNone};
-ghost use Rattle.nll_mir_grammar.specs.Grammars.{many};
 ghost use Rattle.nll_mir_grammar.specs.Parts as parts;
 
 use crate::lists::Listed;
@@ -32,23 +31,6 @@ fn projection_at<'a>(line: &'a [u8]) -> Option<(Projection, &'a [u8])>
     }
 }
 
-// The projections at the front, as many as there are. Up to three allocate nothing.
-fn projections_at<'a>(
-    alloc: Global,
-    line: &'a [u8],
-) -> Result<(SmallVec<Projection, 3>, &'a [u8]), Memory>
-    ensures { IfOk result (λ p. Begins (many parts.projections) (tokens_in line.now) p.0.items
-        (tokens_in p.1.now)) }
-{
-    let mut projections = SmallVec::new(alloc);
-    let mut rest = line;
-    while let Some((projection, behind)) = projection_at(rest) {
-        projections.push(projection)?;
-        rest = behind;
-    }
-    Ok((projections, rest))
-}
-
 /// The place at the front. Most places have one projection or none, and these need no list.
 pub fn place_at<'a>(alloc: Global, line: &'a [u8]) -> Read<'a, Place>
     ensures { IfOk result (λ o. MatchOption o (HasNone parts.places (tokens_in line.now))
@@ -60,11 +42,17 @@ pub fn place_at<'a>(alloc: Global, line: &'a [u8]) -> Read<'a, Place>
     let Some((projection, rest)) = projection_at(behind) else {
         return Ok(Some((Place::Whole(variable), behind)));
     };
-    let Some(_) = projection_at(rest) else {
+    let Some((second, mut end)) = projection_at(rest) else {
         return Ok(Some((Place::Part(variable, projection), rest)));
     };
-    let (projections, rest) = projections_at(alloc, behind)?;
-    Ok(Some((Place::new(alloc, variable, projections)?, rest)))
+    // Up to three allocate nothing. The last of these only keeps room for another.
+    let first = [projection, second, Projection::Deref];
+    let mut projections = SmallVec::from_buf_and_len(alloc, first, 2);
+    while let Some((another, behind)) = projection_at(end) {
+        projections.push(another)?;
+        end = behind;
+    }
+    Ok(Some((Place::new(alloc, variable, projections)?, end)))
 }
 
 /// The operand at the front.
