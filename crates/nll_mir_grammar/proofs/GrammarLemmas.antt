@@ -126,15 +126,6 @@ pub many_found : {A : Type 0} (g : Grammar A) (ts rest : List Token) (xs : List 
     → HasNone g rest → Begins (many g) ts xs rest
 many_found g ts rest xs h none = record { joined = h.joined; allowed = h.allowed; follows = none }
 
--- none is there
-pub many_nothing : {A : Type 0} (g : Grammar A) (ts : List Token) → HasNone g ts → Begins (many g) ts [] ts
-many_nothing g ts none = many_found g ts ts [] (nothing_read g ts) none
-
--- there is one
-pub many_single : {A : Type 0} (g : Grammar A) (ts rest : List Token) (a : A) → Begins g ts a rest → HasNone g rest
-    → Begins (many g) ts (a ∷ []) rest
-many_single g ts rest a b none = many_found g ts rest (a ∷ []) (read_more g ts ts rest [] a (nothing_read g ts) b) none
-
 -- anything may stand behind a value
 abbrev pub IsLoose : {A : Type 0} → Grammar A → Type 0
 IsLoose {A} g = (a : A) (r : List Token) → g.MayFollow a r

@@ -21,7 +21,7 @@ use Rattle.nll_mir_grammar.specs.MirForms.{WrittenParameter, region_parameter, t
 use Rattle.nll_text.specs.Grammars.{Grammar, Begins, HasNone, any_words, prefixed, regions}
 use Rattle.nll_mir_grammar.specs.Grammars.{IsOne, IsBefore, IsListable, behind_token, empty, pair, many, commas}
 use Rattle.nll_mir_grammar.specs.Parts.{names, variables, block_names, projections, places, operands, types, tuples, arguments, marks, parameter_marks, parameters, parameter_lists, bounds, bound_lists, block_lists, exits, MayFollowMark}
-use Rattle.nll_mir_grammar.proofs.GrammarLemmas.{pair_found, IsSolid, tail_same, head_same, signs_apart, signs_differ, behind_one, behind_none, Joins, pair_one, many_one, IsLoose}
+use Rattle.nll_mir_grammar.proofs.GrammarLemmas.{IsSolid, tail_same, head_same, signs_apart, signs_differ, behind_one, behind_none, Joins, pair_one, many_one, IsLoose}
 use Rattle.nll_mir_grammar.proofs.ListLemmas.{inside_one, commas_one, enclosed}
 use Rattle.nll_text.proofs.WordLemmas.{behind_front}
 use Rattle.nll_mir_grammar.proofs.OneTree.{one_tree}
@@ -83,16 +83,6 @@ paths_one =
 pub to_path : (ts : List Token) (p : PlacePath) (r : List Token) → Begins places ts p r
     → Begins paths ts (p.variable, p.projections) r
 to_path ts p r b = record { joined = b.joined; allowed = b.allowed; follows = b.follows }
-
-pub from_path : (ts : List Token) (p : PlacePath) (r : List Token) → Begins paths ts (p.variable, p.projections) r
-    → Begins places ts p r
-from_path ts p r b = record { joined = b.joined; allowed = b.allowed; follows = b.follows }
-
-pub place_found : (ts mid rest : List Token) (x : ℕ) (p : PlacePath) → Begins variables ts x mid → p.variable ≡ x
-    → Begins (many projections) mid p.projections rest → Begins places ts p rest
-place_found ts mid rest x p v e b =
-    from_path ts p rest (pair_found variables (many projections) ts mid rest p.variable p.projections
-    (subst (λ y. Begins variables ts y mid) (sym e) v) b)
 
 -- where no variable stands, no place does
 pub no_place : (ts : List Token) → HasNone variables ts → HasNone places ts
