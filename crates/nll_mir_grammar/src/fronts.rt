@@ -53,7 +53,7 @@ fn word_front<'a>(word: &'a [u8], behind: &'a [u8]) -> Option<(Front<'a>, &'a [u
     }
 }
 
-/// How a type begins here, and what follows. Most types are `int`.
+/// How a type begins here, and what follows. Many types are `int`, so that is told first.
 pub fn front_at(line: &[u8]) -> Option<(Front<'_>, &[u8])>
     ensures { MatchOption result (IsNoFront (tokens_in line.now))
         (λ p. BeginsType p.0 (tokens_in line.now) (tokens_in p.1.now)) }
