@@ -77,8 +77,7 @@ pub(crate) fn collect(
         → IsWellFormed (structs_of structs.now) regions parameters (tree ty.now)
         → AddsSources (structs_of structs.now ++ later)
         (IsWantedOf (structs_of structs.now ++ later) (IsTrue written) (IsTrue dropped)
-        (tree ty.now))
-        out.old.keys out.new.keys) }
+        (tree ty.now)) out.old.keys out.new.keys) }
 {
     match ty {
         Ty::Int => Ok(()),
@@ -119,8 +118,7 @@ pub(crate) fn collect_parts(
         → AreWellFormed (structs_of structs.now) regions parameters (trees parts.now)
         → AddsSources (structs_of structs.now ++ later)
         (IsWantedOfOne (structs_of structs.now ++ later)
-        (λ _. IsTrue written) (λ _. IsTrue dropped) (trees parts.now))
-        out.old.keys out.new.keys) }
+        (λ _. IsTrue written) (λ _. IsTrue dropped) (trees parts.now)) out.old.keys out.new.keys) }
 {
     for part in parts {
         collect(structs, part, written, dropped, out)?;
@@ -143,8 +141,7 @@ fn collect_arguments(
         → AddsSources (structs_of structs.now ++ later)
         (IsWantedOfOne (structs_of structs.now ++ later)
         (WantsWritten sources.now.keys written dropped)
-        (WantsDropped sources.now.keys dropped) (trees arguments.now))
-        out.old.keys out.new.keys) }
+        (WantsDropped sources.now.keys dropped) (trees arguments.now)) out.old.keys out.new.keys) }
 {
     for place in 0..arguments.len() {
         let written = written | wants(sources, Source::AnyOf(place), dropped);

@@ -3,7 +3,7 @@
 ghost use Rattle.std.specs.Prelude.{IsTrue, ◌↔◌, ◌≡◌, ◌<◌, ◌+◌, [], length, min};
 ghost use Rattle.std.specs.Prelude.{IfOk, slice_index, ℕ, sum_by};
 ghost use Rattle.nll_problem.specs.Limits.{most_nodes};
-ghost use Rattle.nll_types.specs.Shapes.{shape_nodes, is_small_shape};
+ghost use Rattle.nll_types.specs.Shapes.{int_shape, shape_nodes, is_small_shape};
 ghost use Rattle.nll_types.specs.Table.{IsOver, Extends, IsShapeTable};
 ghost use Rattle.nll_types.specs.Table.{shape_in, shape_over, shapes_in};
 ghost use Rattle.nll_types.specs.Table as spec;
@@ -172,15 +172,20 @@ impl Shapes {
         ensures within { IfOk result (λ i. i < length self.new) }
         ensures at { IfOk result (λ i. shape_in self.new i ≡ shape_over (shapes_in self.old) node) }
     {
+        intern(&mut self.nodes, &mut self.sizes, node)
+    }
+
+    /// The number of `int`, by the same rules.
+    pub fn int(&mut self) -> Result<usize, Memory>
+        ensures extends { Extends self.old self.new }
+        ensures within { IfOk result (λ i. i < length self.new) }
+        ensures at { IfOk result (λ i. shape_in self.new i ≡ int_shape) }
+    {
         let int = self.int;
-        let is_int = matches!(node, Node::Int);
-        if is_int && int < self.len() && matches!(self.node(int), Node::Int) {
+        if int < self.len() && matches!(self.node(int), Node::Int) {
             return Ok(int);
         }
-        let number = intern(&mut self.nodes, &mut self.sizes, node)?;
-        if is_int {
-            self.int = number;
-        }
-        Ok(number)
+        self.int = self.add(Node::Int)?;
+        Ok(self.int)
     }
 }

@@ -3,7 +3,7 @@
 ghost use Rattle.std.specs.Prelude.{◌≡◌, ◌<◌, ◌-◌, ◌^◌, ◌++◌, ◌∷◌, [], length, option_map};
 ghost use Rattle.std.specs.Prelude.{IfOk, IfSome, OnOk, OnErr};
 ghost use Rattle.nll_types.specs.Declarations.{declared, structs_of};
-ghost use Rattle.nll_types.specs.Shapes.{shape_of, put_in_shape, behind_shape};
+ghost use Rattle.nll_types.specs.Shapes.{int_shape, shape_of, put_in_shape, behind_shape};
 ghost use Rattle.nll_types.specs.Places.{behind_all, part_count, small_behind};
 ghost use Rattle.nll_types.specs.Structs.{HasGoodFields};
 ghost use Rattle.nll_types.specs.Table.{IsOver, AreBelow, all_at, shape_in, shape_over, shapes_in};
@@ -115,6 +115,15 @@ impl TypeTable {
             ≡ shape_over (shapes_in self.old.shapes) node) }
     {
         self.shapes.add(node)
+    }
+
+    /// The number of the shape of `int`.
+    pub fn int(&mut self) -> Result<usize, Memory>
+        ensures grows { AddsShapes self.old self.new }
+        ensures within { IfOk result (λ i. i < length self.new.shapes) }
+        ensures at { IfOk result (λ i. shape_in self.new.shapes i ≡ int_shape) }
+    {
+        self.shapes.int()
     }
 
     /// The number of the shape of a type with the shapes of these arguments substituted.
