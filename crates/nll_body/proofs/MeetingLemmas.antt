@@ -13,40 +13,40 @@ use Rattle.nll_body.specs.Judging.{agree, IsJudged}
 use Rattle.nll_body.specs.Found.{IsShapeFound}
 use Rattle.nll_types.specs.declared.node.Node.{Node}
 use Rattle.nll_body.specs.declared.judgement.Judgement.{Judgement}
-use Rattle.nll_body.specs.declared.found.TypedShape.{TypedShape}
 use Rattle.nll_types.proofs.ShapeLemmas.{same_nodes}
 use Rattle.nll_types.proofs.SameShapeLemmas.{same_shape_decides}
 
 -- ---- what is found
 
-pub found_later : (old new : List Node) (o : Option TypedShape) (t : Option TypeTree) (small : Bool)
-    → Extends old new → IfSome o (λ f. f.shape < length old) → IsShapeFound old o t small → IsShapeFound new o t small
-found_later old new None t small e b h = record { shape = h.shape; small = h.small }
-found_later old new (Some f) t small e b h = record { shape = ap Some (e.kept f.shape b) ∙ h.shape; small = h.small }
+pub found_later : (old new : List Node) (o : Option ℕ) (t : Option TypeTree) (f small : Bool) → Extends old new
+    → IfSome o (λ s. s < length old) → IsShapeFound old o f t small → IsShapeFound new o f t small
+found_later old new None t f small e b h = record { shape = h.shape; small = h.small }
+found_later old new (Some s) t f small e b h = record { shape = ap Some (e.kept s b) ∙ h.shape; small = h.small }
 
 pub place_is : (structs : List Struct) (ns : List Node) (ts : List TypeTree) (p : PlacePath) (t : TypeTree)
-    (o : Option TypedShape) → slice_get ts p.variable ≡ Some t
-    → option_map (λ (f : TypedShape). shape_in ns f.shape) o ≡ option_map shape_of (behind_all structs p.projections t)
-    → IfSome o (λ f. f.small ≡ small_behind structs p.projections t)
-    → IsShapeFound ns o (type_of structs ts p) (small_prefixes structs ts p)
-place_is structs ns ts p t o e same small = record {
+    (o : Option ℕ) (f : Bool) → slice_get ts p.variable ≡ Some t
+    → option_map (shape_in ns) o ≡ option_map shape_of (behind_all structs p.projections t)
+    → IfSome o (λ _. f ≡ small_behind structs p.projections t)
+    → IsShapeFound ns o f (type_of structs ts p) (small_prefixes structs ts p)
+place_is structs ns ts p t o f e same small = record {
   shape = same ∙ ap (λ (o : Option TypeTree).
       option_map shape_of (option_and_then (behind_all structs p.projections) o)) (sym e);
   small = subst (λ (z : Option TypeTree).
-      IfSome o (λ f. f.small ≡ unwrap_or (option_map (small_behind structs p.projections) z) true)) (sym e) small;
+      IfSome o (λ _. f ≡ unwrap_or (option_map (small_behind structs p.projections) z) true)) (sym e) small;
 }
 
-pub no_reference : (ns : List Node) (t : Option TypeTree) (small m : Bool) (r : ℕ) → IsShapeFound ns None t small
-    → IsShapeFound ns None (reference_to r m t) small
-no_reference ns None small m r h = record { shape = refl; small = tt }
-no_reference ns (Some t) small m r h = absurd (let z = h.shape in cc)
+pub no_reference : (ns : List Node) (t : Option TypeTree) (f small m : Bool) (r : ℕ)
+    → IsShapeFound ns None f t small → IsShapeFound ns None f (reference_to r m t) small
+no_reference ns None f small m r h = record { shape = refl; small = tt }
+no_reference ns (Some t) f small m r h = absurd (let z = h.shape in cc)
 
 pub small_agrees : (t : TypeTree) (s : Shape) → s ≡ shape_of t → is_small_shape s ≡ is_small t
 small_agrees t s e = ap is_small_shape e ∙ sym (ap (λ (n : ℕ). nat_le n most_nodes) (same_nodes t))
 
-pub is_none : (ns : List Node) (t : Option TypeTree) (small : Bool) → IsShapeFound ns None t small → is_some t ≡ false
-is_none ns None small h = refl
-is_none ns (Some t) small h = absurd (let z = h.shape in cc)
+pub is_none : (ns : List Node) (t : Option TypeTree) (f small : Bool) → IsShapeFound ns None f t small
+    → is_some t ≡ false
+is_none ns None f small h = refl
+is_none ns (Some t) f small h = absurd (let z = h.shape in cc)
 
 -- ---- what is judged
 
@@ -69,47 +69,46 @@ shapes_agree t u s r same a b w =
     same_bool same (same_shape t u) (λ h. (same_shape_decides t u).1 (sym a ∙ w.0 h ∙ b))
     (λ h. w.1 (a ∙ (same_shape_decides t u).0 h ∙ sym b))
 
-pub agree_found : (ns : List Node) (a b : TypedShape) (t u : Option TypeTree) (p q same : Bool)
-    → IsShapeFound ns (Some a) t p → IsShapeFound ns (Some b) u q
-    → IsTrue same ↔ (shape_in ns a.shape ≡ shape_in ns b.shape) → (j : Judgement) → j.fits ≡ same
-    → j.small ≡ (same && (a.small && b.small)) → IsJudged (agree t u) (p && q) j
-agree_found ns a b None u p q same x y w j e d = absurd (let z = x.shape in cc)
-agree_found ns a b (Some t) None p q same x y w j e d = absurd (let z = y.shape in cc)
-agree_found ns a b (Some t) (Some u) p q same x y w j e d =
-    let s : shape_in ns a.shape ≡ shape_of t = (let z = x.shape in cc) in
-    let r : shape_in ns b.shape ≡ shape_of u = (let z = y.shape in cc) in
+pub agree_found : (ns : List Node) (a b : ℕ) (f g : Bool) (t u : Option TypeTree) (p q same : Bool)
+    → IsShapeFound ns (Some a) f t p → IsShapeFound ns (Some b) g u q
+    → IsTrue same ↔ (shape_in ns a ≡ shape_in ns b) → (j : Judgement) → j.fits ≡ same
+    → j.small ≡ (same && (f && g)) → IsJudged (agree t u) (p && q) j
+agree_found ns a b f g None u p q same x y w j e d = absurd (let z = x.shape in cc)
+agree_found ns a b f g (Some t) None p q same x y w j e d = absurd (let z = y.shape in cc)
+agree_found ns a b f g (Some t) (Some u) p q same x y w j e d =
+    let s : shape_in ns a ≡ shape_of t = (let z = x.shape in cc) in
+    let r : shape_in ns b ≡ shape_of u = (let z = y.shape in cc) in
     let same_is = shapes_agree t u _ _ same s r w in
     record {
       fits = e ∙ same_is;
-      fits_small = d ∙ ap (λ (z : Bool). z && (a.small && b.small)) same_is
-          ∙ rw (x.small, y.small) refl;
+      fits_small = d ∙ ap (λ (z : Bool). z && (f && g)) same_is ∙ rw (x.small, y.small) refl;
     }
 
-pub unfit_left : (ns : List Node) (t u : Option TypeTree) (p : Bool) → IsShapeFound ns None t p → agree t u ≡ false
-unfit_left ns None u p x = refl
-unfit_left ns (Some t) u p x = absurd (let z = x.shape in cc)
+pub unfit_left : (ns : List Node) (t u : Option TypeTree) (f p : Bool) → IsShapeFound ns None f t p
+    → agree t u ≡ false
+unfit_left ns None u f p x = refl
+unfit_left ns (Some t) u f p x = absurd (let z = x.shape in cc)
 
-pub unfit_right : (ns : List Node) (t u : Option TypeTree) (q : Bool) → IsShapeFound ns None u q → agree t u ≡ false
-unfit_right ns None u q y = refl
-unfit_right ns (Some t) None q y = refl
-unfit_right ns (Some t) (Some u) q y = absurd (let z = y.shape in cc)
+pub unfit_right : (ns : List Node) (t u : Option TypeTree) (f q : Bool) → IsShapeFound ns None f u q
+    → agree t u ≡ false
+unfit_right ns None u f q y = refl
+unfit_right ns (Some t) None f q y = refl
+unfit_right ns (Some t) (Some u) f q y = absurd (let z = y.shape in cc)
 
 -- a type against a reference to another
-pub reference_found : (ns : List Node) (a b : TypedShape) (t u : Option TypeTree) (r : ℕ) (m p q fits : Bool)
-    → IsShapeFound ns (Some a) t p → IsShapeFound ns (Some b) u q
-    → IsTrue fits ↔ (reference_shape m (shape_in ns a.shape) ≡ shape_in ns b.shape) → (j : Judgement)
-    → j.fits ≡ fits → j.small ≡ (fits && (a.small && b.small))
-    → IsJudged (agree (reference_to r m t) u) (p && q) j
-reference_found ns a b None u r m p q fits x y w j e d = absurd (let z = x.shape in cc)
-reference_found ns a b (Some t) None r m p q fits x y w j e d = absurd (let z = y.shape in cc)
-reference_found ns a b (Some t) (Some u) r m p q fits x y w j e d =
-    let s : shape_in ns a.shape ≡ shape_of t = (let z = x.shape in cc) in
-    let n : shape_in ns b.shape ≡ shape_of u = (let z = y.shape in cc) in
+pub reference_found : (ns : List Node) (a b : ℕ) (f g : Bool) (t u : Option TypeTree) (r : ℕ) (m p q fits : Bool)
+    → IsShapeFound ns (Some a) f t p → IsShapeFound ns (Some b) g u q
+    → IsTrue fits ↔ (reference_shape m (shape_in ns a) ≡ shape_in ns b) → (j : Judgement) → j.fits ≡ fits
+    → j.small ≡ (fits && (f && g)) → IsJudged (agree (reference_to r m t) u) (p && q) j
+reference_found ns a b f g None u r m p q fits x y w j e d = absurd (let z = x.shape in cc)
+reference_found ns a b f g (Some t) None r m p q fits x y w j e d = absurd (let z = y.shape in cc)
+reference_found ns a b f g (Some t) (Some u) r m p q fits x y w j e d =
+    let s : shape_in ns a ≡ shape_of t = (let z = x.shape in cc) in
+    let n : shape_in ns b ≡ shape_of u = (let z = y.shape in cc) in
     let fits_is = shapes_agree (reference r m t) u _ _ fits (ap (reference_shape m) s) n w in
     record {
       fits = e ∙ fits_is;
-      fits_small = d ∙ ap (λ (z : Bool). z && (a.small && b.small)) fits_is
-          ∙ rw (x.small, y.small) refl;
+      fits_small = d ∙ ap (λ (z : Bool). z && (f && g)) fits_is ∙ rw (x.small, y.small) refl;
     }
 
 pub same_reference : (s t u : Shape) (m n same : Bool) → s ≡ reference_shape n t → IsTrue same ↔ (t ≡ u)

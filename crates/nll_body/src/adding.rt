@@ -1,6 +1,6 @@
 //! Putting statements and terminators, and what they consist of, into the flat lists.
 
-ghost use Rattle.std.specs.Prelude.{◌≡◌, ◌<◌, ◌≤◌, ◌^◌, ◌++◌, ◌∷◌, [], length, map};
+ghost use Rattle.std.specs.Prelude.{◌≡◌, ◌<◌, ◌≤◌, ◌^◌, ◌+◌, ◌++◌, ◌∷◌, [], length, map};
 ghost use Rattle.std.specs.Prelude.{IfErr, IfOk, OnErr, OnOk};
 ghost use Rattle.nll_types.specs.Operands.{operand_of};
 ghost use Rattle.nll_types.specs.Places.{path_of};
@@ -15,7 +15,7 @@ use crate::flat::{FlatCall, FlatMake, FlatOperand, FlatSwitch, PartPlace, Slice,
 use crate::statements::{FIRST_PART, Statements};
 use nll_problem::RegionId;
 use nll_sets::Memory;
-use nll_types::{Operand, Place, Typed};
+use nll_types::{Operand, Place, Projection, Typed};
 use std::alloc::AllocError;
 
 // The number of the next item of a list that has this many. Numbers end at 2^31, far beyond what
@@ -32,8 +32,23 @@ fn next_number(count: usize) -> Result<u32, Memory>
     }
 }
 
+// Appends projections. Most often there is one.
+fn append(projections: &mut Vec<Projection>, taken: &[Projection]) -> Result<(), Memory>
+    ensures ok { OnOk result (projections.new.items ≡ projections.old.items ++ taken.now) }
+    ensures len { OnOk result
+        (length projections.new.items ≡ length projections.old.items + length taken.now) }
+    ensures err { OnErr result (projections.new.items ≡ projections.old.items) }
+{
+    match taken {
+        [projection] => projections.push(*projection)?,
+        _ => projections.extend_from_slice(taken)?,
+    }
+    Ok(())
+}
+
 impl Statements {
     // Adds a place that isn't a whole variable.
+    #[inline(never)]
     fn add_part(&mut self, place: &Place) -> Result<u32, Memory>
         ensures places { AddsPlaces self.old self.new }
         ensures within { AreWithin self.new }
@@ -42,7 +57,7 @@ impl Statements {
         let number = next_number(self.parts.len())?;
         let taken = place.projections();
         let projections = Slice::of(self.projections.len(), taken.len())?;
-        self.projections.extend_from_slice(taken)?;
+        append(&mut self.projections, taken)?;
         let variable = place.variable();
         self.parts.push(PartPlace {
             variable,
@@ -52,6 +67,7 @@ impl Statements {
     }
 
     /// The number of a place, which is added where it isn't a whole variable.
+    #[inline(always)]
     pub fn add_place(&mut self, place: &Place) -> Result<u32, Memory>
         ensures places { AddsPlaces self.old self.new }
         ensures within { AreWithin self.new }
@@ -188,8 +204,7 @@ impl Statements {
         source: &Place,
     ) -> Result<Stmt, Memory>
         ensures grows { ListsGrow self.old self.new }
-        ensures flat { IfOk result
-            (IsFlatStatement self.new
+        ensures flat { IfOk result (IsFlatStatement self.new
             (borrow (path_of target.now) region mutable (path_of source.now))) }
     {
         let target = self.add_place(target)?;

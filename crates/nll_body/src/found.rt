@@ -13,50 +13,47 @@ ghost use Rattle.nll_body.specs.Judging.{IsJudged};
 use crate::judgement::Judgement;
 use nll_types::{Node, Shapes};
 
-/// The number of a shape, and whether the types that led to it are small.
-#[derive(Clone, Copy)]
-pub(crate) struct TypedShape {
-    pub(crate) shape: usize,
-    pub(crate) small: bool,
-}
-
 /// What is found of a place or operand, or of a type that is written.
 #[derive(Clone, Copy)]
 pub(crate) struct Found {
     /// Its variable is declared, where it has one.
     pub(crate) declared: bool,
-    /// The shape of its type, where it has a type.
-    pub(crate) typed: Option<TypedShape>,
+    /// The number of the shape of its type, where it has a type.
+    pub(crate) shape: Option<usize>,
+    /// Whether the types that led to that shape are small, where it has one.
+    pub(crate) small: bool,
 }
 
 /// A type of this shape.
 pub(crate) fn shape_found(shapes: &Shapes, shape: usize) -> Found
     requires { shape < length shapes.now }
     ensures declared { result.declared ≡ true }
-    ensures within { IfSome result.typed (λ f. f.shape < length shapes.now) }
+    ensures within { IfSome result.shape (λ s. s < length shapes.now) }
     ensures found { (t : TypeTree) → shape_in shapes.now shape ≡ shape_of t
-        → IsShapeFound shapes.now result.typed (Some t) (is_small t) }
+        → IsShapeFound shapes.now result.shape result.small (Some t) (is_small t) }
 {
-    let small = shapes.is_small(shape);
     Found {
         declared: true,
-        typed: Some(TypedShape { shape, small }),
+        shape: Some(shape),
+        small: shapes.is_small(shape),
     }
 }
 
 /// Whether both have a type, and one shape.
 pub(crate) fn agree(shapes: &Shapes, one: Found, other: Found) -> Judgement
-    requires one { IfSome one.typed (λ f. f.shape < length shapes.now) }
-    requires other { IfSome other.typed (λ f. f.shape < length shapes.now) }
+    requires one { IfSome one.shape (λ s. s < length shapes.now) }
+    requires other { IfSome other.shape (λ s. s < length shapes.now) }
     ensures declared { result.declared ≡ (one.declared && other.declared) }
-    ensures judged { (t u : Option TypeTree) (p q : Bool) → IsShapeFound shapes.now one.typed t p
-        → IsShapeFound shapes.now other.typed u q → IsJudged (spec.agree t u) (p && q) result }
+    ensures judged { (t u : Option TypeTree) (p q : Bool)
+        → IsShapeFound shapes.now one.shape one.small t p
+        → IsShapeFound shapes.now other.shape other.small u q
+        → IsJudged (spec.agree t u) (p && q) result }
 {
     let declared = one.declared & other.declared;
-    match one.typed {
-        Some(one) => match other.typed {
-            Some(other) => {
-                let fits = shapes.is_same(one.shape, other.shape);
+    match one.shape {
+        Some(shape) => match other.shape {
+            Some(other_shape) => {
+                let fits = shapes.is_same(shape, other_shape);
                 Judgement {
                     declared,
                     fits,
@@ -91,18 +88,19 @@ fn is_reference(shapes: &Shapes, shape: usize, mutable: bool, target: usize) -> 
 
 /// Whether both have a type, and the second the shape of a reference to the first.
 pub(crate) fn refers(shapes: &Shapes, mutable: bool, borrowed: Found, place: Found) -> Judgement
-    requires borrowed { IfSome borrowed.typed (λ f. f.shape < length shapes.now) }
-    requires place { IfSome place.typed (λ f. f.shape < length shapes.now) }
+    requires borrowed { IfSome borrowed.shape (λ s. s < length shapes.now) }
+    requires place { IfSome place.shape (λ s. s < length shapes.now) }
     ensures declared { result.declared ≡ (borrowed.declared && place.declared) }
     ensures judged { (t u : Option TypeTree) (r : ℕ) (p q : Bool)
-        → IsShapeFound shapes.now borrowed.typed t p → IsShapeFound shapes.now place.typed u q
+        → IsShapeFound shapes.now borrowed.shape borrowed.small t p
+        → IsShapeFound shapes.now place.shape place.small u q
         → IsJudged (spec.agree (reference_to r mutable t) u) (p && q) result }
 {
     let declared = borrowed.declared & place.declared;
-    match borrowed.typed {
-        Some(borrowed) => match place.typed {
-            Some(place) => {
-                let fits = is_reference(shapes, place.shape, mutable, borrowed.shape);
+    match borrowed.shape {
+        Some(target) => match place.shape {
+            Some(shape) => {
+                let fits = is_reference(shapes, shape, mutable, target);
                 Judgement {
                     declared,
                     fits,

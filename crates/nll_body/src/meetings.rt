@@ -37,9 +37,7 @@ pub(crate) fn judge_given(
         (length places.now.variables.now) (path_at places.now place ∷ [])) }
     ensures judged { IfOk result (λ j. (types : List TypeTree) (t : TypeTree)
         → HaveShapes table.old.shapes (shape_numbers places.now.variables.now) types
-        → shape_in table.old.shapes shape ≡ shape_of t
-        → IsJudged
-        (spec.agree (Some t)
+        → shape_in table.old.shapes shape ≡ shape_of t → IsJudged (spec.agree (Some t)
         (type_of (structs_of table.old.structs) types (path_at places.now place)))
         (is_small t && small_prefixes (structs_of table.old.structs) types
         (path_at places.now place)) j) }
@@ -65,9 +63,7 @@ pub(crate) fn judge_operand(
         (length places.now.variables.now) (place_in (operand_at places.now operand))) }
     ensures judged { IfOk result (λ j. (types : List TypeTree) (t : TypeTree)
         → HaveShapes table.old.shapes (shape_numbers places.now.variables.now) types
-        → shape_in table.old.shapes shape ≡ shape_of t
-        → IsJudged
-        (spec.agree
+        → shape_in table.old.shapes shape ≡ shape_of t → IsJudged (spec.agree
         (operand_type (structs_of table.old.structs) types
         (operand_at places.now operand)) (Some t))
         (list_all (small_prefixes (structs_of table.old.structs) types)

@@ -54,9 +54,7 @@ pub(crate) fn judge_parts(
         (flat_map place_in (map (operand_at places.now) operands.now))) }
     ensures judged { IfOk result (λ j. (types : List TypeTree) (t : TypeTree)
         → HaveShapes table.old.shapes (shape_numbers places.now.variables.now) types
-        → shape_in table.old.shapes shape ≡ shape_of t
-        → IsJudged
-        (pairs_agree (beside_parts
+        → shape_in table.old.shapes shape ≡ shape_of t → IsJudged (pairs_agree (beside_parts
         (operand_types (structs_of table.old.structs) types
         (map (operand_at places.now) operands.now))
         (parts_of_type (structs_of table.old.structs) t)))
@@ -97,10 +95,7 @@ pub(crate) fn judge_arguments(
     ensures judged { IfOk result (λ j. (types : List TypeTree) (g : Typed → TypeTree)
         → HaveShapes table.old.shapes (shape_numbers places.now.variables.now) types
         → HaveShapes table.old.shapes (shape_numbers (map (λ a. a.1) arguments.now))
-        (map (λ a. g a.1) arguments.now)
-        → IsJudged
-        (list_all
-        (λ a. spec.agree
+        (map (λ a. g a.1) arguments.now) → IsJudged (list_all (λ a. spec.agree
         (operand_type (structs_of table.old.structs) types (operand_at places.now a.0))
         (Some (g a.1))) arguments.now)
         (list_all (small_prefixes (structs_of table.old.structs) types)

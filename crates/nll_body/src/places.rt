@@ -13,7 +13,7 @@ ghost use Rattle.nll_body.specs.Found.{IsShapeFound};
 ghost use Rattle.nll_body.specs.Judging.{have_variables, operand_at, path_at};
 
 use crate::flat::FlatOperand;
-use crate::found::{Found, TypedShape};
+use crate::found::Found;
 use crate::statements::Statements;
 use nll_sets::Memory;
 use nll_types::{Node, TypeTable, Typed};
@@ -37,31 +37,34 @@ pub(crate) fn find_place(
 ) -> Result<Found, Memory>
     requires { AreBelow (length table.old.shapes) (shape_numbers places.now.variables.now) }
     ensures grows { AddsShapes table.old table.new }
-    ensures declared { IfOk result (λ f. f.declared
-        ≡ nat_lt (path_at places.now place).variable
+    ensures declared { IfOk result (λ f. f.declared ≡ nat_lt (path_at places.now place).variable
         (length places.now.variables.now)) }
-    ensures within { IfOk result (λ f. IfSome f.typed (λ t. t.shape < length table.new.shapes)) }
+    ensures within { IfOk result (λ f. IfSome f.shape (λ s. s < length table.new.shapes)) }
     ensures found { IfOk result (λ f. (types : List TypeTree)
         → HaveShapes table.old.shapes (shape_numbers places.now.variables.now) types
-        → IsShapeFound table.new.shapes f.typed
+        → IsShapeFound table.new.shapes f.shape f.small
         (type_of (structs_of table.old.structs) types (path_at places.now place))
-        (small_prefixes (structs_of table.old.structs) types
-        (path_at places.now place))) }
+        (small_prefixes (structs_of table.old.structs) types (path_at places.now place))) }
 {
     let variable = places.statements.variable(place) as usize;
     let declared = variable < places.variables.len();
+    let untyped = Found {
+        declared,
+        shape: None,
+        small: false,
+    };
     if !declared {
-        return Ok(Found {
-            declared,
-            typed: None,
-        });
+        return Ok(untyped);
     }
     let from = places.variables[variable].shape;
-    let typed = match table.place_shape(alloc, from, places.statements.projections(place))? {
-        Some((shape, small)) => Some(TypedShape { shape, small }),
-        None => None,
-    };
-    Ok(Found { declared, typed })
+    match table.place_shape(alloc, from, places.statements.projections(place))? {
+        Some((shape, small)) => Ok(Found {
+            declared,
+            shape: Some(shape),
+            small,
+        }),
+        None => Ok(untyped),
+    }
 }
 
 /// The shape of an operand, where it has a type, and whether the types of its place are small.
@@ -75,21 +78,21 @@ pub(crate) fn find_operand(
     ensures grows { AddsShapes table.old table.new }
     ensures declared { IfOk result (λ f. f.declared ≡ have_variables
         (length places.now.variables.now) (place_in (operand_at places.now operand))) }
-    ensures within { IfOk result (λ f. IfSome f.typed (λ t. t.shape < length table.new.shapes)) }
+    ensures within { IfOk result (λ f. IfSome f.shape (λ s. s < length table.new.shapes)) }
     ensures found { IfOk result (λ f. (types : List TypeTree)
         → HaveShapes table.old.shapes (shape_numbers places.now.variables.now) types
-        → IsShapeFound table.new.shapes f.typed
-        (operand_type (structs_of table.old.structs) types
-        (operand_at places.now operand))
+        → IsShapeFound table.new.shapes f.shape f.small
+        (operand_type (structs_of table.old.structs) types (operand_at places.now operand))
         (list_all (small_prefixes (structs_of table.old.structs) types)
         (place_in (operand_at places.now operand)))) }
 {
     match operand {
         FlatOperand::Const => {
-            let shape = table.add(Node::Int)?;
+            let shape = table.int()?;
             Ok(Found {
                 declared: true,
-                typed: Some(TypedShape { shape, small: true }),
+                shape: Some(shape),
+                small: true,
             })
         }
         FlatOperand::Copy(place) | FlatOperand::Move(place) => {

@@ -124,8 +124,8 @@ fn judge_read(
         places.now (read (path_at places.now place))) }
 {
     let found = find_place(alloc, table, places, place)?;
-    match found.typed {
-        Some(typed) => Ok(Judgement::fitting(found.declared, typed.small)),
+    match found.shape {
+        Some(_) => Ok(Judgement::fitting(found.declared, found.small)),
         None => Ok(Judgement::unfit(found.declared)),
     }
 }
@@ -145,7 +145,7 @@ fn judge_switch(
     ensures judged { IfOk result (IsJudgedIn (structs_of table.old.structs) table.old.shapes
         places.now (switch_in places.now.statements.now switch.now)) }
 {
-    let int = table.add(Node::Int)?;
+    let int = table.int()?;
     judge_operand(alloc, table, places, switch.operand, int)
 }
 

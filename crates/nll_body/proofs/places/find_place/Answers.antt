@@ -17,7 +17,7 @@ returns-in-Some-clause-found c = λ types h.
     let t = variable_there c.args.table.now.shapes vs types p.variable h within in
     let at = rw (c.in-Some.is, c.projections.ensures, c.variable-variable.ensures) at c.in_ok-shape.ensures.at in
     let small = rw (c.in-Some.is, c.projections.ensures, c.variable-variable.ensures) at c.in_ok-shape.ensures.small in
-    place_is (structs_of c.args.table.now.structs) _ types p t.0 _ t.1 (at t.0 (sym t.2)) (small t.0 (sym t.2))
+    place_is (structs_of c.args.table.now.structs) _ types p t.0 _ _ t.1 (at t.0 (sym t.2)) (small t.0 (sym t.2))
 
 pub returns-in-None-clause-found : goal.returns-in-None-clause-found
 returns-in-None-clause-found c = λ types h.
@@ -26,4 +26,4 @@ returns-in-None-clause-found c = λ types h.
     let within : p.variable < length vs = omega (arith, c.variable-variable.ensures) in
     let t = variable_there c.args.table.now.shapes vs types p.variable h within in
     let at = rw (c.in-None.is, c.projections.ensures, c.variable-variable.ensures) at c.in_ok-shape.ensures.at in
-    place_is (structs_of c.args.table.now.structs) _ types p t.0 _ t.1 (at t.0 (sym t.2)) tt
+    place_is (structs_of c.args.table.now.structs) _ types p t.0 _ _ t.1 (at t.0 (sym t.2)) tt

@@ -20,5 +20,5 @@ returns-clause-judged c = λ types f g h w.
     (shapes_later _ _ _ types c.find_operand.ensures.grows.extends c.requires.variables h) in
     judged_as (one_agrees (operand_type structs types operand) (type_of structs types place))
     (grind (arith, and-true, and_comm))
-    ((rw c.shapes.ensures at c.agree.ensures.judged) _ _ _ _ (found_later _ _ _ _ _
+    ((rw c.shapes.ensures at c.agree.ensures.judged) _ _ _ _ (found_later _ _ _ _ _ _
     c.find_place.ensures.grows.extends c.in_ok-source.ensures.within first) second)

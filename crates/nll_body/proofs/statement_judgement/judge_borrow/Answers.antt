@@ -20,5 +20,5 @@ returns-clause-judged c = λ n types f g h w.
     judged_as
     (one_agrees (reference_to r c.args.mutable (type_of structs types borrowed)) (type_of structs types place))
     (borrow_order (small_prefixes structs types borrowed) (small_prefixes structs types place))
-    ((rw c.shapes.ensures at c.refers.ensures.judged) _ _ r _ _ (found_later _ _ _ _ _
+    ((rw c.shapes.ensures at c.refers.ensures.judged) _ _ r _ _ (found_later _ _ _ _ _ _
     c.find_place-2.ensures.grows.extends c.in_ok-source.ensures.within first) second)

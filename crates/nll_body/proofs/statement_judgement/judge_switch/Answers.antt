@@ -15,5 +15,5 @@ returns-clause-judged c =
     let operand = operand_at c.args.places.now c.args.switch.now.operand in
     IfOk-weaker c.judge_operand.result _ _
     (λ j told. λ types f g h w. judged_as (one_agrees (operand_type structs types operand) (Some int)) refl
-    (told types int (shapes_later _ _ _ types c.add.ensures.grows.extends c.requires.variables h)
-    c.in_ok-int.ensures.at)) (rw c.add.ensures.grows.structs at c.judge_operand.ensures.judged)
+    (told types int (shapes_later _ _ _ types c.int.ensures.grows.extends c.requires.variables h)
+    c.in_ok-int.ensures.at)) (rw c.int.ensures.grows.structs at c.judge_operand.ensures.judged)

@@ -10,12 +10,12 @@ returns-in_err-push-clause-places c = rw (← c.self.view_is) (search (rules, pr
 
 pub returns-clause-places : goal.returns-clause-places
 returns-clause-places c =
-    rw (c.in_ok-push.ensures.items, c.in_ok-extend_from_slice.ensures.items, ← c.self.view_is)
+    rw (c.in_ok-push.ensures.items, c.in_ok-append.ensures.ok, ← c.self.view_is)
     (search (rules, prefix_same, prefix_grown))
 
 pub returns-clause-number : goal.returns-clause-number
 returns-clause-number c =
     let counted : c.in_ok-number.number ≡ length c.self.inside.parts.items = search rules in
-    rw (c.in_ok-push.ensures.items, c.in_ok-extend_from_slice.ensures.items)
+    rw (c.in_ok-push.ensures.items, c.in_ok-append.ensures.ok)
     (is_part (the_view c.self.inside) _ c.projections-taken.result.now c.in_ok-number.number (path_of c.args.place.now)
     counted (search rules) (search rules) (search rules) (search rules))
