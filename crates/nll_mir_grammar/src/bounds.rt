@@ -16,8 +16,7 @@ pub type Bounds<'a> = Vec<(&'a [u8], &'a [u8])>;
 /// The bound at the front.
 pub fn bound_at<'a>(line: &'a [u8]) -> Option<((&'a [u8], &'a [u8]), &'a [u8])>
     ensures { MatchOption result (HasNone parts.bounds (tokens_in line.now))
-        (λ p. Begins parts.bounds (tokens_in line.now) (p.0.0.now, p.0.1.now)
-        (tokens_in p.1.now)) }
+        (λ p. Begins parts.bounds (tokens_in line.now) (p.0.0.now, p.0.1.now) (tokens_in p.1.now)) }
 {
     let (longer, behind) = region_at(line)?;
     let behind = after_sign(behind, b':')?;

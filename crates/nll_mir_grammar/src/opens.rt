@@ -59,6 +59,7 @@ impl<'a> Default for Open<'a> {
 pub type Opened<'a> = SmallVec<Open<'a>, 3>;
 
 // Appends a piece, after which this may come next.
+#[inline(always)]
 fn put<'a>(
     pieces: &mut Vec<TypePiece<'a>>,
     piece: TypePiece<'a>,
@@ -67,7 +68,8 @@ fn put<'a>(
     ensures { IfOk result
         (λ s. (s ≡ state) × (pieces.new.items ≡ pieces.old.items ++ piece.entry ∷ [])) }
 {
-    pieces.push(piece)?;
+    pieces.reserve(1)?;
+    pieces.push_reserved(piece);
     Ok(state)
 }
 
@@ -76,11 +78,12 @@ fn put_empty<'a>(pieces: &mut Vec<TypePiece<'a>>, piece: TypePiece<'a>) -> Resul
     ensures { IfOk result (λ s. (s ≡ State.Have)
         × (pieces.new.items ≡ pieces.old.items ++ TypePiece.Row ∷ piece.entry ∷ [])) }
 {
-    pieces.push(TypePiece::Row)?;
+    put(pieces, TypePiece::Row, State::Have)?;
     put(pieces, piece, State::Have)
 }
 
 // Opens something whose row begins, in which this may come next.
+#[inline(always)]
 fn open_row<'a>(
     pieces: &mut Vec<TypePiece<'a>>,
     opened: &mut Opened<'a>,
@@ -91,9 +94,9 @@ fn open_row<'a>(
         × (pieces.new.items ≡ pieces.old.items ++ TypePiece.Row ∷ [])
         × (opened.new.items ≡ opened.old.items ++ inner.entry ∷ [])) }
 {
-    pieces.push(TypePiece::Row)?;
-    opened.push(inner)?;
-    Ok(state)
+    opened.reserve(1)?;
+    opened.push_reserved(inner);
+    put(pieces, TypePiece::Row, state)
 }
 
 /// Goes on after the beginning of a type.
@@ -211,8 +214,7 @@ fn ends_at(opened: &Opened<'_>) -> Option<(u8, State)>
 fn close<'a>(pieces: &mut Vec<TypePiece<'a>>, opened: &mut Opened<'a>) -> Result<State, Memory>
     requires { 0 < length opened.old.items }
     ensures { IfOk result (λ s. (frames : List Frame) (t : WrittenType) (c : ℕ) (next : stage)
-        → AreRead State.Inside frames t pieces.old.items opened.old.items
-        → EndsWith frames c next
+        → AreRead State.Inside frames t pieces.old.items opened.old.items → EndsWith frames c next
         → IsInnermostClosed frames t c opened.old.items s pieces.new.items opened.new.items) }
 {
     match opened.as_slice()[opened.len() - 1] {

@@ -47,8 +47,7 @@ fn sign_at<'a>(line: &'a [u8]) -> Option<(Sign, &'a [u8])>
 // The parameter at the front.
 fn parameter_at<'a>(line: &'a [u8]) -> Option<(ParameterText<'a>, &'a [u8])>
     ensures { MatchOption result (HasNone parts.parameters (tokens_in line.now))
-        (λ p. Begins parts.parameters (tokens_in line.now) (parameter_of p.0)
-        (tokens_in p.1.now)) }
+        (λ p. Begins parts.parameters (tokens_in line.now) (parameter_of p.0) (tokens_in p.1.now)) }
 {
     if let Some((name, behind)) = region_at(line) {
         let (parameter, rest) = marks_at(behind)?;

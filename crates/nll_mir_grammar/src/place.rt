@@ -5,6 +5,7 @@ ghost use Rattle.nll_types.specs.Places.{path_of};
 ghost use Rattle.nll_types.specs.Operands.{Operand as spec, operand_of};
 ghost use Rattle.nll_text.specs.LineTokens.{tokens_in};
 ghost use Rattle.nll_text.specs.Grammars.{Begins, HasNone};
+ghost use Rattle.nll_mir_grammar.specs.Grammars.{many};
 ghost use Rattle.nll_mir_grammar.specs.Parts as parts;
 
 use crate::lists::Listed;
@@ -31,19 +32,18 @@ fn projection_at<'a>(line: &'a [u8]) -> Option<(Projection, &'a [u8])>
     }
 }
 
-/// The place at the front. Most places have one projection or none, and these need no list.
-pub fn place_at<'a>(alloc: Global, line: &'a [u8]) -> Read<'a, Place>
-    ensures { IfOk result (λ o. MatchOption o (HasNone parts.places (tokens_in line.now))
-        (λ p. Begins parts.places (tokens_in line.now) (path_of p.0) (tokens_in p.1.now))) }
+// The place of a variable that projections follow. One projection needs no list.
+#[inline(never)]
+fn part_at<'a>(alloc: Global, variable: u32, behind: &'a [u8]) -> Result<(Place, &'a [u8]), Memory>
+    ensures variable { IfOk result (λ p. (path_of p.0).variable ≡ variable) }
+    ensures projections { IfOk result (λ p. Begins (many parts.projections) (tokens_in behind.now)
+        (path_of p.0).projections (tokens_in p.1.now)) }
 {
-    let Some((variable, behind)) = variable_at(line) else {
-        return Ok(None);
-    };
     let Some((projection, rest)) = projection_at(behind) else {
-        return Ok(Some((Place::Whole(variable), behind)));
+        return Ok((Place::Whole(variable), behind));
     };
     let Some((second, mut end)) = projection_at(rest) else {
-        return Ok(Some((Place::Part(variable, projection), rest)));
+        return Ok((Place::Part(variable, projection), rest));
     };
     // Up to three allocate nothing. The last of these only keeps room for another.
     let first = [projection, second, Projection::Deref];
@@ -52,7 +52,23 @@ pub fn place_at<'a>(alloc: Global, line: &'a [u8]) -> Read<'a, Place>
         projections.push(another)?;
         end = behind;
     }
-    Ok(Some((Place::new(alloc, variable, projections)?, end)))
+    Ok((Place::new(alloc, variable, projections)?, end))
+}
+
+/// The place at the front. Most are whole variables.
+#[inline(always)]
+pub fn place_at<'a>(alloc: Global, line: &'a [u8]) -> Read<'a, Place>
+    ensures { IfOk result (λ o. MatchOption o (HasNone parts.places (tokens_in line.now))
+        (λ p. Begins parts.places (tokens_in line.now) (path_of p.0) (tokens_in p.1.now))) }
+{
+    let Some((variable, behind)) = variable_at(line) else {
+        return Ok(None);
+    };
+    if after_sign(behind, b'.').is_none() {
+        return Ok(Some((Place::Whole(variable), behind)));
+    }
+    let (place, rest) = part_at(alloc, variable, behind)?;
+    Ok(Some((place, rest)))
 }
 
 /// The operand at the front.

@@ -22,8 +22,7 @@ fn read_pieces<'a>(
     requires opened { opened.old.items ≡ [] }
     ensures pieces { IfOk result (λ o. IfSome o (λ _. IsType pieces.new.items)) }
     ensures reads { IfOk result (λ o. MatchOption o (HasNoType (tokens_in line.now))
-        (λ rest. IsTypeIn (tokens_in line.now) (written pieces.new.items)
-        (tokens_in rest.now))) }
+        (λ rest. IsTypeIn (tokens_in line.now) (written pieces.new.items) (tokens_in rest.now))) }
 {
     let mut state = State::Want;
     let mut rest = line;
