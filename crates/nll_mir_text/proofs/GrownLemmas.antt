@@ -23,6 +23,7 @@ use Rattle.nll_mir_text.specs.MirReading.{said_by, scope_in, IsReady, IsDue}
 use Rattle.nll_mir_text.specs.ResolvedLines.{IsGrown, IsPlaced}
 use Rattle.nll_mir_text.specs.ResolvedStatements.{IsFlatOf, IsOfStatement}
 use Rattle.nll_mir_text.specs.declared.reader.Reader.{Reader}
+use Rattle.nll_mir_text.specs.declared.type_resolution.Resolving.{Resolving}
 
 module _ (old new : BodyTypes) (grows : AddsTypes old new) where
   -- statements mean what they meant
@@ -50,22 +51,23 @@ module _ (old new : BodyTypes) (grows : AddsTypes old new) where
   }
 
 -- the reader with other types and lists
-abbrev pub grown : Reader → BodyTypes → StatementLists → Reader
-grown r t l = record r {
+abbrev pub grown : Reader → BodyTypes → StatementLists → Resolving → Reader
+grown r t l m = record r {
   variables = record r.variables { types = t };
   points = record r.points { statements = l };
+  resolving = m;
 }
 
-module _ (r : Reader) (t : BodyTypes) (l : StatementLists) (grows : AddsTypes r.variables.types t)
+module _ (r : Reader) (t : BodyTypes) (l : StatementLists) (m : Resolving) (grows : AddsTypes r.variables.types t)
     (same : statements_in l ≡ statements_in r.points.statements) (h : IsReady r) where
-  pub said_grown : said_by (grown r t l) ≡ said_by r
+  pub said_grown : said_by (grown r t l m) ≡ said_by r
   said_grown =
       let structs = grows.table.structs in
       let variables = trees_later _ _ _ _ grows.table.extends grows.regions _ h.rows.variables in
       let points = points_later r.variables.types t grows _ h.rows.points in
       rw (structs, variables, same, points) refl
 
-  pub is_grown : IsGrown r (grown r t l)
+  pub is_grown : IsGrown r (grown r t l m)
   is_grown = record {
     said = said_grown;
     ready = record {
@@ -91,15 +93,15 @@ module _ (r : Reader) (t : BodyTypes) (l : StatementLists) (grows : AddsTypes r.
 
   -- a line that was in order is
   pub order_grown : (i : Statement WrittenName WrittenType) → is_in_order (said_by r) (at_point i) ≡ true
-      → is_in_order (said_by (grown r t l)) (at_point i) ≡ true
+      → is_in_order (said_by (grown r t l m)) (at_point i) ≡ true
   order_grown i order = ap (λ (s : Said). is_in_order s (at_point i)) said_grown ∙ order
 
 -- with types alone a statement is still that of its line
 pub placed_grown : (r : Reader) (t : BodyTypes) → AddsTypes r.variables.types t → IsReady r
     → (i : Statement WrittenName WrittenType) (flat : Stmt) (fits : Bool) → IsPlaced r i flat fits
-    → IsPlaced (grown r t r.points.statements) i flat fits
+    → IsPlaced (grown r t r.points.statements r.resolving) i flat fits
 placed_grown r t grows ready i flat fits p = record {
-  order = order_grown r t r.points.statements grows refl ready i p.order;
+  order = order_grown r t r.points.statements r.resolving grows refl ready i p.order;
   of = record {
     within = p.of.within;
     of = statement_later r.variables.types t grows (scope_in r.regions r.structs) i _ p.of.of;
@@ -117,9 +119,9 @@ pub adds_table : (types : BodyTypes) (t : Tables) → AddsShapes types.table t
 adds_table types t grows = record { table = grows; regions = prefix_same types.regions.items }
 
 -- a statement that is made of a line that is in order
-pub placed_of : (r : Reader) (t : BodyTypes) (l : StatementLists) (i : Statement WrittenName WrittenType) (k : Stmt)
-    (fits : Bool) → AddsTypes r.variables.types t → statements_in l ≡ statements_in r.points.statements → IsReady r
+pub placed_of : (r : Reader) (t : BodyTypes) (l : StatementLists) (m : Resolving)
+    (i : Statement WrittenName WrittenType) (k : Stmt) (fits : Bool) → AddsTypes r.variables.types t → statements_in l ≡ statements_in r.points.statements → IsReady r
     → is_in_order (said_by r) (at_point i) ≡ true → IsFlatOf (scope_in r.regions r.structs) i t l k
-    → fits ≡ list_all (has_arguments (scope_in r.regions r.structs)) (types_written i) → IsPlaced (grown r t l) i k fits
-placed_of r t l i k fits adds same ready order made fit =
-    record { order = order_grown r t l adds same ready i order; of = made; fits = fit }
+    → fits ≡ list_all (has_arguments (scope_in r.regions r.structs)) (types_written i) → IsPlaced (grown r t l m) i k fits
+placed_of r t l m i k fits adds same ready order made fit =
+    record { order = order_grown r t l m adds same ready i order; of = made; fits = fit }

@@ -83,7 +83,8 @@ impl Reader {
         if !judgement.declared {
             return Err(TextKind::Unknown);
         }
-        if !targets_are_blocks(self.points.blocks, &self.points.statements, statement) {
+        let statements = &self.points.statements;
+        if !targets_are_blocks(self.points.blocks, statements, statement, exits) {
             return Err(TextKind::Range);
         }
         if !judgement.fits {
@@ -192,7 +193,8 @@ impl Reader {
         let scope = scope_in(&self.regions, &self.structs);
         let (types, statements) = (&mut self.variables.types, &mut self.points.statements);
         let mut fits = true;
-        match resolve_statement(self.alloc, &scope, statement, types, statements, &mut fits)? {
+        let made = &mut self.resolving;
+        match resolve_statement(&scope, statement, types, statements, made, &mut fits)? {
             Some(resolved) => self.add_resolved(resolved, fits),
             None => Err(TextKind::Unknown),
         }

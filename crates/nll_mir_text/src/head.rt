@@ -153,7 +153,7 @@ impl Reader {
         let scope = scope_in(&self.regions, &self.structs);
         let types = &mut self.variables.types;
         let mut fits = true;
-        let Some(ty) = resolve(self.alloc, &scope, text, types, &mut fits)? else {
+        let Some(ty) = resolve(&scope, text, types, &mut self.resolving, &mut fits)? else {
             return Err(TextKind::Unknown);
         };
         if number as usize != self.variables.typed.len() {
@@ -202,7 +202,7 @@ impl Reader {
         let fields = text.fields.as_type();
         let mut fits = true;
         let types = &mut self.variables.types;
-        match resolve(self.alloc, &scope, fields, types, &mut fits)? {
+        match resolve(&scope, fields, types, &mut self.resolving, &mut fits)? {
             Some(fields) => self.add_resolved_struct(own, text, fields, fits),
             None => Err(TextKind::Unknown),
         }

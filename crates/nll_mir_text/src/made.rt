@@ -10,14 +10,13 @@ ghost use Rattle.nll_mir_text.specs.Resolving.{shape_with};
 
 use nll_sets::Memory;
 use nll_types::{Node, TypeTable};
-use smallvec::SmallVec;
 use std::alloc::Global;
 
 // How far after its last part a shape is looked for.
 const NEAR: usize = 16;
 
-/// The shapes of the types that are made, the newest last. Few types have more parts.
-pub(crate) type Made = SmallVec<usize, 8>;
+/// The shapes of the types that are made, the newest last.
+pub(crate) type Made = Vec<usize>;
 
 /// A node without its row of parts.
 #[derive(Clone, Copy)]
@@ -90,6 +89,6 @@ pub(crate) fn pop(table: &mut TypeTable, made: &mut Made) -> Result<usize, Memor
 {
     match made.pop() {
         Some(shape) => Ok(shape),
-        None => table.add(Node::Int),
+        None => table.int(),
     }
 }

@@ -12,6 +12,7 @@ ghost use Rattle.nll_mir_text.specs.MirText.{body_said, mir};
 
 use crate::groups::{Group, group_of};
 use crate::tables::{Points, Regions, StructNames, Variables};
+use crate::type_resolution::Resolving;
 use indexmap::IndexSet;
 use nll_body::{BodyParts, Statements};
 use nll_format::{LineReader, Names, TextKind, pass_over};
@@ -29,6 +30,7 @@ pub struct Reader {
     pub(crate) structs: StructNames,
     pub(crate) variables: Variables,
     pub(crate) points: Points,
+    pub(crate) resolving: Resolving,
 }
 
 impl Reader {
@@ -63,6 +65,11 @@ impl Reader {
                 statements: Statements::new(alloc),
                 edges: 0,
                 owes: false,
+            },
+            resolving: Resolving {
+                shapes: Vec::new(alloc),
+                rows: Vec::new(alloc),
+                fits: true,
             },
         })
     }
@@ -132,9 +139,11 @@ impl Reader {
             structs,
             variables,
             points,
+            resolving,
             ..
         } = self;
         drop(structs);
+        drop(resolving);
         let universals = regions.universals as u32;
         BodyParts {
             names: regions.names,

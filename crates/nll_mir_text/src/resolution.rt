@@ -18,14 +18,13 @@ ghost use Rattle.nll_mir_text.specs.ResolvedStatements.{as_written, is_bound, bo
 ghost use Rattle.nll_mir_text.specs.ResolvedStatements.{AreOfArguments, FitOf, MadeOf};
 
 use crate::scope::Scope;
-use crate::type_resolution::resolve;
+use crate::type_resolution::{Resolving, resolve};
 use nll_body::{Call, FlatCall, Slice, Statement, Statements, Stmt};
 use nll_format::Names;
 use nll_mir_grammar::TypeText;
 use nll_problem::RegionId;
 use nll_sets::Memory;
 use nll_types::{BodyTypes, Operand};
-use std::alloc::Global;
 
 // The number of a region, where its name is declared.
 fn resolve_region(names: &Names, name: &[u8]) -> Option<RegionId>
@@ -67,11 +66,11 @@ fn resolve_bounds(
 
 // Adds the arguments of a call, where all names in their types are declared.
 fn resolve_arguments(
-    alloc: Global,
     scope: &Scope<'_>,
     arguments: &[(Operand, TypeText<'_>)],
     types: &mut BodyTypes,
     statements: &mut Statements,
+    made: &mut Resolving,
     fits: &mut bool,
 ) -> Result<Option<Slice>, Memory>
     requires { HasRoom scope.now }
@@ -81,13 +80,12 @@ fn resolve_arguments(
         (list_all (λ a. is_known (scope_of scope.now) (written a.1)) arguments.now ≡ false)
         (λ s. (args : List (Used × Numbered))
         × AreOfArguments (scope_of scope.now) arguments.now types.new args
-        × AreFlatArguments statements.new args s
-        × (fits.new ≡ (fits.old
+        × AreFlatArguments statements.new args s × (fits.new ≡ (fits.old
         && list_all (λ a. has_arguments (scope_of scope.now) (written a.1)) arguments.now)))) }
 {
     let slice = Slice::of(statements.call_counts().0, arguments.len())?;
     for argument in arguments {
-        match resolve(alloc, scope, &argument.1, types, fits)? {
+        match resolve(scope, &argument.1, types, made, fits)? {
             Some(ty) => statements.add_argument(&argument.0, ty)?,
             None => return Ok(None),
         }
@@ -97,11 +95,11 @@ fn resolve_arguments(
 
 // Adds a call, where its names are declared.
 fn resolve_call(
-    alloc: Global,
     scope: &Scope<'_>,
     call: &Call<&[u8], TypeText<'_>>,
     types: &mut BodyTypes,
     statements: &mut Statements,
+    made: &mut Resolving,
     fits: &mut bool,
 ) -> Result<Option<Stmt>, Memory>
     requires { HasRoom scope.now }
@@ -117,10 +115,10 @@ fn resolve_call(
         return Ok(None);
     };
     let inputs = call.arguments.as_slice();
-    let Some(arguments) = resolve_arguments(alloc, scope, inputs, types, statements, fits)? else {
+    let Some(arguments) = resolve_arguments(scope, inputs, types, statements, made, fits)? else {
         return Ok(None);
     };
-    let Some(result) = resolve(alloc, scope, &call.result, types, fits)? else {
+    let Some(result) = resolve(scope, &call.result, types, made, fits)? else {
         return Ok(None);
     };
     let made = FlatCall {
@@ -138,11 +136,11 @@ fn resolve_call(
 /// looked up once. The flag stays true where each name in its types has arguments of the kinds that
 /// it takes.
 pub fn resolve_statement(
-    alloc: Global,
     scope: &Scope<'_>,
     statement: &Statement<&[u8], TypeText<'_>>,
     types: &mut BodyTypes,
     statements: &mut Statements,
+    made: &mut Resolving,
     fits: &mut bool,
 ) -> Result<Option<Stmt>, Memory>
     requires { HasRoom scope.now }
@@ -162,7 +160,7 @@ pub fn resolve_statement(
             statements.add_borrow(target, region, *mutable, source)?
         }
         Statement::Make(make) => {
-            let Some(ty) = resolve(alloc, scope, &make.ty, types, fits)? else {
+            let Some(ty) = resolve(scope, &make.ty, types, made, fits)? else {
                 return Ok(None);
             };
             let operands = make.operands.as_slice();
@@ -178,7 +176,7 @@ pub fn resolve_statement(
         Statement::Drop(variable, block, Some(unwind)) => {
             Stmt::DropUnwind(*variable, *block, *unwind)
         }
-        Statement::Call(call) => return resolve_call(alloc, scope, call, types, statements, fits),
+        Statement::Call(call) => return resolve_call(scope, call, types, statements, made, fits),
         Statement::Return => Stmt::Return,
         Statement::Stop => Stmt::Stop,
     };

@@ -9,7 +9,6 @@ ghost use Rattle.nll_mir_text.specs.Resolving.{NoneWaits};
 
 use crate::scope::Scope;
 use nll_problem::RegionId;
-use smallvec::SmallVec;
 
 /// An entry of a row, the beginning of one, or a reference.
 #[derive(Clone, Copy)]
@@ -24,14 +23,8 @@ pub enum Mark {
     Behind(bool, RegionId),
 }
 
-impl Default for Mark {
-    fn default() -> Mark {
-        Mark::Part
-    }
-}
-
-/// The rows and the references that aren't complete, the newest last. Few types have more in them.
-pub(crate) type Rows = SmallVec<Mark, 8>;
+/// The rows and the references that aren't complete, the newest last.
+pub(crate) type Rows = Vec<Mark>;
 
 /// Where the newest row begins.
 #[derive(Clone, Copy)]

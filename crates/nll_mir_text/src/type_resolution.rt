@@ -25,17 +25,16 @@ use nll_mir_grammar::{TypePiece, TypeText};
 use nll_problem::RegionId;
 use nll_sets::Memory;
 use nll_types::{BodyTypes, Node, Typed};
-use smallvec::SmallVec;
-use std::alloc::Global;
 
-/// What is resolved of a type so far. Each name so far is known.
+/// What is resolved of a type so far, in lists that are used again for the next one. Each name so
+/// far is known.
 #[derive(Drop)]
-struct Resolving {
+pub struct Resolving {
     /// The shapes of the types that are made.
-    shapes: Made,
-    rows: Rows,
+    pub(crate) shapes: Made,
+    pub(crate) rows: Rows,
     /// Each name so far has arguments of the kinds that it takes.
-    fits: bool,
+    pub(crate) fits: bool,
 }
 
 // Makes the references that wait for a type around it. Answers the shape of the outermost.
@@ -44,8 +43,7 @@ fn put_around(types: &mut BodyTypes, rows: &mut Rows, target: usize) -> Result<u
     ensures grows { AddsShapes types.old.table types.new.table }
     ensures within { IfOk result (λ i. i < length types.new.table.shapes) }
     ensures shape { IfOk result (λ i. (t : TypeTree)
-        → shape_in types.old.table.shapes target ≡ shape_of t
-        → shape_in types.new.table.shapes i
+        → shape_in types.old.table.shapes target ≡ shape_of t → shape_in types.new.table.shapes i
         ≡ shape_of (with_references t (reverse rows.old.items))) }
     ensures regions { OnOk result (types.new.regions.items
         ≡ types.old.regions.items ++ regions_around (reverse rows.old.items)) }
@@ -72,11 +70,13 @@ fn put_shape(target: usize, types: &mut BodyTypes, made: &mut Resolving) -> Resu
         → IsOf (type_completed t st) types.new made.new) }
 {
     let shape = put_around(types, &mut made.rows, target)?;
-    made.shapes.push(shape)?;
+    made.shapes.reserve(1)?;
+    made.shapes.push_reserved(shape);
     Ok(())
 }
 
 // The type that a head makes of the newest row is complete.
+#[inline(always)]
 fn put_row(head: Head, types: &mut BodyTypes, made: &mut Resolving) -> Result<(), Memory>
     requires head { IsHeadBelow (length types.old.table.shapes) head }
     requires below { AreBelow (length types.old.table.shapes) made.old.shapes.items }
@@ -169,31 +169,35 @@ fn resolve_piece(
     ensures made { IfOk result (λ known. Resolves (scope_of scope.now) (plain piece.now)
         types.old made.old types.new made.new known) }
 {
-    match piece {
+    let (mark, known) = match piece {
         TypePiece::Reference(mutable, region) => {
             let (number, known) = find(scope.regions, region);
-            let region = RegionId(number as u32);
-            made.rows.push(Mark::Behind(*mutable, region))?;
-            return Ok(known);
+            (Mark::Behind(*mutable, RegionId(number as u32)), known)
         }
         TypePiece::Region(region) => {
             let (number, known) = find(scope.regions, region);
-            made.rows.push(Mark::Region(RegionId(number as u32)))?;
-            return Ok(known);
+            (Mark::Region(RegionId(number as u32)), known)
         }
+        TypePiece::Row => (Mark::Row(made.shapes.len(), types.regions.len()), true),
+        TypePiece::Part => (Mark::Part, true),
         TypePiece::Named(name) => return put_named(scope, name, types, made),
         TypePiece::Int => {
-            let target = types.table.add(Node::Int)?;
-            put_shape(target, types, made)?
+            let target = types.table.int()?;
+            put_shape(target, types, made)?;
+            return Ok(true);
         }
-        TypePiece::Row => made
-            .rows
-            .push(Mark::Row(made.shapes.len(), types.regions.len()))?,
-        TypePiece::Part => made.rows.push(Mark::Part)?,
-        TypePiece::Tuple => put_row(Head::Tuple, types, made)?,
-        TypePiece::Function => put_function(types, made)?,
-    }
-    Ok(true)
+        TypePiece::Tuple => {
+            put_row(Head::Tuple, types, made)?;
+            return Ok(true);
+        }
+        TypePiece::Function => {
+            put_function(types, made)?;
+            return Ok(true);
+        }
+    };
+    made.rows.reserve(1)?;
+    made.rows.push_reserved(mark);
+    Ok(known)
 }
 
 // Resolves pieces, one after another, up to a name that isn't known. Answers the shape of the type
@@ -233,10 +237,10 @@ fn resolve_pieces(
 /// # Cost
 /// Linear in the type, and one look-up a name, up to the first that isn't known (not proved).
 pub fn resolve(
-    alloc: Global,
     scope: &Scope<'_>,
     text: &TypeText<'_>,
     types: &mut BodyTypes,
+    made: &mut Resolving,
     fits: &mut bool,
 ) -> Result<Option<Typed>, Memory>
     requires { HasRoom scope.now }
@@ -248,15 +252,11 @@ pub fn resolve(
         (IsResolved (scope_of scope.now) (written text.now) types.new)) }
 {
     let first = types.regions.len();
-    let mut made = Resolving {
-        shapes: SmallVec::new(alloc),
-        rows: SmallVec::new(alloc),
-        fits: true,
-    };
-    let told = resolve_pieces(scope, text.pieces(), types, &mut made);
+    made.shapes.clear();
+    made.rows.clear();
+    made.fits = true;
+    let told = resolve_pieces(scope, text.pieces(), types, made);
     *fits &= made.fits;
-    // Early drop.
-    drop(made);
     let Some(shape) = told? else {
         return Ok(None);
     };

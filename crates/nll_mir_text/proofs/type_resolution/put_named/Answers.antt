@@ -26,9 +26,9 @@ returns-then-is_parameter-clause-made c =
     let is = sym c.find-number.ensures.known ∙ c.if-is_parameter.true in
     let number = sym c.find-number.ensures.number in
     let behind = behind_beginning c.as_slice-2.result.now c.as_slice.result.now row.place
-    (c.as_slice-2.ensures ∙ sym c.as_slice.ensures) told_row.newest in
+    (c.as_slice-2.ensures.value ∙ sym c.as_slice.ensures.value) told_row.newest in
     piece_done (scope_of c.args.scope.now) _ _ _ _ _ c.in_ok-put_shape.ensures.below (λ st a.
-    let rows = ap reverse c.as_slice.ensures ∙ a.rows in
+    let rows = ap reverse c.as_slice.ensures.value ∙ a.rows in
     let kinds = ap (map is_region_entry) (behind ∙ ap (λ ms. reverse (newest ms)) rows) in
     rw (is, number) (c.in_ok-put_shape.ensures.made _ (parameter c.find-number.result.0) (record {
       shapes = front_taken c.add.new.self.shapes row.types (starts st.rows).0 st.made
@@ -40,7 +40,7 @@ returns-then-is_parameter-clause-made c =
       regions = c.truncate-then-is_parameter-2.ensures.items ∙ cc;
       rows = ap reverse (c.truncate.ensures.items
           ∙ (ap (λ n. take n kept.rows.items) c.saturating_sub.ensures
-          ∙ ap (take (row.place - 1)) (sym c.as_slice.ensures))) ∙ (told_row.others ∙ ap others rows);
+          ∙ ap (take (row.place - 1)) (sym c.as_slice.ensures.value))) ∙ (told_row.others ∙ ap others rows);
       known = rw a.known refl;
       fits = cc;
     }) c.in_ok-target.ensures.at))
@@ -60,9 +60,9 @@ returns-clause-made c =
     let n = c.args.name.now in
     let other = sym c.find-number.ensures.known ∙ c.if-is_parameter.false in
     let behind = behind_beginning c.as_slice-2.result.now c.as_slice.result.now c.newest_row-row.result.place
-    (c.as_slice-2.ensures ∙ sym c.as_slice.ensures) c.newest_row-row.ensures.newest in
+    (c.as_slice-2.ensures.value ∙ sym c.as_slice.ensures.value) c.newest_row-row.ensures.newest in
     piece_done s _ _ _ _ _ c.in_ok-put_row.ensures.below (λ st a.
-    let inside = behind ∙ ap (λ ms. reverse (newest ms)) (ap reverse c.as_slice.ensures ∙ a.rows) in
+    let inside = behind ∙ ap (λ ms. reverse (newest ms)) (ap reverse c.as_slice.ensures.value ∙ a.rows) in
     let regions = ap regions_in inside in
     let kinds = ap (map is_region_entry) inside in
     let next = record st {

@@ -1,4 +1,4 @@
-use Rattle.std.proofs.Common.{◌≡◌, ap, drop, length, min, sym, take, ◌-◌, ◌∙◌}
+use Rattle.std.proofs.Common.{◌≡◌, ap, arith, drop, length, min, sym, take, ◌-◌, ◌∙◌}
 use Rattle.std.proofs.Math.Seq.{take-length}
 use Rattle.std.proofs.lemmas.List.{drop_min, length-drop, take_min}
 use Rattle.std.proofs.lemmas.Result.{on_ok_weaker}
@@ -14,10 +14,11 @@ returns-clause-made c =
     let kept = c.args.made.now.shapes.items in
     let n = c.newest_row-newest.result.types in
     let p = c.min-start.result in
-    let start : p ≡ min n (length kept) = c.min-start.ensures ∙ ap (min n) c.len.ensures.value in
+    let counted : c.len.result ≡ length kept = omega (arith, c.len.ensures, c.args.made.now.shapes.ok.0) in
+    let start : p ≡ min n (length kept) = c.min-start.ensures ∙ ap (min n) counted in
     let xs = c.as_slice-2.result.now in
     let parts : take (length xs - p) (drop p xs) ≡ drop n kept =
-    rw c.as_slice-2.ensures (ap (λ k. take k (drop p kept)) (sym (length-drop p kept))
+    rw c.as_slice-2.ensures.value (ap (λ k. take k (drop p kept)) (sym (length-drop p kept))
     ∙ (take-length (drop p kept) ∙ (ap (λ k. drop k kept) start ∙ drop_min n kept))) in
     on_ok_weaker c.put_shape.result (λ told. λ st t a e.
     let first : n ≡ (starts st.rows).0 = cc in

@@ -28,8 +28,8 @@ returns-in_default-clause-adds c =
     let rs = c.args.types.now.regions.items in
     let done = type_done (scope_of c.args.scope.now) c.pieces.result.now c.args.text.now rs c.pieces.ensures.value
     c.pieces.ensures.sound in
-    let begun = fresh c.args.types.now (record { shapes = c.new.result; rows = c.new-2.result; fits = true })
-    c.new.ensures.items c.new-2.ensures.items refl in
+    let begun = fresh c.args.types.now (record { shapes = c.clear.new.self; rows = c.clear-2.new.self; fits = true })
+    c.clear.ensures.items c.clear-2.ensures.items refl in
     record {
       table = c.resolve_pieces-told.ensures.grows;
       regions = c.in_ok-shape.ensures.kept (no_regions_after rs) rs begun done.1;
@@ -40,8 +40,8 @@ returns-in_default-clause-resolved c =
     let rs = c.args.types.now.regions.items in
     let done = type_done (scope_of c.args.scope.now) c.pieces.result.now c.args.text.now rs c.pieces.ensures.value
     c.pieces.ensures.sound in
-    let begun = fresh c.args.types.now (record { shapes = c.new.result; rows = c.new-2.result; fits = true })
-    c.new.ensures.items c.new-2.ensures.items refl in
+    let begun = fresh c.args.types.now (record { shapes = c.clear.new.self; rows = c.clear-2.new.self; fits = true })
+    c.clear.ensures.items c.clear-2.ensures.items refl in
     sym (ap (λ (st : ResolvingState). st.known) done.0)
     ∙ rw c.in_default.is at (c.in_ok-shape.ensures.shape (no_regions_after rs) begun)
 
@@ -52,8 +52,8 @@ returns c =
     let t = written c.args.text.now in
     let row = region_row (meant s t) in
     let done = (type_done s c.pieces.result.now c.args.text.now rs c.pieces.ensures.value c.pieces.ensures.sound).0 in
-    let begun = fresh c.args.types.now (record { shapes = c.new.result; rows = c.new-2.result; fits = true })
-    c.new.ensures.items c.new-2.ensures.items refl in
+    let begun = fresh c.args.types.now (record { shapes = c.clear.new.self; rows = c.clear-2.new.self; fits = true })
+    c.clear.ensures.items c.clear-2.ensures.items refl in
     let made = rw c.in-Some.is at (c.in_ok-shape.ensures.shape (no_regions_after rs) begun) in
     let regions = made.regions ∙ ap (λ (st : ResolvingState). st.regions) done in
     let first : c.len-first.result ≡ length rs = omega (arith, c.len-first.ensures) in

@@ -13,12 +13,12 @@ use Rattle.nll_mir_text.proofs.reader.Reader.add_named_struct.Goals as goal
 
 pub add_resolved_struct-requires-clause-due : goal.add_resolved_struct-requires-clause-due
 add_resolved_struct-requires-clause-due c =
-    due_grown _ _ _ (is_grown c.args.self.now _ _ c.in_ok-fields.ensures.adds refl c.requires.due.ready) c.requires.due
+    due_grown _ _ _ (is_grown c.args.self.now _ _ c.resolve.new.made c.in_ok-fields.ensures.adds refl c.requires.due.ready) c.requires.due
 
 pub returns-in-Some-clause-taken : goal.returns-in-Some-clause-taken
 returns-in-Some-clause-taken c = on_ok_weaker c.add_resolved_struct.result
     (subst (λ s. IsTaken s (struct_form c.args.text.now) c.add_resolved_struct.new.self)
-    (is_grown c.args.self.now _ _ c.in_ok-fields.ensures.adds refl c.requires.due.ready).said)
+    (is_grown c.args.self.now _ _ c.resolve.new.made c.in_ok-fields.ensures.adds refl c.requires.due.ready).said)
     c.add_resolved_struct.ensures.taken
 
 pub returns-in-None-clause-refused : goal.returns-in-None-clause-refused

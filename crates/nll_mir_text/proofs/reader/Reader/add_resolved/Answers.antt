@@ -19,10 +19,10 @@ use Rattle.nll_mir_text.proofs.reader.Reader.add_resolved.Goals as goal
 -- the reader with more shapes says what it said
 module _ (r : Reader) (t : Tables) (grows : AddsShapes r.variables.types.table t) (ready : IsReady r) where
   abbrev later : Reader
-  later = grown r (record r.variables.types { table = t }) r.points.statements
+  later = grown r (record r.variables.types { table = t }) r.points.statements r.resolving
 
   said : said_by later ≡ said_by r
-  said = said_grown r _ r.points.statements (adds_table r.variables.types t grows) refl ready
+  said = said_grown r _ r.points.statements r.resolving (adds_table r.variables.types t grows) refl ready
 
   refused_before : (i : Statement WrittenName WrittenType) (kind : TextKind)
       → IsRefused (said_by later) (at_point i) kind
@@ -43,7 +43,7 @@ judge_statement-requires-clause-written c = below_rows _ _ _ c.requires.rows
 pub admit-requires-clause-ready : goal.admit-requires-clause-ready
 admit-requires-clause-ready c =
     let adds = adds_table c.args.self.now.variables.types _ c.in_ok-judged.ensures.grows in
-    (is_grown c.args.self.now _ _ adds refl c.requires.ready).ready
+    (is_grown c.args.self.now _ _ _ adds refl c.requires.ready).ready
 
 pub returns-in_err-admit-clause-refused : goal.returns-in_err-admit-clause-refused
 returns-in_err-admit-clause-refused c =

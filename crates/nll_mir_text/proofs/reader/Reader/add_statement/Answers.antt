@@ -11,7 +11,7 @@ pub add_resolved-requires-clause-ready : goal.add_resolved-requires-clause-ready
 add_resolved-requires-clause-ready c =
     let e = c.in_ok-resolved.ensures in
     let same = statements_same _ _ c.call_counts.ensures.within e.grows.lists e.grows.points in
-    (is_grown c.args.self.now _ _ e.adds same c.requires.ready).ready
+    (is_grown c.args.self.now _ _ c.resolve_statement.new.made e.adds same c.requires.ready).ready
 
 pub returns-in-Some-clause-taken : goal.returns-in-Some-clause-taken
 returns-in-Some-clause-taken c =
@@ -20,8 +20,8 @@ returns-in-Some-clause-taken c =
     let same = statements_same _ _ c.call_counts.ensures.within e.grows.lists e.grows.points in
     on_ok_weaker c.add_resolved.result
     (λ h. subst (λ s. IsTaken s (at_point i) c.add_resolved.new.self)
-    (is_grown c.args.self.now _ _ e.adds same c.requires.ready).said
-    (h i (placed_of c.args.self.now _ _ i _ _ e.adds same c.requires.ready c.requires.order e.made e.fits)))
+    (is_grown c.args.self.now _ _ c.resolve_statement.new.made e.adds same c.requires.ready).said
+    (h i (placed_of c.args.self.now _ _ _ i _ _ e.adds same c.requires.ready c.requires.order e.made e.fits)))
     c.add_resolved.ensures.taken
 
 pub returns-in-Some-clause-refused : goal.returns-in-Some-clause-refused
@@ -31,6 +31,6 @@ returns-in-Some-clause-refused c =
     let same = statements_same _ _ c.call_counts.ensures.within e.grows.lists e.grows.points in
     IfErr-weaker c.add_resolved.result _ _
     (λ kind h. subst (λ s. IsRefused s (at_point i) kind)
-    (is_grown c.args.self.now _ _ e.adds same c.requires.ready).said
-    (h i (placed_of c.args.self.now _ _ i _ _ e.adds same c.requires.ready c.requires.order e.made e.fits)))
+    (is_grown c.args.self.now _ _ c.resolve_statement.new.made e.adds same c.requires.ready).said
+    (h i (placed_of c.args.self.now _ _ _ i _ _ e.adds same c.requires.ready c.requires.order e.made e.fits)))
     c.add_resolved.ensures.refused

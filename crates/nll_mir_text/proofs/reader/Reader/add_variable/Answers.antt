@@ -21,6 +21,7 @@ use Rattle.nll_mir_text.specs.MirSaid.{Said}
 use Rattle.nll_mir_text.specs.ResolvedLines.{IsOfVariable}
 use Rattle.nll_mir_text.specs.declared.groups.Group.TheVariants as groups
 use Rattle.nll_mir_text.specs.declared.reader.Reader.{Reader}
+use Rattle.nll_mir_text.specs.declared.type_resolution.Resolving.{Resolving}
 use Rattle.nll_mir_text.proofs.GroupLemmas.{follows}
 use Rattle.nll_mir_text.proofs.GrownLemmas.{grown, is_grown, said_grown}
 use Rattle.nll_mir_text.proofs.ShapeLemmas.{small_of_shape}
@@ -43,13 +44,13 @@ next_is r x n e same =
     eq-eqb x (length (said_by r).variables) (omega (arith, counted r, e, same, r.variables.typed.ok.0))
 
 -- the reader with more types, the variable of the type that was made, and what is refused
-module _ (r : Reader) (t : BodyTypes) (x : ℕ) (w : WrittenType) (adds : AddsTypes r.variables.types t)
+module _ (r : Reader) (t : BodyTypes) (m : Resolving) (x : ℕ) (w : WrittenType) (adds : AddsTypes r.variables.types t)
     (ready : IsReady r) where
   abbrev later : Reader
-  later = grown r t r.points.statements
+  later = grown r t r.points.statements m
 
   said : said_by later ≡ said_by r
-  said = said_grown r t r.points.statements adds refl ready
+  said = said_grown r t r.points.statements m adds refl ready
 
   of_variable : (ty : Typed) (fits : Bool) (kept : Scope) → is_in_order (said_by r) (variable x w) ≡ true
       → kept ≡ scope_in r.regions r.structs → IsResolved kept w t ty → fits ≡ has_arguments kept w
@@ -66,20 +67,20 @@ module _ (r : Reader) (t : BodyTypes) (x : ℕ) (w : WrittenType) (adds : AddsTy
 
 -- the reader with the type that is resolved, and the variable of that type
 abbrev with_type : (c : In-Some) → Reader
-with_type c = later c.args.self.now c.resolve.new.types c.args.number (written c.args.text.now)
+with_type c = later c.args.self.now c.resolve.new.types c.resolve.new.made c.args.number (written c.args.text.now)
     c.in_ok-ty.ensures.adds c.requires.ready
 
 of_line : (c : In-Some)
     → IsOfVariable (with_type c) c.args.number (written c.args.text.now) c.in-Some.ty c.resolve.new.fits
 of_line c =
     let e = rw c.in-Some.is at c.in_ok-ty.ensures in
-    of_variable c.args.self.now _ c.args.number (written c.args.text.now) e.adds c.requires.ready c.in-Some.ty
+    of_variable c.args.self.now _ _ c.args.number (written c.args.text.now) e.adds c.requires.ready c.in-Some.ty
     c.resolve.new.fits _ c.requires.order c.scope_in-scope.ensures e.resolved e.fits
 
 refuse : (c : In-Some) (kind : TextKind)
     → first_fault (said_by (with_type c)) (variable c.args.number (written c.args.text.now)) ≡ Some kind
     → IsRefused (said_by c.args.self.now) (variable c.args.number (written c.args.text.now)) kind
-refuse c kind fault = refused c.args.self.now _ c.args.number (written c.args.text.now) c.in_ok-ty.ensures.adds
+refuse c kind fault = refused c.args.self.now _ c.resolve.new.made c.args.number (written c.args.text.now) c.in_ok-ty.ensures.adds
     c.requires.ready kind fault
 
 pub returns-in_default-clause-refused : goal.returns-in_default-clause-refused
@@ -137,7 +138,7 @@ returns-clause-taken c =
     let of = of_line d in
     let old = with_type d in
     let t = written c.args.text.now in
-    let r = (is_grown c.args.self.now _ _ c.in_ok-ty.ensures.adds refl c.requires.ready).ready in
+    let r = (is_grown c.args.self.now _ _ c.resolve.new.made c.in_ok-ty.ensures.adds refl c.requires.ready).ready in
     let types = old.variables.types in
     let typed = old.variables.typed.items in
     let tree = tree_at types.table.shapes types.regions.items in
@@ -150,7 +151,7 @@ returns-clause-taken c =
       variables = record old.variables { typed = c.push.new.self };
     } in
     subst (λ s. IsTaken s (variable c.args.number t) taken)
-    (said c.args.self.now _ c.args.number t c.in_ok-ty.ensures.adds c.requires.ready) record {
+    (said c.args.self.now _ c.resolve.new.made c.args.number t c.in_ok-ty.ensures.adds c.requires.ready) record {
       fine = variable_fine (said_by old) c.args.number t of.order of.of.known next
           (sym of.fits ∙ c.if-not-fits.false)
           (sym (small_of_shape (meant (said_by old).scope t) _ of.of.typed.shape)
