@@ -67,8 +67,7 @@ fn with_options(
     ensures ok { IfOk result (λ l. IsOkAnd asked (λ a. (l.task ≡ a.task)
         × (string_bytes l.file ≡ string_bytes a.file) × (options_said l ≡ said_of options.entry)
         × Suits a.task (said_of options.entry))) }
-    ensures err { IfErr result (λ e. (asked ≡ Err e) ⊎ IsOkAnd asked (λ a.
-        (e ≡ LineError.Memory)
+    ensures err { IfErr result (λ e. (asked ≡ Err e) ⊎ IsOkAnd asked (λ a. (e ≡ LineError.Memory)
         ⊎ ((e ≡ LineError.Usage) × (Suits a.task (said_of options.entry) → ⊥)))) }
 {
     let asked = asked?;
@@ -165,8 +164,7 @@ fn line_of(alloc: Global, matches: &ArgMatches<'_>) -> Result<Asked, LineError>
     ensures ok { IfOk result (λ l. line_of_matches (subcommand_rows_of matches.now)
         ≡ Some (l.task, string_bytes l.file)) }
     ensures err { IfErr result (λ e. ((e ≡ LineError.Memory)
-        × (line_of_matches (subcommand_rows_of matches.now) ≢ None))
-        ⊎ ((e ≡ LineError.Usage)
+        × (line_of_matches (subcommand_rows_of matches.now) ≢ None)) ⊎ ((e ≡ LineError.Usage)
         × (line_of_matches (subcommand_rows_of matches.now) ≡ None))) }
 {
     match matches.subcommand() {
@@ -180,8 +178,7 @@ fn line_of_command(alloc: Global, name: &str, found: &ArgMatches<'_>) -> Result<
     ensures ok { IfOk result (λ l. line_of_found (name.now, rows_of (found_of found.now))
         ≡ Some (l.task, string_bytes l.file)) }
     ensures err { IfErr result (λ e. ((e ≡ LineError.Memory)
-        × (line_of_found (name.now, rows_of (found_of found.now)) ≢ None))
-        ⊎ ((e ≡ LineError.Usage)
+        × (line_of_found (name.now, rows_of (found_of found.now)) ≢ None)) ⊎ ((e ≡ LineError.Usage)
         × (line_of_found (name.now, rows_of (found_of found.now)) ≡ None))) }
 {
     let Some(task) = task_of(name) else {

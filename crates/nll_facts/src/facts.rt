@@ -22,8 +22,7 @@ pub struct Facts {
 // The version of facts texts of which a line is the header.
 fn header_version(line: &[u8]) -> Option<Version>
     ensures { MatchOption result ((version : versions) → IsFormatHeader (facts version) line.now
-        → ⊥)
-        (λ version. IsFormatHeader (facts version) line.now) }
+        → ⊥) (λ version. IsFormatHeader (facts version) line.now) }
 {
     if is_header(line, b"nll-facts", b"1") {
         return Some(Version::First);

@@ -201,8 +201,7 @@ impl Reader {
     // Adds an outlives fact.
     fn add_outlives(&mut self, longer: &[u8], shorter: &[u8]) -> Result<(), TextKind>
         requires { IsDueFact self.old (forms.outlives longer.now shorter.now) }
-        ensures taken { OnOk result
-            (IsFactTaken (facts_said_by self.old)
+        ensures taken { OnOk result (IsFactTaken (facts_said_by self.old)
             (forms.outlives longer.now shorter.now) self.new) }
         ensures refused { IfErr result
             (IsFactRefused (facts_said_by self.old) (forms.outlives longer.now shorter.now)) }

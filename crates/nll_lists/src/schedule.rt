@@ -82,8 +82,7 @@ fn event_of(line: Line, owners: u16) -> Result<Event, TextKind>
 
 // The owner of a number.
 fn owner_of(number: u32, owners: u16) -> Result<u16, TextKind>
-    ensures { MatchResult result
-        (λ owner. (owner ≡ number) × (nat_lt number owners ≡ true))
+    ensures { MatchResult result (λ owner. (owner ≡ number) × (nat_lt number owners ≡ true))
         (λ kind. (kind ≡ TextKind.Range) × (nat_lt number owners ≡ false)) }
 {
     if number >= u32::from(owners) {

@@ -154,8 +154,7 @@ fn push_found(
     requires width { length room.old.marks.items ≡ length ways.now.body.now.points }
     requires tall { length room.old.heights.items ≡ length ways.now.body.now.points }
     requires fresh { (p : ℕ) → slice_index room.old.marks.items p ≤ asking.now.variable }
-    ensures gains { OnOk result
-        (GainsRuns (λ r p. Contains asking.now.regions.now r
+    ensures gains { OnOk result (GainsRuns (λ r p. Contains asking.now.regions.now r
         × IsLive ways.now.body.now (Contains asking.now.points.now) asking.now.variable p)
         base_runs.old.items base_runs.new.items) }
     ensures width { OnOk result (length room.new.marks.items ≡ length ways.now.body.now.points) }

@@ -74,8 +74,7 @@ impl Refusal {
         ensures all { OnOk result
             (Appends (S.contents to.old) (S.contents to.new) (refusal_line self.now)) }
         ensures cut { OnErr result (IsCutShort (S.room to.old) (S.contents to.old)
-            (S.contents to.new)
-            (refusal_line self.now)) }
+            (S.contents to.new) (refusal_line self.now)) }
     {
         match self {
             Refusal::Usage => put_pieces(to, &[USAGE, "\n"]),

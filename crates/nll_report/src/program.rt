@@ -69,8 +69,7 @@ pub fn drive<R: AllocGlobal + Threads + Wait + Sync, T: Texts, O: Sink, E: Sink>
         (map string_bytes words.now) refusal)
         ⊎ ((refusal ≡ Refusal.CannotWrite) × IsPrintBegun (T.holds texts.now)
         (map string_bytes words.now) (O.room out.old) (O.contents out.old) (O.contents out.new)))
-        × IsPut (E.room err.old) (E.contents err.old) (E.contents err.new)
-        (refusal_line refusal) }
+        × IsPut (E.room err.old) (E.contents err.old) (E.contents err.new) (refusal_line refusal) }
 {
     match report(rt, words, texts) {
         Ok((bytes, status)) => match out.put(bytes.as_slice()) {
@@ -105,8 +104,7 @@ pub fn run_in_process<R: Env + Files + AllocGlobal + Threads + Wait + Sync, O: S
         × (((out.new ≡ out.old) × IsRunRefused holds_anything lacks_anything words refusal)
         ⊎ ((refusal ≡ Refusal.CannotWrite) × IsPrintBegun holds_anything words
         (O.room out.old) (O.contents out.old) (O.contents out.new)))
-        × IsPut (E.room err.old) (E.contents err.old) (E.contents err.new)
-        (refusal_line refusal) }
+        × IsPut (E.room err.old) (E.contents err.old) (E.contents err.new) (refusal_line refusal) }
 {
     match words_given(rt.alloc(), env::args(rt)) {
         Ok(words) => drive(rt, words.as_slice(), &Disk::new(rt), out, err),

@@ -154,8 +154,7 @@ impl<'a> Known<'a> {
         requires agree { types_agree self.old.structs self.old.variables
             (meant_by self.old.shapes self.old.regions (make_in self.old.lists make.now)) ≡ true }
         ensures learns { Learns self.old self.new }
-        ensures asked { OnOk result (AddsPairs
-            (AsksInAll self.old.structs self.old.variables
+        ensures asked { OnOk result (AddsPairs (AsksInAll self.old.structs self.old.variables
             (meant_by self.old.shapes self.old.regions (make_in self.old.lists make.now)))
             asked.old.pairs.items asked.new.pairs.items) }
     {
@@ -192,8 +191,7 @@ impl<'a> Known<'a> {
         requires agree { types_agree self.old.structs self.old.variables
             (meant_by self.old.shapes self.old.regions (call_in self.old.lists call.now)) ≡ true }
         ensures learns { Learns self.old self.new }
-        ensures asked { OnOk result (AddsPairs
-            (AsksInAll self.old.structs self.old.variables
+        ensures asked { OnOk result (AddsPairs (AsksInAll self.old.structs self.old.variables
             (meant_by self.old.shapes self.old.regions (call_in self.old.lists call.now)))
             asked.old.pairs.items asked.new.pairs.items) }
     {
@@ -231,10 +229,8 @@ impl<'a> Known<'a> {
             (meant_by self.old.shapes self.old.regions
             (statement_in self.old.lists statement.now)) ≡ true }
         ensures learns { Learns self.old self.new }
-        ensures asked { OnOk result (AddsPairs
-            (AsksInAll self.old.structs self.old.variables
-            (meant_by self.old.shapes self.old.regions
-            (statement_in self.old.lists statement.now)))
+        ensures asked { OnOk result (AddsPairs (AsksInAll self.old.structs self.old.variables
+            (meant_by self.old.shapes self.old.regions (statement_in self.old.lists statement.now)))
             asked.old.pairs.items asked.new.pairs.items) }
     {
         match *statement {

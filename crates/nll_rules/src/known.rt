@@ -172,10 +172,8 @@ impl<'a> Known<'a> {
     /// The region of a reference, whether it is `mut`, and what it points to.
     pub(crate) fn reference_at(&self, row: TypeRow) -> Option<(RegionId, bool, TypeRow)>
         requires { row.shape < length self.now.table }
-        ensures { (t : TypeTree) → IsTypeOfRow self.now t row
-            → MatchOption result (form t ≡ 2 → ⊥)
-            (λ r. (u : TypeTree) × (t ≡ reference r.0 r.1 u)
-            × IsTypeOfRow self.now u r.2) }
+        ensures { (t : TypeTree) → IsTypeOfRow self.now t row → MatchOption result (form t ≡ 2 → ⊥)
+            (λ r. (u : TypeTree) × (t ≡ reference r.0 r.1 u) × IsTypeOfRow self.now u r.2) }
     {
         match self.shapes.node(row.shape) {
             Node::Reference(mutable, target) => {
@@ -198,8 +196,7 @@ impl<'a> Known<'a> {
     ) -> Result<Option<TypeRow>, Memory>
         requires { row.shape < length self.old.table }
         ensures learns { Learns self.old self.new }
-        ensures row { IfOk result (λ o. (ts : TypeTrees)
-            → IsTypeOfRow self.old (tuple ts) row
+        ensures row { IfOk result (λ o. (ts : TypeTrees) → IsTypeOfRow self.old (tuple ts) row
             → IsAtHand self.new (type_at ts place) o) }
     {
         let structs = self.body.types.table.structs();
@@ -392,8 +389,7 @@ impl<'a> Known<'a> {
     ) -> Result<Option<TypeRow>, Memory>
         requires { row.shape < length self.old.table }
         ensures learns { Learns self.old self.new }
-        ensures row { IfOk result (λ o. (t : TypeTree)
-            → IsTypeOfRow self.old t row
+        ensures row { IfOk result (λ o. (t : TypeTree) → IsTypeOfRow self.old t row
             → IsAtHand self.new (behind self.old.structs (field place) t) o) }
     {
         match self.shapes.node(row.shape) {

@@ -18,12 +18,10 @@ pub(crate) fn tuple_part(
     place: usize,
 ) -> Option<TypeRow>
     ensures { (ts : TypeTrees) → starts.now ≡ starts_from 0 (shapes_of ts)
-        → length parts.now ≡ type_count ts
-        → row_in_lists lists.now row ≡ region_rows ts
+        → length parts.now ≡ type_count ts → row_in_lists lists.now row ≡ region_rows ts
         → MatchOption result (type_at ts place ≡ None)
         (λ r. (t : TypeTree) × (type_at ts place ≡ Some t)
-        × (slice_get parts.now place ≡ Some r.shape)
-        × (row_in_lists lists.now r ≡ region_row t)
+        × (slice_get parts.now place ≡ Some r.shape) × (row_in_lists lists.now r ≡ region_row t)
         × IsWholeRow (row_in_lists lists.now r) r) }
 {
     if place >= parts.len() || place + 1 >= starts.len() {

@@ -66,10 +66,8 @@ impl<'a> RowLists<'a> {
 
     /// The last region of the row, and the type of this shape whose row is what is before it.
     pub(crate) fn split_last(&self, ty: TypeRow, shape: usize) -> Option<(RegionId, TypeRow)>
-        ensures { MatchOption result (row_in_lists self.now ty ≡ [])
-            (λ r. (r.1.shape ≡ shape)
-            × IsWholeRow (row_in_lists self.now r.1) r.1
-            × (row_in_lists self.now ty
+        ensures { MatchOption result (row_in_lists self.now ty ≡ []) (λ r. (r.1.shape ≡ shape)
+            × IsWholeRow (row_in_lists self.now r.1) r.1 × (row_in_lists self.now ty
             ≡ row_in_lists self.now r.1 ++ r.0 ∷ [])) }
     {
         let row = self.row(ty);

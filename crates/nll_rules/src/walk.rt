@@ -41,11 +41,9 @@ impl<'a> Known<'a> {
     ) -> Result<Option<TypeRow>, Memory>
         requires { row.shape < length self.old.table }
         ensures learns { Learns self.old self.new }
-        ensures row { IfOk result (λ o. (t : TypeTree)
-            → IsTypeOfRow self.old t row
+        ensures row { IfOk result (λ o. (t : TypeTree) → IsTypeOfRow self.old t row
             → IsAtHand self.new (behind self.old.structs projection t) o) }
-        ensures past { OnOk result ((t : TypeTree)
-            → IsTypeOfRow self.old t row
+        ensures past { OnOk result ((t : TypeTree) → IsTypeOfRow self.old t row
             → crossed.new.items ≡ past projection t crossed.old.items) }
     {
         match projection {
