@@ -120,8 +120,10 @@ adds_table types t grows = record { table = grows; regions = prefix_same types.r
 
 -- a statement that is made of a line that is in order
 pub placed_of : (r : Reader) (t : BodyTypes) (l : StatementLists) (m : Resolving)
-    (i : Statement WrittenName WrittenType) (k : Stmt) (fits : Bool) → AddsTypes r.variables.types t → statements_in l ≡ statements_in r.points.statements → IsReady r
+    (i : Statement WrittenName WrittenType) (k : Stmt) (fits : Bool) → AddsTypes r.variables.types t
+    → statements_in l ≡ statements_in r.points.statements → IsReady r
     → is_in_order (said_by r) (at_point i) ≡ true → IsFlatOf (scope_in r.regions r.structs) i t l k
-    → fits ≡ list_all (has_arguments (scope_in r.regions r.structs)) (types_written i) → IsPlaced (grown r t l m) i k fits
+    → fits ≡ list_all (has_arguments (scope_in r.regions r.structs)) (types_written i)
+    → IsPlaced (grown r t l m) i k fits
 placed_of r t l m i k fits adds same ready order made fit =
     record { order = order_grown r t l m adds same ready i order; of = made; fits = fit }

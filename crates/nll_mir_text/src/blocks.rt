@@ -83,8 +83,7 @@ impl Reader {
         if !judgement.declared {
             return Err(TextKind::Unknown);
         }
-        let statements = &self.points.statements;
-        if !targets_are_blocks(self.points.blocks, statements, statement, exits) {
+        if !targets_are_blocks(self.points.blocks, &self.points.statements, statement) {
             return Err(TextKind::Range);
         }
         if !judgement.fits {

@@ -34,4 +34,4 @@ pub use nll_facts::{Facts, read_facts};
 pub use nll_format::{Labels, PointName, TextError, TextKind};
 pub use nll_types::{Place, Ty};
 pub use scope::Scope;
-pub use type_resolution::resolve;
+pub use type_resolution::{Resolving, resolve};

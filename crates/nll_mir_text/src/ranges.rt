@@ -4,9 +4,8 @@ ghost use Rattle.std.specs.Prelude.{◌≡◌, ◌∷◌, nat_lt};
 ghost use Rattle.std.specs.List.{list_all};
 ghost use Rattle.nll_body.specs.Effects.{other_block, targets};
 ghost use Rattle.nll_body.specs.Flat.{statement_in};
-ghost use Rattle.nll_body.specs.Statements.{is_terminator};
 
-use nll_body::{Exits, Statements, Stmt};
+use nll_body::{Statements, Stmt};
 
 // Whether a number is below an end.
 fn is_below(number: u32, end: usize) -> bool
@@ -37,20 +36,11 @@ fn exits_are_blocks(count: usize, block: u32, unwind: Option<u32>) -> bool
     }
 }
 
-/// Whether the blocks to which a statement with these exits goes on are among the first this many.
-pub fn targets_are_blocks(
-    count: u32,
-    statements: &Statements,
-    statement: &Stmt,
-    exits: Exits,
-) -> bool
-    requires { exits.ends ≡ is_terminator (statement_in statements.now statement.now) }
+/// Whether the blocks to which a statement goes on are among the first this many.
+pub fn targets_are_blocks(count: u32, statements: &Statements, statement: &Stmt) -> bool
     ensures { result ≡ list_all (λ x. nat_lt x count)
         (targets (statement_in statements.now statement.now)) }
 {
-    if !exits.ends {
-        return true;
-    }
     let count = count as usize;
     match statement {
         Stmt::Goto(block) | Stmt::Drop(_, block) => is_below(*block, count),

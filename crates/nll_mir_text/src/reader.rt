@@ -66,11 +66,7 @@ impl Reader {
                 edges: 0,
                 owes: false,
             },
-            resolving: Resolving {
-                shapes: Vec::new(alloc),
-                rows: Vec::new(alloc),
-                fits: true,
-            },
+            resolving: Resolving::new(alloc),
         })
     }
 

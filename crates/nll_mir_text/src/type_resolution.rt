@@ -25,16 +25,28 @@ use nll_mir_grammar::{TypePiece, TypeText};
 use nll_problem::RegionId;
 use nll_sets::Memory;
 use nll_types::{BodyTypes, Node, Typed};
+use std::alloc::Global;
 
 /// What is resolved of a type so far, in lists that are used again for the next one. Each name so
 /// far is known.
 #[derive(Drop)]
 pub struct Resolving {
     /// The shapes of the types that are made.
-    pub(crate) shapes: Made,
-    pub(crate) rows: Rows,
+    shapes: Made,
+    rows: Rows,
     /// Each name so far has arguments of the kinds that it takes.
-    pub(crate) fits: bool,
+    fits: bool,
+}
+
+impl Resolving {
+    /// Nothing is resolved.
+    pub fn new(alloc: Global) -> Resolving {
+        Resolving {
+            shapes: Vec::new(alloc),
+            rows: Vec::new(alloc),
+            fits: true,
+        }
+    }
 }
 
 // Makes the references that wait for a type around it. Answers the shape of the outermost.

@@ -4,7 +4,7 @@ ghost use Rattle.std.specs.Prelude.{◌+◌, ◌≤◌, IfSome};
 use nll_body::{Call, FlatCall, Slice, Statement, Statements, Stmt};
 use nll_core::RegionId;
 use nll_mir_grammar::{Line, TypeText, Version, line_of};
-use nll_mir_text::{Scope, resolve};
+use nll_mir_text::{Resolving, Scope, resolve};
 use nll_types::{BodyTypes, Operand, Typed};
 use std::alloc::Global;
 
@@ -23,8 +23,10 @@ fn type_of(
     if scope.regions.len() > 100 {
         return None;
     }
-    let mut fits = true;
-    resolve(alloc, scope, text, types, &mut fits).ok()?
+    let (mut made, mut fits) = (Resolving::new(alloc), true);
+    let told = resolve(scope, text, types, &mut made, &mut fits).ok();
+    drop(made);
+    told?
 }
 
 // The part of a list that begins here, and ends where the list does.

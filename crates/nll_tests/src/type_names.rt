@@ -6,7 +6,7 @@ use super::statements;
 use super::transcript::Transcript;
 use nll_format::Names;
 use nll_mir_grammar::{TypeText, type_at};
-use nll_mir_text::{Scope, resolve};
+use nll_mir_text::{Resolving, Scope, resolve};
 use nll_types::{BodyTypes, Typed};
 
 // A table of names.
@@ -37,7 +37,10 @@ fn write_told(out: &mut Transcript, scope: &Scope<'_>, text: &TypeText<'_>) {
         return;
     }
     let (mut types, mut fits) = (BodyTypes::new(out.alloc), true);
-    match resolve(out.alloc, scope, text, &mut types, &mut fits) {
+    let mut made = Resolving::new(out.alloc);
+    let told = resolve(scope, text, &mut types, &mut made, &mut fits);
+    drop(made);
+    match told {
         Ok(Some(ty)) => write_resolved(out, &types, ty, fits),
         Ok(None) => out.say("false"),
         Err(_) => out.say("refused"),

@@ -80,8 +80,8 @@ of_line c =
 refuse : (c : In-Some) (kind : TextKind)
     → first_fault (said_by (with_type c)) (variable c.args.number (written c.args.text.now)) ≡ Some kind
     → IsRefused (said_by c.args.self.now) (variable c.args.number (written c.args.text.now)) kind
-refuse c kind fault = refused c.args.self.now _ c.resolve.new.made c.args.number (written c.args.text.now) c.in_ok-ty.ensures.adds
-    c.requires.ready kind fault
+refuse c kind fault = refused c.args.self.now _ c.resolve.new.made c.args.number (written c.args.text.now)
+    c.in_ok-ty.ensures.adds c.requires.ready kind fault
 
 pub returns-in_default-clause-refused : goal.returns-in_default-clause-refused
 returns-in_default-clause-refused c =
