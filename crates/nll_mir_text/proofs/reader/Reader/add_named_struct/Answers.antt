@@ -14,7 +14,8 @@ use Rattle.nll_mir_text.proofs.reader.Reader.add_named_struct.Goals as goal
 pub add_resolved_struct-requires-clause-due : goal.add_resolved_struct-requires-clause-due
 add_resolved_struct-requires-clause-due c =
     due_grown _ _ _
-    (is_grown c.args.self.now _ _ c.resolve.new.made c.in_ok-fields.ensures.adds refl c.requires.due.ready) c.requires.due
+    (is_grown c.args.self.now _ _ c.resolve.new.made c.in_ok-fields.ensures.adds refl c.requires.due.ready)
+    c.requires.due
 
 pub returns-in-Some-clause-taken : goal.returns-in-Some-clause-taken
 returns-in-Some-clause-taken c = on_ok_weaker c.add_resolved_struct.result
