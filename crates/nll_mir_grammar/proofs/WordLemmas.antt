@@ -1,11 +1,11 @@
 -- What words and numbers at the front of the rest of a line are read from.
-use Rattle.std.proofs.Common.{◌≡◌, ℕ, ◌<◌, false, List, ◌∷◌, ◌++◌, length, get_or, refl, sym, ap, ◌∙◌, arith}
+use Rattle.std.proofs.Common.{◌≡◌, ℕ, ◌<◌, false, List, [], ◌∷◌, ◌++◌, length, get_or, refl, sym, ap, ◌∙◌, arith}
 use Rattle.std.specs.Prelude.{codes}
 use Rattle.std.specs.Fmt.{decimal}
 use Rattle.nll_text.specs.Lines.{is_blank}
 use Rattle.nll_text.specs.Tokens.{Token, word, sign, first_passes}
 use Rattle.nll_text.specs.LineTokens.{tokens_in}
-use Rattle.nll_text.specs.Grammars.{Begins, HasNone, any_words}
+use Rattle.nll_text.specs.Grammars.{Begins, HasNone}
 use Rattle.nll_text.proofs.TokenLemmas.{first_token}
 use Rattle.nll_mir_grammar.specs.Grammars.{behind_token}
 use Rattle.nll_mir_grammar.specs.Parts.{variables, block_names, places}
@@ -17,17 +17,18 @@ use Rattle.nll_mir_grammar.proofs.PartLemmas.{no_place}
 use Rattle.nll_mir_grammar.proofs.KindLemmas.{rights_join}
 use Rattle.nll_mir_grammar.proofs.LineLemmas.{no_assignment}
 
--- it is this word
-pub word_next : (ts rest : List Token) (name w : List ℕ) → Begins any_words ts name rest → name ≡ w
-    → ts ≡ word w ∷ rest
-word_next ts rest name w b same = b.joined ∙ ap (λ z. word z ∷ rest) same
+-- the first byte of a word that comes next is the first byte of all
+pub word_first : (core : List ℕ) → first_passes is_blank core ≡ false → (w : List ℕ) (rest : List Token)
+    → tokens_in core ≡ word w ∷ rest → (0 < length core) × (get_or core 0 0 ≡ get_or w 0 0)
+word_first core solid [] rest e = absurd (omega (arith, (first_token core solid (word []) rest e).first.0.0))
+word_first core solid (b ∷ w) rest e =
+    let h = first_token core solid (word (b ∷ w)) rest e in
+    (omega (arith, ap length h.joined), ap (λ (l : List ℕ). get_or l 0 0) h.joined)
 
 -- the first byte is `_`
 pub variable_there : (core : List ℕ) → first_passes is_blank core ≡ false → (ts : List Token) → tokens_in core ≡ ts
     → (n : ℕ) (r : List Token) → Begins variables ts n r → (0 < length core) × (get_or core 0 0 ≡ 95)
-variable_there core solid ts e n r b =
-    let h = first_token core solid (word (codes "_" ++ decimal n)) r (e ∙ b.joined) in
-    (omega (arith, ap length h.joined), ap (λ (l : List ℕ). get_or l 0 0) h.joined)
+variable_there core solid ts e n r b = word_first core solid (codes "_" ++ decimal n) r (e ∙ b.joined)
 
 -- the first bytes are `bb`
 pub block_there : (core : List ℕ) → first_passes is_blank core ≡ false → (ts : List Token) → tokens_in core ≡ ts
@@ -50,15 +51,6 @@ pub marked : (core : List ℕ) → first_passes is_blank core ≡ false → get_
 marked core solid first k rest e =
     let h = first_token core solid (word (keyword_name k)) rest e in
     no_marked k h.rest (sym (ap (λ (l : List ℕ). get_or l 0 0) h.joined) ∙ first)
-
--- tokens that begin with no word, or with one that is no keyword, begin with no keyword
-pub no_word : (ts : List Token) → HasNone any_words ts → HasNoKeyword ts
-no_word ts none k rest e = none (keyword_name k) rest (record { joined = e; allowed = tt; follows = tt })
-
-pub no_keyword : (ts rest : List Token) (w : List ℕ) → Begins any_words ts w rest
-    → ((k : Keyword) → w ≡ keyword_name k → ⊥) → HasNoKeyword ts
-no_keyword ts rest w b none k r e =
-    let same : word w ∷ rest ≡ word (keyword_name k) ∷ r = sym b.joined ∙ e in none k cc
 
 -- bytes that don't begin with `_`, nor with a keyword, begin no line
 pub unmarked : (core : List ℕ) → first_passes is_blank core ≡ false

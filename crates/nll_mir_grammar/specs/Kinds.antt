@@ -42,30 +42,6 @@ keyword_name words.Return = codes "return"
 keyword_name words.Stop = codes "stop"
 keyword_name words.End = codes "end"
 
--- the word is the first word of no line that isn't at a point
-pub record IsNoLineKeyword (w : List ℕ) : Type 0 where
-  pub universal : w ≡ codes "universal" → ⊥
-  pub outlives : w ≡ codes "outlives" → ⊥
-  pub region : w ≡ codes "region" → ⊥
-  pub asserts : w ≡ codes "assert" → ⊥
-  pub struct_line : w ≡ codes "struct" → ⊥
-  pub variable : w ≡ codes "let" → ⊥
-  pub blocks : w ≡ codes "blocks" → ⊥
-  pub block : w ≡ codes "block" → ⊥
-  pub last : w ≡ codes "end" → ⊥
-
--- the word is the first word of no statement or terminator
-pub record IsNoPointKeyword (w : List ℕ) : Type 0 where
-  pub read : w ≡ codes "read" → ⊥
-  pub live : w ≡ codes "live" → ⊥
-  pub dead : w ≡ codes "dead" → ⊥
-  pub nop : w ≡ codes "nop" → ⊥
-  pub goto : w ≡ codes "goto" → ⊥
-  pub switch : w ≡ codes "switch" → ⊥
-  pub drop : w ≡ codes "drop" → ⊥
-  pub returns : w ≡ codes "return" → ⊥
-  pub stop : w ≡ codes "stop" → ⊥
-
 -- what follows the word
 abbrev pub Behind : Keyword → Type 0
 Behind words.Universal = WrittenName

@@ -10,7 +10,7 @@ ghost use Rattle.nll_mir_grammar.specs.MirForms.{Form};
 ghost use Rattle.nll_mir_grammar.specs.Versions.{HasFormIn};
 
 use crate::assignment::assignment_at;
-use crate::keyword::{Keyword, keyword_of};
+use crate::keyword::{Keyword, seek_keyword};
 use crate::line::Line;
 use crate::lines::{
     assert_line, blocks_line, let_line, outlives_line, region_line, struct_line, universal_line,
@@ -21,8 +21,9 @@ use crate::version::{Version, is_of_version};
 use crate::words::{block_at, variable_at};
 use nll_body::Statement;
 use nll_sets::Memory;
-use nll_text::{behind_gap, is_gap, word_at};
+use nll_text::{behind_gap, is_gap};
 use std::alloc::Global;
+use std::ops::ControlFlow;
 
 // The line that begins with the keyword, after which the rest follows.
 fn line_behind<'a>(alloc: Global, keyword: Keyword, line: &'a [u8]) -> Read<'a, Line<'a>>
@@ -63,7 +64,9 @@ fn line_behind<'a>(alloc: Global, keyword: Keyword, line: &'a [u8]) -> Read<'a, 
     }
 }
 
-// The line at the front. Assignments are told from the others by the `_` of their variable.
+// The line at the front. Assignments are told from the others by the `_` of their variable. It is
+// compiled by itself, so that lines told at a glance don't clear the room for its results.
+#[inline(never)]
 fn line_at<'a>(alloc: Global, line: &'a [u8]) -> Read<'a, Line<'a>>
     ensures { IfOk result (λ o. MatchOption o (HasNone kinds.lines (tokens_in line.now))
         (λ p. IsLine (tokens_in line.now) (form_of p.0) (tokens_in p.1.now))) }
@@ -72,12 +75,9 @@ fn line_at<'a>(alloc: Global, line: &'a [u8]) -> Read<'a, Line<'a>>
     if let [b'_', ..] = core {
         return assignment_at(alloc, core);
     }
-    let Some((word, rest)) = word_at(core) else {
-        return Ok(None);
-    };
-    match keyword_of(word) {
-        Some(keyword) => line_behind(alloc, keyword, rest),
-        None => Ok(None),
+    match seek_keyword(core) {
+        ControlFlow::Break((keyword, rest)) => line_behind(alloc, keyword, rest),
+        ControlFlow::Continue(()) => Ok(None),
     }
 }
 

@@ -1,8 +1,15 @@
 //! The first words of lines.
 
-ghost use Rattle.std.specs.Prelude.{◌≡◌, MatchOption};
-ghost use Rattle.nll_mir_grammar.specs.Kinds.{keyword_name, IsNoLineKeyword, IsNoPointKeyword};
-ghost use Rattle.nll_mir_grammar.specs.declared.keyword.Keyword.{Keyword as keyword};
+ghost use Rattle.std.specs.Prelude.{◌≡◌, ◌∷◌, false};
+ghost use Rattle.std.specs.ControlFlow.{MatchControlFlow};
+ghost use Rattle.nll_text.specs.Lines.{is_blank};
+ghost use Rattle.nll_text.specs.Tokens.{Token, first_passes, word as word_token};
+ghost use Rattle.nll_text.specs.LineTokens.{tokens_in};
+ghost use Rattle.nll_text.specs.Grammars.{IsNotNext};
+ghost use Rattle.nll_mir_grammar.specs.Kinds.{HasNoKeyword, keyword_name};
+
+use nll_text::after_word;
+use std::ops::ControlFlow;
 
 /// The first word of a line that begins with no place.
 #[derive(Clone, Copy)]
@@ -27,50 +34,50 @@ pub enum Keyword {
     End,
 }
 
-// The keyword of a line that isn't at a point.
-fn line_keyword(word: &[u8]) -> Option<Keyword>
-    ensures { MatchOption result (IsNoLineKeyword word.now) (λ k. word.now ≡ keyword_name k) }
+/// A search for the keyword at the front of a line. It ends with the keyword and what follows it.
+pub type Search<'a> = ControlFlow<(Keyword, &'a [u8])>;
+
+// Ends the search where this keyword comes next. Most others are told by their first bytes.
+#[inline(always)]
+fn seek<'a>(line: &'a [u8], keyword: Keyword, word: &[u8]) -> Search<'a>
+    requires solid { first_passes is_blank line.now ≡ false }
+    requires word { word.now ≡ keyword_name keyword }
+    ensures { MatchControlFlow result
+        (λ _. IsNotNext (word_token (keyword_name keyword)) (tokens_in line.now))
+        (λ p. tokens_in line.now ≡ word_token (keyword_name p.0) ∷ tokens_in p.1.now) }
 {
-    match word {
-        b"let" => Some(Keyword::Let),
-        b"block" => Some(Keyword::Block),
-        b"struct" => Some(Keyword::Struct),
-        b"outlives" => Some(Keyword::Outlives),
-        b"region" => Some(Keyword::Region),
-        b"universal" => Some(Keyword::Universal),
-        b"assert" => Some(Keyword::Assert),
-        b"blocks" => Some(Keyword::Blocks),
-        b"end" => Some(Keyword::End),
-        _ => None,
+    if line.is_empty() || line[0] != word[0] {
+        return ControlFlow::Continue(());
+    }
+    match after_word(line, word) {
+        Some(rest) => ControlFlow::Break((keyword, rest)),
+        None => ControlFlow::Continue(()),
     }
 }
 
-// The keyword of a statement or terminator.
-fn point_keyword(word: &[u8]) -> Option<Keyword>
-    ensures { MatchOption result (IsNoPointKeyword word.now) (λ k. word.now ≡ keyword_name k) }
+/// Searches for the keyword at the front of a line that begins with no blank. Keywords of many
+/// lines come first.
+pub fn seek_keyword<'a>(line: &'a [u8]) -> Search<'a>
+    requires { first_passes is_blank line.now ≡ false }
+    ensures { MatchControlFlow result (λ _. HasNoKeyword (tokens_in line.now))
+        (λ p. tokens_in line.now ≡ word_token (keyword_name p.0) ∷ tokens_in p.1.now) }
 {
-    match word {
-        b"live" => Some(Keyword::Live),
-        b"dead" => Some(Keyword::Dead),
-        b"goto" => Some(Keyword::Goto),
-        b"drop" => Some(Keyword::Drop),
-        b"switch" => Some(Keyword::Switch),
-        b"read" => Some(Keyword::Read),
-        b"nop" => Some(Keyword::Nop),
-        b"return" => Some(Keyword::Return),
-        b"stop" => Some(Keyword::Stop),
-        _ => None,
-    }
-}
-
-/// The keyword that a word is, where it is one. Most lines of a long text are at points, so their
-/// keywords come first.
-pub fn keyword_of(word: &[u8]) -> Option<Keyword>
-    ensures { MatchOption result ((k : keyword) → word.now ≡ keyword_name k → ⊥)
-        (λ k. word.now ≡ keyword_name k) }
-{
-    match point_keyword(word) {
-        Some(keyword) => Some(keyword),
-        None => line_keyword(word),
-    }
+    seek(line, Keyword::Read, b"read")?;
+    seek(line, Keyword::Goto, b"goto")?;
+    seek(line, Keyword::Switch, b"switch")?;
+    seek(line, Keyword::Drop, b"drop")?;
+    seek(line, Keyword::Let, b"let")?;
+    seek(line, Keyword::Region, b"region")?;
+    seek(line, Keyword::Return, b"return")?;
+    seek(line, Keyword::Stop, b"stop")?;
+    seek(line, Keyword::Dead, b"dead")?;
+    seek(line, Keyword::Live, b"live")?;
+    seek(line, Keyword::Nop, b"nop")?;
+    seek(line, Keyword::Block, b"block")?;
+    seek(line, Keyword::Struct, b"struct")?;
+    seek(line, Keyword::Outlives, b"outlives")?;
+    seek(line, Keyword::Universal, b"universal")?;
+    seek(line, Keyword::Assert, b"assert")?;
+    seek(line, Keyword::Blocks, b"blocks")?;
+    seek(line, Keyword::End, b"end")
 }

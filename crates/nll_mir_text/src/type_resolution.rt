@@ -1,7 +1,7 @@
 //! Looking up the names in a written type, once each, piece by piece.
 
 ghost use Rattle.std.specs.Prelude.{◌≡◌, ◌<◌, ◌&&◌, ◌++◌, ℕ, List, true, false, length, map};
-ghost use Rattle.std.specs.Prelude.{reverse, IfOk, IfSome, MatchOption, OnOk};
+ghost use Rattle.std.specs.Prelude.{[], reverse, IfOk, IfSome, MatchOption, OnOk};
 ghost use Rattle.nll_types.specs.Shapes.{shape_of, shapes_of};
 ghost use Rattle.nll_types.specs.Table.{AreBelow, shape_in, shapes_in};
 ghost use Rattle.nll_types.specs.Grown.{AddsTypes};
@@ -40,7 +40,10 @@ pub struct Resolving {
 
 impl Resolving {
     /// Nothing is resolved.
-    pub fn new(alloc: Global) -> Resolving {
+    pub fn new(alloc: Global) -> Resolving
+        ensures shapes { result.shapes.items ≡ [] }
+        ensures rows { result.rows.items ≡ [] }
+    {
         Resolving {
             shapes: Vec::new(alloc),
             rows: Vec::new(alloc),
