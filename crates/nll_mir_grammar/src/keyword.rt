@@ -34,12 +34,9 @@ pub enum Keyword {
     End,
 }
 
-/// A search for the keyword at the front of a line. It ends with the keyword and what follows it.
-pub type Search<'a> = ControlFlow<(Keyword, &'a [u8])>;
-
-// Ends the search where this keyword comes next. Most others are told by their first bytes.
+// Ends a search with this keyword and what follows it, where it comes next.
 #[inline(always)]
-fn seek<'a>(line: &'a [u8], keyword: Keyword, word: &[u8]) -> Search<'a>
+fn seek<'a>(line: &'a [u8], keyword: Keyword, word: &[u8]) -> ControlFlow<(Keyword, &'a [u8])>
     requires solid { first_passes is_blank line.now ≡ false }
     requires word { word.now ≡ keyword_name keyword }
     ensures { MatchControlFlow result
@@ -55,9 +52,8 @@ fn seek<'a>(line: &'a [u8], keyword: Keyword, word: &[u8]) -> Search<'a>
     }
 }
 
-/// Searches for the keyword at the front of a line that begins with no blank. Keywords of many
-/// lines come first.
-pub fn seek_keyword<'a>(line: &'a [u8]) -> Search<'a>
+/// Searches for the keyword at the front of a line that begins with no blank, frequent ones first.
+pub fn seek_keyword<'a>(line: &'a [u8]) -> ControlFlow<(Keyword, &'a [u8])>
     requires { first_passes is_blank line.now ≡ false }
     ensures { MatchControlFlow result (λ _. HasNoKeyword (tokens_in line.now))
         (λ p. tokens_in line.now ≡ word_token (keyword_name p.0) ∷ tokens_in p.1.now) }

@@ -41,8 +41,7 @@ pub struct Resolving {
 impl Resolving {
     /// Nothing is resolved.
     pub fn new(alloc: Global) -> Resolving
-        ensures shapes { result.shapes.items ≡ [] }
-        ensures rows { result.rows.items ≡ [] }
+        ensures { (result.shapes.items ≡ []) × (result.rows.items ≡ []) }
     {
         Resolving {
             shapes: Vec::new(alloc),
