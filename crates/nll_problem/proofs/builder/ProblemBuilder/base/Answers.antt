@@ -1,13 +1,15 @@
-use Rattle.std.proofs.Common.{◌≡◌, ℕ, ◌+◌, ◌-◌, ◌<◌, List, Contains, length, set, ap, sym, subst, ◌∙◌, arith}
+use Rattle.std.proofs.Common.{◌≡◌, ℕ, ◌+◌, ◌-◌, ◌<◌, List, Contains, length, set, ap, refl, sym, subst, ◌∙◌, arith}
+use Rattle.std.proofs.lemmas.Bool.{false≢true}
 use Rattle.std.proofs.lemmas.List.{get_or_default}
 use Rattle.std.proofs.lemmas.List.Elements.{Contains-get_or}
 use Rattle.nll_problem.specs.Answers.{AddsFact}
 use Rattle.nll_problem.specs.BaseRuns.{IsProper, facts_of_runs}
 use Rattle.nll_problem.specs.Bases.{distinct}
 use Rattle.nll_problem.specs.Merging.{RunGoesOn, run_at}
+use Rattle.nll_problem.specs.Problem.{problem_of}
 use Rattle.nll_problem.specs.declared.base_run.BaseRun.{BaseRun}
 use Rattle.nll_problem.proofs.BaseLemmas.{distinct_once}
-use Rattle.nll_problem.proofs.BaseRunLemmas.{adds_next, adds_one, proper_next, proper_push}
+use Rattle.nll_problem.proofs.BaseRunLemmas.{adds_next, adds_one, one_there, proper_next, proper_push}
 use Rattle.nll_problem.proofs.MergingLemmas.{no_run}
 use Rattle.nll_problem.proofs.ProblemLemmas.{sound_bases}
 use Rattle.nll_problem.proofs.builder.ProblemBuilder.base.Goals as goal
@@ -75,25 +77,50 @@ pub returns-then-goes_on-clause-ok : goal.returns-then-goes_on-clause-ok
 returns-then-goes_on-clause-ok c =
     rw (← c.self.view_is) (adds_end (goal.at.returns-then-goes_on-clause-ok c).After-index_mut)
 
-pub invariant_of-self-in_err-push : goal.invariant_of-self-in_err-push
-invariant_of-self-in_err-push c = rw c.in_err-push.ensures.items c.self.invariant
+pub invariant_of-self-in_err-push_run : goal.invariant_of-self-in_err-push_run
+invariant_of-self-in_err-push_run c = rw c.in_err-push_run.ensures.err c.self.invariant
 
 pub invariant_of-self-2 : goal.invariant_of-self-2
 invariant_of-self-2 c =
     let items = c.self.inside.bases.items in
-    let adds : AddsFact (distinct (facts_of_runs items)) (distinct (facts_of_runs c.push.new.self.items))
+    let adds : AddsFact (distinct (facts_of_runs items)) (distinct (facts_of_runs c.push_run.new.runs.items))
     (c.args.region, c.args.point) =
-    rw c.in_ok-push.ensures.items (adds_one items c.args.region c.args.point) in
+    rw c.in_ok-push_run.ensures.ok (adds_one items c.args.region c.args.point) in
     let region : c.args.region < c.self.inside.regions = omega arith in
     let point : c.args.point < c.self.inside.graph.points = omega arith in (
       sound_bases _ c.self.invariant.0 _ c.args.region c.args.point (λ x. (adds.each x).0)
-          (distinct_once (facts_of_runs c.push.new.self.items)) region point,
+          (distinct_once (facts_of_runs c.push_run.new.runs.items)) region point,
       c.self.invariant.1,
-      subst (λ (xs : List BaseRun). (run : BaseRun) → Contains xs run → IsProper run) (sym c.in_ok-push.ensures.items)
-          (proper_push items (record { region = c.args.region; first = c.args.point; end = c.args.point + 1 })
-          c.self.invariant.2 (omega arith)),
+      λ run h. proper_push items (record { region = c.args.region; first = c.args.point; end = c.args.point + 1 })
+          c.self.invariant.2 (omega arith) run (c.push_run.ensures.each run h),
     )
 
 pub returns-clause-ok : goal.returns-clause-ok
 returns-clause-ok c =
-    rw (← c.self.view_is, c.in_ok-push.ensures.items) (adds_one c.self.inside.bases.items c.args.region c.args.point)
+    rw (← c.self.view_is, c.in_ok-push_run.ensures.ok) (adds_one c.self.inside.bases.items c.args.region c.args.point)
+
+pub returns-then-goes_on-clause-repeated : goal.returns-then-goes_on-clause-repeated
+returns-then-goes_on-clause-repeated c =
+    let adds = adds_end (goal.at.returns-then-goes_on-clause-repeated c).After-index_mut in
+    rw (← c.self.view_is) (λ due there. (
+      refl,
+      ap (λ xs. problem_of c.self.inside.graph c.self.inside.regions xs c.self.inside.constraints.items
+          (distinct c.self.inside.outlives.items)) (adds.repeated there),
+    ))
+
+pub returns-in_err-push_run-clause-repeated : goal.returns-in_err-push_run-clause-repeated
+returns-in_err-push_run-clause-repeated c = λ due there.
+    absurd (false≢true (c.in_err-push_run.ensures.repeated
+    (one_there c.self.inside.bases.items c.args.region c.args.point (rw (← c.self.view_is) at there))))
+
+pub returns-clause-repeated : goal.returns-clause-repeated
+returns-clause-repeated c =
+    let items = c.self.inside.bases.items in
+    let adds : AddsFact (distinct (facts_of_runs items)) (distinct (facts_of_runs c.push_run.new.runs.items))
+    (c.args.region, c.args.point) =
+    rw c.in_ok-push_run.ensures.ok (adds_one items c.args.region c.args.point) in
+    rw (← c.self.view_is) (λ due there. (
+      refl,
+      ap (λ xs. problem_of c.self.inside.graph c.self.inside.regions xs c.self.inside.constraints.items
+          (distinct c.self.inside.outlives.items)) (adds.repeated there),
+    ))
