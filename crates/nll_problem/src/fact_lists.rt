@@ -127,7 +127,7 @@ fn reach(runs: &[BaseRun], region: RegionId, point: u32) -> u32
     end
 }
 
-// The same of one run, from an end on.
+// The end of points, from one on, that a run of the region has; this point if it lacks it.
 fn reach_on(run: &BaseRun, region: RegionId, end: u32) -> u32
     ensures covered { (p : ℕ) → end ≤ p → p < result → IsInBaseRun run.now region p }
     ensures begun { (p : ℕ) → p ≤ end → IsInBaseRun run.now region p → p < result }
