@@ -3,8 +3,9 @@ use Rattle.std.proofs.Common.{◌≡◌, ℕ, zero, suc, ◌+◌, ◌-◌, ◌*�
 use mathlib.Core.Option.{some, some-injective, some-ne-none}
 use lib.ListN.{get_elem?}
 use Rattle.ledger.specs.declared.figures.Figures.{Figures}
+use Rattle.ledger.specs.declared.step.LedgerStep.{LedgerStep}
 use Rattle.ledger.specs.Amounts.{total_bound}
-use Rattle.ledger.specs.Figures.{figures, owing, clearing, quieting, setting, finding, fewer, fresh, together, total, IsSoundFigure, AreSound, AreBalanced}
+use Rattle.ledger.specs.Figures.{figures, noting, owing, clearing, quieting, setting, finding, fewer, fresh, together, total, IsSoundFigure, AreSound, AreBalanced}
 
 -- the total after a change of one view
 total_set : (f : Figures → ℕ) (views : List Figures) (id : ℕ) (v w : Figures) → get_elem? views id ≡ some v
@@ -103,16 +104,24 @@ at_least (y ∷ ys) zero v at = let p : y.calls ≡ v.calls = ap (λ (z : Figure
     omega arith
 at_least (y ∷ ys) (suc id) v at = let r = at_least ys id v at in omega arith
 
+-- what one seat knows of the flag, all know
+pub finds_le : (views : List Figures) (id : ℕ) (v : Figures) → get_elem? views id ≡ some v
+    → v.finds ≤ total (λ u. u.finds) views
+finds_le [] id v at = absurd (some-ne-none v (sym at))
+finds_le (y ∷ ys) zero v at = let p : y.finds ≡ v.finds = ap (λ (z : Figures). z.finds) (some-injective y v at) in
+    omega arith
+finds_le (y ∷ ys) (suc id) v at = let r = finds_le ys id v at in omega arith
+
 module _ (a : ℕ) (b : Bool) (id : ℕ) (v : Figures) (views : List Figures) (kept : AreBalanced a b views)
     (at : get_elem? views id ≡ some v) where
   old : IsSoundFigure v
   old = sound_at views id v kept.sound at
 
   -- what one share owes more, the balance has more
-  pub figures_owe : (k : ℕ) → 0 < v.parts → v.quiets ≡ 0 → v.owed + k ≤ total_bound
-      → (a + k < 2 ^ 64) × AreBalanced (a + k) b (slice_set views id (owing v k))
-  figures_owe k part live few =
-      let w = owing v k in
+  pub figures_owe : (k : ℕ) (steps : List LedgerStep) → 0 < v.parts → v.quiets ≡ 0 → v.owed + k ≤ total_bound
+      → (a + k < 2 ^ 64) × AreBalanced (a + k) b (slice_set views id (noting (owing v k) steps))
+  figures_owe k steps part live few =
+      let w = noting (owing v k) steps in
       let d = total_set (λ u. u.owed) views id v w at in
       let e = total_set (λ u. u.cleared) views id v w at in
       let f = total_set (λ u. u.parts) views id v w at in
@@ -148,8 +157,13 @@ module _ (a : ℕ) (b : Bool) (id : ℕ) (v : Figures) (views : List Figures) (k
   figures_clear k part live few = grind (arith, total_set, sound_set, old, bounds, slice_set, not_quiet, get_set)
 
   -- one share leaves where the balance is 0
-  pub figures_quiet : a ≡ 2 ^ 62 → AreBalanced a b (slice_set views id (quieting v))
-  figures_quiet null = grind (arith, total_set, sound_set, old)
+  pub figures_quiet : (steps : List LedgerStep) → a ≡ 2 ^ 62
+      → AreBalanced a b (slice_set views id (noting (quieting v) steps))
+  figures_quiet steps null = grind (arith, total_set, sound_set, old)
+
+  -- one share makes a step that changes nothing
+  pub figures_noted : (steps : List LedgerStep) → AreBalanced a b (slice_set views id (noting v steps))
+  figures_noted steps = grind (arith, total_set, sound_set, old)
 
   -- one share sets the flag
   pub figures_stop : 0 < v.parts → AreBalanced a true (slice_set views id (setting v))
@@ -171,7 +185,7 @@ module _ (a : ℕ) (b : Bool) (id : ℕ) (v : Figures) (views : List Figures) (k
   -- two entries are put together
   pub figures_merge : (other : ℕ) (w : Figures) → ¬ (other ≡ id)
       → get_elem? (slice_set views id (together v w)) other ≡ some w
-      → AreBalanced a b (slice_set (slice_set views id (together v w)) other (figures 0 0 0 0 0 0))
+      → AreBalanced a b (slice_set (slice_set views id (together v w)) other (figures 0 0 0 0 0 0 []))
   figures_merge other w apart there = grind (arith, slice_set, total_set, sound_at, get_other, old, sound_set)
 
   -- who has all parts, all of them quiet, knows that owed and cleared are equal

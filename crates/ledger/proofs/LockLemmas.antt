@@ -6,10 +6,12 @@ use Rattle.crossbeam_queue.specs.Fifo.{Pushes, Pops, Forks, Merges, Learns}
 use Rattle.ledger.specs.declared.figures.Figures.{Figures}
 use Rattle.ledger.specs.declared.lock_rule.State.{State}
 use Rattle.ledger.specs.declared.lock_rule.Known.{Known}
+use Rattle.ledger.specs.declared.step.LedgerStep.{LedgerStep}
+use Rattle.ledger.specs.declared.step.LedgerStep.TheVariants.{Owed, FlagSeen, BalanceSeen}
 use Rattle.ledger.specs.Amounts.{total_bound}
-use Rattle.ledger.specs.Figures.{owing, clearing, quieting, setting, finding, fewer, fresh, none, together, bit, AreBalanced}
+use Rattle.ledger.specs.Figures.{noting, owing, clearing, quieting, staying, setting, finding, finding_none, fewer, fresh, none, together, bit, AreBalanced}
 use Rattle.ledger.specs.Lock.{first, new_state, spent, known, holding, released, holders, HoldIt, IsHeldByOne}
-use Rattle.ledger.proofs.FigureLemmas.{bounds, figures_owe, figures_clear, figures_quiet, figures_stop, figures_find, figures_kept, figures_fork, figures_merge, settled, called}
+use Rattle.ledger.proofs.FigureLemmas.{bounds, finds_le, figures_owe, figures_clear, figures_quiet, figures_stop, figures_find, figures_kept, figures_noted, figures_fork, figures_merge, settled, called}
 
 entry_at : (views : List Known) (id : ℕ) (v : Known) → get_elem? views id ≡ some v
     → get_elem? (map (λ u. u.figures) views) id ≡ some v.figures
@@ -67,7 +69,8 @@ not_true b e f = cc
 
 -- a hold begins
 pub grabs : (port : ℕ) (v : Known) → v.holds ≡ false
-    → Pops IsHeldByOne port v (λ x w. (w ≡ holding v x) × (2 ^ 61 < x.balance) × (x.balance < 2 ^ 63))
+    → Pops IsHeldByOne port v (λ x w. (w ≡ holding v x) × (2 ^ 61 < x.balance) × (x.balance < 2 ^ 63)
+    × (0 < v.figures.finds → x.flag ≡ true))
 grabs port v free x items views h at =
     let w = holding v x in
     let here : (x ≡ h.state) × (items ≡ []) × (holders views ≡ 0) =
@@ -79,6 +82,7 @@ grabs port v free x items views h at =
     let bounded = bounds es h.balanced.sound in let sums = h.balanced.sums in let parts = h.balanced.parts in
     let same : x.balance ≡ h.state.balance = ap (λ (y : State). y.balance) here.0 in
     let low : 2 ^ 61 < x.balance = omega arith in let high : x.balance < 2 ^ 63 = omega arith in
+    let most = finds_le es port v.figures (entry_at views port v at) in
     let nobody = here.2 in (
       w,
       record {
@@ -89,7 +93,12 @@ grabs port v free x items views h at =
             subst (AreBalanced h.state.balance h.state.flag) (sym (entry_set views port w))
             (figures_kept h.state.balance h.state.flag port v.figures es h.balanced (entry_at views port v at));
       },
-      (refl, low, high),
+      (
+        refl,
+        low,
+        high,
+        λ z. ap (λ (y : State). y.flag) here.0 ∙ h.balanced.found (omega (arith, most, z)),
+      ),
     )
 
 -- a hold ends with a state x and figures e, where this keeps the figures
@@ -114,14 +123,15 @@ gives n port v x e holds change items views room h at =
       refl,
     )
 
-pub gives_raised : (n port k : ℕ) (v : Known) (x : State) → v.holds ≡ true → x.balance ≡ v.held.balance + k
-    → x.flag ≡ v.held.flag → 0 < v.figures.parts → v.figures.quiets ≡ 0 → v.figures.owed + k ≤ total_bound
-    → Pushes IsHeldByOne n port v x (λ w. w ≡ released v (owing v.figures (x.balance - v.held.balance)))
-gives_raised n port k v x holds b f part live few =
+pub gives_raised : (n port k : ℕ) (v : Known) (x : State) (steps : List LedgerStep) → v.holds ≡ true
+    → x.balance ≡ v.held.balance + k → x.flag ≡ v.held.flag → 0 < v.figures.parts → v.figures.quiets ≡ 0 → v.figures.owed + k ≤ total_bound
+    → Pushes IsHeldByOne n port v x
+    (λ w. w ≡ released v (noting (owing v.figures (x.balance - v.held.balance)) steps))
+gives_raised n port k v x steps holds b f part live few =
     let kk : k ≡ x.balance - v.held.balance = omega arith in
-    gives n port v x (owing v.figures (x.balance - v.held.balance)) holds (λ es g at.
-    subst (λ (y : ℕ × (Bool × ℕ)). AreBalanced y.0 y.1.0 (slice_set es port (owing v.figures y.1.1)))
-    (λ i. (sym b i, (sym f i, kk i))) (figures_owe v.held.balance v.held.flag port v.figures es g at k part live
+    gives n port v x (noting (owing v.figures (x.balance - v.held.balance)) steps) holds (λ es g at.
+    subst (λ (y : ℕ × (Bool × ℕ)). AreBalanced y.0 y.1.0 (slice_set es port (noting (owing v.figures y.1.1) steps)))
+    (λ i. (sym b i, (sym f i, kk i))) (figures_owe v.held.balance v.held.flag port v.figures es g at k steps part live
     few).1)
 
 pub gives_lowered : (n port k : ℕ) (v : Known) (x : State) → v.holds ≡ true → x.balance ≡ v.held.balance - k
@@ -149,17 +159,18 @@ gives_found n port v x holds is set part = gives n port v x (finding v.figures) 
     (subst (λ (y : State). y.flag ≡ true) is set)))
 
 pub gives_quiet : (n port : ℕ) (v : Known) (x : State) → v.holds ≡ true → x ≡ v.held → x.balance ≡ 2 ^ 62
-    → Pushes IsHeldByOne n port v x (λ w. w ≡ released v (quieting v.figures))
-gives_quiet n port v x holds is null = gives n port v x (quieting v.figures) holds (λ es g at.
-    subst (λ (y : State). AreBalanced y.balance y.flag (slice_set es port (quieting v.figures))) (sym is)
+    → Pushes IsHeldByOne n port v x (λ w. w ≡ released v (quieting (finding_none v.figures)))
+gives_quiet n port v x holds is null = gives n port v x (quieting (finding_none v.figures)) holds (λ es g at.
+    subst (λ (y : State). AreBalanced y.balance y.flag (slice_set es port (quieting (finding_none v.figures)))) (sym is)
     (figures_quiet v.held.balance v.held.flag port v.figures es g at
+    (BalanceSeen true ∷ FlagSeen false ∷ v.figures.steps)
     (subst (λ (y : State). y.balance ≡ 2 ^ 62) is null)))
 
-pub gives_back : (n port : ℕ) (v : Known) (x : State) → v.holds ≡ true → x ≡ v.held
-    → Pushes IsHeldByOne n port v x (λ w. w ≡ released v v.figures)
-gives_back n port v x holds is = gives n port v x v.figures holds (λ es g at.
-    subst (λ (y : State). AreBalanced y.balance y.flag (slice_set es port v.figures)) (sym is)
-    (figures_kept v.held.balance v.held.flag port v.figures es g at))
+pub gives_back : (n port : ℕ) (v : Known) (x : State) (steps : List LedgerStep) → v.holds ≡ true → x ≡ v.held
+    → Pushes IsHeldByOne n port v x (λ w. w ≡ released v (noting v.figures steps))
+gives_back n port v x steps holds is = gives n port v x (noting v.figures steps) holds (λ es g at.
+    subst (λ (y : State). AreBalanced y.balance y.flag (slice_set es port (noting v.figures steps))) (sym is)
+    (figures_noted v.held.balance v.held.flag port v.figures es g at steps))
 
 -- the lock before it is opened: the first pass holds it
 pub begins : IsHeldByOne [] (first ∷ [])
@@ -243,8 +254,8 @@ module _ (n port : ℕ) (u v : Known) (r : State) (e : v ≡ holding u r) where
       → u.figures.quiets ≡ 0 → u.figures.owed + k ≤ total_bound
       → Pushes IsHeldByOne n port v x (λ w. w ≡ released v (owing v.figures (x.balance - v.held.balance)))
   raised_after k x b f part live few =
-      gives_raised n port k v x holds_is (b ∙ ap (λ (y : State). y.balance + k) held_is)
-      (f ∙ ap (λ (y : State). y.flag) held_is) (some_is part) (live_is live)
+      gives_raised n port k v x (Owed (x.balance - v.held.balance) ∷ v.figures.steps) holds_is
+      (b ∙ ap (λ (y : State). y.balance + k) held_is) (f ∙ ap (λ (y : State). y.flag) held_is) (some_is part) (live_is live)
       (subst (λ (y : Figures). y.owed + k ≤ total_bound) (sym entry_is) few)
 
   pub lowered_after : (k : ℕ) (x : State) → x.balance ≡ r.balance - k → k ≤ r.balance → x.flag ≡ r.flag
@@ -263,8 +274,12 @@ module _ (n port : ℕ) (u v : Known) (r : State) (e : v ≡ holding u r) where
       → Pushes IsHeldByOne n port v r (λ w. w ≡ released v (finding v.figures))
   found_after set part = gives_found n port v r holds_is held_is set (some_is part)
 
-  pub quiet_after : r.balance ≡ 2 ^ 62 → Pushes IsHeldByOne n port v r (λ w. w ≡ released v (quieting v.figures))
+  pub quiet_after : r.balance ≡ 2 ^ 62
+      → Pushes IsHeldByOne n port v r (λ w. w ≡ released v (quieting (finding_none v.figures)))
   quiet_after null = gives_quiet n port v r holds_is held_is null
 
-  pub back_after : Pushes IsHeldByOne n port v r (λ w. w ≡ released v v.figures)
-  back_after = gives_back n port v r holds_is held_is
+  pub missed_after : Pushes IsHeldByOne n port v r (λ w. w ≡ released v (finding_none v.figures))
+  missed_after = gives_back n port v r (FlagSeen false ∷ v.figures.steps) holds_is held_is
+
+  pub stayed_after : Pushes IsHeldByOne n port v r (λ w. w ≡ released v (staying (finding_none v.figures)))
+  stayed_after = gives_back n port v r (BalanceSeen false ∷ FlagSeen false ∷ v.figures.steps) holds_is held_is

@@ -3,15 +3,16 @@ use Rattle.std.proofs.Common.{◌≡◌, ℕ, zero, suc, ◌+◌, ◌-◌, ◌^�
 use Rattle.std.proofs.lemmas.Bool.{eqb-true}
 use Rattle.std.proofs.lemmas.Bool.Decides.{nat_tests}
 use Rattle.std.proofs.lemmas.Nat.{le_or_r}
-use mathlib.Core.Option.{some, some-injective, some-ne-none}
+use mathlib.Core.Option.{some}
 use lib.Bits.{bit_or}
 use lib.ListN.{get_elem?}
 use Rattle.atomic_table.specs.Table.{keeps, opening, Allows, Joins, Splits}
 use Rattle.ledger.specs.Amounts.{total_bound}
-use Rattle.ledger.specs.Figures.{figures, none, owing, clearing, quieting, setting, finding, fewer, fresh, together, total, AreBalanced}
+use Rattle.ledger.specs.Figures.{figures, none, owing, clearing, quieting, staying, setting, finding, finding_none, fewer, fresh, together, AreBalanced}
 use Rattle.ledger.specs.Words.{is_set, leaving, looking, AreWords}
 use Rattle.ledger.specs.declared.figures.Figures.{Figures}
-use Rattle.ledger.proofs.FigureLemmas.{bounds, figures_owe, figures_clear, figures_quiet, figures_stop, figures_find, figures_kept, figures_fork, figures_merge, settled, called}
+use Rattle.ledger.specs.declared.step.LedgerStep.TheVariants.{Owed, FlagSeen, BalanceSeen}
+use Rattle.ledger.proofs.FigureLemmas.{bounds, finds_le, figures_owe, figures_clear, figures_quiet, figures_stop, figures_find, figures_kept, figures_noted, figures_fork, figures_merge, settled, called}
 use Rattle.fixpoint.specs.Limits.{most_parts}
 
 set_some : (w : ℕ) → is_set w ≡ true → 0 < w
@@ -30,29 +31,23 @@ balance_small : (a : ℕ) (b : Bool) (views : List Figures) → AreBalanced a b 
 balance_small a b views kept = let bounded = bounds views kept.sound in let sums = kept.sums in
     let parts = kept.parts in omega arith
 
--- what one seat knows of the flag, all know
-finds_le : (views : List Figures) (id : ℕ) (v : Figures) → get_elem? views id ≡ some v
-    → v.finds ≤ total (λ u. u.finds) views
-finds_le [] id v at = absurd (some-ne-none v (sym at))
-finds_le (y ∷ ys) zero v at = let p : y.finds ≡ v.finds = ap (λ (z : Figures). z.finds) (some-injective y v at) in
-    omega arith
-finds_le (y ∷ ys) (suc id) v at = let r = finds_le ys id v at in omega arith
-
 balanced_leave : (a : ℕ) (b : Bool) (id : ℕ) (v : Figures) (views : List Figures) → AreBalanced a b views
     → get_elem? views id ≡ some v → AreBalanced a b (slice_set views id (leaving v a))
 balanced_leave a b id v views kept at = go (a == 4611686018427387904) refl
   where
-    go : (t : Bool) → (a == 4611686018427387904) ≡ t → AreBalanced a b (slice_set views id (cond t (quieting v) v))
+    go : (t : Bool) → (a == 4611686018427387904) ≡ t
+        → AreBalanced a b (slice_set views id (cond t (quieting v) (staying v)))
     go true is =
-        figures_quiet a b id v views kept at (let null : a ≡ 4611686018427387904 = grind (arith, nat_tests) in null)
-    go false is = figures_kept a b id v views kept at
+        figures_quiet a b id v views kept at (BalanceSeen true ∷ v.steps)
+        (let null : a ≡ 4611686018427387904 = grind (arith, nat_tests) in null)
+    go false is = figures_noted a b id v views kept at (BalanceSeen false ∷ v.steps)
 
 balanced_look : (a w id : ℕ) (v : Figures) (views : List Figures) → AreBalanced a (is_set w) views
     → get_elem? views id ≡ some v → 0 < v.parts → AreBalanced a (is_set w) (slice_set views id (looking v w))
 balanced_look a w id v views kept at part = go (w == 0) refl
   where
-    go : (t : Bool) → (w == 0) ≡ t → AreBalanced a (is_set w) (slice_set views id (cond t v (finding v)))
-    go true is = figures_kept a (is_set w) id v views kept at
+    go : (t : Bool) → (w == 0) ≡ t → AreBalanced a (is_set w) (slice_set views id (cond t (finding_none v) (finding v)))
+    go true is = figures_noted a (is_set w) id v views kept at (FlagSeen false ∷ v.steps)
     go false is = figures_find a (is_set w) id v views kept at part (ap not is)
 
 wraps : (a k x : ℕ) → x ≡ a → k ≤ a → a < 2 ^ 64 → (x + (2 ^ 64 - k)) % 2 ^ 64 ≡ a - k
@@ -64,7 +59,8 @@ module _ (slots id : ℕ) (v : Figures) (held : List (ℕ × Unit {0})) where
   pub owes : (k : ℕ) → 0 < v.parts → v.quiets ≡ 0 → v.owed + k ≤ total_bound
       → Allows AreWords slots id (v, held) 0 (λ x. (x + k) % 2 ^ 64) (λ found me. me ≡ (owing v k, held))
   owes k part live few s kept homes at fits =
-      let r = figures_owe kept.balance (is_set kept.flag) id v s.views kept.balanced at k part live few in
+      let r =
+      figures_owe kept.balance (is_set kept.flag) id v s.views kept.balanced at k (Owed k ∷ v.steps) part live few in
       let word : slice_index s.words 0 ≡ kept.balance = ap (λ l. slice_index l 0) kept.words in
       let after : (slice_index s.words 0 + k) % 2 ^ 64 ≡ kept.balance + k = (let l = r.0 in omega arith) in (
         owing v k,
@@ -203,5 +199,5 @@ joins id v other w s kept at apart there = record {
 
 -- the words of a new book
 pub opens : (owners balance : ℕ) → owners ≤ most_parts → balance ≡ 2 ^ 62 + owners
-    → AreWords (opening (balance ∷ 0 ∷ []) [] (figures 64 owners 0 0 0 0))
+    → AreWords (opening (balance ∷ 0 ∷ []) [] (figures 64 owners 0 0 0 0 []))
 opens owners balance few is = grind arith

@@ -1,7 +1,8 @@
 -- The rule of a ledger's lock: one has its state, the queue or one who holds the lock.
 -- Source: project's choice. Private contracts and rules of queues alone cite this file.
 use Rattle.std.specs.Prelude.{◌≡◌, ◌≢◌, ℕ, ◌+◌, ◌^◌, ◌⊎◌, Bool, true, false, ⊤, List, [], ◌∷◌, map}
-use Rattle.ledger.specs.Figures.{bit, figures, none, quieting, finding, AreBalanced}
+use Rattle.ledger.specs.Figures.{bit, figures, none, finding, finding_none, quieting, staying}
+use Rattle.ledger.specs.Figures.{AreBalanced}
 use Rattle.ledger.specs.declared.figures.Figures.{Figures}
 use Rattle.ledger.specs.declared.lock.Look.{Look}
 use Rattle.ledger.specs.declared.lock.Look.TheVariants.{Flag, Quiet, Open}
@@ -23,7 +24,7 @@ known of_shares is_holder found = record { figures = of_shares; holds = is_holde
 
 -- the first pass of a lock has all parts, and holds the lock
 abbrev pub first : Known
-first = known (figures 64 0 0 0 0 0) true new_state
+first = known (figures 64 0 0 0 0 0 []) true new_state
 
 -- a pass whose shares went over to another one
 abbrev pub spent : Known
@@ -60,5 +61,6 @@ pub record IsHeldByOne (items : List State) (passes : List Known) : Type 0 where
 abbrev pub IsSeen : State → Figures → Figures → Look → Type 0
 IsSeen found old new Flag = (found.flag ≡ true) × (new ≡ finding old)
 IsSeen found old new Quiet =
-    (found.flag ≡ false) × (found.balance ≡ 2 ^ 62) × (new ≡ quieting old)
-IsSeen found old new Open = (found.flag ≡ false) × (found.balance ≢ 2 ^ 62) × (new ≡ old)
+    (found.flag ≡ false) × (found.balance ≡ 2 ^ 62) × (new ≡ quieting (finding_none old))
+IsSeen found old new Open =
+    (found.flag ≡ false) × (found.balance ≢ 2 ^ 62) × (new ≡ staying (finding_none old))

@@ -1,12 +1,13 @@
 -- Shares of a book under a lock, and what is left of them.
 -- Source: project's choice. Contracts of `LockLedger` alone cite this file; what they say in public
 -- is what the trait says in its own words.
-use Rattle.std.specs.Prelude.{◌≡◌, ℕ, Bool, false}
+use Rattle.std.specs.Prelude.{◌≡◌, ℕ, Bool, false, List, []}
 use Rattle.crossbeam_queue.specs.Passes.{view, IsPassOf}
 use Rattle.ledger.specs.Shares.{Kind, parts_of_share}
 use Rattle.ledger.specs.declared.lock_book.LockBook.{LockBook}
 use Rattle.ledger.specs.declared.lock_book.LockLeft.{LockLeft}
 use Rattle.ledger.specs.declared.lock_book.LockShare.{LockShare}
+use Rattle.ledger.specs.declared.step.LedgerStep.{LedgerStep}
 
 -- the number of the owner that left
 abbrev pub number_left : LockLeft → ℕ
@@ -27,6 +28,14 @@ has_called left = left.account.called
 -- whether it left on quiet
 abbrev pub is_quiet : LockLeft → Bool
 is_quiet left = left.quiet
+
+-- its steps, the latest first
+abbrev pub steps_of : LockShare → List LedgerStep
+steps_of share = (view share.pass).figures.steps
+
+-- the steps of a share that left
+abbrev pub steps_left : LockLeft → List LedgerStep
+steps_left left = (view left.pass).figures.steps
 
 -- the same together, with the figures of its pass
 abbrev pub lock_kind : Kind LockLeft
@@ -59,4 +68,4 @@ module _ {R : Type 0} where
   abbrev pub IsNew : LockBook R → ℕ → LockShare → Type 0
   IsNew book number share = IsOf book share × (share.account.number ≡ number)
       × (share.account.owed ≡ 1) × (share.account.cleared ≡ 0)
-      × (share.account.called ≡ false) × (share.marked ≡ false)
+      × (share.account.called ≡ false) × (share.marked ≡ false) × (steps_of share ≡ [])

@@ -23,6 +23,7 @@ pub record Kind (L : Type 0) : Type 0 where
   pub view : L → Figures
   pub knows : (left : L) → view left ≡ figures (view left).parts (owed left) (cleared left)
       (cond (quiet left) (view left).parts 0) (bit (called left)) (bit (not (quiet left)))
+      (view left).steps
   pub few : (left : L) → (owed left < total_bound) × (cleared left < total_bound)
 
 -- the figures so far, and those of the shares that are still to come, are those of all shares

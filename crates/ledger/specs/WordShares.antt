@@ -1,7 +1,7 @@
 -- Shares of a book of two words, and what is left of them.
 -- Source: project's choice. Contracts of `WordLedger` alone cite this file; what they say in public
 -- is what the trait says in its own words.
-use Rattle.std.specs.Prelude.{◌≡◌, ℕ, false}
+use Rattle.std.specs.Prelude.{◌≡◌, ℕ, false, []}
 use Rattle.ledger.specs.Shares.{Kind, parts_of_share}
 use Rattle.ledger.specs.declared.word_book.WordBook.{WordBook}
 use Rattle.ledger.specs.declared.word_book.WordLeft.{WordLeft}
@@ -33,4 +33,4 @@ IsWordLeft book left = (left.seat.table_id ≡ book.table.shared.table_id)
 abbrev pub IsNewShare : WordBook → ℕ → WordShare → Type 0
 IsNewShare book number share = IsWordShare book share × (share.account.number ≡ number)
     × (share.account.owed ≡ 1) × (share.account.cleared ≡ 0)
-    × (share.account.called ≡ false) × (share.marked ≡ false)
+    × (share.account.called ≡ false) × (share.marked ≡ false) × (share.seat.me.0.steps ≡ [])

@@ -1,9 +1,13 @@
 //! What every kind of ledger promises.
 
-ghost use Rattle.std.specs.Prelude.{◌≡◌, ◌+◌, ◌<◌, ◌≤◌, ℕ, Bool, true, false};
+ghost use Rattle.std.specs.Prelude.{◌≡◌, ◌+◌, ◌<◌, ◌≤◌, ℕ, Bool, true, false, List, [], ◌∷◌};
 ghost use Rattle.std.specs.Prelude.{IfOk, Some, slice_get, sum_by, vec_len};
 ghost use Rattle.ledger.specs.Amounts.{amount_bound, total_bound};
 ghost use Rattle.ledger.specs.Leaving.{IfQuiet, IfStopped, IfLeft, IfOpen};
+ghost use Rattle.ledger.specs.declared.step.LedgerStep.{LedgerStep};
+ghost use Rattle.ledger.specs.declared.step.LedgerStep.TheVariants.{Owed, Cleared};
+ghost use Rattle.ledger.specs.declared.step.LedgerStep.TheVariants.{FlagSet, FlagSeen};
+ghost use Rattle.ledger.specs.declared.step.LedgerStep.TheVariants.{BalanceSeen};
 ghost use Rattle.fixpoint.specs.Limits.{most_parts};
 
 use nll_sets::Memory;
@@ -33,9 +37,9 @@ pub struct Totals {
 /// nothing is under way, and a flag by which any of them stops all.
 ///
 /// A book is shared by all owners, and each of them has a share of its own. A share knows only its
-/// own owner: what this one owed and cleared, and what it knows of the flag. The balance of a book
-/// is what all shares owed less what they cleared; what ties it to the shares is known once all of
-/// them have left, in `gather`.
+/// own owner: what this one owed and cleared, what it knows of the flag, and its steps on the book.
+/// The balance of a book is what all shares owed less what they cleared; what ties it to the shares
+/// is known once all of them have left, in `gather`.
 ///
 /// # Source
 /// Project's choice.
@@ -61,6 +65,8 @@ pub trait Ledger {
     ghost called: { Self.Share → Bool };
     /// Whether it knows that the flag is set: it has set it, or found it set.
     ghost marked: { Self.Share → Bool };
+    /// Its steps on the book, the latest first.
+    ghost steps: { Self.Share → List LedgerStep };
     /// What is left is of the book.
     ghost left_belongs: { Self.Book → Self.Left → Type 0 };
     /// The number of the owner that left.
@@ -73,6 +79,8 @@ pub trait Ledger {
     ghost left_called: { Self.Left → Bool };
     /// Whether it left on quiet.
     ghost left_quiet: { Self.Left → Bool };
+    /// Its steps on the book, the latest first.
+    ghost left_steps: { Self.Left → List LedgerStep };
 
     /// A new book, and a share for each owner, in their order. Each owes 1, its load.
     ///
@@ -86,14 +94,15 @@ pub trait Ledger {
             → slice_get opened.1.items place ≡ Some share
             → belongs opened.0 share × (number share ≡ place)
             × (owed share ≡ 1) × (cleared share ≡ 0)
-            × (called share ≡ false) × (marked share ≡ false)) };
+            × (called share ≡ false) × (marked share ≡ false) × (steps share ≡ [])) };
 
-    /// Owes so much more.
+    /// Owes so much more. It is a step at 0 too.
     fn owe(book: &Self::Book, share: &mut Self::Share, amount: u64)
         requires book { belongs book.now share.old }
         requires few { (amount < amount_bound) × (owed share.old + amount < total_bound) }
         ensures book { belongs book.now share.new × (number share.new ≡ number share.old) }
         ensures owed { owed share.new ≡ owed share.old + amount }
+        ensures step { steps share.new ≡ Owed amount ∷ steps share.old }
         ensures same { (cleared share.new ≡ cleared share.old)
             × (called share.new ≡ called share.old) × (marked share.new ≡ marked share.old) };
 
@@ -103,6 +112,7 @@ pub trait Ledger {
         requires few { (amount < amount_bound) × (cleared share.old + amount < total_bound) }
         ensures book { belongs book.now share.new × (number share.new ≡ number share.old) }
         ensures cleared { cleared share.new ≡ cleared share.old + amount }
+        ensures step { steps share.new ≡ Cleared amount ∷ steps share.old }
         ensures same { (owed share.new ≡ owed share.old)
             × (called share.new ≡ called share.old) × (marked share.new ≡ marked share.old) };
 
@@ -111,6 +121,7 @@ pub trait Ledger {
         requires { belongs book.now share.old }
         ensures book { belongs book.now share.new × (number share.new ≡ number share.old) }
         ensures marks { (called share.new ≡ true) × (marked share.new ≡ true) }
+        ensures step { steps share.new ≡ FlagSet ∷ steps share.old }
         ensures same { (owed share.new ≡ owed share.old)
             × (cleared share.new ≡ cleared share.old) };
 
@@ -120,6 +131,7 @@ pub trait Ledger {
         ensures book { belongs book.now share.new × (number share.new ≡ number share.old) }
         ensures marks { marked share.new ≡ result }
         ensures told { marked share.old ≡ true → result ≡ true }
+        ensures step { steps share.new ≡ FlagSeen result ∷ steps share.old }
         ensures same { (owed share.new ≡ owed share.old)
             × (cleared share.new ≡ cleared share.old) × (called share.new ≡ called share.old) };
 
@@ -131,13 +143,15 @@ pub trait Ledger {
             × (left_number left ≡ number share)
             × (left_owed left ≡ owed share) × (left_cleared left ≡ cleared share)
             × (left_called left ≡ called share)) }
-        ensures quiet { IfQuiet result
-            (λ left. (left_quiet left ≡ true) × (marked share ≡ false)) }
-        ensures stopped { IfStopped result (λ left. left_quiet left ≡ false) }
+        ensures quiet { IfQuiet result (λ left. (left_quiet left ≡ true) × (marked share ≡ false)
+            × (left_steps left ≡ BalanceSeen true ∷ FlagSeen false ∷ steps share)) }
+        ensures stopped { IfStopped result (λ left. (left_quiet left ≡ false)
+            × (left_steps left ≡ FlagSeen true ∷ steps share)) }
         ensures back { IfOpen result (λ back. belongs book.now back × (number back ≡ number share)
             × (owed back ≡ owed share) × (cleared back ≡ cleared share)
             × (called back ≡ called share) × (marked back ≡ marked share)
-            × (marked share ≡ false)) };
+            × (marked share ≡ false)
+            × (steps back ≡ BalanceSeen false ∷ FlagSeen false ∷ steps share)) };
 
     /// Closes a book that all have left: what they owed and cleared together. These are equal where
     /// all left on quiet. Where one didn't, some owner has called `stop`.

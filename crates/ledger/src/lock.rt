@@ -1,15 +1,15 @@
 //! Holds of a ledger's lock: what a share does, one hold each.
 
-ghost use Rattle.std.specs.Prelude.{◌≡◌, ◌+◌, ◌^◌, ◌<◌, ◌≤◌, false, cond};
+ghost use Rattle.std.specs.Prelude.{◌≡◌, ◌+◌, ◌^◌, ◌<◌, ◌≤◌, [], false, true, cond};
 ghost use Rattle.crossbeam_queue.specs.Fifo.{Learns, Pushes};
 ghost use Rattle.crossbeam_queue.specs.Passes.{IsPassOf, ruled_capacity, view};
 ghost use Rattle.ledger.specs.Amounts.{total_bound};
-ghost use Rattle.ledger.specs.Figures.{clearing, figures, finding, owing, setting};
+ghost use Rattle.ledger.specs.Figures.{clearing, figures, finding, finding_none, owing, setting};
 ghost use Rattle.ledger.specs.Lock.{IsHeldByOne, IsSeen, first, holding};
 
 use crate::figures::NOTHING_OWED;
 use crate::lock_rule::{
-    Finds, Grabs, Known, Lock, LockPass, Lowers, Quiets, Raises, Returns, Sets, State,
+    Begins, Finds, Grabs, Known, Lock, LockPass, Lowers, Misses, Quiets, Raises, Sets, State, Stays,
 };
 use crossbeam_queue::protocol::{Lesson, Outcome};
 use crossbeam_utils::Backoff;
@@ -32,6 +32,7 @@ fn grab<R: Wait>(rt: &R, lock: &Lock, pass: &mut LockPass) -> State
     ensures pass { IsPassOf lock.now pass.new }
     ensures holds { view pass.new ≡ holding (view pass.old) result }
     ensures bounds { (2 ^ 61 < result.balance) × (result.balance < 2 ^ 63) }
+    ensures told { 0 < (view pass.old).figures.finds → result.flag ≡ true }
 {
     let backoff = Backoff::new();
     for _ in rt.forever() {
@@ -73,13 +74,13 @@ pub fn begin<R: Wait>(rt: &R, lock: &Lock, pass: &mut LockPass, owners: u16)
     requires first { view pass.old ≡ first }
     ensures pass { IsPassOf lock.now pass.new }
     ensures free { (view pass.new).holds ≡ false }
-    ensures then { (view pass.new).figures ≡ figures 64 owners 0 0 0 0 }
+    ensures then { (view pass.new).figures ≡ figures 64 owners 0 0 0 0 [] }
 {
     let next = State {
         balance: NOTHING_OWED + owners as u64,
         flag: false,
     };
-    give::<Raises, R>(rt, lock, pass, next);
+    give::<Begins, R>(rt, lock, pass, next);
 }
 
 /// Owes so much more.
@@ -144,14 +145,15 @@ pub fn find<R: Wait>(rt: &R, lock: &Lock, pass: &mut LockPass) -> bool
     ensures free { (view pass.new).holds ≡ false }
     ensures found { result ≡ (view pass.new).held.flag }
     ensures then { (view pass.new).figures
-        ≡ cond result (finding (view pass.old).figures) (view pass.old).figures }
+        ≡ cond result (finding (view pass.old).figures) (finding_none (view pass.old).figures) }
+    ensures told { 0 < (view pass.old).figures.finds → result ≡ true }
 {
     let state = grab(rt, lock, pass);
     if state.flag {
         give::<Finds, R>(rt, lock, pass, state);
         true
     } else {
-        give::<Returns, R>(rt, lock, pass, state);
+        give::<Misses, R>(rt, lock, pass, state);
         false
     }
 }
@@ -165,6 +167,7 @@ pub fn inspect<R: Wait>(rt: &R, lock: &Lock, pass: &mut LockPass) -> Look
     ensures free { (view pass.new).holds ≡ false }
     ensures then { IsSeen (view pass.new).held (view pass.old).figures (view pass.new).figures
         result }
+    ensures told { 0 < (view pass.old).figures.finds → (view pass.new).held.flag ≡ true }
 {
     let state = grab(rt, lock, pass);
     if state.flag {
@@ -175,6 +178,6 @@ pub fn inspect<R: Wait>(rt: &R, lock: &Lock, pass: &mut LockPass) -> Look
         give::<Quiets, R>(rt, lock, pass, state);
         return Look::Quiet;
     }
-    give::<Returns, R>(rt, lock, pass, state);
+    give::<Stays, R>(rt, lock, pass, state);
     Look::Open
 }

@@ -29,7 +29,7 @@ pub struct LockShare {
     ghost some: { 0 < (view pass).figures.parts },
     ghost knows: { (view pass).figures
         ≡ figures (view pass).figures.parts account.owed account.cleared 0
-        (bit account.called) (bit marked) },
+        (bit account.called) (bit marked) (view pass).figures.steps },
     ghost few: { (account.owed < total_bound) × (account.cleared < total_bound) },
 }
 
@@ -42,6 +42,7 @@ pub struct LockLeft {
     ghost free: { (view pass).holds ≡ false },
     ghost knows: { (view pass).figures
         ≡ figures (view pass).figures.parts account.owed account.cleared
-        (cond quiet (view pass).figures.parts 0) (bit account.called) (bit (not quiet)) },
+        (cond quiet (view pass).figures.parts 0) (bit account.called) (bit (not quiet))
+        (view pass).figures.steps },
     ghost few: { (account.owed < total_bound) × (account.cleared < total_bound) },
 }

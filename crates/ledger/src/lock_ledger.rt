@@ -30,8 +30,8 @@ use std::sync::Wait;
 /// leaving the processor. That a share gets the lock, or gets it in its turn, is not promised.
 ///
 /// # Cost
-/// A call of a share takes as long as its hold, and owing nothing takes none; `open` and `gather`
-/// take a step for each owner (neither is proved).
+/// A call of a share takes as long as its hold; `open` and `gather` take a step for each owner
+/// (neither is proved).
 #[derive(Clone, Copy)]
 pub struct LockLedger<R> {
     /// By which the shares wait.
@@ -51,7 +51,8 @@ impl<R> LockLedger<R> {
 fn share_of(number: u16, pass: LockPass) -> LockShare
     requires free { (view pass).holds ≡ false }
     requires some { 0 < (view pass).figures.parts }
-    requires knows { (view pass).figures ≡ figures (view pass).figures.parts 1 0 0 0 0 }
+    requires knows { (view pass).figures ≡ figures (view pass).figures.parts 1 0 0 0 0
+        (view pass).figures.steps }
     ensures account { (result.account.number ≡ number)
         × (result.account.owed ≡ 1) × (result.account.cleared ≡ 0)
         × (result.account.called ≡ false) × (result.marked ≡ false) }
@@ -74,7 +75,7 @@ fn share_of(number: u16, pass: LockPass) -> LockShare
 fn deal<R>(book: &LockBook<R>, pass: LockPass, shares: &mut Vec<LockShare>)
     requires pass { IsPassOf book.now.lock pass }
     requires free { (view pass).holds ≡ false }
-    requires rest { (view pass).figures ≡ figures 64 book.now.owners 0 0 0 0 }
+    requires rest { (view pass).figures ≡ figures 64 book.now.owners 0 0 0 0 [] }
     requires room { (shares.old.items ≡ []) × (book.now.owners ≤ vec_capacity shares.old) }
     ensures count { vec_len shares.new ≡ book.now.owners }
     ensures shares { (place : ℕ) (share : LockShare)
@@ -94,6 +95,7 @@ impl<R: Wait + Copy + Send + Sync> Ledger for LockLedger<R> {
     ghost use Rattle.std.specs.List.{sum_by};
     ghost use Rattle.ledger.specs.LockShares.{IsLeftOf, IsOf, cleared_by, has_called, is_quiet};
     ghost use Rattle.ledger.specs.LockShares.{number_left, owed_by, owners_of};
+    ghost use Rattle.ledger.specs.LockShares.{steps_left, steps_of};
     ghost use Rattle.ledger.specs.declared.lock_book.LockLeft.{LockLeft};
 
     type Book = LockBook<R>;
@@ -116,6 +118,8 @@ impl<R: Wait + Copy + Send + Sync> Ledger for LockLedger<R> {
 
     ghost marked = { λ share. share.marked };
 
+    ghost steps = { steps_of };
+
     ghost left_belongs = { IsLeftOf };
 
     ghost left_number = { number_left };
@@ -127,6 +131,8 @@ impl<R: Wait + Copy + Send + Sync> Ledger for LockLedger<R> {
     ghost left_called = { has_called };
 
     ghost left_quiet = { is_quiet };
+
+    ghost left_steps = { steps_left };
 
     fn open(&self, alloc: Global, owners: u16) -> Result<(LockBook<R>, Vec<LockShare>), Memory> {
         let mut shares = Vec::with_capacity(alloc, owners as usize)?;
@@ -142,9 +148,6 @@ impl<R: Wait + Copy + Send + Sync> Ledger for LockLedger<R> {
     }
 
     fn owe(book: &LockBook<R>, share: &mut LockShare, amount: u64) {
-        if amount == 0 {
-            return;
-        }
         raise(&book.rt, &book.lock, &mut share.pass, amount);
         share.account.owed += amount;
     }
@@ -161,9 +164,7 @@ impl<R: Wait + Copy + Send + Sync> Ledger for LockLedger<R> {
     }
 
     fn stopped(book: &LockBook<R>, share: &mut LockShare) -> bool {
-        if !share.marked {
-            share.marked = find(&book.rt, &book.lock, &mut share.pass);
-        }
+        share.marked = find(&book.rt, &book.lock, &mut share.pass);
         share.marked
     }
 
@@ -173,13 +174,6 @@ impl<R: Wait + Copy + Send + Sync> Ledger for LockLedger<R> {
             marked,
             mut pass,
         } = share;
-        if marked {
-            return Leave::Stopped(LockLeft {
-                account,
-                quiet: false,
-                pass,
-            });
-        }
         match inspect(&book.rt, &book.lock, &mut pass) {
             Look::Flag => Leave::Stopped(LockLeft {
                 account,

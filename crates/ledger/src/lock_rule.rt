@@ -43,18 +43,38 @@ pub type Lock = RuledArrayQueue<State, Known, HeldByOne>;
 /// A pass of a lock.
 pub type LockPass = Pass<State, Known>;
 
-/// A pop: a hold begins. The balance is far from the ends of its type.
+/// A pop: a hold begins. The balance is far from the ends of its type. Who knows that the flag is
+/// set finds it set.
 pub struct Grabs;
 
 impl Outcome<State, Known> for Grabs {
-    ghost use Rattle.std.specs.Prelude.{◌≡◌, ◌<◌, ◌^◌};
+    ghost use Rattle.std.specs.Prelude.{◌≡◌, ◌<◌, ◌^◌, true};
     ghost use Rattle.ledger.specs.Lock.{holding};
 
     ghost then = { λ old found new. (new ≡ holding old found)
-        × (2 ^ 61 < found.balance) × (found.balance < 2 ^ 63) };
+        × (2 ^ 61 < found.balance) × (found.balance < 2 ^ 63)
+        × (0 < old.figures.finds → found.flag ≡ true) };
 }
 
 impl Lesson<State, Known> for Grabs {
+    ghost use Rattle.std.specs.Prelude.{⊤};
+
+    ghost fact = { λ old items. ⊤ };
+}
+
+/// The first push of all: what is owed is as much as the balance, and no share has made a step.
+pub struct Begins;
+
+impl Outcome<State, Known> for Begins {
+    ghost use Rattle.std.specs.Prelude.{◌≡◌, ◌-◌, []};
+    ghost use Rattle.ledger.specs.Figures.{noting, owing};
+    ghost use Rattle.ledger.specs.Lock.{released};
+
+    ghost then = { λ old put new. new
+        ≡ released old (noting (owing old.figures (put.balance - old.held.balance)) []) };
+}
+
+impl Lesson<State, Known> for Begins {
     ghost use Rattle.std.specs.Prelude.{⊤};
 
     ghost fact = { λ old items. ⊤ };
@@ -130,15 +150,32 @@ impl Lesson<State, Known> for Finds {
     ghost fact = { λ old items. ⊤ };
 }
 
-/// A push: a hold ends. The share left on quiet.
+/// A push: a hold ends. The share found that the flag isn't set.
+pub struct Misses;
+
+impl Outcome<State, Known> for Misses {
+    ghost use Rattle.std.specs.Prelude.{◌≡◌};
+    ghost use Rattle.ledger.specs.Figures.{finding_none};
+    ghost use Rattle.ledger.specs.Lock.{released};
+
+    ghost then = { λ old put new. new ≡ released old (finding_none old.figures) };
+}
+
+impl Lesson<State, Known> for Misses {
+    ghost use Rattle.std.specs.Prelude.{⊤};
+
+    ghost fact = { λ old items. ⊤ };
+}
+
+/// A push: a hold ends. The share found that the flag isn't set, and left on quiet.
 pub struct Quiets;
 
 impl Outcome<State, Known> for Quiets {
     ghost use Rattle.std.specs.Prelude.{◌≡◌};
-    ghost use Rattle.ledger.specs.Figures.{quieting};
+    ghost use Rattle.ledger.specs.Figures.{finding_none, quieting};
     ghost use Rattle.ledger.specs.Lock.{released};
 
-    ghost then = { λ old put new. new ≡ released old (quieting old.figures) };
+    ghost then = { λ old put new. new ≡ released old (quieting (finding_none old.figures)) };
 }
 
 impl Lesson<State, Known> for Quiets {
@@ -147,17 +184,18 @@ impl Lesson<State, Known> for Quiets {
     ghost fact = { λ old items. ⊤ };
 }
 
-/// A push: a hold ends, and nothing changed.
-pub struct Returns;
+/// A push: a hold ends. The share found that the flag isn't set, nor the balance 0.
+pub struct Stays;
 
-impl Outcome<State, Known> for Returns {
+impl Outcome<State, Known> for Stays {
     ghost use Rattle.std.specs.Prelude.{◌≡◌};
+    ghost use Rattle.ledger.specs.Figures.{finding_none, staying};
     ghost use Rattle.ledger.specs.Lock.{released};
 
-    ghost then = { λ old put new. new ≡ released old old.figures };
+    ghost then = { λ old put new. new ≡ released old (staying (finding_none old.figures)) };
 }
 
-impl Lesson<State, Known> for Returns {
+impl Lesson<State, Known> for Stays {
     ghost use Rattle.std.specs.Prelude.{⊤};
 
     ghost fact = { λ old items. ⊤ };

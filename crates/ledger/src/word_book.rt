@@ -27,7 +27,7 @@ pub struct WordShare {
     ghost some: { 0 < seat.me.0.parts },
     ghost knows: { seat.me ≡ (
       figures seat.me.0.parts account.owed account.cleared 0
-          (bit account.called) (bit marked),
+          (bit account.called) (bit marked) seat.me.0.steps,
       [],
     ) },
     ghost few: { (account.owed < total_bound) × (account.cleared < total_bound) },
@@ -41,6 +41,6 @@ pub struct WordLeft {
     pub(crate) seat: WordSeat,
     ghost empty: { seat.me.1 ≡ [] },
     ghost knows: { seat.me.0 ≡ figures seat.me.0.parts account.owed account.cleared
-        (cond quiet seat.me.0.parts 0) (bit account.called) (bit (not quiet)) },
+        (cond quiet seat.me.0.parts 0) (bit account.called) (bit (not quiet)) seat.me.0.steps },
     ghost few: { (account.owed < total_bound) × (account.cleared < total_bound) },
 }

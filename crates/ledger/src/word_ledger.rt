@@ -5,13 +5,14 @@
 //! so where all shares have left, and their seats are put together, the account of all is what the
 //! rule knows of the whole.
 
-ghost use Rattle.std.specs.Prelude.{◌≡◌, ◌+◌, ◌-◌, ◌<◌, ◌≤◌, ℕ, [], false, true};
+ghost use Rattle.std.specs.Prelude.{◌≡◌, ◌+◌, ◌-◌, ◌<◌, ◌≤◌, ℕ, [], ◌∷◌, cond, false, true};
 ghost use Rattle.std.specs.Prelude.{Some, slice_get, vec_capacity, vec_len};
 ghost use Rattle.std.specs.List.{sum_by};
-ghost use Rattle.ledger.specs.Figures.{figures};
+ghost use Rattle.ledger.specs.Figures.{figures, quieting, staying};
 ghost use Rattle.ledger.specs.WordShares.{IsNewShare, IsWordLeft, IsWordShare};
 ghost use Rattle.ledger.specs.declared.word_book.WordLeft.{WordLeft};
 ghost use Rattle.ledger.specs.declared.word_book.WordShare.{WordShare};
+ghost use Rattle.ledger.specs.declared.step.LedgerStep.TheVariants.{FlagSeen};
 
 use crate::figures::{Account, NOTHING_OWED};
 use crate::ledger::{Leave, Ledger, ThreadLedger, Totals};
@@ -25,8 +26,8 @@ use std::alloc::Global;
 /// Ledgers of two atomic words, the balance and the stop flag. No call waits.
 ///
 /// # Cost
-/// A call of a share takes one atomic step, `leave` two at most, and owing nothing none; `open` and
-/// `gather` take a step for each owner (neither is proved). `open` alone asks for memory.
+/// A call of a share takes one atomic step, `leave` two at most; `open` and `gather` take a step
+/// for each owner (neither is proved). `open` alone asks for memory.
 #[derive(Clone, Copy, Debug, PartialEq, Eq)]
 pub struct WordLedger;
 
@@ -42,7 +43,7 @@ impl WordLedger {
 // A share of this number, which has done nothing yet.
 fn share_of(number: u16, seat: WordSeat) -> WordShare
     requires some { 0 < seat.me.0.parts }
-    requires knows { seat.me ≡ (figures seat.me.0.parts 1 0 0 0 0, []) }
+    requires knows { seat.me ≡ (figures seat.me.0.parts 1 0 0 0 0 seat.me.0.steps, []) }
     ensures account { (result.account.number ≡ number)
         × (result.account.owed ≡ 1) × (result.account.cleared ≡ 0)
         × (result.account.called ≡ false) × (result.marked ≡ false) }
@@ -64,7 +65,7 @@ fn share_of(number: u16, seat: WordSeat) -> WordShare
 // Deals a share to each owner. The last one keeps the first seat.
 fn deal(book: &WordBook, seat: WordSeat, shares: &mut Vec<WordShare>)
     requires seat { seat.table_id ≡ book.now.table.shared.table_id }
-    requires rest { seat.me ≡ (figures 64 book.now.owners 0 0 0 0, []) }
+    requires rest { seat.me ≡ (figures 64 book.now.owners 0 0 0 0 [], []) }
     requires room { (shares.old.items ≡ []) × (book.now.owners ≤ vec_capacity shares.old) }
     ensures count { vec_len shares.new ≡ book.now.owners }
     ensures shares { (place : ℕ) (share : WordShare)
@@ -86,10 +87,21 @@ fn look(book: &WordBook, share: &mut WordShare) -> bool
     ensures account { share.new.account ≡ share.old.account }
     ensures marks { share.new.marked ≡ result }
     ensures told { share.old.marked ≡ true → result ≡ true }
+    ensures step { share.new.seat.me.0.steps ≡ FlagSeen result ∷ share.old.seat.me.0.steps }
 {
     let found = book.table.shared.load::<Looks>(&mut share.seat, FLAG);
     share.marked = found != 0;
     found != 0
+}
+
+// Looks at the balance. Answers whether it is 0.
+fn weigh(book: &WordBook, seat: &mut WordSeat) -> bool
+    requires { seat.old.table_id ≡ book.now.table.shared.table_id }
+    ensures book { seat.new.table_id ≡ seat.old.table_id }
+    ensures then { seat.new.me
+        ≡ (cond result (quieting seat.old.me.0) (staying seat.old.me.0), seat.old.me.1) }
+{
+    book.table.shared.load::<Leaves>(seat, BALANCE) == NOTHING_OWED
 }
 
 impl Ledger for WordLedger {
@@ -118,6 +130,8 @@ impl Ledger for WordLedger {
 
     ghost marked = { λ share. share.marked };
 
+    ghost steps = { λ share. share.seat.me.0.steps };
+
     ghost left_belongs = { IsWordLeft };
 
     ghost left_number = { λ left. left.account.number };
@@ -130,6 +144,8 @@ impl Ledger for WordLedger {
 
     ghost left_quiet = { λ left. left.quiet };
 
+    ghost left_steps = { λ left. left.seat.me.0.steps };
+
     fn open(&self, alloc: Global, owners: u16) -> Result<(WordBook, Vec<WordShare>), Memory> {
         let mut shares = Vec::with_capacity(alloc, owners as usize)?;
         let owed = owners as u64;
@@ -140,9 +156,6 @@ impl Ledger for WordLedger {
     }
 
     fn owe(book: &WordBook, share: &mut WordShare, amount: u64) {
-        if amount == 0 {
-            return;
-        }
         book.table
             .shared
             .fetch_add::<Owes>(&mut share.seat, BALANCE, amount);
@@ -183,7 +196,7 @@ impl Ledger for WordLedger {
             marked,
             mut seat,
         } = share;
-        if book.table.shared.load::<Leaves>(&mut seat, BALANCE) == NOTHING_OWED {
+        if weigh(book, &mut seat) {
             Leave::Quiet(WordLeft {
                 account,
                 quiet: true,

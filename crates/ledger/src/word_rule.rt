@@ -18,12 +18,13 @@ pub const FLAG: usize = 1;
 pub struct TwoWords;
 
 impl TableRule<(), Figures, u64> for TwoWords {
+    ghost use Rattle.std.specs.Prelude.{[]};
     ghost use Rattle.ledger.specs.Figures.{figures};
     ghost use Rattle.ledger.specs.Words.{AreWords};
 
     ghost holds = { λ _ s. AreWords s };
 
-    ghost first = { λ owners. figures 64 owners 0 0 0 0 };
+    ghost first = { λ owners. figures 64 owners 0 0 0 0 [] };
 }
 
 /// The words of a book.

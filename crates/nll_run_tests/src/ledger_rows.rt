@@ -1,9 +1,10 @@
 //! Rows of calls on ledgers of both kinds, through the bound of all ledgers.
 
-ghost use Rattle.std.specs.Prelude.{◌≡◌};
+ghost use Rattle.std.specs.Prelude.{◌≡◌, ◌<◌};
+ghost use Rattle.ledger.specs.Amounts.{amount_bound};
 
 use super::many_owners::all_leave;
-use super::two_owners::{Way, leave_both, open_two, owe_and_stay, stop_and_look};
+use super::two_owners::{Way, leave_both, open_two, owe_and_stay, stop_and_look, try_to_leave};
 use nll_ledger::{LockLedger, ThreadLedger, Totals, WordLedger};
 use nll_sets::Memory;
 use std::alloc::Global;
@@ -93,6 +94,59 @@ fn flag_goes_before_the_balance(rt: HostRuntime) -> Result<(), Fail> {
     let want = (Way::Stopped, Way::Stopped, Some(totals));
     assert_eq!(rt; by_lock, want);
     assert_eq!(rt; by_words, want);
+    Ok(())
+}
+
+// What the second owner is told, which has owed and cleared nothing, after the first one cleared so
+// much and stopped all: by `stopped`, if it looks, and as it leaves. If it is early, it would have
+// left before. `None` if it could.
+fn told_when_fresh<L: ThreadLedger>(
+    alloc: Global,
+    ledger: &L,
+    cleared: u64,
+    early: bool,
+    looks: bool,
+) -> Result<Option<(bool, Way)>, Memory>
+    requires { cleared < amount_bound }
+{
+    let (book, mut first, second) = open_two(alloc, ledger)?;
+    let back = if early {
+        try_to_leave::<L>(&book, second).2
+    } else {
+        Some(second)
+    };
+    let Some(mut second) = back else {
+        return Ok(None);
+    };
+    L::clear(&book, &mut first, cleared);
+    L::stop(&book, &mut first);
+    let told = looks && L::stopped(&book, &mut second);
+    let (way, _, _) = try_to_leave::<L>(&book, second);
+    Ok(Some((told, way)))
+}
+
+// A share that has owed and cleared nothing finds a stop by `stopped` and by `leave`, at a balance
+// of 2 and of 0, also after it would have left.
+#[test]
+fn a_fresh_share_finds_a_stop(rt: HostRuntime) -> Result<(), Fail> {
+    let rows = [
+        (0, false, false),
+        (0, false, true),
+        (0, true, false),
+        (0, true, true),
+        (2, false, false),
+        (2, false, true),
+        (2, true, false),
+        (2, true, true),
+    ];
+    for (cleared, early, looks) in rows {
+        let lock = LockLedger::new(rt);
+        let by_lock = told_when_fresh(rt.alloc(), &lock, cleared, early, looks)?;
+        let by_words = told_when_fresh(rt.alloc(), &WordLedger, cleared, early, looks)?;
+        let want = Some((looks, Way::Stopped));
+        assert_eq!(rt; by_lock, want, "at {cleared} {early} {looks}");
+        assert_eq!(rt; by_words, want, "at {cleared} {early} {looks}");
+    }
     Ok(())
 }
 

@@ -161,6 +161,8 @@ impl<'x, L: ThreadLedger, W: Watch> Ledger for Watched<'x, L, W> {
 
     ghost marked = { λ share. L.marked share.inner };
 
+    ghost steps = { λ share. L.steps share.inner };
+
     ghost left_belongs = { λ book left. L.left_belongs book.inner left };
 
     ghost left_number = { L.left_number };
@@ -172,6 +174,8 @@ impl<'x, L: ThreadLedger, W: Watch> Ledger for Watched<'x, L, W> {
     ghost left_called = { L.left_called };
 
     ghost left_quiet = { L.left_quiet };
+
+    ghost left_steps = { L.left_steps };
 
     fn open(
         &self,

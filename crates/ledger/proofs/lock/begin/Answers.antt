@@ -1,4 +1,4 @@
-use Rattle.std.proofs.Common.{◌+◌, false, ap, sym, arith}
+use Rattle.std.proofs.Common.{◌+◌, [], false, ap, sym, arith}
 use Rattle.crossbeam_queue.specs.Passes.{view, ruled_capacity}
 use Rattle.ledger.specs.Lock.{state_of}
 use Rattle.ledger.specs.declared.lock_rule.Known.{Known}
@@ -12,7 +12,7 @@ give-requires-clause-rule g c =
     let o = ap (λ (y : Known). y.figures.owed) f in
     let p = ap (λ (y : Known). y.figures.parts) f in (
       gives_raised (ruled_capacity c.args.lock.now) c.args.pass.now.id c.args.owners (view c.args.pass.now)
-          (state_of (4611686018427387904 + c.args.owners) false)
+          (state_of (4611686018427387904 + c.args.owners) false) []
           (ap (λ (y : Known). y.holds) f) (omega (arith, b)) (sym (ap (λ (y : Known). y.held.flag) f))
           (omega (arith, p)) (ap (λ (y : Known). y.figures.quiets) f) (omega (arith, o, c.ranges.owners.fits)),
       λ items views at h. tt,

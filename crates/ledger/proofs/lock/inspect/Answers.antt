@@ -1,5 +1,5 @@
 use Rattle.crossbeam_queue.specs.Passes.{view, ruled_capacity}
-use Rattle.ledger.proofs.LockLemmas.{found_after, quiet_after, back_after}
+use Rattle.ledger.proofs.LockLemmas.{found_after, quiet_after, stayed_after}
 use Rattle.ledger.proofs.lock.inspect.Goals as goal
 
 pub give-requires-clause-rule : goal.give-requires-clause-rule
@@ -18,7 +18,7 @@ give-requires-then-state-eq-NOTHING_OWED-clause-rule g c = (
 
 pub give-requires-2-clause-rule : goal.give-requires-2-clause-rule
 give-requires-2-clause-rule g c = (
-  back_after (ruled_capacity c.args.lock.now) c.grab-state.new.pass.id (view c.args.pass.now)
+  stayed_after (ruled_capacity c.args.lock.now) c.grab-state.new.pass.id (view c.args.pass.now)
       (view c.grab-state.new.pass) c.grab-state.result c.grab-state.ensures.holds,
   λ items views at h. tt,
 )

@@ -53,4 +53,5 @@ returns-clause-shares g c =
       is.2,
       is.3,
       is.4,
+      ap (λ (p : Pass State Known). (view p).figures.steps) pass ∙ ap (λ (y : Figures). y.steps) inv.rest,
     )

@@ -45,5 +45,12 @@ returns-clause-shares c =
     ∙ (omega (arith, end, book.few.1) ∙ sym (parts_last book.owners share.account.number (omega (arith, number, end)))))
     in
     each_pushed (IsNewShare book) c.loop-number.shares.items c.push_reserved-2.new.self.items share
-    c.push_reserved-2.ensures.items inv.each
-    ((ap (λ p. p.table_id) seat ∙ inv.seat, parts), omega (arith, number, inv.count), is.1, is.2, is.3, is.4)
+    c.push_reserved-2.ensures.items inv.each (
+      (ap (λ p. p.table_id) seat ∙ inv.seat, parts),
+      omega (arith, number, inv.count),
+      is.1,
+      is.2,
+      is.3,
+      is.4,
+      ap (λ p. p.me.0.steps) seat ∙ ap (λ (m : Me (Unit {0}) Figures). m.0.steps) inv.rest,
+    )
