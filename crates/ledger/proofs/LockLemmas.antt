@@ -124,8 +124,8 @@ gives n port v x e holds change items views room h at =
     )
 
 pub gives_raised : (n port k : ℕ) (v : Known) (x : State) (steps : List LedgerStep) → v.holds ≡ true
-    → x.balance ≡ v.held.balance + k → x.flag ≡ v.held.flag → 0 < v.figures.parts → v.figures.quiets ≡ 0 → v.figures.owed + k ≤ total_bound
-    → Pushes IsHeldByOne n port v x
+    → x.balance ≡ v.held.balance + k → x.flag ≡ v.held.flag → 0 < v.figures.parts → v.figures.quiets ≡ 0
+    → v.figures.owed + k ≤ total_bound → Pushes IsHeldByOne n port v x
     (λ w. w ≡ released v (noting (owing v.figures (x.balance - v.held.balance)) steps))
 gives_raised n port k v x steps holds b f part live few =
     let kk : k ≡ x.balance - v.held.balance = omega arith in
@@ -255,8 +255,8 @@ module _ (n port : ℕ) (u v : Known) (r : State) (e : v ≡ holding u r) where
       → Pushes IsHeldByOne n port v x (λ w. w ≡ released v (owing v.figures (x.balance - v.held.balance)))
   raised_after k x b f part live few =
       gives_raised n port k v x (Owed (x.balance - v.held.balance) ∷ v.figures.steps) holds_is
-      (b ∙ ap (λ (y : State). y.balance + k) held_is) (f ∙ ap (λ (y : State). y.flag) held_is) (some_is part) (live_is live)
-      (subst (λ (y : Figures). y.owed + k ≤ total_bound) (sym entry_is) few)
+      (b ∙ ap (λ (y : State). y.balance + k) held_is) (f ∙ ap (λ (y : State). y.flag) held_is) (some_is part)
+      (live_is live) (subst (λ (y : Figures). y.owed + k ≤ total_bound) (sym entry_is) few)
 
   pub lowered_after : (k : ℕ) (x : State) → x.balance ≡ r.balance - k → k ≤ r.balance → x.flag ≡ r.flag
       → 0 < u.figures.parts → u.figures.quiets ≡ 0 → u.figures.cleared + k ≤ total_bound
