@@ -74,10 +74,10 @@ def no_threads():
     resource.setrlimit(resource.RLIMIT_STACK, (NO_STACK, NO_STACK))
 
 
-def outcome(program, words, folder, seconds, prepare):
-    """Status, standard output and standard error."""
+def outcome(program, words, folder, seconds, prepare, given=""):
+    """Status, standard output and standard error; standard input is a pipe with what is given."""
     try:
-        done = subprocess.run([program, *words.split()], cwd=folder, stdin=subprocess.DEVNULL, capture_output=True,
+        done = subprocess.run([program, *words.split()], cwd=folder, input=given.encode(), capture_output=True,
                               timeout=seconds, check=False, preexec_fn=prepare)
     except subprocess.TimeoutExpired:
         return "no answer in time", "", ""
