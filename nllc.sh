@@ -124,7 +124,8 @@ END
     [ "$home" != "$here" ] ||
         echo "  $called --prove                     proves nllc and builds it; until then a slow build runs"
     cat <<END
-A FILE of - is standard input. rust, facts, mir, page, json, schedule and explain have --help. All else goes to nllc:
+A FILE of - is standard input, but for schedule. rust, facts, mir, page, json, schedule and explain have --help. All else
+goes to nllc:
 
 END
 }
@@ -206,7 +207,10 @@ answer() {
     while [ "$left" -gt 0 ]; do
         word=$1 left=$((left - 1))
         shift
-        [ "$word" != - ] || word=/dev/stdin
+        case $ended$word in
+            - | ./-) word=/dev/stdin ;;
+            --cut=- | --schedule=-) word=${word%-}/dev/stdin ;;
+        esac
         if [ "$wants" ]; then
             note_option "$wants=$word" || form=other
             wants=''

@@ -4,9 +4,11 @@ import json
 import math
 
 from . import telling
-from .called import Parser
+from .called import Parser, called
+from .escaping import visible
 from .facts import ALL
-from .streams import guarded
+from .refusal import Refusal
+from .streams import guarded, tell
 from .texts import content_of, read
 from .words import spans
 
@@ -16,7 +18,7 @@ and each fault with its chain of constraints. docs/answer.schema.json describes 
 
 STATUSES = """\
 status 0: no text has a fault; 1: one has; 2: the arguments, a file or a text was refused; 3: nllc gave no answer, or standard
-output can't be written"""
+output can't be written. The status is the highest of all texts"""
 
 
 def main(arguments):
@@ -31,12 +33,17 @@ def words_of(arguments):
 
 
 def run(asked):
-    status = 0
-    for path in asked.texts:
+    return max(map(answered, asked.texts))
+
+
+def answered(path):
+    """Prints the line of a text, or why there is none, and goes on; the status is that of the text."""
+    try:
         content = content_of(*read(path), most=math.inf)
-        print(json.dumps(answer(content), ensure_ascii=False))
-        status = max(status, 1 if content.faults else 0)
-    return status
+    except Refusal as refusal:
+        return tell(f"{called('json')}: {visible(str(refusal))}", refusal.status)
+    print(json.dumps(answer(content), ensure_ascii=False))
+    return 1 if content.faults else 0
 
 
 def answer(content):

@@ -1,5 +1,6 @@
 """`check`, `values` and `replay` where their words aren't one text and options: several texts, a Rust file, wrong words."""
 
+import contextlib
 import re
 import subprocess
 import sys
@@ -12,6 +13,7 @@ from nll_page.streams import guarded
 OPTIONS = ("--owners", "--deal", "--cut", "--mail", "--schedule")
 CHOICES = {"--deal": ("round", "blocks"), "--mail": ("queue", "ring")}
 MOST_OWNERS = 64
+STANDARD_INPUT = "/dev/stdin"    # nllc.sh writes it for a hyphen
 
 
 class Words(NamedTuple):
@@ -88,9 +90,11 @@ def tell(command, line):
 
 def is_rust(path):
     """Whether a file seems to be Rust: by its name, where it doesn't begin as a text of nllc."""
+    if not path.endswith(".rs"):
+        return False    # a pipe isn't opened: it gives its bytes once
     try:
         with open(path, "rb") as file:
-            return path.endswith(".rs") and not file.read(16).lstrip().startswith(b"nll-")
+            return not file.read(16).lstrip().startswith(b"nll-")
     except OSError:
         return False
 
@@ -102,15 +106,26 @@ def tell_rust(path):
 def several(program, command, words):
     """Has each text answered, with its name before each line; the status is the highest."""
     options = [f"{name}={value}" for name, value in words.options]
-    return max(one_of_several(program, [command, *options], path) for path in words.files)
+    with given_to_each(dict(words.options)) as given:
+        return max(one_of_several(program, [command, *options], path, given) for path in words.files)
 
 
-def one_of_several(program, words, path):
+def given_to_each(options):
+    """The standard input of each call: a cut file that is read from there is read once, for all texts."""
+    if options.get("--cut") != STANDARD_INPUT:
+        return contextlib.nullcontext()
+    copy = nllc.in_memory()
+    copy.write(sys.stdin.buffer.read())
+    return copy
+
+
+def one_of_several(program, words, path, given):
     if is_rust(path):
         tell_rust(path)
         return 2
     before = ["--"] if path.startswith("-") else []
-    with subprocess.Popen([program, *words, *before, path], stdout=subprocess.PIPE, stderr=subprocess.PIPE) as process:
+    with subprocess.Popen([program, *words, *before, path], stdin=given, stdout=subprocess.PIPE,
+                          stderr=subprocess.PIPE) as process:
         for line in process.stdout:
             sys.stdout.write(f"{path}: {line.decode(errors='replace')}")
         said = process.stderr.read().decode(errors="replace")

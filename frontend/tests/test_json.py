@@ -142,9 +142,9 @@ class OfRust(Room):
 class OfTexts(Room):
     """`json FILE`: values as runs with names, faults with their chains, as the schema has it."""
 
-    def answer(self, *paths):
+    def answer(self, *paths, **more):
         done = subprocess.run([RUST, "json", *paths], capture_output=True, check=False, encoding="utf-8",
-                              env=os.environ | {"NLLC": QUICK})
+                              env=os.environ | {"NLLC": QUICK}, **more)
         return done, [json.loads(line) for line in done.stdout.splitlines()]
 
     def test_values_and_a_fault(self):
@@ -172,6 +172,21 @@ class OfTexts(Room):
         for answer in answers:
             self.assertEqual(errors(answer, schema), [], answer["text"])
         self.assertEqual(answers[-1]["faults"][0]["place"]["column"], 5)
+
+    def test_the_highest_status(self):
+        """Each text is answered, and an earlier one has the higher status."""
+        right = "nll-facts 1\npoints 1\nend\n"
+        ok, fault, wrong = (self.write(f"{name}.facts", text) for name, text in (
+            ("ok", right), ("fault", right.replace("end", "universal 'a\nreturn 0\nconstraint 'a 'static 0\nend")),
+            ("wrong", "no text\n")))
+        for paths, status, told in (((fault, ok), 1, [fault, ok]), ((wrong, fault, ok), 2, [fault, ok]),
+                                    ((ok, wrong, fault), 2, [ok, fault]), ((self.room + "/none", ok), 2, [ok])):
+            done, answers = self.answer(*paths)
+            self.assertEqual((done.returncode, [one["text"] for one in answers]), (status, told), paths)
+            self.assertEqual(done.stderr.count("\n"), len(paths) - len(told))
+        for path in ("-", "/dev/stdin"):
+            done, [answer] = self.answer(path, input=right)
+            self.assertEqual((done.returncode, answer["points"]), (0, 1))
 
     def test_no_text(self):
         done, answers = self.answer(self.write("a.facts", "no text\n"))

@@ -14,6 +14,12 @@ echo "own words: $*"
 for file; do :; done
 [ "$file" != /dev/stdin ] || cat
 """
+# Prints its words and its cut file; the last word is its status.
+OF_STATUS = """#!/bin/sh
+for file; do case $file in --cut=*) cut=$(cat "${file#--cut=}") ;; esac; done
+echo "$* has $cut"
+exit "$file"
+"""
 OWN = ("rust FILE.rs", "facts FILE.rs", "page FILE", "schedule FILE", "explain FILE", "version", "--prove")
 
 
@@ -130,6 +136,31 @@ class Words(Wrapper):
         for words in (("check", "-"), ("values", "--owners", "2", "-")):
             done = self.run_script(*words, input="a text")
             self.assertEqual(done.stdout, f"own words: {' '.join(words[:-1])} /dev/stdin\na text")
+
+    def test_a_hyphen_is_standard_input_for_each_option_with_a_file(self):
+        for words, told in ((("check", "F", "--cut", "-"), "check F --cut /dev/stdin"),
+                            (("values", "--cut=-", "F"), "values --cut=/dev/stdin F"),
+                            (("replay", "F", "--schedule", "-"), "replay F --schedule /dev/stdin"),
+                            (("replay", "--schedule=-", "--", "F"), "replay --schedule=/dev/stdin -- F"),
+                            (("check", "--", "-"), "check -- /dev/stdin"),
+                            (("check", "--", "--cut=-"), "check -- --cut=-")):
+            done = self.run_script(*words, input="")
+            self.assertEqual((done.returncode, done.stdout), (0, f"own words: {told}\n"))
+
+    def test_several_texts_have_the_highest_status_and_the_options(self):
+        """An earlier text has the higher status; each gets the options, and the whole cut file of standard input."""
+        self.program("crates/nllc/out/nllc", OF_STATUS)
+        self.write("cut", "in a file")
+        cut, given = self.path("cut"), "/dev/stdin"
+        for options, told, has in (((), "", ""), (("--owners", "2", "--mail=ring"), "--owners=2 --mail=ring ", ""),
+                                   (("--cut", cut), f"--cut={cut} ", "in a file"),
+                                   (("--cut", "-", "--owners=2"), f"--cut={given} --owners=2 ", "on standard input"),
+                                   (("--cut=-",), f"--cut={given} ", "on standard input")):
+            for texts, status in (("310", 3), ("0210", 2), ("100", 1), ("00", 0)):
+                with self.subTest(options=options, texts=texts):
+                    done = self.run_script("check", *options, *texts, input="on standard input")
+                    self.assertEqual((done.returncode, done.stderr), (status, ""))
+                    self.assertEqual(done.stdout, "".join(f"{text}: check {told}{text} has {has}\n" for text in texts))
 
     def test_its_name_is_the_one_that_was_called(self):
         os.symlink(self.path("nllc.sh"), self.path("nllc"))
