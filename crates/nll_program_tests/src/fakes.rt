@@ -2,8 +2,10 @@
 ghost use Rattle.std.specs.Prelude.{◌≡◌, IfOk};
 ghost use Rattle.nll_report.specs.Texts.{holds_anything, lacks_anything};
 
+use super::notes::say;
 use nll_report::{Texts, Unread};
 use std::alloc::Global;
+use std::cell::RefCell;
 use std::io;
 use std::io::{ErrorKind, Write};
 use std::process::Abort;
@@ -155,6 +157,27 @@ impl Texts for Desk<'_> {
         }
         if path == "list" {
             return self.list.to_vec(self.shelf.alloc).or(Err(Unread::Memory));
+        }
+        self.shelf.get(path)
+    }
+}
+
+/// The texts of the shelf, and the paths that were asked for, in order, each after a blank.
+#[derive(Drop)]
+pub struct Counter {
+    pub shelf: Shelf,
+    pub paths: RefCell<String>,
+}
+
+impl Texts for Counter {
+    ghost holds = { λ _. holds_anything };
+
+    ghost lacks = { λ _. lacks_anything };
+
+    fn get(&self, path: &str) -> Result<Vec<u8>, Unread> {
+        if let Ok(mut paths) = self.paths.try_borrow_mut() {
+            say(&mut paths, " ");
+            say(&mut paths, path);
         }
         self.shelf.get(path)
     }

@@ -43,6 +43,8 @@ mod messages;
 #[cfg(test)]
 mod notes;
 #[cfg(test)]
+mod openings;
+#[cfg(test)]
 mod owners;
 #[cfg(test)]
 mod pieces;

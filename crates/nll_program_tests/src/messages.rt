@@ -3,7 +3,7 @@ use super::comparison::compare;
 use super::notes::{count, print, say, say_bytes, show};
 use nll_core::{BuildError, Kind};
 use nll_format::{TextError, TextKind};
-use nll_report::{AnswerError, LineError, Refusal, RuleError, RunError, USAGE, Unread};
+use nll_report::{AnswerError, LineError, Refusal, RuleError, RunError, USAGE, Unread, Unwritten};
 use std::alloc::{AllocError, AllocFailed, Global};
 use std::fmt::Display;
 use std::process::Abort;
@@ -128,14 +128,58 @@ fn compare_displayed<R: Abort + AllocGlobal, T: Display>(rt: &R, value: &T, want
     compare(rt, "an error", out, want);
 }
 
-// Errors and the usage line print what was wrong.
+// Errors of answers, and what they print.
+const ANSWER_ERRORS: &[(AnswerError, &str)] = &[
+    (
+        AnswerError::Text(TextError {
+            line: 7,
+            kind: TextKind::Unknown,
+        }),
+        "line 7: a name that no earlier line declares",
+    ),
+    (
+        AnswerError::Rule(RuleError::Limit(Kind::Constraints)),
+        "more constraints than the limit",
+    ),
+    (AnswerError::Rule(RuleError::Memory), "out of memory"),
+    (
+        AnswerError::Run(RunError::Thread),
+        "a thread couldn't be started",
+    ),
+    (AnswerError::Run(RunError::Memory), "out of memory"),
+    (AnswerError::Memory, "memory was refused"),
+];
+
+// Ends the test unless that is displayed of the error of an answer.
+fn compare_answer_error<R: Abort + AllocGlobal>(rt: &R, error: AnswerError, want: &str) {
+    let want = want.as_bytes();
+    compare_displayed(rt, &error, want);
+    match error {
+        AnswerError::Rule(error) => compare_displayed(rt, &error, want),
+        AnswerError::Run(error) => compare_displayed(rt, &error, want),
+        AnswerError::Text(_) | AnswerError::Memory => {}
+    }
+}
+
+// Errors of answers print what was wrong, and so do those that they hand on.
+#[test]
+fn prints_errors_of_answers(rt: HostRuntime) {
+    for (error, want) in ANSWER_ERRORS {
+        compare_answer_error(&rt, *error, want);
+    }
+}
+
+// Other errors and the usage line print what was wrong.
 #[test]
 fn prints_errors(rt: HostRuntime) {
-    let (line, kind) = (7, TextKind::Unknown);
-    let want = b"line 7: a name that no earlier line declares";
-    compare_displayed(&rt, &TextError { line, kind }, want);
     compare_displayed(&rt, &Unread::Cannot, b"the text cannot be read");
+    compare_displayed(&rt, &Unread::Memory, b"memory was refused");
+    let want = b"writing stopped behind 7 bytes";
+    compare_displayed(&rt, &Unwritten { written: 7 }, want);
+    let help = LineError::Help(String::new(rt.alloc()));
+    compare_displayed(&rt, &help, b"help is asked for");
     compare_displayed(&rt, &LineError::Usage, b"the words are none of the forms");
+    compare_displayed(&rt, &LineError::Memory, b"memory was refused");
     let want = b"usage: nllc values|check|replay FILE [--owners N] [--deal round|blocks] \
         [--cut FILE] [--mail queue|ring] [--schedule FILE]";
     compare_displayed(&rt, &USAGE, want);

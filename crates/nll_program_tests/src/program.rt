@@ -1,12 +1,13 @@
 //! The program over texts and writers of the tests.
 use super::comparison::compare;
-use super::fakes::{Desk, Fault, Faulty, Shelf, words_of};
+use super::fakes::{Counter, Desk, Fault, Faulty, Shelf, words_of};
 use super::known::{Sheet, on_pages};
 use super::notes::{count, print, say, say_bytes};
 use super::page::Page;
 use super::rows::{ALONE, Asked, compare_row, compare_rows, compare_same};
 use nll_report::{Disk, Texts, Unread, drive};
 use std::alloc::Global;
+use std::cell::RefCell;
 use std::process::Abort;
 use std::sync::Wait;
 use std::thread::Threads;
@@ -79,6 +80,23 @@ fn run_over<R: Abort + AllocGlobal + Threads + Wait + Sync, T: Texts>(
         held_by(&out, of_out),
         held_by(&err, of_err),
     )
+}
+
+/// The status of the program with words, and which texts of the shelf it asked for, in order.
+pub fn paths_asked<R: Abort + AllocGlobal + Threads + Wait + Sync>(rt: &R, words: &str) -> String {
+    let words = words_of(rt, rt.alloc(), words);
+    let counter = Counter {
+        shelf: Shelf { alloc: rt.alloc() },
+        paths: RefCell::new(String::new(rt.alloc())),
+    };
+    let (mut out, mut err) = (Page::new(), Page::new());
+    let status = drive(rt, words.as_slice(), &counter, &mut out, &mut err);
+    let mut told = String::new(rt.alloc());
+    count(&mut told, u64::from(status));
+    if let Ok(paths) = counter.paths.try_borrow() {
+        say(&mut told, paths.as_str());
+    }
+    told
 }
 
 /// `help` if the program answers words with status 0 and a text that ends so on standard output.

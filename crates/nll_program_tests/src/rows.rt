@@ -3,7 +3,7 @@
 use super::answers::{answer_handed, answer_to};
 use super::comparison::compare;
 use super::problem_text::said;
-use super::program::{FaultAt, help_told, run, run_at_desk, run_on};
+use super::program::{FaultAt, help_told, paths_asked, run, run_at_desk, run_on};
 use super::words::line_told;
 use nll_report::Command;
 use std::process::Abort;
@@ -29,6 +29,9 @@ pub enum Asked {
     /// What the program does with the words, over the texts of the shelf, if standard output and
     /// standard error have these faults.
     Program(FaultAt, FaultAt),
+    /// The status of the program with the words, and which texts of the shelf it asks for, in
+    /// order.
+    Opened,
     /// Whether the words are answered with help that ends so.
     Help(&'static str),
 }
@@ -86,6 +89,7 @@ pub fn told<R: Abort + AllocGlobal + Threads + Wait + Sync>(
         Asked::Desk(words) => run_at_desk(rt, words, text, b""),
         Asked::Line => line_told(rt, rt.alloc(), words),
         Asked::Program(of_out, of_err) => run(rt, words, of_out, of_err),
+        Asked::Opened => paths_asked(rt, words),
         Asked::Help(end) => help_told(rt, words, end),
     }
 }
