@@ -21,7 +21,7 @@ import tempfile
 from unstarted_threads import FAULT, PROGRAM, ROOT, TEXTS, VALUES, outcome
 
 MOST_BYTES = 1 << 26      # of a text
-MOST_MEMORY = 1 << 28     # of a run
+MOST_MEMORY = 1 << 29     # of a run
 REPLAYED = (0, "1 done\nbalance 1\n" + VALUES[1], "")
 CHAIN, CUT, LOAD = TEXTS["chain"], TEXTS["two"], TEXTS["load"]
 JSON = '"name": "\'1", "is_universal": false'
