@@ -8,7 +8,7 @@
 
 `--of` begins with the words of the function's clauses (`solve`, `Frontier::grow`) and follows each to the
 definition that its file brings in, and so on. It counts the lines of these definitions, without comments, empty
-lines and imports. What the code's own types and the kit's library define is not counted.
+lines, imports and heads of modules. What the code's own types and the kit's library define is not counted.
 """
 
 import argparse
@@ -20,35 +20,28 @@ import signal
 import sys
 
 ROOT = pathlib.Path(__file__).resolve().parents[1]
-ABOVE = re.compile(r"--(?! ----)")                       # a comment that isn't a heading
-HEAD = re.compile(r"(?:abbrev |pub |mutual\b)(?!use |mod )")  # a definition's first line
-ITEM = re.compile(r"^(?:abbrev pub|pub record|pub data) ([^\s:(\[{]+)")
-MUTUAL = re.compile(r"^  pub (?:record |data )?([^\s:(\[{]+)", re.M)
+# Files are as `rt fmt` lays them out: comments (no headings), then what a line begins, which ends at a line that is
+# indented less, or as much and begins something else.
+BLOCK = re.compile(r"((?:^ *--(?! ----).*\n)*)^( *)((?:abbrev |mutual$|module |pub record |pub data ).*\n"
+                   r"(?:(?:\2(?!--|abbrev |mutual$|module |pub |use |\S+ :\s).*)?\n)*)", re.M)
+NAME = r"(?:abbrev )?(?:pub )?(?:record |data )?([^\s:(\[{]+)"
 USE = re.compile(r"^\s*(pub )?(?:ghost )?use Rattle\.((?!std\.)\w+)\.specs\.([\w.]+?)(?:\.\{([^}]*)\}| as (\w+)|);?$", re.M)
 TOKEN = re.compile(r"[^\s(){}\[\],;]+")
 WITHOUT_DEFINITIONS = ("_tests", "nll_worked")
 
-Definition = collections.namedtuple("Definition", "crate file names comment text")
+Definition = collections.namedtuple("Definition", "crate file names modules comment text")
 
 
-def definitions_in(crate, path):
-    """The definitions of a file, in its order; a mutual block is one."""
-    lines, found, comment = path.read_text().split("\n"), [], []
-    at = 0
-    while at < len(lines):
-        line = lines[at]
-        if not HEAD.match(line):
-            comment = [*comment, line] if ABOVE.match(line) else []
-            at += 1
+def definitions_in(crate, file, text, modules=""):
+    """The definitions of a text, in its order, with the heads of modules they stand in; a mutual block is one."""
+    for comment, deep, block in BLOCK.findall(text):
+        head, _, body = block.partition(" where\n")
+        if block.startswith("module "):
+            yield from definitions_in(crate, file, body, f"{modules}{deep}{head} where\n")
             continue
-        end = at + 1
-        while end < len(lines) and not HEAD.match(lines[end]) and not lines[end].startswith(("--", "use ", "pub use")):
-            end += 1
-        text = "\n".join(lines[at:end]).rstrip()
-        names = MUTUAL.findall(text) if line.rstrip().endswith("mutual") else ITEM.findall(line)
-        found.append(Definition(crate, path.stem, tuple(names), "\n".join(comment), text))
-        comment, at = [], end
-    return found
+        is_mutual = block.split("\n", 1)[0].endswith("mutual")
+        names = re.findall(rf"^{deep}  (?=pub ){NAME}" if is_mutual else rf"\A{NAME}", block, re.M)
+        yield Definition(crate, file, tuple(names), modules.rstrip(), comment.rstrip(), f"{deep}{block}".rstrip())
 
 
 @functools.lru_cache
@@ -56,7 +49,7 @@ def all_definitions(root=ROOT):
     crates = [line.partition("#")[0].split(":")[0].split() for line in (root / "crates.txt").read_text().splitlines()]
     return [one for crate in crates if crate and not crate[0].endswith(WITHOUT_DEFINITIONS)
             for path in sorted((root / "crates" / crate[0] / "specs").glob("*.antt")) if path.stem != "Lib"
-            for one in definitions_in(crate[0], path)]
+            for one in definitions_in(crate[0], path.stem, path.read_text())]
 
 
 def brought_in(text):
@@ -137,7 +130,8 @@ def rests_on(root, crate, function):
             continue
         found.add(one)
         names = known(root, one.crate, one.file)
-        todo += [meant(root, names, token) for line in without_comments(one.text) for token in TOKEN.findall(line)]
+        todo += [meant(root, names, token) for line in without_comments(one.modules + one.text)
+                 for token in TOKEN.findall(line)]
     return [one for one in all_definitions(root) if one in found]
 
 
@@ -173,7 +167,7 @@ def main(words, root=ROOT):
         many = [one for one in all_definitions(root) if word in ("", one.crate, one.file)]
         single = [one for one in all_definitions(root) if word in one.names]
         for one in single:
-            print(f"-- {one.crate}, specs/{one.file}.antt", *filter(None, [one.comment]), one.text, sep="\n", end="\n\n")
+            print(f"-- {one.crate}, specs/{one.file}.antt", *filter(None, one[3:]), sep="\n", end="\n\n")
         print(*map(show_short, many if not single else ()), sep="\n", end="\n" if many and not single else "")
         if not many and not single:
             print(f"nothing is named {word}: no crate, no file of specs/ and no definition", file=sys.stderr)

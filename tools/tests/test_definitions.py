@@ -1,5 +1,6 @@
 """Each definition of specs/ has its comment, and tools/definitions.py finds it and what it stands on."""
 
+import collections
 import contextlib
 import io
 import pathlib
@@ -12,7 +13,9 @@ sys.path.insert(0, str(ROOT / "tools"))
 
 import definitions  # noqa: E402 (it stands in tools/)
 
-DEFINED = re.compile(r"^(?:abbrev pub|pub record|pub data) ([^\s:(\[{]+)", re.MULTILINE)
+# A line that begins a definition, at any depth; and one of a mutual block, which has lines that begin with its name.
+BEGUN = re.compile(r"^ *(?:abbrev (?:pub )?(?!mutual)|pub record |pub data )([^\s:(\[{]+)", re.M)
+MUTUAL = re.compile(r"^( +)pub (?!record |data )(\S+) (?=[\s\S]*^\1\2 (?!=))", re.M)
 
 
 def printed(*words):
@@ -22,38 +25,67 @@ def printed(*words):
     return status, out.getvalue(), err.getvalue()
 
 
+def is_lemma(crate, file, name):
+    return f"\npub {name} : " in (ROOT / "crates" / crate / "specs" / f"{file}.antt").read_text()
+
+
 def rests_on(crate, function):
     return {name for one in definitions.rests_on(ROOT, crate, function) for name in one.names}
 
 
-class Comments(unittest.TestCase):
-    def test_each_definition_has_one(self):
-        """Of a block of mutual definitions each, or the block."""
+class All(unittest.TestCase):
+    def test_each_has_a_comment(self):
+        """Each public definition; of a block of mutual ones each, or the block."""
         silent = []
         for one in definitions.all_definitions():
-            lines = one.text.split("\n")
-            for at, line in enumerate(lines):
-                found = definitions.ITEM.match(line) or definitions.MUTUAL.match(line)
-                if found and not one.comment and not (at and lines[at - 1].strip().startswith("--")):
-                    silent.append(f"{one.crate} {one.file}.{found[1]}")
+            head = one.text.split("\n", 1)[0]
+            is_told = one.comment or "pub " not in head and (
+                "mutual" not in head or len(re.findall(r"^ *--.*\n *pub ", one.text, re.M)) == len(one.names))
+            silent += [] if is_told else [f"{one.crate} {one.file}.{', '.join(one.names)}"]
         self.assertEqual(silent, [])
 
-    def test_each_definition_is_found(self):
-        found = {(one.crate, one.file, name) for one in definitions.all_definitions() for name in one.names}
-        crates = {crate for crate, _, _ in found}
-        for path in sorted((ROOT / "crates").glob("*/specs/*.antt")):
-            if path.parts[-3] in crates:
-                names = DEFINED.findall(path.read_text())
-                self.assertEqual([name for name in names if (path.parts[-3], path.stem, name) not in found], [], path)
+    def test_each_line_that_begins_one_is_found(self):
+        found, begun = collections.Counter(), collections.Counter()
+        for one in definitions.all_definitions():
+            found.update((one.crate, one.file, name) for name in one.names)
+        for path in (ROOT / "crates").glob("*/specs/*.antt"):
+            if not path.parts[-3].endswith(definitions.WITHOUT_DEFINITIONS):
+                text = path.read_text()
+                names = BEGUN.findall(text) + [name for _, name in MUTUAL.findall(text)]
+                begun.update((path.parts[-3], path.stem, name) for name in names)
+        self.assertGreater(sum(begun.values()), 1000)
+        self.assertEqual((begun - found, found - begun), (collections.Counter(), collections.Counter()))
+
+    def test_each_name_that_a_file_brings_in_is_found(self):
+        """The kit refuses an import of what isn't there; only lemmas aren't definitions."""
+        crates, unknown = {one.crate for one in definitions.all_definitions()}, set()
+        for path in [*(ROOT / "crates").glob("*/src/**/*.rt"), *(ROOT / "crates").glob("*/*/**/*.antt")]:
+            for crate, file, name in definitions.brought_in(path.read_text()).values():
+                if name and crate in crates and "." not in file and name not in definitions.known(ROOT, crate, file):
+                    unknown.add((crate, file, name))
+        self.assertEqual([one for one in sorted(unknown) if not is_lemma(*one)], [])
 
 
 class Printing(unittest.TestCase):
     def test_one_definition(self):
         status, out, _ = printed("Least")
         source = (ROOT / "crates/nll_problem/specs/Solution.antt").read_text()
-        head, _, rest = out.partition("\n")
+        head, _, rest = out.split("\n\n")[0].partition("\n")
         self.assertEqual((status, head), (0, "-- nll_problem, specs/Solution.antt"))
         self.assertIn(rest.strip(), source)
+
+    def test_one_in_a_module(self):
+        """With the heads of its modules, whose parameters it has."""
+        _, out, _ = printed("IsEnded")
+        source = (ROOT / "crates/worker/specs/Finishing.antt").read_text().split("\n")
+        file, *lines = out.rstrip().split("\n")
+        self.assertEqual(file, "-- worker, specs/Finishing.antt")
+        self.assertEqual([line for line in lines if line not in source], [])
+        self.assertEqual([line.split("{")[0].rstrip() for line in lines if "module" in line], ["module _", "  module _"])
+        self.assertIn("pub shuts :", out)
+
+    def test_one_ends_where_a_module_begins(self):
+        self.assertEqual(printed("log_of")[1].split("\n")[3:], ["log_of logs i = slice_index_or logs i []", "", ""])
 
     def test_a_file_and_a_crate(self):
         self.assertIn("nll_problem Solution.Least: the region r holds e under", printed("Solution")[1])
@@ -74,6 +106,12 @@ class Resting(unittest.TestCase):
     def test_a_method_and_a_law(self):
         self.assertIn("IsFrontierIn", rests_on("nll_core", "Frontier::grow"))
         self.assertIn("IsFaultOfText", rests_on("nll_facts", "facts_one_fault"))
+
+    def test_what_stands_in_modules(self):
+        """And not all of the module where a contract rests on what stands before it."""
+        self.assertLessEqual({"Rules", "IsClosed", "Least", "IsWellSupported", "AreSound"}, rests_on("run", "run"))
+        self.assertIn("log_of", rests_on("nll_run", "run"))
+        self.assertFalse({"Rules", "most_parts"} & rests_on("nll_run", "run"))
 
     def test_names_that_a_file_hands_on(self):
         """`IsEarlier` is of another file than that from which a contract has it."""
