@@ -8,8 +8,13 @@ import unittest
 from concurrent.futures import ThreadPoolExecutor
 
 ROOT = pathlib.Path(__file__).resolve().parents[2]
+sys.path.insert(0, str(ROOT / "tools"))
+
+import definitions  # noqa: E402 (it stands in tools/)
+
 DOCUMENTS = ["README.md", "docs/LEARNING.md"]
 ANSWER = re.compile(r"\./nllc\.sh (values|check) ")
+OF_NO_CRATE = {"HANDLES", "pthread_create", "pthread_join", "sched_yield", "syscall"}
 
 
 def shown(document):
@@ -82,6 +87,35 @@ class Documents(unittest.TestCase):
         self.assertTrue(rows)
         for row in rows:
             self.assertLessEqual(set(row.split(", ")), set(claims))
+
+    def test_clauses(self):
+        """Each function, type and clause that a claim's clauses name stands in the file that was named last."""
+        others = {name for one in definitions.all_definitions() for name in (one.crate, *one.names)}
+        for bullet in re.findall(r"^- Clauses?: ((?:.*\n)(?:  .*\n)*)", (ROOT / "docs/dev/CLAIMS.md").read_text(), re.MULTILINE):
+            folder, text = None, None
+            for name in re.findall(r"`([^`]+)`", bullet):
+                if name.endswith(".rt"):
+                    folder = ROOT / name.partition("/src/")[0] if name.startswith("crates/") else folder
+                    [path] = [path for path in folder.rglob("*.rt") if path.match(name)]
+                    text = path.read_text()
+                elif name not in others:
+                    with self.subTest(file=path.relative_to(ROOT), name=name):
+                        for word in name.split("::"):
+                            stands = rf"\b(?:fn|ensures|trait|struct|enum) {word}\b|^impl\b.*\b{word}\b"
+                            self.assertTrue(re.search(stands, text, re.MULTILINE))
+
+    def test_names(self):
+        """Each name in what is said of the crates is a word of some source of a crate, or the name of a file."""
+        paths = [path for folder in ("crates", "check", "bench", "tools") for path in (ROOT / folder).rglob("*")
+                 if "out" not in path.parts]
+        words = {word for path in paths for word in path.name.split(".")}
+        for path in paths:
+            if path.suffix in (".rt", ".antt"):
+                words.update(re.findall(r"\w+", path.read_text()))
+        for document in ("docs/PROOF.md", "docs/READING.md", "docs/dev/CLAIMS.md"):
+            named = re.findall(r"`([A-Za-z]\w*(?:::\w+)*)`", (ROOT / document).read_text())
+            with self.subTest(document=document):
+                self.assertEqual({word for name in named for word in name.split("::")} - words - OF_NO_CRATE, set())
 
     def test_links(self):
         """Each document that a document names is there."""
