@@ -12,7 +12,7 @@ import definitions  # noqa: E402 (it stands in tools/)
 
 TEXT = (ROOT / "docs/PROOF.md").read_text()
 SHOWN = ("abbrev pub ", "pub record ", "pub fn ", "-- ")
-MUST = ("Least", "AreFaults", "solve", "read_facts", "run", "drive")
+MUST = ("Least", "AreFaults", "solve", "read_facts", "run", "IsRunOutcome", "drive")
 MOST_APART = 0.05       # of counts, which change with each definition
 
 
