@@ -14,7 +14,7 @@ import definitions  # noqa: E402 (it stands in tools/)
 
 DOCUMENTS = ["README.md", "docs/LEARNING.md"]
 ANSWER = re.compile(r"\./nllc\.sh (values|check) ")
-OF_NO_CRATE = {"HANDLES", "pthread_create", "pthread_join", "sched_yield", "syscall"}
+OF_NO_CRATE = {"Are", "HANDLES", "pthread_create", "pthread_join", "sched_yield", "syscall"}
 
 
 def shown(document):
@@ -105,17 +105,21 @@ class Documents(unittest.TestCase):
                             self.assertTrue(re.search(stands, text, re.MULTILINE))
 
     def test_names(self):
-        """Each name in what is said of the crates is a word of some source of a crate, or the name of a file."""
+        """Each name in what is said of the crates is a word of some source of a crate, or the name of a file; each file is
+        there."""
         paths = [path for folder in ("crates", "check", "bench", "tools") for path in (ROOT / folder).rglob("*")
                  if "out" not in path.parts]
         words = {word for path in paths for word in path.name.split(".")}
         for path in paths:
             if path.suffix in (".rt", ".antt"):
                 words.update(re.findall(r"\w+", path.read_text()))
-        for document in ("docs/PROOF.md", "docs/READING.md", "docs/dev/CLAIMS.md"):
-            named = re.findall(r"`([A-Za-z]\w*(?:::\w+)*)`", (ROOT / document).read_text())
+        for document in ("CONTRIBUTING.md", "docs/PROOF.md", "docs/READING.md", "docs/dev/CLAIMS.md"):
+            text = (ROOT / document).read_text()
+            named = re.findall(r"`([A-Za-z]\w*(?:::\w+)*)`", text)
+            files = re.findall(r"`([\w/]+\.rt)`", text)
             with self.subTest(document=document):
                 self.assertEqual({word for name in named for word in name.split("::")} - words - OF_NO_CRATE, set())
+                self.assertEqual([name for name in files if not any(path.match(name) for path in paths)], [])
 
     def test_links(self):
         """Each document that a document names is there."""
