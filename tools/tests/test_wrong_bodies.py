@@ -1,5 +1,6 @@
 """The wrong bodies of the gate and those beside them, and the tool that tries them."""
 
+import collections
 import contextlib
 import io
 import os
@@ -14,9 +15,14 @@ import unittest
 ROOT = pathlib.Path(__file__).resolve().parents[2]
 sys.path.insert(0, str(ROOT / "tools"))
 
-import wrong_bodies  # noqa: E402 (it stands in tools/)
+import definitions  # noqa: E402 (they stand in tools/)
+import wrong_bodies  # noqa: E402
 
 FOLDERS = sorted(folder for name in wrong_bodies.FOLDERS for folder in ROOT.glob(f"crates/*/{name}"))
+
+# `FUNCTION, CLAUSE` or `FUNCTION: what else refuses it`; and clauses of functions of std.
+REFUSES = re.compile(r"(?:ring's )?([\w:]+)(?: of [^,:]*)?(?:, |: )(.+)")
+OF_STD = {"and", "from_gives", "steps"}
 
 # An `rt` that writes down what it's asked and sees, and proves the functions that return a number.
 RT = """#!/usr/bin/env python3
@@ -62,6 +68,28 @@ class Edits(unittest.TestCase):
         silent = [str(edit.relative_to(ROOT)) for folder in FOLDERS for edit in folder.glob("*.edit")
                   if not wrong_bodies.header_of(edit.read_text())]
         self.assertEqual(silent, [])
+
+    def test_what_refuses_it_is_there(self):
+        """The function that an edit's head names, and its clauses, or the relation by which a trait says them."""
+        clauses, relations = collections.defaultdict(set), {*OF_STD}
+        for path in (ROOT / "crates").glob("*/src/**/*.rt"):
+            lines = path.read_text().split("\n")
+            for at, line in enumerate(lines):
+                if name := re.match(r" *(?:pub(?:\(crate\))? )?fn (\w+)", line):
+                    texts = ("\n".join(lines[at:to]) for to in range(at + 1, len(lines) + 1))
+                    contract = next(filter(definitions.is_end, texts), line)
+                    clauses[name[1]].update(re.findall(r"\b(?:ensures|requires) (\w+) \{", contract))
+                elif name := re.match(r" *ghost (\w+):", line):
+                    relations.add(name[1])
+        wrong = []
+        for edit in (edit for folder in FOLDERS for edit in folder.glob("*.edit")):
+            for part in wrong_bodies.header_of(edit.read_text())[1].replace("`", "").split("; "):
+                found = REFUSES.fullmatch(part)
+                name, what = found.groups() if found else ("", "")
+                words = set(re.findall(r"\w+", what)) if re.fullmatch(r"\w+(?:, \w+)*(?: and \w+)?", what) else set()
+                if name.rpartition("::")[2] not in clauses or words - clauses[name.rpartition("::")[2]] - relations:
+                    wrong.append(f"{edit.relative_to(ROOT)}: {part}")
+        self.assertEqual(wrong, [])
 
     def test_none_has_the_name_of_another_of_its_crate(self):
         names = [(edit.parents[1].name, edit.stem) for folder in FOLDERS for edit in folder.glob("*.edit")]
