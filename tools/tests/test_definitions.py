@@ -109,7 +109,7 @@ class Resting(unittest.TestCase):
 
     def test_what_stands_in_modules(self):
         """And not all of the module where a contract rests on what stands before it."""
-        self.assertLessEqual({"Rules", "IsClosed", "Least", "IsWellSupported", "AreSound"}, rests_on("run", "run"))
+        self.assertLessEqual({"Rules", "IsClosed", "IsWellSupported", "AreSound"}, rests_on("run", "run"))
         self.assertIn("log_of", rests_on("nll_run", "run"))
         self.assertFalse({"Rules", "most_parts"} & rests_on("nll_run", "run"))
 
