@@ -33,5 +33,5 @@ module _ {T : Type 0} where
   IsJoined sender receiver = IsPair sender.producer receiver.consumer
 
   -- the closed sender and the receiver are the ends of one ring
-  abbrev pub Closes : RingClosed T → RingReceiver T → Type 0
-  Closes closed receiver = IsPair closed.producer receiver.consumer
+  abbrev pub ClosesRing : RingClosed T → RingReceiver T → Type 0
+  ClosesRing closed receiver = IsPair closed.producer receiver.consumer

@@ -89,7 +89,7 @@ impl<T: Send + Drop> Mail<T> for RingMail {
     ghost use Rattle.rtrb.specs.Ring.{sent as pushed, received as popped, known_items};
     ghost use Rattle.mail.specs.Channel.{refusal};
     ghost use Rattle.mail.specs.Rings.{sent_by, received_by, ends_of, room_of, seen_by};
-    ghost use Rattle.mail.specs.Rings.{IsJoined, Closes};
+    ghost use Rattle.mail.specs.Rings.{IsJoined, ClosesRing};
     ghost use Rattle.mail.specs.declared.ring_mail.RingSender.{RingSender};
     ghost use Rattle.mail.specs.declared.ring_mail.RingClosed.{RingClosed};
     ghost use Rattle.mail.specs.declared.ring_mail.RingReceiver.{RingReceiver};
@@ -115,7 +115,7 @@ impl<T: Send + Drop> Mail<T> for RingMail {
 
     ghost all_sent = { λ closed. pushed closed.producer };
 
-    ghost closes = { Closes };
+    ghost closes = { ClosesRing };
 
     ghost post_ends = { λ post. (post.from, post.to) };
 
@@ -188,7 +188,7 @@ impl<T: Send + Drop> Mail<T> for RingMail {
         ensures pair { (sender : RingSender T)
             → IsJoined sender receiver.old → IsJoined sender receiver.new }
         ensures closed { (closed : RingClosed T)
-            → Closes closed receiver.old → Closes closed receiver.new }
+            → ClosesRing closed receiver.old → ClosesRing closed receiver.new }
         ensures seen { 0 < length (seen_by receiver.old) → IsSome result }
         ensures front { IfSome result (λ message.
             0 < length (seen_by receiver.old)
