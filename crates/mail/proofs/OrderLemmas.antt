@@ -6,7 +6,7 @@ use Rattle.crossbeam_queue.specs.Fifo.{Pushes, Pops, Forks, Merges, Learns}
 use Rattle.crossbeam_queue.proofs.Lists.{at_set, at_snoc}
 use Rattle.mail.specs.Limits.{most_posts}
 use Rattle.mail.specs.declared.queue_mail.Known.{Known}
-use Rattle.mail.specs.Order.{known, Fits, IsInOrder}
+use Rattle.mail.specs.Order.{known, IsPosterOrTaker, IsInOrder}
 
 module _ {T : Type 0} where
   -- ---- lists of ends
@@ -32,7 +32,7 @@ module _ {T : Type 0} where
 
   -- an end that may do nothing
   idle_fits : (poster taker : ℕ) (sent received : List T) (number : ℕ)
-      → Fits poster taker sent received number (known false false [] [])
+      → IsPosterOrTaker poster taker sent received number (known false false [] [])
   idle_fits poster taker sent received number = record {
     posting = λ p. absurd (true≢false (sym p));
     taking = λ p. absurd (true≢false (sym p));
@@ -65,7 +65,7 @@ module _ {T : Type 0} where
     received = [];
     order = refl;
     few = omega arith;
-    each = each_set (Fits 0 0 [] []) (known true true [] [] ∷ []) 0 (known true true [] [])
+    each = each_set (IsPosterOrTaker 0 0 [] []) (known true true [] [] ∷ []) 0 (known true true [] [])
         (record { posting = λ _. (refl, refl); taking = λ _. (refl, refl) })
         (λ j u other e. absurd (other (at_end [] _ u j (λ x. some-ne-none u (sym x)) e)));
   }
@@ -85,7 +85,7 @@ module _ {T : Type 0} where
           received = h.received;
           order = ap (λ l. l ++ x ∷ []) h.order ∙ append_assoc h.received items (x ∷ []);
           few = let l = ap length (mine.posting may).1 in omega (arith, length-append h.sent (x ∷ []));
-          each = each_set (Fits h.poster h.taker more h.received) ends number w
+          each = each_set (IsPosterOrTaker h.poster h.taker more h.received) ends number w
               (record {
                 posting = λ _. ((mine.posting may).0, ap (λ l. l ++ x ∷ []) (mine.posting may).1);
                 taking = mine.taking;
@@ -114,7 +114,7 @@ module _ {T : Type 0} where
           received = more;
           order = h.order ∙ sym (append_assoc h.received (x ∷ []) items);
           few = h.few;
-          each = each_set (Fits h.poster h.taker h.sent more) ends number w
+          each = each_set (IsPosterOrTaker h.poster h.taker h.sent more) ends number w
               (record {
                 posting = mine.posting;
                 taking = λ _.
@@ -175,7 +175,7 @@ module _ {T : Type 0} where
       let was : get_elem? ends other ≡ some u =
       ⊎_elim (λ x. absurd (two x.0)) (λ x. x.1) (at_set ends number other both u at') in
       let theirs = (h.each other u was).taking b in
-      let Now : ℕ → Known T → Type 0 = λ j y. j ≢ other → Fits h.poster number h.sent h.received j y in
+      let Now : ℕ → Known T → Type 0 = λ j y. j ≢ other → IsPosterOrTaker h.poster number h.sent h.received j y in
       let now : EachIs Now rest =
       each_set Now ends number both (λ _. record { posting = λ _. mine.posting a; taking = λ _. (refl, theirs.1) })
       (λ j y _ e apart. record {
@@ -189,7 +189,7 @@ module _ {T : Type 0} where
         received = h.received;
         order = h.order;
         few = h.few;
-        each = each_set (Fits h.poster number h.sent h.received) rest other (known false false [] [])
+        each = each_set (IsPosterOrTaker h.poster number h.sent h.received) rest other (known false false [] [])
             (idle_fits h.poster number h.sent h.received other)
             (λ j y apart e. now j y e apart);
       }

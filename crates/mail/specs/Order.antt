@@ -19,7 +19,7 @@ module _ {T : Type 0} where
 
   -- the end of this number is the poster if it may post, and then knows what was sent; it is the
   -- taker if it may take, and then knows what was received
-  pub record Fits
+  pub record IsPosterOrTaker
       (poster taker : ℕ) (all_sent all_received : List T) (number : ℕ) (end : Known T)
       : Type 0 where
     pub posting : end.posts ≡ true → (number ≡ poster) × (end.sent ≡ all_sent)
@@ -35,4 +35,4 @@ module _ {T : Type 0} where
     pub order : sent ≡ received ++ items
     pub few : length sent ≤ most_posts
     pub each : (number : ℕ) (end : Known T)
-        → get_elem? ends number ≡ some end → Fits poster taker sent received number end
+        → get_elem? ends number ≡ some end → IsPosterOrTaker poster taker sent received number end
