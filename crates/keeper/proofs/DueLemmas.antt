@@ -6,7 +6,7 @@ use Rattle.fixpoint.specs.Rules.{Rules, AreLawful}
 use Rattle.fixpoint.specs.State.{State, IsDone}
 use Rattle.fixpoint.proofs.LogLemmas.{tells_from}
 use Rattle.keeper.specs.Engine.{IsFound, Finds, with_fact, nothing}
-use Rattle.keeper.specs.Keeping.{IsDue, has}
+use Rattle.keeper.specs.Keeping.{ListsDue, has}
 use Rattle.keeper.proofs.KeepingLemmas.{derives_more}
 use Rattle.keeper.proofs.ListLemmas.{or_cases, or_right, same_truth}
 
@@ -18,8 +18,8 @@ module _ {A F G : Type 0} (rules : Rules A F G) (lawful : AreLawful rules) (a : 
 
   -- a fact that was due was entered, and with it what follows
   pub due_entered : (known more : F → Bool) (list new : List F) (fact : F)
-      → IsDue rules a i known (list ++ fact ∷ []) → ((f : F) → more f ≡ with_fact rules fact known f)
-      → Finds rules a i more (λ f. rules.derives a known f) list new → IsDue rules a i more new
+      → ListsDue rules a i known (list ++ fact ∷ []) → ((f : F) → more f ≡ with_fact rules fact known f)
+      → Finds rules a i more (λ f. rules.derives a known f) list new → ListsDue rules a i more new
   due_entered known more list new fact due is finds = record {
     each = λ f h. ⊎_elim
         (λ old. found_more known more kept f (due.each f (Contains-append_left list (fact ∷ []) f old)))
@@ -42,8 +42,8 @@ module _ {A F G : Type 0} (rules : Rules A F G) (lawful : AreLawful rules) (a : 
 
   -- a fact came from outside, and with it what follows
   pub due_received : (known more : F → Bool) (list new : List F) (fact : F)
-      → IsDue rules a i known list → ((f : F) → more f ≡ with_fact rules fact known f)
-      → Finds rules a i more (λ f. rules.derives a known f) list new → IsDue rules a i more new
+      → ListsDue rules a i known list → ((f : F) → more f ≡ with_fact rules fact known f)
+      → Finds rules a i more (λ f. rules.derives a known f) list new → ListsDue rules a i more new
   due_received known more list new fact due is finds = record {
     each = grind (arith, ⊎_elim, found_more);
     all = λ f own follows. ⊎_elim
@@ -56,8 +56,8 @@ module _ {A F G : Type 0} (rules : Rules A F G) (lawful : AreLawful rules) (a : 
       kept f k = is f ∙ or_right (rules.same fact f) (known f) k
 
   -- the same facts are due where the same are known
-  pub due_same : (known more : F → Bool) (list : List F) → ((f : F) → more f ≡ known f) → IsDue rules a i known list
-      → IsDue rules a i more list
+  pub due_same : (known more : F → Bool) (list : List F) → ((f : F) → more f ≡ known f) → ListsDue rules a i known list
+      → ListsDue rules a i more list
   due_same known more list is due = record {
     each = λ f h. found_more known more (λ g k. is g ∙ k) f (due.each f h);
     all = λ f own follows. ⊎_elim (λ k. inl (is f ∙ k)) (λ h. inr h)
@@ -66,7 +66,7 @@ module _ {A F G : Type 0} (rules : Rules A F G) (lawful : AreLawful rules) (a : 
 
   -- what follows from nothing is due where nothing is known
   pub due_first : (known : F → Bool) (old list : List F) → ((f : F) → known f ≡ false) → old ≡ []
-      → Finds rules a i (nothing rules) (λ _. ⊥) old list → IsDue rules a i known list
+      → Finds rules a i (nothing rules) (λ _. ⊥) old list → ListsDue rules a i known list
   due_first known old list none empty finds = record {
     each = λ f h. ⊎_elim
         (λ before. absurd (let l = (subst (λ xs. Contains xs f) empty before).1 in omega (arith, l)))
@@ -82,13 +82,13 @@ already rules lawful known fact is f = grind (arith, same_truth, ⊎_elim, or_ca
 
 -- the same facts are due at the same owner of the same system
 pub due_at : {A F G : Type 0} (rules : Rules A F G) (a b : A) (i j : ℕ) (known : F → Bool) (list : List F) → a ≡ b
-    → i ≡ j → IsDue rules b j known list → IsDue rules a i known list
+    → i ≡ j → ListsDue rules b j known list → ListsDue rules a i known list
 due_at rules a b i j known list system me due =
-    subst (λ x. IsDue rules x i known list) (sym system) (subst (λ k. IsDue rules b k known list) (sym me) due)
+    subst (λ x. ListsDue rules x i known list) (sym system) (subst (λ k. ListsDue rules b k known list) (sym me) due)
 
 -- nothing is left to do where nothing is due
 pub done_now : {A F G : Type 0} (rules : Rules A F G) (lawful : AreLawful rules) (o : State A G) (list : List F)
-    → IsDue rules o.system o.me (has rules o) list → list ≡ [] → IsDone rules o
+    → ListsDue rules o.system o.me (has rules o) list → list ≡ [] → IsDone rules o
 done_now rules lawful o list due none f own follows = grind (arith, ⊎_elim, tells_from)
 
 -- ---- what an engine finds

@@ -46,7 +46,7 @@ module _ {A F G : Type 0} (rules : Rules A F G) where
     pub early : clock ≤ 2 ^ 61 + length o.log
 
   -- The list has facts that owner i may enter: all that follow from what is known and aren't known.
-  pub record IsDue (a : A) (i : ℕ) (known : F → Bool) (list : List F) : Type 0 where
+  pub record ListsDue (a : A) (i : ℕ) (known : F → Bool) (list : List F) : Type 0 where
     pub each : (f : F) → Contains list f → IsFound rules a i known f
     pub all :
         (f : F) → rules.owner a f ≡ i → rules.derives a known f

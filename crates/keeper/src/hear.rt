@@ -2,7 +2,7 @@
 
 ghost use Rattle.std.specs.Prelude.{◌≡◌, OnOk, Contains};
 ghost use Rattle.fixpoint.specs.State.{IsSound, Passes, with_growths, GotBeginning};
-ghost use Rattle.keeper.specs.Keeping.{IsDue, has};
+ghost use Rattle.keeper.specs.Keeping.{ListsDue, has};
 
 use crate::book::Book;
 use crate::engine::Engine;
@@ -18,7 +18,7 @@ pub fn hear_all<E: Engine>(
 ) -> Result<(), Memory>
     requires sound { IsSound E.rules book.old }
     requires store { (f : E.Fact) → E.has store.old f ≡ has E.rules book.old f }
-    requires due { IsDue E.rules book.old.system book.old.me
+    requires due { ListsDue E.rules book.old.system book.old.me
         (has E.rules book.old) due.old.items }
     requires passes { (g : E.Growth) → Contains growths.now g
         → Passes E.rules book.old.system book.old.me from g }
@@ -28,7 +28,7 @@ pub fn hear_all<E: Engine>(
     ensures perhaps { GotBeginning book.old.received from growths.now book.new.received }
     ensures store { OnOk result ((f : E.Fact)
         → E.has store.new f ≡ has E.rules book.new f) }
-    ensures due { OnOk result (IsDue E.rules book.new.system book.new.me
+    ensures due { OnOk result (ListsDue E.rules book.new.system book.new.me
         (has E.rules book.new) due.new.items) }
     ensures sound { IsSound E.rules book.new }
 {

@@ -2,7 +2,7 @@
 
 ghost use Rattle.std.specs.Prelude.{◌≡◌, [], OnOk};
 ghost use Rattle.fixpoint.specs.State.{IsSound, IsDone};
-ghost use Rattle.keeper.specs.Keeping.{LogGrows, IsDue, has};
+ghost use Rattle.keeper.specs.Keeping.{LogGrows, ListsDue, has};
 
 use crate::book::Book;
 use crate::engine::Engine;
@@ -16,7 +16,7 @@ pub fn settle<E: Engine>(
 ) -> Result<(), Memory>
     requires sound { IsSound E.rules book.old }
     requires store { (f : E.Fact) → E.has store.old f ≡ has E.rules book.old f }
-    requires due { IsDue E.rules book.old.system book.old.me
+    requires due { ListsDue E.rules book.old.system book.old.me
         (has E.rules book.old) due.old.items }
     ensures grows { LogGrows book.old book.new }
     ensures store { OnOk result ((f : E.Fact)

@@ -1,6 +1,6 @@
 use Rattle.std.proofs.Common.{◌≡◌, ◌||◌, ◌∷◌, [], take, ap, sym, ◌∙◌, subst}
 use Rattle.fixpoint.specs.State.{Passes, with_growths}
-use Rattle.keeper.specs.Keeping.{IsDue, has, with_heard}
+use Rattle.keeper.specs.Keeping.{ListsDue, has, with_heard}
 use Rattle.fixpoint.proofs.ReceivingLemmas.{got_all, got_next, got_none, with_more, take_next, received_on}
 use Rattle.keeper.proofs.DueLemmas.{due_at, due_same, due_received, already, finds_same}
 use Rattle.keeper.proofs.hear.hear_all.Goals as goal
@@ -48,7 +48,7 @@ loop-growth-preserved g c =
     let x = c.growth-item.result in let inv = c.loop-growth.invariant in
     let ok = c.in_ok-receive.ensures.ok in let more = c.in_ok-receive.ensures.has in
     let both : ((f : _) → g.E.Engine.has c.if-not-known.store f ≡ has r new f)
-    × IsDue r new.system new.me (has r new) c.if-not-known.due.items = elim c.if-not-known.branch [
+    × ListsDue r new.system new.me (has r new) c.if-not-known.due.items = elim c.if-not-known.branch [
       | then-not-known+in_ok-enter w ↦ let store = w.in_ok-enter.ensures.store in rw (w.store-is, w.due-is) (
         (λ f. store f ∙ (ap (λ b. r.same c.fact-fact.result f || b) (inv.store f)
             ∙ (ap (λ y. r.same y f || has r o f) c.fact-fact.ensures ∙ sym (more f)))),

@@ -1,6 +1,6 @@
 use Rattle.std.proofs.Common.{◌≡◌, take}
 use Rattle.fixpoint.specs.State.{IsSound, with_growths}
-use Rattle.keeper.specs.Keeping.{IsDue, has}
+use Rattle.keeper.specs.Keeping.{ListsDue, has}
 use Rattle.keeper.proofs.hear.hear_all.Given as goal
 
 -- the growths before the index were received
@@ -10,5 +10,5 @@ invariant-loop-growth g l = record {
   received : l.book.received ≡ with_growths l.fn.book.received l.from (take l.growth-index l.growths);
   sound : IsSound g.E.Rules.rules l.book;
   store : (f : _) → g.E.Engine.has l.store f ≡ has g.E.Rules.rules l.book f;
-  due : IsDue g.E.Rules.rules l.book.system l.book.me (has g.E.Rules.rules l.book) l.due.items;
+  due : ListsDue g.E.Rules.rules l.book.system l.book.me (has g.E.Rules.rules l.book) l.due.items;
 }

@@ -1,7 +1,7 @@
 use Rattle.std.proofs.Common.{◌||◌, ◌++◌, ◌∷◌, [], IsTrue, append_assoc, inl, inr, ⊎_elim, ap, sym, subst, ◌∙◌, rules}
 use Rattle.std.proofs.lemmas.List.Elements.{Contains-append_left, Contains-push_cases}
 use Rattle.fixpoint.specs.State.{State}
-use Rattle.keeper.specs.Keeping.{IsDue, has}
+use Rattle.keeper.specs.Keeping.{ListsDue, has}
 use Rattle.keeper.proofs.DueLemmas.{done_now, due_at, due_entered, finds_same}
 use Rattle.keeper.proofs.settle.settle.Goals as goal
 
@@ -17,8 +17,8 @@ pub loop-fact-preserved : goal.loop-fact-preserved
 loop-fact-preserved g c =
     let r = g.E.Rules.rules in let o = c.loop-fact.book in let inv = c.loop-fact.invariant in
     let popped = c.pop.new.self.items in let fact = c.in-Some.fact in
-    let due : IsDue r o.system o.me (has r o) (popped ++ fact ∷ []) =
-    subst (IsDue r o.system o.me (has r o)) c.in-Some.ensures.items inv.due in
+    let due : ListsDue r o.system o.me (has r o) (popped ++ fact ∷ []) =
+    subst (ListsDue r o.system o.me (has r o)) c.in-Some.ensures.items inv.due in
     let known : IsTrue (has r o fact) = sym (inv.store fact) ∙ (sym c.knows.ensures ∙ c.if-not-knows.false) in
     record {
       sound = inv.sound;
@@ -37,8 +37,8 @@ loop-fact-preserved-in-Continue-branch-2 g c =
     let o = c.loop-fact.book in let new = c.grow.new.self in let inv = c.loop-fact.invariant in
     let grown = c.in_ok-grow.ensures.ok in let more = c.in_ok-grow.ensures.has in
     let store = c.in_ok-enter.ensures.store in let fact = c.in-Some.fact in
-    let due : IsDue r o.system o.me (has r o) (c.pop.new.self.items ++ fact ∷ []) =
-    subst (IsDue r o.system o.me (has r o)) c.in-Some.ensures.items inv.due in
+    let due : ListsDue r o.system o.me (has r o) (c.pop.new.self.items ++ fact ∷ []) =
+    subst (ListsDue r o.system o.me (has r o)) c.in-Some.ensures.items inv.due in
     record {
       sound = c.grow.ensures.sound;
       grows = record {

@@ -1,7 +1,7 @@
 use Rattle.std.proofs.Common.{◌≡◌, ◌+◌, ◌-◌, ◌*◌, ◌^◌, length}
 use Rattle.fixpoint.specs.Limits.{most_growths}
 use Rattle.fixpoint.specs.State.{IsSound}
-use Rattle.keeper.specs.Keeping.{LogGrows, IsDue, has}
+use Rattle.keeper.specs.Keeping.{LogGrows, ListsDue, has}
 use Rattle.keeper.proofs.settle.settle.Given as goal
 
 -- all that follows is known or due
@@ -10,7 +10,7 @@ invariant-loop-fact g l = record {
   sound : IsSound g.E.Rules.rules l.book;
   grows : LogGrows l.fn.book l.book;
   store : (f : _) → g.E.Engine.has l.store f ≡ has g.E.Rules.rules l.book f;
-  due : IsDue g.E.Rules.rules l.book.system l.book.me (has g.E.Rules.rules l.book) l.due.items;
+  due : ListsDue g.E.Rules.rules l.book.system l.book.me (has g.E.Rules.rules l.book) l.due.items;
 }
 
 -- each growth uses up more than all that may be due
