@@ -5,7 +5,7 @@ use Rattle.std.proofs.lemmas.List.Elements.{Contains-append_left, Contains-push_
 use Rattle.fixpoint.specs.Rules.{Rules, AreLawful}
 use Rattle.fixpoint.specs.State.{State, IsDone}
 use Rattle.fixpoint.proofs.LogLemmas.{tells_from}
-use Rattle.keeper.specs.Engine.{IsFound, Finds, with_fact, nothing}
+use Rattle.keeper.specs.Engine.{MayEnter, Finds, with_fact, nothing}
 use Rattle.keeper.specs.Keeping.{ListsDue, has}
 use Rattle.keeper.proofs.KeepingLemmas.{derives_more}
 use Rattle.keeper.proofs.ListLemmas.{or_cases, or_right, same_truth}
@@ -13,7 +13,7 @@ use Rattle.keeper.proofs.ListLemmas.{or_cases, or_right, same_truth}
 module _ {A F G : Type 0} (rules : Rules A F G) (lawful : AreLawful rules) (a : A) (ok : rules.valid a) (i : ℕ) where
   -- what was found by some facts is found by more
   found_more : (known more : F → Bool) → ((f : F) → IsTrue (known f) → IsTrue (more f)) → (f : F)
-      → IsFound rules a i known f → IsFound rules a i more f
+      → MayEnter rules a i known f → MayEnter rules a i more f
   found_more known more each f h = grind (arith, derives_more)
 
   -- a fact that was due was entered, and with it what follows

@@ -9,7 +9,7 @@ use Rattle.fixpoint.specs.Rules.{Rules, AreLawful}
 use Rattle.fixpoint.specs.Logs.{IsTold, IsWellFormed, IsWellSupported, tells, tells_before, part}
 use Rattle.fixpoint.specs.State.{State, IsSound, IsNoted, Passes, list_in, received_from, part_for, given_to}
 use Rattle.fixpoint.proofs.LogLemmas.{list_own, list_other, tells_from, tells_to, before_from, before_to}
-use Rattle.keeper.specs.Engine.{IsFound, with_fact}
+use Rattle.keeper.specs.Engine.{MayEnter, with_fact}
 use Rattle.keeper.specs.Keeping.{IsKept, has, with_heard}
 use Rattle.keeper.proofs.ListLemmas.{IsIn, or_cases, or_left, or_right, same_truth}
 
@@ -69,7 +69,7 @@ module _ {A F G : Type 0} (rules : Rules A F G) (lawful : AreLawful rules) where
 
   module _ (o : State A G) (clock : ℕ) (kept : IsKept rules o clock) (fact : F) (growth : G)
       (fact_is : rules.fact growth ≡ fact) (rank_is : rules.rank growth ≡ clock + 1)
-      (found : IsFound rules o.system o.me (has rules o) fact)
+      (found : MayEnter rules o.system o.me (has rules o) fact)
       (lacks : IsTrue (has rules o fact) → ⊥) where
     abbrev pub grown : State A G
     grown = record o { log = o.log ++ growth ∷ [] }

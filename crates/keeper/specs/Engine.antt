@@ -6,7 +6,7 @@ use Rattle.fixpoint.specs.Rules.{Rules}
 module _ {A F G : Type 0} (rules : Rules A F G) where
   -- The fact is one that owner i may enter: it is the owner's, proper, and follows from what is
   -- known.
-  pub record IsFound (a : A) (i : ℕ) (known : F → Bool) (f : F) : Type 0 where
+  pub record MayEnter (a : A) (i : ℕ) (known : F → Bool) (f : F) : Type 0 where
     pub own : rules.owner a f ≡ i
     pub proper : rules.proper a f
     pub follows : rules.derives a known f
@@ -16,7 +16,7 @@ module _ {A F G : Type 0} (rules : Rules A F G) where
   pub record Finds (a : A) (i : ℕ) (known : F → Bool) (before : F → Type 0) (old new : List F)
       : Type 0 where
     pub kept : (f : F) → Contains old f → Contains new f
-    pub each : (f : F) → Contains new f → Contains old f ⊎ IsFound a i known f
+    pub each : (f : F) → Contains new f → Contains old f ⊎ MayEnter a i known f
     pub all :
         (f : F) → rules.owner a f ≡ i → rules.derives a known f → before f ⊎ Contains new f
 

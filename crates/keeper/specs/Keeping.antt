@@ -5,7 +5,7 @@ use Rattle.nll_sets.specs.Prefix.{IsPrefix}
 use Rattle.fixpoint.specs.Rules.{Rules}
 use Rattle.fixpoint.specs.Logs.{tells, part}
 use Rattle.fixpoint.specs.State.{State, IsSound, IsDone, IsNoted, list_in, received_from}
-use Rattle.keeper.specs.Engine.{IsFound}
+use Rattle.keeper.specs.Engine.{MayEnter}
 
 -- the part that is made of these
 abbrev pub kept_state : {A G : Type 0} → A → ℕ → List G → List (List G) → List ℕ → Bool
@@ -47,7 +47,7 @@ module _ {A F G : Type 0} (rules : Rules A F G) where
 
   -- The list has facts that owner i may enter: all that follow from what is known and aren't known.
   pub record ListsDue (a : A) (i : ℕ) (known : F → Bool) (list : List F) : Type 0 where
-    pub each : (f : F) → Contains list f → IsFound rules a i known f
+    pub each : (f : F) → Contains list f → MayEnter rules a i known f
     pub all :
         (f : F) → rules.owner a f ≡ i → rules.derives a known f
         → IsTrue (known f) ⊎ Contains list f

@@ -6,7 +6,7 @@ ghost use Rattle.std.specs.declared.vec.Vec.{Vec};
 ghost use Rattle.std.specs.Prelude.{OnOk, OnErr, IfOk, slice_set};
 ghost use Rattle.fixpoint.specs.State.{IsSound, Passes, first_state, part_for, given_to};
 ghost use Rattle.fixpoint.specs.Limits.{most_growths};
-ghost use Rattle.keeper.specs.Engine.{IsFound, with_fact};
+ghost use Rattle.keeper.specs.Engine.{MayEnter, with_fact};
 ghost use Rattle.keeper.specs.Keeping.{GrowsBy, has, with_heard};
 
 use crate::engine::Engine;
@@ -69,7 +69,7 @@ impl<'q, E: Engine> Book<'q, E> {
 
     /// Appends a growth of an own fact that follows and isn't known.
     pub fn grow(&mut self, fact: E::Fact) -> Result<(), Memory>
-        requires found { IsFound E.rules self.old.system self.old.me (has E.rules self.old) fact }
+        requires found { MayEnter E.rules self.old.system self.old.me (has E.rules self.old) fact }
         requires lacks { IsTrue (has E.rules self.old fact) → ⊥ }
         ensures ok { OnOk result (GrowsBy E.rules fact self.old self.new) }
         ensures has { OnOk result ((f : E.Fact)
