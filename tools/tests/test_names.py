@@ -15,7 +15,7 @@ OF_REGIONS = ("AreRanked AreSettled IsDone IsNoted IsSaturated IsTold IsWellSupp
               "list_of part part_for received_from")
 # Others, each in two crates.
 OTHERS = ("AreSound ComesNext ComesTo Finishes IsClosed IsCounted IsNew IsOf IsReady IsSound IsTable IsWellFormed" "
-          "IsWhole Keeps Least known nothing sent_by")
+          "Keeps Least known nothing sent_by")
 
 
 def clashes():

@@ -4,13 +4,13 @@ use Rattle.std.specs.Prelude.{Result, Ok, Err, OnOk, is_ok, is_err}
 use Rattle.std.proofs.lemmas.Bool.{false≢true}
 use Rattle.fixpoint.specs.Rules.{Rules}
 use Rattle.fixpoint.specs.State.{State, IsDone}
-use Rattle.keeper.specs.Keeping.{IsQuiet, IsWhole}
+use Rattle.keeper.specs.Keeping.{IsQuiet, IsWholePart}
 
 module _ {A F G : Type 0} (rules : Rules A F G) (stored : F → Bool) (due : List F) (looked : ℕ)
     (lists : List (List G)) where
   -- how much was given changes nothing
-  given_whole : (o : State A G) (gave : List ℕ) → IsWhole rules o stored due looked lists
-      → IsWhole rules (record o { given = gave }) stored due looked lists
+  given_whole : (o : State A G) (gave : List ℕ) → IsWholePart rules o stored due looked lists
+      → IsWholePart rules (record o { given = gave }) stored due looked lists
   given_whole o gave w = record {
     quiet = record {
       store = w.quiet.store;
@@ -23,14 +23,14 @@ module _ {A F G : Type 0} (rules : Rules A F G) (stored : F → Bool) (due : Lis
   }
 
   pub whole_given : (o n : State A G) (gave : List ℕ) → n ≡ record o { given = gave }
-      → (o.broken ≡ false → IsWhole rules o stored due looked lists) → n.broken ≡ false
-      → IsWhole rules n stored due looked lists
+      → (o.broken ≡ false → IsWholePart rules o stored due looked lists) → n.broken ≡ false
+      → IsWholePart rules n stored due looked lists
   whole_given o n gave is whole fine =
-      subst (λ (x : State A G). IsWhole rules x stored due looked lists) (sym is)
+      subst (λ (x : State A G). IsWholePart rules x stored due looked lists) (sym is)
       (given_whole o gave (whole (sym (ap (λ (x : State A G). x.broken) is) ∙ fine)))
 
   marked_whole : (o : State A G) (b : Bool) → IsQuiet rules o stored due looked lists → IsDone rules o
-      → IsWhole rules (record o { loaded = true; broken = b }) stored due looked lists
+      → IsWholePart rules (record o { loaded = true; broken = b }) stored due looked lists
   marked_whole o b q d = record {
     quiet = record {
       store = q.store;
@@ -45,9 +45,9 @@ module _ {A F G : Type 0} (rules : Rules A F G) (stored : F → Bool) (due : Lis
   -- a call that wasn't refused left nothing to do
   pub whole_after : {T E : Type 0} (o n : State A G) (r : Result T E) (l b : Bool) → (is_ok r ≡ true → l ≡ true)
       → b ≡ is_err r → n ≡ record o { loaded = l; broken = b } → OnOk r (IsQuiet rules o stored due looked lists)
-      → OnOk r (IsDone rules o) → n.broken ≡ false → IsWhole rules n stored due looked lists
+      → OnOk r (IsDone rules o) → n.broken ≡ false → IsWholePart rules n stored due looked lists
   whole_after o n (Ok x) l b loads broken is q d fine =
-      subst (λ (x : State A G). IsWhole rules x stored due looked lists)
+      subst (λ (x : State A G). IsWholePart rules x stored due looked lists)
       (sym (is ∙ ap (λ t. record o { loaded = t; broken = b }) (loads refl))) (marked_whole o b q d)
   whole_after o n (Err e) l b loads broken is q d fine =
       absurd (false≢true (sym fine ∙ (ap (λ (x : State A G). x.broken) is ∙ broken)))

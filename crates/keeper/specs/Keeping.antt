@@ -86,7 +86,7 @@ module _ {A F G : Type 0} (rules : Rules A F G) where
 
   -- What is true of a part between two calls, unless one was refused: it goes on from here, and has
   -- nothing left to do if it's loaded, or knows nothing if it isn't.
-  pub record IsWhole (o : State A G) (stored : F → Bool) (due : List F) (looked : ℕ)
+  pub record IsWholePart (o : State A G) (stored : F → Bool) (due : List F) (looked : ℕ)
       (lists : List (List G)) : Type 0 where
     pub quiet : IsQuiet o stored due looked lists
     pub done : o.loaded ≡ true → IsDone rules o
