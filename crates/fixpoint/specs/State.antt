@@ -43,8 +43,8 @@ module _ {A G : Type 0} where
   IsNoted o g = Contains o.log g ⊎ ((j : ℕ) × Contains (received_from o j) g)
 
   -- it was loaded, or a call of it was refused
-  abbrev pub IsReady : State A G → Type 0
-  IsReady o = o.broken ≡ false → o.loaded ≡ true
+  abbrev pub IsReadyPart : State A G → Type 0
+  IsReadyPart o = o.broken ≡ false → o.loaded ≡ true
 
 module _ {A F G : Type 0} (rules : Rules A F G) where
   -- the list in which it looks up a fact

@@ -4,7 +4,7 @@ ghost use Rattle.std.specs.Prelude.{◌≡◌, ◌↔◌, ◌+◌, ◌<◌, ◌�
 ghost use Rattle.std.specs.Prelude.{Err, slice_get, slice_set, IfOk, OnOk, OnErr, IfSome, IfNone};
 ghost use Rattle.std.specs.Prelude.{IsTrue, Contains};
 ghost use Rattle.nll_sets.specs.Prefix.{IsPrefix};
-ghost use Rattle.fixpoint.specs.State.{State, IsSound, IsDone, IsReady, Passes, first_state};
+ghost use Rattle.fixpoint.specs.State.{State, IsSound, IsDone, IsReadyPart, Passes, first_state};
 ghost use Rattle.fixpoint.specs.State.{part_for, given_to, with_growths, GotBeginning};
 ghost use Rattle.fixpoint.specs.declared.error.PartError.TheVariants.{Broken};
 
@@ -79,7 +79,7 @@ pub trait Analysis: Rules {
         from: u16,
         growths: &[Self::Growth],
     ) -> Result<(), PartError>
-        requires ready { IsReady (state part.old) }
+        requires ready { IsReadyPart (state part.old) }
         requires passes { (g : Self.Growth) → Contains growths.now g
             → Passes Self.rules (state part.old).system (state part.old).me from g }
         ensures begins { IsPrefix (state part.old).log (state part.new).log }
