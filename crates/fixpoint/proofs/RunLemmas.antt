@@ -4,7 +4,7 @@ use Rattle.std.proofs.lemmas.Bool.{cases_eq}
 use Rattle.std.proofs.lemmas.List.Elements.{Contains-append_left}
 use Rattle.fixpoint.specs.Limits.{most_growths}
 use Rattle.fixpoint.specs.Rules.{Rules, Sees, AreLawful}
-use Rattle.fixpoint.specs.Logs.{IsWellFormed, part, IsTold, tells, tells_before, list_of, log_of, AreSound, AreSettled, SayLeast}
+use Rattle.fixpoint.specs.Logs.{IsLogOf, part, IsTold, tells, tells_before, list_of, log_of, AreSound, AreSettled, SayLeast}
 use Rattle.fixpoint.specs.State.{State, Passes, list_in, received_from, part_for}
 use Rattle.fixpoint.specs.Sums.{sum_to}
 use Rattle.fixpoint.specs.Finishing.{Finishes, AreRanked}
@@ -96,11 +96,11 @@ module _ {A F G : Type 0} (rules : Rules A F G) (lawful : AreLawful rules) (a : 
     seen_owned i f li s = ⊎_elim (λ (own : rules.owner a f ≡ i). subst (λ n. n < rules.parts a) (sym own) li)
         (λ (read : rules.reads a i f ≡ true). (lawful.others a ok i f read).0) s
 
-    well_formed : (i : ℕ) → i < rules.parts a → IsWellFormed rules a i (log_of logs i)
+    well_formed : (i : ℕ) → i < rules.parts a → IsLogOf rules a i (log_of logs i)
     well_formed i l =
-        subst (IsWellFormed rules a i) (sym (log_is i l))
-        (subst (λ (x : A). IsWellFormed rules x i (state i).log) (ends i l).system
-        (subst (λ x. IsWellFormed rules (state i).system x (state i).log) (ends i l).me (ends i l).sound.well_formed))
+        subst (IsLogOf rules a i) (sym (log_is i l))
+        (subst (λ (x : A). IsLogOf rules x i (state i).log) (ends i l).system
+        (subst (λ x. IsLogOf rules (state i).system x (state i).log) (ends i l).me (ends i l).sound.well_formed))
 
     pub logs_sound : AreSound rules a logs told
     logs_sound = record {

@@ -19,7 +19,7 @@ module _ {A F G : Type 0} (rules : Rules A F G) where
 
   -- The log is well-formed for owner i: its facts are that owner's, no fact comes twice, and the
   -- ranks ascend from at least 1.
-  pub record IsWellFormed (a : A) (i : ℕ) (log : List G) : Type 0 where
+  pub record IsLogOf (a : A) (i : ℕ) (log : List G) : Type 0 where
     pub own : (g : G) → Contains log g → rules.owner a (rules.fact g) ≡ i
     pub once : AllPairs (λ g h. rules.fact g ≡ rules.fact h → ⊥) log
     pub rising : AllPairs (λ g h. rules.rank g < rules.rank h) log
@@ -64,7 +64,7 @@ module _ {A F G : Type 0} (rules : Rules A F G) where
   pub record AreSound (a : A) (logs : List (List G))
       (received : ℕ → ℕ → List G) : Type 0 where
     pub counted : length logs ≡ rules.parts a
-    pub well_formed : (i : ℕ) → i < rules.parts a → IsWellFormed a i (log_of logs i)
+    pub well_formed : (i : ℕ) → i < rules.parts a → IsLogOf a i (log_of logs i)
     pub supported :
         (i : ℕ) → i < rules.parts a
         → IsWellSupported a (list_of a i (log_of logs i) (received i)) (log_of logs i)

@@ -6,7 +6,7 @@ use Rattle.std.specs.Prelude.{◌++◌, length, Contains, slice_index_or, slice_
 use Rattle.nll_sets.specs.Prefix.{IsPrefix}
 use Rattle.fixpoint.specs.Limits.{most_growths}
 use Rattle.fixpoint.specs.Rules.{Rules}
-use Rattle.fixpoint.specs.Logs.{IsWellFormed, IsWellSupported, IsSaturated, list_of, part}
+use Rattle.fixpoint.specs.Logs.{IsLogOf, IsWellSupported, IsSaturated, list_of, part}
 
 -- The part of owner `me`: what is analysed; its log; what it received from each owner; how many
 -- growths it gave to each owner; whether it was loaded; and whether a call of it was refused.
@@ -63,7 +63,7 @@ module _ {A F G : Type 0} (rules : Rules A F G) where
   pub record IsSound (o : State A G) : Type 0 where
     pub valid : rules.valid o.system
     pub me : o.me < rules.parts o.system
-    pub well_formed : IsWellFormed rules o.system o.me o.log
+    pub well_formed : IsLogOf rules o.system o.me o.log
     pub supported : IsWellSupported rules o.system (list_in o) o.log
     -- its facts are proper, and there are not too many
     pub proper : (g : G) → Contains o.log g → rules.proper o.system (rules.fact g)

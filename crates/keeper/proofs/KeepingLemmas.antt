@@ -6,7 +6,7 @@ use Rattle.std.proofs.lemmas.List.Elements.{Contains-append_left, Contains-push,
 use Rattle.std.proofs.lemmas.List.Quantifiers.{all_pairs_push}
 use Rattle.fixpoint.specs.Limits.{most_growths}
 use Rattle.fixpoint.specs.Rules.{Rules, AreLawful}
-use Rattle.fixpoint.specs.Logs.{IsTold, IsWellFormed, IsWellSupported, tells, tells_before, part}
+use Rattle.fixpoint.specs.Logs.{IsTold, IsLogOf, IsWellSupported, tells, tells_before, part}
 use Rattle.fixpoint.specs.State.{State, IsSound, IsNoted, Passes, list_in, received_from, part_for, given_to}
 use Rattle.fixpoint.proofs.LogLemmas.{list_own, list_other, tells_from, tells_to, before_from, before_to}
 use Rattle.keeper.specs.Engine.{MayEnter, with_fact}
@@ -107,7 +107,7 @@ module _ {A F G : Type 0} (rules : Rules A F G) (lawful : AreLawful rules) where
     fresh : (g : G) → Contains o.log g → rules.fact g ≡ fact → ⊥
     fresh g at is = grind (arith, tells_to, own_list)
 
-    grown_well_formed : IsWellFormed rules o.system o.me (o.log ++ growth ∷ [])
+    grown_well_formed : IsLogOf rules o.system o.me (o.log ++ growth ∷ [])
     grown_well_formed = record {
       own = λ g h. ⊎_elim (λ old. kept.sound.well_formed.own g old)
           (λ is. subst (λ (g : G). rules.owner o.system (rules.fact g) ≡ o.me) is

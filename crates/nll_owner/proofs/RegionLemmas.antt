@@ -72,10 +72,10 @@ module _ (q : Problem) (c : Cut) where
 
   -- ---- one log
 
-  pub formed_to : (i : ℕ) (log : List Growth) → IsWellFormedLog c i log → logs.IsWellFormed rules a i log
+  pub formed_to : (i : ℕ) (log : List Growth) → IsWellFormedLog c i log → logs.IsLogOf rules a i log
   formed_to i log h = grind arith
 
-  pub formed_from : (i : ℕ) (log : List Growth) → logs.IsWellFormed rules a i log → IsWellFormedLog c i log
+  pub formed_from : (i : ℕ) (log : List Growth) → logs.IsLogOf rules a i log → IsWellFormedLog c i log
   formed_from i log h = grind arith
 
   pub supported_to : (list : ℕ → List Growth) (log : List Growth) → IsWellSupported q list log
