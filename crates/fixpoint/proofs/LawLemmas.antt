@@ -2,7 +2,7 @@
 use Rattle.std.proofs.Common.{◌≡◌, ◌↔◌, ℕ, zero, suc, ◌<◌, ◌≤◌, Bool, true, List, [], Contains, IsTrue, refl, sym, ap, ◌∙◌, subst, ⊎_elim, arith}
 use Rattle.std.proofs.lemmas.Bool.{cases_eq, cases_lt}
 use Rattle.std.proofs.lemmas.List.{get_or_past}
-use Rattle.fixpoint.specs.Rules.{Rules, Sees, AreLawful, IsClosed, Least}
+use Rattle.fixpoint.specs.Rules.{Rules, Sees, AreLawful, IsClosed, IsLeast}
 use Rattle.fixpoint.specs.Logs.{IsTold, list_of, tells, tells_before, log_of, AreSound, AreSettled}
 use Rattle.fixpoint.proofs.ListLemmas.{filter_to}
 use Rattle.fixpoint.proofs.LogLemmas.{list_own, list_other, tells_from, tells_to, before_from}
@@ -52,7 +52,7 @@ module _ {A F G : Type 0} (rules : Rules A F G) (lawful : AreLawful rules) (a : 
       → Contains (log_of logs i) g → P (rules.fact g)
   each_holds P kept i g li at = below P kept (suc (rules.rank g)) i g li at (omega arith)
 
-  pub each_least : (i : ℕ) (g : G) → i < rules.parts a → Contains (log_of logs i) g → Least rules a (rules.fact g)
+  pub each_least : (i : ℕ) (g : G) → i < rules.parts a → Contains (log_of logs i) g → IsLeast rules a (rules.fact g)
   each_least i g li at more closed = each_holds (λ f. IsTrue (more f))
       (λ known f follows each. closed f (lawful.local a ok known more f each follows)) i g li at
 
@@ -95,8 +95,8 @@ module _ {A F G : Type 0} (rules : Rules A F G) (lawful : AreLawful rules) (a : 
         (subst (λ xs. IsTold rules xs f) (list_own rules a i (log_of logs i) (received i) f refl)
         ((settled.saturated i li) f refl mine))
 
-    pub least_exact : (f : F) → IsTold rules (log_of logs (rules.owner a f)) f ↔ Least rules a f
+    pub least_exact : (f : F) → IsTold rules (log_of logs (rules.owner a f)) f ↔ IsLeast rules a f
     least_exact f = (
-      λ h. subst (λ x. Least rules a x) h.2 (each_least (rules.owner a f) h.0 (in_range f h) h.1),
+      λ h. subst (λ x. IsLeast rules a x) h.2 (each_least (rules.owner a f) h.0 (in_range f h) h.1),
       λ l. tells_from rules lawful.same_tells (log_of logs (rules.owner a f)) f (l value closed),
     )

@@ -4,7 +4,7 @@
 use Rattle.std.specs.Prelude.{◌≡◌, ◌≢◌, ◌↔◌, ℕ, ◌<◌, ◌≤◌, ◌&&◌, ◌==◌, Bool, List, [], length}
 use Rattle.std.specs.Prelude.{nat_lt, Contains, AllPairs, slice_index_or, if◌then◌else◌}
 use Rattle.std.specs.List.{filter, list_any}
-use Rattle.fixpoint.specs.Rules.{Rules, Least}
+use Rattle.fixpoint.specs.Rules.{Rules, IsLeast}
 
 -- the log of owner i
 abbrev pub log_of : {G : Type 0} → List (List G) → ℕ → List G
@@ -85,4 +85,4 @@ module _ {A F G : Type 0} (rules : Rules A F G) where
   -- the log of each fact's owner tells exactly the least solution
   abbrev pub SayLeast : A → List (List G) → Type 0
   SayLeast a logs =
-      (f : F) → IsTold (log_of logs (rules.owner a f)) f ↔ Least rules a f
+      (f : F) → IsTold (log_of logs (rules.owner a f)) f ↔ IsLeast rules a f

@@ -61,5 +61,5 @@ module _ {A F G : Type 0} (rules : Rules A F G) where
   IsClosed a known = (f : F) → rules.derives a known f → IsTrue (known f)
 
   -- the least solution has the fact: each closed assignment does
-  abbrev pub Least : A → F → Type 0
-  Least a f = (known : F → Bool) → IsClosed a known → IsTrue (known f)
+  abbrev pub IsLeast : A → F → Type 0
+  IsLeast a f = (known : F → Bool) → IsClosed a known → IsTrue (known f)

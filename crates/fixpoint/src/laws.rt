@@ -1,7 +1,7 @@
 //! Laws of logs and of workers: functions that do nothing, whose contracts hold of all of them.
 
 ghost use Rattle.std.specs.Prelude.{◌≡◌, ◌≢◌, ◌↔◌, ◌<◌, ◌++◌, ℕ, List, [], length, Contains};
-ghost use Rattle.fixpoint.specs.Rules.{Least};
+ghost use Rattle.fixpoint.specs.Rules.{IsLeast};
 ghost use Rattle.fixpoint.specs.Logs.{AreSound, AreSettled, SayLeast, log_of, part};
 ghost use Rattle.fixpoint.specs.State.{State};
 ghost use Rattle.fixpoint.specs.Sums.{sum_to};
@@ -17,7 +17,7 @@ pub fn sound_parts_are_right<A: Rules>()
         (received : ℕ → ℕ → List A.Growth)
         → A.rules.valid a → AreSound A.rules a logs received
         → (i : ℕ) (g : A.Growth) → i < A.rules.parts a → Contains (log_of logs i) g
-        → Least A.rules a (A.rules.fact g) }
+        → IsLeast A.rules a (A.rules.fact g) }
 {}
 
 /// States that the logs of settled owners say exactly the least solution.

@@ -1,6 +1,6 @@
 -- What the log of the only owner tells.
 use Rattle.std.proofs.Common.{◌≡◌, ◌↔◌, ℕ, ◌<◌, List, [], ◌∷◌, Contains, arith, refl, sym, ap, ◌∙◌, subst, inl, ⊎_elim}
-use Rattle.fixpoint.specs.Rules.{Rules, AreLawful, Least, Sees}
+use Rattle.fixpoint.specs.Rules.{Rules, AreLawful, IsLeast, Sees}
 use Rattle.fixpoint.specs.Logs.{IsTold, IsWellSupported, AreSound, AreSettled, list_of, log_of, part}
 use Rattle.fixpoint.specs.State.{State, IsSound, IsDone, received_from}
 use Rattle.fixpoint.specs.Finishing.{AreRanked}
@@ -34,10 +34,10 @@ module _ {A F G : Type 0} (rules : Rules A F G) (lawful : AreLawful rules) (o : 
   are_settled : AreSettled rules o.system logs received
   are_settled = grind (arith, log_is, only, none_other)
 
-  least : (f : F) → IsTold rules (log_of logs (rules.owner o.system f)) f ↔ Least rules o.system f
+  least : (f : F) → IsTold rules (log_of logs (rules.owner o.system f)) f ↔ IsLeast rules o.system f
   least = least_exact rules lawful o.system sound.valid logs received are_sound are_settled
 
-  pub tells_least : (f : F) → IsTold rules o.log f ↔ Least rules o.system f
+  pub tells_least : (f : F) → IsTold rules o.log f ↔ IsLeast rules o.system f
   tells_least f = (
     λ h.
         let mine : rules.owner o.system f ≡ o.me = ap (rules.owner o.system) (sym h.2)

@@ -7,7 +7,7 @@ use Rattle.std.proofs.lemmas.Map.Made.{IsDistinct-from_AllPairs}
 use Rattle.std.proofs.lemmas.Map.Steps.{length-le_from_distinct_below}
 use Rattle.std.proofs.lemmas.Map.Views.{Contains-from_any}
 use Rattle.fixpoint.specs.Limits.{most_growths}
-use Rattle.fixpoint.specs.Rules.{Rules, AreDifferent, AreLawful, Sees, Least}
+use Rattle.fixpoint.specs.Rules.{Rules, AreDifferent, AreLawful, Sees, IsLeast}
 use Rattle.fixpoint.specs.Logs.{AreSound, AreSettled, IsTold, log_of}
 use Rattle.fixpoint.proofs.LawLemmas.{each_holds, least_exact, in_range}
 use Rattle.fixpoint.proofs.ListLemmas.{filter_from, filter_to, both, and_both}
@@ -77,7 +77,7 @@ module _ {A F G : Type 0} (rules : Rules A F G) (lawful : AreLawful rules) (a : 
     (logs : List (List G)) (received : ℕ → ℕ → List G) (sound : AreSound rules a logs received)
     (settled : AreSettled rules a logs received) (P : F → Type 0)
     (kept : (known : F → Bool) → ((g : F) → IsTrue (known g) → P g) → (f : F) → rules.derives a known f → P f)
-    (least : (f : F) → P f → Least rules a f) where
+    (least : (f : F) → P f → IsLeast rules a f) where
   abbrev seen : ℕ → F → Bool
   seen i g = eqb (rules.owner a g) i || rules.reads a i g
 

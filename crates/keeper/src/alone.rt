@@ -2,7 +2,7 @@
 
 ghost use Rattle.std.specs.Prelude.{◌≡◌, ◌↔◌, [], ◌∷◌, IfOk};
 ghost use Rattle.fixpoint.specs.Finishing.{AreRanked};
-ghost use Rattle.fixpoint.specs.Rules.{Least};
+ghost use Rattle.fixpoint.specs.Rules.{IsLeast};
 ghost use Rattle.fixpoint.specs.Logs.{AreSound, IsTold, log_of, part};
 
 use crate::book::Book;
@@ -19,7 +19,7 @@ use std::alloc::Global;
 pub fn solve<E: Engine>(alloc: Global, engine: &E) -> Result<Vec<E::Growth>, Memory>
     requires { E.rules.parts engine.now ≡ 1 }
     ensures exact { IfOk result (λ log. (f : E.Fact)
-        → IsTold E.rules log.items f ↔ Least E.rules engine.now f) }
+        → IsTold E.rules log.items f ↔ IsLeast E.rules engine.now f) }
     ensures sound { IfOk result (λ log. AreSound E.rules engine.now (log.items ∷ [])
         (λ i j. part E.rules engine.now i (log_of (log.items ∷ []) j))) }
     ensures ranked { IfOk result (λ log. AreRanked E.rules engine.now (log.items ∷ [])) }

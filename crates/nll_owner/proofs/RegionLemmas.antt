@@ -20,7 +20,7 @@ use Rattle.nll_owner.proofs.OwnerLemmas.{pair_small}
 
 -- ---- the least solution
 
-pub same_least : (a : System) (r e : ℕ) → generic.Least rules a (fact_of r e) ↔ Least a.problem r e
+pub same_least : (a : System) (r e : ℕ) → generic.IsLeast rules a (fact_of r e) ↔ Least a.problem r e
 same_least a r e = (
   λ l assignment s. l (λ (f : Fact). assignment f.region f.element) (λ f h. ⊎_elim
       (λ b. s.base f.region f.element b)
