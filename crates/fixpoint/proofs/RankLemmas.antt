@@ -6,7 +6,7 @@ use Rattle.std.proofs.lemmas.List.Elements.{Contains-get_or}
 use Rattle.std.proofs.lemmas.List.Kept.{AllPairs-cons}
 use Rattle.fixpoint.specs.Limits.{most_growths}
 use Rattle.fixpoint.specs.Rules.{Rules, AreLawful, AreDifferent}
-use Rattle.fixpoint.specs.State.{State, IsSound, received_from}
+use Rattle.fixpoint.specs.State.{State, IsSoundPart, received_from}
 use Rattle.fixpoint.proofs.ListLemmas.{contains_cases}
 
 -- what stands in a list of pairs that R relates is the same, or R relates it
@@ -26,7 +26,7 @@ pair_cases {X} R xs x y pairs (i, li, hi) (j, lj, hj) = ⊎_elim
 
 -- Sound parts of one system, by the numbers of their owners.
 module _ {A F G : Type 0} (rules : Rules A F G) (lawful : AreLawful rules) (a : A) (ok : rules.valid a)
-    (part : ℕ → State A G) (sound : (i : ℕ) → i < rules.parts a → IsSound rules (part i))
+    (part : ℕ → State A G) (sound : (i : ℕ) → i < rules.parts a → IsSoundPart rules (part i))
     (systems : (i : ℕ) → i < rules.parts a → (part i).system ≡ a)
     (numbers : (i : ℕ) → i < rules.parts a → (part i).me ≡ i) where
   -- a growth that stands in the log of an owner

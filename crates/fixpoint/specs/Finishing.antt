@@ -5,7 +5,7 @@ use Rattle.nll_sets.specs.Prefix.{IsPrefix}
 use Rattle.fixpoint.specs.Limits.{most_growths}
 use Rattle.fixpoint.specs.Rules.{Rules}
 use Rattle.fixpoint.specs.Logs.{log_of, part}
-use Rattle.fixpoint.specs.State.{State, IsSound, IsDone, Passes, received_from, part_for}
+use Rattle.fixpoint.specs.State.{State, IsSoundPart, IsDone, Passes, received_from, part_for}
 use Rattle.fixpoint.specs.Sums.{sum_to}
 use Rattle.fixpoint.specs.declared.ending.Ending.{Ending}
 use Rattle.fixpoint.specs.declared.ending.Ending.TheVariants.{Quiet, Stray}
@@ -23,7 +23,7 @@ module _ {A F G : Type 0} (rules : Rules A F G) where
       (owed cleared : ℕ) (ending : Ending) : Type 0 where
     pub system : o.system ≡ a
     pub me : o.me ≡ i
-    pub sound : IsSound rules o
+    pub sound : IsSoundPart rules o
     -- it posted to each other owner in order, from the front
     pub front : (j : ℕ) → j < rules.parts a → IsPrefix (sent j) (part_for rules o j)
     pub stray : ending ≡ Stray → HasStray a i got

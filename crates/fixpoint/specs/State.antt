@@ -60,7 +60,7 @@ module _ {A F G : Type 0} (rules : Rules A F G) where
   part_for o j = part rules o.system j o.log
 
   -- What is true of a part at every moment, even after a call of it was refused.
-  pub record IsSound (o : State A G) : Type 0 where
+  pub record IsSoundPart (o : State A G) : Type 0 where
     pub valid : rules.valid o.system
     pub me : o.me < rules.parts o.system
     pub well_formed : IsLogOf rules o.system o.me o.log

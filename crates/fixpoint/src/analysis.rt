@@ -4,7 +4,7 @@ ghost use Rattle.std.specs.Prelude.{◌≡◌, ◌↔◌, ◌+◌, ◌<◌, ◌�
 ghost use Rattle.std.specs.Prelude.{Err, slice_get, slice_set, IfOk, OnOk, OnErr, IfSome, IfNone};
 ghost use Rattle.std.specs.Prelude.{IsTrue, Contains};
 ghost use Rattle.nll_sets.specs.Prefix.{IsPrefix};
-ghost use Rattle.fixpoint.specs.State.{State, IsSound, IsDone, IsReadyPart, Passes, first_state};
+ghost use Rattle.fixpoint.specs.State.{State, IsSoundPart, IsDone, IsReadyPart, Passes, first_state};
 ghost use Rattle.fixpoint.specs.State.{part_for, given_to, with_growths, GotBeginning};
 ghost use Rattle.fixpoint.specs.declared.error.PartError.TheVariants.{Broken};
 
@@ -40,12 +40,12 @@ pub trait Analysis: Rules {
     /// The number of the part's owner.
     fn me(part: &Self::Part) -> u16
         ensures value { result ≡ (state part.now).me }
-        ensures sound { IsSound Self.rules (state part.now) };
+        ensures sound { IsSoundPart Self.rules (state part.now) };
 
     /// How many owners there are.
     fn owners(part: &Self::Part) -> u16
         ensures value { result ≡ Self.rules.parts (state part.now).system }
-        ensures sound { IsSound Self.rules (state part.now) };
+        ensures sound { IsSoundPart Self.rules (state part.now) };
 
     /// Enters the facts that follow from nothing, and grows until nothing is left to do.
     ///
@@ -66,7 +66,7 @@ pub trait Analysis: Rules {
         ensures err { OnErr result ((state part.new).broken ≡ true) }
         ensures broken { (result ≡ Err Broken) ↔ ((state part.old).broken ≡ true) }
         ensures unchanged { (state part.old).broken ≡ true → state part.new ≡ state part.old }
-        ensures sound { IsSound Self.rules (state part.new) };
+        ensures sound { IsSoundPart Self.rules (state part.new) };
 
     /// Receives growths of another owner, in the order in which it sent them, and follows up all of
     /// them together. Nothing is left to do then. The part is loaded, or a call of it was refused.
@@ -98,7 +98,7 @@ pub trait Analysis: Rules {
         ensures err { OnErr result ((state part.new).broken ≡ true) }
         ensures broken { (result ≡ Err Broken) ↔ ((state part.old).broken ≡ true) }
         ensures unchanged { (state part.old).broken ≡ true → state part.new ≡ state part.old }
-        ensures sound { IsSound Self.rules (state part.new) };
+        ensures sound { IsSoundPart Self.rules (state part.new) };
 
     /// Whether the part may receive a growth from another owner.
     fn passes(part: &Self::Part, from: u16, growth: &Self::Growth) -> bool
@@ -114,7 +114,7 @@ pub trait Analysis: Rules {
             → to < Self.rules.parts (state part.now).system
             → given_to (state part.now) to
             ≡ length (part_for Self.rules (state part.now) to)) }
-        ensures sound { IsSound Self.rules (state part.now) };
+        ensures sound { IsSoundPart Self.rules (state part.now) };
 
     /// The next growth of the part of the log that another owner reads; this call gives it. None if
     /// all of it was given, if `to` is no other owner, and after an error.
@@ -129,7 +129,7 @@ pub trait Analysis: Rules {
             × ((state part.old).broken ≡ false → to < Self.rules.parts (state part.old).system
             → given_to (state part.old) to
             ≡ length (part_for Self.rules (state part.old) to))) }
-        ensures sound { IsSound Self.rules (state part.new) };
+        ensures sound { IsSoundPart Self.rules (state part.new) };
 
     /// How many growths of the part of the log that another owner reads weren't given; 0 if `to` is
     /// no other owner, and after an error.
@@ -140,7 +140,7 @@ pub trait Analysis: Rules {
             ≡ length (part_for Self.rules (state part.now) to) }
         ensures past { Self.rules.parts (state part.now).system ≤ to → result ≡ 0 }
         ensures broken { (state part.now).broken ≡ true → result ≡ 0 }
-        ensures sound { IsSound Self.rules (state part.now) };
+        ensures sound { IsSoundPart Self.rules (state part.now) };
 
     /// How many growths the log has.
     fn grown(part: &Self::Part) -> u64

@@ -2,14 +2,14 @@
 use Rattle.std.proofs.Common.{◌≡◌, ◌↔◌, ℕ, ◌<◌, List, [], ◌∷◌, Contains, arith, refl, sym, ap, ◌∙◌, subst, inl, ⊎_elim}
 use Rattle.fixpoint.specs.Rules.{Rules, AreLawful, IsLeast, Sees}
 use Rattle.fixpoint.specs.Logs.{IsTold, IsWellSupported, AreSound, AreSettled, list_of, log_of, part}
-use Rattle.fixpoint.specs.State.{State, IsSound, IsDone, received_from}
+use Rattle.fixpoint.specs.State.{State, IsSoundPart, IsDone, received_from}
 use Rattle.fixpoint.specs.Finishing.{AreRanked}
 use Rattle.fixpoint.proofs.LawLemmas.{least_exact, in_range}
 use Rattle.fixpoint.proofs.LogLemmas.{list_own}
 use Rattle.fixpoint.proofs.RankLemmas.{ranks_low}
 
 module _ {A F G : Type 0} (rules : Rules A F G) (lawful : AreLawful rules) (o : State A G)
-    (one : rules.parts o.system ≡ 1) (sound : IsSound rules o) (done : IsDone rules o) where
+    (one : rules.parts o.system ≡ 1) (sound : IsSoundPart rules o) (done : IsDone rules o) where
   abbrev logs : List (List G)
   logs = o.log ∷ []
 

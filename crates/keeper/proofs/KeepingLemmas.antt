@@ -7,7 +7,7 @@ use Rattle.std.proofs.lemmas.List.Quantifiers.{all_pairs_push}
 use Rattle.fixpoint.specs.Limits.{most_growths}
 use Rattle.fixpoint.specs.Rules.{Rules, AreLawful}
 use Rattle.fixpoint.specs.Logs.{IsTold, IsLogOf, IsWellSupported, tells, tells_before, part}
-use Rattle.fixpoint.specs.State.{State, IsSound, IsNoted, Passes, list_in, received_from, part_for, given_to}
+use Rattle.fixpoint.specs.State.{State, IsSoundPart, IsNoted, Passes, list_in, received_from, part_for, given_to}
 use Rattle.fixpoint.proofs.LogLemmas.{list_own, list_other, tells_from, tells_to, before_from, before_to}
 use Rattle.keeper.specs.Engine.{MayEnter, with_fact}
 use Rattle.keeper.specs.Keeping.{IsKept, has, with_heard}
@@ -152,7 +152,7 @@ module _ {A F G : Type 0} (rules : Rules A F G) (lawful : AreLawful rules) where
         ⊎_elim (λ (a : Contains o.log h). inl (Contains-append_left o.log (growth ∷ []) h a))
         (λ (b : (j : ℕ) × Contains (received_from o j) h). inr b) k
 
-    pub grown_sound : IsSound rules grown
+    pub grown_sound : IsSoundPart rules grown
     grown_sound = record {
       valid = kept.sound.valid;
       me = kept.sound.me;
@@ -277,7 +277,7 @@ module _ {A F G : Type 0} (rules : Rules A F G) (lawful : AreLawful rules) where
     told_known : (h : G) → IsNoted o h → IsNoted told_of h
     told_known h k = grind (arith, ⊎_elim, received_more)
 
-    pub told_sound : IsSound rules told_of
+    pub told_sound : IsSoundPart rules told_of
     told_sound = record {
       valid = kept.sound.valid;
       me = kept.sound.me;

@@ -4,7 +4,7 @@ use Rattle.std.specs.Prelude.{[], ◌++◌, ◌∷◌, length, Contains, slice_s
 use Rattle.nll_sets.specs.Prefix.{IsPrefix}
 use Rattle.fixpoint.specs.Rules.{Rules}
 use Rattle.fixpoint.specs.Logs.{tells, part}
-use Rattle.fixpoint.specs.State.{State, IsSound, IsDone, IsNoted, list_in, received_from}
+use Rattle.fixpoint.specs.State.{State, IsSoundPart, IsDone, IsNoted, list_in, received_from}
 use Rattle.keeper.specs.Engine.{MayEnter}
 
 -- the part that is made of these
@@ -36,7 +36,7 @@ module _ {A F G : Type 0} (rules : Rules A F G) where
 
   -- What is true of a part and its clock, which is the highest rank so far.
   pub record IsKept (o : State A G) (clock : ℕ) : Type 0 where
-    pub sound : IsSound rules o
+    pub sound : IsSoundPart rules o
     -- no rank is above the clock
     pub own_ranks : (g : G) → Contains o.log g → rules.rank g ≤ clock
     pub heard_ranks : (j : ℕ) (g : G) → Contains (received_from o j) g → rules.rank g ≤ clock

@@ -4,7 +4,7 @@ ghost use Rattle.std.specs.Prelude.{◌≡◌, ◌+◌, ◌<◌, ◌≤◌, fals
 ghost use Rattle.std.specs.Prelude.{[], map, replicate};
 ghost use Rattle.std.specs.declared.vec.Vec.{Vec};
 ghost use Rattle.std.specs.Prelude.{OnOk, OnErr, IfOk, slice_set};
-ghost use Rattle.fixpoint.specs.State.{IsSound, Passes, first_state, part_for, given_to};
+ghost use Rattle.fixpoint.specs.State.{IsSoundPart, Passes, first_state, part_for, given_to};
 ghost use Rattle.fixpoint.specs.Limits.{most_growths};
 ghost use Rattle.keeper.specs.Engine.{MayEnter, with_fact};
 ghost use Rattle.keeper.specs.Keeping.{GrowsBy, has, with_heard};
@@ -75,7 +75,7 @@ impl<'q, E: Engine> Book<'q, E> {
         ensures has { OnOk result ((f : E.Fact)
             → has E.rules self.new f ≡ with_fact E.rules fact (has E.rules self.old) f) }
         ensures err { OnErr result (self.new ≡ self.old) }
-        ensures sound { IsSound E.rules self.new }
+        ensures sound { IsSoundPart E.rules self.new }
     {
         let rank = self.clock + 1;
         self.log.push(E::growth(fact, rank))?;
@@ -92,7 +92,7 @@ impl<'q, E: Engine> Book<'q, E> {
         ensures has { OnOk result ((f : E.Fact) → has E.rules self.new f
             ≡ with_fact E.rules (E.rules.fact growth) (has E.rules self.old) f) }
         ensures err { OnErr result (self.new ≡ self.old) }
-        ensures sound { IsSound E.rules self.new }
+        ensures sound { IsSoundPart E.rules self.new }
     {
         let clock = self.clock.max(E::rank(&growth));
         let list = &mut self.received[from as usize];
@@ -104,7 +104,7 @@ impl<'q, E: Engine> Book<'q, E> {
     /// Notes whether the part is loaded, and whether a call of it was refused.
     pub fn mark(&mut self, loaded: bool, broken: bool)
         ensures marks { self.new ≡ record self.old { loaded = loaded; broken = broken } }
-        ensures sound { IsSound E.rules self.new }
+        ensures sound { IsSoundPart E.rules self.new }
     {
         self.loaded = loaded;
         self.broken = broken;
@@ -117,7 +117,7 @@ impl<'q, E: Engine> Book<'q, E> {
         ensures given { self.new ≡ record self.old {
           given = slice_set self.old.given to (given_to self.old to + 1);
         } }
-        ensures sound { IsSound E.rules self.new }
+        ensures sound { IsSoundPart E.rules self.new }
     {
         self.given[to as usize] += 1;
     }
@@ -127,7 +127,7 @@ impl<'q, E: Engine> Book<'q, E> {
         requires { to < E.rules.parts self.now.system }
         ensures value { result ≡ given_to self.now to }
         ensures most { result ≤ length (part_for E.rules self.now to) }
-        ensures sound { IsSound E.rules self.now }
+        ensures sound { IsSoundPart E.rules self.now }
     {
         self.given[to as usize]
     }
@@ -142,7 +142,7 @@ impl<'q, E: Engine> Book<'q, E> {
     /// The number of the owner.
     pub fn me(&self) -> u16
         ensures value { result ≡ self.now.me }
-        ensures sound { IsSound E.rules self.now }
+        ensures sound { IsSoundPart E.rules self.now }
     {
         self.me
     }
@@ -150,7 +150,7 @@ impl<'q, E: Engine> Book<'q, E> {
     /// How many owners there are.
     pub fn owners(&self) -> u16
         ensures value { result ≡ E.rules.parts self.now.system }
-        ensures sound { IsSound E.rules self.now }
+        ensures sound { IsSoundPart E.rules self.now }
     {
         self.system.parts()
     }
@@ -181,7 +181,7 @@ impl<'q, E: Engine> Book<'q, E> {
     pub fn entries(&self) -> &[E::Growth]
         ensures log { result.now ≡ self.now.log }
         ensures short { length result.now < most_growths }
-        ensures sound { IsSound E.rules self.now }
+        ensures sound { IsSoundPart E.rules self.now }
     {
         &self.log
     }

@@ -1,7 +1,7 @@
 //! Growths of other owners.
 
 ghost use Rattle.std.specs.Prelude.{◌≡◌, OnOk, Contains};
-ghost use Rattle.fixpoint.specs.State.{IsSound, Passes, with_growths, GotBeginning};
+ghost use Rattle.fixpoint.specs.State.{IsSoundPart, Passes, with_growths, GotBeginning};
 ghost use Rattle.keeper.specs.Keeping.{ListsDue, has};
 
 use crate::book::Book;
@@ -16,7 +16,7 @@ pub fn hear_all<E: Engine>(
     from: u16,
     growths: &[E::Growth],
 ) -> Result<(), Memory>
-    requires sound { IsSound E.rules book.old }
+    requires sound { IsSoundPart E.rules book.old }
     requires store { (f : E.Fact) → E.has store.old f ≡ has E.rules book.old f }
     requires due { ListsDue E.rules book.old.system book.old.me
         (has E.rules book.old) due.old.items }
@@ -30,7 +30,7 @@ pub fn hear_all<E: Engine>(
         → E.has store.new f ≡ has E.rules book.new f) }
     ensures due { OnOk result (ListsDue E.rules book.new.system book.new.me
         (has E.rules book.new) due.new.items) }
-    ensures sound { IsSound E.rules book.new }
+    ensures sound { IsSoundPart E.rules book.new }
 {
     for growth in growths {
         let fact = E::fact(growth);

@@ -32,14 +32,14 @@ pub struct Keeper<'q, E: Engine> {
 
 impl<'q, E: Engine> Model for Keeper<'q, E> {
     ghost use Rattle.std.specs.Prelude.{◌≡◌, false, map};
-    ghost use Rattle.fixpoint.specs.State.{State, IsSound};
+    ghost use Rattle.fixpoint.specs.State.{State, IsSoundPart};
     ghost use Rattle.keeper.specs.Keeping.{IsWholePart};
 
     ghost Value = { State E E.Growth };
 
     ghost view = { λ k. k.book };
 
-    ghost invariant = { λ k. IsSound E.rules k.book
+    ghost invariant = { λ k. IsSoundPart E.rules k.book
         × (k.book.broken ≡ false → IsWholePart E.rules k.book (λ f. E.has k.store f)
         k.due.items k.boxes.place (map (λ list. list.items) k.boxes.lists.items)) };
 }

@@ -1,7 +1,7 @@
 //! What a keeper does in a call.
 
 ghost use Rattle.std.specs.Prelude.{◌≡◌, false, OnOk, Contains, map};
-ghost use Rattle.fixpoint.specs.State.{IsSound, IsDone, Passes, with_growths, GotBeginning};
+ghost use Rattle.fixpoint.specs.State.{IsSoundPart, IsDone, Passes, with_growths, GotBeginning};
 ghost use Rattle.nll_sets.specs.Prefix.{IsPrefix};
 ghost use Rattle.keeper.specs.Keeping.{LogGrows, IsQuiet, has};
 
@@ -19,7 +19,7 @@ pub fn load_all<E: Engine>(
     due: &mut Vec<E::Fact>,
     boxes: &mut Outboxes<E::Growth>,
 ) -> Result<(), Memory>
-    requires sound { IsSound E.rules book.old }
+    requires sound { IsSoundPart E.rules book.old }
     requires quiet { IsQuiet E.rules book.old (λ f. E.has store.old f) due.old.items
         boxes.old.place (map (λ list. list.items) boxes.old.lists.items) }
     requires fresh { (f : E.Fact) → has E.rules book.old f ≡ false }
@@ -27,7 +27,7 @@ pub fn load_all<E: Engine>(
     ensures quiet { OnOk result (IsQuiet E.rules book.new (λ f. E.has store.new f)
         due.new.items boxes.new.place (map (λ list. list.items) boxes.new.lists.items)) }
     ensures done { OnOk result (IsDone E.rules book.new) }
-    ensures sound { IsSound E.rules book.new }
+    ensures sound { IsSoundPart E.rules book.new }
 {
     let engine = book.system();
     engine.begin(book.me(), due)?;
@@ -44,7 +44,7 @@ pub fn take_in<E: Engine>(
     from: u16,
     growths: &[E::Growth],
 ) -> Result<(), Memory>
-    requires sound { IsSound E.rules book.old }
+    requires sound { IsSoundPart E.rules book.old }
     requires quiet { IsQuiet E.rules book.old (λ f. E.has store.old f) due.old.items
         boxes.old.place (map (λ list. list.items) boxes.old.lists.items) }
     requires done { IsDone E.rules book.old }
@@ -59,7 +59,7 @@ pub fn take_in<E: Engine>(
     ensures quiet { OnOk result (IsQuiet E.rules book.new (λ f. E.has store.new f)
         due.new.items boxes.new.place (map (λ list. list.items) boxes.new.lists.items)) }
     ensures done { OnOk result (IsDone E.rules book.new) }
-    ensures sound { IsSound E.rules book.new }
+    ensures sound { IsSoundPart E.rules book.new }
 {
     hear_all::<E>(book, store, due, from, growths)?;
     settle::<E>(book, store, due)?;

@@ -1,7 +1,7 @@
 //! Facts that are due.
 
 ghost use Rattle.std.specs.Prelude.{◌≡◌, [], OnOk};
-ghost use Rattle.fixpoint.specs.State.{IsSound, IsDone};
+ghost use Rattle.fixpoint.specs.State.{IsSoundPart, IsDone};
 ghost use Rattle.keeper.specs.Keeping.{LogGrows, ListsDue, has};
 
 use crate::book::Book;
@@ -14,7 +14,7 @@ pub fn settle<E: Engine>(
     store: &mut E::Store,
     due: &mut Vec<E::Fact>,
 ) -> Result<(), Memory>
-    requires sound { IsSound E.rules book.old }
+    requires sound { IsSoundPart E.rules book.old }
     requires store { (f : E.Fact) → E.has store.old f ≡ has E.rules book.old f }
     requires due { ListsDue E.rules book.old.system book.old.me
         (has E.rules book.old) due.old.items }
@@ -23,7 +23,7 @@ pub fn settle<E: Engine>(
         → E.has store.new f ≡ has E.rules book.new f) }
     ensures none { OnOk result (due.new.items ≡ []) }
     ensures done { OnOk result (IsDone E.rules book.new) }
-    ensures sound { IsSound E.rules book.new }
+    ensures sound { IsSoundPart E.rules book.new }
 {
     while let Some(fact) = due.pop() {
         if !book.system().knows(store, &fact) {

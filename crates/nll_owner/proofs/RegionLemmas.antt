@@ -146,7 +146,7 @@ module _ (q : Problem) (c : Cut) where
 
 -- ---- an owner
 
-pub part_sound : (o : Owner) → IsSoundOwner o → state.IsSound rules (part_of o)
+pub part_sound : (o : Owner) → IsSoundOwner o → state.IsSoundPart rules (part_of o)
 part_sound o s = record {
   valid = (s.problem, s.cut);
   me = s.me;

@@ -4,7 +4,7 @@ use Rattle.std.specs.Prelude.{Option}
 use Rattle.mail.specs.declared.mail.Mail as Mail
 use Rattle.ledger.specs.declared.ledger.Ledger as Ledger
 use Rattle.fixpoint.specs.Rules.{Rules}
-use Rattle.fixpoint.specs.State.{State, IsSound}
+use Rattle.fixpoint.specs.State.{State, IsSoundPart}
 use Rattle.worker.specs.Finishing.{IsOpenStill}
 use Rattle.worker.specs.Mailboxes.{Both, Keeps}
 use Rattle.worker.specs.Turning.{StaysAtWork}
@@ -25,7 +25,7 @@ module _ {L B H E : Type 0} (ledger : Ledger.Ghosts L B H E) where
   }
 
   module _ {A F G : Type 0} (rules : Rules A F G) {M S R C P : Type 0} (mail : Mail.Ghosts M G S R C P) where
-    pub stays_none : (o : State A G) (book : B) (share : H) (ends : List (Option R)) → IsSound rules o
+    pub stays_none : (o : State A G) (book : B) (share : H) (ends : List (Option R)) → IsSoundPart rules o
         → ledger.belongs book share → StaysAtWork rules ledger mail o o book share book share ends ends
     stays_none o book share ends sound of_book = record {
       grows = grown_self rules o o refl;

@@ -1,7 +1,7 @@
 -- What a worker's end comes to.
 use Rattle.std.proofs.Common.{◌≡◌, ◌≢◌, ℕ, ◌+◌, ◌<◌, List, length, sym, ap, ◌∙◌, subst, arith}
 use Rattle.fixpoint.specs.Logs.{log_of}
-use Rattle.fixpoint.specs.State.{State, IsSound, part_for}
+use Rattle.fixpoint.specs.State.{State, IsSoundPart, part_for}
 use Rattle.fixpoint.specs.declared.ending.Ending.{Ending}
 use Rattle.fixpoint.specs.declared.ending.Ending.TheVariants.{Quiet, Stray}
 use Rattle.worker.specs.declared.tally.Tally.{Tally}
@@ -34,12 +34,12 @@ module _ {A F G : Type 0} (rules : Rules A F G) where
     inside : (j : ℕ) → j < (rules.parts a) → j < (rules.parts o.system)
     inside j l = subst (λ (k : A). j < rules.parts k) (sym is.system) l
 
-    pub finishes_fail : (ending : Ending) → IsSound rules o → HasTakenAll rules o taken → ending ≢ Quiet → ending ≢
+    pub finishes_fail : (ending : Ending) → IsSoundPart rules o → HasTakenAll rules o taken → ending ≢ Quiet → ending ≢
         Stray
         → Finishes rules a i o (log_of posts) (log_of taken) owed cleared ending
     finishes_fail ending sound all quiet stray = grind (arith, posts_front, inside)
 
-    pub finishes_stray : IsSound rules o → HasStray rules o.system o.me (log_of taken) → HasTakenAll rules o taken
+    pub finishes_stray : IsSoundPart rules o → HasStray rules o.system o.me (log_of taken) → HasTakenAll rules o taken
         → Finishes rules a i o (log_of posts) (log_of taken) owed cleared Stray
     finishes_stray sound witness all = record {
       system = is.system;

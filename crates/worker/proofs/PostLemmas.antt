@@ -6,7 +6,7 @@ use Rattle.std.proofs.lemmas.Option.{slice_get_within}
 use Rattle.std.proofs.lemmas.List.{get_or-set_same, get_or-set_other, take-append-drop}
 use Rattle.fixpoint.specs.Logs.{log_of}
 use Rattle.nll_sets.specs.Prefix.{IsPrefix}
-use Rattle.fixpoint.specs.State.{State, IsSound, part_for, given_to, first_state}
+use Rattle.fixpoint.specs.State.{State, IsSoundPart, part_for, given_to, first_state}
 use Rattle.worker.proofs.PostingLemmas.{Posting, filter_none}
 use Rattle.fixpoint.proofs.ListLemmas.{take_all}
 use Rattle.worker.specs.Mailboxes.{AreAllEmpty}
@@ -64,7 +64,7 @@ module _ {A F G : Type 0} (rules : Rules A F G) where
       front = grind (arith, ⊎_elim, part_was, other_read, cases_eq);
     }
 
-  pub posts_grown : (old new : State A G) (posts : List (List G)) → HasGrown old new → IsSound rules old →
+  pub posts_grown : (old new : State A G) (posts : List (List G)) → HasGrown old new → IsSoundPart rules old →
       HasPosted rules old posts
       → HasPosted rules new posts
   posts_grown old new posts h sound p = record {
@@ -91,7 +91,7 @@ module _ {A F G : Type 0} (rules : Rules A F G) where
       (drop (given_to o j) (part_for rules o j), sym (take-append-drop (given_to o j) (part_for rules o j)))
 
   -- where nothing waits, all was posted
-  pub posts_all : (o : State A G) (posts : List (List G)) (t : Tally) → IsSound rules o → HasPosted rules o
+  pub posts_all : (o : State A G) (posts : List (List G)) (t : Tally) → IsSoundPart rules o → HasPosted rules o
       posts → IsCounted rules o t
       → t.waiting ≡ 0 → (j : ℕ) → j < (rules.parts o.system) → log_of posts j ≡ part_for rules o j
   posts_all o posts t sound p is none j l = p.front j l
@@ -145,7 +145,7 @@ module _ {A F G : Type 0} (rules : Rules A F G) where
         below j to l other = grind arith
 
   -- nothing of its log is for the owner itself
-  part_own : AreLawful rules → (o : State A G) → IsSound rules o → part_for rules o o.me ≡ []
+  part_own : AreLawful rules → (o : State A G) → IsSoundPart rules o → part_for rules o o.me ≡ []
   part_own lawful o sound =
       filter_none (λ (g : G). rules.reads o.system o.me (rules.fact g)) o.log
       (λ g h. unread (rules.fact g) (rules.reads o.system o.me (rules.fact g)) refl (sound.well_formed.own g h))
@@ -154,11 +154,11 @@ module _ {A F G : Type 0} (rules : Rules A F G) where
       unread f false e is = refl
       unread f true e is = absurd ((lawful.others o.system sound.valid o.me f e).1 is)
 
-  pub given_own : AreLawful rules → (o : State A G) (to most : ℕ) → IsSound rules o → to ≡ o.me
+  pub given_own : AreLawful rules → (o : State A G) (to most : ℕ) → IsSoundPart rules o → to ≡ o.me
       → given_to o to ≡ min (given_to o to + most) (length (part_for rules o to))
   given_own lawful o to most sound own = grind (arith, part_own)
 
   -- where nothing waits, nothing more is to be given out
-  pub none_more : (o : State A G) (t : Tally) (most : ℕ) → IsSound rules o → IsCounted rules o t → t.waiting ≡ 0
+  pub none_more : (o : State A G) (t : Tally) (most : ℕ) → IsSoundPart rules o → IsCounted rules o t → t.waiting ≡ 0
       → HasGivenMore rules most (rules.parts o.system) o o
   none_more o t most sound is none j l = let all = all_given rules o t sound is none j l in omega (arith, all)

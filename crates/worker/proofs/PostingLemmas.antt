@@ -2,7 +2,7 @@
 use Rattle.std.proofs.Common.{if◌then◌else◌, ◌≡◌, ◌≢◌, ℕ, suc, ◌+◌, ◌-◌, ◌^◌, ◌<◌, List, [], ◌∷◌, ◌++◌, length, take, set, slice_get, Some, Bool, false, Contains, refl, sym, ap, ◌∙◌, subst, arith}
 use Rattle.std.proofs.lemmas.Option.{slice_get_within}
 use Rattle.std.proofs.lemmas.List.{get_or-set_same, get_or-set_other}
-use Rattle.fixpoint.specs.State.{State, IsSound, part_for, given_to}
+use Rattle.fixpoint.specs.State.{State, IsSoundPart, part_for, given_to}
 use Rattle.fixpoint.proofs.ListLemmas.{filter_le, take_length, take_more}
 use Rattle.fixpoint.specs.Rules.{Rules}
 use Rattle.std.specs.List.{filter}
@@ -16,21 +16,22 @@ filter_none {X} p (x ∷ xs) all =
 module _ {A F G : Type 0} (rules : Rules A F G) where
   -- The owner gave out more to `to`, and just that was posted.
   pub record Posting (first now : State A G) (to : ℕ) (sent : List G) : Type 0 where
-    pub sound : IsSound rules now
+    pub sound : IsSoundPart rules now
     pub others : now ≡ record first { given = now.given }
     pub other_given : (j : ℕ) → j ≢ to → given_to now j ≡ given_to first j
     pub posted : sent ≡ take (given_to now to) (part_for rules first to)
 
   -- the owner after one more was given out
   pub record Given (first next : State A G) (to : ℕ) : Type 0 where
-    pub sound : IsSound rules next
+    pub sound : IsSoundPart rules next
     pub others : next ≡ record first { given = next.given }
     pub other_given : (j : ℕ) → j ≢ to → given_to next j ≡ given_to first j
 
   module _ (first now next : State A G) (to : ℕ) (sent : List G) (p : Posting first now to sent)
       (to_in : to < (rules.parts first.system)) (g : G)
       (next_is : slice_get (part_for rules now to) (given_to now to) ≡ Some g)
-      (gives : next ≡ record now { given = set now.given to (given_to now to + 1) }) (sound : IsSound rules next) where
+      (gives : next ≡ record now { given = set now.given to (given_to now to + 1) })
+      (sound : IsSoundPart rules next) where
     part_same : part_for rules now to ≡ part_for rules first to
     part_same = ap (λ (o : State A G). part_for rules o to) p.others
 

@@ -3,7 +3,7 @@ use Rattle.std.proofs.Common.{◌≡◌, ℕ, zero, suc, ◌+◌, ◌*◌, ◌^�
 use Rattle.std.proofs.lemmas.List.Elements.{filter-append}
 use Rattle.fixpoint.specs.Logs.{part}
 use Rattle.nll_sets.specs.Prefix.{IsPrefix}
-use Rattle.fixpoint.specs.State.{State, IsSound, part_for, given_to}
+use Rattle.fixpoint.specs.State.{State, IsSoundPart, part_for, given_to}
 use Rattle.fixpoint.proofs.ListLemmas.{filter_le}
 use Rattle.fixpoint.specs.Sums.{sum_to}
 use Rattle.worker.specs.Tallies.{IsCounted, HasGrown, due_of, given_of}
@@ -21,7 +21,7 @@ sum_bound (suc n) f b h = let r = sum_bound n f b (λ k l. h k (omega (arith, l)
 
 module _ {A F G : Type 0} (rules : Rules A F G) where
   -- a part rules has fewer than 2 ^ 37 growths
-  pub part_few : (o : State A G) (j : ℕ) → IsSound rules o → length (part_for rules o j) < 2 ^ 37
+  pub part_few : (o : State A G) (j : ℕ) → IsSoundPart rules o → length (part_for rules o j) < 2 ^ 37
   part_few o j sound = grind (arith, filter_le)
 
   -- what was counted of each part is what isn't given of all
@@ -32,7 +32,7 @@ module _ {A F G : Type 0} (rules : Rules A F G) where
       subst (λ k. sum_to k (λ j. given_to o j) + w ≡ sum_to k (λ j. length (part_for rules o j))) all count
 
   -- all parts together have fewer than 2 ^ 43
-  pub due_small : (o : State A G) → IsSound rules o → (rules.parts o.system) ≤ 64 → due_of rules o < 2 ^ 43
+  pub due_small : (o : State A G) → IsSoundPart rules o → (rules.parts o.system) ≤ 64 → due_of rules o < 2 ^ 43
   due_small o sound few =
       let all =
       sum_bound (rules.parts o.system) (λ j. length (part_for rules o j)) 137438953471
@@ -118,7 +118,7 @@ module _ {A F G : Type 0} (rules : Rules A F G) where
       due_more w n e d = let was_is = was.waiting in omega (arith, e, d, was_is, given_of_same)
 
   -- where nothing waits, all was given out
-  pub all_given : (o : State A G) (t : Tally) → IsSound rules o → IsCounted rules o t → t.waiting ≡ 0 →
+  pub all_given : (o : State A G) (t : Tally) → IsSoundPart rules o → IsCounted rules o t → t.waiting ≡ 0 →
       (j : ℕ) → j < (rules.parts o.system)
       → given_to o j ≡ length (part_for rules o j)
   all_given o t sound is none =

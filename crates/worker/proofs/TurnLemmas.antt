@@ -4,7 +4,7 @@ use Rattle.std.proofs.lemmas.Bool.{cases_eq}
 use Rattle.std.proofs.lemmas.List.Elements.{Contains-append_left}
 use Rattle.fixpoint.specs.Logs.{log_of}
 use Rattle.nll_sets.specs.Prefix.{IsPrefix}
-use Rattle.fixpoint.specs.State.{State, IsSound, IsDone, received_from, given_to, part_for, with_growths, first_state}
+use Rattle.fixpoint.specs.State.{State, IsSoundPart, IsDone, received_from, given_to, part_for, with_growths, first_state}
 use Rattle.worker.specs.declared.inbox.Heard.{Heard}
 use Rattle.worker.specs.declared.inbox.Heard.TheVariants.{Nothing, Growths, Stray, Memory}
 use Rattle.worker.specs.declared.tally.Tally.{Tally}
@@ -57,7 +57,7 @@ module _ {A F G : Type 0} (rules : Rules A F G) where
         ap (λ (o : State A G). sum_to (rules.parts o.system) (λ j. given_to next j)) others
         ∙ sum_more (rules.parts now.system) (λ j. given_to now j) (λ j. given_to next j) to n lt here other
 
-    module _ (sound : IsSound rules next) (more : given_of rules next ≡ given_of rules now + n) where
+    module _ (sound : IsSoundPart rules next) (more : given_of rules next ≡ given_of rules now + n) where
       pub few_given : (rules.parts next.system) ≤ 64 → given_of rules now + n < 2 ^ 43
       few_given few =
           let all = sum_le (rules.parts next.system) (λ j. given_to next j) (λ j. length (part_for rules next j))
@@ -142,7 +142,7 @@ module _ {A F G : Type 0} (rules : Rules A F G) where
       owners_same : (rules.parts new.system) ≡ (rules.parts old.system)
       owners_same = ap (λ (o : State A G). rules.parts o.system) others
 
-      pub some_works : (owed' : ℕ) → IsSound rules new → IsDone rules new → owed' ≡ 1 + due_of rules new → IsWorking
+      pub some_works : (owed' : ℕ) → IsSoundPart rules new → IsDone rules new → owed' ≡ 1 + due_of rules new → IsWorking
           rules new owed'
       some_works owed' sound done owes = grind arith
 
@@ -200,12 +200,12 @@ module _ {A F G : Type 0} (rules : Rules A F G) where
     pub taken_given : HasTakenAll rules old taken → HasTakenAll rules new taken
     taken_given h = subst (λ (o : State A G). HasTakenAll rules o taken) (sym others) h
 
-    pub rests_given : (owed cleared : ℕ) (t t' : Tally) → IsSound rules new → IsCounted rules new t'
+    pub rests_given : (owed cleared : ℕ) (t t' : Tally) → IsSoundPart rules new → IsCounted rules new t'
         → (t'.turns ≡ t.turns) × (t'.cleared ≡ t.cleared) → IsAtRest rules old taken owed cleared t
         → IsAtRest rules new taken owed cleared t'
     rests_given owed cleared t t' sound counted same r = record {
       working = subst (λ (o : State A G). IsWorking rules o owed) (sym others) (record {
-        sound = subst (IsSound rules) others sound;
+        sound = subst (IsSoundPart rules) others sound;
         whole = r.working.whole;
         loaded = r.working.loaded;
         done = r.working.done;
@@ -222,7 +222,7 @@ module _ {A F G : Type 0} (rules : Rules A F G) where
       turns = omega (arith, same.0, r.turns);
     }
 
-    pub comes_given : (owed cleared : ℕ) (t t' : Tally) → IsSound rules new → IsCounted rules new t'
+    pub comes_given : (owed cleared : ℕ) (t t' : Tally) → IsSoundPart rules new → IsCounted rules new t'
         → (t'.turns ≡ t.turns) × (t'.cleared ≡ t.cleared) → (heard : Heard) → ComesTo rules old taken owed cleared t
         heard
         → ComesTo rules new taken owed cleared t' heard

@@ -2,7 +2,7 @@
 use Rattle.std.specs.Prelude.{◌≡◌, ℕ, ◌<◌, List, ◌++◌, length, Contains}
 use Rattle.nll_sets.specs.Prefix.{IsPrefix}
 use Rattle.fixpoint.specs.Rules.{Rules}
-use Rattle.fixpoint.specs.State.{State, IsSound, IsDone, Passes, with_growths, GotBeginning}
+use Rattle.fixpoint.specs.State.{State, IsSoundPart, IsDone, Passes, with_growths, GotBeginning}
 use Rattle.worker.specs.declared.inbox.Heard.{Heard}
 use Rattle.worker.specs.declared.inbox.Heard.TheVariants.{Nothing, Growths, Stray, Memory}
 
@@ -11,7 +11,7 @@ module _ {A F G : Type 0} (rules : Rules A F G) where
   -- grew, and it received a prefix of the growths: none of them, some or all
   abbrev pub IsGivenUp : ℕ → List G → State A G → State A G → Type 0
   IsGivenUp j gs old new =
-      IsPrefix old.log new.log × IsSound rules new × (new ≡ record old {
+      IsPrefix old.log new.log × IsSoundPart rules new × (new ≡ record old {
         log = new.log;
         received = new.received;
         broken = new.broken;
@@ -22,7 +22,7 @@ module _ {A F G : Type 0} (rules : Rules A F G) where
   HandsIn j old new gs Nothing = ⊥
   HandsIn j old new gs Growths =
       (new.received ≡ with_growths old.received j gs) × IsPrefix old.log new.log
-      × IsSound rules new × IsDone rules new × (new ≡ record old {
+      × IsSoundPart rules new × IsDone rules new × (new ≡ record old {
         log = new.log;
         received = new.received;
       }) × (0 < length gs)

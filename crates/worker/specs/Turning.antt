@@ -6,7 +6,7 @@ use Rattle.mail.specs.declared.mail.Mail as Mail
 use Rattle.ledger.specs.declared.ledger.Ledger as Ledger
 use Rattle.fixpoint.specs.Rules.{Rules}
 use Rattle.fixpoint.specs.Logs.{log_of}
-use Rattle.fixpoint.specs.State.{State, IsSound, IsDone, received_from, part_for, given_to}
+use Rattle.fixpoint.specs.State.{State, IsSoundPart, IsDone, received_from, part_for, given_to}
 use Rattle.fixpoint.specs.Finishing.{HasStray}
 use Rattle.fixpoint.specs.Sums.{sum_to}
 use Rattle.worker.specs.Mailboxes.{Alike, Both, Keeps}
@@ -43,7 +43,7 @@ module _ {A F G : Type 0} (rules : Rules A F G) where
   -- The part is loaded and has nothing left to do. It owes 1 for its load and for each growth that
   -- another owner reads, posted or not.
   pub record IsWorking (o : State A G) (owed : ℕ) : Type 0 where
-    pub sound : IsSound rules o
+    pub sound : IsSoundPart rules o
     pub whole : o.broken ≡ false
     pub loaded : o.loaded ≡ true
     pub done : IsDone rules o
@@ -89,6 +89,6 @@ module _ {A F G : Type 0} (rules : Rules A F G) where
     pub record StaysAtWork (old new : State A G) (book : B) (share : H) (new_book : B)
         (new_share : H) (ends new_ends : List (Option R)) : Type 0 where
       pub grows : HasGrown old new
-      pub sound : IsSound rules new
+      pub sound : IsSoundPart rules new
       pub still : IsOpenStill ledger book share new_book new_share
       pub keeps : Alike (Both (Keeps mail)) ends new_ends

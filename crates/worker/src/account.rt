@@ -1,7 +1,7 @@
 //! What a worker owes and has cleared.
 
 ghost use Rattle.std.specs.Prelude.{◌≡◌, ◌+◌, ◌^◌, ◌<◌, ◌≤◌, false};
-ghost use Rattle.fixpoint.specs.State.{State, IsSound};
+ghost use Rattle.fixpoint.specs.State.{State, IsSoundPart};
 ghost use Rattle.worker.specs.Finishing.{IsOpenStill};
 ghost use Rattle.worker.specs.Tallies.{HasGrown, IsCounted, due_of};
 
@@ -19,7 +19,7 @@ pub struct Account<'x, L: Ledger> {
 
 /// Owes for what was added to the log in this turn, and then clears the turn's items, this many.
 pub fn keep_book<A: Analysis, L: Ledger>(account: &mut Account<'_, L>, part: &A::Part, items: u64)
-    requires sound { IsSound A.rules (A.state part.now) }
+    requires sound { IsSoundPart A.rules (A.state part.now) }
     requires whole { (A.state part.now).broken ≡ false }
     requires book { L.belongs account.old.book.now account.old.share }
     requires grew { (before : State A A.Growth) × HasGrown before (A.state part.now)

@@ -4,7 +4,7 @@ ghost use Rattle.std.specs.Prelude.{◌≡◌, ◌<◌, ◌≤◌, ◌++◌, [],
 ghost use Rattle.std.specs.Prelude.{Contains, slice_set, vec_len, vec_capacity};
 ghost use Rattle.mail.specs.Limits.{most_posts};
 ghost use Rattle.fixpoint.specs.Logs.{log_of};
-ghost use Rattle.fixpoint.specs.State.{IsSound, Passes};
+ghost use Rattle.fixpoint.specs.State.{IsSoundPart, Passes};
 ghost use Rattle.worker.specs.Mailboxes.{Alike, Both, Keeps, through};
 ghost use Rattle.worker.specs.Hearing.{LooksInto};
 
@@ -85,7 +85,7 @@ fn hear<A: Analysis, M: Mail<A::Growth>, G: Gate>(
     from: u16,
     batch: &mut Vec<A::Growth>,
 ) -> Heard
-    requires sound { IsSound A.rules (A.state part.old) }
+    requires sound { IsSoundPart A.rules (A.state part.old) }
     requires whole { (A.state part.old).broken ≡ false }
     requires loaded { (A.state part.old).loaded ≡ true }
     ensures hears { LooksInto A.rules from (A.state part.old) (A.state part.new)
@@ -124,7 +124,7 @@ pub fn hear_from<A: Analysis, M: Mail<A::Growth>, G: Gate>(
     inbox: &mut Inbox<A, M>,
     from: u16,
 ) -> Heard
-    requires sound { IsSound A.rules (A.state part.old) }
+    requires sound { IsSoundPart A.rules (A.state part.old) }
     requires whole { (A.state part.old).broken ≡ false }
     requires loaded { (A.state part.old).loaded ≡ true }
     requires from { from < vec_len inbox.old.receivers }

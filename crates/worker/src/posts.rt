@@ -3,7 +3,7 @@
 
 ghost use Rattle.std.specs.Prelude.{◌≡◌, ◌≢◌, ◌+◌, ◌<◌, ℕ, List, map, take};
 ghost use Rattle.std.specs.Prelude.{IfOk, OnOk, false, None};
-ghost use Rattle.fixpoint.specs.State.{IsSound, part_for, given_to};
+ghost use Rattle.fixpoint.specs.State.{IsSoundPart, part_for, given_to};
 ghost use Rattle.worker.specs.Mailboxes.{Alike, Both, HasEnds, Stays, through};
 ghost use Rattle.worker.specs.Tallies.{given_of};
 ghost use Rattle.worker.specs.Turning.{HasPosted, HasGivenOn, HasGivenMore, WorkerGoesOn, ComesTo};
@@ -21,7 +21,7 @@ fn post_part<A: Analysis, M: Mail<A::Growth>>(
     to: u16,
     most: u64,
 ) -> Result<u64, PostError<A::Growth>>
-    requires sound { IsSound A.rules (A.state part.old) }
+    requires sound { IsSoundPart A.rules (A.state part.old) }
     requires whole { (A.state part.old).broken ≡ false }
     requires to { to < A.rules.parts (A.state part.old).system }
     requires sent { let o = A.state part.old in M.sent sender.old
@@ -37,7 +37,7 @@ fn post_part<A: Analysis, M: Mail<A::Growth>>(
     ensures other_given { (j : ℕ) → j ≢ to
         → given_to (A.state part.new) j ≡ given_to (A.state part.old) j }
     ensures pair { (r : M.R) → M.pairs sender.old r → M.pairs sender.new r }
-    ensures sound { IsSound A.rules (A.state part.new) }
+    ensures sound { IsSoundPart A.rules (A.state part.new) }
 {
     let mut posted = 0;
     while let Some(growth) = A::next_for(part, to) {
@@ -61,7 +61,7 @@ fn post_all<A: Analysis, M: Mail<A::Growth>>(
     senders: &mut Vec<Option<M::S>>,
     most: u64,
 ) -> Result<u64, PostError<A::Growth>>
-    requires sound { IsSound A.rules (A.state part.old) }
+    requires sound { IsSoundPart A.rules (A.state part.old) }
     requires whole { (A.state part.old).broken ≡ false }
     requires ends { HasEnds (A.state part.old).me senders.old.items }
     requires posts { HasPosted A.rules (A.state part.old) (map (through M.sent) senders.old.items) }
@@ -74,7 +74,7 @@ fn post_all<A: Analysis, M: Mail<A::Growth>>(
     ensures others { A.state part.new
         ≡ record (A.state part.old) { given = (A.state part.new).given } }
     ensures pairs { Alike (Both (Stays M.Mail)) senders.old.items senders.new.items }
-    ensures sound { IsSound A.rules (A.state part.new) }
+    ensures sound { IsSoundPart A.rules (A.state part.new) }
 {
     let mut count = 0;
     for to in 0..A::owners(part) {
@@ -97,7 +97,7 @@ pub fn share_out<A: Analysis, M: Mail<A::Growth>>(
     tally: &mut Tally,
     most: u64,
 ) -> Heard
-    requires sound { IsSound A.rules (A.state part.old) }
+    requires sound { IsSoundPart A.rules (A.state part.old) }
     requires came { (taken : List (List A.Growth)) × (owed : ℕ) × (cleared : ℕ)
         × ComesTo A.rules (A.state part.old) taken owed cleared tally.old heard }
     requires ends { HasEnds (A.state part.old).me senders.old.items }
@@ -112,7 +112,7 @@ pub fn share_out<A: Analysis, M: Mail<A::Growth>>(
     ensures others { A.state part.new
         ≡ record (A.state part.old) { given = (A.state part.new).given } }
     ensures pairs { Alike (Both (Stays M.Mail)) senders.old.items senders.new.items }
-    ensures sound { IsSound A.rules (A.state part.new) }
+    ensures sound { IsSoundPart A.rules (A.state part.new) }
 {
     match heard {
         Heard::Stray => return heard,

@@ -1,7 +1,7 @@
 //! A worker's turns.
 
 ghost use Rattle.std.specs.Prelude.{◌≡◌, ◌+◌, ◌%◌, ◌<◌, List, map};
-ghost use Rattle.fixpoint.specs.State.{IsSound, first_state};
+ghost use Rattle.fixpoint.specs.State.{IsSoundPart, first_state};
 ghost use Rattle.worker.specs.Mailboxes.{AreAllEmpty, through};
 ghost use Rattle.worker.specs.Finishing.{IsFresh, IsOpenStill};
 ghost use Rattle.worker.specs.Tallies.{HasGrown, none_counted};
@@ -28,7 +28,7 @@ pub fn first_turn<A: Analysis, L: Ledger, G: Gate>(
     requires fresh { IsFresh L.Ledger account.old.book.now (A.state part.old).me account.old.share }
     requires uncounted { account.old.tally ≡ none_counted }
     ensures grows { HasGrown (A.state part.old) (A.state part.new) }
-    ensures sound { IsSound A.rules (A.state part.new) }
+    ensures sound { IsSoundPart A.rules (A.state part.new) }
     ensures still { IsOpenStill L.Ledger account.old.book.now account.old.share
         account.new.book.now account.new.share }
     ensures comes { (taken : List (List A.Growth))

@@ -1,6 +1,6 @@
 use Rattle.std.proofs.Common.{◌≡◌, ◌≢◌, ◌+◌, ◌<◌, ℕ, List, Option, [], Some, length, map, slice_set, false, refl, sym, ap, ◌∙◌, subst, arith}
 use Rattle.fixpoint.specs.Rules.{Rules}
-use Rattle.fixpoint.specs.State.{State, IsSound, given_to}
+use Rattle.fixpoint.specs.State.{State, IsSoundPart, given_to}
 use Rattle.worker.specs.Mailboxes.{Alike, HasEnds, Stays, Both, through}
 use Rattle.worker.specs.Tallies.{given_of}
 use Rattle.worker.specs.Turning.{HasPosted, HasGivenOn}
@@ -13,7 +13,7 @@ use Rattle.worker.proofs.posts.post_all.Goals.{Joined-index_mut, in-Some+in_ok-p
 -- what was posted to one owner
 record Gives {A F G S : Type 0} (rules : Rules A F G) (sent : S → List G) (stays : S → S → Type 0)
     (unbounded : Type 0) (most to posted : ℕ) (old new : State A G) (xs ys : List (Option S)) : Type 0 where
-  sound : IsSound rules new
+  sound : IsSoundPart rules new
   others : new ≡ record old { given = new.given }
   other_given : (j : ℕ) → j ≢ to → given_to new j ≡ given_to old j
   count : given_to new to ≡ given_to old to + posted

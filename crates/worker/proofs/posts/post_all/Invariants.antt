@@ -1,5 +1,5 @@
 use Rattle.std.proofs.Common.{◌≡◌, ◌+◌, ◌≤◌, ℕ, false, map}
-use Rattle.fixpoint.specs.State.{IsSound, given_to}
+use Rattle.fixpoint.specs.State.{IsSoundPart, given_to}
 use Rattle.worker.specs.Mailboxes.{Alike, Stays, Both, through}
 use Rattle.worker.specs.Tallies.{given_of}
 use Rattle.worker.specs.Turning.{HasPosted, HasGivenMore}
@@ -7,7 +7,7 @@ use Rattle.worker.proofs.posts.post_all.Given as goal
 
 abbrev pub invariant-loop-to : goal.invariant-loop-to
 invariant-loop-to g l = record {
-  sound : IsSound g.A.Rules.rules (g.A.Analysis.state l.part);
+  sound : IsSoundPart g.A.Rules.rules (g.A.Analysis.state l.part);
   others : (g.A.Analysis.state l.part) ≡ record (g.A.Analysis.state l.fn.part) {
     given =
         (g.A.Analysis.state l.part).given;

@@ -1,6 +1,6 @@
 use Rattle.std.proofs.Common.{◌+◌, ◌%◌, ◌<◌, Contains, length, length-append, subst, sym, ap, ◌∙◌, arith}
 use Rattle.std.proofs.lemmas.List.Elements.{Contains-append_right}
-use Rattle.fixpoint.specs.State.{IsSound}
+use Rattle.fixpoint.specs.State.{IsSoundPart}
 use Rattle.worker.proofs.AccountLemmas.{stays_none, stays_on, still_refl}
 use Rattle.worker.proofs.TallyLemmas.{grown_self}
 use Rattle.worker.proofs.TurnLemmas.{cleared_small, taken_same, taken_lost, grown_some, grown_lost, some_works, some_take, rests_same, stray_same}
@@ -56,7 +56,7 @@ returns-in-Stray-clause-stays g c =
     stays_on g.L.Ledger g.A.Rules.rules g.M.Mail _ _ _ _ _ _ _ _ _ _ _ _ inv.stays (record {
       grows = grown_self g.A.Rules.rules (g.A.Analysis.state c.loop-step.part)
           (g.A.Analysis.state c.hear_from.new.part) h.1.1;
-      sound = subst (IsSound g.A.Rules.rules) (sym h.1.1) inv.stays.sound;
+      sound = subst (IsSoundPart g.A.Rules.rules) (sym h.1.1) inv.stays.sound;
       still = still_refl g.L.Ledger _ _ inv.stays.still.of_book;
       keeps = c.hear_from.ensures.keeps;
     })
@@ -134,7 +134,7 @@ loop-step-preserved g c =
       | in-Nothing w ↦ let h = w.in-Nothing.ensures.hears in rw w.account-is (record {
         stays = stays_on g.L.Ledger g.A.Rules.rules g.M.Mail _ _ _ _ _ _ _ _ _ _ _ _ inv.stays (record {
           grows = grown_self g.A.Rules.rules old new h.0;
-          sound = subst (IsSound g.A.Rules.rules) (sym h.0) inv.stays.sound;
+          sound = subst (IsSoundPart g.A.Rules.rules) (sym h.0) inv.stays.sound;
           still = still_refl g.L.Ledger _ _ inv.stays.still.of_book;
           keeps = c.hear_from.ensures.keeps;
         });

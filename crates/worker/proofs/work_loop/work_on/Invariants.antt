@@ -1,5 +1,5 @@
 use Rattle.std.proofs.Common.{◌≡◌, false, map}
-use Rattle.fixpoint.specs.State.{IsSound}
+use Rattle.fixpoint.specs.State.{IsSoundPart}
 use Rattle.worker.specs.Mailboxes.{Alike, Stays, Keeps, Both, through}
 use Rattle.worker.specs.Finishing.{IsPartOf}
 use Rattle.worker.specs.Turning.{ComesTo, HasPosted}
@@ -9,7 +9,7 @@ abbrev pub invariant-loop : goal.invariant-loop
 invariant-loop g l =
     (goal.iterator-loop g).can_next l.iterator' × (goal.iterator-loop g).is_finite l.iterator'
     × IsPartOf (g.A.Analysis.state l.fn.part).system (g.A.Analysis.state l.fn.part).me (g.A.Analysis.state l.part)
-    × IsSound g.A.Rules.rules (g.A.Analysis.state l.part)
+    × IsSoundPart g.A.Rules.rules (g.A.Analysis.state l.part)
     × (g.L.Ledger.belongs l.account.book.now l.account.share × (l.account.book.now ≡ l.fn.account.book.now) ×
     (g.L.Ledger.number l.account.share ≡ (g.A.Analysis.state l.fn.part).me)
     × (g.L.Ledger.called l.account.share ≡ false))
