@@ -59,7 +59,8 @@ class All(unittest.TestCase):
     def test_each_name_that_a_file_brings_in_is_found(self):
         """The kit refuses an import of what isn't there; only lemmas aren't definitions."""
         crates, unknown = {one.crate for one in definitions.all_definitions()}, set()
-        for path in [*(ROOT / "crates").glob("*/src/**/*.rt"), *(ROOT / "crates").glob("*/*/**/*.antt")]:
+        for path in [path for kind in ("src/**/*.rt", "specs/*.antt", "proofs/**/*.antt")
+                     for path in (ROOT / "crates").glob(f"*/{kind}")]:
             for crate, file, name in definitions.brought_in(path.read_text()).values():
                 if name and crate in crates and "." not in file and name not in definitions.known(ROOT, crate, file):
                     unknown.add((crate, file, name))

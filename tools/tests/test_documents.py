@@ -96,7 +96,7 @@ class Documents(unittest.TestCase):
             for name in re.findall(r"`([^`]+)`", bullet):
                 if name.endswith(".rt"):
                     folder = ROOT / name.partition("/src/")[0] if name.startswith("crates/") else folder
-                    [path] = [path for path in folder.rglob("*.rt") if path.match(name)]
+                    [path] = [path for path in (folder / "src").rglob("*.rt") if path.match(name)]
                     text = path.read_text()
                 elif name not in others:
                     with self.subTest(file=path.relative_to(ROOT), name=name):
