@@ -159,3 +159,6 @@ pub trait Analysis: Rules {
 pub trait ThreadAnalysis: Rules<Fact: Send, Growth: Send>
     + Analysis<Part: Send, Yield: Send>
     + Sync {}
+
+impl<A: Rules<Fact: Send, Growth: Send> + Analysis<Part: Send, Yield: Send> + Sync> ThreadAnalysis
+    for A {}

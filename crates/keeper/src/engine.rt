@@ -91,3 +91,5 @@ pub trait Engine: Owners {
 
 /// An engine whose analysis threads share.
 pub trait ThreadEngine: Engine<Store: Send> + Rules<Fact: Send, Growth: Send> + Sync {}
+
+impl<E: Engine<Store: Send> + Rules<Fact: Send, Growth: Send> + Sync> ThreadEngine for E {}

@@ -4,10 +4,10 @@ ghost use Rattle.std.specs.Prelude.{◌≡◌, Err, is_ok};
 ghost use Rattle.fixpoint.specs.declared.error.PartError.TheVariants.{Broken};
 
 use crate::book::Book;
-use crate::engine::{Engine, ThreadEngine};
+use crate::engine::Engine;
 use crate::outboxes::Outboxes;
 use crate::pursue::{load_all, take_in};
-use fixpoint::{Analysis, PartError, Rules, ThreadAnalysis};
+use fixpoint::{Analysis, PartError, Rules};
 use nll_sets::Memory;
 use std::alloc::Global;
 use std::marker::Model;
@@ -187,8 +187,6 @@ impl<'q, E: Engine> Analysis for Keepers<'q, E> {
 
     fn none(_alloc: Global) {}
 }
-
-impl<'q, E: ThreadEngine> ThreadAnalysis for Keepers<'q, E> {}
 
 // What a call of a part answers.
 fn answer(told: Result<(), Memory>) -> Result<(), PartError>

@@ -171,6 +171,9 @@ pub trait Ledger {
             × (slice_get lefts.items other ≡ Some caller) × (left_called caller ≡ true) };
 }
 
-/// A kind of ledger whose shares may live in as many threads. That a share finds what another
-/// thread owed, cleared or stopped is not promised.
+/// A kind of ledger whose shares may live in as many threads: each whose book may be shared, and
+/// whose shares may be sent. That a share finds what another thread owed, cleared or stopped is not
+/// promised.
 pub trait ThreadLedger: Ledger<Book: Sync, Share: Send, Left: Send> + Sync {}
+
+impl<L: Ledger<Book: Sync, Share: Send, Left: Send> + Sync> ThreadLedger for L {}

@@ -15,7 +15,7 @@ ghost use Rattle.ledger.specs.declared.lock_book.LockLeft.{LockLeft};
 ghost use Rattle.ledger.specs.declared.lock_book.LockShare.{LockShare};
 
 use crate::figures::Account;
-use crate::ledger::{Leave, Ledger, ThreadLedger, Totals};
+use crate::ledger::{Leave, Ledger, Totals};
 use crate::lock::{Look, begin, find, inspect, lower, raise, set};
 use crate::lock_book::{LockBook, LockLeft, LockShare};
 use crate::lock_rule::{Lock, LockPass, Parts, Whole};
@@ -227,5 +227,3 @@ impl<R: Wait + Copy + Send + Sync> Ledger for LockLedger<R> {
         Totals { owed, cleared }
     }
 }
-
-impl<R: Wait + Copy + Send + Sync> ThreadLedger for LockLedger<R> {}

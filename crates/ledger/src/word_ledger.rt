@@ -15,7 +15,7 @@ ghost use Rattle.ledger.specs.declared.word_book.WordShare.{WordShare};
 ghost use Rattle.ledger.specs.declared.step.LedgerStep.TheVariants.{FlagSeen};
 
 use crate::figures::{Account, NOTHING_OWED};
-use crate::ledger::{Leave, Ledger, ThreadLedger, Totals};
+use crate::ledger::{Leave, Ledger, Totals};
 use crate::word_book::{WordBook, WordLeft, WordShare};
 use crate::word_rule::{
     BALANCE, Clears, Concludes, Deals, FLAG, Gathers, Leaves, Looks, Owes, Stops, WordSeat, Words,
@@ -246,5 +246,3 @@ impl Ledger for WordLedger {
         Totals { owed, cleared }
     }
 }
-
-impl ThreadLedger for WordLedger {}

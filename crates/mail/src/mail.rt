@@ -111,6 +111,9 @@ pub trait Mail<T> {
         ensures { result ≡ length (post_received post.now) };
 }
 
-/// A kind of mailbox whose two ends may live in two threads. That a `take` finds what another
-/// thread has posted is not promised.
+/// A kind of mailbox whose two ends may live in two threads: each whose ends, and what becomes of
+/// them, may be sent to another. That a `take` finds what another thread has posted is not
+/// promised.
 pub trait ThreadMail<T>: Mail<T, S: Send, R: Send, Closed: Send, Post: Send> + Sync {}
+
+impl<T, M: Mail<T, S: Send, R: Send, Closed: Send, Post: Send> + Sync> ThreadMail<T> for M {}

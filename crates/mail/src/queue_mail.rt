@@ -11,7 +11,7 @@ ghost use Rattle.crossbeam_queue.specs.SegTies.{IsSegPassOf};
 ghost use Rattle.mail.specs.Order.{known};
 ghost use Rattle.mail.specs.Limits.{most_posts};
 
-use crate::mail::{Mail, PostError, ThreadMail};
+use crate::mail::{Mail, PostError};
 use crossbeam_queue::protocol::{Join, Lesson, Outcome, Protocol, Split};
 use crossbeam_queue::{RuledSegQueue, SegPass};
 use nll_sets::Memory;
@@ -298,5 +298,3 @@ impl<T: Send + Drop, R: Wait + Copy + Send + Sync> Mail<T> for QueueMail<R> {
         post.count
     }
 }
-
-impl<T: Send + Drop, R: Wait + Copy + Send + Sync> ThreadMail<T> for QueueMail<R> {}

@@ -11,7 +11,7 @@ ghost use Rattle.std.specs.Prelude.{◌≡◌, length};
 ghost use Rattle.rtrb.specs.Ring.{producer_capacity, consumer_capacity, received as popped};
 ghost use Rattle.mail.specs.Limits.{most_places};
 
-use crate::mail::{Mail, PostError, ThreadMail};
+use crate::mail::{Mail, PostError};
 use nll_sets::Memory;
 use rtrb::{Consumer, Producer, Protocol, RingBuffer};
 use std::alloc::Global;
@@ -265,5 +265,3 @@ impl RingMail {
             → length (⟦<RingMail as Mail<T>>⟧.post_rest post) ≤ most_places }
     {}
 }
-
-impl<T: Send + Drop> ThreadMail<T> for RingMail {}

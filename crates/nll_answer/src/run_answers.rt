@@ -15,7 +15,7 @@ use nll_facts::Facts;
 use nll_format::Labels;
 use nll_ledger::ThreadLedger;
 use nll_mail::{Growth, ThreadMail};
-use nll_run::{Outcome, ThreadGate, run};
+use nll_run::{Gate, Outcome, run};
 use std::alloc::Global;
 use std::sync::Wait;
 use std::thread::Threads;
@@ -26,7 +26,7 @@ use std::thread::Threads;
 /// # Errors
 /// - `Run`: a thread couldn't be started.
 /// - `Memory`.
-pub fn answer_run<M: ThreadMail<Growth>, L: ThreadLedger, G: ThreadGate, R: Threads + Wait + Sync>(
+pub fn answer_run<M: ThreadMail<Growth>, L: ThreadLedger, G: Gate + Sync, R: Threads + Wait + Sync>(
     rt: &R,
     alloc: Global,
     command: Command,

@@ -9,7 +9,7 @@ use crate::fact::Fact;
 use crate::holding::Holding;
 use crate::owner::Owner;
 use crate::tables::Tables;
-use fixpoint::{Analysis, PartError, Rules, ThreadAnalysis};
+use fixpoint::{Analysis, PartError, Rules};
 use nll_cut::Cut;
 use nll_mail::Growth;
 use nll_problem::Problem;
@@ -128,5 +128,3 @@ impl<'q> Analysis for Regions<'q> {
         Holding::none(alloc)
     }
 }
-
-impl<'q> ThreadAnalysis for Regions<'q> {}

@@ -16,9 +16,7 @@ use nll_ledger::ThreadLedger;
 use nll_mail::{Growth, ThreadMail};
 use nll_owner::{Regions, Tables};
 use nll_problem::Problem;
-use run::{
-    AlwaysStart, Outcome as RunOfParts, Permit, RunError, ThreadGate, run_with as run_parts,
-};
+use run::{AlwaysStart, Gate, Outcome as RunOfParts, Permit, RunError, run_with as run_parts};
 use std::alloc::Global;
 use std::sync::Wait;
 use std::thread::Threads;
@@ -36,7 +34,7 @@ use std::thread::Threads;
 /// # Cost
 /// The work of the owners, and for each growth that is received some two holds of the ledger, a
 /// post and a take (not proved). There is a mailbox for each ordered pair of different owners.
-pub fn run<M: ThreadMail<Growth>, L: ThreadLedger, G: ThreadGate, R: Threads + Wait + Sync>(
+pub fn run<M: ThreadMail<Growth>, L: ThreadLedger, G: Gate + Sync, R: Threads + Wait + Sync>(
     rt: &R,
     alloc: Global,
     problem: &Problem,
@@ -64,7 +62,7 @@ pub fn run<M: ThreadMail<Growth>, L: ThreadLedger, G: ThreadGate, R: Threads + W
 pub fn run_with<
     M: ThreadMail<Growth>,
     L: ThreadLedger,
-    G: ThreadGate,
+    G: Gate + Sync,
     P: Permit,
     R: Threads + Wait + Sync,
 >(

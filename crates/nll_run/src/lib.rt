@@ -11,4 +11,4 @@ mod values;
 
 pub use coordinator::{run, run_with};
 pub use outcome::Outcome;
-pub use run::{AlwaysStart, Gate, NoGate, Permit, RunError, ThreadGate};
+pub use run::{AlwaysStart, Gate, NoGate, Permit, RunError};

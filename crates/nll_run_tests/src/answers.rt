@@ -6,7 +6,7 @@ use super::run_text::{compare, told};
 use super::watches::Watched;
 use nll_ledger::WordLedger;
 use nll_mail::QueueMail;
-use nll_run::{Gate, ThreadGate};
+use nll_run::Gate;
 use nll_worked::BY_TURNS;
 use std::alloc::AllocGlobal;
 
@@ -26,8 +26,6 @@ impl<'x> Gate for Answer<'x> {
         self.most
     }
 }
-
-impl<'x> ThreadGate for Answer<'x> {}
 
 // If a gate allows no growth in a turn, each turn receives one all the same: all that it owes and
 // posts, and what it clears, is as with a gate that doesn't say.

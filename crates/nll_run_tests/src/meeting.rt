@@ -1,6 +1,6 @@
 //! Two owners that meet.
 use super::watches::{Step, Watch};
-use nll_run::{Gate, ThreadGate};
+use nll_run::Gate;
 use std::sync::atomic::{AtomicBool, AtomicU64, Ordering};
 use std::thread;
 
@@ -66,8 +66,6 @@ impl Gate for Meeting {
         self.come(owner);
     }
 }
-
-impl ThreadGate for Meeting {}
 
 impl Watch for Meeting {
     fn before(&self, owner: u16, step: Step) {

@@ -1,6 +1,6 @@
 //! Notes of what two owners do in their turns.
 use super::watches::{Step, Watch};
-use nll_run::{Gate, ThreadGate};
+use nll_run::Gate;
 use std::alloc::{AllocError, Global};
 use std::sync::atomic::{AtomicBool, AtomicU64, Ordering};
 
@@ -131,8 +131,6 @@ impl Gate for Notes {
         }
     }
 }
-
-impl ThreadGate for Notes {}
 
 impl Watch for Notes {
     fn before(&self, owner: u16, step: Step) {

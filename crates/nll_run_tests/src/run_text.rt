@@ -6,9 +6,9 @@ use super::deals::{Deal, cut_of};
 use super::failure::Failure;
 use nll_core::{Problem, RegionId, Values};
 use nll_cut::Cut;
-use nll_ledger::ThreadLedger;
-use nll_mail::{Growth, ThreadMail};
-use nll_run::{Outcome, ThreadGate, run};
+use nll_ledger::{Ledger, ThreadLedger};
+use nll_mail::{Growth, Mail, ThreadMail};
+use nll_run::{Gate, Outcome, run};
 use nll_worked::{Written, worked_problem};
 use std::alloc::{AllocError, Global};
 use std::process::Abort;
@@ -82,8 +82,14 @@ fn write_outcome<M: ThreadMail<Growth>>(
     write_posts::<M>(out, &outcome.posts, owners)
 }
 
-/// The outcome of a run of the owners of a cut, written.
-pub fn told_over<M: ThreadMail<Growth>, L: ThreadLedger, G: ThreadGate, R: Threads + Wait + Sync>(
+/// The outcome of a run of the owners of a cut, written. The bounds are all that a run asks of
+/// mailboxes, a ledger and a gate.
+pub fn told_over<
+    M: Mail<Growth, S: Send, R: Send, Closed: Send, Post: Send> + Sync,
+    L: Ledger<Book: Sync, Share: Send, Left: Send> + Sync,
+    G: Gate + Sync,
+    R: Threads + Wait + Sync,
+>(
     rt: &R,
     alloc: Global,
     problem: &Problem,
@@ -103,7 +109,7 @@ pub fn told_over<M: ThreadMail<Growth>, L: ThreadLedger, G: ThreadGate, R: Threa
 }
 
 // Like `told_over`, for a problem whose regions are assigned so.
-fn told_of<M: ThreadMail<Growth>, L: ThreadLedger, G: ThreadGate, R: Threads + Wait + Sync>(
+fn told_of<M: ThreadMail<Growth>, L: ThreadLedger, G: Gate + Sync, R: Threads + Wait + Sync>(
     rt: &R,
     alloc: Global,
     problem: &Problem,
@@ -121,7 +127,7 @@ fn told_of<M: ThreadMail<Growth>, L: ThreadLedger, G: ThreadGate, R: Threads + W
 /// The outcome of a run of a written problem, whose regions are assigned so: the value of each
 /// region; how many logs there are, and the length of each that isn't empty, after its owner; and
 /// how many posts there are, and what each that isn't empty received, after its ends.
-pub fn told<M: ThreadMail<Growth>, L: ThreadLedger, G: ThreadGate, R: Threads + Wait + Sync>(
+pub fn told<M: ThreadMail<Growth>, L: ThreadLedger, G: Gate + Sync, R: Threads + Wait + Sync>(
     rt: &R,
     alloc: Global,
     written: Written,

@@ -1,5 +1,5 @@
 //! A mailbox and a ledger, of any kind, that are watched: each step of an owner is noted, or held
-//! up, before it is done.
+//! up, before it is done. Each is made by one `impl`.
 ghost use Rattle.std.specs.Prelude.{◌≡◌, ◌++◌, ◌<◌, map, vec_len, IfOk};
 
 use nll_ledger::{Leave, Ledger, ThreadLedger, Totals};
@@ -106,8 +106,6 @@ impl<'x, M: ThreadMail<Growth>, W: Watch> Mail<Growth> for Watched<'x, M, W> {
         M::count(post)
     }
 }
-
-impl<'x, M: ThreadMail<Growth>, W: Watch> ThreadMail<Growth> for Watched<'x, M, W> {}
 
 /// The book of a watched ledger.
 #[derive(Drop)]
@@ -239,5 +237,3 @@ impl<'x, L: ThreadLedger, W: Watch> Ledger for Watched<'x, L, W> {
         L::gather(inner, lefts)
     }
 }
-
-impl<'x, L: ThreadLedger, W: Watch> ThreadLedger for Watched<'x, L, W> {}

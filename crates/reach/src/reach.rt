@@ -10,7 +10,7 @@ ghost use Rattle.fixpoint.specs.declared.growth.Growth.{Growth as TheGrowth};
 
 use crate::Graph;
 use fixpoint::{Growth, Rules};
-use keeper::{Engine, Owners, ThreadEngine, push_own};
+use keeper::{Engine, Owners, push_own};
 use nll_sets::Memory;
 use std::alloc::Global;
 use std::collections::BTreeSet;
@@ -123,5 +123,3 @@ impl<'q> Engine for Graph<'q> {
         push_own(self, me, ends, found)
     }
 }
-
-impl<'q> ThreadEngine for Graph<'q> {}

@@ -25,7 +25,7 @@ use std::alloc::Global;
 use std::collections::VecDeque;
 use std::sync::Wait;
 use std::thread::Threads;
-use worker::{AlwaysStart, Finished, Permit, Site, ThreadGate, Worker, run_all};
+use worker::{AlwaysStart, Finished, Gate, Permit, Site, Worker, run_all};
 
 /// Runs the parts of an analysis, each in a thread of its own, until nothing is left to do
 /// anywhere.
@@ -45,7 +45,7 @@ pub fn run<
     A: ThreadAnalysis,
     M: ThreadMail<A::Growth>,
     L: ThreadLedger,
-    G: ThreadGate,
+    G: Gate + Sync,
     R: Threads + Wait + Sync,
 >(
     rt: &R,
@@ -74,7 +74,7 @@ pub fn run_with<
     A: ThreadAnalysis,
     M: ThreadMail<A::Growth>,
     L: ThreadLedger,
-    G: ThreadGate,
+    G: Gate + Sync,
     P: Permit,
     R: Threads + Wait + Sync,
 >(

@@ -16,4 +16,4 @@ mod settlement;
 pub use coordinator::{run, run_with};
 pub use error::RunError;
 pub use outcome::Outcome;
-pub use worker::{AlwaysStart, Gate, NoGate, Permit, ThreadGate};
+pub use worker::{AlwaysStart, Gate, NoGate, Permit};

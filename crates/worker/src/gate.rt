@@ -24,9 +24,6 @@ pub trait Gate {
     }
 }
 
-/// A gate that threads share.
-pub trait ThreadGate: Gate + Sync {}
-
 /// A gate that never waits, and allows any number of growths in a turn: nobody sees the turns, and
 /// the worker does as much at once as is fastest.
 #[derive(Clone, Copy, Debug, PartialEq, Eq)]
@@ -39,5 +36,3 @@ impl Gate for NoGate {
         usize::MAX
     }
 }
-
-impl ThreadGate for NoGate {}

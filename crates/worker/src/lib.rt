@@ -22,7 +22,7 @@ mod turn;
 mod work_loop;
 mod worker;
 
-pub use gate::{Gate, NoGate, ThreadGate};
+pub use gate::{Gate, NoGate};
 pub use inbox::Heard;
 pub use job::{Back, Given, Job, Start};
 pub use outbox::Outbox;

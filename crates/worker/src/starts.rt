@@ -4,7 +4,7 @@ ghost use Rattle.std.specs.Prelude.{IfOk, vec_capacity};
 ghost use Rattle.worker.specs.Jobs.{AllOf, Each};
 ghost use Rattle.worker.specs.Finishing.{IsAnswered, IsGiven, IsEnded};
 
-use crate::gate::ThreadGate;
+use crate::gate::Gate;
 use crate::job::{Job, Start};
 use crate::permit::Permit;
 use crate::site::Site;
@@ -20,7 +20,7 @@ use std::thread::Threads;
 
 // If its thread isn't started, a worker ends as `Forbidden` if the permit refused that, otherwise
 // as `Unstarted`: the stop flag is set by its share, and its senders are closed.
-impl<'x, A: ThreadAnalysis, M: ThreadMail<A::Growth>, L: ThreadLedger, G: ThreadGate> Job<
+impl<'x, A: ThreadAnalysis, M: ThreadMail<A::Growth>, L: ThreadLedger, G: Gate + Sync> Job<
     Site<'x, A, L, G>,
 > for Worker<A, M, L> {
     ghost use Rattle.std.specs.Prelude.{vec_capacity};
@@ -59,7 +59,7 @@ pub fn run_all<
     A: ThreadAnalysis,
     M: ThreadMail<A::Growth>,
     L: ThreadLedger,
-    G: ThreadGate,
+    G: Gate + Sync,
     P: Permit,
     R: Threads + Wait + Sync,
 >(
