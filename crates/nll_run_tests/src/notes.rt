@@ -7,6 +7,8 @@ use std::sync::atomic::{AtomicBool, AtomicU64, Ordering};
 /// What one owner did.
 #[derive(Drop)]
 struct Page {
+    // How many growths a turn may receive.
+    most: u64,
     turns: AtomicU64,
     owed: AtomicU64,
     posts: AtomicU64,
@@ -17,16 +19,17 @@ struct Page {
     has_owed: AtomicBool,
     has_acted: AtomicBool,
     // How often a turn began with another number than the next, or after one in which it hadn't
-    // cleared once or before all was posted that it had owed for; it posted or cleared in a turn in
-    // which it hadn't owed; it owed after it had owed, posted or cleared; or it cleared more or
-    // less than 1.
+    // cleared once or, where a turn may receive one growth alone, before all was posted that it had
+    // owed for; it posted or cleared in a turn in which it hadn't owed; it owed after it had owed,
+    // posted or cleared; or it cleared nothing, or more than a turn may receive.
     wrong: AtomicU64,
 }
 
 impl Page {
     // An empty page.
-    fn new() -> Page {
+    fn new(most: u64) -> Page {
         Page {
+            most,
             turns: AtomicU64::new(0),
             owed: AtomicU64::new(0),
             posts: AtomicU64::new(0),
@@ -44,7 +47,7 @@ impl Page {
         self.judge(turn == before.wrapping_add(1));
         self.judge(self.clears.load(Ordering::SeqCst) == before);
         let posts = self.posts.load(Ordering::SeqCst);
-        self.judge(self.owed.load(Ordering::SeqCst) == posts);
+        self.judge(self.most > 1 || self.owed.load(Ordering::SeqCst) == posts);
         self.has_owed.store(false, Ordering::SeqCst);
         self.has_acted.store(false, Ordering::SeqCst);
     }
@@ -76,7 +79,7 @@ impl Page {
                 self.clears.fetch_add(1, Ordering::SeqCst);
                 self.has_acted.store(true, Ordering::SeqCst);
                 self.judge(self.has_owed.load(Ordering::SeqCst));
-                self.judge(amount == 1);
+                self.judge(amount > 0 && amount <= self.most);
             }
         }
     }
@@ -93,7 +96,8 @@ impl Page {
     }
 }
 
-/// Notes of what the owners 0 and 1 did, as a gate and as a watch of mailboxes and ledgers.
+/// Notes of what the owners 0 and 1 did, as a gate and as a watch of mailboxes and ledgers. What
+/// another owner does is wrong.
 #[derive(Drop)]
 pub struct Notes {
     first: Page,
@@ -101,19 +105,19 @@ pub struct Notes {
 }
 
 impl Notes {
-    /// Empty notes.
-    pub fn new() -> Notes {
+    /// Empty notes, where a turn may receive this many growths.
+    pub fn new(most: u64) -> Notes {
         Notes {
-            first: Page::new(),
-            second: Page::new(),
+            first: Page::new(most),
+            second: Page::new(most),
         }
     }
 
     /// For each of the two, whose last turn has ended: what it owed besides its load, its posts,
-    /// what it cleared, which is the number of its turns, and how often it was wrong: began a turn
-    /// by a number that wasn't the next, or before it had posted all that it had owed for; didn't
-    /// clear 1 once in a turn; posted or cleared in a turn in which it hadn't owed; or owed after
-    /// it had owed, posted or cleared.
+    /// what it cleared, and how often it was wrong: began a turn by a number that wasn't the next,
+    /// or, where a turn may receive one growth alone, before it had posted all that it had owed
+    /// for; didn't clear once in a turn, or cleared more than a turn may receive; posted or cleared
+    /// in a turn in which it hadn't owed; or owed after it had owed, posted or cleared.
     pub fn written(&self, alloc: Global) -> Result<String, AllocError> {
         let mut out = String::new(alloc);
         let first = self.first.write(&mut out);
@@ -127,7 +131,7 @@ impl Gate for Notes {
         match owner {
             0 => self.first.begin(turn),
             1 => self.second.begin(turn),
-            _ => {}
+            _ => self.first.judge(false),
         }
     }
 }
@@ -137,7 +141,7 @@ impl Watch for Notes {
         match owner {
             0 => self.first.step(step),
             1 => self.second.step(step),
-            _ => {}
+            _ => self.first.judge(false),
         }
     }
 }

@@ -115,7 +115,7 @@ fn owe_over<M: ThreadMail<Growth>, L: ThreadLedger, R: AllocGlobal + Abort + Thr
 )
     requires { length cut.now.list ≡ problem.now.regions }
 {
-    let notes = Notes::new();
+    let notes = Notes::new(1);
     let mail = Watched {
         inner: mail,
         watch: &notes,

@@ -1,5 +1,7 @@
 //! Gates that workers enter.
 
+ghost use Rattle.std.specs.Prelude.{ℕ, ◌<◌, ⊤};
+
 /// What a worker enters at the start of each turn. A test may hold the worker there, or record that
 /// it came.
 ///
@@ -9,9 +11,15 @@
 /// posted, except what a full mailbox refuses, which is tried again after the next turn. Only then
 /// is the gate entered for the next turn.
 pub trait Gate {
+    /// The owner of this number has entered the gate for this turn. By default it says nothing.
+    ghost entered: { Self → ℕ → ℕ → Type 0 } = { λ _ _ _. ⊤ };
+    /// A turn may receive up to this many growths, which are several. By default it may not.
+    ghost allows: { Self → ℕ → Type 0 } = { λ _ _. ⊥ };
+
     /// Lets the owner of this number begin this turn. Turn 1 is the load, and the numbers go up by
     /// one.
-    fn enter(&self, owner: usize, turn: u64);
+    fn enter(&self, owner: usize, turn: u64)
+        ensures { entered self.now owner turn };
 
     /// How many growths a turn may receive at most. A worker asks once, before its first turn, and
     /// reads 0 as 1.
@@ -19,7 +27,9 @@ pub trait Gate {
     /// If it is more than 1, a turn receives up to this many growths of one mailbox together and
     /// clears as many, several turns may come before what they owe for is posted, and not all of it
     /// need be posted at once.
-    fn most_growths(&self) -> usize {
+    fn most_growths(&self) -> usize
+        ensures allowed { 1 < result → allows self.now result }
+    {
         1
     }
 }
@@ -30,6 +40,10 @@ pub trait Gate {
 pub struct NoGate;
 
 impl Gate for NoGate {
+    ghost use Rattle.std.specs.Prelude.{⊤};
+
+    ghost allows = { λ _ _. ⊤ };
+
     fn enter(&self, _: usize, _: u64) {}
 
     fn most_growths(&self) -> usize {

@@ -7,6 +7,7 @@ ghost use Rattle.fixpoint.specs.Logs.{log_of};
 ghost use Rattle.fixpoint.specs.State.{IsSoundPart, Passes};
 ghost use Rattle.worker.specs.Mailboxes.{Alike, Both, Keeps, through};
 ghost use Rattle.worker.specs.Hearing.{LooksInto};
+ghost use Rattle.worker.specs.declared.inbox.Heard.TheVariants.{Growths};
 
 use crate::gate::Gate;
 use crate::pace::Pace;
@@ -91,6 +92,7 @@ fn hear<A: Analysis, M: Mail<A::Growth>, G: Gate>(
     ensures hears { LooksInto A.rules from (A.state part.old) (A.state part.new)
         (M.received receiver.old) (M.received receiver.new) batch.new.items result }
     ensures most { length batch.new.items ≤ pace.now.taken }
+    ensures entered { result ≡ Growths → G.entered pace.now.gate.now (A.state part.old).me turn }
     ensures few { length (M.received receiver.old) ≤ most_posts
         → length (M.received receiver.new) ≤ most_posts }
     ensures pair { (s : M.S) → M.pairs s receiver.old → M.pairs s receiver.new }
@@ -133,6 +135,7 @@ pub fn hear_from<A: Analysis, M: Mail<A::Growth>, G: Gate>(
         (log_of (map (through M.received) inbox.new.receivers.items) from)
         inbox.new.batch.items result }
     ensures most { length inbox.new.batch.items ≤ pace.now.taken }
+    ensures entered { result ≡ Growths → G.entered pace.now.gate.now (A.state part.old).me turn }
     ensures few { length (log_of (map (through M.received) inbox.old.receivers.items) from)
         ≤ most_posts
         → length (log_of (map (through M.received) inbox.new.receivers.items) from) ≤ most_posts }

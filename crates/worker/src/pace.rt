@@ -1,6 +1,7 @@
 //! How much a worker does at once.
 
-ghost use Rattle.std.specs.Prelude.{◌≡◌, ◌<◌, ◌≤◌, ◌-◌, ◌^◌};
+ghost use Rattle.std.specs.Prelude.{◌≡◌, ◌<◌, ◌-◌, ◌^◌};
+ghost use Rattle.worker.specs.Pacing.{IsAllowed, taken_of};
 
 use crate::gate::Gate;
 
@@ -11,10 +12,6 @@ const MOST_TAKEN: usize = 4096;
 // more follow, so fewer of them wait in mailboxes.
 const MOST_POSTED: u64 = 4096;
 
-// A worker receives this many growths, if it can, before it tries again to post into a full
-// mailbox.
-const PATIENCE: u64 = 16;
-
 /// The gate that a worker enters, and how much it does at once.
 #[derive(Drop)]
 pub struct Pace<'x, G: Gate> {
@@ -23,33 +20,37 @@ pub struct Pace<'x, G: Gate> {
     pub taken: usize,
     /// At most this many growths are posted to an owner at once.
     pub posted: u64,
-    /// This many growths are received before a full mailbox is tried again.
-    pub patience: u64,
     ghost some: { 0 < taken },
+    ghost single: { taken ≡ 1 → posted ≡ 2 ^ 64 - 1 },
+    ghost many: { 1 < taken → posted ≡ 4096 },
 }
 
 impl<'x, G: Gate> Pace<'x, G> {
     /// How much a worker does at once with this gate.
     pub fn behind(gate: &'x G) -> Pace<'x, G>
         ensures gate { result.gate.now ≡ gate.now }
-        ensures single { result.taken ≤ 1 → (result.posted ≡ 2 ^ 64 - 1) × (result.patience ≡ 1) }
-        ensures many { 1 < result.taken → (result.taken ≤ 4096) × (result.posted ≡ 4096)
-            × (result.patience ≡ 16) }
+        ensures allowed { IsAllowed (G.allows gate.now) result.taken }
     {
-        let most = gate.most_growths();
+        Pace::of(gate, gate.most_growths())
+    }
+
+    // How much a worker does at once with a gate that says this number of growths.
+    fn of(gate: &'x G, most: usize) -> Pace<'x, G>
+        requires allowed { 1 < most → G.allows gate.now most }
+        ensures gate { result.gate.now ≡ gate.now }
+        ensures taken { result.taken ≡ taken_of most }
+    {
         if most <= 1 {
             Pace {
                 gate,
                 taken: 1,
                 posted: u64::MAX,
-                patience: 1,
             }
         } else {
             Pace {
                 gate,
                 taken: most.min(MOST_TAKEN),
                 posted: MOST_POSTED,
-                patience: PATIENCE,
             }
         }
     }

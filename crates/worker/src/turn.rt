@@ -1,6 +1,6 @@
 //! A worker's turns.
 
-ghost use Rattle.std.specs.Prelude.{◌≡◌, ◌+◌, ◌%◌, ◌<◌, List, map};
+ghost use Rattle.std.specs.Prelude.{◌≡◌, ◌+◌, ◌%◌, ◌<◌, ◌≤◌, List, map};
 ghost use Rattle.fixpoint.specs.State.{IsSoundPart, first_state};
 ghost use Rattle.worker.specs.Mailboxes.{AreAllEmpty, through};
 ghost use Rattle.worker.specs.Finishing.{IsFresh, IsOpenStill};
@@ -17,6 +17,10 @@ use mail::Mail;
 
 // At most this many rounds follow each other.
 const MOST_ROUNDS: u64 = 32;
+
+// A worker receives this many growths, if it can, before it tries again to post into a full
+// mailbox.
+const PATIENCE: u64 = 16;
 
 /// The first turn: the part is loaded, and the book is kept of it.
 pub fn first_turn<A: Analysis, L: Ledger, G: Gate>(
@@ -35,6 +39,7 @@ pub fn first_turn<A: Analysis, L: Ledger, G: Gate>(
         → AreAllEmpty (A.rules.parts (A.state part.old).system) taken
         → ComesTo A.rules (A.state part.new) taken (L.owed account.new.share)
         (L.cleared account.new.share) account.new.tally result }
+    ensures entered { G.entered pace.now.gate.now (A.state part.old).me 1 }
 {
     pace.gate.enter(A::me(part) as usize, 1);
     match A::load(part) {
@@ -80,6 +85,8 @@ pub fn round<A: Analysis, M: Mail<A::Growth>, L: Ledger, G: Gate>(
     ensures comes { let a = account.new in ComesTo A.rules (A.state part.new)
         (map (through M.received) inbox.new.receivers.items)
         (L.owed a.share) (L.cleared a.share) a.tally result }
+    ensures single { pace.now.taken ≡ 1
+        → account.new.tally.turns ≤ account.old.tally.turns + 1 }
 {
     let owners = A::owners(part);
     let first = (account.tally.turns % owners as u64) as u16;
@@ -91,7 +98,8 @@ pub fn round<A: Analysis, M: Mail<A::Growth>, L: Ledger, G: Gate>(
             Heard::Nothing => {}
             Heard::Growths => {
                 keep_book::<A, L>(account, part, inbox.batch.len() as u64);
-                if pace.taken == 1 {
+                let is_last = pace.taken == 1;
+                if is_last {
                     return Heard::Growths;
                 }
                 any = true;
@@ -104,7 +112,8 @@ pub fn round<A: Analysis, M: Mail<A::Growth>, L: Ledger, G: Gate>(
 }
 
 /// Looks into each mailbox, and again as long as growths are heard and it isn't time to try a full
-/// mailbox again. Returns whether the part received growths, or why the worker has to end.
+/// mailbox again; not again if a turn receives at most one. Returns whether the part received
+/// growths, or why the worker has to end.
 pub fn rounds<A: Analysis, M: Mail<A::Growth>, L: Ledger, G: Gate>(
     pace: &Pace<'_, G>,
     account: &mut Account<'_, L>,
@@ -121,14 +130,20 @@ pub fn rounds<A: Analysis, M: Mail<A::Growth>, L: Ledger, G: Gate>(
     ensures comes { let a = account.new in ComesTo A.rules (A.state part.new)
         (map (through M.received) inbox.new.receivers.items)
         (L.owed a.share) (L.cleared a.share) a.tally result }
+    ensures single { pace.now.taken ≡ 1
+        → account.new.tally.turns ≤ account.old.tally.turns + 1 }
 {
     // So many items are cleared before a full mailbox is tried again: 0 if nothing waits.
     let until = if account.tally.waiting > 0 {
-        account.tally.cleared.saturating_add(pace.patience)
+        account.tally.cleared.saturating_add(PATIENCE)
     } else {
         0
     };
     let mut heard = round::<A, M, L, G>(pace, account, part, inbox);
+    let is_only = pace.taken == 1;
+    if is_only {
+        return heard;
+    }
     for _ in 1..MOST_ROUNDS {
         match heard {
             Heard::Growths => {}

@@ -5,17 +5,20 @@ use Rattle.worker.specs.declared.tally.Tally.{Tally}
 use Rattle.worker.proofs.AccountLemmas.{still_refl}
 use Rattle.worker.proofs.turn.first_turn.Goals as goal
 
-pub returns-in-Err : goal.returns-in-Err
-returns-in-Err g c = record {
-  grows = first_grows g.A.Rules.rules _ _ (g.A.Analysis.state c.args.part.now)
-      (g.A.Analysis.state c.load.new.part) c.requires.first c.load.ensures.others
-      c.load.ensures.begins;
-  sound = c.load.ensures.sound;
-  still = still_refl g.L.Ledger _ _ c.requires.fresh.of_book;
-  comes = λ taken none. none_taken g.A.Rules.rules _ _ (g.A.Analysis.state c.args.part.now)
-      (g.A.Analysis.state c.load.new.part) c.requires.first c.load.ensures.others
-      taken;
-}
+pub returns-in-Err-clause-grows : goal.returns-in-Err-clause-grows
+returns-in-Err-clause-grows g c =
+    first_grows g.A.Rules.rules _ _ (g.A.Analysis.state c.args.part.now)
+    (g.A.Analysis.state c.load.new.part) c.requires.first c.load.ensures.others c.load.ensures.begins
+
+pub returns-in-Err-clause-sound : goal.returns-in-Err-clause-sound
+returns-in-Err-clause-sound g c = c.load.ensures.sound
+
+pub returns-in-Err-clause-still : goal.returns-in-Err-clause-still
+returns-in-Err-clause-still g c = still_refl g.L.Ledger _ _ c.requires.fresh.of_book
+
+pub returns-in-Err-clause-comes : goal.returns-in-Err-clause-comes
+returns-in-Err-clause-comes g c = λ taken none. none_taken g.A.Rules.rules _ _ (g.A.Analysis.state c.args.part.now)
+    (g.A.Analysis.state c.load.new.part) c.requires.first c.load.ensures.others taken
 
 pub keep_book-requires-clause-grew : goal.keep_book-requires-clause-grew
 keep_book-requires-clause-grew g c = (

@@ -1,11 +1,11 @@
-use Rattle.std.proofs.Common.{◌+◌, ◌%◌, ◌<◌, Contains, length, length-append, subst, sym, ap, ◌∙◌, arith}
+use Rattle.std.proofs.Common.{◌+◌, ◌<◌, Contains, length, length-append, refl, subst, sym, ap, ◌∙◌, arith}
 use Rattle.std.proofs.lemmas.List.Elements.{Contains-append_right}
 use Rattle.fixpoint.specs.State.{IsSoundPart}
 use Rattle.worker.proofs.AccountLemmas.{stays_none, stays_on, still_refl}
 use Rattle.worker.proofs.TallyLemmas.{grown_self}
 use Rattle.worker.proofs.TurnLemmas.{cleared_small, taken_same, taken_lost, grown_some, grown_lost, some_works, some_take, rests_same, stray_same}
 use Rattle.worker.proofs.turn.round.Goals as goal
-use Rattle.worker.proofs.turn.round.Goals.{After-hear_from, in-Nothing, in-Growths+else-pace-eq1}
+use Rattle.worker.proofs.turn.round.Goals.{After-hear_from, in-Nothing, in-Growths+else-is_last}
 
 low : (g : _) (c : After-hear_from g)
     → c.owner_behind-from.result < g.A.Rules.rules.parts (g.A.Analysis.state c.loop-step.part).system
@@ -18,6 +18,7 @@ loop-step-init g c = record {
   stays = stays_none g.L.Ledger g.A.Rules.rules g.M.Mail _ _ _ c.args.inbox.now.receivers.items
       c.requires.rests.working.sound c.requires.book;
   rests = c.requires.rests;
+  single = λ _. refl;
 }
 
 pub overflow_add-turn : goal.overflow_add-turn
@@ -97,8 +98,8 @@ returns-in-Memory-clause-comes g c =
     (low g (goal.at.returns-in-Memory-clause-comes g c).After-hear_from) h.1
 
 -- after a turn by growths
-pub returns-then-pace-eq1-clause-stays : goal.returns-then-pace-eq1-clause-stays
-returns-then-pace-eq1-clause-stays g c =
+pub returns-then-is_last-clause-stays : goal.returns-then-is_last-clause-stays
+returns-then-is_last-clause-stays g c =
     let h = c.in-Growths.ensures.hears in
     stays_on g.L.Ledger g.A.Rules.rules g.M.Mail _ _ _ _ _ _ _ _ _ _ _ _ c.loop-step.invariant.stays (record {
       grows = grown_some g.A.Rules.rules (g.A.Analysis.state c.loop-step.part)
@@ -108,9 +109,9 @@ returns-then-pace-eq1-clause-stays g c =
       keeps = c.hear_from.ensures.keeps;
     })
 
-pub returns-then-pace-eq1-clause-comes : goal.returns-then-pace-eq1-clause-comes
-returns-then-pace-eq1-clause-comes g c =
-    let from_in = low g (goal.at.returns-then-pace-eq1-clause-comes g c).After-hear_from in
+pub returns-then-is_last-clause-comes : goal.returns-then-is_last-clause-comes
+returns-then-is_last-clause-comes g c =
+    let from_in = low g (goal.at.returns-then-is_last-clause-comes g c).After-hear_from in
     let h = c.in-Growths.ensures.hears in
     let k = c.keep_book.ensures in
     let old = g.A.Analysis.state c.loop-step.part in let new = g.A.Analysis.state c.hear_from.new.part in
@@ -139,8 +140,9 @@ loop-step-preserved g c =
           keeps = c.hear_from.ensures.keeps;
         });
         rests = rests_same g.A.Rules.rules old _ _ _ _ rests new _ _ h.0 h.1 c.hear_from.ensures.others;
+        single = inv.single;
       })
-      | in-Growths+else-pace-eq1 w ↦
+      | in-Growths+else-is_last w ↦
           let h = w.in-Growths.ensures.hears in let k = w.keep_book.ensures in rw w.account-is (record {
             stays = stays_on g.L.Ledger g.A.Rules.rules g.M.Mail _ _ _ _ _ _ _ _ _ _ _ _ inv.stays (record {
               grows = grown_some g.A.Rules.rules old new h.1.1 h.1.4;
@@ -157,5 +159,16 @@ loop-step-preserved g c =
               cleared_is = k.cleared;
               turns = omega (arith, k.turns, k.clears, rests.turns, h.1.5, w.len.ensures, fits);
             };
+            single = λ one. absurd (w.if-is_last.false one);
           })
     ]
+
+pub returns-then-is_last-clause-single : goal.returns-then-is_last-clause-single
+returns-then-is_last-clause-single g c =
+    λ one. omega (arith, c.loop-step.invariant.single one, c.keep_book.ensures.turns)
+
+pub returns-in-Stray-clause-single : goal.returns-in-Stray-clause-single
+returns-in-Stray-clause-single g c = λ one. omega (arith, c.loop-step.invariant.single one)
+
+pub returns-in-Memory-clause-single : goal.returns-in-Memory-clause-single
+returns-in-Memory-clause-single g c = λ one. omega (arith, c.loop-step.invariant.single one)

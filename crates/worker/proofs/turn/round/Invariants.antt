@@ -1,4 +1,4 @@
-use Rattle.std.proofs.Common.{map}
+use Rattle.std.proofs.Common.{◌≡◌, map}
 use Rattle.worker.specs.Mailboxes.{through}
 use Rattle.worker.specs.Turning.{IsAtRest, StaysAtWork}
 use Rattle.worker.proofs.turn.round.Given as goal
@@ -11,4 +11,6 @@ invariant-loop-step g l = record {
   rests : IsAtRest g.A.Rules.rules (g.A.Analysis.state l.part) (map (through g.M.Mail.received)
       l.inbox.receivers.items) (g.L.Ledger.owed l.account.share)
       (g.L.Ledger.cleared l.account.share) l.account.tally;
+  -- where a turn receives one growth, none has come yet
+  single : l.fn.pace.taken ≡ 1 → l.account.tally.turns ≡ l.fn.account.tally.turns;
 }
