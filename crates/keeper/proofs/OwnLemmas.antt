@@ -1,16 +1,16 @@
--- For those who write an engine: what it finds, that there are few facts, and what the logs tell in the end.
-use Rattle.std.proofs.Common.{◌≡◌, ◌≢◌, ◌⊎◌, ◌↔◌, ◌<◌, ◌^◌, ℕ, Bool, true, not, ◌&&◌, ◌||◌, eqb, IsTrue, List, length, Contains, refl, sym, ◌∙◌, inl, inr, ⊎_elim, subst, arith}
+-- For those who write an engine: what it finds, that there are few facts, and what its least solution has.
+use Rattle.std.proofs.Common.{◌≡◌, ◌≢◌, ◌⊎◌, ◌↔◌, ◌<◌, ◌≤◌, ◌^◌, ◌%◌, ℕ, zero, suc, Bool, true, not, ◌&&◌, ◌||◌, eqb, IsTrue, List, [], length, Contains, slice_index_or, refl, sym, ◌∙◌, inl, inr, ⊎_elim, subst, eq-or-lt_of_le, mod-lt, arith}
 use Rattle.std.specs.Prelude.{Result, Ok, Err, OnOk}
-use Rattle.std.proofs.lemmas.Bool.{eqb-true, eq-eqb}
+use Rattle.std.specs.List.{list_any}
+use Rattle.std.proofs.lemmas.Bool.{eqb-true, eq-eqb, cases_eq}
+use Rattle.std.proofs.lemmas.List.{get_or_past}
 use Rattle.std.proofs.lemmas.List.Elements.{Contains-append_left, Contains-append_right, Contains-append_cases}
 use Rattle.std.proofs.lemmas.Map.Made.{IsDistinct-from_AllPairs}
 use Rattle.std.proofs.lemmas.Map.Steps.{length-le_from_distinct_below}
 use Rattle.std.proofs.lemmas.Map.Views.{Contains-from_any}
 use Rattle.fixpoint.specs.Limits.{most_growths}
 use Rattle.fixpoint.specs.Rules.{Rules, AreDifferent, AreLawful, Sees, IsLeast}
-use Rattle.fixpoint.specs.Logs.{AreSound, AreSettled, IsTold, log_of}
-use Rattle.fixpoint.proofs.LawLemmas.{each_holds, least_exact, in_range}
-use Rattle.fixpoint.proofs.ListLemmas.{filter_from, filter_to, both, and_both}
+use Rattle.fixpoint.proofs.ListLemmas.{filter_from, filter_to, both, and_both, any_from, any_to}
 use Rattle.keeper.specs.Engine.{Finds, GotOwn, nothing, with_fact}
 use Rattle.keeper.proofs.ListLemmas.{or_cases, or_left, or_right}
 
@@ -41,20 +41,20 @@ module _ {A F G : Type 0} (rules : Rules A F G) (a : A) (i : ℕ) where
 
   -- An owner that got its facts of a list entered a fact: where that is known all of the list follows, and nothing but
   -- the list follows now and didn't before.
-  pub finds_more : AreLawful rules → (fact : F) (known more : F → Bool) (facts : List F)
+  pub finds_more : ((f g : F) → (rules.same f g ≡ true) ↔ (f ≡ g)) → (fact : F) (known more : F → Bool) (facts : List F)
       → ((f : F) → more f ≡ with_fact rules fact known f)
       → ((k : F → Bool) → IsTrue (k fact) → (f : F) → Contains facts f → rules.derives a k f)
       → ((k : F → Bool) → ((f : F) → IsTrue (k f) → (fact ≡ f) ⊎ IsTrue (known f))
       → (f : F) → rules.derives a k f → rules.derives a known f ⊎ Contains facts f)
       → {T E : Type 0} (result : Result T E) (old new : List F) → OnOk result (GotOwn rules a i facts old new)
       → OnOk result (Finds rules a i more (λ f. rules.derives a known f) old new)
-  finds_more lawful fact known more facts is each all (Ok x) old new got =
+  finds_more tells fact known more facts is each all (Ok x) old new got =
       finds_own more (λ f. rules.derives a known f) facts
-      (each more (is fact ∙ or_left (rules.same fact fact) (known fact) ((lawful.same_tells fact fact).1 refl)))
-      (all more (λ f h. ⊎_elim (λ s. inl ((lawful.same_tells fact f).0 s)) inr
+      (each more (is fact ∙ or_left (rules.same fact fact) (known fact) ((tells fact fact).1 refl)))
+      (all more (λ f h. ⊎_elim (λ s. inl ((tells fact f).0 s)) inr
       (or_cases (rules.same fact f) (known f) (sym (is f) ∙ h))))
       old new got
-  finds_more lawful fact known more facts is each all (Err e) old new got = tt
+  finds_more tells fact known more facts is each all (Err e) old new got = tt
 
 -- ---- laws
 
@@ -71,30 +71,111 @@ few_numbers rules a low facts different =
 pub not_same : (m n : ℕ) → (m ≢ n) ↔ (not (eqb m n) ≡ true)
 not_same m n = (λ differ. grind arith, λ test. grind arith)
 
--- Settled logs tell exactly the facts of which P holds, if P holds of what follows from facts of which it holds, and of
--- nothing but the least solution.
-module _ {A F G : Type 0} (rules : Rules A F G) (lawful : AreLawful rules) (a : A) (ok : rules.valid a)
-    (logs : List (List G)) (received : ℕ → ℕ → List G) (sound : AreSound rules a logs received)
-    (settled : AreSettled rules a logs received) (P : F → Type 0)
-    (kept : (known : F → Bool) → ((g : F) → IsTrue (known g) → P g) → (f : F) → rules.derives a known f → P f)
-    (least : (f : F) → P f → IsLeast rules a f) where
-  abbrev seen : ℕ → F → Bool
-  seen i g = eqb (rules.owner a g) i || rules.reads a i g
+-- ---- facts that are numbers, each of which follows from nothing or along an edge from one other
 
-  sees_to : (i : ℕ) (g : F) → Sees rules a i g → seen i g ≡ true
-  sees_to i g = ⊎_elim (λ own. or_left _ (rules.reads a i g) (eq-eqb _ _ own)) (or_right (eqb (rules.owner a g) i) _)
+module _ {A G : Type 0} (owners : A → ℕ) (starts : A → List ℕ) (ends : A → ℕ → List ℕ) (fact rank : G → ℕ) where
+  -- A fact is a number of 32 bits, whose owner is its remainder. An owner reads the facts of others from which edges
+  -- lead to its own.
+  abbrev edge_rules : Rules A ℕ G
+  edge_rules = record {
+    valid = λ a. (0 < owners a) × (owners a ≤ 64);
+    parts = owners;
+    owner = λ a x. x % owners a;
+    reads = λ a i x. list_any (λ y. not (eqb (x % owners a) i) && eqb (y % owners a) i) (ends a x);
+    derives = λ a known y. Contains (starts a) y ⊎ ((x : ℕ) × Contains (ends a x) y × IsTrue (known x));
+    proper = λ a x. x < 2 ^ 32;
+    same = λ x y. eqb x y;
+    fact = fact;
+    rank = rank;
+  }
 
-  sees_from : (i : ℕ) (g : F) → seen i g ≡ true → Sees rules a i g
-  sees_from i g h = ⊎_elim (λ own. inl (eqb-true _ _ own)) inr
-      (or_cases (eqb (rules.owner a g) i) (rules.reads a i g) h)
+  -- the owner of a fact sees those from which edges lead to it
+  sees : (a : A) (x y : ℕ) → Contains (ends a x) y → Sees edge_rules a (y % owners a) x
+  sees a x y edge = ⊎_elim inl (λ other. inr (any_to _ (ends a x) y edge
+      (and_both _ _ ((not_same _ _).0 other) (eq-eqb _ _ refl)))) (cases_eq (x % owners a) (y % owners a))
 
-  pub tells_exactly : (f : F) → IsTold rules (log_of logs (rules.owner a f)) f ↔ P f
-  tells_exactly f = (
-    λ told. subst P told.2
-        (each_holds rules lawful a ok logs received sound P
-        (λ known g follows each. kept (λ h. known h && seen (rules.owner a g) h)
-        (λ h t. let two = both (known h) _ t in each h (sees_from _ h two.1) two.0) g
-        (lawful.local a ok known _ g (λ h s k. and_both _ _ k (sees_to _ h s)) follows))
-        _ told.0 (in_range rules lawful a ok logs received sound f told) told.1),
-    λ p. (least_exact rules lawful a ok logs received sound settled f).1 (least f p),
-  )
+  -- these rules keep the laws
+  pub edges_lawful : AreLawful edge_rules
+  edges_lawful = record {
+    local = λ a ok known more y each. ⊎_elim inl (λ w. inr (w.0, w.1, each w.0 (sees a w.0 y w.1) w.2));
+    owned = λ a ok known y h. mod-lt y ok.0;
+    others = λ a ok i x read. (mod-lt x ok.0, (not_same _ i).1 (both _ _ (any_from _ (ends a x) read).2).0);
+    few = λ a ok. ok;
+    few_facts = λ a ok. few_numbers edge_rules a (λ x low. low);
+    same_tells = λ x y. (eqb-true x y, eq-eqb x y);
+  }
+
+-- ---- and their least solution
+
+module _ (edge : ℕ → ℕ → Bool) where
+  -- whether edges lead to y from what starts, by way of numbers below n alone
+  abbrev leads : ℕ → (ℕ → Bool) → ℕ → Bool
+  leads zero starts y = starts y
+  leads (suc n) starts y = leads n starts y || (leads n starts n && leads n (edge n) y)
+
+  abbrev Parts : ℕ → (ℕ → Bool) → ℕ → Type 0
+  Parts n starts y = (leads n starts y ≡ true) ⊎ ((leads n starts n ≡ true) × (leads n (edge n) y ≡ true))
+
+  apart : (n : ℕ) (starts : ℕ → Bool) (y : ℕ) → leads (suc n) starts y ≡ true → Parts n starts y
+  apart n starts y h = ⊎_elim inl (λ t. inr (both _ _ t)) (or_cases _ _ h)
+
+  together : (n : ℕ) (starts : ℕ → Bool) (y : ℕ) → Parts n starts y → leads (suc n) starts y ≡ true
+  together n starts y = ⊎_elim (or_left _ _) (λ t. or_right _ _ (and_both _ _ t.0 t.1))
+
+  starting : (n : ℕ) (starts : ℕ → Bool) (y : ℕ) → starts y ≡ true → leads n starts y ≡ true
+  starting zero starts y h = h
+  starting (suc n) starts y h = together n starts y (inl (starting n starts y h))
+
+  -- where edges lead to x, and on from there, they lead on
+  joined : (n : ℕ) (starts : ℕ → Bool) (x y : ℕ) → x < n → leads n starts x ≡ true
+      → leads n (edge x) y ≡ true → leads n starts y ≡ true
+  joined zero starts x y low h k = absurd (omega (arith, low))
+  joined (suc n) starts x y low h k = together n starts y (⊎_elim
+      (λ (is : x ≡ n). inr (
+        ⊎_elim (λ d. subst (λ m. leads n starts m ≡ true) is d) (λ t. t.0) (apart n starts x h),
+        ⊎_elim (λ d. subst (λ m. leads n (edge m) y ≡ true) is d) (λ t. t.1) (apart n (edge x) y k),
+      ))
+      (λ (less : x < n). ⊎_elim
+      (λ d. ⊎_elim (λ e. inl (joined n starts x y less d e)) (λ e. inr (joined n starts x n less d e.0, e.1))
+      (apart n (edge x) y k))
+      (λ d. inr (d.0, ⊎_elim (λ e. joined n (edge n) x y less d.1 e) (λ e. e.1) (apart n (edge x) y k)))
+      (apart n starts x h))
+      (eq-or-lt_of_le (omega (arith, low))))
+
+  led : (P : ℕ → Type 0) → ((x y : ℕ) → edge x y ≡ true → P x → P y) → (n : ℕ) (starts : ℕ → Bool)
+      → ((y : ℕ) → starts y ≡ true → P y) → (y : ℕ) → leads n starts y ≡ true → P y
+  led P on zero starts first y h = first y h
+  led P on (suc n) starts first y h = ⊎_elim (led P on n starts first y)
+      (λ t. led P on n (edge n) (λ z e. on n z e (led P on n starts first n t.0)) y t.1) (apart n starts y h)
+
+abbrev has : List ℕ → ℕ → Bool
+has xs y = list_any (λ x. eqb x y) xs
+
+has_from : (xs : List ℕ) (y : ℕ) → has xs y ≡ true → Contains xs y
+has_from xs y h = let w = any_from _ xs h in subst (Contains xs) (eqb-true _ _ w.2) w.1
+
+has_to : (xs : List ℕ) (y : ℕ) → Contains xs y → has xs y ≡ true
+has_to xs y h = any_to _ xs y h (eq-eqb _ _ refl)
+
+abbrev ends : List (List ℕ) → ℕ → List ℕ
+ends edges x = slice_index_or edges x []
+
+-- a number from which an edge leads has an entry
+has_ends : (edges : List (List ℕ)) (x y : ℕ) → Contains (ends edges x) y → x < length edges
+has_ends edges x y h = grind (arith, get_or_past)
+
+-- P holds of the least solution, if what follows starts or has an edge from a known number, and P holds of what starts
+-- and goes on along edges. For each number a list has where the edges from there lead.
+pub least_led : {A G : Type 0} (rules : Rules A ℕ G) (a : A) (starts : List ℕ) (edges : List (List ℕ))
+    → ((known : ℕ → Bool) (y : ℕ) → rules.derives a known y
+    → Contains starts y ⊎ ((x : ℕ) × Contains (ends edges x) y × IsTrue (known x)))
+    → (P : ℕ → Type 0) → ((y : ℕ) → Contains starts y → P y) → ((x y : ℕ) → Contains (ends edges x) y → P x → P y)
+    → (y : ℕ) → IsLeast rules a y → P y
+least_led rules a starts edges cases P first on y least =
+    let edge : ℕ → ℕ → Bool = λ x. has (ends edges x) in
+    let n = length edges in
+    led edge P (λ x z e. on x z (has_from _ z e)) n (has starts) (λ z h. first z (has_from _ z h)) y
+    (least (leads edge n (has starts)) (λ z h. ⊎_elim (λ s. starting edge n (has starts) z (has_to _ z s))
+    (λ w. joined edge n (has starts) w.0 z (has_ends edges w.0 z w.1) w.2
+    (starting edge n (edge w.0) z (has_to _ z w.1)))
+    (cases _ z h)))

@@ -7,7 +7,7 @@ ghost use Rattle.std.specs.Prelude.{◌<◌, ◌≤◌};
 
 mod reach;
 
-pub use reach::settled_logs_tell_reached_nodes;
+pub use reach::least_is_reached;
 
 /// A graph whose nodes are assigned to owners: node n to owner n modulo their number.
 #[derive(Drop)]

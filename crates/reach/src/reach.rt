@@ -1,12 +1,12 @@
 //! The engine of a graph, and what its keepers find out.
 
-ghost use Rattle.std.specs.Prelude.{◌≡◌, ◌↔◌, ℕ, List};
+ghost use Rattle.std.specs.Prelude.{◌≡◌, ◌↔◌, ℕ};
 ghost use Rattle.std.specs.BTreeSet.{contains};
 ghost use Rattle.std.specs.Ordering.{nat_cmp};
-ghost use Rattle.fixpoint.specs.Logs.{AreSound, AreSettled, IsTold, log_of};
-ghost use Rattle.reach.specs.Reach.{IsReached, ends, reach_lawful, rules_of_reach as reach_rules};
+ghost use Rattle.fixpoint.specs.Rules.{Least};
+ghost use Rattle.reach.specs.Reach.{IsReached, ends, rules_of_reach as reach_rules};
 ghost use Rattle.reach.specs.declared.Graph.{Graph as TheGraph};
-ghost use Rattle.fixpoint.specs.declared.growth.Growth.{Growth as TheGrowth};
+ghost use Rattle.keeper.proofs.OwnLemmas.{edges_lawful};
 
 use crate::Graph;
 use fixpoint::{Growth, Rules};
@@ -15,12 +15,10 @@ use nll_sets::Memory;
 use std::alloc::Global;
 use std::collections::BTreeSet;
 
-/// States that the logs of settled owners tell exactly which nodes are reached from the roots.
-pub fn settled_logs_tell_reached_nodes()
-    ensures { (a : TheGraph) (logs : List (List (TheGrowth ℕ)))
-        (received : ℕ → ℕ → List (TheGrowth ℕ)) → reach_rules.valid a
-        → AreSound reach_rules a logs received → AreSettled reach_rules a logs received
-        → (x : ℕ) → IsTold reach_rules (log_of logs (reach_rules.owner a x)) x ↔ IsReached a x }
+/// States that the least solution has exactly the nodes that are reached from the roots. It is what
+/// the logs of a run tell, and the log of one keeper alone.
+pub fn least_is_reached()
+    ensures { (a : TheGraph) (x : ℕ) → Least reach_rules a x ↔ IsReached a x }
 {}
 
 impl<'q> Graph<'q> {
@@ -49,7 +47,8 @@ impl<'q> Rules for Graph<'q> {
 
     ghost rules = { reach_rules };
 
-    ghost lawful = { reach_lawful };
+    ghost lawful = { edges_lawful (λ a. a.owners) (λ a. a.roots.now) ends (λ g. g.fact)
+        (λ g. g.rank) };
 
     fn parts(&self) -> u16 {
         self.owners

@@ -1,12 +1,14 @@
 use Rattle.std.proofs.Common.{Contains, inl, inr, ⊎_elim, subst, sym, rules}
+use Rattle.std.proofs.lemmas.Bool.{eqb-true, eq-eqb}
 use Rattle.keeper.proofs.OwnLemmas.{finds_more}
-use Rattle.reach.specs.Reach.{ends, reach_lawful, rules_of_reach as reach_rules}
+use Rattle.reach.specs.Reach.{ends, rules_of_reach as reach_rules}
 use Rattle.reach.proofs.reach.GraphEngine.enter.Goals as goal
 
 pub returns-clause-found : goal.returns-clause-found
 returns-clause-found c =
     let a = c.args.self.now in
-    finds_more reach_rules a c.args.me reach_lawful c.args.fact _ _ (ends a c.args.fact) (search rules)
+    finds_more reach_rules a c.args.me (λ x y. (eqb-true x y, eq-eqb x y)) c.args.fact _ _
+    (ends a c.args.fact) (search rules)
     (λ known here x h. inr (c.args.fact, h, here))
     (λ known cases x. ⊎_elim (λ r. inl (inl r)) (λ w. ⊎_elim
     (λ same. inr (subst (λ y. Contains (ends a y) x) (sym same) w.1))
