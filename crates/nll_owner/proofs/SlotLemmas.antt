@@ -136,17 +136,20 @@ other_read o r h other =
     or_other _ (reads o.problem o.cut o.me r) (λ own. other (eqb-true _ _ own))
     (filter_from (holds_region o.cut o.me (reads o.problem o.cut o.me)) (range_with_len 0 o.problem.regions) r h).1
 
--- what the owner has is of regions that it holds
-pub has_held : (o : Owner) → IsSoundOwner o → (r e : ℕ) → Has o r e
-    → holds_region o.cut o.me (reads o.problem o.cut o.me) r ≡ true
-has_held o sound r e h = ⊎_elim
-    (λ own. own_held o r own)
-    (λ other.
+-- what the owner has of a region of another is of one that it reads
+pub has_read : (o : Owner) → IsSoundOwner o → (r e : ℕ) → Has o r e → owner_of o.cut r ≢ o.me
+    → reads o.problem o.cut o.me r ≡ true
+has_read o sound r e h other =
     let heard =
     sound.heard (owner_of o.cut r) h.0 (subst (λ xs. Contains xs h.0)
     (list_other o.cut o.me o.log (received_from o) r other) h.1) in
-    read_held o r (subst (λ x. reads o.problem o.cut o.me x ≡ true) h.2 heard.1))
-    (cases_eq (owner_of o.cut r) o.me)
+    subst (λ x. reads o.problem o.cut o.me x ≡ true) h.2 heard.1
+
+-- so what it has is of regions that it holds
+pub has_held : (o : Owner) → IsSoundOwner o → (r e : ℕ) → Has o r e
+    → holds_region o.cut o.me (reads o.problem o.cut o.me) r ≡ true
+has_held o sound r e h =
+    ⊎_elim (own_held o r) (λ other. read_held o r (has_read o sound r e h other)) (cases_eq (owner_of o.cut r) o.me)
 
 pub slotted_gains : (o : Owner) (kind : ℕ → ℕ → Type 0) (old new : List (List Bool)) → AreSlotted o old
     → Gains kind old new → AreSlotted o new

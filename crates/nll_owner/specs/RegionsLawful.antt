@@ -1,4 +1,5 @@
--- The rules of regions are lawful.
+-- The rules of regions keep the laws: a proof, in which nothing has to be believed. It stands here
+-- since `ghost lawful` takes nothing from the `proofs/` of its own crate.
 use Rattle.std.proofs.Common.{◌≡◌, ◌≢◌, ℕ, ◌+◌, ◌*◌, ◌<◌, ◌≤◌, true, eqb, List, length, map, Contains, AllPairs, IsTrue, get_or, refl, sym, ap, ◌∙◌, subst, inl, inr, ⊎_elim, arith}
 use Rattle.std.proofs.lemmas.Bool.{eqb-true, eq-eqb, cases_eq}
 use Rattle.std.proofs.lemmas.List.{get_or-map, length-map}

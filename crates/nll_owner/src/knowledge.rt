@@ -274,10 +274,11 @@ impl<'q> Knowledge<'q> {
 
     /// Whether a value or a copy has an element.
     pub fn has(&self, region: RegionId, element: Element) -> bool
-        requires region { region < self.now.problem.regions }
-        requires element { element < element_count self.now.problem.graph }
         ensures { IsTrue result ↔ Has self.now region element }
     {
+        if element.0 >= self.problem.points() + self.problem.universals() {
+            return false;
+        }
         match self.slots.find(region) {
             Some(slot) => self.values.has(slot, element),
             None => false,

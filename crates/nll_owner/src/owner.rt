@@ -372,11 +372,12 @@ impl<'q> Owner<'q> {
         self.outboxes.len(to)
     }
 
-    /// Whether the value of an own region, or the copy of a region that is read, has an element;
-    /// of any other region it is false.
+    /// Whether the value of an own region, or the copy of a region that is read, has an element. It
+    /// is false for any other region, and for numbers that the problem doesn't have.
+    ///
+    /// # Cost
+    /// A search among the runs of the region's set (not proved).
     pub fn has(&self, region: RegionId, element: Element) -> bool
-        requires region { region < self.now.problem.regions }
-        requires element { element < element_count self.now.problem.graph }
         ensures { IsTrue result ↔ Has self.now region element }
     {
         self.knowledge.has(region, element)

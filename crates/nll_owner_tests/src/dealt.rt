@@ -5,7 +5,7 @@ use super::driver::Turn;
 use super::failure::Failure;
 use super::holdings::handed_over;
 use super::lent::lent_over;
-use super::owner_text::{answers_over, driven_over, last_answers_over, logs_over};
+use super::owner_text::{answers_over, driven_over, known_over, last_answers_over, logs_over};
 use super::world_text::{replayed_over, stepped_over};
 use nll_core::Problem;
 use nll_cut::Cut;
@@ -18,6 +18,7 @@ use std::alloc::Global;
 #[derive(Clone, Copy)]
 pub enum Asked<'t> {
     Driven(&'t [Turn]),
+    Known(&'t [Turn]),
     Logs(&'t [Turn]),
     Answers(&'t [Turn]),
     LastAnswers,
@@ -39,6 +40,7 @@ fn told_over(
 {
     match asked {
         Asked::Driven(turns) => driven_over(alloc, problem, cut, turns),
+        Asked::Known(turns) => known_over(alloc, problem, cut, turns),
         Asked::Logs(turns) => logs_over(alloc, problem, cut, turns),
         Asked::Answers(turns) => answers_over(alloc, problem, cut, turns),
         Asked::LastAnswers => last_answers_over(alloc, problem, cut),

@@ -78,6 +78,54 @@ pub fn driven_over(
     Ok(out)
 }
 
+// Numbers of regions and of elements: those of a small problem, and larger ones.
+const NUMBERS: &[u32] = &[0, 1, 2, 3, 4, 5, 65_536, 4_294_967_295];
+
+// Writes which of these elements an owner says that it has in a region.
+fn write_row(out: &mut String, owner: &Owner, region: u32) -> Result<(), AllocError> {
+    for element in NUMBERS {
+        if owner.has(RegionId(region), Element(*element)) {
+            write!(out, " {region}.{element}")?;
+        }
+    }
+    Ok(())
+}
+
+// Writes which of these elements an owner says that it has, in each of these regions.
+fn write_known(out: &mut String, owner: &Owner) -> Result<(), AllocError> {
+    for region in NUMBERS {
+        write_row(out, owner, *region)?;
+    }
+    out.push('|')
+}
+
+/// What each owner of a cut says that it has, once they are driven: a region and an element each.
+pub fn known_over(
+    alloc: Global,
+    problem: &Problem,
+    cut: &Cut,
+    turns: &[Turn],
+) -> Result<String, Failure>
+    requires { length cut.now.list ≡ problem.now.regions }
+{
+    let mut out = String::new(alloc);
+    let mut network = Network::new(alloc, problem, cut)?;
+    let driven = network.drive(alloc, turns);
+    let written = write_all_known(&mut out, network.owners());
+    drop(network);
+    driven?;
+    written?;
+    Ok(out)
+}
+
+// Writes the same of each owner.
+fn write_all_known(out: &mut String, owners: &[Owner]) -> Result<(), AllocError> {
+    for owner in owners {
+        write_known(out, owner)?;
+    }
+    Ok(())
+}
+
 // Writes the logs of owners: the region and the element of each growth.
 fn write_logs(out: &mut String, owners: &[Owner]) -> Result<(), AllocError> {
     for owner in owners {

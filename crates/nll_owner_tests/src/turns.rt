@@ -241,6 +241,10 @@ const LOGGED: &[Logged] = &[
     ),
 ];
 
+// What three owners say that they have. Owner 0 has the regions 0 and 3 and reads none, owner 1 has
+// 1 and reads 3, owner 2 has 2 and reads 1.
+const KNOWN: &str = " 0.0 0.1 0.2 0.3 3.1| 1.0 1.1 1.2 3.1| 1.0 1.1 1.2 2.0 2.1 2.2|";
+
 // Turns that name no owner of two, or one owner twice.
 const WRONG: &[Turn] = &[
     Load(2),
@@ -284,6 +288,13 @@ fn a_driver_takes_its_turns_in_their_order(rt: HostRuntime) {
         let told = told(rt.alloc(), TWO_SOURCES, 3, Asked::Logs(turns));
         compare(&rt, told, want);
     }
+}
+
+// Of other regions, and of numbers that the problem doesn't have, it says no.
+#[test]
+fn an_owner_has_its_values_and_its_copies(rt: HostRuntime) {
+    let told = told(rt.alloc(), FILLED_HOLE, 3, Asked::Known(NONE));
+    compare(&rt, told, KNOWN);
 }
 
 #[test]
