@@ -212,6 +212,22 @@ class Rules(unittest.TestCase):
         self.assertEqual([rule for rule in rules if not re.search(rf"\b{rule}\b", said)], [])
 
 
+class Definitions(unittest.TestCase):
+    """What a reader has to believe brings in no proof, but for two files that say why they do."""
+
+    # A code owes a proof that what is stored as steps is made by them again; a law of a trait owes a proof.
+    # Neither may be in the `proofs/` of its own crate, since a type or an `impl` cites it.
+    OWING = {"nll_types/specs/TypeCodes.antt", "nll_owner/specs/RegionsLawful.antt"}
+
+    def test_no_proofs(self):
+        paths = sorted((ROOT / "crates").glob("*/specs/**/*.antt"))
+        self.assertGreater(len(paths), 100)
+        brings_in = re.compile(r"^\s*(?:pub )?use [\w.]*\.proofs\b", re.MULTILINE)
+        found = {str(path.relative_to(ROOT / "crates")) for path in paths if brings_in.search(path.read_text())}
+        self.assertEqual(found - self.OWING, set())
+        self.assertEqual(self.OWING - found, set())
+
+
 class Lines(unittest.TestCase):
     def test_lengths(self):
         """No line more is too long than there were when this was written."""

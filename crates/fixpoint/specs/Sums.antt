@@ -1,7 +1,6 @@
 -- Sums over owners, and what is counted on each ordered pair of them.
 -- Source: project's choice.
-use Rattle.std.specs.Prelude.{◌≡◌, ℕ, ◌+◌, ◌<◌, ◌≤◌}
-use Rattle.std.proofs.Common.{zero, suc}
+use Rattle.std.specs.Prelude.{◌≡◌, ℕ, zero, suc, ◌+◌, ◌<◌, ◌≤◌}
 
 -- the sum of f over the numbers below n
 abbrev pub sum_to : ℕ → (ℕ → ℕ) → ℕ
