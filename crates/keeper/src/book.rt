@@ -187,7 +187,7 @@ impl<'q, E: Engine> Book<'q, E> {
     }
 }
 
-// This many empty lists.
+/// This many empty lists.
 pub fn empty_lists<G: Drop>(alloc: Global, count: u16) -> Result<Vec<Vec<G>>, Memory>
     ensures { IfOk result (λ lists. map (λ (list : Vec G Global). list.items) lists.items
         ≡ replicate count []) }

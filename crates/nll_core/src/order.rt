@@ -11,15 +11,15 @@ use nll_problem::{Constraint, ConstraintIndex, Problem};
 use nll_sets::Memory;
 use std::alloc::Global;
 
-// A depth-first search from regions to those that are filled from them.
+/// A depth-first search from regions to those that are filled from them.
 #[derive(Drop)]
 pub struct Descent {
-    // The index of the constraint that each region follows next.
+    /// The index of the constraint that each region follows next.
     pub next: Vec<usize>,
     pub seen: Vec<bool>,
-    // The regions that the search has entered and not left.
+    /// The regions that the search has entered and not left.
     pub path: Vec<u32>,
-    // The regions that it has left, in that order.
+    /// The regions that it has left, in that order.
     pub left: Vec<u32>,
 }
 
