@@ -8,6 +8,7 @@ ghost use Rattle.nll_types.specs.DropRegions.{IsDropRegion};
 ghost use Rattle.nll_types.specs.Places.{type_of, path_of};
 ghost use Rattle.nll_types.specs.Structs.{IsWellFormed};
 ghost use Rattle.nll_types.specs.Types.{TypeTree, HasRegion};
+ghost use Rattle.nll_types.specs.TypesAt.{meant_type};
 ghost use Rattle.nll_types.specs.Views.{tree};
 ghost use Rattle.nll_body.specs.Effects.{variables_used, defined, dropped};
 ghost use Rattle.nll_body.specs.Statements.{Statement as standing};
@@ -23,7 +24,9 @@ use crate::typed::{StatementAt, TypedBody};
 use nll_format::Labels;
 use nll_problem::{BuildError, Graph, RegionId};
 use nll_sets::Memory;
-use nll_types::{BodyTypes, Place, Structs, Ty, Typed, behind, types_of_places_are_well_formed};
+use nll_types::{
+    BodyTypes, Place, Structs, Ty, TypeAt, Typed, behind, types_of_places_are_well_formed,
+};
 use std::alloc::Global;
 use std::marker::Model;
 
@@ -221,17 +224,26 @@ impl Body {
         }
     }
 
-    /// The type of a variable, as a tree.
-    ///
-    /// # Errors
-    /// `Memory` alone.
-    pub fn var_type(&self, alloc: Global, variable: u32) -> Result<Ty, Memory>
+    /// The type of a variable, where it is kept. Takes no memory.
+    pub fn var_type(&self, variable: u32) -> TypeAt<'_>
+        requires { variable < length self.now.variables }
+        ensures value { HasType self.now variable (meant_type result) }
+        ensures well_formed { IsWellFormed self.now.structs (length self.now.names) 0
+            (meant_type result) }
+    {
+        let types = &self.types;
+        let ty = self.variables[variable as usize];
+        TypeAt { types, ty }
+    }
+
+    // The type of a variable as a tree.
+    fn variable_tree(&self, alloc: Global, variable: u32) -> Result<Ty, Memory>
         requires { variable < length self.now.variables }
         ensures value { IfOk result (λ t. HasType self.now variable (tree t)) }
         ensures well_formed { IfOk result
             (λ t. IsWellFormed self.now.structs (length self.now.names) 0 (tree t)) }
     {
-        self.types.tree(alloc, self.variables[variable as usize])
+        self.var_type(variable).tree(alloc)
     }
 
     /// The regions that are written in the type of a variable, each once.
@@ -244,7 +256,7 @@ impl Body {
             → (r : ℕ) → Contains v.items r ↔ HasRegion t r) }
         ensures once { IfOk result (λ v. AllPairs (λ q r. q ≢ r) v.items) }
     {
-        let ty = self.var_type(alloc, variable)?;
+        let ty = self.variable_tree(alloc, variable)?;
         let found = self.structs().regions(alloc, &ty);
         // Early drop.
         drop(ty);
@@ -264,7 +276,7 @@ impl Body {
             → (r : ℕ) → Contains v.items r ↔ IsDropRegion self.now.structs t r) }
         ensures once { IfOk result (λ v. AllPairs (λ q r. q ≢ r) v.items) }
     {
-        let ty = self.var_type(alloc, variable)?;
+        let ty = self.variable_tree(alloc, variable)?;
         let found = self.structs().drop_regions(alloc, &ty);
         // Early drop.
         drop(ty);
@@ -286,7 +298,7 @@ impl Body {
         types_of_places_are_well_formed();
         // Clause call.
         let _ = self.points();
-        let ty = self.var_type(alloc, place.variable())?;
+        let ty = self.variable_tree(alloc, place.variable())?;
         match behind(alloc, self.structs(), ty, place.projections())? {
             Some(ty) => Ok(ty),
             None => unreachable!(),

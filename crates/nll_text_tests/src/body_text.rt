@@ -1,7 +1,7 @@
 //! What a MIR text says, or its fault, as text. If an allocation fails, the test ends.
 ghost use Rattle.std.specs.Prelude.{◌<◌, length};
 
-use super::body_types::{write_places, write_typed, write_variables};
+use super::body_types::{write_forms, write_places, write_typed, write_variables};
 use super::comparison::compare;
 use super::pieces::{write_number, write_numbers, write_piece};
 use super::slow::write_fault;
@@ -24,6 +24,8 @@ pub enum Asked {
     First,
     /// The regions of each variable's type.
     Variables,
+    /// The form of each variable's type, and the regions of its parts.
+    Forms,
     /// The regions of the types of the places that `types` has.
     Places,
     /// The regions of the types of variables and statements, by number.
@@ -151,6 +153,7 @@ fn write_asked(rt: &impl Abort, alloc: Global, out: &mut String, body: &Body, as
         Asked::Size => write_size(rt, alloc, out, body),
         Asked::First => write_first(rt, out, body),
         Asked::Variables => write_variables(rt, alloc, out, body),
+        Asked::Forms => write_forms(rt, alloc, out, body),
         Asked::Places => write_places(rt, alloc, out, body),
         Asked::Typed => write_typed(rt, alloc, out, body),
     }

@@ -10,7 +10,7 @@ use super::pieces::{write_number, write_piece};
 use nll_body::{Body, StatementAt, Stmt, TypedBody};
 use nll_problem::RegionId;
 use nll_sets::Memory;
-use nll_types::{BodyTypes, Place, Projection, Ty, Typed, behind};
+use nll_types::{BodyTypes, Place, Projection, Ty, TypeAt, TypeForm, Typed, TypesAt, behind};
 use smallvec::SmallVec;
 use std::alloc::Global;
 use std::process::Abort;
@@ -42,7 +42,7 @@ fn write_variable(rt: &impl Abort, alloc: Global, out: &mut String, body: &Body,
     requires { variable < length body.now.variables }
 {
     write_piece(rt, out, "|");
-    let ty = body.var_type(alloc, variable).expect(rt, "memory");
+    let ty = body.var_type(variable).tree(alloc).expect(rt, "memory");
     write_type(rt, alloc, out, body, &ty);
 }
 
@@ -75,7 +75,7 @@ fn write_place(
         write_piece(rt, out, " none");
         return Ok(());
     }
-    let ty = body.var_type(alloc, variable)?;
+    let ty = body.var_type(variable).tree(alloc)?;
     match behind(alloc, body.structs(), ty, place.projections())? {
         Some(ty) => {
             drop(ty);
@@ -174,6 +174,66 @@ pub fn write_typed(rt: &impl Abort, alloc: Global, out: &mut String, body: &Body
     }
 }
 
+// Writes a form and its number, and whether a reference is `mut`.
+fn write_head(rt: &impl Abort, out: &mut String, form: &str, number: usize, regions: &[RegionId]) {
+    write_number(rt, out, form, number as u64, "");
+    for region in regions {
+        write_number(rt, out, " '", u64::from(region.0), "");
+    }
+}
+
+// Writes the regions of a type that is kept in a body.
+fn write_kept(rt: &impl Abort, alloc: Global, out: &mut String, ty: TypeAt<'_>) {
+    let ty = ty.tree(alloc).expect(rt, "memory");
+    write_piece(rt, out, ";");
+    write_tree(rt, out, &ty);
+}
+
+// Writes the regions of each of the first four types of a row.
+fn write_kept_row(rt: &impl Abort, alloc: Global, out: &mut String, row: TypesAt<'_>) {
+    let mut rest = row;
+    for _ in 0..4 {
+        if let Some((first, others)) = rest.split_first() {
+            write_kept(rt, alloc, out, first);
+            rest = others;
+        }
+    }
+}
+
+// Writes the form of a type that is kept in a body, and the regions of its parts.
+fn write_form(rt: &impl Abort, alloc: Global, out: &mut String, form: TypeForm<'_>) {
+    match form {
+        TypeForm::Int => write_piece(rt, out, "int"),
+        TypeForm::Parameter(number) => write_head(rt, out, "parameter ", number, &[]),
+        TypeForm::Reference(region, mutable, target) => {
+            write_head(rt, out, "reference ", usize::from(mutable), &[region]);
+            write_kept(rt, alloc, out, target);
+        }
+        TypeForm::Tuple(parts) => {
+            write_piece(rt, out, "tuple");
+            write_kept_row(rt, alloc, out, parts);
+        }
+        TypeForm::Named(number, regions, types) => {
+            write_head(rt, out, "struct ", number, regions);
+            write_kept_row(rt, alloc, out, types);
+        }
+        TypeForm::Function(inputs, output) => {
+            write_piece(rt, out, "function");
+            write_kept_row(rt, alloc, out, inputs);
+            write_piece(rt, out, " to");
+            write_kept(rt, alloc, out, output);
+        }
+    }
+}
+
+/// Writes the form of each variable's type, and the regions of its parts.
+pub fn write_forms(rt: &impl Abort, alloc: Global, out: &mut String, body: &Body) {
+    for variable in 0..body.variables() {
+        write_piece(rt, out, "|");
+        write_form(rt, alloc, out, body.var_type(variable as u32).form());
+    }
+}
+
 // The regions of each variable's type: of the second those of a reference to a reference, of the
 // third that of a struct in a tuple.
 #[test]
@@ -185,6 +245,21 @@ fn variables_have_types(rt: HostRuntime) {
 #[test]
 fn types_go_by_number(rt: HostRuntime) {
     compare_lines(&rt, rt.alloc(), Asked::Typed, BODY, "|| 1 2| 3| 2| 2");
+}
+
+// Each form of a type, with parts that differ in their regions.
+const FORMS: &str = "nll-mir 2|region 'a|region 'b|region 'c|struct V<T +>(T)|\
+    struct W<'x +, 'y +, T +, U +>(&'x T, &'y U)|let _0: int|let _1: &'a mut &'b int|\
+    let _2: &'b &'a mut int|let _3: (&'c int, int, &'a &'b int)|\
+    let _4: W<'b, 'a, &'c int, V<&'a int>>|let _5: fn(&'c int, &'b int) -> &'a int|let _6: ()|\
+    blocks 1|block bb0|stop|end|";
+
+// Each type is seen where it is kept, with its parts and their regions.
+#[test]
+fn types_have_forms(rt: HostRuntime) {
+    let want = "|int|reference 1 '1; 2|reference 0 '2; 1|tuple; 3;; 1 2|struct 1 '2 '1; 3; 1|\
+        function; 3; 2 to; 1|tuple";
+    compare_lines(&rt, rt.alloc(), Asked::Forms, FORMS, want);
 }
 
 const DEREF: Projection = Projection::Deref;

@@ -46,6 +46,15 @@ filled_more known is k d rs made rest next t l h a b =
     ∙ ap (λ (qs : List ℕ). (and_one (trees made) (tree t), qs)) (sym b)
     ∙ ap (λ (ts : TypeTrees). (ts, next)) (sym (trees_push made t))
 
+pub passed_more : (known : List Shape) (is : List ℕ) (k d : ℕ) (rs rest next : List ℕ) → k < length is
+    → rest ≡ (all_filled (all_at known (take k is)) rs).1 → next ≡ (filled (at known (get_or is k d)) rest).1
+    → next ≡ (all_filled (all_at known (take (k + 1) is)) rs).1
+passed_more known is k d rs rest next l h e =
+    let i = get_or is k d in
+    e ∙ ap (λ (qs : List ℕ). (filled (at known i) qs).1) h
+    ∙ sym (ap (λ (p : AllFilled). p.1) (filled_push known (take k is) i rs))
+    ∙ sym (ap (λ (js : List ℕ). (all_filled (all_at known js) rs).1) (take_more is k d l))
+
 -- a part has at most as many nodes as all parts together
 pub part_nodes : (known : List Shape) (is : List ℕ) (k : ℕ) → k < length is
     → shape_nodes (at known (slice_index is k)) ≤ shape_nodes_of_all (all_at known is)

@@ -13,4 +13,5 @@ pub mod Declarations
 pub mod Collecting
 pub mod Grown
 pub mod Rows
+pub mod TypesAt
 pub mod TypeCodes

@@ -1,27 +1,17 @@
 //! Types as trees, made of a shape and a row of regions.
 
-ghost use Rattle.std.specs.Prelude.{◌≡◌, ◌<◌, length, take, drop, IfOk};
+ghost use Rattle.std.specs.Prelude.{◌≡◌, ◌<◌, length, drop, IfOk};
 ghost use Rattle.nll_types.specs.Rows.{filled, all_filled};
 ghost use Rattle.nll_types.specs.Table.{AreBelow, all_at, shape_in, shapes_in};
 ghost use Rattle.nll_types.specs.Views.{tree, trees};
 
 use crate::node::Node;
+use crate::rows::take_regions;
 use crate::shapes::Shapes;
 use crate::ty::Ty;
 use nll_problem::RegionId;
 use nll_sets::Memory;
 use std::alloc::Global;
-
-// The next regions, this many of them as far as there are so many. They are then passed.
-fn take_regions<'a>(regions: &'a [RegionId], count: usize, at: &mut usize) -> &'a [RegionId]
-    ensures taken { result.now ≡ take count (drop at.old regions.now) }
-    ensures rest { drop at.new regions.now ≡ drop count (drop at.old regions.now) }
-{
-    let from = (*at).min(regions.len());
-    let end = from + count.min(regions.len() - from);
-    *at = end;
-    &regions[from..end]
-}
 
 /// The type of a shape whose row of regions is at this place, which is then behind the row.
 ///
