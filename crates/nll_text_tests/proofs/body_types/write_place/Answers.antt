@@ -9,7 +9,7 @@ write_found-requires g c =
     let body = c.args.body.now in
     let path = path_of c.args.place.now in
     let there = subst (λ x. slice_get body.variables x ≡ Some (tree c.in_ok-ty.ty))
-    c.variable-variable.ensures c.in_ok-ty.ensures.value in
+    c.variable-variable.ensures (c.var_type.ensures.value ∙ sym (ap Some c.in_ok-ty.ensures)) in
     let found = rw c.projections.ensures at (rw c.structs.ensures at c.in_ok-ty-2.ensures) in (
       tree c.in-Some.ty,
       ap (option_and_then (behind_all body.structs path.projections)) there ∙ sym found
