@@ -3,7 +3,7 @@
 ghost use Rattle.std.specs.Prelude.{◌≡◌, ◌↔◌, ℕ};
 ghost use Rattle.std.specs.BTreeSet.{contains};
 ghost use Rattle.std.specs.Ordering.{nat_cmp};
-ghost use Rattle.fixpoint.specs.Rules.{Least};
+ghost use Rattle.fixpoint.specs.Rules.{IsLeast};
 ghost use Rattle.reach.specs.Reach.{IsReached, ends, rules_of_reach as reach_rules};
 ghost use Rattle.reach.specs.declared.Graph.{Graph as TheGraph};
 ghost use Rattle.keeper.proofs.OwnLemmas.{edges_lawful};
@@ -18,7 +18,7 @@ use std::collections::BTreeSet;
 /// States that the least solution has exactly the nodes that are reached from the roots. It is what
 /// the logs of a run tell, and the log of one keeper alone.
 pub fn least_is_reached()
-    ensures { (a : TheGraph) (x : ℕ) → Least reach_rules a x ↔ IsReached a x }
+    ensures { (a : TheGraph) (x : ℕ) → IsLeast reach_rules a x ↔ IsReached a x }
 {}
 
 impl<'q> Graph<'q> {

@@ -1,5 +1,5 @@
 use Rattle.std.proofs.Common.{ℕ, map, inl, inr}
-use Rattle.fixpoint.specs.Rules.{Least}
+use Rattle.fixpoint.specs.Rules.{IsLeast}
 use Rattle.keeper.proofs.OwnLemmas.{least_led}
 use Rattle.reach.specs.Reach.{IsReached, rules_of_reach}
 use Rattle.reach.specs.Reach.IsReached.{root, step}
@@ -7,7 +7,7 @@ use Rattle.reach.specs.declared.Graph.{Graph}
 use Rattle.reach.proofs.reach.least_is_reached.Goals as goal
 
 -- what is reached is in the least solution
-reached_least : (a : Graph) (x : ℕ) → IsReached a x → Least rules_of_reach a x
+reached_least : (a : Graph) (x : ℕ) → IsReached a x → IsLeast rules_of_reach a x
 reached_least a x (root _ h) known closed = closed x (inl h)
 reached_least a y (step x _ edge r) known closed = closed y (inr (x, edge, reached_least a x r known closed))
 
