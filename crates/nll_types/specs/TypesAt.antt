@@ -1,6 +1,6 @@
 -- What types mean where they are kept.
 -- Source: project's choice.
-use Rattle.std.specs.Prelude.{◌≡◌, Option, None, Some, drop}
+use Rattle.std.specs.Prelude.{Option, None, Some, drop}
 use Rattle.nll_types.specs.Types.{TypeTree, TypeTrees, int, parameter, reference, tuple, named}
 use Rattle.nll_types.specs.Types.{function, none, more}
 use Rattle.nll_types.specs.Rows.{all_filled, tree_at}
