@@ -4,7 +4,7 @@ ghost use Rattle.std.specs.Prelude.{◌≡◌, ◌≤◌, ◌↔◌, ℕ, IfErr,
 ghost use Rattle.nll_problem.specs.Solution.{Least};
 ghost use Rattle.nll_core.specs.Values.{IsHeld, IsShaped};
 ghost use Rattle.nll_answer.specs.Answer.{IsProblemAnswer};
-ghost use Rattle.nll_answer.specs.Running.{IsRunError};
+ghost use Rattle.nll_answer.specs.Running.{IsRunAnswer, IsRunError};
 
 use crate::answers::{Command, found_faults, told_faults};
 use crate::error::AnswerError;
@@ -39,7 +39,7 @@ pub fn answer_run<M: ThreadMail<Growth>, L: ThreadLedger, G: Gate + Sync, R: Thr
     requires named { length facts.now.labels.names ≡ facts.now.problem.regions }
     requires cut { length cut.now.list ≡ facts.now.problem.regions }
     ensures ok { IfOk result (λ r.
-        IsProblemAnswer command facts.now.problem facts.now.labels r.0.items r.1) }
+        IsRunAnswer command facts.now.problem facts.now.labels cut.now r.0.items r.1) }
     ensures status { IfOk result (λ r. r.1 ≤ 1) }
     ensures err { IfErr result IsRunError }
 {

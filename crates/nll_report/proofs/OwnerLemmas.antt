@@ -11,8 +11,7 @@ use Rattle.nll_cut.specs.Partition.{AnswersCut, Cut, cut_of, list_error, may_be_
 use Rattle.nll_cut.specs.declared.error.CutError.{CutError}
 use Rattle.nll_cut.specs.declared.error.CutError.TheVariants as due
 use Rattle.run.specs.declared.error.RunError.TheVariants as run
-use Rattle.nll_answer.specs.Answer.{IsProblemAnswer}
-use Rattle.nll_answer.specs.Running.{IsRunError}
+use Rattle.nll_answer.specs.Running.{IsRunAnswer, IsRunError}
 use Rattle.nll_answer.specs.declared.answers.Command.{Command}
 use Rattle.nll_answer.specs.declared.error.AnswerError.{AnswerError}
 use Rattle.nll_answer.specs.declared.error.AnswerError.TheVariants as answer
@@ -117,7 +116,7 @@ owners_told holds lacks file said n deal path e is_count is_deal is_path asks = 
 
 module _ (holds : HoldsAt) (file : List ℕ) (command : Command) (said : SaidOptions) (report : List ℕ) (status : ℕ) where
   abbrev pub Answered : Problem → Labels → Cut → Type 0
-  Answered q labels _ = IsProblemAnswer command q labels report status
+  Answered q labels c = IsRunAnswer command q labels c report status
 
   -- the owners of the cut that is asked for
   pub owners_answer : (n : ℕ) (deal : Deal) (path : Option (List ℕ))
@@ -128,7 +127,7 @@ module _ (holds : HoldsAt) (file : List ℕ) (command : Command) (said : SaidOpt
     record {
       text = h.meaning.text;
       held = h.meaning.held;
-      answer = record { problem = h.problem; labels = h.labels; meaning = h.meaning.meaning; answer = h.by.told };
+      answer = record { problem = h.problem; labels = h.labels; meaning = h.meaning.meaning; answer = h.by.told.answer };
     },
     λ asks. subst (λ m. IsFileTold holds file m (deal_of said.deal) said.cut Answered) is_count
         (subst (λ d. IsFileTold holds file n d said.cut Answered) is_deal

@@ -15,7 +15,8 @@ use Rattle.nll_rules.specs.declared.error.RuleError.TheVariants as rule
 use Rattle.nll_answer.specs.declared.error.AnswerError.TheVariants as answer
 use Rattle.nll_command_line.specs.declared.task.Task.{Task}
 use Rattle.nll_command_line.specs.declared.task.Task.TheVariants.{Values, Check, Replay}
-use Rattle.nll_answer.specs.Answer.{IsAnswer, IsProblemAnswer}
+use Rattle.nll_answer.specs.Answer.{IsAnswer}
+use Rattle.nll_answer.specs.Running.{IsRunAnswer}
 use Rattle.nll_answer.specs.Texts.{IsTextFault, IsAnswerError}
 use Rattle.nll_command_line.specs.CommandLine.{AsksPlainlyForHelp, IsTaskLine, IsNoPlainLine}
 use Rattle.nll_command_line.specs.Options.{AreOptionsRead, IsNoSuitedLine, SaidOptions, Suits}
@@ -39,14 +40,15 @@ pub record IsFileAnswer (holds : HoldsAt) (asked : Command) (file report : List 
   pub held : holds file text
   pub answer : IsAnswer asked text report status
 
--- the report and the status answer the command on the file; if owners are asked for, they answer it
--- by the cut that is asked for, of the regions of a problem that a text of the file means
+-- the report and the status answer the command on the file; if owners are asked for, they are the
+-- answer of a run of the owners of the cut that is asked for, of the regions of a problem that a
+-- text of the file means
 abbrev pub IsAskedAnswer : HoldsAt → Command → List ℕ → SaidOptions → List ℕ → ℕ → Type 0
 IsAskedAnswer holds asked file said report status =
     IsFileAnswer holds asked file report status
     × (AsksForOwners said.owners said.cut → IsFileTold holds file
     (count_of said.owners) (deal_of said.deal) said.cut
-    (λ problem labels cut. IsProblemAnswer asked problem labels report status))
+    (λ problem labels cut. IsRunAnswer asked problem labels cut report status))
 
 -- the report and the status answer the task on the file: its values or faults, or the replay of the
 -- schedule that the options give; if the options ask for owners, by the cut that they ask for

@@ -3,8 +3,7 @@ ghost use Rattle.std.specs.Prelude.{◌≡◌, ◌≢◌, ◌⊎◌, ◌≤◌, 
 ghost use Rattle.std.specs.Prelude.{Err, IfErr, IfOk, IsErrAnd, MatchOption, None, Ok, Some};
 ghost use Rattle.nll_cut.specs.Partition.{may_be_count};
 ghost use Rattle.nll_cut.specs.declared.error.CutError.{CutError};
-ghost use Rattle.nll_answer.specs.Answer.{IsProblemAnswer};
-ghost use Rattle.nll_answer.specs.Running.{IsRunError};
+ghost use Rattle.nll_answer.specs.Running.{IsRunAnswer, IsRunError};
 ghost use Rattle.nll_report.specs.Owners.{AsksForOwners, HasAskedCut, IsAskedCut};
 ghost use Rattle.nll_report.specs.Owners.{IsCutRefused, IsCutTextRefused, IsFileTold};
 ghost use Rattle.nll_report.specs.Owners.{IsOwnersRefused, IsTextCut, IsWorkRefused};
@@ -94,7 +93,7 @@ pub(crate) fn answered_by_owners<R: AllocGlobal + Threads + Wait + Sync, T: Text
     requires { may_be_count owners.cut.count ≡ true }
     ensures ok { IfOk result (λ r. IsFileTold (T.holds texts.now) (string_bytes file)
         owners.cut.count owners.cut.deal (option_map string_bytes owners.cut.path)
-        (λ problem labels _. IsProblemAnswer command problem labels r.0.items r.1)) }
+        (λ problem labels cut. IsRunAnswer command problem labels cut r.0.items r.1)) }
     ensures status { IfOk result (λ r. r.1 ≤ 1) }
     ensures err { IfErr result (λ e.
         IsFileRefused (T.holds texts.now) (T.lacks texts.now) (string_bytes file) e
@@ -119,7 +118,7 @@ fn told_by_owners<R: AllocGlobal + Threads + Wait + Sync, T: Texts>(
     requires lawful { may_be_count owners.cut.count ≡ true }
     ensures ok { IfOk result (λ r. HasAskedCut (T.holds texts.now) facts.now.problem.regions
         owners.cut.count owners.cut.deal (option_map string_bytes owners.cut.path)
-        (λ _. IsProblemAnswer command facts.now.problem facts.now.labels r.0.items r.1)) }
+        (λ cut. IsRunAnswer command facts.now.problem facts.now.labels cut r.0.items r.1)) }
     ensures status { IfOk result (λ r. r.1 ≤ 1) }
     ensures err { IfErr result (IsWorkRefused (T.holds texts.now) (T.lacks texts.now)
         facts.now.problem owners.cut.count owners.cut.deal
@@ -144,7 +143,7 @@ fn told_by_cut<R: AllocGlobal + Threads + Wait + Sync>(
     requires named { length facts.now.labels.names ≡ facts.now.problem.regions }
     requires cut { length cut.now.list ≡ facts.now.problem.regions }
     ensures ok { IfOk result (λ r.
-        IsProblemAnswer command facts.now.problem facts.now.labels r.0.items r.1) }
+        IsRunAnswer command facts.now.problem facts.now.labels cut.now r.0.items r.1) }
     ensures status { IfOk result (λ r. r.1 ≤ 1) }
     ensures err { IfErr result IsRunError }
 {
