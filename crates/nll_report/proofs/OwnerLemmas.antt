@@ -127,7 +127,12 @@ module _ (holds : HoldsAt) (file : List ℕ) (command : Command) (said : SaidOpt
     record {
       text = h.meaning.text;
       held = h.meaning.held;
-      answer = record { problem = h.problem; labels = h.labels; meaning = h.meaning.meaning; answer = h.by.told.answer };
+      answer = record {
+        problem = h.problem;
+        labels = h.labels;
+        meaning = h.meaning.meaning;
+        answer = h.by.told.answer;
+      };
     },
     λ asks. subst (λ m. IsFileTold holds file m (deal_of said.deal) said.cut Answered) is_count
         (subst (λ d. IsFileTold holds file n d said.cut Answered) is_deal
