@@ -8,10 +8,6 @@ use nll_ledger::WordLedger;
 use nll_mail::QueueMail;
 use nll_run::Gate;
 use nll_worked::{BY_TURNS, MANY_BOTH_WAYS, Written};
-use std::alloc::AllocGlobal;
-use std::process::Abort;
-use std::sync::Wait;
-use std::thread::Threads;
 
 // A gate that takes notes, and allows this many growths in a turn.
 #[derive(Drop)]
@@ -36,60 +32,49 @@ impl<'x> Gate for Answer<'x> {
 
 // Compares the outcome of a run of two owners behind a gate that says how many growths a turn may
 // receive, and what each of them did.
-fn compare_turns<R: AllocGlobal + Abort + Threads + Wait + Sync>(
-    rt: &R,
-    gate: &Answer<'_>,
-    written: Written,
-    want: &str,
-    steps: &str,
-) {
+fn compare_turns(rt: HostRuntime, most: usize, written: Written, want: &str, steps: &str) {
+    let notes = Notes::new((most as u64).max(1));
+    let gate = Answer {
+        notes: &notes,
+        most,
+    };
     let queues = QueueMail::new(rt);
     let mail = Watched {
         inner: &queues,
-        watch: gate.notes,
+        watch: &notes,
     };
     let ledger = Watched {
         inner: &WordLedger,
-        watch: gate.notes,
+        watch: &notes,
     };
     let told = told(
-        rt,
+        &rt,
         rt.alloc(),
         written,
         Deal::Round(2),
         &mail,
         &ledger,
-        gate,
+        &gate,
     );
-    compare(rt, told, want);
-    let done = gate.notes.written(rt.alloc()).map_err(Failure::from);
-    compare(rt, done, steps);
+    compare(&rt, told, want);
+    let done = notes.written(rt.alloc()).map_err(Failure::from);
+    compare(&rt, done, steps);
 }
 
 // If a gate allows no growth in a turn, each turn receives one all the same: all that it owes and
 // posts, and what it clears, is as with a gate that doesn't say.
 #[test]
 fn none_is_read_as_one(rt: HostRuntime) {
-    let notes = Notes::new(1);
-    let gate = Answer {
-        notes: &notes,
-        most: 0,
-    };
     let want = "0: 0 1 2|1: 0 1|2: 0 1|2: 0 5 1 2|2: 0-1 2 1-0 2";
-    compare_turns(&rt, &gate, BY_TURNS, want, "2 2 3 0|2 2 3 0|");
+    compare_turns(rt, 0, BY_TURNS, want, "2 2 3 0|2 2 3 0|");
 }
 
 // If a gate allows three growths in a turn, each turn has its owner's number and the next number of
 // a turn, and clears three at most: the load, or what it received.
 #[test]
 fn no_turn_receives_more_than_three(rt: HostRuntime) {
-    let notes = Notes::new(3);
-    let gate = Answer {
-        notes: &notes,
-        most: 3,
-    };
     let rest = "2: 0 601 1 300|2: 0-1 300 1-0 300";
     let want = filled(rt.alloc(), rest).expect(&rt, "memory");
     let steps = "300 300 301 0|300 300 301 0|";
-    compare_turns(&rt, &gate, MANY_BOTH_WAYS, &want, steps);
+    compare_turns(rt, 3, MANY_BOTH_WAYS, &want, steps);
 }

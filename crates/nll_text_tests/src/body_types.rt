@@ -174,9 +174,9 @@ pub fn write_typed(rt: &impl Abort, alloc: Global, out: &mut String, body: &Body
     }
 }
 
-// Writes a form and its number, and whether a reference is `mut`.
-fn write_head(rt: &impl Abort, out: &mut String, form: &str, number: usize, regions: &[RegionId]) {
-    write_number(rt, out, form, number as u64, "");
+// Writes that a type is a struct of this number, and its own regions.
+fn write_struct(rt: &impl Abort, out: &mut String, number: usize, regions: &[RegionId]) {
+    write_number(rt, out, "struct ", number as u64, "");
     for region in regions {
         write_number(rt, out, " '", u64::from(region.0), "");
     }
@@ -200,29 +200,54 @@ fn write_kept_row(rt: &impl Abort, alloc: Global, out: &mut String, row: TypesAt
     }
 }
 
+// Writes that a type is a reference, and the regions of its parts.
+fn write_reference(
+    rt: &impl Abort,
+    alloc: Global,
+    out: &mut String,
+    (region, mutable): (RegionId, bool),
+    target: TypeAt<'_>,
+) {
+    let form = if mutable {
+        "mutable reference '"
+    } else {
+        "shared reference '"
+    };
+    write_number(rt, out, form, u64::from(region.0), "");
+    write_kept(rt, alloc, out, target);
+}
+
+// Writes that a type is a function, and the regions of its parts.
+fn write_function(
+    rt: &impl Abort,
+    alloc: Global,
+    out: &mut String,
+    inputs: TypesAt<'_>,
+    output: TypeAt<'_>,
+) {
+    write_piece(rt, out, "function");
+    write_kept_row(rt, alloc, out, inputs);
+    write_piece(rt, out, " to");
+    write_kept(rt, alloc, out, output);
+}
+
 // Writes the form of a type that is kept in a body, and the regions of its parts.
-fn write_form(rt: &impl Abort, alloc: Global, out: &mut String, form: TypeForm<'_>) {
-    match form {
+fn write_form(rt: &impl Abort, alloc: Global, out: &mut String, ty: TypeAt<'_>) {
+    match ty.form() {
         TypeForm::Int => write_piece(rt, out, "int"),
-        TypeForm::Parameter(number) => write_head(rt, out, "parameter ", number, &[]),
+        TypeForm::Parameter(_) => write_piece(rt, out, "parameter"),
         TypeForm::Reference(region, mutable, target) => {
-            write_head(rt, out, "reference ", usize::from(mutable), &[region]);
-            write_kept(rt, alloc, out, target);
+            write_reference(rt, alloc, out, (region, mutable), target);
         }
         TypeForm::Tuple(parts) => {
             write_piece(rt, out, "tuple");
             write_kept_row(rt, alloc, out, parts);
         }
         TypeForm::Named(number, regions, types) => {
-            write_head(rt, out, "struct ", number, regions);
+            write_struct(rt, out, number, regions);
             write_kept_row(rt, alloc, out, types);
         }
-        TypeForm::Function(inputs, output) => {
-            write_piece(rt, out, "function");
-            write_kept_row(rt, alloc, out, inputs);
-            write_piece(rt, out, " to");
-            write_kept(rt, alloc, out, output);
-        }
+        TypeForm::Function(inputs, output) => write_function(rt, alloc, out, inputs, output),
     }
 }
 
@@ -230,7 +255,7 @@ fn write_form(rt: &impl Abort, alloc: Global, out: &mut String, form: TypeForm<'
 pub fn write_forms(rt: &impl Abort, alloc: Global, out: &mut String, body: &Body) {
     for variable in 0..body.variables() {
         write_piece(rt, out, "|");
-        write_form(rt, alloc, out, body.var_type(variable as u32).form());
+        write_form(rt, alloc, out, body.var_type(variable as u32));
     }
 }
 
@@ -257,7 +282,8 @@ const FORMS: &str = "nll-mir 2|region 'a|region 'b|region 'c|struct V<T +>(T)|\
 // Each type is seen where it is kept, with its parts and their regions.
 #[test]
 fn types_have_forms(rt: HostRuntime) {
-    let want = "|int|reference 1 '1; 2|reference 0 '2; 1|tuple; 3;; 1 2|struct 1 '2 '1; 3; 1|\
+    let want =
+        "|int|mutable reference '1; 2|shared reference '2; 1|tuple; 3;; 1 2|struct 1 '2 '1; 3; 1|\
         function; 3; 2 to; 1|tuple";
     compare_lines(&rt, rt.alloc(), Asked::Forms, FORMS, want);
 }
