@@ -14,10 +14,12 @@ from unittest import mock
 import page_support
 from test_page_glance import LOAN, SOURCE, content_of
 
-from nll_facts.rustc import version
-from nll_gallery import cards, command
-from nll_gallery.cards import Shown
-from nll_page.page import SCRIPTS, compact, template
+from nllc_tools.commands import gallery
+from nllc_tools.rustc.compiler import version
+from nllc_tools.views.gallery import cards
+from nllc_tools.views.gallery.cards import Shown
+from nllc_tools.views.html.page import SCRIPTS
+from nllc_tools.views.html.template_files import compact, template
 
 QUICK = os.path.join(page_support.HERE, "quick_nllc.py")
 SLOW = os.path.join(page_support.ROOT, "check", "reference", "reference_states.py")
@@ -87,7 +89,7 @@ class Command(unittest.TestCase):
         before = os.getcwd()
         self.addCleanup(os.chdir, before)
         with mock.patch.dict(os.environ, environment), redirect_stdout(out), redirect_stderr(err):
-            return command.main(list(words)), out.getvalue(), err.getvalue()
+            return gallery.main(list(words)), out.getvalue(), err.getvalue()
 
     def test_words(self):
         self.assertEqual(self.run_main("--help")[0::2], (0, ""))
@@ -118,7 +120,7 @@ class Command(unittest.TestCase):
     @unittest.skipUnless(shutil.which("rustc"), "no rustc")
     def test_one_file_one_text_and_one_schedule(self):
         with tempfile.TemporaryDirectory() as folder, \
-                mock.patch.multiple(command, FILES={"variance": "Variance"}, MIR_TEXTS={"drop": ("w", "A drop.")},
+                mock.patch.multiple(gallery, FILES={"variance": "Variance"}, MIR_TEXTS={"drop": ("w", "A drop.")},
                                     SCHEDULES={"each_other": "Two owners."}):
             status, out, err = self.run_main(folder, NLLC=QUICK, WORLD_PROGRAM=SLOW)
             self.assertEqual((status, out, err), (0, os.path.join(folder, "index.html") + "\n", ""))

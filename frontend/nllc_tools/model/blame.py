@@ -1,0 +1,119 @@
+"""Which constraint rustc names where a region would have to outlive a universal one, by rustc's own list.
+
+rustc looks for a shortest chain of constraints, in the order in which it made them, first without those of the
+result's `impl`. Of the chain it names the constraint of the best category, of equals the last one; where that is
+a return, and the next one is asked by the result's `impl`, it names the latter.
+"""
+
+from collections import deque
+from typing import Optional
+
+from nllc_tools.model.regions import STATIC
+from nllc_tools.rustc.mir.body import Body, Reason
+from nllc_tools.rustc.mir.captures import MADE
+from nllc_tools.rustc.mir.desugarings import Desugarings
+from nllc_tools.rustc.mir.spans import Span
+
+# rustc's categories of constraints in words. The others say nothing of the source.
+CATEGORIES = {
+    "Return": "return", "Yield": "yield", "UseAsConst": "constant", "UseAsStatic": "constant",
+    "TypeAnnotation": "annotation", "Cast": "cast", "CallArgument": "argument",
+    "CopyBound": "bound", "SizedBound": "bound", "Assignment": "assignment", "Usage": "use",
+    "ClosureUpvar": "capture", "Predicate": "predicate", "OpaqueType": "opaque", "Boring": "step",
+    "BoringNoLocation": "step",
+}
+GENERIC = "(GenericArg)"
+OBJECT = "unsize_to: Some("
+RANKS = {"object": 1, "return": 0, "generic": 3, "predicate": 4, "opaque": 4}
+INTERESTING, BORING, PLACELESS, INTERNAL = 2, 5, 6, 7
+
+Chain = list[Reason]
+
+
+def word_of(reason: Reason) -> str:
+    """The category in a word; nothing for rustc's inner ones."""
+    if reason.category == "TypeAnnotation" and GENERIC in reason.detail:
+        return "generic"
+    if reason.category == "Cast" and makes_object(reason.detail):
+        return "object"
+    return CATEGORIES.get(reason.category, "")
+
+
+def makes_object(detail: str) -> bool:
+    """Whether a cast that isn't written makes a `Box<dyn ..>` or the like."""
+    target = detail.partition(OBJECT)[2]
+    return "is_implicit_coercion: true" in detail and target[:1] not in ("", "&", "*") \
+        and "<dyn " in target.partition(" ")[0] + " "
+
+
+class Blame:
+    """rustc's list of constraints, as its search goes through it."""
+
+    def __init__(self, body: Body, desugarings: Desugarings):
+        self.body, self.desugarings = body, desugarings
+        self.onwards: dict[int, list[Reason]] = {}
+        for reason in body.reasons:
+            self.onwards.setdefault(reason.sup, []).append(reason)
+
+    def chains(self, begin: int, goals: list[int]) -> dict[int, Chain]:
+        """For each of the regions to which a chain leads, the one that rustc finds."""
+        found: dict[int, Chain] = {}
+        for with_opaque in (False, True):
+            left = [goal for goal in goals if goal not in found]
+            came_by = self.search(begin, with_opaque) if left else {}
+            found |= {goal: backwards(came_by, goal) for goal in left if came_by.get(goal)}
+        return found
+
+    def search(self, begin: int, with_opaque: bool) -> dict[int, Optional[Reason]]:
+        """For each region to which a chain leads its last constraint."""
+        came_by: dict[int, Optional[Reason]] = {begin: None}
+        todo = deque([begin])
+        while todo:
+            region = todo.popleft()
+            if region == STATIC:
+                continue    # it outlives all, which is never to blame
+            for reason in self.onwards.get(region, ()):
+                if reason.sub not in came_by and (with_opaque or reason.category != "OpaqueType"):
+                    came_by[reason.sub] = reason
+                    todo.append(reason.sub)
+        return came_by
+
+    def named(self, chain: Chain) -> Reason:
+        """The constraint of a chain that rustc names."""
+        best = min(range(len(chain)), key=lambda at: (self.rank(chain[at], chain), -at))
+        following = chain[best + 1] if best + 1 < len(chain) else None
+        if chain[best].category == "Return" and following and following.category == "OpaqueType":
+            return following
+        return chain[best]
+
+    def rank(self, reason: Reason, chain: Chain) -> int:
+        word = word_of(reason)
+        if self.desugarings.has(reason):
+            return BORING
+        if word == "object":
+            is_annotated = any(one.category == "TypeAnnotation" for one in chain)
+            return RANKS[word] if chain[-1].sub == STATIC and not is_annotated else INTERESTING
+        if word == "step":
+            return BORING if reason.category == "Boring" else PLACELESS
+        return RANKS.get(word, INTERESTING) if word else INTERNAL
+
+    def is_of_closure(self, reason: Reason) -> bool:
+        """Whether the body of a closure asks for it, of the function around it."""
+        made = self.body.statements.get(reason.location) if reason.location else None
+        return made is not None and MADE.search(made.text) is not None and is_part(reason.span, made.span)
+
+
+def is_part(inner: Optional[Span], outer: Optional[Span]) -> bool:
+    """Whether the first place is inside the second, and isn't the whole of it."""
+    return inner is not None and outer is not None and inner != outer and inner.file == outer.file \
+        and (outer.first, outer.column) <= (inner.first, inner.column) \
+        and (inner.last, inner.end) <= (outer.last, outer.end)
+
+
+def backwards(came_by: dict[int, Optional[Reason]], goal: int) -> Chain:
+    """The chain to a region, from its beginning."""
+    chain: Chain = []
+    while reason := came_by[goal]:
+        chain.append(reason)
+        goal = reason.sup
+    return chain[::-1]
