@@ -5,9 +5,9 @@ result's `impl`. Of the chain it names the constraint of the best category, of e
 a return, and the next one is asked by the result's `impl`, it names the latter.
 """
 
-from collections import deque
-from typing import Optional
+from typing import Iterator, Optional
 
+from nllc_tools.base.walks import backwards, shortest
 from nllc_tools.model.regions import STATIC
 from nllc_tools.rustc.mir.body import Body, Reason
 from nllc_tools.rustc.mir.captures import MADE
@@ -61,22 +61,17 @@ class Blame:
         for with_opaque in (False, True):
             left = [goal for goal in goals if goal not in found]
             came_by = self.search(begin, with_opaque) if left else {}
-            found |= {goal: backwards(came_by, goal) for goal in left if came_by.get(goal)}
+            found |= {goal: backwards(came_by, goal, lambda reason: reason.sup)[::-1] for goal in left if came_by.get(goal)}
         return found
 
     def search(self, begin: int, with_opaque: bool) -> dict[int, Optional[Reason]]:
         """For each region to which a chain leads its last constraint."""
-        came_by: dict[int, Optional[Reason]] = {begin: None}
-        todo = deque([begin])
-        while todo:
-            region = todo.popleft()
-            if region == STATIC:
-                continue    # it outlives all, which is never to blame
-            for reason in self.onwards.get(region, ()):
-                if reason.sub not in came_by and (with_opaque or reason.category != "OpaqueType"):
-                    came_by[reason.sub] = reason
-                    todo.append(reason.sub)
-        return came_by
+        def onward(region: int) -> Iterator[tuple[int, Reason]]:
+            if region != STATIC:    # it outlives all, which is never to blame
+                yield from ((reason.sub, reason) for reason in self.onwards.get(region, ())
+                            if with_opaque or reason.category != "OpaqueType")
+
+        return shortest(begin, onward)
 
     def named(self, chain: Chain) -> Reason:
         """The constraint of a chain that rustc names."""
@@ -108,12 +103,3 @@ def is_part(inner: Optional[Span], outer: Optional[Span]) -> bool:
     return inner is not None and outer is not None and inner != outer and inner.file == outer.file \
         and (outer.first, outer.column) <= (inner.first, inner.column) \
         and (inner.last, inner.end) <= (outer.last, outer.end)
-
-
-def backwards(came_by: dict[int, Optional[Reason]], goal: int) -> Chain:
-    """The chain to a region, from its beginning."""
-    chain: Chain = []
-    while reason := came_by[goal]:
-        chain.append(reason)
-        goal = reason.sup
-    return chain[::-1]

@@ -2,8 +2,8 @@
 
 A region x that isn't b holds the end of b because of a constraint (x: y) @ P such that a walk
 inside y leads from P to a return point, and y holds the end too; or because of a constraint
-(x: y) @ all, where y holds the end; and so on, until y is b, which holds its end from the start. The chain goes from b to x. Of all chains it has the fewest
-constraints, and of those the fewest points.
+(x: y) @ all, where y holds the end; and so on, until y is b, which holds its end from the start. The
+chain goes from b to x. Of all chains it has the fewest constraints, and of those the fewest points.
 
 Whether a region holds an element is asked of the values alone.
 """
@@ -12,6 +12,7 @@ import heapq
 from collections import deque
 from typing import NamedTuple
 
+from nllc_tools.base.walks import backwards
 from nllc_tools.model.constraint import ALL, Constraint
 
 
@@ -40,7 +41,7 @@ def chains(facts, values, regions, universal):
     if missing:
         raise WrongValues(f"no constraints bring end('{facts.names[universal]}) to "
                           f"'{facts.names[missing[0]]}")
-    return {region: backwards(came_by, region, universal) for region in regions}
+    return {region: backwards(came_by, region, lambda step: step.constraint.sub)[::-1] for region in regions}
 
 
 def search(facts, values, wanted, universal):
@@ -74,14 +75,6 @@ def search(facts, values, wanted, universal):
 def step_by(constraint, onward):
     """The step of a constraint, by the ways from its points."""
     return Step(constraint, [] if constraint.at == ALL else walk(onward, constraint.at))
-
-
-def backwards(came_by, region, universal):
-    steps = []
-    while region != universal:
-        steps.append(came_by[region])
-        region = came_by[region].constraint.sub
-    return steps[::-1]
 
 
 def ways_to(facts, inside, goals):

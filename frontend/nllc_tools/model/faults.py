@@ -1,5 +1,7 @@
 """Which ends in the values of universal regions are faults."""
 
+from nllc_tools.base.walks import reached
+
 
 def known(facts, further=()):
     """For each universal region those that it is known to outlive, itself among them."""
@@ -7,18 +9,7 @@ def known(facts, further=()):
     for long, short in [*facts.outlives, *further]:
         direct[long].append(short)
     direct[0] = list(range(facts.universals))
-    return [reached(direct, region) for region in range(facts.universals)]
-
-
-def reached(direct, start):
-    seen = {start}
-    todo = [start]
-    while todo:
-        for region in direct[todo.pop()]:
-            if region not in seen:
-                seen.add(region)
-                todo.append(region)
-    return seen
+    return [reached([region], direct.__getitem__) for region in range(facts.universals)]
 
 
 def faults(facts, values):

@@ -9,6 +9,7 @@ moved out of, and such a drop does nothing. (RFC 2094, "Liveness"; the rules are
 from collections import defaultdict
 from typing import Callable, Iterable, Iterator
 
+from nllc_tools.base.walks import reached
 from nllc_tools.rustc.tables import Location, Spot, Tables
 
 Neighbours = dict[Spot, list[Spot]]
@@ -68,14 +69,7 @@ def table_of(pairs: Iterable[tuple[int, object]]) -> dict[int, list]:
 def spread(neighbours: Neighbours, begin: Iterable[Spot],
            passes: Callable[[Spot], bool]) -> set[Spot]:
     """The first spots, and all that they lead to through spots that pass."""
-    reached = set(begin)
-    todo = list(reached)
-    while todo:
-        for spot in neighbours[todo.pop()]:
-            if spot not in reached and passes(spot):
-                reached.add(spot)
-                todo.append(spot)
-    return reached
+    return reached(begin, lambda spot: filter(passes, neighbours[spot]))
 
 
 class Moves:

@@ -5,9 +5,9 @@ lifetime that is to be outlived. Where that is a return, and what comes next to 
 `impl` of the result, and by nothing else, rustc names the latter.
 """
 
-from collections import deque
 from typing import NamedTuple, Optional
 
+from nllc_tools.base.walks import reached
 from nllc_tools.judge import asking_statements
 from nllc_tools.model.constraint import ALL
 from nllc_tools.texts.facts.loan_remarks import Place
@@ -69,13 +69,11 @@ def of_chain(facts, steps):
 def is_asked_otherwise(facts, region, goal):
     """Whether the region must outlive the other one by constraints that aren't of the result's `impl`."""
     asked = facts.remarks.beside.asked
-    seen = {region}
-    todo = deque(seen)
-    while todo and goal not in seen:
-        for constraint in facts.by_sup.get(todo.popleft(), ()):
+
+    def onward(one):
+        for constraint in facts.by_sup.get(one, ()):
             pair = facts.names[constraint.sup], facts.names[constraint.sub]
-            is_of_result = {one.word for one in asked.get(pair, ())} == {"opaque"}
-            if constraint.sub not in seen and not is_of_result:
-                seen.add(constraint.sub)
-                todo.append(constraint.sub)
-    return goal in seen
+            if {reason.word for reason in asked.get(pair, ())} != {"opaque"}:
+                yield constraint.sub
+
+    return goal in reached([region], onward)

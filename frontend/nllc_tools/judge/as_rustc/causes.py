@@ -5,6 +5,7 @@ from collections import deque
 from functools import partial
 from typing import NamedTuple, Optional
 
+from nllc_tools.base.walks import backwards
 from nllc_tools.model import chains
 from nllc_tools.model.constraint import ALL
 from nllc_tools.texts.facts.loan_remarks import Place
@@ -42,10 +43,10 @@ def why(facts, values, region, point):
         sup = todo.popleft()
         if facts.is_universal(sup):
             goal = upper_bound(facts, values, region, sup)
-            steps = backwards(came_by, sup) if goal == sup else chains.chain(facts, values, region, goal)
+            steps = steps_to(came_by, sup) if goal == sup else chains.chain(facts, values, region, goal)
             return Cause(goal, None, False, steps)
         if point in facts.bases[sup] and not outlives_caller(facts, values, sup):
-            return used(facts, sup, point, backwards(came_by, sup))
+            return used(facts, sup, point, steps_to(came_by, sup))
         for constraint in by_sup.get(sup, ()):
             sub = constraint.sub
             if sub not in came_by and values.has(sub, point):
@@ -74,13 +75,9 @@ def upper_bound(facts, values, region, nearest):
     return nearest if bound is None else bound
 
 
-def backwards(came_by, region):
+def steps_to(came_by, region):
     """The steps from the region to the loan's."""
-    steps = []
-    while came_by[region] is not None:
-        steps.append(came_by[region])
-        region = came_by[region].constraint.sup
-    return steps
+    return backwards(came_by, region, lambda step: step.constraint.sup)
 
 
 def outlives_caller(facts, values, region):

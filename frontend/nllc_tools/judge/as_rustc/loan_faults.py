@@ -7,6 +7,7 @@ region, and past no point that kills the loan.
 from typing import NamedTuple, Optional
 
 from nllc_tools.base.grouping import grouped
+from nllc_tools.base.walks import reached
 from nllc_tools.judge.as_rustc import blame, macro_places
 from nllc_tools.judge.as_rustc.causes import Cause, why
 from nllc_tools.texts.facts.loan_remarks import Against, Loan, Place
@@ -58,15 +59,10 @@ def order(one):
 
 def in_force(facts, inside, loan, killed):
     """The points at which the loan is in force."""
-    reached = {point for point in facts.successors[loan.at] if point in inside}
-    todo = list(reached)
-    while todo:
-        point = todo.pop()
-        for following in () if point in killed else facts.successors[point]:
-            if following in inside and following not in reached:
-                reached.add(following)
-                todo.append(following)
-    return reached
+    def onward(point):
+        return filter(inside.__contains__, () if point in killed else facts.successors[point])
+
+    return reached(filter(inside.__contains__, facts.successors[loan.at]), onward)
 
 
 def again(facts, values, region):

@@ -5,6 +5,7 @@ from collections import defaultdict
 from dataclasses import dataclass, field
 from typing import Callable, Iterable, Iterator, Optional
 
+from nllc_tools.base import walks
 from nllc_tools.rustc.dumps import Dump
 from nllc_tools.rustc.mir.body import Body, Reason
 from nllc_tools.rustc.mir.body_reader import read_body
@@ -212,12 +213,5 @@ class Paths:
 
 
 def reached(onwards: dict[int, list[int]], begin: int, is_end) -> set[int]:
-    found: set[int] = set()
-    todo = [begin]
-    while todo:
-        for one in onwards.get(todo.pop(), ()):
-            if one not in found:
-                found.add(one)
-                if not is_end(one):
-                    todo.append(one)
-    return found
+    """What a region leads to, which goes on through those that are no ends."""
+    return walks.reached(onwards.get(begin, ()), lambda one: () if is_end(one) else onwards.get(one, ()))

@@ -4,9 +4,9 @@
 """
 
 import os
-from collections import deque
 from typing import Iterable, Iterator, Optional
 
+from nllc_tools.base.walks import backwards, shortest
 from nllc_tools.model.blame import Blame, word_of
 from nllc_tools.model.liveness import table_of
 from nllc_tools.model.loans import Loan, Loans
@@ -38,17 +38,8 @@ class Inside:
         goal = self.regions.find(region)
         if not self.regions.is_universal(goal):
             return []
-        came_by: dict[int, Optional[Reason]] = {region: None}
-        todo = deque([region])
-        while todo and goal not in came_by:
-            for reason in self.onwards.get(todo.popleft(), ()):
-                if reason.sub not in came_by:
-                    came_by[reason.sub] = reason
-                    todo.append(reason.sub)
-        chain: list[Reason] = []
-        while reason := came_by.get(chain[0].sup if chain else goal):
-            chain.insert(0, reason)
-        return chain
+        came_by = shortest(region, lambda one: ((reason.sub, reason) for reason in self.onwards.get(one, ())))
+        return backwards(came_by, goal, lambda reason: reason.sup)[::-1]
 
 
 class Beside:

@@ -5,9 +5,9 @@ what the owner knew of b, by growths of lower ranks, leads from P to it. Of a co
 is the element alone, where the owner knew it of b.
 """
 
-from collections import deque
 from typing import NamedTuple
 
+from nllc_tools.base.walks import shortest
 from nllc_tools.model.constraint import ALL
 from nllc_tools.texts.schedule_states import Broken
 
@@ -70,15 +70,9 @@ def walks(facts, at, inside):
     """For each element that is reached from a point inside a set the one before it; at all points each is."""
     if at == ALL:
         return dict.fromkeys(inside)
-    before = {at: None} if at in inside else {}
-    todo = deque(before)
-    while todo:
-        element = todo.popleft()
-        for following in steps(facts, element):
-            if following in inside and following not in before:
-                before[following] = element
-                todo.append(following)
-    return before
+    if at not in inside:
+        return {}
+    return shortest(at, lambda element: ((following, element) for following in steps(facts, element) if following in inside))
 
 
 def walk_to(facts, at, inside, element):

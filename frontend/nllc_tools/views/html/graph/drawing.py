@@ -3,6 +3,7 @@
 from collections import Counter
 from typing import NamedTuple
 
+from nllc_tools.base.walks import reached
 from nllc_tools.judge.chain_sentences import unwinds
 from nllc_tools.views.html.escaping import text as escape
 from nllc_tools.views.html.graph import layout, lines
@@ -53,16 +54,8 @@ def reaches_return(facts):
 
     A point from which the function unwinds is a return point for `nllc`, and none here.
     """
-    todo = [point for point in facts.returns if not unwinds(facts, point)]
-    answer = [not todo] * facts.points
-    for point in todo:
-        answer[point] = True
-    while todo:
-        for point in facts.predecessors[todo.pop()]:
-            if not answer[point]:
-                answer[point] = True
-                todo.append(point)
-    return answer
+    found = reached((point for point in facts.returns if not unwinds(facts, point)), facts.predecessors.__getitem__)
+    return [not found or point in found for point in range(facts.points)]
 
 
 def folded(facts, graph, shape):
