@@ -294,7 +294,7 @@ class Blame(unittest.TestCase):
     def best(self, *words):
         facts = self.facts(*words)
         found = blame.reasons(facts, Constraint(1, 2, 1))
-        return min(found, key=blame.Blame.rank, default=None)
+        return min(found, key=blame.Blamed.rank, default=None)
 
     def test_ranks(self):
         self.assertEqual(self.best("step", "assignment", "return").word, "return")

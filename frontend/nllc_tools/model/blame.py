@@ -1,11 +1,10 @@
 """Which constraint rustc names where a region would have to outlive a universal one, by rustc's own list.
 
 rustc looks for a shortest chain of constraints, in the order in which it made them, first without those of the
-result's `impl`. Of the chain it names the constraint of the best category, of equals the last one; where that is
-a return, and the next one is asked by the result's `impl`, it names the latter.
+result's `impl`. It ranks the categories of constraints, and names one of the chain's by them (`blamed`).
 """
 
-from typing import Iterator, Optional
+from typing import Callable, Iterator, Optional, Sequence
 
 from nllc_tools.base.walks import backwards, shortest
 from nllc_tools.model.regions import STATIC
@@ -24,7 +23,7 @@ CATEGORIES = {
 }
 GENERIC = "(GenericArg)"
 OBJECT = "unsize_to: Some("
-RANKS = {"object": 1, "return": 0, "generic": 3, "predicate": 4, "opaque": 4}
+RANKS = {"return": 0, "object": 1, "generic": 3, "predicate": 4, "opaque": 4, "step": 5}     # the best first
 INTERESTING, BORING, PLACELESS, INTERNAL = 2, 5, 6, 7
 
 Chain = list[Reason]
@@ -37,6 +36,22 @@ def word_of(reason: Reason) -> str:
     if reason.category == "Cast" and makes_object(reason.detail):
         return "object"
     return CATEGORIES.get(reason.category, "")
+
+
+def rank_of(word: str) -> int:
+    """The rank of a category."""
+    return RANKS.get(word, INTERESTING)
+
+
+def blamed(words: Sequence[str], ranks: Sequence[int], is_of_result_alone: Callable[[], bool] = lambda: True) -> int:
+    """Which of a chain's constraints rustc names, by their categories and ranks from the beginning of the chain on.
+
+    It is the one of the best rank, of equals the last. Where that is a return, and the next one is asked by the result's
+    `impl`, and by nothing else, it is the next.
+    """
+    best = min(range(len(ranks)), key=lambda at: (ranks[at], -at))
+    is_followed = words[best] == "return" and [*words[best + 1:best + 2]] == ["opaque"]
+    return best + 1 if is_followed and is_of_result_alone() else best
 
 
 def makes_object(detail: str) -> bool:
@@ -75,11 +90,7 @@ class Blame:
 
     def named(self, chain: Chain) -> Reason:
         """The constraint of a chain that rustc names."""
-        best = min(range(len(chain)), key=lambda at: (self.rank(chain[at], chain), -at))
-        following = chain[best + 1] if best + 1 < len(chain) else None
-        if chain[best].category == "Return" and following and following.category == "OpaqueType":
-            return following
-        return chain[best]
+        return chain[blamed([word_of(one) for one in chain], [self.rank(one, chain) for one in chain])]
 
     def rank(self, reason: Reason, chain: Chain) -> int:
         word = word_of(reason)
@@ -90,7 +101,7 @@ class Blame:
             return RANKS[word] if chain[-1].sub == STATIC and not is_annotated else INTERESTING
         if word == "step":
             return BORING if reason.category == "Boring" else PLACELESS
-        return RANKS.get(word, INTERESTING) if word else INTERNAL
+        return rank_of(word) if word else INTERNAL
 
     def is_of_closure(self, reason: Reason) -> bool:
         """Whether the body of a closure asks for it, of the function around it."""

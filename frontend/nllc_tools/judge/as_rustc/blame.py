@@ -1,31 +1,12 @@
-"""Which constraint of a chain is named for it: the one that rustc would name.
-
-rustc ranks the categories of constraints, and takes of equal ones the one that is nearest to the
-lifetime that is to be outlived. Where that is a return, and what comes next to it is asked by the
-`impl` of the result, and by nothing else, rustc names the latter.
-"""
-
-from typing import NamedTuple, Optional
+"""Which constraint of a chain is named for it: the one that rustc would name (`model.blame`)."""
 
 from nllc_tools.base.walks import reached
 from nllc_tools.judge import asking_statements
+from nllc_tools.model.blame import blamed
 from nllc_tools.model.constraint import ALL
-from nllc_tools.texts.facts.loan_remarks import Place
+from nllc_tools.texts.facts.loan_remarks import Blamed
 
-RANKS = {"return": 0, "object": 1, "generic": 3, "predicate": 4, "opaque": 4, "step": 5}
-INTERESTING = 2
-SILENT = 6
-
-
-class Blame(NamedTuple):
-    """A constraint's place in the source and its category."""
-
-    place: Optional[Place]
-    word: str
-    is_of_closure: bool = False
-
-    def rank(self):
-        return RANKS.get(self.word, INTERESTING)
+SILENT = 6      # the rank of a step of which the text has no reason
 
 
 def of_fault(facts, fault):
@@ -48,22 +29,19 @@ def reasons(facts, constraint):
     asked = facts.remarks.beside.asked
     points = [None, *asking_statements.origins(facts, constraint)]
     found = asked.get((facts.names[constraint.sup], facts.names[constraint.sub]), ())
-    return [Blame(one.place, one.word) for one in found if constraint.at == ALL or one.point in points]
+    return [Blamed(one.place, one.word) for one in found if constraint.at == ALL or one.point in points]
 
 
 def of_step(facts, step):
     """The best reason of a step, or None."""
-    return min(reasons(facts, step.constraint), key=Blame.rank, default=None)
+    return min(reasons(facts, step.constraint), key=Blamed.rank, default=None)
 
 
 def of_chain(facts, steps):
     """The reason that is named, of a chain whose first step is next to what is to be outlived."""
-    found = [reason for reason in (of_step(facts, step) for step in steps) if reason]
-    best = min(range(len(found)), key=lambda at: found[at].rank(), default=None)
-    if best and found[best].word == "return" and found[best - 1].word == "opaque" \
-            and not is_asked_otherwise(facts, steps[-1].constraint.sup, steps[0].constraint.sub):
-        best -= 1
-    return None if best is None else found[best]
+    found = [reason for reason in (of_step(facts, step) for step in reversed(steps)) if reason]
+    return found[blamed([one.word for one in found], [one.rank() for one in found], lambda: not is_asked_otherwise(
+        facts, steps[-1].constraint.sup, steps[0].constraint.sub))] if found else None
 
 
 def is_asked_otherwise(facts, region, goal):

@@ -18,6 +18,7 @@ import re
 from dataclasses import dataclass, field
 from typing import NamedTuple, Optional
 
+from nllc_tools.model.blame import rank_of
 from nllc_tools.rustc import error_kinds
 
 PLACE = r"(\d+:\d+-\d+:\d+|elsewhere)"
@@ -156,11 +157,14 @@ class Error(NamedTuple):
 
 
 class Blamed(NamedTuple):
-    """The constraint that rustc names: where, its category, whether the body of a closure asks for it."""
+    """A constraint that rustc names, or may name: where, its category, whether the body of a closure asks for it."""
 
     place: Optional[Place]
     word: str
-    is_of_closure: bool
+    is_of_closure: bool = False
+
+    def rank(self):
+        return rank_of(self.word)
 
 
 @dataclass
